@@ -1,0 +1,29 @@
+-- Bytes that are written in two parts.
+use Rattle.std.proofs.Common.{ℕ, List, ◌++◌, sym, ap, ◌∙◌, append_assoc}
+use Rattle.std.specs.Prelude.{Option, Some, None}
+use Rattle.http_serving.specs.Sends.{Sends, Sending}
+use Rattle.http_serving.specs.declared.send.Sent.{Sent}
+use Rattle.http_serving.specs.declared.send.Sent.TheVariants.{All, Fault, TurnLimit}
+
+sends_then : (before middle after head body : List ℕ) (result : Sent) → Sends before middle head All → Sends middle after body result → Sends before after (head ++ body) result
+sends_then before middle after head body All first second = second ∙ ap (λ s. s ++ body) first ∙ append_assoc before head body
+sends_then before middle after head body Fault first second =
+    (head ++ second.0, second.1, ap (λ s. head ++ s) second.2 ∙ sym (append_assoc head second.0 second.1), second.3 ∙ ap (λ s. s ++ second.0) first ∙ append_assoc before head second.0)
+sends_then before middle after head body TurnLimit first second =
+    (head ++ second.0, second.1, ap (λ s. head ++ s) second.2 ∙ sym (append_assoc head second.0 second.1), second.3 ∙ ap (λ s. s ++ second.0) first ∙ append_assoc before head second.0)
+
+pub sending_then : (old middle new : Option (List ℕ)) (head body : List ℕ) (result : Sent) → Sending old middle head All → Sending middle new body result → Sending old new (head ++ body) result
+sending_then None middle new head body result first second = first
+sending_then (Some before) None new head body result first second = absurd first
+sending_then (Some before) (Some middle) None head body result first second = second
+sending_then (Some before) (Some middle) (Some after) head body result first second = sends_then before middle after head body result first second
+
+pub sending_fault : (old new : Option (List ℕ)) (head more : List ℕ) → Sending old new head Fault → Sending old new (head ++ more) Fault
+sending_fault None new head more first = first
+sending_fault (Some before) None head more first = first
+sending_fault (Some before) (Some after) head more first = (first.0, first.1 ++ more, ap (λ s. s ++ more) first.2 ∙ append_assoc first.0 first.1 more, first.3)
+
+pub sending_limit : (old new : Option (List ℕ)) (head more : List ℕ) → Sending old new head TurnLimit → Sending old new (head ++ more) TurnLimit
+sending_limit None new head more first = first
+sending_limit (Some before) None head more first = first
+sending_limit (Some before) (Some after) head more first = (first.0, first.1 ++ more, ap (λ s. s ++ more) first.2 ∙ append_assoc first.0 first.1 more, first.3)

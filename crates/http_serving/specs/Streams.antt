@@ -1,0 +1,165 @@
+-- A stream is served piece by piece.
+use Rattle.std.specs.Prelude.{◌≡◌, ℕ, List, [], ◌∷◌, ◌++◌, Bool, true, false, ◌⊎◌, Option, Some, None, IfSome, IsSomeAnd, codes, flat_map}
+use Rattle.std.specs.List.{list_any}
+use Rattle.http_fields.specs.declared.FrameRefusal.{FrameRefusal}
+use Rattle.http_fields.specs.declared.FrameRefusal.TheVariants.{BadHead, BadLength, TooLarge, Chunked}
+use Rattle.http_frames.specs.Frames.{Request, HasRequest, IsRefused, IsCutOff, IsUndecided, is_head_method, ends_after}
+use Rattle.http_replies.specs.declared.Status.TheVariants as Status
+use Rattle.http_replies.specs.declared.Kind.TheVariants.{Json}
+use Rattle.http_replies.specs.Replies.{Answer, reply_text}
+use Rattle.http_serving.specs.declared.send.Sent.{Sent}
+use Rattle.http_serving.specs.declared.send.Sent.TheVariants.{All}
+use Rattle.http_serving.specs.declared.Served.{Served}
+use Rattle.http_serving.specs.declared.Served.TheVariants.{Ended, Closed, Cut, ReadFault, WriteFault, TurnLimit, NoMemory}
+
+-- a request with its answer, or a refusal of the framing
+pub data Piece : Type 0 where
+  whole : (request : Request) → (answer : Answer) → Piece
+  refused : (refusal : FrameRefusal) → (is_head : Bool) → Piece
+
+-- the rest begins with the piece, and `after` follows. Nothing is cut from the rest after a refusal
+abbrev pub IsPiece : List ℕ → Piece → List ℕ → Type 0
+IsPiece rest (whole request answer) after = HasRequest rest request after
+IsPiece rest (refused refusal is_head) after = IsRefused rest refusal is_head × (after ≡ rest)
+
+-- the stream ends after the piece
+abbrev pub is_last : Piece → Bool
+is_last (whole request answer) = ends_after request.head
+is_last (refused refusal is_head) = true
+
+-- what the reply to a refusal says
+abbrev pub refusal_answer : FrameRefusal → Answer
+refusal_answer BadHead = record { status = Status.BadRequest; kind = Json; body = codes "{\"error\":\"bad_head\",\"no\":1}" }
+refusal_answer BadLength = record { status = Status.BadRequest; kind = Json; body = codes "{\"error\":\"bad_length\",\"no\":2}" }
+refusal_answer TooLarge = record { status = Status.TooLarge; kind = Json; body = codes "{\"error\":\"too_large\",\"no\":3}" }
+refusal_answer Chunked = record { status = Status.NotImplemented; kind = Json; body = codes "{\"error\":\"chunked\",\"no\":4}" }
+
+-- the bytes of the reply
+abbrev pub text_of : Piece → List ℕ
+text_of (whole request answer) = reply_text answer (is_head_method request.head) (ends_after request.head)
+text_of (refused refusal is_head) = reply_text (refusal_answer refusal) is_head true
+
+-- the replies to all the pieces
+abbrev pub texts_of : List Piece → List ℕ
+texts_of pieces = flat_map text_of pieces
+
+-- from one state, a request may be answered so, and lead to another state
+abbrev pub Machine : Type 0 → Type 1
+Machine S = S → Request → Answer → S → Type 0
+
+-- a request is answered by a step, and a refusal leaves the state as it was
+abbrev pub Steps : {S : Type 0} → Machine S → S → Piece → S → Type 0
+Steps step old (whole request answer) new = step old request answer new
+Steps step old (refused refusal is_head) new = new ≡ old
+
+-- the stream begins with these pieces, answered by steps of the machine, and `rest` follows. Only the last may end the stream
+abbrev pub Serves : {S : Type 0} → Machine S → S → List ℕ → List Piece → S → List ℕ → Type 0
+Serves step old stream [] new rest = (new ≡ old) × (rest ≡ stream)
+Serves {S = S} step old stream (piece ∷ pieces) new rest =
+    (middle : S) × (after : List ℕ) × IsPiece stream piece after × Steps step old piece middle
+    × (is_last piece ≡ true → pieces ≡ []) × Serves step middle after pieces new rest
+
+-- these requests were answered in turn, each by a step of the machine
+abbrev pub Runs : {S : Type 0} → Machine S → S → List (Request × Answer) → S → Type 0
+Runs step old [] new = new ≡ old
+Runs {S = S} step old (turn ∷ turns) new = (middle : S) × step old turn.0 turn.1 middle × Runs step middle turns new
+
+-- the new state comes from the old one by answers to some requests
+abbrev pub Reaches : {S : Type 0} → Machine S → S → S → Type 0
+Reaches step old new = (turns : List (Request × Answer)) × Runs step old turns new
+
+-- none of the pieces ends the stream
+abbrev pub IsOpen : List Piece → Type 0
+IsOpen pieces = list_any is_last pieces ≡ false
+
+-- all the replies were written, and what was read behind the pieces is no whole request
+pub record StopsReading (pieces : List Piece) (rest left before written : List ℕ) : Type 0 where
+  pub open_pieces : IsOpen pieces
+  pub held : List ℕ
+  pub rest_is : rest ≡ held ++ left
+  pub undecided : IsUndecided held
+  pub written_is : written ≡ before ++ texts_of pieces
+
+-- all the replies but the last, and a front of the last
+pub record StopsWriting (pieces : List Piece) (before written : List ℕ) : Type 0 where
+  pub front : List Piece
+  pub last : Piece
+  pub pieces_are : pieces ≡ front ++ last ∷ []
+  pub sent : List ℕ
+  pub unsent : List ℕ
+  pub text : text_of last ≡ sent ++ unsent
+  pub written_is : written ≡ before ++ texts_of front ++ sent
+
+-- how the stream came to its end
+abbrev pub Ends : Served → List Piece → List ℕ → List ℕ → List ℕ → List ℕ → Type 0
+Ends Ended pieces rest left before written = IsOpen pieces × (rest ≡ []) × (written ≡ before ++ texts_of pieces)
+Ends Closed pieces rest left before written = (list_any is_last pieces ≡ true) × (written ≡ before ++ texts_of pieces)
+Ends Cut pieces rest left before written = IsOpen pieces × IsCutOff rest × (written ≡ before ++ texts_of pieces)
+Ends ReadFault pieces rest left before written = StopsReading pieces rest left before written
+Ends WriteFault pieces rest left before written = StopsWriting pieces before written
+Ends TurnLimit pieces rest left before written = StopsReading pieces rest left before written ⊎ StopsWriting pieces before written
+Ends NoMemory pieces rest left before written = (pieces ≡ []) × (written ≡ before)
+
+-- the stream was served so
+abbrev pub IsServed : {S : Type 0} → Machine S → S → S → List ℕ → List ℕ → List ℕ → List ℕ → Served → Type 0
+IsServed step old new stream left before written served =
+    (pieces : List Piece) × (rest : List ℕ) × Serves step old stream pieces new rest × Ends served pieces rest left before written
+
+-- one turn: a piece more, or the end
+abbrev pub Turns : {S : Type 0} → Machine S → S → S → List ℕ → List ℕ → List ℕ → List ℕ → List ℕ → Option Served → Type 0
+Turns step old new rest next left before written None =
+    (piece : Piece) × IsPiece rest piece next × Steps step old piece new × (is_last piece ≡ false) × (written ≡ before ++ text_of piece)
+Turns step old new rest next left before written (Some served) = IsServed step old new rest left before written served
+
+-- what became of a stream where this became of a reply
+abbrev pub outcome_of : Sent → Bool → Option Served
+outcome_of All true = Some Closed
+outcome_of All false = None
+outcome_of Sent.Fault last = Some WriteFault
+outcome_of Sent.TurnLimit last = Some TurnLimit
+
+-- a turn, where the reader and the writer tell their bytes
+abbrev pub Turning : {S : Type 0} → Machine S → S → S → List ℕ → Option (List ℕ) → List ℕ → Option (List ℕ) → Option (List ℕ) → Option (List ℕ) → Option Served → Type 0
+Turning step old new front left_old next left_new written_old written_new result =
+    IfSome left_old (λ left. IfSome written_old (λ before.
+    IsSomeAnd left_new (λ after. IsSomeAnd written_new (λ written.
+    Turns step old new (front ++ left) (next ++ after) after before written result))))
+
+-- a whole stream, where the reader and the writer tell their bytes
+abbrev pub Serving : {S : Type 0} → Machine S → S → S → Option (List ℕ) → Option (List ℕ) → Option (List ℕ) → Option (List ℕ) → Served → Type 0
+Serving step old new left_old left_new written_old written_new served =
+    IfSome left_old (λ stream. IfSome written_old (λ before.
+    IsSomeAnd left_new (λ left. IsSomeAnd written_new (λ written. IsServed step old new stream left before written served))))
+
+-- some turns of a stream
+abbrev pub IsServing : {S : Type 0} → Machine S → S → S → List ℕ → List ℕ → List ℕ → List ℕ → Type 0
+IsServing step old new stream rest before written =
+    (pieces : List Piece) × Serves step old stream pieces new rest × IsOpen pieces × (written ≡ before ++ texts_of pieces)
+
+-- the same, where the reader and the writer tell their bytes
+abbrev pub ServingSoFar : {S : Type 0} → Machine S → S → S → Option (List ℕ) → List ℕ → Option (List ℕ) → Option (List ℕ) → Option (List ℕ) → Type 0
+ServingSoFar step old new left_old next left_new written_old written_new =
+    IfSome left_old (λ stream. IfSome written_old (λ before.
+    IsSomeAnd left_new (λ left. IsSomeAnd written_new (λ written. IsServing step old new stream (next ++ left) before written))))
+
+-- the failures of the reader that the end of a stream tells
+abbrev pub read_faults : Option Served → ℕ
+read_faults None = 0
+read_faults (Some Ended) = 0
+read_faults (Some Closed) = 0
+read_faults (Some Cut) = 0
+read_faults (Some ReadFault) = 1
+read_faults (Some WriteFault) = 0
+read_faults (Some TurnLimit) = 0
+read_faults (Some NoMemory) = 0
+
+-- and of the writer
+abbrev pub write_faults : Option Served → ℕ
+write_faults None = 0
+write_faults (Some Ended) = 0
+write_faults (Some Closed) = 0
+write_faults (Some Cut) = 0
+write_faults (Some ReadFault) = 0
+write_faults (Some WriteFault) = 1
+write_faults (Some TurnLimit) = 0
+write_faults (Some NoMemory) = 0

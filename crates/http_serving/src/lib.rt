@@ -1,0 +1,174 @@
+//! Serves a stream of HTTP/1.1 requests: requests in, replies out (RFC 9112).
+#![tactic(auto)]
+
+ghost use Rattle.std.specs.Prelude.{◌≡◌, ◌≢◌, ℕ, ◌+◌, ◌<◌, ◌≤◌, ◌^◌, List, Option, Bool};
+ghost use Rattle.http_replies.specs.Replies.{Answer, answer_of};
+ghost use Rattle.http_frames.specs.Frames.{Request, HasRequest};
+ghost use Rattle.http_frames.specs.Looks.{IsFrameAt};
+ghost use Rattle.http_frames.specs.Buffers.{unread};
+ghost use Rattle.http_serving.specs.Streams.{refusal_answer, outcome_of, Turning, Serving, Reaches, read_faults, write_faults};
+
+pub mod send;
+
+use crate::send::{Sent, write_reply};
+use http_fields::FrameRefusal;
+use http_frames::buffer::{Buffer, CALL_LIMIT, read_request};
+use http_frames::frame::{Frame, Framed};
+use http_frames::transfer::{Drain, Source};
+use http_replies::{Body, Flags, Reply, Status};
+use std::alloc::Global;
+
+/// How a stream came to its end.
+#[derive(Clone, Copy, Debug, PartialEq, Eq)]
+pub enum Served {
+    /// The bytes ended between two requests.
+    Ended,
+    /// The last reply ended the stream.
+    Closed,
+    /// The bytes ended inside a request, which has no reply.
+    Cut,
+    /// The reader failed.
+    ReadFault,
+    /// The writer failed, or took none of some bytes.
+    WriteFault,
+    /// The stream has made all the calls of its reader and writer that it may make.
+    TurnLimit,
+    /// There was no memory for a buffer, and nothing was read.
+    NoMemory,
+}
+
+/// Answers requests over a state that it is lent.
+pub trait Service<S> {
+    /// From one state, a request may be answered so, and lead to another state.
+    ghost steps: { Self → S → Request → Answer → S → Type 0 };
+
+    /// Answers the request that stands in the buffer.
+    fn answer(&self, state: &mut S, frame: Frame, buffer: &Buffer) -> Reply
+        requires { (request : Request) × IsFrameAt buffer.now.window buffer.now.spans frame request }
+        ensures { (request : Request) → IsFrameAt buffer.now.window buffer.now.spans frame request
+            → steps self.now state.old request (answer_of result) state.new };
+}
+
+/// The reply to what cannot be cut into requests.
+fn refusal_reply(refusal: FrameRefusal) -> Reply
+    ensures { answer_of result ≡ refusal_answer refusal }
+{
+    match refusal {
+        FrameRefusal::BadHead => Reply {
+            status: Status::BadRequest,
+            body: Body::Constant("{\"error\":\"bad_head\",\"no\":1}"),
+        },
+        FrameRefusal::BadLength => Reply {
+            status: Status::BadRequest,
+            body: Body::Constant("{\"error\":\"bad_length\",\"no\":2}"),
+        },
+        FrameRefusal::TooLarge => Reply {
+            status: Status::TooLarge,
+            body: Body::Constant("{\"error\":\"too_large\",\"no\":3}"),
+        },
+        FrameRefusal::Chunked => Reply {
+            status: Status::NotImplemented,
+            body: Body::Constant("{\"error\":\"chunked\",\"no\":4}"),
+        },
+    }
+}
+
+/// What becomes of the stream once this became of a reply, which ends the stream where `is_last` says so.
+fn outcome(sent: Sent, is_last: bool) -> Option<Served>
+    ensures { result ≡ outcome_of sent is_last }
+{
+    match sent {
+        Sent::All if is_last => Some(Served::Closed),
+        Sent::All => None,
+        Sent::Fault => Some(Served::WriteFault),
+        Sent::TurnLimit => Some(Served::TurnLimit),
+    }
+}
+
+/// Serves one request, or answers how the stream ended.
+fn serve_turn<S, V: Service<S>, R: Source, W: Drain>(
+    service: &V,
+    state: &mut S,
+    reader: &mut R,
+    writer: &mut W,
+    buffer: &mut Buffer,
+) -> Option<Served>
+    requires reader { R.calls reader.old + 2 ^ 25 < 2 ^ 64 + buffer.old.calls }
+    requires writer { W.calls writer.old + 2 ^ 25 < 2 ^ 64 + buffer.old.calls }
+    ensures turn { Turning (V.steps service.now) state.old state.new (unread buffer.old) (R.left reader.old)
+        (unread buffer.new) (R.left reader.new) (W.written writer.old) (W.written writer.new) result }
+    ensures reaches { Reaches (V.steps service.now) state.old state.new }
+    ensures calls { R.calls reader.new + W.calls writer.new + buffer.old.calls ≡ R.calls reader.old + W.calls writer.old + buffer.new.calls }
+    ensures reader_calls { R.calls reader.old ≤ R.calls reader.new }
+    ensures writer_calls { W.calls writer.old ≤ W.calls writer.new }
+    ensures more { result ≡ None → buffer.old.calls < buffer.new.calls }
+    ensures within { buffer.new.calls ≤ CALL_LIMIT }
+    ensures limit { result ≡ Some Served.TurnLimit → buffer.new.calls ≡ CALL_LIMIT }
+    ensures no_memory { result ≢ Some Served.NoMemory }
+    ensures read_faults { R.failures reader.new ≡ R.failures reader.old + read_faults result }
+    ensures write_faults { W.failures writer.new ≡ W.failures writer.old + write_faults result }
+{
+    match read_request(reader, buffer) {
+        Framed::Nothing => Some(Served::Ended),
+        Framed::Cut => Some(Served::Cut),
+        Framed::ReadFault => Some(Served::ReadFault),
+        Framed::TurnLimit => Some(Served::TurnLimit),
+        Framed::Refused(refusal, is_head) => {
+            let reply = refusal_reply(refusal);
+            let flags = Flags {
+                is_head,
+                is_last: true,
+            };
+            outcome(write_reply(writer, buffer, &reply, flags), true)
+        }
+        Framed::Request(frame) => {
+            let reply = service.answer(state, frame, buffer);
+            let flags = Flags {
+                is_head: frame.is_head,
+                is_last: frame.is_last,
+            };
+            outcome(write_reply(writer, buffer, &reply, flags), frame.is_last)
+        }
+    }
+}
+
+/// At most one whole request stands at the front of a stream, so that the pieces of a stream are determined by its bytes.
+pub fn requests_are_unique()
+    ensures { (rest : List ℕ) (request other : Request) (after later : List ℕ) → HasRequest rest request after
+        → HasRequest rest other later → (request ≡ other) × (after ≡ later) }
+{}
+
+/// Serves a stream until it ends, and answers how it did. It takes memory once, before the first read.
+///
+/// Where the reader and the writer tell their bytes, what is written is the replies to the requests that the stream begins with, each answered by a step of the service in turn (`Serving`). Whatever they tell, the state changes by such steps alone (`Reaches`).
+pub fn serve_stream<S, V: Service<S>, R: Source, W: Drain>(
+    alloc: Global,
+    service: &V,
+    state: &mut S,
+    reader: &mut R,
+    writer: &mut W,
+) -> Served
+    requires reader { R.calls reader.old + 2 ^ 25 < 2 ^ 64 }
+    requires writer { W.calls writer.old + 2 ^ 25 < 2 ^ 64 }
+    ensures served { Serving (V.steps service.now) state.old state.new (R.left reader.old) (R.left reader.new)
+        (W.written writer.old) (W.written writer.new) result }
+    ensures reaches { Reaches (V.steps service.now) state.old state.new }
+    ensures calls { R.calls reader.new + W.calls writer.new ≤ R.calls reader.old + W.calls writer.old + CALL_LIMIT }
+    ensures limit { result ≡ Served.TurnLimit → R.calls reader.new + W.calls writer.new ≡ R.calls reader.old + W.calls writer.old + CALL_LIMIT }
+    ensures read_faults { R.failures reader.new ≡ R.failures reader.old + read_faults (Some result) }
+    ensures write_faults { W.failures writer.new ≡ W.failures writer.old + write_faults (Some result) }
+    ensures no_memory { result ≡ Served.NoMemory → (R.calls reader.new ≡ R.calls reader.old) × (W.calls writer.new ≡ W.calls writer.old) }
+{
+    let mut buffer = match Buffer::new(alloc) {
+        Ok(buffer) => buffer,
+        Err(_) => return Served::NoMemory,
+    };
+    loop {
+        if let Some(served) = serve_turn(service, state, reader, writer, &mut buffer) {
+            return served;
+        }
+    }
+}
+
+#[cfg(test)]
+mod tests;

@@ -1,0 +1,77 @@
+//! Writes replies, and counts the calls of the writer.
+
+ghost use Rattle.std.specs.Prelude.{◌≡◌, ℕ, ◌+◌, ◌-◌, ◌<◌, ◌≤◌, ◌^◌, ◌++◌, length, Bool, if◌then◌else◌, []};
+ghost use Rattle.http_replies.specs.Replies.{answer_of, reply_text};
+ghost use Rattle.http_serving.specs.Sends.{Sending, sent_faults};
+
+use http_frames::buffer::{Buffer, CALL_LIMIT};
+use http_frames::transfer::{Drain, Transfer};
+use http_replies::{Flags, HEAD_ROOM, Reply, reply_head};
+
+/// What became of some bytes.
+#[derive(Clone, Copy, Debug, PartialEq, Eq)]
+pub enum Sent {
+    /// All of them were written.
+    All,
+    /// The writer failed, or took none of some bytes. A front of them was written.
+    Fault,
+    /// The stream has made all its calls. A front of them was written.
+    TurnLimit,
+}
+
+/// Writes all the bytes, or a front of them where the writer fails or no call is left. An interrupted call is made again.
+pub fn write_all<W: Drain>(writer: &mut W, bytes: &[u8], buffer: &mut Buffer) -> Sent
+    requires { W.calls writer.old + 2 ^ 25 < 2 ^ 64 + buffer.old.calls }
+    ensures sent { Sending (W.written writer.old) (W.written writer.new) bytes.now result }
+    ensures kept { buffer.new ≡ record buffer.old { calls = buffer.new.calls } }
+    ensures calls { W.calls writer.new + buffer.old.calls ≡ W.calls writer.old + buffer.new.calls }
+    ensures more { buffer.old.calls ≤ buffer.new.calls }
+    ensures within { buffer.old.calls ≤ CALL_LIMIT → buffer.new.calls ≤ CALL_LIMIT }
+    ensures some { 0 < length bytes.now → result ≡ Sent.All → buffer.old.calls < buffer.new.calls }
+    ensures limit { result ≡ Sent.TurnLimit → buffer.new.calls ≡ CALL_LIMIT }
+    ensures failures { W.failures writer.new ≡ W.failures writer.old + sent_faults result }
+{
+    let mut rest = bytes;
+    while !rest.is_empty() {
+        if buffer.is_out_of_calls() {
+            return Sent::TurnLimit;
+        }
+        buffer.count_call();
+        match writer.write(rest) {
+            Transfer::Moved(0) | Transfer::Failed => return Sent::Fault,
+            Transfer::Moved(count) => rest = &rest[count..],
+            Transfer::Interrupted => {}
+        }
+    }
+    Sent::All
+}
+
+/// Writes a reply, or a front of it (RFC 9112, section 2.1). It takes no memory.
+pub fn write_reply<W: Drain>(
+    writer: &mut W,
+    buffer: &mut Buffer,
+    reply: &Reply,
+    flags: Flags,
+) -> Sent
+    requires { W.calls writer.old + 2 ^ 25 < 2 ^ 64 + buffer.old.calls }
+    ensures sent { Sending (W.written writer.old) (W.written writer.new) (reply_text (answer_of reply.now) flags.is_head flags.is_last) result }
+    ensures kept { buffer.new ≡ record buffer.old { calls = buffer.new.calls } }
+    ensures calls { W.calls writer.new + buffer.old.calls ≡ W.calls writer.old + buffer.new.calls }
+    ensures more { buffer.old.calls ≤ buffer.new.calls }
+    ensures within { buffer.old.calls ≤ CALL_LIMIT → buffer.new.calls ≤ CALL_LIMIT }
+    ensures some { result ≡ Sent.All → buffer.old.calls < buffer.new.calls }
+    ensures limit { result ≡ Sent.TurnLimit → buffer.new.calls ≡ CALL_LIMIT }
+    ensures failures { W.failures writer.new ≡ W.failures writer.old + sent_faults result }
+{
+    let mut room = [0; HEAD_ROOM];
+    let len = reply_head(reply, flags, &mut room);
+    match write_all(writer, &room[..len], buffer) {
+        Sent::All => {}
+        Sent::Fault => return Sent::Fault,
+        Sent::TurnLimit => return Sent::TurnLimit,
+    }
+    if flags.is_head {
+        return Sent::All;
+    }
+    write_all(writer, reply.body.as_bytes(), buffer)
+}

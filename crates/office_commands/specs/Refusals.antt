@@ -1,0 +1,40 @@
+-- What a refused request is answered: a status (RFC 9110, section 15) and a body with the refusal's name and number.
+use Rattle.std.specs.Prelude.{ℕ, List, ◌++◌, codes, decimal}
+use Rattle.http_replies.specs.declared.Status.{Status}
+use Rattle.http_replies.specs.declared.Status.TheVariants.{BadRequest, Unauthorized, NotFound, Conflict, Unprocessable, Unavailable}
+use Rattle.office_commands.specs.declared.refusal.Refusal.{Refusal}
+use Rattle.office_commands.specs.declared.refusal.Refusal.TheVariants.{UnknownToken, UnknownPath, BadJson, BadMember, WrongNumber, OtherBody, UnknownOrder, Exists, BadSerial, NumberTooWide, NoMacRoom, RangeOverlap, ForeignIssuer, Limit, Unkept}
+
+abbrev pub refusal_status : Refusal → Status
+refusal_status UnknownToken = Unauthorized
+refusal_status UnknownPath = NotFound
+refusal_status BadJson = BadRequest
+refusal_status BadMember = BadRequest
+refusal_status (WrongNumber expected) = Conflict
+refusal_status OtherBody = Conflict
+refusal_status UnknownOrder = NotFound
+refusal_status Exists = Conflict
+refusal_status BadSerial = Unprocessable
+refusal_status NumberTooWide = Unprocessable
+refusal_status NoMacRoom = Conflict
+refusal_status RangeOverlap = Conflict
+refusal_status ForeignIssuer = Unprocessable
+refusal_status Limit = Conflict
+refusal_status Unkept = Unavailable
+
+abbrev pub refusal_body : Refusal → List ℕ
+refusal_body UnknownToken = codes "{\"error\":\"unknown_token\",\"no\":6}"
+refusal_body UnknownPath = codes "{\"error\":\"unknown_path\",\"no\":7}"
+refusal_body BadJson = codes "{\"error\":\"bad_json\",\"no\":9}"
+refusal_body BadMember = codes "{\"error\":\"bad_member\",\"no\":10}"
+refusal_body (WrongNumber expected) = codes "{\"error\":\"wrong_number\",\"expected\":" ++ (decimal expected ++ codes ",\"no\":11}")
+refusal_body OtherBody = codes "{\"error\":\"other_body\",\"no\":12}"
+refusal_body UnknownOrder = codes "{\"error\":\"unknown_order\",\"no\":14}"
+refusal_body Exists = codes "{\"error\":\"exists\",\"no\":16}"
+refusal_body BadSerial = codes "{\"error\":\"bad_serial\",\"no\":30}"
+refusal_body NumberTooWide = codes "{\"error\":\"number_too_wide\",\"no\":31}"
+refusal_body NoMacRoom = codes "{\"error\":\"no_mac_room\",\"no\":33}"
+refusal_body RangeOverlap = codes "{\"error\":\"range_overlap\",\"no\":34}"
+refusal_body ForeignIssuer = codes "{\"error\":\"foreign_issuer\",\"no\":37}"
+refusal_body Limit = codes "{\"error\":\"limit\",\"no\":40}"
+refusal_body Unkept = codes "{\"error\":\"unkept\",\"no\":50}"

@@ -1,0 +1,51 @@
+-- What a request is answered, and the objects that are shown, as JSON values (RFC 8259).
+use Rattle.std.specs.Prelude.{ℕ, List, [], ◌∷◌, codes, Option, Some, None}
+use Rattle.serde_json.specs.Data.{Data, null, number, unsigned, string, object, Members, no_members, member}
+use Rattle.serde_json.specs.Written.{compact_text}
+use Rattle.http_replies.specs.Replies.{Answer}
+use Rattle.http_replies.specs.declared.Status.TheVariants.{Success}
+use Rattle.http_replies.specs.declared.Kind.TheVariants.{Json}
+use Rattle.id_ranges.specs.Mac.{mac_text}
+use Rattle.office_tables.specs.declared.rows.Order.{Order}
+use Rattle.office_commands.specs.declared.refusal.Refusal.{Refusal}
+use Rattle.office_commands.specs.Refusals.{refusal_status, refusal_body}
+
+-- the answer to an accepted request
+abbrev pub acceptance : List ℕ → Answer
+acceptance body = record { status = Success; kind = Json; body = body }
+
+-- the answer to a refused one
+abbrev pub refusal : Refusal → Answer
+refusal r = record { status = refusal_status r; kind = Json; body = refusal_body r }
+
+abbrev pub members_of : List (List ℕ × Data) → Members
+members_of [] = no_members
+members_of (m ∷ ms) = member m.0 m.1 (members_of ms)
+
+abbrev pub whole_data : ℕ → Data
+whole_data n = number (unsigned n)
+
+abbrev pub text_data : Option (List ℕ) → Data
+text_data None = null
+text_data (Some text) = string text
+
+abbrev pub mac_data : Option ℕ → Data
+mac_data None = null
+mac_data (Some mac) = string (mac_text mac)
+
+-- an order with its next serial number, its members in byte order
+abbrev pub order_data : Order → Option (List ℕ) → Data
+order_data o next = object (members_of (
+    (codes "first", whole_data o.first) ∷
+    (codes "issuer", string o.issuer) ∷
+    (codes "mac", mac_data o.mac) ∷
+    (codes "macs", whole_data o.macs) ∷
+    (codes "name", string o.name) ∷
+    (codes "next", text_data next) ∷
+    (codes "prefix", string o.prefix) ∷
+    (codes "quantity", whole_data o.quantity) ∷
+    (codes "width", whole_data o.width) ∷ []))
+
+-- the text of that
+unfoldable pub order_body : Order → Option (List ℕ) → List ℕ
+order_body o next = compact_text (order_data o next)

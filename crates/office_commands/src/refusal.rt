@@ -1,0 +1,80 @@
+// Why a request is refused.
+ghost use Rattle.std.specs.Prelude.{◌≡◌};
+ghost use Rattle.office_commands.specs.Refusals.{refusal_status};
+
+use http_replies::Status;
+use thiserror::Error;
+
+/// Why a request is refused, in the order of the refusals' numbers: where several hold, the first
+/// is answered.
+#[derive(Clone, Copy, Debug, PartialEq, Eq, Drop, Error)]
+pub enum Refusal {
+    /// No seat has the token, or there is none (6).
+    #[error("unknown token")]
+    UnknownToken,
+    /// The server has no such path, or not with this method (7).
+    #[error("unknown path")]
+    UnknownPath,
+    /// The body is no JSON (9).
+    #[error("the body is no JSON")]
+    BadJson,
+    /// A member or a parameter is missing or not of its form (10).
+    #[error("a member or a parameter is missing or not of its form")]
+    BadMember,
+    /// The request's number isn't the one that is expected (11).
+    #[error("the request number {0} is expected")]
+    WrongNumber(u64),
+    /// The last number came with another request (12).
+    #[error("the last request number came with another request")]
+    OtherBody,
+    /// The customer has no such order (14).
+    #[error("unknown order")]
+    UnknownOrder,
+    /// The customer has a row of that name (16).
+    #[error("the name is taken")]
+    Exists,
+    /// A prefix or a serial number is not of its form (30).
+    #[error("a serial number is not of its form")]
+    BadSerial,
+    /// The last number has more digits than the width (31).
+    #[error("the last number has more digits than the width")]
+    NumberTooWide,
+    /// No pool has room for the addresses (33).
+    #[error("no pool has room for the addresses")]
+    NoMacRoom,
+    /// Another order has one of the numbers (34).
+    #[error("another order has one of the numbers")]
+    RangeOverlap,
+    /// The issuer isn't among the customer's (37).
+    #[error("the issuer is not among the customer's")]
+    ForeignIssuer,
+    /// The customer has as many as can be, or asks for more than can be (40).
+    #[error("a limit is reached")]
+    Limit,
+    /// There is no memory for an answer, or the store failed (50).
+    #[error("the request can't be kept")]
+    Unkept,
+}
+
+impl Refusal {
+    /// The status of the reply (RFC 9110, section 15).
+    pub fn status(self) -> Status
+        ensures { result ≡ refusal_status self }
+    {
+        match self {
+            Refusal::UnknownToken => Status::Unauthorized,
+            Refusal::UnknownPath | Refusal::UnknownOrder => Status::NotFound,
+            Refusal::BadJson | Refusal::BadMember => Status::BadRequest,
+            Refusal::WrongNumber(_)
+            | Refusal::OtherBody
+            | Refusal::Exists
+            | Refusal::NoMacRoom
+            | Refusal::RangeOverlap
+            | Refusal::Limit => Status::Conflict,
+            Refusal::BadSerial | Refusal::NumberTooWide | Refusal::ForeignIssuer => {
+                Status::Unprocessable
+            }
+            Refusal::Unkept => Status::Unavailable,
+        }
+    }
+}

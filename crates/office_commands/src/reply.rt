@@ -1,0 +1,128 @@
+// What a seat is answered.
+ghost use Rattle.std.specs.Prelude.{◌≡◌, IfOk, option_map, string_bytes};
+ghost use Rattle.serde_json.specs.View.{view};
+ghost use Rattle.http_replies.specs.Replies.{answer_of, bytes_of, kind_of};
+ghost use Rattle.http_replies.specs.declared.Kind.{Kind};
+ghost use Rattle.office_commands.specs.Refusals.{refusal_body};
+ghost use Rattle.office_commands.specs.Replies.{acceptance, refusal, text_data, mac_data, order_data};
+ghost use Rattle.office_commands.specs.Replies as replies;
+
+use crate::Refusal;
+use http_replies::{Body, Reply, Status};
+use id_ranges::Mac;
+use office_tables::Order;
+use serde_json::{Value, json};
+use std::alloc::{AllocError, Global};
+
+/// The reply to an accepted request: status 200 with a JSON text.
+pub fn accepted(body: String) -> Reply
+    ensures { answer_of result ≡ acceptance (string_bytes body) }
+{
+    Reply {
+        status: Status::Success,
+        body: Body::Json(body),
+    }
+}
+
+/// The reply to a request that finds no memory or a failing store: status 503 with a constant. It
+/// takes no memory.
+pub fn unavailable() -> Reply
+    ensures { answer_of result ≡ refusal Refusal.Unkept }
+{
+    Reply {
+        status: Status::Unavailable,
+        body: Body::Constant("{\"error\":\"unkept\",\"no\":50}"),
+    }
+}
+
+/// The reply to a request without the token of a seat: status 401 with a constant. It takes no
+/// memory.
+pub fn unknown_token() -> Reply
+    ensures { answer_of result ≡ refusal Refusal.UnknownToken }
+{
+    Reply {
+        status: Status::Unauthorized,
+        body: Body::Constant("{\"error\":\"unknown_token\",\"no\":6}"),
+    }
+}
+
+/// The reply to a refused request. Only the one that names a number takes memory.
+pub fn refused(alloc: Global, reason: Refusal) -> Result<Reply, AllocError>
+    ensures { IfOk result (λ reply. answer_of reply ≡ refusal reason) }
+{
+    Ok(Reply {
+        status: reason.status(),
+        body: refusal_text(alloc, reason)?,
+    })
+}
+
+fn refusal_text(alloc: Global, reason: Refusal) -> Result<Body, AllocError>
+    ensures kind { IfOk result (λ body. kind_of body ≡ Kind.Json) }
+    ensures text { IfOk result (λ body. bytes_of body ≡ refusal_body reason) }
+{
+    Ok(Body::Constant(match reason {
+        Refusal::UnknownToken => "{\"error\":\"unknown_token\",\"no\":6}",
+        Refusal::UnknownPath => "{\"error\":\"unknown_path\",\"no\":7}",
+        Refusal::BadJson => "{\"error\":\"bad_json\",\"no\":9}",
+        Refusal::BadMember => "{\"error\":\"bad_member\",\"no\":10}",
+        Refusal::WrongNumber(expected) => {
+            return Ok(Body::Json(format!(in alloc;
+                "{{\"error\":\"wrong_number\",\"expected\":{expected},\"no\":11}}"
+            )?));
+        }
+        Refusal::OtherBody => "{\"error\":\"other_body\",\"no\":12}",
+        Refusal::UnknownOrder => "{\"error\":\"unknown_order\",\"no\":14}",
+        Refusal::Exists => "{\"error\":\"exists\",\"no\":16}",
+        Refusal::BadSerial => "{\"error\":\"bad_serial\",\"no\":30}",
+        Refusal::NumberTooWide => "{\"error\":\"number_too_wide\",\"no\":31}",
+        Refusal::NoMacRoom => "{\"error\":\"no_mac_room\",\"no\":33}",
+        Refusal::RangeOverlap => "{\"error\":\"range_overlap\",\"no\":34}",
+        Refusal::ForeignIssuer => "{\"error\":\"foreign_issuer\",\"no\":37}",
+        Refusal::Limit => "{\"error\":\"limit\",\"no\":40}",
+        Refusal::Unkept => "{\"error\":\"unkept\",\"no\":50}",
+    }))
+}
+
+fn text_value(alloc: Global, text: Option<&str>) -> Result<Value, AllocError>
+    ensures { IfOk result (λ v. view v ≡ text_data (option_map (λ t. t.now) text.entry)) }
+{
+    match text {
+        Some(text) => Value::try_from_str(alloc, text),
+        None => Ok(Value::Null),
+    }
+}
+
+fn mac_value(alloc: Global, mac: Option<Mac>) -> Result<Value, AllocError>
+    ensures { IfOk result (λ v. view v ≡ mac_data mac) }
+{
+    match mac {
+        Some(mac) => Ok(Value::String(mac.to_string(alloc)?)),
+        None => Ok(Value::Null),
+    }
+}
+
+fn order_value(alloc: Global, order: &Order, next: Option<&str>) -> Result<Value, AllocError>
+    ensures { IfOk result (λ v. view v ≡ order_data order.now (option_map (λ t. t.now) next.entry)) }
+{
+    let mac = mac_value(alloc, order.mac)?;
+    let next = text_value(alloc, next)?;
+    json!(in alloc; {
+        "first": order.first,
+        "issuer": order.issuer.as_str(),
+        "mac": mac,
+        "macs": order.macs,
+        "name": order.name.as_str(),
+        "next": next,
+        "prefix": order.prefix.as_str(),
+        "quantity": order.quantity,
+        "width": order.width
+    })
+}
+
+/// The body that shows an order with its next serial number, if there is one.
+#[tactic(auto, unfolding(crate::specs::Replies::order_body))]
+pub fn order_body(alloc: Global, order: &Order, next: Option<&str>) -> Result<String, AllocError>
+    ensures { IfOk result (λ body. string_bytes body ≡ replies.order_body order.now (option_map (λ t. t.now) next.entry)) }
+{
+    order_value(alloc, order, next)?.to_string(alloc)
+}

@@ -1,0 +1,2 @@
+pub mod Served
+mod Settled

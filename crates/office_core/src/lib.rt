@@ -1,0 +1,15 @@
+//! The books of all customers: each request of a seat is answered by one step over the tables.
+#![tactic(auto)]
+
+mod office;
+mod retry;
+
+/// The customers of the site, and who may call.
+pub mod site {
+    pub use site_core::{Caller, Customer, Site};
+}
+
+pub use office::answer;
+pub use office_commands::{Change, Command, NewOrder, Refusal, Request, Show};
+pub use office_memory::MemKeep;
+pub use office_tables::{Keep, Order, OrderRow, Owned, Seat, SeatRow, Sink, Unkept, Write};

@@ -1,0 +1,3 @@
+mod Judged
+mod Numbers
+mod Scans

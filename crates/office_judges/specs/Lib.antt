@@ -1,0 +1,4 @@
+pub mod Rules
+pub mod Orders
+pub mod Judging
+pub mod Scanning

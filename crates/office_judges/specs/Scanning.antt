@@ -1,0 +1,12 @@
+-- What one order adds to what is known of the orders.
+use Rattle.std.specs.Prelude.{◌≡◌, ◌+◌, Bool, true, min, ◌||◌}
+use Rattle.office_tables.specs.declared.rows.Owned.{Owned}
+use Rattle.office_tables.specs.declared.rows.Order.{Order}
+use Rattle.office_judges.specs.Rules.{meets, order_limit}
+use Rattle.office_judges.specs.declared.scan.OrderScan.{OrderScan}
+
+pub record Scans (old : OrderScan) (row : Owned Order) (goes_on : Bool) (new : OrderScan) : Type 0 where
+  pub always : goes_on ≡ true
+  pub order : new.order ≡ old.order
+  pub count : new.count ≡ min (old.count + 1) order_limit
+  pub meets : new.meets ≡ (old.meets || meets old.order.now row.row)

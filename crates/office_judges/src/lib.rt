@@ -1,0 +1,11 @@
+//! What each command comes to over the tables of all customers, before anything is written.
+#![tactic(auto)]
+
+mod order;
+mod scan;
+mod serials;
+mod verdict;
+
+pub use order::{judge_order, show_order};
+pub use serials::next_serial;
+pub use verdict::{Accepted, Verdict, judge};

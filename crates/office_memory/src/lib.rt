@@ -1,0 +1,11 @@
+//! A keeper of the tables in memory.
+#![tactic(auto)]
+
+mod memory;
+mod rows;
+mod table;
+
+pub use memory::MemKeep;
+
+#[cfg(test)]
+mod tests;

@@ -1,0 +1,3 @@
+pub mod Reading
+pub mod Visiting
+pub mod Writing

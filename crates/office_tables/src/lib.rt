@@ -1,0 +1,8 @@
+//! The tables of all customers: their rows, what writes make of them, and what keeps them.
+#![tactic(auto)]
+
+mod keep;
+mod rows;
+
+pub use keep::{Keep, Sink, Unkept};
+pub use rows::{Order, OrderRow, Owned, Seat, SeatRow, Write};

@@ -1,0 +1,3 @@
+pub mod BuiltIn
+pub mod Caller
+pub mod Section

@@ -1,0 +1,61 @@
+-- The command line, and the job of its words.
+use Rattle.std.specs.Prelude.{◌≡◌, ◌≢◌, List, [], ◌∷◌, codes, map, true, Option, Some, None, option_and_then, string_bytes, bytes_eq, if◌then◌else◌}
+use Rattle.std.specs.Borrow.{Bor}
+use Rattle.clap.specs.Words.{App, IsAmong, Kinds, Text, fault_of, new_app, subcommand_of, with_subcommand}
+use Rattle.clap.specs.declared.error.kind.ErrorKind.{ErrorKind}
+use Rattle.clap.specs.declared.error.kind.ErrorKind.TheVariants.{DisplayHelp, OutOfMemory}
+use Rattle.station.specs.declared.job.Job.{Job}
+use Rattle.station.specs.declared.job.Job.TheVariants.{Replay}
+use Rattle.station.specs.declared.job.WordsFault.{WordsFault}
+use Rattle.station.specs.declared.job.WordsFault.TheVariants.{Help, Refused, NoMemory}
+
+-- the words
+abbrev pub texts : Bor (List (Bor Text)) → List Text
+texts words = map (λ word. word.now) words.now
+
+-- `replay`, with no options and no arguments
+abbrev pub replay_app : App
+replay_app = new_app (codes "replay")
+
+-- `station`, which asks for a subcommand
+abbrev pub top_app : App
+top_app = let app = new_app (codes "station") in record app { top = record app.top { subcommand_required = true } }
+
+-- `station replay`
+abbrev pub station_app : App
+station_app = with_subcommand top_app replay_app.top
+
+-- the job of a subcommand
+abbrev pub job_named : Text → Option Job
+job_named name = if bytes_eq name (codes "replay") then Some Replay else None
+
+-- the job of the subcommand that the words enter, as `clap` reads them for this command line
+abbrev pub job_of : List Text → Option Job
+job_of words = option_and_then (λ entered. job_named entered.0) (subcommand_of station_app words)
+
+-- nothing where the words have a fault
+abbrev pub unless_faulty : {A : Type 0} → Kinds → Option A → Option A
+unless_faulty [] job = job
+unless_faulty (kind ∷ kinds) job = None
+
+-- the job, if `clap` takes the words
+abbrev pub job_read : List Text → Option Job
+job_read words = unless_faulty (fault_of station_app words) (job_of words)
+
+-- the fault is a refusal with this text, or want of memory
+abbrev pub RefusesWith : Text → WordsFault → Type 0
+RefusesWith text (Help given) = ⊥
+RefusesWith text (Refused given) = string_bytes given ≡ text
+RefusesWith text NoMemory = Unit {0}
+
+-- an error of this kind gives the fault, which may also be want of memory
+abbrev pub GivenBy : ErrorKind → WordsFault → Type 0
+GivenBy kind (Help text) = kind ≡ DisplayHelp
+GivenBy kind (Refused text) = (kind ≢ DisplayHelp) × (kind ≢ OutOfMemory)
+GivenBy kind NoMemory = Unit {0}
+
+-- help is among the kinds, or a refusal comes where help is not the only one
+abbrev pub CanGive : Kinds → WordsFault → Type 0
+CanGive kinds (Help text) = IsAmong DisplayHelp kinds
+CanGive kinds (Refused text) = kinds ≢ DisplayHelp ∷ []
+CanGive kinds NoMemory = Unit {0}

@@ -1,0 +1,172 @@
+//! The job that the words of a command line ask for.
+ghost use Rattle.std.specs.Prelude.{◌≡◌, ◌⊎◌, false, Some, None, IfOk, IfErr, option_and_then};
+ghost use Rattle.clap.specs.Words.{app_of, fault_of, kind_of, subcommand_name_of};
+ghost use Rattle.clap.specs.declared.builder.command.Command.TheViews.{out-Command as fields_of};
+ghost use Rattle.station.specs.CommandLine.{CanGive, GivenBy, RefusesWith, job_named, job_read, replay_app, station_app, texts};
+ghost use Rattle.station.specs.declared.job.WordsFault.TheVariants.{NoMemory};
+
+use clap::error::ErrorKind;
+use clap::{ArgMatches, Command, Error};
+use std::alloc::{AllocError, Global};
+use std::rt::Env;
+use std::{env, io};
+
+/// Why a word that the system passed the program is refused.
+const NOT_UTF8: &str = "error: a word of the command line is not UTF-8\n";
+
+/// Why words that `clap` takes are refused, should it ever enter a subcommand that names no job.
+const NO_JOB: &str = "error: the words name no job\n";
+
+/// What the program is to do.
+#[derive(Debug, PartialEq, Eq, Drop)]
+pub enum Job {
+    /// Serves one stream of requests, from standard input to standard output.
+    Replay,
+}
+
+/// Why words give no job.
+#[derive(Debug, Drop, thiserror::Error)]
+pub enum WordsFault {
+    /// The words ask for help, which is the text.
+    #[error("{0}")]
+    Help(String),
+    /// The words are no command line of the program: the text says why, and how it is used.
+    #[error("{0}")]
+    Refused(String),
+    /// Memory ran out.
+    #[error("no memory")]
+    NoMemory,
+}
+
+impl From<AllocError> for WordsFault {
+    ghost from_gives = { λ _ fault. fault ≡ NoMemory };
+
+    fn from(_error: AllocError) -> WordsFault {
+        WordsFault::NoMemory
+    }
+}
+
+/// The job that the program was started for, by the words that the system passed it.
+///
+/// # Errors
+///
+/// Those of `read_job`; a word that is not UTF-8 is refused.
+pub fn job_from_env(rt: &(impl Env + AllocGlobal)) -> Result<Job, WordsFault> {
+    let alloc = rt.alloc();
+    let args = match env::args(rt) {
+        Ok(args) => args,
+        Err(error) => return Err(args_fault(alloc, &error)),
+    };
+    let args: Vec<String> = args.collect(alloc)?;
+    let words: Vec<&str> = args.iter().map(|arg| arg.as_str()).collect(alloc)?;
+    read_job(alloc, words.as_slice())
+}
+
+/// The fault that an error in reading the program's words stands for.
+fn args_fault(alloc: Global, error: &io::Error) -> WordsFault
+    ensures { RefusesWith NOT_UTF8.now result }
+{
+    if error.kind() == io::ErrorKind::OutOfMemory {
+        return WordsFault::NoMemory;
+    }
+    refused(alloc, NOT_UTF8)
+}
+
+/// The refusal with this text, or want of memory.
+fn refused(alloc: Global, text: &str) -> WordsFault
+    ensures { RefusesWith text.now result }
+{
+    match String::from_str(alloc, text) {
+        Ok(text) => WordsFault::Refused(text),
+        Err(_) => WordsFault::NoMemory,
+    }
+}
+
+/// The job that the words give, by `clap`'s reading of the program's command line.
+///
+/// The words are all those that the system passes a program, so the first is the program's own
+/// name, which is passed over. No word at all is a missing subcommand.
+///
+/// # Errors
+///
+/// `Help` with the text of help where the words ask for it, `Refused` with `clap`'s text where they
+/// are no command line of the program, `NoMemory` where memory runs out.
+pub fn read_job<'a>(alloc: Global, words: &'a [&'a str]) -> Result<Job, WordsFault>
+    ensures ok { IfOk result (λ job. job_read (texts words.entry) ≡ Some job) }
+    ensures err { IfErr result (λ fault.
+        (fault ≡ NoMemory) ⊎ (job_read (texts words.entry) ≡ None)) }
+
+    // Help comes only where it is among the answers that `clap` may give to the words, and a refusal
+    // only where help is not the one answer. `clap` leaves two open where `help` stands for a
+    // subcommand, since what follows it may name none.
+    ensures fault { IfErr result (CanGive (fault_of station_app (texts words.entry))) }
+{
+    let command = station_command(alloc)?;
+    let matches = match command.try_get_matches_from(words) {
+        Ok(matches) => matches,
+        Err(error) => return Err(words_fault(alloc, &error)),
+    };
+    match job_from(&matches) {
+        Some(job) => Ok(job),
+        None => Err(refused(alloc, NO_JOB)),
+    }
+}
+
+/// The program's command line.
+fn station_command<'a>(alloc: Global) -> Result<Command<'a>, AllocError>
+    ensures { IfOk result (λ command. app_of command ≡ station_app) }
+{
+    let replay = replay_command(alloc);
+    Command::new(alloc, "station")
+        .about("Serves programming stations")
+        .subcommand_required(true)
+        .subcommand(replay)
+}
+
+/// The subcommand `replay`, which has no options and no arguments.
+fn replay_command<'a>(alloc: Global) -> Command<'a>
+    ensures shape { app_of result ≡ replay_app }
+    ensures local { (fields_of result).has_globals ≡ false }
+{
+    Command::new(alloc, "replay").about(
+        "Serves one stream of requests, from standard input to standard output",
+    )
+}
+
+/// The fault that an error of `clap` stands for.
+fn words_fault(alloc: Global, error: &Error) -> WordsFault
+    ensures { GivenBy (kind_of error.now) result }
+{
+    let kind = error.kind();
+    if kind == ErrorKind::OutOfMemory {
+        return WordsFault::NoMemory;
+    }
+    let Ok(text) = error.to_string(alloc) else {
+        return WordsFault::NoMemory;
+    };
+    if kind == ErrorKind::DisplayHelp {
+        WordsFault::Help(text)
+    } else {
+        WordsFault::Refused(text)
+    }
+}
+
+/// The job of the subcommand that was met.
+fn job_from(matches: &ArgMatches<'_>) -> Option<Job>
+    ensures { result ≡ option_and_then job_named (subcommand_name_of matches.now) }
+{
+    job_named(matches.subcommand_name()?)
+}
+
+/// The job of the subcommand with this name.
+fn job_named(name: &str) -> Option<Job>
+    ensures { result ≡ job_named name.now }
+{
+    match name {
+        "replay" => Some(Job::Replay),
+        _ => None,
+    }
+}
+
+#[cfg(test)]
+mod tests;

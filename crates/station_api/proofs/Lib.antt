@@ -1,0 +1,4 @@
+mod Answering
+mod Members
+mod NameTexts
+mod Streaming

@@ -1,0 +1,4 @@
+pub mod Digests
+pub mod Orders
+pub mod Requests
+pub mod Machine

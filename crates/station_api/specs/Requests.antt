@@ -1,0 +1,45 @@
+-- What a request asks for, as a function of its head and its body (RFC 9110, 9112).
+use Rattle.std.specs.Prelude.{ℕ, List, codes, replicate, bytes_eq, Option, Some, None, option_map, Result, Err, if◌then◌else◌}
+use Rattle.std.specs.Option.{ok_or}
+use Rattle.text_core.specs.Answer.{result_and_then}
+use Rattle.text_core.specs.Json.{json_of}
+use Rattle.http_fields.specs.Fields.{path_of, query_of}
+use Rattle.http_frames.specs.Frames.{Request as HttpRequest}
+use Rattle.office_commands.specs.declared.command.Request.{Request}
+use Rattle.office_commands.specs.declared.command.Command.TheVariants.{Show}
+use Rattle.office_commands.specs.declared.command.Show.TheVariants.{Order}
+use Rattle.office_commands.specs.declared.refusal.Refusal.{Refusal}
+use Rattle.office_commands.specs.declared.refusal.Refusal.TheVariants.{UnknownPath, BadJson, BadMember}
+use Rattle.station_api.specs.declared.parse.Route.{Route}
+use Rattle.station_api.specs.declared.parse.Route.TheVariants.{MakeOrder, ShowOrder}
+use Rattle.station_api.specs.Orders.{make_order_of, name_parameter}
+
+-- what the method of an order's path leads to
+abbrev pub order_route : List ℕ → Option Route
+order_route method =
+    if bytes_eq method (codes "POST") then Some MakeOrder else (if bytes_eq method (codes "GET") then Some ShowOrder else None)
+
+-- what a method and a path lead to
+abbrev pub route_of : List ℕ → List ℕ → Option Route
+route_of method path = if bytes_eq path (codes "/v1/order") then order_route method else None
+
+-- the order that a body asks for: no JSON is refused before a member that isn't of its form
+abbrev pub order_made : List ℕ → Result Request Refusal
+order_made body = result_and_then (λ d. ok_or (make_order_of d) BadMember) (ok_or (json_of body) BadJson)
+
+-- a request that shows something has no use for a number and a digest
+abbrev pub shows_order : List ℕ → Request
+shows_order name = record { number = 0; digest = replicate 32 0; command = Show (Order name) }
+
+-- the order that a query asks for
+abbrev pub order_shown : List ℕ → Result Request Refusal
+order_shown query = ok_or (option_map shows_order (name_parameter query)) BadMember
+
+abbrev pub asked_on : Option Route → List ℕ → List ℕ → Result Request Refusal
+asked_on None query body = Err UnknownPath
+asked_on (Some MakeOrder) query body = order_made body
+asked_on (Some ShowOrder) query body = order_shown query
+
+-- what a request asks for, or the lowest refusal of its path, its method, its body and its members
+abbrev pub asked : HttpRequest → Result Request Refusal
+asked r = asked_on (route_of r.head.method (path_of r.head.target)) (query_of r.head.target) r.body

@@ -1,0 +1,65 @@
+//! The examples over the keeper in memory.
+use crate::{faults, orders, streams};
+use office_core::MemKeep;
+use std::test::Fail;
+
+#[test]
+fn repeats_an_order(rt: HostRuntime) -> Result<(), Fail> {
+    orders::repeats_an_order(&rt, &mut MemKeep::new(rt.alloc()))
+}
+
+#[test]
+fn refuses_numbers(rt: HostRuntime) -> Result<(), Fail> {
+    orders::refuses_numbers(&rt, &mut MemKeep::new(rt.alloc()))
+}
+
+#[test]
+fn refuses_orders(rt: HostRuntime) -> Result<(), Fail> {
+    orders::refuses_orders(&rt, &mut MemKeep::new(rt.alloc()))
+}
+
+#[test]
+fn shows_orders(rt: HostRuntime) -> Result<(), Fail> {
+    orders::shows_orders(&rt, &mut MemKeep::new(rt.alloc()))
+}
+
+#[test]
+fn is_cut(rt: HostRuntime) -> Result<(), Fail> {
+    streams::is_cut(&rt, &mut MemKeep::new(rt.alloc()))
+}
+
+#[test]
+fn limits_bodies(rt: HostRuntime) -> Result<(), Fail> {
+    streams::limits_bodies(&rt, &mut MemKeep::new(rt.alloc()))
+}
+
+#[test]
+fn asks_for_a_token(rt: HostRuntime) -> Result<(), Fail> {
+    streams::asks_for_a_token(&rt, &mut MemKeep::new(rt.alloc()))
+}
+
+#[test]
+fn comes_in_pieces(rt: HostRuntime) -> Result<(), Fail> {
+    for step in [1, 7, 97, 65_536] {
+        streams::comes_in_pieces(&rt, &mut MemKeep::new(rt.alloc()), step)?;
+    }
+    Ok(())
+}
+
+#[test]
+fn goes_on_after_interruptions(rt: HostRuntime) -> Result<(), Fail> {
+    faults::goes_on_after_interruptions(&rt, &mut MemKeep::new(rt.alloc()))
+}
+
+#[test]
+fn stops_where_the_reader_fails(rt: HostRuntime) -> Result<(), Fail> {
+    faults::stops_where_the_reader_fails(&rt, &mut MemKeep::new(rt.alloc()))
+}
+
+#[test]
+fn stops_where_the_writer_does(rt: HostRuntime) -> Result<(), Fail> {
+    for taken in [0, 10, 72, 100] {
+        faults::stops_where_the_writer_does(&rt, &mut MemKeep::new(rt.alloc()), taken)?;
+    }
+    Ok(())
+}

@@ -1,0 +1,4 @@
+pub mod BodyRead
+pub mod Lists
+pub mod Padding
+pub mod Shorts

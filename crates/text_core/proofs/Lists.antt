@@ -1,0 +1,65 @@
+-- Arrays as lists, and what a reader gives of each of their items.
+use Rattle.std.proofs.Common.{◌≡◌, ℕ, zero, suc, ◌+◌, ◌<◌, List, [], ◌∷◌, ◌++◌, length, get_or, take, map, Option, Some, None, option_map, option_and_then, refl, sym, ap, ◌∙◌, arith}
+use Rattle.std.proofs.lemmas.List.{take_more, map-append, length-map, get_or-map}
+use Rattle.serde_json.specs.View.{view, items_view}
+use Rattle.serde_json.specs.declared.value.Value.{Value}
+use Rattle.text_core.specs.Json.{list_of}
+use Rattle.text_core.specs.Options.{all_of}
+
+pub list_of_items : (vs : List Value) → list_of (items_view vs) ≡ map view vs
+list_of_items [] = refl
+list_of_items (v ∷ vs) = ap (λ ds. view v ∷ ds) (list_of_items vs)
+
+-- the results, with one more at the end
+abbrev with_last : {B : Type 0} → Option B → List B → Option (List B)
+with_last last ys = option_map (λ y. ys ++ y ∷ []) last
+
+abbrev with_first : {B : Type 0} → Option (List B) → B → Option (List B)
+with_first rest y = option_map (λ ys. y ∷ ys) rest
+
+first_and_last : {B : Type 0} (first : Option B) (middle : Option (List B)) (last : Option B)
+    → option_and_then (with_first (option_and_then (with_last last) middle)) first ≡ option_and_then (with_last last) (option_and_then (with_first middle) first)
+first_and_last None middle last = refl
+first_and_last (Some y) None last = refl
+first_and_last (Some y) (Some ys) None = refl
+first_and_last (Some y) (Some ys) (Some z) = refl
+
+only : {B : Type 0} (last : Option B) → option_and_then (with_first (Some [])) last ≡ with_last last []
+only None = refl
+only (Some y) = refl
+
+all_of-append : {A B : Type 0} (f : A → Option B) (xs : List A) (x : A)
+    → all_of f (xs ++ x ∷ []) ≡ option_and_then (with_last (f x)) (all_of f xs)
+all_of-append f [] x = only (f x)
+all_of-append f (w ∷ ws) x =
+    ap (λ rest. option_and_then (with_first rest) (f w)) (all_of-append f ws x) ∙ first_and_last (f w) (all_of f ws) (f x)
+
+-- one more element at the end
+pub all_of_push : {A B : Type 0} (f : A → Option B) (xs : List A) (x : A) (ys : List B) (y : B)
+    → all_of f xs ≡ Some ys → f x ≡ Some y → all_of f (xs ++ x ∷ []) ≡ Some (ys ++ y ∷ [])
+all_of_push f xs x ys y all one = all_of-append f xs x ∙ rw (all, one) refl
+
+none_after : {B : Type 0} (first : Option B) → option_and_then (with_first None) first ≡ None
+none_after None = refl
+none_after (Some y) = refl
+
+-- an element of which f gives nothing
+pub all_of_refused : {A B : Type 0} (f : A → Option B) (xs : List A) (i : ℕ) (d : A)
+    → i < length xs → f (get_or xs i d) ≡ None → all_of f xs ≡ None
+all_of_refused f [] i d low none = absurd (omega arith)
+all_of_refused f (x ∷ xs) zero d low none = rw none refl
+all_of_refused f (x ∷ xs) (suc i) d low none =
+    ap (λ rest. option_and_then (with_first rest) (f x)) (all_of_refused f xs i d (omega arith) none) ∙ none_after (f x)
+
+-- the step of a loop that reads each element, seen through g
+pub all_of_more : {A B C : Type 0} (f : B → Option C) (g : A → B) (vs : List A) (i : ℕ) (v : A) (ys : List C) (y : C)
+    → i < length vs → v ≡ get_or vs i v → all_of f (map g (take i vs)) ≡ Some ys → f (g v) ≡ Some y
+    → all_of f (map g (take (i + 1) vs)) ≡ Some (ys ++ y ∷ [])
+all_of_more f g vs i v ys y low item all one =
+    rw (take_more vs i v low, map-append) (all_of_push f (map g (take i vs)) (g (get_or vs i v)) ys y all (ap (λ w. f (g w)) (sym item) ∙ one))
+
+-- and its end, where an element is refused
+pub all_of_stop : {A B C : Type 0} (f : B → Option C) (g : A → B) (vs : List A) (i : ℕ) (v : A)
+    → i < length vs → v ≡ get_or vs i v → f (g v) ≡ None → all_of f (map g vs) ≡ None
+all_of_stop f g vs i v low item none =
+    all_of_refused f (map g vs) i (g v) (rw length-map low) (ap f (get_or-map g vs i v (g v) low) ∙ (ap (λ w. f (g w)) (sym item) ∙ none))

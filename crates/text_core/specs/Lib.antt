@@ -1,0 +1,11 @@
+pub mod Answer
+pub mod Chip
+pub mod Digest
+pub mod InPlace
+pub mod Json
+pub mod Name
+pub mod Options
+pub mod Padding
+pub mod Prefix
+pub mod Serial
+pub mod ShortText

@@ -1,0 +1,12 @@
+-- Steps that may give nothing.
+use Rattle.std.specs.Prelude.{List, [], ◌∷◌, Option, Some, option_map, option_and_then}
+
+infixl 10 ◌>>=◌
+-- what f gives of what the step before gave, as `?` goes on
+abbrev pub ◌>>=◌ : {A B : Type 0} → Option A → (A → Option B) → Option B
+o >>= f = option_and_then f o
+
+-- what f gives of each element, if it gives something of each
+abbrev pub all_of : {A B : Type 0} → (A → Option B) → List A → Option (List B)
+all_of f [] = Some []
+all_of f (x ∷ xs) = f x >>= (λ y. option_map (λ ys. y ∷ ys) (all_of f xs))

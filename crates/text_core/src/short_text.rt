@@ -1,0 +1,101 @@
+ghost use Rattle.std.specs.Prelude.{◌≡◌, ◌≤◌, length, Some, nat_eq, refl};
+ghost use Rattle.std.specs.Cmp.{partial_equiv_from_equiv};
+ghost use Rattle.std.specs.Cmp.Lexicographic.{pointwise, slice_cmp, nat_list_cmp_total, nat_list_eq_equiv, texts_po, texts_ties};
+ghost use Rattle.std.specs.Ordering.{nat_cmp};
+
+use std::cmp::Ordering;
+use std::marker::Model;
+use std::{fmt, str};
+
+/// A text of at most 64 bytes that lies in place and takes no memory. The bytes after it are zeros.
+/// It is compared by its bytes.
+#[derive(Clone, Copy)]
+pub(crate) struct ShortText {
+    bytes: [u8; 64],
+    len: usize,
+}
+
+impl Model for ShortText {
+    ghost use Rattle.std.specs.Prelude.{List, ℕ, take, length, ◌++◌, ◌-◌, replicate};
+    ghost use Rattle.text_core.specs.ShortText.{IsShortText};
+
+    ghost Value = { List ℕ };
+
+    ghost use Rattle.text_core.specs.InPlace.{padded-take};
+
+    ghost view = { λ t. take t.len t.bytes };
+
+    ghost invariant = { λ t. IsShortText t.bytes t.len };
+
+    ghost inverse = { λ text. record { bytes = text ++ replicate (64 - length text) 0; len = length text } };
+
+    ghost inverse_ok = { λ a h. padded-take a.bytes a.len h };
+}
+
+impl ShortText {
+    pub(crate) fn copy_of(text: &str) -> ShortText
+        requires { length text.now ≤ 64 }
+        ensures { result ≡ text.now }
+    {
+        let len = text.len();
+        let mut bytes = [0u8; 64];
+        bytes[..len].copy_from_slice(text.as_bytes());
+        ShortText { bytes, len }
+    }
+
+    pub(crate) fn as_bytes(&self) -> &[u8]
+        ensures { result.now ≡ self.now }
+    {
+        &self.bytes[..self.len]
+    }
+
+    pub(crate) fn as_str(&self) -> &str
+        ensures { result.now ≡ self.now }
+    {
+        str::from_utf8(&self.bytes[..self.len]).unwrap()
+    }
+}
+
+impl PartialEq for ShortText {
+    ghost eq = { pointwise nat_eq };
+
+    ghost laws = { partial_equiv_from_equiv nat_list_eq_equiv };
+
+    fn eq(&self, other: &ShortText) -> bool {
+        self.as_bytes() == other.as_bytes()
+    }
+}
+
+impl Eq for ShortText {
+    ghost laws = { nat_list_eq_equiv };
+}
+
+impl PartialOrd for ShortText {
+    ghost partial_cmp = { λ a b. Some (slice_cmp nat_cmp a b) };
+
+    ghost laws = { texts_po };
+
+    fn partial_cmp(&self, other: &ShortText) -> Option<Ordering> {
+        Some(self.cmp(other))
+    }
+}
+
+impl Ord for ShortText {
+    ghost cmp = { slice_cmp nat_cmp };
+
+    ghost total = { nat_list_cmp_total };
+
+    ghost matches_partial_cmp = { λ a b. refl };
+
+    ghost matches_eq = { texts_ties };
+
+    fn cmp(&self, other: &ShortText) -> Ordering {
+        self.as_bytes().cmp(other.as_bytes())
+    }
+}
+
+impl fmt::Debug for ShortText {
+    fn fmt<W: fmt::Write>(&self, f: &mut fmt::Formatter<W>) -> fmt::Result {
+        fmt::Debug::fmt(self.as_str(), f)
+    }
+}
