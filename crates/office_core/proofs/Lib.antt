@@ -1,2 +1,5 @@
+mod Laws
+mod Readings
 pub mod Served
 mod Settled
+mod Steps

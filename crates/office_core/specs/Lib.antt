@@ -1,2 +1,4 @@
 pub mod Office
 pub mod Retrying
+pub mod Solo
+pub mod Isolation

@@ -1,6 +1,7 @@
 //! The books of all customers: each request of a seat is answered by one step over the tables.
 #![tactic(auto)]
 
+mod isolation;
 mod office;
 mod retry;
 
@@ -9,6 +10,7 @@ pub mod site {
     pub use site_core::{Caller, Customer, Site};
 }
 
+pub use isolation::{always_a_step, steps_are_the_customers_own};
 pub use office::answer;
 pub use office_commands::{Change, Command, NewOrder, Refusal, Request, Show};
 pub use office_memory::MemKeep;

@@ -1,3 +1,4 @@
+pub mod Placing
 pub mod Reading
 pub mod Visiting
 pub mod Writing

@@ -1,8 +1,10 @@
 -- The tables of all customers, each a list of rows in the order of its key, and what a list of writes makes of them.
 use Rattle.std.specs.Prelude.{◌≡◌, ℕ, Bool, ◌&&◌, List, [], ◌∷◌, filter, map, find, Option, None}
+use Rattle.std.specs.List.{AllByRecursion}
 use Rattle.std.specs.Str.{bytes_eq}
 use Rattle.std.specs.Ordering.{nat_cmp, ordering_then, match_ordering}
 use Rattle.std.specs.declared.cmp.Ordering.{Ordering}
+use Rattle.std.specs.declared.cmp.Ordering.TheVariants.{Less}
 use Rattle.std.specs.Cmp.Lexicographic.{slice_cmp}
 use Rattle.office_tables.specs.Rows.{Device, Given, MapText, Link, Entry}
 use Rattle.office_tables.specs.declared.rows.Owned.{Owned}
@@ -67,6 +69,11 @@ order_cmp a b = ordering_then (text_cmp a.customer b.customer) (text_cmp a.row.n
 abbrev pub placed : {A : Type 0} → (A → A → Ordering) → A → List A → List A
 placed cmp x [] = x ∷ []
 placed cmp x (y ∷ ys) = match_ordering (cmp x y) (x ∷ y ∷ ys) (x ∷ ys) (y ∷ placed cmp x ys)
+
+-- rows in the order of their keys, no two of them with one key
+abbrev pub IsInOrder : {A : Type 0} → (A → A → Ordering) → List A → Type 0
+IsInOrder cmp [] = Unit {0}
+IsInOrder cmp (x ∷ xs) = AllByRecursion (λ y. cmp x y ≡ Less) xs × IsInOrder cmp xs
 
 abbrev pub with_seat : Owned Seat → Tables → Tables
 with_seat s t = record t { seats = placed seat_cmp s t.seats }

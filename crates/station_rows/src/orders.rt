@@ -7,7 +7,10 @@ use std::process::Abort;
 use std::test::Fail;
 
 /// One order, then the same bytes again: the same reply twice, and one order stands.
-pub fn repeats_an_order<K: Keep>(rt: &(impl Abort + AllocGlobal), keep: &mut K) -> Result<(), Fail> {
+pub fn repeats_an_order<K: Keep>(
+    rt: &(impl Abort + AllocGlobal),
+    keep: &mut K,
+) -> Result<(), Fail> {
     let alloc = rt.alloc();
     let once = order_request(alloc, ORDER)?;
     let once = once.as_str();

@@ -11,10 +11,12 @@ use std::test::Fail;
 use text_core::Name;
 
 /// The order of the first example.
-pub const ORDER: &str = "{\"nr\":1,\"name\":\"o1\",\"issuer\":\"acme-ca\",\"prefix\":\"A\",\"width\":3,\"first\":998,\"quantity\":2,\"macs\":0}";
+pub const ORDER: &str =
+    "{\"nr\":1,\"name\":\"o1\",\"issuer\":\"acme-ca\",\"prefix\":\"A\",\"width\":3,\"first\":998,\"quantity\":2,\"macs\":0}";
 
 /// The reply to it, whole.
-pub const ORDER_REPLY: &str = "HTTP/1.1 200 OK\r\nContent-Type: application/json\r\nContent-Length: 114\r\n\r\n{\"first\":998,\"issuer\":\"acme-ca\",\"mac\":null,\"macs\":0,\"name\":\"o1\",\"next\":\"A998\",\"prefix\":\"A\",\"quantity\":2,\"width\":3}";
+pub const ORDER_REPLY: &str =
+    "HTTP/1.1 200 OK\r\nContent-Type: application/json\r\nContent-Length: 114\r\n\r\n{\"first\":998,\"issuer\":\"acme-ca\",\"mac\":null,\"macs\":0,\"name\":\"o1\",\"next\":\"A998\",\"prefix\":\"A\",\"quantity\":2,\"width\":3}";
 
 /// A request with the token `abc`.
 pub fn request(

@@ -50,7 +50,10 @@ pub fn limits_bodies<K: Keep>(rt: &(impl Abort + AllocGlobal), keep: &mut K) -> 
 }
 
 /// An unknown token, and a method that no path has: the stream goes on after both.
-pub fn asks_for_a_token<K: Keep>(rt: &(impl Abort + AllocGlobal), keep: &mut K) -> Result<(), Fail> {
+pub fn asks_for_a_token<K: Keep>(
+    rt: &(impl Abort + AllocGlobal),
+    keep: &mut K,
+) -> Result<(), Fail> {
     let alloc = rt.alloc();
     let once = order_request(alloc, ORDER)?;
     let once = once.as_str();
@@ -64,7 +67,11 @@ pub fn asks_for_a_token<K: Keep>(rt: &(impl Abort + AllocGlobal), keep: &mut K) 
 }
 
 /// The same replies however the bytes come in pieces.
-pub fn comes_in_pieces<K: Keep>(rt: &(impl Abort + AllocGlobal), keep: &mut K, step: usize) -> Result<(), Fail>
+pub fn comes_in_pieces<K: Keep>(
+    rt: &(impl Abort + AllocGlobal),
+    keep: &mut K,
+    step: usize,
+) -> Result<(), Fail>
     requires { 0 < step }
 {
     let alloc = rt.alloc();
@@ -72,7 +79,11 @@ pub fn comes_in_pieces<K: Keep>(rt: &(impl Abort + AllocGlobal), keep: &mut K, s
     let unknown = order_request(alloc, "[]")?;
     let (once, unknown) = (once.as_str(), unknown.as_str());
     let stream = format!(in alloc; "{once}{unknown}{once}")?;
-    let bad = reply(alloc, "400 Bad Request", "{\"error\":\"bad_member\",\"no\":10}")?;
+    let bad = reply(
+        alloc,
+        "400 Bad Request",
+        "{\"error\":\"bad_member\",\"no\":10}",
+    )?;
     let bad = bad.as_str();
     let replies = format!(in alloc; "{ORDER_REPLY}{bad}{ORDER_REPLY}")?;
     let (served, writer) = serve(alloc, keep, stream.as_str(), step)?;

@@ -1,0 +1,217 @@
+-- A step acts on the customer's view as the customer's own machine does, leaves each other view, and keeps the tables sound.
+use Rattle.std.proofs.Common.{◌≡◌, ℕ, Bool, true, false, cond, List, [], ◌∷◌, map, Option, Some, None, Ordering, Less, Equal, Greater, refl, sym, ap, ◌∙◌, subst}
+use Rattle.std.specs.Prelude.{◌||◌, not, MatchOption}
+use Rattle.std.specs.List.{AllByRecursion, list_any}
+use Rattle.std.specs.Option.{option_map}
+use Rattle.std.specs.Ordering.{match_ordering, ordering_then, is_eq}
+use Rattle.std.specs.Cmp.Lexicographic.{texts_ties}
+use Rattle.std.specs.Str.{bytes_eq}
+use Rattle.http_replies.specs.Replies.{Answer}
+use Rattle.site_core.specs.Section.{Section}
+use Rattle.office_tables.specs.declared.rows.Owned.{Owned}
+use Rattle.office_tables.specs.declared.rows.Seat.{Seat}
+use Rattle.office_tables.specs.declared.rows.Order.{Order}
+use Rattle.office_tables.specs.Tables.{Tables, is_of, own, placed, text_cmp, seat_cmp, order_cmp, order_at, with_seat, with_order}
+use Rattle.office_tables.proofs.Placing.{all_map, all_placed, placed_in_order, placed_other, placed_own}
+use Rattle.office_commands.specs.declared.command.Request.{Request}
+use Rattle.office_commands.specs.declared.command.Command.{Command}
+use Rattle.office_commands.specs.declared.command.Command.TheVariants.{Change as Changing, Show}
+use Rattle.office_commands.specs.declared.command.Change.{Change}
+use Rattle.office_commands.specs.declared.command.Change.TheVariants.{MakeOrder}
+use Rattle.office_commands.specs.declared.command.Show.TheVariants.{Order as ShowOrder}
+use Rattle.office_commands.specs.declared.refusal.Refusal.{Refusal}
+use Rattle.office_commands.specs.Replies.{acceptance, refusal, order_body}
+use Rattle.office_judges.specs.Rules.{wanted, lowest}
+use Rattle.office_judges.specs.Orders.{next_of, shown_order}
+use Rattle.office_judges.specs.Judging.{refusals, Changes}
+use Rattle.office_core.specs.Office.{settled, Turn, Repeats, Differs, Next, Skips, turn, turn_at, Judges, Turns, Serves, Step}
+use Rattle.office_core.specs.Solo.{State, own_seat_cmp, own_order_cmp, own_next, own_refusals, own_change, with_own_seat, own_settled, own_verdict, own_turn, own_shown_order, own_serves, solo}
+use Rattle.office_core.specs.Isolation.{at_first, view, Owners, IsSection, IsSound}
+use Rattle.office_core.proofs.Readings.{same_text, text_itself, seats_total, orders_total, order_agree, owner_is, seat_own, order_own, next_own, order_issuer, refusals_own}
+
+-- texts of equal place are one
+same_place : (a b : List ℕ) → text_cmp a b ≡ Equal → a ≡ b
+same_place a b e = same_text a b (texts_ties a b ∙ ap is_eq e)
+
+first_equal : (a b : Ordering) → ordering_then a b ≡ Equal → a ≡ Equal
+first_equal Less b e = e
+first_equal Equal b e = refl
+first_equal Greater b e = e
+
+-- a row that is taken over into another form keeps its place
+map_placed : {A : Type 0} (f : A → A) (cmp : A → A → Ordering) → ((a b : A) → cmp (f a) (f b) ≡ cmp a b) → (x : A) (ys : List A) → map f (placed cmp x ys) ≡ placed cmp (f x) (map f ys)
+map_placed f cmp same x [] = refl
+map_placed f cmp same x (y ∷ ys) = rw (same x y) (elim (cmp x y) as (λ o. map f (match_ordering o (x ∷ y ∷ ys) (x ∷ ys) (y ∷ placed cmp x ys)) ≡ match_ordering o (f x ∷ f y ∷ map f ys) (f x ∷ map f ys) (f y ∷ placed cmp (f x) (map f ys))) [
+  | Less ↦ refl
+  | Equal ↦ refl
+  | Greater ↦ ap (λ zs. f y ∷ zs) (map_placed f cmp same x ys)
+])
+
+module _ {owners : Owners} {t : Tables} (sound : IsSound owners t) where
+  order_sound : (c : List ℕ) (o : Order) → owners.issuer o.issuer ≡ Some c → IsSound owners (with_order (record { customer = c; row = o }) t)
+  order_sound c o mine = record {
+    seats_in_order = sound.seats_in_order;
+    orders_in_order = placed_in_order order_cmp orders_total _ t.orders sound.orders_in_order;
+    given_in_order = sound.given_in_order;
+    seats = sound.seats;
+    orders = all_placed (λ o. owners.issuer o.row.issuer ≡ Some o.customer) order_cmp _ t.orders mine sound.orders;
+    given = sound.given;
+  }
+
+  seat_sound : (c : List ℕ) (r : Seat) → owners.seat r.name ≡ Some c → IsSound owners (with_seat (record { customer = c; row = r }) t)
+  seat_sound c r mine = record {
+    seats_in_order = placed_in_order seat_cmp seats_total _ t.seats sound.seats_in_order;
+    orders_in_order = sound.orders_in_order;
+    given_in_order = sound.given_in_order;
+    seats = all_placed (λ o. owners.seat o.row.name ≡ Some o.customer) seat_cmp _ t.seats mine sound.seats;
+    orders = sound.orders;
+    given = sound.given;
+  }
+
+  -- an order whose place another has is the same customer's
+  order_place : (c : List ℕ) (o : Order) (rows : List (Owned Order)) → AllByRecursion (λ y. order_cmp (record { customer = c; row = o }) y ≡ Equal → c ≡ y.customer) rows
+  order_place c o [] = tt
+  order_place c o (y ∷ ys) = ((λ e. same_place c y.customer (first_equal _ _ e)), order_place c o ys)
+
+  -- and so is a seat's row
+  seat_place : (c : List ℕ) (r : Seat) → owners.seat r.name ≡ Some c → AllByRecursion (λ y. seat_cmp (record { customer = c; row = r }) y ≡ Equal → c ≡ y.customer) t.seats
+  seat_place c r mine = all_map (λ o. owners.seat o.row.name ≡ Some o.customer) (λ y. seat_cmp (record { customer = c; row = r }) y ≡ Equal → c ≡ y.customer)
+      (λ o owner e. owner_is owners.seat r.name o.row.name c o.customer mine owner (text_itself r.name o.row.name (same_place r.name o.row.name e))) t.seats sound.seats
+
+  order_view : (c : List ℕ) (o : Order) → at_first o ≡ o → view c (with_order (record { customer = c; row = o }) t) ≡ (let s = view c t in record s { orders = placed own_order_cmp o s.orders })
+  order_view c o first = λ i. record {
+    seats = own c t.seats;
+    given = own c t.given;
+    orders = (ap (map at_first) (placed_own c order_cmp own_order_cmp orders_total (order_agree c) (record { customer = c; row = o }) (text_itself c c refl) t.orders sound.orders_in_order
+        (all_map (λ y. order_cmp (record { customer = c; row = o }) y ≡ Equal → c ≡ y.customer) (λ y. order_cmp (record { customer = c; row = o }) y ≡ Equal → is_of c y ≡ true)
+        (λ y f e. text_itself c y.customer (f e)) t.orders (order_place c o t.orders)))
+        ∙ (map_placed at_first own_order_cmp (λ _ _. refl) o (own c t.orders) ∙ ap (λ (x : Order). placed own_order_cmp x (map at_first (own c t.orders))) first)) i;
+  }
+
+  seat_view : (c : List ℕ) (r : Seat) → owners.seat r.name ≡ Some c → view c (with_seat (record { customer = c; row = r }) t) ≡ with_own_seat r (view c t)
+  seat_view c r mine = λ i. record {
+    orders = map at_first (own c t.orders);
+    given = own c t.given;
+    seats = placed_own c seat_cmp own_seat_cmp seats_total (λ _ _ _ _. refl) (record { customer = c; row = r }) (text_itself c c refl) t.seats sound.seats_in_order
+        (all_map (λ y. seat_cmp (record { customer = c; row = r }) y ≡ Equal → c ≡ y.customer) (λ y. seat_cmp (record { customer = c; row = r }) y ≡ Equal → is_of c y ≡ true)
+        (λ y f e. text_itself c y.customer (f e)) t.seats (seat_place c r mine)) i;
+  }
+
+  order_hidden : (c d : List ℕ) (o : Order) → bytes_eq d c ≡ false → view d (with_order (record { customer = c; row = o }) t) ≡ view d t
+  order_hidden c d o other = λ i. record {
+    seats = own d t.seats;
+    given = own d t.given;
+    orders = map at_first (placed_other d order_cmp (record { customer = c; row = o }) other t.orders
+        (all_map (λ y. order_cmp (record { customer = c; row = o }) y ≡ Equal → c ≡ y.customer) (λ y. order_cmp (record { customer = c; row = o }) y ≡ Equal → is_of d y ≡ false)
+        (λ y f e. subst (λ x. bytes_eq d x ≡ false) (f e) other) t.orders (order_place c o t.orders)) i);
+  }
+
+  seat_hidden : (c d : List ℕ) (r : Seat) → owners.seat r.name ≡ Some c → bytes_eq d c ≡ false → view d (with_seat (record { customer = c; row = r }) t) ≡ view d t
+  seat_hidden c d r mine other = λ i. record {
+    orders = map at_first (own d t.orders);
+    given = own d t.given;
+    seats = placed_other d seat_cmp (record { customer = c; row = r }) other t.seats
+        (all_map (λ y. seat_cmp (record { customer = c; row = r }) y ≡ Equal → c ≡ y.customer) (λ y. seat_cmp (record { customer = c; row = r }) y ≡ Equal → is_of d y ≡ false)
+        (λ y f e. subst (λ x. bytes_eq d x ≡ false) (f e) other) t.seats (seat_place c r mine)) i;
+  }
+
+-- where no refusal is the lowest, none holds
+lowest_none : (cs : List (Bool × Refusal)) → lowest cs ≡ None → AllByRecursion (λ c. c.0 ≡ false) cs
+lowest_none [] e = tt
+lowest_none (c ∷ cs) e =
+    elim (c.0) as (λ b. c.0 ≡ b → cond b (Some c.1) (lowest cs) ≡ None → (c.0 ≡ false) × AllByRecursion (λ c. c.0 ≡ false) cs) [
+      | true ↦ λ _ e. cc
+      | false ↦ λ holds e. (holds, lowest_none cs e)
+    ] refl e
+
+not_false : (b : Bool) → not b ≡ false → b ≡ true
+not_false true e = refl
+not_false false e = cc
+
+-- A reply and tables after it are those of the customer's own machine; another view stays.
+pub record Obeys (owners : Owners) (c : List ℕ) (t : Tables) (reply : Answer) (t2 : Tables) (said : Answer × State) : Type 0 where
+  pub sound : IsSound owners t2
+  pub own : (reply, view c t2) ≡ said
+  pub other : (d : List ℕ) → bytes_eq d c ≡ false → view d t2 ≡ view d t
+
+-- the same of a change, with its body
+record Makes (owners : Owners) (c : List ℕ) (t : Tables) (body : List ℕ) (mid : Tables) (made : List ℕ × State) : Type 0 where
+  sound : IsSound owners mid
+  own : (body, view c mid) ≡ made
+  other : (d : List ℕ) → bytes_eq d c ≡ false → view d mid ≡ view d t
+
+module _ {owners : Owners} {t : Tables} (sound : IsSound owners t) (s : Section) (section : IsSection owners s) where
+  -- nothing changes
+  stays : (reply said : Answer) (t2 : Tables) → reply ≡ said → t2 ≡ t → Obeys owners s.name t reply t2 (said, view s.name t)
+  stays reply said t2 e same = record {
+    sound = subst (IsSound owners) (sym same) sound;
+    own = λ i. (e i, view s.name (same i));
+    other = λ d _ i. view d (same i);
+  }
+
+  any_owner : (i : List ℕ) (own_issuers : List (List ℕ)) → AllByRecursion (λ i. owners.issuer i ≡ Some s.name) own_issuers → list_any (bytes_eq i) own_issuers ≡ true → owners.issuer i ≡ Some s.name
+  any_owner i [] all e = cc
+  any_owner i (j ∷ js) all e =
+      elim (bytes_eq i j) as (λ b. bytes_eq i j ≡ b → (b || list_any (bytes_eq i) js) ≡ true → owners.issuer i ≡ Some s.name) [
+        | true ↦ λ same _. ap owners.issuer (same_text i j same) ∙ all.0
+        | false ↦ λ _ later. any_owner i js all.1 later
+      ] refl e
+
+  order_made : (o : Order) (body : List ℕ) (mid : Tables) → at_first o ≡ o → owners.issuer o.issuer ≡ Some s.name → body ≡ order_body o (next_of t o) → mid ≡ with_order (record { customer = s.name; row = o }) t
+      → Makes owners s.name t body mid (order_body o (own_next (view s.name t) o), (let v = view s.name t in record v { orders = placed own_order_cmp o v.orders }))
+  order_made o body mid first mine text is = record {
+    sound = subst (IsSound owners) (sym is) (order_sound sound s.name o mine);
+    own = λ i. ((text ∙ ap (order_body o) (next_own sound s.name o mine)) i, (ap (view s.name) is ∙ order_view sound s.name o first) i);
+    other = λ d ne. ap (view d) is ∙ order_hidden sound s.name d o ne;
+  }
+
+  made : (change : Change) (body : List ℕ) (mid : Tables) → lowest (refusals s t change) ≡ None → Changes s t change body mid → Makes owners s.name t body mid (own_change (view s.name t) change)
+  made (MakeOrder o) body mid free change =
+      order_made (wanted o) body mid refl (any_owner (wanted o).issuer s.issuers section.issuers (not_false _ (lowest_none (refusals s t (MakeOrder o)) free).1.1.1.1.1.0)) change.1 change.2
+
+  judged : (seat : List ℕ) (r : Request) (change : Change) (reply : Answer) (t2 : Tables) → owners.seat seat ≡ Some s.name
+      → Judges s seat r t change reply t2
+      → Obeys owners s.name t reply t2 (own_verdict seat r (view s.name t) (own_change (view s.name t) change) (lowest (own_refusals s (view s.name t) change)))
+  judged seat r change reply t2 mine j =
+      let own = own_change (view s.name t) change in
+      subst (λ v. Obeys owners s.name t reply t2 (own_verdict seat r (view s.name t) own v)) (ap lowest (refusals_own sound s change))
+      (elim (lowest (refusals s t change)) as (λ v. lowest (refusals s t change) ≡ v → MatchOption v
+      ((body : List ℕ) × (mid : Tables) × Changes s t change body mid × (reply ≡ acceptance body) × (t2 ≡ with_seat (settled s.name seat r body) mid))
+      (λ reason. (reply ≡ refusal reason) × (t2 ≡ t)) → Obeys owners s.name t reply t2 (own_verdict seat r (view s.name t) own v)) [
+        | Some reason ↦ λ _ j. stays reply (refusal reason) t2 j.0 j.1
+        | None ↦ λ free j.
+            let m = made change j.0 j.1 free j.2 in
+            let row : Seat = own_settled seat r j.0 in
+            let kept : ◌≡◌ {A = Answer × State} (reply, view s.name t2) (acceptance j.0, with_own_seat row (view s.name j.1)) =
+            λ i. (j.3 i, (ap (view s.name) j.4 ∙ seat_view m.sound s.name row mine) i) in
+            record {
+              sound = subst (IsSound owners) (sym j.4) (seat_sound m.sound s.name row mine);
+              own = kept ∙ ap (λ (made : List ℕ × State). (acceptance made.0, with_own_seat (own_settled seat r made.0) made.1)) m.own;
+              other = λ d ne. ap (view d) j.4 ∙ (seat_hidden m.sound s.name d row mine ne ∙ m.other d ne);
+            }
+      ] refl j)
+
+  turned : (seat : List ℕ) (r : Request) (change : Change) (reply : Answer) (t2 : Tables) → owners.seat seat ≡ Some s.name → (turns : Turn)
+      → Turns turns s seat r t change reply t2 → Obeys owners s.name t reply t2 (own_turn s seat r (view s.name t) change turns)
+  turned seat r change reply t2 mine (Repeats body) e = stays reply (acceptance body) t2 e.0 e.1
+  turned seat r change reply t2 mine Differs e = stays reply _ t2 e.0 e.1
+  turned seat r change reply t2 mine Next e = judged seat r change reply t2 mine e
+  turned seat r change reply t2 mine (Skips expected) e = stays reply _ t2 e.0 e.1
+
+  shown_order_own : (name : List ℕ) (found : Option (Owned Order)) → order_at s.name name t ≡ found → shown_order t found ≡ own_shown_order (view s.name t) (option_map (λ o. at_first o.row) found)
+  unfolding order_body
+  shown_order_own name None e = refl
+  shown_order_own name (Some o) e = ap (λ n. acceptance (order_body o.row n)) (next_own sound s.name o.row (order_issuer sound s.name name o e))
+
+  served : (seat : List ℕ) (r : Request) (command : Command) (reply : Answer) (t2 : Tables) → owners.seat seat ≡ Some s.name
+      → Serves s seat r t command reply t2 → Obeys owners s.name t reply t2 (own_serves s seat r (view s.name t) command)
+  served seat r (Show (ShowOrder name)) reply t2 mine e =
+      let found = shown_order_own name (order_at s.name name t) refl ∙ ap (own_shown_order (view s.name t)) (order_own sound s.name name) in
+      stays reply _ t2 (e.0 ∙ found) e.1
+  served seat r (Changing change) reply t2 mine e =
+      subst (λ row. Obeys owners s.name t reply t2 (own_turn s seat r (view s.name t) change (turn row r.number r.digest))) (seat_own sound s.name seat mine)
+      (turned seat r change reply t2 mine (turn_at seat r t) e)
+
+  pub step_obeys : (seat : List ℕ) (r : Request) (reply : Answer) (t2 : Tables) → owners.seat seat ≡ Some s.name
+      → Step s seat t r reply t2 → Obeys owners s.name t reply t2 (solo s seat (view s.name t) r)
+  step_obeys seat r reply t2 mine step = served seat r r.command reply t2 mine step

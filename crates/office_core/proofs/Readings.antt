@@ -1,0 +1,113 @@
+-- What the office reads for a customer is what the customer's own machine reads.
+use Rattle.std.proofs.Common.{◌≡◌, ℕ, Bool, true, false, List, [], ◌∷◌, map, length, Option, Some, None, Equal, refl, sym, ap, ◌∙◌, subst, cond, arith}
+use Prim.Native.Nat.{suc}
+use Rattle.std.specs.Prelude.{◌&&◌, ◌||◌, find, is_some}
+use Rattle.std.specs.List.{AllByRecursion, list_any}
+use Rattle.std.specs.Option.{option_map}
+use Rattle.std.specs.Ordering.{ordering_then}
+use Rattle.std.specs.Str.{bytes_eq}
+use Rattle.std.specs.Cmp.{IsTotalOrder}
+use Rattle.std.proofs.lemmas.Slice.Eq.{bytes_eq-Decides}
+use Rattle.std.proofs.lemmas.Bool.Decides.{nat_tests}
+use Rattle.std.proofs.lemmas.Cmp.{on_total, then_total, nat_list_cmp_total, tied_itself}
+use Rattle.site_core.specs.Section.{Section}
+use Rattle.office_tables.specs.declared.rows.Owned.{Owned}
+use Rattle.office_tables.specs.declared.rows.Order.{Order}
+use Rattle.office_tables.specs.Tables.{Tables, is_of, text_cmp, own, seat_cmp, order_cmp, seat_at, order_at, given_at}
+use Rattle.office_tables.proofs.Placing.{all_map, find_own, find_all}
+use Rattle.office_commands.specs.declared.command.Change.{Change}
+use Rattle.office_commands.specs.declared.command.Change.TheVariants.{MakeOrder}
+use Rattle.office_judges.specs.Rules.{wanted, meets, next_serial}
+use Rattle.office_judges.specs.Orders.{is_taken, next_of}
+use Rattle.office_judges.specs.Judging.{refusals}
+use Rattle.office_core.specs.Solo.{own_order_cmp, seat_named, order_named, has_given, own_next, own_refusals}
+use Rattle.office_core.specs.Isolation.{at_first, view, Owners, IsSound}
+
+pub same_text : (a b : List ℕ) → bytes_eq a b ≡ true → a ≡ b
+same_text a b e = (bytes_eq-Decides a b).0 e
+
+pub text_itself : (a b : List ℕ) → a ≡ b → bytes_eq a b ≡ true
+text_itself a b e = (bytes_eq-Decides a b).1 e
+
+pub seats_total : IsTotalOrder seat_cmp
+seats_total = on_total (λ o. o.row.name) nat_list_cmp_total
+
+pub orders_total : IsTotalOrder order_cmp
+orders_total = then_total (on_total (λ o. o.customer) nat_list_cmp_total) (on_total (λ o. o.row.name) nat_list_cmp_total)
+
+pub order_agree : (c : List ℕ) (a b : Owned Order) → is_of c a ≡ true → is_of c b ≡ true → order_cmp a b ≡ own_order_cmp a.row b.row
+order_agree c a b p q =
+    let same : b.customer ≡ a.customer = sym (same_text c b.customer q) ∙ same_text c a.customer p in
+    let tied : text_cmp a.customer b.customer ≡ Equal = subst (λ d. text_cmp a.customer d ≡ Equal) (sym same) (tied_itself nat_list_cmp_total a.customer) in
+    ap (λ r. ordering_then r (text_cmp a.row.name b.row.name)) tied
+
+-- two that own one thing are one
+pub owner_is : (f : List ℕ → Option (List ℕ)) (x y c d : List ℕ) → f x ≡ Some c → f y ≡ Some d → bytes_eq x y ≡ true → c ≡ d
+owner_is f x y c d p q e = let s = ap f (same_text x y e) in cc
+
+pub find_map : {R A : Type 0} (f : R → A) (p : A → Bool) (xs : List R) → find p (map f xs) ≡ option_map f (find (λ x. p (f x)) xs)
+find_map f p [] = refl
+find_map f p (x ∷ xs) = grind (arith, nat_tests, find_map f p xs)
+
+pub is_some_map : {A B : Type 0} (f : A → B) (o : Option A) → is_some (option_map f o) ≡ is_some o
+is_some_map f None = refl
+is_some_map f (Some x) = refl
+
+pub map_map : {A B C : Type 0} (f : A → B) (h : B → C) (o : Option A) → option_map h (option_map f o) ≡ option_map (λ x. h (f x)) o
+map_map f h None = refl
+map_map f h (Some x) = refl
+
+pub length_map : {A B : Type 0} (f : A → B) (xs : List A) → length (map f xs) ≡ length xs
+length_map f [] = refl
+length_map f (x ∷ xs) = ap suc (length_map f xs)
+
+pub any_at_first : (o : Order) (os : List Order) → list_any (meets o) (map at_first os) ≡ list_any (meets o) os
+any_at_first o [] = refl
+any_at_first o (p ∷ ps) = ap (λ b. meets o p || b) (any_at_first o ps)
+
+-- what is found was there, and passes
+pub find_holds : {A : Type 0} (P : A → Type 0) (q : A → Bool) (xs : List A) (x : A) → AllByRecursion P xs → find q xs ≡ Some x → P x × (q x ≡ true)
+find_holds P q [] x all e = cc
+find_holds P q (y ∷ ys) x all e =
+    elim (q y) as (λ b. q y ≡ b → cond b (Some y) (find q ys) ≡ Some x → P x × (q x ≡ true)) [
+      | true ↦ λ passes here. let same : y ≡ x = cc in (subst P same all.0, subst (λ z. q z ≡ true) same passes)
+      | false ↦ λ _ later. find_holds P q ys x all.1 later
+    ] refl e
+
+first_true : (a b : Bool) → (a && b) ≡ true → a ≡ true
+first_true true b e = refl
+first_true false b e = cc
+
+module _ {owners : Owners} {t : Tables} (sound : IsSound owners t) where
+  pub seat_own : (c seat : List ℕ) → owners.seat seat ≡ Some c → option_map (λ o. o.row) (seat_at seat t) ≡ seat_named seat (view c t)
+  seat_own c seat mine = find_all c (λ r. bytes_eq seat r.name) t.seats
+      (all_map (λ o. owners.seat o.row.name ≡ Some o.customer) (λ o. bytes_eq seat o.row.name ≡ true → is_of c o ≡ true)
+      (λ o owner e. text_itself c o.customer (owner_is owners.seat seat o.row.name c o.customer mine owner e)) t.seats sound.seats)
+
+  pub order_own : (c name : List ℕ) → option_map (λ o. at_first o.row) (order_at c name t) ≡ order_named name (view c t)
+  order_own c name =
+      sym (map_map (λ o. o.row) at_first (order_at c name t))
+      ∙ (ap (option_map at_first) (find_own c (λ r. bytes_eq name r.name) t.orders) ∙ sym (find_map at_first (λ r. bytes_eq name r.name) (own c t.orders)))
+
+  pub taken_own : (c issuer : List ℕ) → owners.issuer issuer ≡ Some c → (serial : List ℕ) → is_taken t issuer serial ≡ has_given (view c t) issuer serial
+  taken_own c issuer mine serial = sym (is_some_map (λ o. o.row) (given_at issuer serial t)) ∙ ap is_some
+      (find_all c (λ r. bytes_eq issuer r.issuer && bytes_eq serial r.serial) t.given
+      (all_map (λ o. owners.issuer o.row.issuer ≡ Some o.customer) (λ o. (bytes_eq issuer o.row.issuer && bytes_eq serial o.row.serial) ≡ true → is_of c o ≡ true)
+      (λ o owner e. text_itself c o.customer (owner_is owners.issuer issuer o.row.issuer c o.customer mine owner (first_true _ _ e))) t.given sound.given))
+
+  pub next_own : (c : List ℕ) (o : Order) → owners.issuer o.issuer ≡ Some c → next_of t o ≡ own_next (view c t) o
+  next_own c o mine = λ i. next_serial (λ serial. taken_own c o.issuer mine serial i) o
+
+  -- a customer's order has one of the customer's issuers
+  pub order_issuer : (c name : List ℕ) (o : Owned Order) → order_at c name t ≡ Some o → owners.issuer o.row.issuer ≡ Some c
+  order_issuer c name o e =
+      let found = find_holds (λ o. owners.issuer o.row.issuer ≡ Some o.customer) _ t.orders o sound.orders e in
+      found.0 ∙ ap (λ d. Some d) (sym (same_text c o.customer (first_true _ _ found.1)))
+
+  pub refusals_own : (s : Section) (change : Change) → refusals s t change ≡ own_refusals s (view s.name t) change
+  refusals_own s (MakeOrder o) =
+      let known : is_some (order_at s.name (wanted o).name t) ≡ is_some (order_named (wanted o).name (view s.name t)) =
+      sym (is_some_map (λ o. at_first o.row) _) ∙ ap is_some (order_own s.name (wanted o).name) in
+      let met : list_any (meets (wanted o)) (own s.name t.orders) ≡ list_any (meets (wanted o)) (map at_first (own s.name t.orders)) = sym (any_at_first (wanted o) (own s.name t.orders)) in
+      let count : length (own s.name t.orders) ≡ length (map at_first (own s.name t.orders)) = sym (length_map at_first (own s.name t.orders)) in
+      rw (known, met, count) refl

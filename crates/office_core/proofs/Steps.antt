@@ -1,0 +1,58 @@
+-- Each request has a step.
+use Rattle.std.proofs.Common.{◌≡◌, ℕ, Bool, true, false, List, Option, Some, None, refl}
+use Rattle.std.specs.Prelude.{is_some, MatchOption, if◌then◌else◌}
+use Rattle.http_replies.specs.Replies.{Answer}
+use Rattle.site_core.specs.Section.{Section}
+use Rattle.office_tables.specs.Tables.{Tables, order_at, with_seat, with_order}
+use Rattle.office_commands.specs.declared.command.Request.{Request}
+use Rattle.office_commands.specs.declared.command.Command.{Command}
+use Rattle.office_commands.specs.declared.command.Command.TheVariants.{Change, Show}
+use Rattle.office_commands.specs.declared.command.Change.{Change as Changing}
+use Rattle.office_commands.specs.declared.command.Change.TheVariants.{MakeOrder}
+use Rattle.office_commands.specs.declared.refusal.Refusal.{Refusal}
+use Rattle.office_commands.specs.declared.refusal.Refusal.TheVariants.{WrongNumber, OtherBody}
+use Rattle.office_commands.specs.Replies.{acceptance, refusal, order_body}
+use Rattle.office_judges.specs.Rules.{wanted, lowest}
+use Rattle.office_judges.specs.Orders.{next_of}
+use Rattle.office_judges.specs.Judging.{refusals, Changes}
+use Rattle.office_core.specs.Office.{settled, Turn, Repeats, Differs, Next, Skips, turn_at, shown, Judges, Turns, Serves, Step}
+
+none_from_test : {A : Type 0} (o : Option A) → is_some o ≡ false → o ≡ None
+none_from_test None e = refl
+none_from_test (Some x) e = cc
+
+first_is_false : (b : Bool) (first : Refusal) (later : Option Refusal) → (if b then Some first else later) ≡ None → b ≡ false
+first_is_false true first later e = cc
+first_is_false false first later e = refl
+
+-- a command that nothing refuses has a change
+change_exists : (s : Section) (t : Tables) (c : Changing) → lowest (refusals s t c) ≡ None → (body : List ℕ) × (mid : Tables) × Changes s t c body mid
+change_exists s t (MakeOrder o) e =
+    let w = wanted o in (
+      order_body w (next_of t w),
+      with_order (record { customer = s.name; row = w }) t,
+      (none_from_test _ (first_is_false (is_some (order_at s.name w.name t)) _ _ e), refl, refl),
+    )
+
+judged_exists : (s : Section) (seat : List ℕ) (r : Request) (t : Tables) (c : Changing) → (reply : Answer) × (t2 : Tables) × Judges s seat r t c reply t2
+judged_exists s seat r t c =
+    elim (lowest (refusals s t c)) as (λ found. lowest (refusals s t c) ≡ found → (reply : Answer) × (t2 : Tables) × MatchOption found
+    ((body : List ℕ) × (mid : Tables) × Changes s t c body mid × (reply ≡ acceptance body) × (t2 ≡ with_seat (settled s.name seat r body) mid))
+    (λ reason. (reply ≡ refusal reason) × (t2 ≡ t))) [
+      | None ↦ λ e. let made = change_exists s t c e in
+          (acceptance made.0, with_seat (settled s.name seat r made.0) made.1, (made.0, made.1, made.2, refl, refl))
+      | Some reason ↦ λ _. (refusal reason, t, (refl, refl))
+    ] refl
+
+turned_exists : (turn : Turn) (s : Section) (seat : List ℕ) (r : Request) (t : Tables) (c : Changing) → (reply : Answer) × (t2 : Tables) × Turns turn s seat r t c reply t2
+turned_exists (Repeats body) s seat r t c = (acceptance body, t, (refl, refl))
+turned_exists Differs s seat r t c = (refusal OtherBody, t, (refl, refl))
+turned_exists (Skips expected) s seat r t c = (refusal (WrongNumber expected), t, (refl, refl))
+turned_exists Next s seat r t c = judged_exists s seat r t c
+
+serves_exists : (s : Section) (seat : List ℕ) (r : Request) (t : Tables) (command : Command) → (reply : Answer) × (t2 : Tables) × Serves s seat r t command reply t2
+serves_exists s seat r t (Show asked) = (shown s t asked, t, (refl, refl))
+serves_exists s seat r t (Change c) = turned_exists (turn_at seat r t) s seat r t c
+
+pub step_exists : (s : Section) (seat : List ℕ) (t : Tables) (r : Request) → (reply : Answer) × (t2 : Tables) × Step s seat t r reply t2
+step_exists s seat t r = serves_exists s seat r t r.command
