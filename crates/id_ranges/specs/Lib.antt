@@ -1,2 +1,4 @@
+pub mod Blocks
 pub mod Mac
+pub mod Pool
 pub mod Serial

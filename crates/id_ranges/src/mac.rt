@@ -1,6 +1,7 @@
 ghost use Rattle.std.specs.Prelude.{◌≡◌, ◌<◌, ◌^◌, Some};
 ghost use Rattle.id_ranges.specs.Mac as spec;
 ghost use Rattle.id_ranges.specs.Mac.{mac_of_text};
+ghost use Rattle.id_ranges.specs.Pool.{is_individual};
 
 use hex::FromHex;
 use std::fmt;
@@ -56,6 +57,14 @@ impl Mac {
         ensures bound { result < 2 ^ 48 }
     {
         self.value
+    }
+
+    /// Whether it is the address of one station and of no group: the lowest bit of its first octet
+    /// is 0 (IEEE 802).
+    pub fn is_individual(self) -> bool
+        ensures { result ≡ is_individual self }
+    {
+        (self.value >> 40) % 2 == 0
     }
 }
 

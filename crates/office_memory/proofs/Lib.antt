@@ -1,2 +1,3 @@
-pub mod Placing
+pub mod Commits
 pub mod Keys
+pub mod Placing

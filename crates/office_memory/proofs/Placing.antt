@@ -144,6 +144,6 @@ module _ {K R : Type 0} (cmp : K → K → Ordering) (total : IsTotalOrder cmp) 
       ∙ (sym (with_other-values (key_of row) old (insert_entry cmp es (key_of row) row) (AreKeyed-insert row es keyed)) ∙ ap values_of (set_value-insert (key_of row) row old es sorted had))
 
   -- a placing is taken back
-  pub unplaced-insert : (row : R) (old : Option R) (es : List (K × R)) → AreKeyed cmp key_of es → IsStrictlySortedBy cmp (keys_of es) → lookup (is_at (cmp (key_of row))) es ≡ old → unplaced cmp key_of row old (values_of (insert_entry cmp es (key_of row) row)) ≡ values_of es
+  pub unplaced-insert : (row : R) (old : Option R) (es : List (K × R)) → AreKeyed cmp key_of es → IsStrictlySortedBy cmp (keys_of es) → lookup (is_at (cmp (key_of row))) es ≡ old → unplaced (by_key cmp key_of) row old (values_of (insert_entry cmp es (key_of row) row)) ≡ values_of es
   unplaced-insert row None es keyed sorted was = without-placed row es keyed was
   unplaced-insert row (Some old) es keyed sorted was = with_other-placed row old es keyed sorted was

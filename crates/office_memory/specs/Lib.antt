@@ -1,3 +1,4 @@
 pub mod Keyed
-pub mod Unplaced
 pub mod Memory
+pub mod Undone
+pub mod Unplaced

@@ -62,7 +62,7 @@ impl<R: Row> Table<R> {
     /// Puts a row in its place, and gives the row that had its key before.
     pub(crate) fn insert(&mut self, row: R) -> Result<Option<R>, AllocError>
         ensures placed { OnOk result (self.new ≡ placed (by_key R.Key.cmp R.key_of) row self.old) }
-        ensures undone { IfOk result (λ old. unplaced R.Key.cmp R.key_of row old self.new ≡ self.old) }
+        ensures undone { IfOk result (λ old. unplaced (by_key R.Key.cmp R.key_of) row old self.new ≡ self.old) }
         ensures err { OnErr result (self.new ≡ self.old) }
     {
         Ok(self.rows.insert(row.key(), row)?)
@@ -71,7 +71,7 @@ impl<R: Row> Table<R> {
     /// Takes a row out again, and puts the one that had its key before in its place. This takes
     /// no memory.
     pub(crate) fn undo_insert(&mut self, row: &R, old: Option<R>)
-        ensures { self.new ≡ unplaced R.Key.cmp R.key_of row.now old self.old }
+        ensures { self.new ≡ unplaced (by_key R.Key.cmp R.key_of) row.now old self.old }
     {
         match old {
             None => {

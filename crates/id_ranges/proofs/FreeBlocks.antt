@@ -1,0 +1,90 @@
+-- Free blocks of addresses.
+use Rattle.std.proofs.Common.{◌≡◌, ℕ, ◌+◌, ◌<◌, ◌≤◌, max, Bool, true, false, not, List, [], ◌∷◌, Some, None, find, slice_index_or, All, inl, inr, refl, ap, sym, ◌∙◌, arith}
+use Rattle.std.proofs.lemmas.Bool.{cases_Bool, lt-ltb, ltb-true, le-leb, leb-true, not-true, and_from, and_parts, both_ways, false_from_ne_true, or_left, or_right, or_from}
+use Rattle.std.proofs.lemmas.List.Folds.{list_any_at, list_any_none}
+use Rattle.std.proofs.lemmas.Option.{none-some, same_Some}
+use Rattle.std.specs.List.{list_any}
+use Rattle.id_ranges.specs.Blocks.{is_in, meets, is_free, IsIn, IsApart}
+use Rattle.id_ranges.proofs.Ranges.{list_all-range, in_list_all-range}
+
+-- what is found passes
+pub find-passes : {X : Type 0} (p : X → Bool) (xs : List X) (x : X) → find p xs ≡ Some x → p x ≡ true
+find-passes p [] x found = absurd (none-some x found)
+find-passes p (y ∷ ys) x found =
+    elim (cases_Bool (p y)) [
+      | inl passes ↦ let same : y ≡ x = same_Some y x (rw passes at found) in rw same at passes
+      | inr fails ↦ find-passes p ys x (rw fails at found)
+    ]
+
+-- where what one test finds passes another, an element passes the other
+pub list_any-from_find : {X : Type 0} (p q : X → Bool) (xs : List X) (x : X) → find p xs ≡ Some x → q x ≡ true → list_any q xs ≡ true
+list_any-from_find p q [] x found also = absurd (none-some x found)
+list_any-from_find p q (y ∷ ys) x found also =
+    elim (cases_Bool (p y)) [
+      | inl passes ↦ let same : y ≡ x = same_Some y x (rw passes at found) in or_left (q y) (list_any q ys) (ap q same ∙ also)
+      | inr fails ↦ or_right (q y) (list_any q ys) (list_any-from_find p q ys x (rw fails at found) also)
+    ]
+
+-- nothing is found where no element passes
+pub list_any-from_none : {X : Type 0} (p : X → Bool) (xs : List X) → find p xs ≡ None → list_any p xs ≡ false
+list_any-from_none p [] none = refl
+list_any-from_none p (y ∷ ys) none =
+    elim (cases_Bool (p y)) [
+      | inl passes ↦ absurd (none-some y (sym (rw passes at none)))
+      | inr fails ↦ or_from (p y) (list_any p ys) fails (list_any-from_none p ys (rw fails at none))
+    ]
+
+-- two intervals that meet have an address in common
+pub IsIn-from_meets : (a b : ℕ × ℕ) → meets a b ≡ true → (mac : ℕ) × IsIn a mac × IsIn b mac
+IsIn-from_meets a b h =
+    let met = ltb-true _ _ h in
+    (max a.0 b.0, (omega arith, omega arith), (omega arith, omega arith))
+
+-- two intervals with an address in common meet
+pub meets-from_IsIn : (a b : ℕ × ℕ) (mac : ℕ) → IsIn a mac → IsIn b mac → meets a b ≡ true
+meets-from_IsIn a b mac one other = lt-ltb _ _ (omega arith)
+
+-- the test of an interval's addresses
+pub is_in-from_IsIn : (interval : ℕ × ℕ) (mac : ℕ) → IsIn interval mac → is_in interval mac ≡ true
+is_in-from_IsIn interval mac inside = and_from _ _ (le-leb _ _ inside.0) (lt-ltb _ _ inside.1)
+
+-- an address that passes it is in the interval
+pub IsIn-from_is_in : (interval : ℕ × ℕ) (mac : ℕ) → is_in interval mac ≡ true → IsIn interval mac
+IsIn-from_is_in interval mac h = let parts = and_parts _ _ h in (leb-true _ _ parts.0, ltb-true _ _ parts.1)
+
+-- an address of a block that is in an interval shows that the block isn't free
+pub not_free-from_IsIn : (intervals : List (ℕ × ℕ)) (start count mac : ℕ) → IsIn (start, count) mac → list_any (λ interval. is_in interval mac) intervals ≡ true → is_free intervals count start ≡ false
+not_free-from_IsIn intervals start count mac inside taken =
+    false_from_ne_true _ (λ free.
+    both_ways _ (not-true _ (in_list_all-range (λ m. not (list_any (λ interval. is_in interval m) intervals)) start count mac free inside.0 inside.1)) taken)
+
+-- no address of a free block is in an interval
+pub apart-from_free : (intervals : List (ℕ × ℕ)) (start count : ℕ) → is_free intervals count start ≡ true → All (IsApart (start, count)) intervals
+apart-from_free intervals start count free = λ k d below mac one other.
+    both_ways _ (not_free-from_IsIn intervals start count mac one (list_any_at (λ interval. is_in interval mac) intervals k d below (is_in-from_IsIn _ mac other))) free
+
+-- a block is free if none of its addresses is in an interval
+pub free-from_apart : (intervals : List (ℕ × ℕ)) (start count : ℕ) → All (IsApart (start, count)) intervals → is_free intervals count start ≡ true
+free-from_apart intervals start count apart =
+    list_all-range (λ m. not (list_any (λ interval. is_in interval m) intervals)) start count (λ mac low high.
+    ap not (list_any_none (λ interval. is_in interval mac) intervals (λ k d below.
+    false_from_ne_true _ (λ passes. apart k d below mac (low, high) (IsIn-from_is_in (slice_index_or intervals k d) mac passes)))))
+
+-- where an interval meets a block, no block of that length from the first one's start to the interval's end is free
+pub not_free_later : (intervals : List (ℕ × ℕ)) (start count k : ℕ) (interval : ℕ × ℕ) → 1 ≤ count → find (meets (start, count)) intervals ≡ Some interval → start ≤ k → k < interval.0 + interval.1 → is_free intervals count k ≡ false
+not_free_later intervals start count k interval some found low high =
+    let met = IsIn-from_meets (start, count) interval (find-passes (meets (start, count)) intervals interval found) in
+    let mac : ℕ = max k interval.0 in
+    let inside : IsIn interval mac = (omega arith, omega arith) in
+    not_free-from_IsIn intervals k count mac (omega arith, omega arith) (list_any-from_find (meets (start, count)) (λ i. is_in i mac) intervals interval found (is_in-from_IsIn interval mac inside))
+
+-- a block that no interval meets is free
+pub free_from_none : (intervals : List (ℕ × ℕ)) (start count : ℕ) → find (meets (start, count)) intervals ≡ None → is_free intervals count start ≡ true
+free_from_none intervals start count none =
+    free-from_apart intervals start count (λ k d below mac one other.
+    both_ways _ (list_any-from_none (meets (start, count)) intervals none) (list_any_at (meets (start, count)) intervals k d below (meets-from_IsIn (start, count) (slice_index_or intervals k d) mac one other)))
+
+-- the end of an interval that meets a block is past the block's start
+pub end_past_start : (intervals : List (ℕ × ℕ)) (start count : ℕ) (interval : ℕ × ℕ) → find (meets (start, count)) intervals ≡ Some interval → start < interval.0 + interval.1
+end_past_start intervals start count interval found =
+    let met = ltb-true _ _ (find-passes (meets (start, count)) intervals interval found) in omega arith

@@ -1,0 +1,4 @@
+pub mod FreeBlocks
+pub mod Pools
+pub mod Ranges
+pub mod ReservedStart

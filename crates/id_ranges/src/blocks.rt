@@ -1,0 +1,74 @@
+ghost use Rattle.std.specs.Prelude.{◌≡◌, ◌≤◌, ℕ, true, false, find, Any, IfOk, OnErr};
+ghost use Rattle.std.specs.Option.{ok_or};
+ghost use Rattle.id_ranges.specs.Blocks as spec;
+ghost use Rattle.id_ranges.specs.Blocks.{is_free, starts, reserved_start, IsWithin};
+
+use crate::fault::RangeFault;
+use crate::mac::Mac;
+use crate::pool::MacPool;
+
+/// The first address of a block of `count` consecutive addresses that lies within one pool and has
+/// no address of a reserved interval, each of which is its first address and its length: the lowest
+/// such block of the first pool, in the order given, that has one. `NoMacRoom` where no pool has
+/// one.
+#[tactic(auto, using(crate::proofs::ReservedStart::pool_steps))]
+pub fn reserve(pools: &[MacPool], reserved: &[(Mac, u64)], count: u64) -> Result<Mac, RangeFault>
+    requires { 1 ≤ count }
+    ensures exact { result
+        ≡ ok_or (reserved_start pools.now reserved.now count) RangeFault.NoMacRoom }
+    ensures within { IfOk result (λ first. Any (IsWithin (first, count)) pools.now) }
+    ensures free { IfOk result (λ first. is_free reserved.now count first ≡ true) }
+    ensures full { OnErr result ((start : ℕ) → Any (IsWithin (start, count)) pools.now
+        → is_free reserved.now count start ≡ false) }
+{
+    for pool in pools {
+        if let Some(start) = start_in(pool, reserved, count) {
+            return Ok(start);
+        }
+    }
+    Err(RangeFault::NoMacRoom)
+}
+
+/// The first address of the lowest free block of this pool.
+fn start_in(pool: &MacPool, reserved: &[(Mac, u64)], count: u64) -> Option<Mac>
+    requires { 1 ≤ count }
+    ensures { result ≡ find (is_free reserved.now count) (starts count pool.now) }
+{
+    if pool.count() < count {
+        return None;
+    }
+    let last = pool.first().value() + (pool.count() - count);
+    let mut start = pool.first().value();
+    while start <= last {
+        let Some(interval) = meeting(reserved, start, count) else {
+            return Some(Mac::new(start));
+        };
+        start = interval.0.value().saturating_add(interval.1);
+    }
+    None
+}
+
+/// The first interval with an address of the block of `count` addresses from this one on.
+fn meeting(reserved: &[(Mac, u64)], start: u64, count: u64) -> Option<(Mac, u64)>
+    requires { 1 ≤ count }
+    ensures { result ≡ find (spec.meets (start, count)) reserved.now }
+{
+    reserved
+        .iter()
+        .copied()
+        .find(|interval| meets(start, count, interval))
+}
+
+/// Whether an interval has an address of the block of `count` addresses from this one on.
+fn meets(start: u64, count: u64, interval: &(Mac, u64)) -> bool
+    requires { 1 ≤ count }
+    ensures { result ≡ spec.meets (start, count) interval.now }
+{
+    let (first, length) = *interval;
+    let first = first.value();
+    if first <= start {
+        start - first < length
+    } else {
+        length != 0 && first - start < count
+    }
+}
