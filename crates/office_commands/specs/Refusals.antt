@@ -1,13 +1,14 @@
 -- What a refused request is answered: a status (RFC 9110, section 15) and a body with the refusal's name and number.
 use Rattle.std.specs.Prelude.{ℕ, List, ◌++◌, codes, decimal}
 use Rattle.http_replies.specs.declared.Status.{Status}
-use Rattle.http_replies.specs.declared.Status.TheVariants.{BadRequest, Unauthorized, NotFound, Conflict, Unprocessable, Unavailable}
+use Rattle.http_replies.specs.declared.Status.TheVariants.{BadRequest, Unauthorized, Forbidden, NotFound, Conflict, Unprocessable, Unavailable}
 use Rattle.office_commands.specs.declared.refusal.Refusal.{Refusal}
-use Rattle.office_commands.specs.declared.refusal.Refusal.TheVariants.{UnknownToken, UnknownPath, BadJson, BadMember, WrongNumber, OtherBody, UnknownOrder, Exists, BadSerial, NumberTooWide, NoMacRoom, RangeOverlap, ForeignIssuer, Limit, Unkept}
+use Rattle.office_commands.specs.declared.refusal.Refusal.TheVariants.{UnknownToken, UnknownPath, WrongCaller, BadJson, BadMember, WrongNumber, OtherBody, UnknownOrder, Exists, BadSerial, NumberTooWide, NoMacRoom, RangeOverlap, ForeignIssuer, Limit, Unkept}
 
 abbrev pub refusal_status : Refusal → Status
 refusal_status UnknownToken = Unauthorized
 refusal_status UnknownPath = NotFound
+refusal_status WrongCaller = Forbidden
 refusal_status BadJson = BadRequest
 refusal_status BadMember = BadRequest
 refusal_status (WrongNumber expected) = Conflict
@@ -25,6 +26,7 @@ refusal_status Unkept = Unavailable
 abbrev pub refusal_body : Refusal → List ℕ
 refusal_body UnknownToken = codes "{\"error\":\"unknown_token\",\"no\":6}"
 refusal_body UnknownPath = codes "{\"error\":\"unknown_path\",\"no\":7}"
+refusal_body WrongCaller = codes "{\"error\":\"wrong_caller\",\"no\":8}"
 refusal_body BadJson = codes "{\"error\":\"bad_json\",\"no\":9}"
 refusal_body BadMember = codes "{\"error\":\"bad_member\",\"no\":10}"
 refusal_body (WrongNumber expected) = codes "{\"error\":\"wrong_number\",\"expected\":" ++ (decimal expected ++ codes ",\"no\":11}")

@@ -9,12 +9,15 @@ use thiserror::Error;
 /// is answered.
 #[derive(Clone, Copy, Debug, PartialEq, Eq, Drop, Error)]
 pub enum Refusal {
-    /// No seat has the token, or there is none (6).
+    /// Nobody has the token, or there is none (6).
     #[error("unknown token")]
     UnknownToken,
     /// The server has no such path, or not with this method (7).
     #[error("unknown path")]
     UnknownPath,
+    /// The manager asks on a seat's path (8).
+    #[error("the caller has no business on this path")]
+    WrongCaller,
     /// The body is no JSON (9).
     #[error("the body is no JSON")]
     BadJson,
@@ -64,6 +67,7 @@ impl Refusal {
         match self {
             Refusal::UnknownToken => Status::Unauthorized,
             Refusal::UnknownPath | Refusal::UnknownOrder => Status::NotFound,
+            Refusal::WrongCaller => Status::Forbidden,
             Refusal::BadJson | Refusal::BadMember => Status::BadRequest,
             Refusal::WrongNumber(_)
             | Refusal::OtherBody

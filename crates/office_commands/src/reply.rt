@@ -35,7 +35,7 @@ pub fn unavailable() -> Reply
     }
 }
 
-/// The reply to a request without the token of a seat: status 401 with a constant. It takes no
+/// The reply to a request without the token of a caller: status 401 with a constant. It takes no
 /// memory.
 pub fn unknown_token() -> Reply
     ensures { answer_of result ≡ refusal Refusal.UnknownToken }
@@ -63,6 +63,7 @@ fn refusal_text(alloc: Global, reason: Refusal) -> Result<Body, AllocError>
     Ok(Body::Constant(match reason {
         Refusal::UnknownToken => "{\"error\":\"unknown_token\",\"no\":6}",
         Refusal::UnknownPath => "{\"error\":\"unknown_path\",\"no\":7}",
+        Refusal::WrongCaller => "{\"error\":\"wrong_caller\",\"no\":8}",
         Refusal::BadJson => "{\"error\":\"bad_json\",\"no\":9}",
         Refusal::BadMember => "{\"error\":\"bad_member\",\"no\":10}",
         Refusal::WrongNumber(expected) => {

@@ -1,6 +1,6 @@
 -- A step acts on the customer's view as the customer's own machine does, leaves each other view, and keeps the tables sound.
 use Rattle.std.proofs.Common.{◌≡◌, ℕ, Bool, true, false, cond, List, [], ◌∷◌, map, Option, Some, None, Ordering, Less, Equal, Greater, refl, sym, ap, ◌∙◌, subst}
-use Rattle.std.specs.Prelude.{◌||◌, not, MatchOption}
+use Rattle.std.specs.Prelude.{◌||◌, MatchOption}
 use Rattle.std.specs.List.{AllByRecursion, list_any}
 use Rattle.std.specs.Option.{option_map}
 use Rattle.std.specs.Ordering.{match_ordering, ordering_then, is_eq}
@@ -8,11 +8,14 @@ use Rattle.std.specs.Cmp.Lexicographic.{texts_ties}
 use Rattle.std.specs.Str.{bytes_eq}
 use Rattle.http_replies.specs.Replies.{Answer}
 use Rattle.site_core.specs.Section.{Section}
+use Rattle.site_core.specs.Owners.{AreApart, IsSection, Owners}
 use Rattle.office_tables.specs.declared.rows.Owned.{Owned}
 use Rattle.office_tables.specs.declared.rows.Seat.{Seat}
 use Rattle.office_tables.specs.declared.rows.Order.{Order}
 use Rattle.office_tables.specs.Tables.{Tables, is_of, own, placed, text_cmp, seat_cmp, order_cmp, order_at, with_seat, with_order}
+use Rattle.std.proofs.lemmas.Bool.{not-false}
 use Rattle.office_tables.proofs.Placing.{all_map, all_placed, placed_in_order, placed_other, placed_own}
+use Rattle.office_commands.specs.Asked.{IsAsked, IsChange, IsCommand}
 use Rattle.office_commands.specs.declared.command.Request.{Request}
 use Rattle.office_commands.specs.declared.command.Command.{Command}
 use Rattle.office_commands.specs.declared.command.Command.TheVariants.{Change as Changing, Show}
@@ -21,13 +24,16 @@ use Rattle.office_commands.specs.declared.command.Change.TheVariants.{MakeOrder}
 use Rattle.office_commands.specs.declared.command.Show.TheVariants.{Order as ShowOrder}
 use Rattle.office_commands.specs.declared.refusal.Refusal.{Refusal}
 use Rattle.office_commands.specs.Replies.{acceptance, refusal, order_body}
-use Rattle.office_judges.specs.Rules.{wanted, lowest}
-use Rattle.office_judges.specs.Orders.{next_of, shown_order}
+use Rattle.office_judges.specs.Rules.{lowest}
+use Rattle.office_judges.specs.Orders.{next_of, shown_order, wanted_by}
 use Rattle.office_judges.specs.Judging.{refusals, Changes}
 use Rattle.office_core.specs.Office.{settled, Turn, Repeats, Differs, Next, Skips, turn, turn_at, Judges, Turns, Serves, Step}
 use Rattle.office_core.specs.Solo.{State, own_seat_cmp, own_order_cmp, own_next, own_refusals, own_change, with_own_seat, own_settled, own_verdict, own_turn, own_shown_order, own_serves, solo}
-use Rattle.office_core.specs.Isolation.{at_first, view, Owners, IsSection, IsSound}
-use Rattle.office_core.proofs.Readings.{same_text, text_itself, seats_total, orders_total, order_agree, owner_is, seat_own, order_own, next_own, order_issuer, refusals_own}
+use Rattle.office_core.specs.Isolation.{at_first, view}
+use Rattle.office_core.specs.Sound.{AreDisjoint, IsInPool, IsOrder, IsSound}
+use Rattle.office_core.proofs.Addresses.{each_apart_placed, wanted_apart, wanted_in_pool}
+use Rattle.office_core.proofs.Terms.{wanted_terms}
+use Rattle.office_core.proofs.Readings.{wanted_own, same_text, text_itself, seats_total, orders_total, order_agree, owner_is, seat_own, order_own, next_own, order_issuer, refusals_own}
 
 -- texts of equal place are one
 same_place : (a b : List ℕ) → text_cmp a b ≡ Equal → a ≡ b
@@ -48,14 +54,18 @@ map_placed f cmp same x (y ∷ ys) = rw (same x y) (elim (cmp x y) as (λ o. map
 ])
 
 module _ {owners : Owners} {t : Tables} (sound : IsSound owners t) where
-  order_sound : (c : List ℕ) (o : Order) → owners.issuer o.issuer ≡ Some c → IsSound owners (with_order (record { customer = c; row = o }) t)
-  order_sound c o mine = record {
+  order_sound : (c : List ℕ) (o : Order) → owners.issuer o.issuer ≡ Some c → IsOrder o → IsInPool owners (record { customer = c; row = o })
+      → AllByRecursion (λ other. AreDisjoint o other.row) t.orders → IsSound owners (with_order (record { customer = c; row = o }) t)
+  order_sound c o mine terms in_pool apart = record {
     seats_in_order = sound.seats_in_order;
     orders_in_order = placed_in_order order_cmp orders_total _ t.orders sound.orders_in_order;
     given_in_order = sound.given_in_order;
     seats = sound.seats;
     orders = all_placed (λ o. owners.issuer o.row.issuer ≡ Some o.customer) order_cmp _ t.orders mine sound.orders;
     given = sound.given;
+    terms = all_placed (λ o. IsOrder o.row) order_cmp _ t.orders terms sound.terms;
+    in_pools = all_placed (IsInPool owners) order_cmp _ t.orders in_pool sound.in_pools;
+    apart = each_apart_placed order_cmp _ t.orders apart sound.apart;
   }
 
   seat_sound : (c : List ℕ) (r : Seat) → owners.seat r.name ≡ Some c → IsSound owners (with_seat (record { customer = c; row = r }) t)
@@ -66,6 +76,9 @@ module _ {owners : Owners} {t : Tables} (sound : IsSound owners t) where
     seats = all_placed (λ o. owners.seat o.row.name ≡ Some o.customer) seat_cmp _ t.seats mine sound.seats;
     orders = sound.orders;
     given = sound.given;
+    terms = sound.terms;
+    in_pools = sound.in_pools;
+    apart = sound.apart;
   }
 
   -- an order whose place another has is the same customer's
@@ -124,10 +137,6 @@ lowest_none (c ∷ cs) e =
       | false ↦ λ holds e. (holds, lowest_none cs e)
     ] refl e
 
-not_false : (b : Bool) → not b ≡ false → b ≡ true
-not_false true e = refl
-not_false false e = cc
-
 -- A reply and tables after it are those of the customer's own machine; another view stays.
 pub record Obeys (owners : Owners) (c : List ℕ) (t : Tables) (reply : Answer) (t2 : Tables) (said : Answer × State) : Type 0 where
   pub sound : IsSound owners t2
@@ -140,7 +149,7 @@ record Makes (owners : Owners) (c : List ℕ) (t : Tables) (body : List ℕ) (mi
   own : (body, view c mid) ≡ made
   other : (d : List ℕ) → bytes_eq d c ≡ false → view d mid ≡ view d t
 
-module _ {owners : Owners} {t : Tables} (sound : IsSound owners t) (s : Section) (section : IsSection owners s) where
+module _ {owners : Owners} {t : Tables} (sound : IsSound owners t) (apart : AreApart owners) (s : Section) (section : IsSection owners s) where
   -- nothing changes
   stays : (reply said : Answer) (t2 : Tables) → reply ≡ said → t2 ≡ t → Obeys owners s.name t reply t2 (said, view s.name t)
   stays reply said t2 e same = record {
@@ -157,30 +166,34 @@ module _ {owners : Owners} {t : Tables} (sound : IsSound owners t) (s : Section)
         | false ↦ λ _ later. any_owner i js all.1 later
       ] refl e
 
-  order_made : (o : Order) (body : List ℕ) (mid : Tables) → at_first o ≡ o → owners.issuer o.issuer ≡ Some s.name → body ≡ order_body o (next_of t o) → mid ≡ with_order (record { customer = s.name; row = o }) t
+  order_made : (o : Order) (body : List ℕ) (mid : Tables) → at_first o ≡ o → owners.issuer o.issuer ≡ Some s.name → IsOrder o → IsInPool owners (record { customer = s.name; row = o })
+      → AllByRecursion (λ other. AreDisjoint o other.row) t.orders → body ≡ order_body o (next_of t o) → mid ≡ with_order (record { customer = s.name; row = o }) t
       → Makes owners s.name t body mid (order_body o (own_next (view s.name t) o), (let v = view s.name t in record v { orders = placed own_order_cmp o v.orders }))
-  order_made o body mid first mine text is = record {
-    sound = subst (IsSound owners) (sym is) (order_sound sound s.name o mine);
+  order_made o body mid first mine terms in_pool disjoint text is = record {
+    sound = subst (IsSound owners) (sym is) (order_sound sound s.name o mine terms in_pool disjoint);
     own = λ i. ((text ∙ ap (order_body o) (next_own sound s.name o mine)) i, (ap (view s.name) is ∙ order_view sound s.name o first) i);
     other = λ d ne. ap (view d) is ∙ order_hidden sound s.name d o ne;
   }
 
-  made : (change : Change) (body : List ℕ) (mid : Tables) → lowest (refusals s t change) ≡ None → Changes s t change body mid → Makes owners s.name t body mid (own_change (view s.name t) change)
-  made (MakeOrder o) body mid free change =
-      order_made (wanted o) body mid refl (any_owner (wanted o).issuer s.issuers section.issuers (not_false _ (lowest_none (refusals s t (MakeOrder o)) free).1.1.1.1.1.0)) change.1 change.2
+  made : (change : Change) (body : List ℕ) (mid : Tables) → IsChange change → lowest (refusals s t change) ≡ None → Changes s t change body mid → Makes owners s.name t body mid (own_change s (view s.name t) change)
+  made (MakeOrder o) body mid asked free change =
+      let none = lowest_none (refusals s t (MakeOrder o)) free in
+      let mine : owners.issuer o.issuer ≡ Some s.name = any_owner o.issuer s.issuers section.issuers (not-false _ none.1.1.1.1.1.0) in
+      subst (λ (w : Order). Makes owners s.name t body mid (order_body w (own_next (view s.name t) w), (let v = view s.name t in record v { orders = placed own_order_cmp w v.orders }))) (wanted_own s t o)
+      (order_made (wanted_by s t o) body mid refl mine (wanted_terms s t o asked none) (wanted_in_pool owners s section t o) (wanted_apart owners apart s section t o sound.in_pools) change.1 change.2)
 
-  judged : (seat : List ℕ) (r : Request) (change : Change) (reply : Answer) (t2 : Tables) → owners.seat seat ≡ Some s.name
+  judged : (seat : List ℕ) (r : Request) (change : Change) (reply : Answer) (t2 : Tables) → IsChange change → owners.seat seat ≡ Some s.name
       → Judges s seat r t change reply t2
-      → Obeys owners s.name t reply t2 (own_verdict seat r (view s.name t) (own_change (view s.name t) change) (lowest (own_refusals s (view s.name t) change)))
-  judged seat r change reply t2 mine j =
-      let own = own_change (view s.name t) change in
+      → Obeys owners s.name t reply t2 (own_verdict seat r (view s.name t) (own_change s (view s.name t) change) (lowest (own_refusals s (view s.name t) change)))
+  judged seat r change reply t2 asked mine j =
+      let own = own_change s (view s.name t) change in
       subst (λ v. Obeys owners s.name t reply t2 (own_verdict seat r (view s.name t) own v)) (ap lowest (refusals_own sound s change))
       (elim (lowest (refusals s t change)) as (λ v. lowest (refusals s t change) ≡ v → MatchOption v
       ((body : List ℕ) × (mid : Tables) × Changes s t change body mid × (reply ≡ acceptance body) × (t2 ≡ with_seat (settled s.name seat r body) mid))
       (λ reason. (reply ≡ refusal reason) × (t2 ≡ t)) → Obeys owners s.name t reply t2 (own_verdict seat r (view s.name t) own v)) [
         | Some reason ↦ λ _ j. stays reply (refusal reason) t2 j.0 j.1
         | None ↦ λ free j.
-            let m = made change j.0 j.1 free j.2 in
+            let m = made change j.0 j.1 asked free j.2 in
             let row : Seat = own_settled seat r j.0 in
             let kept : ◌≡◌ {A = Answer × State} (reply, view s.name t2) (acceptance j.0, with_own_seat row (view s.name j.1)) =
             λ i. (j.3 i, (ap (view s.name) j.4 ∙ seat_view m.sound s.name row mine) i) in
@@ -191,27 +204,27 @@ module _ {owners : Owners} {t : Tables} (sound : IsSound owners t) (s : Section)
             }
       ] refl j)
 
-  turned : (seat : List ℕ) (r : Request) (change : Change) (reply : Answer) (t2 : Tables) → owners.seat seat ≡ Some s.name → (turns : Turn)
+  turned : (seat : List ℕ) (r : Request) (change : Change) (reply : Answer) (t2 : Tables) → IsChange change → owners.seat seat ≡ Some s.name → (turns : Turn)
       → Turns turns s seat r t change reply t2 → Obeys owners s.name t reply t2 (own_turn s seat r (view s.name t) change turns)
-  turned seat r change reply t2 mine (Repeats body) e = stays reply (acceptance body) t2 e.0 e.1
-  turned seat r change reply t2 mine Differs e = stays reply _ t2 e.0 e.1
-  turned seat r change reply t2 mine Next e = judged seat r change reply t2 mine e
-  turned seat r change reply t2 mine (Skips expected) e = stays reply _ t2 e.0 e.1
+  turned seat r change reply t2 asked mine (Repeats body) e = stays reply (acceptance body) t2 e.0 e.1
+  turned seat r change reply t2 asked mine Differs e = stays reply _ t2 e.0 e.1
+  turned seat r change reply t2 asked mine Next e = judged seat r change reply t2 asked mine e
+  turned seat r change reply t2 asked mine (Skips expected) e = stays reply _ t2 e.0 e.1
 
   shown_order_own : (name : List ℕ) (found : Option (Owned Order)) → order_at s.name name t ≡ found → shown_order t found ≡ own_shown_order (view s.name t) (option_map (λ o. at_first o.row) found)
   unfolding order_body
   shown_order_own name None e = refl
   shown_order_own name (Some o) e = ap (λ n. acceptance (order_body o.row n)) (next_own sound s.name o.row (order_issuer sound s.name name o e))
 
-  served : (seat : List ℕ) (r : Request) (command : Command) (reply : Answer) (t2 : Tables) → owners.seat seat ≡ Some s.name
+  served : (seat : List ℕ) (r : Request) (command : Command) (reply : Answer) (t2 : Tables) → IsCommand command → owners.seat seat ≡ Some s.name
       → Serves s seat r t command reply t2 → Obeys owners s.name t reply t2 (own_serves s seat r (view s.name t) command)
-  served seat r (Show (ShowOrder name)) reply t2 mine e =
+  served seat r (Show (ShowOrder name)) reply t2 asked mine e =
       let found = shown_order_own name (order_at s.name name t) refl ∙ ap (own_shown_order (view s.name t)) (order_own sound s.name name) in
       stays reply _ t2 (e.0 ∙ found) e.1
-  served seat r (Changing change) reply t2 mine e =
+  served seat r (Changing change) reply t2 asked mine e =
       subst (λ row. Obeys owners s.name t reply t2 (own_turn s seat r (view s.name t) change (turn row r.number r.digest))) (seat_own sound s.name seat mine)
-      (turned seat r change reply t2 mine (turn_at seat r t) e)
+      (turned seat r change reply t2 asked mine (turn_at seat r t) e)
 
-  pub step_obeys : (seat : List ℕ) (r : Request) (reply : Answer) (t2 : Tables) → owners.seat seat ≡ Some s.name
+  pub step_obeys : (seat : List ℕ) (r : Request) (reply : Answer) (t2 : Tables) → IsAsked r → owners.seat seat ≡ Some s.name
       → Step s seat t r reply t2 → Obeys owners s.name t reply t2 (solo s seat (view s.name t) r)
-  step_obeys seat r reply t2 mine step = served seat r r.command reply t2 mine step
+  step_obeys seat r reply t2 asked mine step = served seat r r.command reply t2 asked mine step

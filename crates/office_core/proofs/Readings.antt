@@ -1,27 +1,32 @@
 -- What the office reads for a customer is what the customer's own machine reads.
-use Rattle.std.proofs.Common.{◌≡◌, ℕ, Bool, true, false, List, [], ◌∷◌, map, length, Option, Some, None, Equal, refl, sym, ap, ◌∙◌, subst, cond, arith}
-use Prim.Native.Nat.{suc}
+use Rattle.std.proofs.Common.{◌≡◌, ℕ, Bool, true, false, List, [], ◌∷◌, map, length, Option, Some, None, Equal, refl, sym, ap, ◌∙◌, subst, cond, ◌++◌, ◌*◌, ◌==◌, arith}
 use Rattle.std.specs.Prelude.{◌&&◌, ◌||◌, find, is_some}
 use Rattle.std.specs.List.{AllByRecursion, list_any}
 use Rattle.std.specs.Option.{option_map}
 use Rattle.std.specs.Ordering.{ordering_then}
 use Rattle.std.specs.Str.{bytes_eq}
 use Rattle.std.specs.Cmp.{IsTotalOrder}
+use Rattle.std.proofs.lemmas.Bool.{and_parts}
+use Rattle.std.proofs.lemmas.List.{length-map}
 use Rattle.std.proofs.lemmas.Slice.Eq.{bytes_eq-Decides}
 use Rattle.std.proofs.lemmas.Bool.Decides.{nat_tests}
 use Rattle.std.proofs.lemmas.Cmp.{on_total, then_total, nat_list_cmp_total, tied_itself}
 use Rattle.site_core.specs.Section.{Section}
+use Rattle.site_core.specs.Owners.{Owners}
 use Rattle.office_tables.specs.declared.rows.Owned.{Owned}
 use Rattle.office_tables.specs.declared.rows.Order.{Order}
 use Rattle.office_tables.specs.Tables.{Tables, is_of, text_cmp, own, seat_cmp, order_cmp, seat_at, order_at, given_at}
 use Rattle.office_tables.proofs.Placing.{all_map, find_own, find_all}
 use Rattle.office_commands.specs.declared.command.Change.{Change}
 use Rattle.office_commands.specs.declared.command.Change.TheVariants.{MakeOrder}
-use Rattle.office_judges.specs.Rules.{wanted, meets, next_serial}
-use Rattle.office_judges.specs.Orders.{is_taken, next_of}
+use Rattle.office_commands.specs.declared.command.NewOrder.{NewOrder}
+use Rattle.id_ranges.specs.Blocks.{reserved_start}
+use Rattle.office_judges.specs.Rules.{meets, next_serial, reservations, reserved_for}
+use Rattle.office_judges.specs.Orders.{is_taken, next_of, order_refusals, wanted_by}
 use Rattle.office_judges.specs.Judging.{refusals}
-use Rattle.office_core.specs.Solo.{own_order_cmp, seat_named, order_named, has_given, own_next, own_refusals}
-use Rattle.office_core.specs.Isolation.{at_first, view, Owners, IsSound}
+use Rattle.office_core.specs.Solo.{own_order_cmp, seat_named, order_named, has_given, own_next, own_wanted, own_order_refusals, own_refusals}
+use Rattle.office_core.specs.Isolation.{at_first, view}
+use Rattle.office_core.specs.Sound.{IsSound}
 
 pub same_text : (a b : List ℕ) → bytes_eq a b ≡ true → a ≡ b
 same_text a b e = (bytes_eq-Decides a b).0 e
@@ -57,13 +62,28 @@ pub map_map : {A B C : Type 0} (f : A → B) (h : B → C) (o : Option A) → op
 map_map f h None = refl
 map_map f h (Some x) = refl
 
-pub length_map : {A B : Type 0} (f : A → B) (xs : List A) → length (map f xs) ≡ length xs
-length_map f [] = refl
-length_map f (x ∷ xs) = ap suc (length_map f xs)
-
 pub any_at_first : (o : Order) (os : List Order) → list_any (meets o) (map at_first os) ≡ list_any (meets o) os
 any_at_first o [] = refl
 any_at_first o (p ∷ ps) = ap (λ b. meets o p || b) (any_at_first o ps)
+
+-- an order's addresses don't depend on its cursor
+reservations_at_first : (os : List Order) → reservations (map at_first os) ≡ reservations os
+reservations_at_first [] = refl
+reservations_at_first (o ∷ os) = ap (λ blocks. reserved_for o ++ blocks) (reservations_at_first os)
+
+-- so an order that is asked for is the one that the customer's own machine makes
+pub wanted_own : (s : Section) (t : Tables) (o : NewOrder) → wanted_by s t o ≡ own_wanted s (view s.name t) o
+wanted_own s t o = λ i. record {
+  name = o.name;
+  issuer = o.issuer;
+  prefix = o.prefix;
+  width = o.width;
+  first = o.first;
+  quantity = o.quantity;
+  macs = o.macs;
+  mac = cond (o.macs == 0) None (reserved_start s.pools (sym (reservations_at_first (own s.name t.orders)) i) (o.quantity * o.macs));
+  cursor = o.first;
+}
 
 -- what is found was there, and passes
 pub find_holds : {A : Type 0} (P : A → Type 0) (q : A → Bool) (xs : List A) (x : A) → AllByRecursion P xs → find q xs ≡ Some x → P x × (q x ≡ true)
@@ -73,10 +93,6 @@ find_holds P q (y ∷ ys) x all e =
       | true ↦ λ passes here. let same : y ≡ x = cc in (subst P same all.0, subst (λ z. q z ≡ true) same passes)
       | false ↦ λ _ later. find_holds P q ys x all.1 later
     ] refl e
-
-first_true : (a b : Bool) → (a && b) ≡ true → a ≡ true
-first_true true b e = refl
-first_true false b e = cc
 
 module _ {owners : Owners} {t : Tables} (sound : IsSound owners t) where
   pub seat_own : (c seat : List ℕ) → owners.seat seat ≡ Some c → option_map (λ o. o.row) (seat_at seat t) ≡ seat_named seat (view c t)
@@ -93,7 +109,7 @@ module _ {owners : Owners} {t : Tables} (sound : IsSound owners t) where
   taken_own c issuer mine serial = sym (is_some_map (λ o. o.row) (given_at issuer serial t)) ∙ ap is_some
       (find_all c (λ r. bytes_eq issuer r.issuer && bytes_eq serial r.serial) t.given
       (all_map (λ o. owners.issuer o.row.issuer ≡ Some o.customer) (λ o. (bytes_eq issuer o.row.issuer && bytes_eq serial o.row.serial) ≡ true → is_of c o ≡ true)
-      (λ o owner e. text_itself c o.customer (owner_is owners.issuer issuer o.row.issuer c o.customer mine owner (first_true _ _ e))) t.given sound.given))
+      (λ o owner e. text_itself c o.customer (owner_is owners.issuer issuer o.row.issuer c o.customer mine owner (and_parts _ _ e).0)) t.given sound.given))
 
   pub next_own : (c : List ℕ) (o : Order) → owners.issuer o.issuer ≡ Some c → next_of t o ≡ own_next (view c t) o
   next_own c o mine = λ i. next_serial (λ serial. taken_own c o.issuer mine serial i) o
@@ -102,12 +118,19 @@ module _ {owners : Owners} {t : Tables} (sound : IsSound owners t) where
   pub order_issuer : (c name : List ℕ) (o : Owned Order) → order_at c name t ≡ Some o → owners.issuer o.row.issuer ≡ Some c
   order_issuer c name o e =
       let found = find_holds (λ o. owners.issuer o.row.issuer ≡ Some o.customer) _ t.orders o sound.orders e in
-      found.0 ∙ ap (λ d. Some d) (sym (same_text c o.customer (first_true _ _ found.1)))
+      found.0 ∙ ap (λ d. Some d) (sym (same_text c o.customer (and_parts _ _ found.1).0))
 
   pub refusals_own : (s : Section) (change : Change) → refusals s t change ≡ own_refusals s (view s.name t) change
   refusals_own s (MakeOrder o) =
-      let known : is_some (order_at s.name (wanted o).name t) ≡ is_some (order_named (wanted o).name (view s.name t)) =
-      sym (is_some_map (λ o. at_first o.row) _) ∙ ap is_some (order_own s.name (wanted o).name) in
-      let met : list_any (meets (wanted o)) (own s.name t.orders) ≡ list_any (meets (wanted o)) (map at_first (own s.name t.orders)) = sym (any_at_first (wanted o) (own s.name t.orders)) in
-      let count : length (own s.name t.orders) ≡ length (map at_first (own s.name t.orders)) = sym (length_map at_first (own s.name t.orders)) in
-      rw (known, met, count) refl
+      let w = wanted_by s t o in
+      let known : is_some (order_at s.name w.name t) ≡ is_some (order_named w.name (view s.name t)) =
+      sym (is_some_map (λ o. at_first o.row) _) ∙ ap is_some (order_own s.name w.name) in
+      let met : list_any (meets w) (own s.name t.orders) ≡ list_any (meets w) (map at_first (own s.name t.orders)) = sym (any_at_first w (own s.name t.orders)) in
+      let count : length (own s.name t.orders) ≡ length (map at_first (own s.name t.orders)) = sym (length-map (own s.name t.orders) at_first) in
+      order_refusals_own known met count ∙ ap (own_order_refusals s (view s.name t)) (wanted_own s t o)
+    where
+      order_refusals_own : is_some (order_at s.name (wanted_by s t o).name t) ≡ is_some (order_named (wanted_by s t o).name (view s.name t))
+          → list_any (meets (wanted_by s t o)) (own s.name t.orders) ≡ list_any (meets (wanted_by s t o)) (map at_first (own s.name t.orders))
+          → length (own s.name t.orders) ≡ length (map at_first (own s.name t.orders))
+          → order_refusals s t (wanted_by s t o) ≡ own_order_refusals s (view s.name t) (wanted_by s t o)
+      order_refusals_own known met count = rw (known, met, count) refl

@@ -12,8 +12,8 @@ use Rattle.office_commands.specs.declared.command.Change.TheVariants.{MakeOrder}
 use Rattle.office_commands.specs.declared.refusal.Refusal.{Refusal}
 use Rattle.office_commands.specs.declared.refusal.Refusal.TheVariants.{WrongNumber, OtherBody}
 use Rattle.office_commands.specs.Replies.{acceptance, refusal, order_body}
-use Rattle.office_judges.specs.Rules.{wanted, lowest}
-use Rattle.office_judges.specs.Orders.{next_of}
+use Rattle.office_judges.specs.Rules.{lowest}
+use Rattle.office_judges.specs.Orders.{next_of, wanted_by}
 use Rattle.office_judges.specs.Judging.{refusals, Changes}
 use Rattle.office_core.specs.Office.{settled, Turn, Repeats, Differs, Next, Skips, turn_at, shown, Judges, Turns, Serves, Step}
 
@@ -28,7 +28,7 @@ first_is_false false first later e = refl
 -- a command that nothing refuses has a change
 change_exists : (s : Section) (t : Tables) (c : Changing) → lowest (refusals s t c) ≡ None → (body : List ℕ) × (mid : Tables) × Changes s t c body mid
 change_exists s t (MakeOrder o) e =
-    let w = wanted o in (
+    let w = wanted_by s t o in (
       order_body w (next_of t w),
       with_order (record { customer = s.name; row = w }) t,
       (none_from_test _ (first_is_false (is_some (order_at s.name w.name t)) _ _ e), refl, refl),

@@ -2,3 +2,4 @@ pub mod Office
 pub mod Retrying
 pub mod Solo
 pub mod Isolation
+pub mod Sound

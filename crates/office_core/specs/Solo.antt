@@ -10,6 +10,7 @@ use Rattle.office_tables.specs.Rows.{Given}
 use Rattle.office_tables.specs.declared.rows.Seat.{Seat}
 use Rattle.office_tables.specs.declared.rows.Order.{Order}
 use Rattle.office_tables.specs.Tables.{placed, text_cmp}
+use Rattle.office_commands.specs.declared.command.NewOrder.{NewOrder}
 use Rattle.office_commands.specs.declared.command.Request.{Request}
 use Rattle.office_commands.specs.declared.command.Command.{Command}
 use Rattle.office_commands.specs.declared.command.Command.TheVariants.{Change, Show}
@@ -20,8 +21,7 @@ use Rattle.office_commands.specs.declared.command.Show.TheVariants.{Order as Sho
 use Rattle.office_commands.specs.declared.refusal.Refusal.{Refusal}
 use Rattle.office_commands.specs.declared.refusal.Refusal.TheVariants.{WrongNumber, OtherBody, UnknownOrder, Exists, BadSerial, NumberTooWide, NoMacRoom, RangeOverlap, ForeignIssuer, Limit}
 use Rattle.office_commands.specs.Replies.{acceptance, refusal, order_body}
-use Rattle.office_judges.specs.Rules.{wanted, order_limit, quantity_limit, is_too_wide, meets, next_serial, lowest}
-use Rattle.office_judges.specs.Orders.{lacks_room}
+use Rattle.office_judges.specs.Rules.{wanted, order_limit, quantity_limit, is_too_wide, lacks_room, meets, next_serial, lowest}
 use Rattle.office_core.specs.Office.{Turn, Repeats, Differs, Next, Skips, turn}
 
 -- the customer's tables, each in the order of its key. An order's cursor stands at its first number: the machine has no use for one
@@ -49,6 +49,10 @@ has_given s issuer serial = is_some (find (λ r. bytes_eq issuer r.issuer && byt
 abbrev pub own_next : State → Order → Option (List ℕ)
 own_next s o = next_serial (has_given s o.issuer) o
 
+-- the order that is asked for, beside the orders that there are
+abbrev pub own_wanted : Section → State → NewOrder → Order
+own_wanted c s o = wanted c.pools s.orders o
+
 -- what refuses a command, in the order of the refusals' numbers
 abbrev pub own_order_refusals : Section → State → Order → List (Bool × Refusal)
 own_order_refusals c s o =
@@ -62,11 +66,12 @@ own_order_refusals c s o =
     ∷ []
 
 abbrev pub own_refusals : Section → State → Changing → List (Bool × Refusal)
-own_refusals c s (MakeOrder o) = own_order_refusals c s (wanted o)
+own_refusals c s (MakeOrder o) = own_order_refusals c s (own_wanted c s o)
 
 -- the reply's body, and the state after the change
-abbrev pub own_change : State → Changing → List ℕ × State
-own_change s (MakeOrder o) = (order_body (wanted o) (own_next s (wanted o)), record s { orders = placed own_order_cmp (wanted o) s.orders })
+abbrev pub own_change : Section → State → Changing → List ℕ × State
+own_change c s (MakeOrder o) =
+    (order_body (own_wanted c s o) (own_next s (own_wanted c s o)), record s { orders = placed own_order_cmp (own_wanted c s o) s.orders })
 
 abbrev pub with_own_seat : Seat → State → State
 with_own_seat r s = record s { seats = placed own_seat_cmp r s.seats }
@@ -83,7 +88,7 @@ abbrev pub own_turn : Section → List ℕ → Request → State → Changing �
 own_turn c seat r s change (Repeats body) = (acceptance body, s)
 own_turn c seat r s change Differs = (refusal OtherBody, s)
 own_turn c seat r s change (Skips expected) = (refusal (WrongNumber expected), s)
-own_turn c seat r s change Next = own_verdict seat r s (own_change s change) (lowest (own_refusals c s change))
+own_turn c seat r s change Next = own_verdict seat r s (own_change c s change) (lowest (own_refusals c s change))
 
 abbrev pub own_shown_order : State → Option Order → Answer
 own_shown_order s None = refusal UnknownOrder

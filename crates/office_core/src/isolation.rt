@@ -1,26 +1,34 @@
 // Laws of the office, over its definitions alone.
 ghost use Rattle.std.specs.Prelude.{◌≡◌, false, List, ℕ, Some, bytes_eq};
 ghost use Rattle.http_replies.specs.Replies.{Answer};
+ghost use Rattle.site_core.specs.Owners.{AreApart, IsSection, Owners};
 ghost use Rattle.site_core.specs.Section.{Section};
-ghost use Rattle.office_tables.specs.Tables.{Tables};
+ghost use Rattle.office_tables.specs.Tables.{Tables, no_rows};
+ghost use Rattle.office_commands.specs.Asked.{IsAsked};
 ghost use Rattle.office_commands.specs.declared.command.Request.{Request};
 ghost use Rattle.office_core.specs.Office.{Step};
 ghost use Rattle.office_core.specs.Solo.{solo};
-ghost use Rattle.office_core.specs.Isolation.{view, Owners, IsSection, IsSound};
+ghost use Rattle.office_core.specs.Isolation.{view};
+ghost use Rattle.office_core.specs.Sound.{IsSound};
 
 /// A step of a customer's seat, from sound tables, acts on the customer's view as the customer's own
 /// machine does, which knows of nobody else; it leaves each other customer's view; and the tables
 /// stay sound. As the own machine is a function of the view, equal views give equal replies.
 pub fn steps_are_the_customers_own()
     ensures own { (owners : Owners) (s : Section) (seat : List ℕ) (t : Tables) (r : Request) (reply : Answer) (t2 : Tables)
-        → IsSound owners t → IsSection owners s → owners.seat seat ≡ Some s.name → Step s seat t r reply t2
+        → AreApart owners → IsSection owners s → owners.seat seat ≡ Some s.name → IsAsked r → IsSound owners t → Step s seat t r reply t2
         → (reply, view s.name t2) ≡ solo s seat (view s.name t) r }
     ensures other { (owners : Owners) (s : Section) (seat : List ℕ) (t : Tables) (r : Request) (reply : Answer) (t2 : Tables)
-        → IsSound owners t → IsSection owners s → owners.seat seat ≡ Some s.name → Step s seat t r reply t2
+        → AreApart owners → IsSection owners s → owners.seat seat ≡ Some s.name → IsAsked r → IsSound owners t → Step s seat t r reply t2
         → (customer : List ℕ) → bytes_eq customer s.name ≡ false → view customer t2 ≡ view customer t }
     ensures sound { (owners : Owners) (s : Section) (seat : List ℕ) (t : Tables) (r : Request) (reply : Answer) (t2 : Tables)
-        → IsSound owners t → IsSection owners s → owners.seat seat ≡ Some s.name → Step s seat t r reply t2
+        → AreApart owners → IsSection owners s → owners.seat seat ≡ Some s.name → IsAsked r → IsSound owners t → Step s seat t r reply t2
         → IsSound owners t2 }
+{}
+
+/// No rows are sound, so each store begins with sound tables.
+pub fn no_rows_are_sound()
+    ensures { (owners : Owners) → IsSound owners no_rows }
 {}
 
 /// From all tables every request has a step: no key of a row stands in its way.

@@ -7,10 +7,10 @@ mod retry;
 
 /// The customers of the site, and who may call.
 pub mod site {
-    pub use site_core::{Caller, Customer, Site};
+    pub use site_core::{Caller, Customer, SeatCaller, Site};
 }
 
-pub use isolation::{always_a_step, steps_are_the_customers_own};
+pub use isolation::{always_a_step, no_rows_are_sound, steps_are_the_customers_own};
 pub use office::answer;
 pub use office_commands::{Change, Command, NewOrder, Refusal, Request, Show};
 pub use office_memory::MemKeep;

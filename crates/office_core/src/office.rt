@@ -3,15 +3,18 @@ ghost use Rattle.std.specs.Prelude.{◌≡◌, ℕ, MatchBool, MatchResult, IfOk
 ghost use Rattle.office_tables.specs.Tables.{Tables};
 ghost use Rattle.office_tables.specs.Keeping.{Reads, Stands, Crashes};
 ghost use Rattle.http_replies.specs.Replies.{Answer, answer_of, is_unavailable};
-ghost use Rattle.site_core.specs.Caller.{IsCaller, section_at, seat_at};
+ghost use Rattle.site_core.specs.Caller.{IsSeatCaller, section_at, seat_at};
+ghost use Rattle.site_core.specs.Owners.{owners_of};
+ghost use Rattle.office_commands.specs.Asked.{IsAsked, IsChange};
 ghost use Rattle.office_core.specs.Office.{Judges, Turns, turn_at, shown, Step, Answers};
+ghost use Rattle.office_core.specs.Sound.{IsSound};
 
 use crate::retry::{Place, place_of, settle};
 use http_replies::Reply;
 use office_commands::{Change, Command, Refusal, Request, Show, accepted, refused, unavailable};
 use office_judges::{Verdict, judge, show_order};
 use office_tables::{Keep, Unkept};
-use site_core::{Caller, Customer, Site};
+use site_core::{Customer, SeatCaller, Site};
 use std::alloc::Global;
 use text_core::Name;
 
@@ -24,6 +27,7 @@ fn make<K: Keep>(
     request: &Request,
     change: &Change,
 ) -> Result<Reply, Unkept>
+    requires { IsChange change.now }
     ensures was_open { K.is_open keep.new → K.is_open keep.old }
     ensures was_honest { K.is_honest keep.new → K.is_honest keep.old }
     ensures stays_open { K.is_honest keep.new → IfOk result (λ _. K.is_open keep.new) }
@@ -47,6 +51,7 @@ fn change_in_turn<K: Keep>(
     request: &Request,
     change: &Change,
 ) -> Result<Reply, Unkept>
+    requires { IsChange change.now }
     ensures was_open { K.is_open keep.new → K.is_open keep.old }
     ensures was_honest { K.is_honest keep.new → K.is_honest keep.old }
     ensures stays_open { K.is_honest keep.new → IfOk result (λ _. K.is_open keep.new) }
@@ -87,6 +92,7 @@ fn serve<K: Keep>(
     seat: &Name,
     request: &Request,
 ) -> Result<Reply, Unkept>
+    requires { IsAsked request.now }
     ensures was_open { K.is_open keep.new → K.is_open keep.old }
     ensures was_honest { K.is_honest keep.new → K.is_honest keep.old }
     ensures stays_open { K.is_honest keep.new → IfOk result (λ _. K.is_open keep.new) }
@@ -101,26 +107,29 @@ fn serve<K: Keep>(
     }
 }
 
-/// Answers a request of a caller: by a step of the office over the tables of all customers, or by
-/// 503 with the tables as they were.
+/// Answers a request of a seat: by a step of the office over the tables of all customers, or by 503
+/// with the tables as they were.
 ///
-/// Where several refusals hold, the one with the lowest number is answered. At most one commit is
-/// made, as the last call of the keeper, and no memory is taken after it. On a disk that returns
-/// what was written, a crash leaves what it could leave before, or the tables after one step of
-/// this request.
+/// Where several refusals hold, the one with the lowest number is answered. Sound tables stay sound.
+/// At most one commit is made, as the last call of the keeper, and no memory is taken after it. On a
+/// disk that returns what was written, a crash leaves what it could leave before, or the tables
+/// after one step of this request.
 pub fn answer<K: Keep>(
     alloc: Global,
     keep: &mut K,
     site: &Site,
-    caller: Caller,
+    caller: SeatCaller,
     request: &Request,
 ) -> Reply
-    requires { IsCaller site.now caller }
+    requires caller { IsSeatCaller site.now caller }
+    requires asked { IsAsked request.now }
     ensures was_open { K.is_open keep.new → K.is_open keep.old }
     ensures was_honest { K.is_honest keep.new → K.is_honest keep.old }
     ensures stays_open { K.is_honest keep.new → MatchBool (is_unavailable result.status) (Unit {0}) (K.is_open keep.new) }
     ensures step { K.is_honest keep.new → (t : Tables) → Stands K.is_open K.tables keep.old t → (t2 : Tables)
-        × Answers (section_at site.now caller) (seat_at site.now caller) t request.now (answer_of result) t2 × Stands K.is_open K.tables keep.new t2 }
+        × Answers (section_at site.now caller) (seat_at site.now caller) t request.now (answer_of result) t2
+        × (IsSound (owners_of site.now) t → IsSound (owners_of site.now) t2)
+        × Stands K.is_open K.tables keep.new t2 }
     ensures crash { Crashes K.is_honest K.may_leave (λ t. K.is_open keep.old × (reply : Answer)
         × Step (section_at site.now caller) (seat_at site.now caller) (K.tables keep.old) request.now reply t) keep.old keep.new }
 {

@@ -1,3 +1,4 @@
 mod Judged
 mod Numbers
+mod Rooms
 mod Scans

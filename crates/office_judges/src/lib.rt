@@ -2,6 +2,7 @@
 #![tactic(auto)]
 
 mod order;
+mod room;
 mod scan;
 mod serials;
 mod verdict;

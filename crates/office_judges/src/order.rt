@@ -3,10 +3,12 @@ ghost use Rattle.std.specs.Prelude.{◌≡◌, ℕ, ◌+◌, ◌-◌, ◌^◌, �
 ghost use Rattle.office_tables.specs.Tables.{order_at};
 ghost use Rattle.office_tables.specs.Keeping.{Reads};
 ghost use Rattle.http_replies.specs.Replies.{answer_of};
-ghost use Rattle.office_judges.specs.Rules.{wanted, lowest, unless_refused};
-ghost use Rattle.office_judges.specs.Orders.{order_refusals, shown_order};
+ghost use Rattle.office_commands.specs.Asked.{IsNewOrder};
+ghost use Rattle.office_judges.specs.Rules.{lowest, unless_refused};
+ghost use Rattle.office_judges.specs.Orders.{order_refusals, shown_order, wanted_by};
 ghost use Rattle.office_judges.specs.Judging.{IsJudged};
 
+use crate::room::find_room;
 use crate::scan::{ORDER_LIMIT, scan_orders};
 use crate::serials::next_serial;
 use crate::{Accepted, Verdict};
@@ -33,14 +35,17 @@ fn is_last_too_wide(width: u8, first: u64, quantity: u64) -> bool
 
 /// The order that is to be made, or the lowest refusal that holds.
 fn order_to_make<K: Keep>(
+    alloc: Global,
     keep: &mut K,
     customer: &Customer,
     order: &NewOrder,
 ) -> Result<Result<Order, Refusal>, Unkept>
+    requires { IsNewOrder order.now }
     ensures reads { Reads K.is_open K.is_honest K.may_leave K.tables keep.old keep.new }
     ensures stays_open { K.is_honest keep.new → IfOk result (λ _. K.is_open keep.new) }
     ensures lowest { K.is_open keep.new → IfOk result (λ judged. judged ≡
-        unless_refused (lowest (order_refusals customer.now (K.tables keep.old) (wanted order.now))) (wanted order.now)) }
+        (let wanted = wanted_by customer.now (K.tables keep.old) order.now in
+        unless_refused (lowest (order_refusals customer.now (K.tables keep.old) wanted)) wanted)) }
 {
     if keep.order(&customer.name(), &order.name)?.is_some() {
         return Ok(Err(Refusal::Exists));
@@ -48,6 +53,13 @@ fn order_to_make<K: Keep>(
     let Some(prefix) = Prefix::parse(order.prefix.as_str()) else {
         return Ok(Err(Refusal::BadSerial));
     };
+    if is_last_too_wide(order.width, order.first, order.quantity) {
+        return Ok(Err(Refusal::NumberTooWide));
+    }
+    let mac = find_room(alloc, keep, customer, order)?;
+    if order.macs != 0 && mac.is_none() {
+        return Ok(Err(Refusal::NoMacRoom));
+    }
     let wanted = Order {
         name: order.name,
         issuer: order.issuer,
@@ -56,15 +68,9 @@ fn order_to_make<K: Keep>(
         first: order.first,
         quantity: order.quantity,
         macs: order.macs,
-        mac: None,
+        mac,
         cursor: order.first,
     };
-    if is_last_too_wide(wanted.width, wanted.first, wanted.quantity) {
-        return Ok(Err(Refusal::NumberTooWide));
-    }
-    if wanted.macs != 0 {
-        return Ok(Err(Refusal::NoMacRoom));
-    }
     let scanned = scan_orders(keep, &customer.name(), &wanted)?;
     if scanned.meets {
         return Ok(Err(Refusal::RangeOverlap));
@@ -86,12 +92,13 @@ pub fn judge_order<K: Keep>(
     customer: &Customer,
     order: &NewOrder,
 ) -> Result<Verdict, Unkept>
+    requires { IsNewOrder order.now }
     ensures reads { Reads K.is_open K.is_honest K.may_leave K.tables keep.old keep.new }
     ensures stays_open { K.is_honest keep.new → IfOk result (λ _. K.is_open keep.new) }
     ensures judged { K.is_open keep.new → IfOk result (λ verdict.
         IsJudged customer.now (K.tables keep.old) (Change.MakeOrder order.now) verdict) }
 {
-    let wanted = match order_to_make(keep, customer, order)? {
+    let wanted = match order_to_make(alloc, keep, customer, order)? {
         Ok(wanted) => wanted,
         Err(refusal) => return Ok(Verdict::Refused(refusal)),
     };

@@ -1,6 +1,7 @@
 // What a command that writes comes to.
 ghost use Rattle.std.specs.Prelude.{IfOk};
 ghost use Rattle.office_tables.specs.Keeping.{Reads};
+ghost use Rattle.office_commands.specs.Asked.{IsChange};
 ghost use Rattle.office_judges.specs.Judging.{IsJudged};
 
 use crate::order::judge_order;
@@ -31,6 +32,7 @@ pub fn judge<K: Keep>(
     customer: &Customer,
     change: &Change,
 ) -> Result<Verdict, Unkept>
+    requires { IsChange change.now }
     ensures reads { Reads K.is_open K.is_honest K.may_leave K.tables keep.old keep.new }
     ensures stays_open { K.is_honest keep.new → IfOk result (λ _. K.is_open keep.new) }
     ensures judged { K.is_open keep.new → IfOk result (λ verdict. IsJudged customer.now (K.tables keep.old) change.now verdict) }

@@ -65,6 +65,10 @@ seat_cmp a b = text_cmp a.row.name b.row.name
 abbrev pub order_cmp : Owned Order → Owned Order → Ordering
 order_cmp a b = ordering_then (text_cmp a.customer b.customer) (text_cmp a.row.name b.row.name)
 
+-- a serial number's place: by issuer, then by its text
+abbrev pub given_cmp : Owned Given → Owned Given → Ordering
+given_cmp a b = ordering_then (text_cmp a.row.issuer b.row.issuer) (text_cmp a.row.serial b.row.serial)
+
 -- a row in its place: that of the row with its key, or before the first with a greater key
 abbrev pub placed : {A : Type 0} → (A → A → Ordering) → A → List A → List A
 placed cmp x [] = x ∷ []

@@ -1,14 +1,20 @@
 -- What is known of a caller that was found.
-use Rattle.std.proofs.Common.{◌≡◌, ◌+◌, ◌∙◌, ◌||◌, ℕ, suc, List, [], ◌∷◌, length, Bool, true, false, not, cond, ltb, Option, Some, None, is_some, IfSome, slice_index_or, refl, arith}
-use Rattle.std.specs.List.{list_any, position, position_or_len}
+use Rattle.std.proofs.Common.{◌≡◌, ◌+◌, ◌∙◌, ◌||◌, ℕ, suc, List, [], ◌∷◌, length, map, Bool, true, false, not, cond, ltb, Option, Some, None, is_some, IfSome, slice_index_or, refl, sym, ap, arith}
+use Rattle.std.specs.List.{flat_map, list_any, position, position_or_len}
+use Rattle.std.specs.Prelude.{bytes_eq}
 use Rattle.std.proofs.lemmas.Bool.Decides.{nat_tests}
+use Rattle.std.proofs.lemmas.Cmp.{nat_list_eq_equiv}
+use Rattle.std.proofs.lemmas.List.{map-append}
+use Rattle.std.proofs.lemmas.List.Folds.{list_any-append}
 use Rattle.std.proofs.lemmas.List.Sums.{passes_at_first}
 use Rattle.std.proofs.lemmas.Slice.Eq.{bytes_eq-Decides}
 use borrow.Author.Tests.{ltb-true}
+use Rattle.sha2.specs.Sha256.{sha256}
 use Rattle.text_core.specs.Options.{◌>>=◌}
-use Rattle.site_core.specs.Caller.{caller_with, has_seat_with, no_seat, no_section, seat_of, seat_with, section_in}
-use Rattle.site_core.specs.Section.{Section, has_token}
+use Rattle.site_core.specs.Caller.{caller_of, caller_or, has_seat_with, manager_with, no_seat, no_section, seat_caller_with, seat_of, seat_with, section_in}
+use Rattle.site_core.specs.Section.{SeatOf, Section, SiteValue, has_token, tokens_of, with_token}
 use Rattle.site_core.specs.declared.site.Caller.{Caller}
+use Rattle.site_core.specs.declared.site.SeatCaller.{SeatCaller}
 
 -- whether an element of a list passes, by its first
 by_first : (b : Bool) (n l : ℕ) (r : Bool) → ltb n l ≡ r → ltb (cond (not b) (1 + n) 0) (suc l) ≡ (b || r)
@@ -35,33 +41,66 @@ seat_with-token digest section = by (ltb (position_or_len (has_token digest) sec
     by true e = (bytes_eq-Decides _ _).0 (passes_at_first (has_token digest) section.seats no_seat (ltb-true _ _ e))
     by false e = tt
 
-abbrev caller_at : ℕ → ℕ → Option Caller
+abbrev caller_at : ℕ → ℕ → Option SeatCaller
 caller_at customer seat = Some (record { customer = customer; seat = seat })
 
 -- the seat of the caller that was found holds the token
-pub caller_with-holder : (digest : List ℕ) (site : List Section) → IfSome (caller_with digest site) (λ caller. (seat_of site caller).token ≡ digest)
-caller_with-holder digest site = by_customer (position (has_seat_with digest) site)
+pub seat_caller_with-holder : (digest : List ℕ) (site : SiteValue) → IfSome (seat_caller_with digest site.customers) (λ caller. (seat_of site caller).token ≡ digest)
+seat_caller_with-holder digest site = by_customer (position (has_seat_with digest) site.customers)
   where
-    by_seat : (customer : ℕ) (seat : Option ℕ) → IfSome seat (λ s. (slice_index_or (section_in site customer).seats s no_seat).token ≡ digest) → IfSome (seat >>= caller_at customer) (λ caller. (seat_of site caller).token ≡ digest)
+    by_seat : (customer : ℕ) (seat : Option ℕ) → IfSome seat (λ s. (slice_index_or (section_in site.customers customer).seats s no_seat).token ≡ digest) → IfSome (seat >>= caller_at customer) (λ caller. (seat_of site caller).token ≡ digest)
     by_seat customer None h = tt
     by_seat customer (Some s) h = h
 
-    by_customer : (customer : Option ℕ) → IfSome (customer >>= (λ c. seat_with digest (section_in site c) >>= caller_at c)) (λ caller. (seat_of site caller).token ≡ digest)
+    by_customer : (customer : Option ℕ) → IfSome (customer >>= (λ c. seat_with digest (section_in site.customers c) >>= caller_at c)) (λ caller. (seat_of site caller).token ≡ digest)
     by_customer None = tt
-    by_customer (Some c) = by_seat c (seat_with digest (section_in site c)) (seat_with-token digest (section_in site c))
+    by_customer (Some c) = by_seat c (seat_with digest (section_in site.customers c)) (seat_with-token digest (section_in site.customers c))
 
 is_some-caller_at : (customer : ℕ) (seat : Option ℕ) → is_some (seat >>= caller_at customer) ≡ is_some seat
 is_some-caller_at customer None = refl
 is_some-caller_at customer (Some s) = refl
 
--- a caller is found where some customer has a seat that holds the token
-pub caller_with-known : (digest : List ℕ) (site : List Section) → is_some (caller_with digest site) ≡ list_any (has_seat_with digest) site
-caller_with-known digest site = by (position_or_len (has_seat_with digest) site) (ltb (position_or_len (has_seat_with digest) site) (length site)) found ∙ within-list_any (has_seat_with digest) site
+-- a seat is found where some customer has one that holds the token
+seat_caller_with-known : (digest : List ℕ) (customers : List Section) → is_some (seat_caller_with digest customers) ≡ list_any (has_seat_with digest) customers
+seat_caller_with-known digest customers =
+    by (position_or_len (has_seat_with digest) customers) (ltb (position_or_len (has_seat_with digest) customers) (length customers)) found ∙ within-list_any (has_seat_with digest) customers
   where
-    found : ltb (position_or_len (has_seat_with digest) site) (length site) ≡ true → has_seat_with digest (section_in site (position_or_len (has_seat_with digest) site)) ≡ true
-    found e = passes_at_first (has_seat_with digest) site no_section (ltb-true _ _ e)
+    found : ltb (position_or_len (has_seat_with digest) customers) (length customers) ≡ true → has_seat_with digest (section_in customers (position_or_len (has_seat_with digest) customers)) ≡ true
+    found e = passes_at_first (has_seat_with digest) customers no_section (ltb-true _ _ e)
 
-    by : (place : ℕ) (b : Bool) → (b ≡ true → has_seat_with digest (section_in site place) ≡ true) → is_some (cond b (Some place) None >>= (λ c. seat_with digest (section_in site c) >>= caller_at c)) ≡ b
+    by : (place : ℕ) (b : Bool) → (b ≡ true → has_seat_with digest (section_in customers place) ≡ true) → is_some (cond b (Some place) None >>= (λ c. seat_with digest (section_in customers c) >>= caller_at c)) ≡ b
     by place true has =
-        is_some-caller_at place (seat_with digest (section_in site place)) ∙ position-list_any (has_token digest) (section_in site place).seats ∙ has refl
+        is_some-caller_at place (seat_with digest (section_in customers place)) ∙ position-list_any (has_token digest) (section_in customers place).seats ∙ has refl
     by place false has = refl
+
+-- a digest is among the tokens of some seats where one of the seats has it
+list_any-seat_tokens : (digest : List ℕ) (seats : List SeatOf) → list_any (bytes_eq digest) (map (λ seat. seat.token) seats) ≡ list_any (has_token digest) seats
+list_any-seat_tokens digest [] = refl
+list_any-seat_tokens digest (seat ∷ seats) =
+    rw (nat_list_eq_equiv.symm digest seat.token, list_any-seat_tokens digest seats)
+
+-- and among those of all customers where one of them has such a seat
+list_any-customer_tokens : (digest : List ℕ) (customers : List Section) → list_any (bytes_eq digest) (map (λ seat. seat.token) (flat_map (λ s. s.seats) customers)) ≡ list_any (has_seat_with digest) customers
+list_any-customer_tokens digest [] = refl
+list_any-customer_tokens digest (s ∷ customers) =
+    rw (map-append, list_any-append, list_any-seat_tokens digest s.seats, list_any-customer_tokens digest customers)
+
+-- the manager is one more who may hold the token
+list_any-with_token : (digest : List ℕ) (manager : Option (List ℕ)) (tokens : List (List ℕ)) → list_any (bytes_eq digest) (with_token manager tokens) ≡ (is_some (manager_with digest manager) || list_any (bytes_eq digest) tokens)
+list_any-with_token digest None tokens = refl
+list_any-with_token digest (Some token) tokens =
+    ap (λ b. b || list_any (bytes_eq digest) tokens) (nat_list_eq_equiv.symm digest token ∙ sym (is_some-cond _ _))
+
+is_some-caller_or : (found : Option SeatCaller) (other : Option Caller) → is_some (caller_or found other) ≡ (is_some other || is_some found)
+is_some-caller_or None None = refl
+is_some-caller_or None (Some caller) = refl
+is_some-caller_or (Some seat) None = refl
+is_some-caller_or (Some seat) (Some caller) = refl
+
+-- a caller is found where somebody holds the token
+pub caller_of-known : (site : SiteValue) (token : List ℕ) → is_some (caller_of site token) ≡ list_any (bytes_eq (sha256 token)) (tokens_of site)
+caller_of-known site token =
+    let digest = sha256 token in
+    is_some-caller_or (seat_caller_with digest site.customers) (manager_with digest site.manager)
+    ∙ ap (λ b. is_some (manager_with digest site.manager) || b) (seat_caller_with-known digest site.customers ∙ sym (list_any-customer_tokens digest site.customers))
+    ∙ sym (list_any-with_token digest site.manager _)

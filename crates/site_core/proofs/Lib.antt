@@ -1,1 +1,5 @@
 pub mod Callers
+pub mod Judged
+pub mod Owners
+pub mod Pairs
+pub mod Reading

@@ -2,8 +2,18 @@ ghost use Rattle.std.specs.Prelude.{◌≡◌, bytes_eq};
 ghost use Rattle.std.specs.List.{list_any, position};
 ghost use Rattle.site_core.specs.Section.{has_token};
 
+use id_ranges::MacPool;
 use std::marker::Model;
 use text_core::{Digest, Name};
+
+/// The most seats of a customer.
+pub const SEAT_LIMIT: usize = 64;
+
+/// The most issuers of a customer.
+pub const ISSUER_LIMIT: usize = 8;
+
+/// The most address pools of a customer.
+pub const POOL_LIMIT: usize = 16;
 
 /// A seat of a customer: its name, and the SHA-256 of the bearer token (RFC 6750) that its requests
 /// carry.
@@ -38,6 +48,13 @@ impl Seat {
         self.name
     }
 
+    /// The SHA-256 of the seat's token.
+    pub fn token(&self) -> Digest
+        ensures { result ≡ self.now.token }
+    {
+        self.token
+    }
+
     /// Whether the token of the seat has this SHA-256.
     pub fn has_token(&self, digest: &Digest) -> bool
         ensures { result ≡ has_token digest.now self.now }
@@ -46,11 +63,13 @@ impl Seat {
     }
 }
 
-/// A customer: its name, the issuers of the serial numbers that it may order, and its seats.
+/// A customer: its name, the issuers of the serial numbers that it may order, the pools that its
+/// devices' hardware addresses come from, and its seats.
 #[derive(Debug, Drop)]
 pub struct Customer {
     name: Name,
     issuers: Vec<Name>,
+    pools: Vec<MacPool>,
     seats: Vec<Seat>,
 }
 
@@ -59,17 +78,23 @@ impl Model for Customer {
 
     ghost Value = { Section };
 
-    ghost view = { λ c. record { name = c.name; issuers = c.issuers.items; seats = c.seats.items } };
+    ghost view = { λ c. record { name = c.name; issuers = c.issuers.items; pools = c.pools.items; seats = c.seats.items } };
 }
 
 impl Customer {
     /// The customer of these parts.
-    pub(crate) fn new(name: Name, issuers: Vec<Name>, seats: Vec<Seat>) -> Customer
-        ensures { result ≡ record { name = name; issuers = issuers.items; seats = seats.items } }
+    pub(crate) fn new(
+        name: Name,
+        issuers: Vec<Name>,
+        pools: Vec<MacPool>,
+        seats: Vec<Seat>,
+    ) -> Customer
+        ensures { result ≡ record { name = name; issuers = issuers.items; pools = pools.items; seats = seats.items } }
     {
         Customer {
             name,
             issuers,
+            pools,
             seats,
         }
     }
@@ -81,6 +106,13 @@ impl Customer {
         self.name
     }
 
+    /// The issuers of the customer, in the text's order.
+    pub fn issuers(&self) -> &[Name]
+        ensures { result.now ≡ self.now.issuers }
+    {
+        self.issuers.as_slice()
+    }
+
     /// Whether an issuer is one of the customer's.
     pub fn has_issuer(&self, issuer: &Name) -> bool
         ensures { result ≡ list_any (bytes_eq issuer.now) self.now.issuers }
@@ -88,7 +120,14 @@ impl Customer {
         self.issuers.iter().any(|own| issuer == own)
     }
 
-    /// The seats of the customer, in their order.
+    /// The address pools of the customer, in the text's order.
+    pub fn pools(&self) -> &[MacPool]
+        ensures { result.now ≡ self.now.pools }
+    {
+        self.pools.as_slice()
+    }
+
+    /// The seats of the customer, in the text's order.
     pub fn seats(&self) -> &[Seat]
         ensures { result.now ≡ self.now.seats }
     {

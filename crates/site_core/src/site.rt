@@ -1,81 +1,121 @@
-ghost use Rattle.std.specs.Prelude.{◌≡◌, ◌<◌, IfSome, is_some, length};
+ghost use Rattle.std.specs.Prelude.{◌≡◌, ◌<◌, IfSome, is_some, length, bytes_eq};
 ghost use Rattle.std.specs.List.{list_any, position};
 ghost use Rattle.sha2.specs.Sha256.{sha256};
-ghost use Rattle.site_core.specs.Caller.{IsCaller, caller_of, caller_with, has_seat_with, seat_at, seat_of, section_at};
+ghost use Rattle.site_core.specs.Caller.{IsSeatCaller, IsCaller, HoldsToken, caller_of, seat_caller_with, manager_with, has_seat_with, seat_at, seat_of, section_at, section_in};
+ghost use Rattle.site_core.specs.Section.{tokens_of};
+ghost use Rattle.site_core.specs.Site.{IsSite};
 
 use crate::customer::Customer;
 use std::marker::Model;
 use text_core::{Digest, Name};
 
-/// The customers that a server serves, in their order.
+/// The most customers of a site.
+pub const CUSTOMER_LIMIT: usize = 64;
+
+/// The customers that a server serves, in the text's order, and the manager's token. Over the whole
+/// site no customer, issuer, seat or token comes twice, and no address lies in two pools.
 #[derive(Debug, Drop)]
 pub struct Site {
     customers: Vec<Customer>,
+    manager: Option<Digest>,
 }
 
 impl Model for Site {
-    ghost use Rattle.std.specs.Prelude.{List};
-    ghost use Rattle.site_core.specs.Section.{Section};
+    ghost use Rattle.site_core.specs.Section.{SiteValue};
+    ghost use Rattle.site_core.specs.Site.{IsSite};
 
-    ghost Value = { List Section };
+    ghost Value = { SiteValue };
 
-    ghost view = { λ s. s.customers.items };
+    ghost view = { λ s. record { customers = s.customers.items; manager = s.manager } };
+
+    ghost invariant = { λ s. IsSite (record { customers = s.customers.items; manager = s.manager }) };
 }
 
-/// Who sent a request: a seat of a customer of the site that told it.
+/// A seat of a customer of a site, by its place.
 #[derive(Clone, Copy, PartialEq, Eq, Debug)]
-pub struct Caller {
+pub struct SeatCaller {
     customer: usize,
     seat: usize,
 }
 
+/// Who sent a request, as the site that told it knows.
+#[derive(Clone, Copy, PartialEq, Eq, Debug)]
+pub enum Caller {
+    /// A seat of a customer.
+    Seat(SeatCaller),
+    /// The manager of the site, who belongs to no customer.
+    Manager,
+}
+
 impl Site {
-    /// The site of these customers.
-    pub(crate) fn new(customers: Vec<Customer>) -> Site
-        ensures { result ≡ customers.items }
+    /// The site of these customers and this manager.
+    pub(crate) fn new(customers: Vec<Customer>, manager: Option<Digest>) -> Site
+        requires { IsSite (record { customers = customers.items; manager = manager }) }
+        ensures { result ≡ record { customers = customers.items; manager = manager } }
     {
-        Site { customers }
+        Site { customers, manager }
     }
 
-    /// The caller whose token this is: the first seat, in the order of customers and of their seats,
-    /// whose token has the same SHA-256.
+    /// The customers, in the text's order.
+    pub fn customers(&self) -> &[Customer]
+        ensures same { result.now ≡ self.now.customers }
+        ensures site { IsSite self.now }
+    {
+        self.customers.as_slice()
+    }
+
+    /// Whether there is a manager.
+    pub fn has_manager(&self) -> bool
+        ensures { result ≡ is_some self.now.manager }
+    {
+        self.manager.is_some()
+    }
+
+    /// The caller whose token this is: the seat whose token has the same SHA-256, or the manager if
+    /// the manager's has. It takes no memory.
     pub fn who(&self, token: &[u8]) -> Option<Caller>
         ensures value { result ≡ caller_of self.now token.now }
         ensures is_one { IfSome result (IsCaller self.now) }
 
-        // Its seat holds the token, and where there is none no seat does.
-        ensures holder { IfSome result
-            (λ caller. (seat_of self.now caller).token ≡ sha256 token.now) }
-        ensures known { is_some result ≡ list_any (has_seat_with (sha256 token.now)) self.now }
+        // The caller holds the token, and where there is none nobody does.
+        ensures holder { IfSome result (HoldsToken (sha256 token.now) self.now) }
+        ensures known { is_some result ≡ list_any (bytes_eq (sha256 token.now)) (tokens_of self.now) }
     {
-        caller_with(self.customers.as_slice(), &Digest::of(token))
+        let digest = Digest::of(token);
+        match seat_caller_with(self.customers.as_slice(), &digest) {
+            Some(caller) => Some(Caller::Seat(caller)),
+            None => manager_with(self.manager, &digest),
+        }
     }
 
-    /// The customer of a caller.
-    pub fn customer(&self, caller: Caller) -> &Customer
-        requires { IsCaller self.now caller }
-        ensures { result.now ≡ section_at self.now caller }
+    /// The customer of a seat.
+    pub fn customer(&self, caller: SeatCaller) -> &Customer
+        requires { IsSeatCaller self.now caller }
+        ensures same { result.now ≡ section_at self.now caller }
+        ensures site { IsSite self.now }
     {
         &self.customers[caller.customer]
     }
 
-    /// The name of a caller's seat.
-    pub fn seat(&self, caller: Caller) -> Name
-        requires { IsCaller self.now caller }
+    /// The name of a seat.
+    pub fn seat(&self, caller: SeatCaller) -> Name
+        requires { IsSeatCaller self.now caller }
         ensures { result ≡ seat_at self.now caller }
     {
         self.customer(caller).seats()[caller.seat].name()
     }
 }
 
-/// The caller whose seat's token has this SHA-256.
-fn caller_with(customers: &[Customer], digest: &Digest) -> Option<Caller>
-    ensures value { result ≡ caller_with digest.now customers.now }
-    ensures is_one { IfSome result (IsCaller customers.now) }
+/// The seat whose token has this SHA-256.
+fn seat_caller_with(customers: &[Customer], digest: &Digest) -> Option<SeatCaller>
+    ensures value { result ≡ seat_caller_with digest.now customers.now }
+    ensures within { IfSome result (λ caller. caller.customer < length customers.now) }
+    ensures seat_within { IfSome result (λ caller.
+        caller.seat < length (section_in customers.now caller.customer).seats) }
 {
     let customer = customer_with(customers, digest)?;
     let seat = customers[customer].seat_with(digest)?;
-    Some(Caller { customer, seat })
+    Some(SeatCaller { customer, seat })
 }
 
 /// The place of the first customer that has such a seat.
@@ -86,4 +126,15 @@ fn customer_with(customers: &[Customer], digest: &Digest) -> Option<usize>
     customers
         .iter()
         .position(|customer| customer.has_seat_with(digest))
+}
+
+/// The manager, where this is the SHA-256 of the manager's token.
+fn manager_with(manager: Option<Digest>, digest: &Digest) -> Option<Caller>
+    ensures { result ≡ manager_with digest.now manager }
+{
+    if manager? == *digest {
+        Some(Caller::Manager)
+    } else {
+        None
+    }
 }

@@ -1,7 +1,7 @@
 -- The command line, and the job of its words.
-use Rattle.std.specs.Prelude.{◌≡◌, ◌≢◌, List, [], ◌∷◌, codes, map, true, Option, Some, None, option_and_then, string_bytes, bytes_eq, if◌then◌else◌}
+use Rattle.std.specs.Prelude.{◌≡◌, ◌≢◌, List, [], ◌∷◌, codes, map, true, Option, Some, None, option_and_then, option_map, string_bytes, bytes_eq, if◌then◌else◌}
 use Rattle.std.specs.Borrow.{Bor}
-use Rattle.clap.specs.Words.{App, IsAmong, Kinds, Text, fault_of, new_app, subcommand_of, with_subcommand}
+use Rattle.clap.specs.Words.{App, IsAmong, Kinds, Row, Rule, Text, fault_of, first_of, new_app, new_rule, subcommand_of, with_rule, with_subcommand}
 use Rattle.clap.specs.declared.error.kind.ErrorKind.{ErrorKind}
 use Rattle.clap.specs.declared.error.kind.ErrorKind.TheVariants.{DisplayHelp, OutOfMemory}
 use Rattle.station.specs.declared.job.Job.{Job}
@@ -13,25 +13,33 @@ use Rattle.station.specs.declared.job.WordsFault.TheVariants.{Help, Refused, NoM
 abbrev pub texts : Bor (List (Bor Text)) → List Text
 texts words = map (λ word. word.now) words.now
 
--- `replay`, with no options and no arguments
+-- `--site F`, which has to be there
+abbrev pub site_rule : Rule
+site_rule = record (new_rule (codes "site")) { long = Some (codes "site"); value_names = 1; required = true }
+
+-- `replay --site F`
 abbrev pub replay_app : App
-replay_app = new_app (codes "replay")
+replay_app = with_rule (new_app (codes "replay")) site_rule
 
 -- `station`, which asks for a subcommand
 abbrev pub top_app : App
 top_app = let app = new_app (codes "station") in record app { top = record app.top { subcommand_required = true } }
 
--- `station replay`
+-- `station replay --site F`
 abbrev pub station_app : App
 station_app = with_subcommand top_app replay_app.top
 
--- the job of a subcommand
-abbrev pub job_named : Text → Option Job
-job_named name = if bytes_eq name (codes "replay") then Some Replay else None
+-- the job of `replay`, by its options
+abbrev pub replay_of : List Row → Option Job
+replay_of options = option_map Replay (first_of (codes "site") options)
+
+-- the job of a subcommand, by its name and its options
+abbrev pub job_by : Text × List Row → Option Job
+job_by entered = if bytes_eq entered.0 (codes "replay") then replay_of entered.1 else None
 
 -- the job of the subcommand that the words enter, as `clap` reads them for this command line
 abbrev pub job_of : List Text → Option Job
-job_of words = option_and_then (λ entered. job_named entered.0) (subcommand_of station_app words)
+job_of words = option_and_then job_by (subcommand_of station_app words)
 
 -- nothing where the words have a fault
 abbrev pub unless_faulty : {A : Type 0} → Kinds → Option A → Option A

@@ -1,15 +1,16 @@
 //! The job that the words of a command line ask for.
 ghost use Rattle.std.specs.Prelude.{◌≡◌, ◌⊎◌, false, Some, None, IfOk, IfErr, option_and_then};
-ghost use Rattle.clap.specs.Words.{app_of, fault_of, kind_of, subcommand_name_of};
+ghost use Rattle.clap.specs.Words.{app_of, fault_of, first_of, found_of, kind_of, rows_of, subcommand_rows_of};
 ghost use Rattle.clap.specs.declared.builder.command.Command.TheViews.{out-Command as fields_of};
-ghost use Rattle.station.specs.CommandLine.{CanGive, GivenBy, RefusesWith, job_named, job_read, replay_app, station_app, texts};
+ghost use Rattle.station.specs.CommandLine.{CanGive, GivenBy, RefusesWith, job_by, job_read, replay_app, replay_of, station_app, texts};
 ghost use Rattle.station.specs.declared.job.WordsFault.TheVariants.{NoMemory};
 
 use clap::error::ErrorKind;
-use clap::{ArgMatches, Command, Error};
+use clap::{Arg, ArgMatches, Command, Error};
 use std::alloc::{AllocError, Global};
 use std::rt::Env;
 use std::{env, io};
+use text_core::Text;
 
 /// Why a word that the system passed the program is refused.
 const NOT_UTF8: &str = "error: a word of the command line is not UTF-8\n";
@@ -21,7 +22,10 @@ const NO_JOB: &str = "error: the words name no job\n";
 #[derive(Debug, PartialEq, Eq, Drop)]
 pub enum Job {
     /// Serves one stream of requests, from standard input to standard output.
-    Replay,
+    Replay {
+        /// The name of the site's file, as it was given.
+        site: Text,
+    },
 }
 
 /// Why words give no job.
@@ -106,7 +110,7 @@ pub fn read_job<'a>(alloc: Global, words: &'a [&'a str]) -> Result<Job, WordsFau
         Ok(matches) => matches,
         Err(error) => return Err(words_fault(alloc, &error)),
     };
-    match job_from(&matches) {
+    match job_from(alloc, &matches)? {
         Some(job) => Ok(job),
         None => Err(refused(alloc, NO_JOB)),
     }
@@ -116,21 +120,26 @@ pub fn read_job<'a>(alloc: Global, words: &'a [&'a str]) -> Result<Job, WordsFau
 fn station_command<'a>(alloc: Global) -> Result<Command<'a>, AllocError>
     ensures { IfOk result (λ command. app_of command ≡ station_app) }
 {
-    let replay = replay_command(alloc);
+    let replay = replay_command(alloc)?;
     Command::new(alloc, "station")
         .about("Serves programming stations")
         .subcommand_required(true)
         .subcommand(replay)
 }
 
-/// The subcommand `replay`, which has no options and no arguments.
-fn replay_command<'a>(alloc: Global) -> Command<'a>
-    ensures shape { app_of result ≡ replay_app }
-    ensures local { (fields_of result).has_globals ≡ false }
+/// The subcommand `replay --site F`.
+fn replay_command<'a>(alloc: Global) -> Result<Command<'a>, AllocError>
+    ensures shape { IfOk result (λ command. app_of command ≡ replay_app) }
+    ensures local { IfOk result (λ command. (fields_of command).has_globals ≡ false) }
 {
-    Command::new(alloc, "replay").about(
-        "Serves one stream of requests, from standard input to standard output",
-    )
+    let site = Arg::new(alloc, "site")
+        .long("site")
+        .value_name("F")
+        .help("The file of the site: its customers, their seats, and the manager")
+        .required(true);
+    Command::new(alloc, "replay")
+        .about("Serves one stream of requests, from standard input to standard output")
+        .arg(site)
 }
 
 /// The fault that an error of `clap` stands for.
@@ -152,19 +161,47 @@ fn words_fault(alloc: Global, error: &Error) -> WordsFault
 }
 
 /// The job of the subcommand that was met.
-fn job_from(matches: &ArgMatches<'_>) -> Option<Job>
-    ensures { result ≡ option_and_then job_named (subcommand_name_of matches.now) }
+fn job_from(alloc: Global, matches: &ArgMatches<'_>) -> Result<Option<Job>, AllocError>
+    ensures { IfOk result (λ job. job ≡ option_and_then job_by (subcommand_rows_of matches.now)) }
 {
-    job_named(matches.subcommand_name()?)
+    match matches.subcommand() {
+        Some((name, options)) => job_by(alloc, name, options),
+        None => Ok(None),
+    }
 }
 
-/// The job of the subcommand with this name.
-fn job_named(name: &str) -> Option<Job>
-    ensures { result ≡ job_named name.now }
+/// The job of the subcommand with this name and these options.
+fn job_by(alloc: Global, name: &str, options: &ArgMatches<'_>) -> Result<Option<Job>, AllocError>
+    ensures { IfOk result (λ job. job ≡ job_by (name.now, rows_of (found_of options.now))) }
 {
     match name {
-        "replay" => Some(Job::Replay),
-        _ => None,
+        "replay" => replay_job(alloc, options),
+        _ => Ok(None),
+    }
+}
+
+/// The job of `replay` with these options.
+fn replay_job(alloc: Global, options: &ArgMatches<'_>) -> Result<Option<Job>, AllocError>
+    ensures { IfOk result (λ job. job ≡ replay_of (rows_of (found_of options.now))) }
+{
+    match option_text(alloc, options, "site")? {
+        Some(site) => Ok(Some(Job::Replay { site })),
+        None => Ok(None),
+    }
+}
+
+/// The text that an option was given, the first if there are several.
+#[tactic(auto, using(crate::proofs::Options::first_of_rows))]
+fn option_text(
+    alloc: Global,
+    options: &ArgMatches<'_>,
+    id: &str,
+) -> Result<Option<Text>, AllocError>
+    ensures { IfOk result (λ text. text ≡ first_of id.now (rows_of (found_of options.now))) }
+{
+    match options.get_str(id) {
+        Some(text) => Ok(Some(Text::copy_of(alloc, text)?)),
+        None => Ok(None),
     }
 }
 

@@ -3,9 +3,12 @@
 
 ghost use Rattle.station.specs.Statuses.{HasStatus};
 
+mod failure;
 mod job;
 mod run;
+mod site_file;
 
+use crate::failure::Failure;
 use crate::job::{WordsFault, job_from_env};
 use crate::run::run;
 use std::io;
@@ -20,6 +23,7 @@ fn main(rt: HostRuntime) -> ExitCode {
 fn start(rt: &HostRuntime) -> u8 {
     match job_from_env(rt) {
         Ok(job) => run(
+            rt,
             rt.alloc(),
             &job,
             rt.reader(),
@@ -40,7 +44,7 @@ fn report(rt: &(impl Print + Eprint), fault: &WordsFault) -> u8
             if print!(rt; "{text}").is_ok() {
                 return 0;
             }
-            let _ = eprintln!(rt; "station: write failed");
+            let _ = rt.eprintln(Failure::WriteFailed);
             1
         }
         WordsFault::Refused(text) => {
@@ -48,7 +52,7 @@ fn report(rt: &(impl Print + Eprint), fault: &WordsFault) -> u8
             2
         }
         WordsFault::NoMemory => {
-            let _ = eprintln!(rt; "station: {fault}");
+            let _ = rt.eprintln(Failure::NoMemory);
             1
         }
     }

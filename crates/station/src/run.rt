@@ -1,20 +1,23 @@
 //! Does the jobs of the command line.
-ghost use Rattle.std.specs.Prelude.{◌≡◌, ◌≤◌, option_map};
-ghost use Rattle.station.specs.Statuses.{failure_of};
+ghost use Rattle.std.specs.Prelude.{◌≡◌, ◌≤◌, ◌⊎◌, ◌++◌, ◌∷◌, [], IfOk, IfErr, IsErrAnd, OnOk};
+ghost use Rattle.std.specs.Io.KnownBytes.{Appends, Keeps};
+ghost use Rattle.station.specs.SiteFile.{IsUnread, site_in};
+ghost use Rattle.station.specs.Statuses.{end_of, line_of, status_of};
 
+use crate::failure::Failure;
 use crate::job::Job;
+use crate::site_file::{read_site_file, site_of_file};
 use office_core::MemKeep;
-use office_core::site::Site;
 use station_api::{Counted, Served, serve_stream};
 use std::alloc::Global;
+use std::io;
 use std::io::{Read, Write};
+use std::rt::Files;
 
-/// What a run without memory says.
-const NO_MEMORY: &str = "station: no memory";
-
-/// Does a job: reads its input, writes its output, and writes one line on `err` where it fails.
-/// Answers the status that the program ends with: 0, or 1 where it failed.
+/// Does a job: reads the file that it names, then its input, writes its output, and writes one line
+/// on `err` where it fails. Answers the status that the program ends with: 0, or 1 where it failed.
 pub fn run(
+    rt: &impl Files,
     alloc: Global,
     job: &Job,
     input: impl Read + Drop,
@@ -23,44 +26,71 @@ pub fn run(
 ) -> u8
     ensures { result ≤ 1 }
 {
-    let failed = match job {
-        Job::Replay => replay(alloc, input, output),
+    let done = match job {
+        Job::Replay { site } => {
+            let name = site.as_str();
+            let file = read_site_file(rt, alloc, name);
+            replay(alloc, name, file, input, output)
+        }
     };
-    match failed {
-        None => 0,
-        Some(line) => {
-            let _ = writeln!(err, "{line}");
+    finish(done, err)
+}
+
+/// Serves one stream over a keeper in memory that has no rows, for the site that a file describes,
+/// by what reading the file with this name gave.
+fn replay<'a>(
+    alloc: Global,
+    name: &'a str,
+    file: io::Result<Vec<u8>>,
+    input: impl Read + Drop,
+    output: impl Write + Drop,
+) -> Result<(), Failure<'a>>
+    ensures unread { IfErr file (λ error. IsErrAnd result (IsUnread name.entry error)) }
+
+    // A file that describes no site is the failure, whatever the stream.
+    ensures no_site { IfOk file (λ bytes. IfErr (site_in name.entry bytes.items) (λ failure.
+        (result ≡ Err failure) ⊎ (result ≡ Err Failure.NoMemory))) }
+{
+    let site = site_of_file(alloc, name, file)?;
+    let mut keep = MemKeep::new(alloc);
+    let mut reader = Counted::new(input);
+    let mut writer = Counted::new(output);
+    end_of(serve_stream(alloc, &mut keep, &site, &mut reader, &mut writer))
+}
+
+/// What the end of a stream says of a failure.
+fn end_of(served: Served) -> Result<(), Failure<'static>>
+    ensures { result ≡ end_of served }
+{
+    match served {
+        Served::Ended | Served::Closed | Served::Cut => Ok(()),
+        Served::ReadFault => Err(Failure::ReadFailed),
+        Served::WriteFault => Err(Failure::WriteFailed),
+        Served::TurnLimit => Err(Failure::TurnLimit),
+        Served::NoMemory => Err(Failure::NoMemory),
+    }
+}
+
+/// Writes the line of a failure, and answers the status of a job that ended so. A line that can't be
+/// written is passed over.
+fn finish<W: Write>(done: Result<(), Failure<'_>>, err: &mut W) -> u8
+    ensures status { result ≡ status_of done.entry }
+    ensures silent { OnOk done.entry (Keeps (W.contents err.old) (W.contents err.new)) }
+{
+    match done {
+        Ok(()) => 0,
+        Err(failure) => {
+            let _ = write_failure(failure, err);
             1
         }
     }
 }
 
-/// Serves one stream over a keeper in memory that has no rows, and says what failed.
-fn replay(
-    alloc: Global,
-    input: impl Read + Drop,
-    output: impl Write + Drop,
-) -> Option<&'static str> {
-    let Ok(site) = Site::built_in(alloc) else {
-        return Some(NO_MEMORY);
-    };
-    let mut keep = MemKeep::new(alloc);
-    let mut reader = Counted::new(input);
-    let mut writer = Counted::new(output);
-    failure(serve_stream(alloc, &mut keep, &site, &mut reader, &mut writer))
-}
-
-/// What the end of a stream says of a failure.
-fn failure(served: Served) -> Option<&'static str>
-    ensures { option_map (λ line. line.now) result ≡ failure_of served }
+/// Writes the line of a failure.
+fn write_failure<W: Write>(failure: Failure<'_>, err: &mut W) -> io::Result<()>
+    ensures { OnOk result (Appends (W.contents err.old) (W.contents err.new) (line_of failure.entry ++ 10 ∷ [])) }
 {
-    match served {
-        Served::Ended | Served::Closed | Served::Cut => None,
-        Served::ReadFault => Some("station: read failed"),
-        Served::WriteFault => Some("station: write failed"),
-        Served::TurnLimit => Some("station: turn limit"),
-        Served::NoMemory => Some(NO_MEMORY),
-    }
+    writeln!(err, "{failure}")
 }
 
 #[cfg(test)]

@@ -1,25 +1,27 @@
 -- What a request comes to, from what its parts came to.
-use Rattle.std.proofs.Common.{◌≡◌, ◌⊎◌, inl, inr, List, true, false, Option, Some, Result, Ok, Err, refl, sym, ap, subst, ◌∙◌}
+use Rattle.std.proofs.Common.{◌≡◌, ◌⊎◌, inl, inr, true, false, Option, Some, Result, Ok, Err, refl, sym, ap, subst, ◌∙◌}
 use Rattle.http_frames.specs.Frames.{Request as HttpRequest}
 use Rattle.http_replies.specs.Replies.{Answer, is_unavailable}
-use Rattle.site_core.specs.Section.{Section}
-use Rattle.site_core.specs.Caller.{section_at, seat_at}
+use Rattle.site_core.specs.Section.{SiteValue}
+use Rattle.site_core.specs.Caller.{IsCaller, IsSeatCaller, section_at, seat_at}
+use Rattle.site_core.specs.declared.site.Caller.TheVariants.{Seat}
 use Rattle.site_core.specs.declared.site.Caller.{Caller}
 use Rattle.office_tables.specs.Tables.{Tables}
-use Rattle.office_commands.specs.declared.command.Request.{Request}
 use Rattle.office_commands.specs.declared.refusal.Refusal.{Refusal}
-use Rattle.office_commands.specs.declared.refusal.Refusal.TheVariants.{UnknownToken, UnknownPath, BadJson, BadMember, WrongNumber, OtherBody, UnknownOrder, Exists, BadSerial, NumberTooWide, NoMacRoom, RangeOverlap, ForeignIssuer, Limit, Unkept}
+use Rattle.office_commands.specs.declared.refusal.Refusal.TheVariants.{UnknownToken, UnknownPath, WrongCaller, BadJson, BadMember, WrongNumber, OtherBody, UnknownOrder, Exists, BadSerial, NumberTooWide, NoMacRoom, RangeOverlap, ForeignIssuer, Limit, Unkept}
 use Rattle.office_commands.specs.Refusals.{refusal_status}
 use Rattle.office_commands.specs.Replies.{refusal}
 use Rattle.office_core.specs.Office.{Step, Answers}
 use Rattle.office_core.proofs.Served.{answers}
-use Rattle.station_api.specs.Requests.{asked}
+use Rattle.station_api.specs.Requests.{asked, IsParsed}
+use Rattle.station_api.specs.declared.parse.Parsed.{Parsed}
 use Rattle.station_api.specs.Machine.{caller_at, AnswersCaller, AnswersAny, StationAnswers, DeskSteps}
 
 -- only one refusal is answered 503
 unavailable_is_unkept : (reason : Refusal) → is_unavailable (refusal_status reason) ≡ true → reason ≡ Unkept
 unavailable_is_unkept UnknownToken e = cc
 unavailable_is_unkept UnknownPath e = cc
+unavailable_is_unkept WrongCaller e = cc
 unavailable_is_unkept BadJson e = cc
 unavailable_is_unkept BadMember e = cc
 unavailable_is_unkept (WrongNumber expected) e = cc
@@ -34,12 +36,12 @@ unavailable_is_unkept ForeignIssuer e = cc
 unavailable_is_unkept Limit e = cc
 unavailable_is_unkept Unkept e = refl
 
-unkept_caller : (site : List Section) (caller : Caller) (r : HttpRequest) (t : Tables) (reply : Answer) → reply ≡ refusal Unkept → AnswersCaller site caller r t reply t
+unkept_caller : (site : SiteValue) (caller : Caller) (r : HttpRequest) (t : Tables) (reply : Answer) → reply ≡ refusal Unkept → AnswersCaller site caller r t reply t
 unkept_caller site caller r t reply is =
     let unavailable : is_unavailable reply.status ≡ true = ap (λ (a : Answer). is_unavailable a.status) is in
     rw unavailable (is, refl)
 
-refused_asked : (site : List Section) (caller : Caller) (r : HttpRequest) (t : Tables) (reply : Answer) (reason : Refusal) → asked r ≡ Err reason → reply ≡ refusal reason → AnswersCaller site caller r t reply t
+refused_asked : (site : SiteValue) (caller : Caller) (r : HttpRequest) (t : Tables) (reply : Answer) (reason : Refusal) → asked caller r ≡ Err reason → reply ≡ refusal reason → AnswersCaller site caller r t reply t
 refused_asked site caller r t reply reason wanted is =
     elim (is_unavailable (refusal_status reason)) as (λ b. is_unavailable (refusal_status reason) ≡ b → AnswersCaller site caller r t reply t) [
       | true ↦ λ e. unkept_caller site caller r t reply (is ∙ ap refusal (unavailable_is_unkept reason e))
@@ -49,8 +51,8 @@ refused_asked site caller r t reply reason wanted is =
     ] refl
 
 -- a request that isn't of its form
-pub refused_caller : (site : List Section) (caller : Caller) (r : HttpRequest) (t : Tables) (reply : Answer) (reason : Refusal)
-    → (Err reason ≡ asked r) ⊎ (◌≡◌ {A = Result Request Refusal} (Err reason) (Err Unkept)) → (reply ≡ refusal reason) ⊎ (reply ≡ refusal Unkept) → AnswersCaller site caller r t reply t
+pub refused_caller : (site : SiteValue) (caller : Caller) (r : HttpRequest) (t : Tables) (reply : Answer) (reason : Refusal)
+    → (Err reason ≡ asked caller r) ⊎ (◌≡◌ {A = Result Parsed Refusal} (Err reason) (Err Unkept)) → (reply ≡ refusal reason) ⊎ (reply ≡ refusal Unkept) → AnswersCaller site caller r t reply t
 refused_caller site caller r t reply reason wanted (inr is) = unkept_caller site caller r t reply is
 refused_caller site caller r t reply reason (inl wanted) (inl is) = refused_asked site caller r t reply reason (sym wanted) is
 refused_caller site caller r t reply reason (inr unkept) (inl is) = let same : reason ≡ Unkept = cc in unkept_caller site caller r t reply (is ∙ ap refusal same)
@@ -59,15 +61,19 @@ pub asked_is : {A E : Type 0} (wanted : Result A E) (x : A) (e : E) → (Ok x �
 asked_is wanted x e (inl is) = sym is
 asked_is wanted x e (inr is) = cc
 
--- an office's answer to what was asked
-pub answers_caller : (site : List Section) (caller : Caller) (r : HttpRequest) (request : Request) (t : Tables) (reply : Answer) (t2 : Tables)
-    → asked r ≡ Ok request → Answers (section_at site caller) (seat_at site caller) t request reply t2 → AnswersCaller site caller r t reply t2
-answers_caller site caller r request t reply t2 wanted answered = rw wanted answered
+-- a seat that asks is one of the site's, where the caller is
+pub is_seat : (site : SiteValue) (caller : Caller) (parsed : Parsed) → IsCaller site caller → IsParsed caller parsed → IsSeatCaller site parsed.seat
+is_seat site caller parsed one is = let same : caller ≡ Seat parsed.seat = is.0 in rw same at one
 
-pub step_answers : (site : List Section) (caller : Caller) (r : HttpRequest) (request : Request) (t : Tables) (reply : Answer) (t2 : Tables)
-    → asked r ≡ Ok request → Step (section_at site caller) (seat_at site caller) t request reply t2 → AnswersCaller site caller r t reply t2
-step_answers site caller r request t reply t2 wanted step =
-    answers_caller site caller r request t reply t2 wanted (answers (section_at site caller) (seat_at site caller) t request reply t2 step)
+-- an office's answer to what was asked
+pub answers_caller : (site : SiteValue) (caller : Caller) (r : HttpRequest) (parsed : Parsed) (t : Tables) (reply : Answer) (t2 : Tables)
+    → asked caller r ≡ Ok parsed → Answers (section_at site parsed.seat) (seat_at site parsed.seat) t parsed.request reply t2 → AnswersCaller site caller r t reply t2
+answers_caller site caller r parsed t reply t2 wanted answered = rw wanted answered
+
+pub step_answers : (site : SiteValue) (caller : Caller) (r : HttpRequest) (parsed : Parsed) (t : Tables) (reply : Answer) (t2 : Tables)
+    → asked caller r ≡ Ok parsed → Step (section_at site parsed.seat) (seat_at site parsed.seat) t parsed.request reply t2 → AnswersCaller site caller r t reply t2
+step_answers site caller r parsed t reply t2 wanted step =
+    answers_caller site caller r parsed t reply t2 wanted (answers (section_at site parsed.seat) (seat_at site parsed.seat) t parsed.request reply t2 step)
 
 pub or_so : {A B C : Type 0} → A ⊎ B → (B → C) → A ⊎ C
 or_so (inl a) f = inl a
@@ -84,7 +90,7 @@ unchanged is_open is_honest may_leave tables step k reply same = record {
 }
 
 -- a request with the token of a seat
-pub known_caller : {K : Type 0} (is_open is_honest : K → Type 0) (may_leave : K → Tables → Type 0) (tables : K → Tables) (site : List Section) (caller : Caller) (r : HttpRequest) (old : K) (reply : Answer) (new : K)
+pub known_caller : {K : Type 0} (is_open is_honest : K → Type 0) (may_leave : K → Tables → Type 0) (tables : K → Tables) (site : SiteValue) (caller : Caller) (r : HttpRequest) (old : K) (reply : Answer) (new : K)
     → caller_at site r ≡ Some caller → DeskSteps is_open is_honest may_leave tables (AnswersCaller site caller r) old reply new
     → DeskSteps is_open is_honest may_leave tables (λ t. StationAnswers site t r) old reply new
 known_caller is_open is_honest may_leave tables site caller r old reply new is made =

@@ -5,38 +5,41 @@ use Rattle.http_frames.specs.Frames.{Request as HttpRequest, headers_of}
 use Rattle.http_replies.specs.Replies.{Answer, is_unavailable}
 use Rattle.http_serving.specs.declared.Served.{Served}
 use Rattle.http_serving.specs.Streams.{Machine, IsServed}
-use Rattle.site_core.specs.Section.{Section}
+use Rattle.site_core.specs.Section.{SiteValue}
 use Rattle.site_core.specs.Caller.{caller_of, section_at, seat_at}
 use Rattle.site_core.specs.declared.site.Caller.{Caller}
 use Rattle.office_tables.specs.Tables.{Tables}
 use Rattle.office_tables.specs.Keeping.{Stands, Crashes}
-use Rattle.office_commands.specs.declared.command.Request.{Request}
 use Rattle.office_commands.specs.declared.refusal.Refusal.{Refusal}
 use Rattle.office_commands.specs.declared.refusal.Refusal.TheVariants.{UnknownToken, Unkept}
 use Rattle.office_commands.specs.Replies.{refusal}
 use Rattle.office_core.specs.Office.{Step}
 use Rattle.station_api.specs.Requests.{asked}
+use Rattle.station_api.specs.declared.parse.Parsed.{Parsed}
 
 -- the caller whose token a request carries
-abbrev pub caller_at : List Section → HttpRequest → Option Caller
+abbrev pub caller_at : SiteValue → HttpRequest → Option Caller
 caller_at site r = option_and_then (caller_of site) (token_of (headers_of r.head))
 
 -- what was asked is refused, or answered by a step of the office
-abbrev pub Asks : List Section → Caller → Result Request Refusal → Tables → Answer → Tables → Type 0
-Asks site caller (Err reason) t reply t2 = (reply ≡ refusal reason) × (t2 ≡ t)
-Asks site caller (Ok request) t reply t2 = Step (section_at site caller) (seat_at site caller) t request reply t2
+abbrev pub Asks : SiteValue → Result Parsed Refusal → Tables → Answer → Tables → Type 0
+Asks site (Err reason) t reply t2 = (reply ≡ refusal reason) × (t2 ≡ t)
+Asks site (Ok parsed) t reply t2 = Step (section_at site parsed.seat) (seat_at site parsed.seat) t parsed.request reply t2
 
--- a known caller is answered 503, which changes nothing, or what was asked
-abbrev pub AnswersCaller : List Section → Caller → HttpRequest → Tables → Answer → Tables → Type 0
-AnswersCaller site caller r t reply t2 =
-    MatchBool (is_unavailable reply.status) ((reply ≡ refusal Unkept) × (t2 ≡ t)) (Asks site caller (asked r) t reply t2)
+-- 503, which changes nothing, or what was asked
+abbrev pub AnswersAsked : SiteValue → Result Parsed Refusal → Tables → Answer → Tables → Type 0
+AnswersAsked site wanted t reply t2 = MatchBool (is_unavailable reply.status) ((reply ≡ refusal Unkept) × (t2 ≡ t)) (Asks site wanted t reply t2)
 
-abbrev pub AnswersAny : List Section → Option Caller → HttpRequest → Tables → Answer → Tables → Type 0
+-- what a request of a known caller is answered
+abbrev pub AnswersCaller : SiteValue → Caller → HttpRequest → Tables → Answer → Tables → Type 0
+AnswersCaller site caller r t reply t2 = AnswersAsked site (asked caller r) t reply t2
+
+abbrev pub AnswersAny : SiteValue → Option Caller → HttpRequest → Tables → Answer → Tables → Type 0
 AnswersAny site None r t reply t2 = (reply ≡ refusal UnknownToken) × (t2 ≡ t)
 AnswersAny site (Some caller) r t reply t2 = AnswersCaller site caller r t reply t2
 
--- what a request is answered: a request without the token of a seat is refused and changes nothing
-abbrev pub StationAnswers : List Section → Tables → HttpRequest → Answer → Tables → Type 0
+-- what a request is answered: a request without the token of a caller is refused and changes nothing
+abbrev pub StationAnswers : SiteValue → Tables → HttpRequest → Answer → Tables → Type 0
 StationAnswers site t r reply t2 = AnswersAny site (caller_at site r) r t reply t2
 
 -- a keeper's state before an answer and after it: where the disk is honest, the tables that stood lead to those that stand, and a crash leaves what it could leave before, or what the request makes

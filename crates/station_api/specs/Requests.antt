@@ -1,15 +1,19 @@
 -- What a request asks for, as a function of its head and its body (RFC 9110, 9112).
-use Rattle.std.specs.Prelude.{ℕ, List, codes, replicate, bytes_eq, Option, Some, None, option_map, Result, Err, if◌then◌else◌}
+use Rattle.std.specs.Prelude.{◌≡◌, ℕ, List, codes, replicate, bytes_eq, Option, Some, None, option_map, Result, Err, if◌then◌else◌}
 use Rattle.std.specs.Option.{ok_or}
-use Rattle.text_core.specs.Answer.{result_and_then}
+use Rattle.text_core.specs.Answer.{result_and_then, result_map}
 use Rattle.text_core.specs.Json.{json_of}
 use Rattle.http_fields.specs.Fields.{path_of, query_of}
 use Rattle.http_frames.specs.Frames.{Request as HttpRequest}
+use Rattle.site_core.specs.declared.site.Caller.{Caller}
+use Rattle.site_core.specs.declared.site.Caller.TheVariants.{Seat, Manager}
+use Rattle.office_commands.specs.Asked.{IsAsked}
 use Rattle.office_commands.specs.declared.command.Request.{Request}
 use Rattle.office_commands.specs.declared.command.Command.TheVariants.{Show}
 use Rattle.office_commands.specs.declared.command.Show.TheVariants.{Order}
 use Rattle.office_commands.specs.declared.refusal.Refusal.{Refusal}
-use Rattle.office_commands.specs.declared.refusal.Refusal.TheVariants.{UnknownPath, BadJson, BadMember}
+use Rattle.office_commands.specs.declared.refusal.Refusal.TheVariants.{UnknownPath, WrongCaller, BadJson, BadMember}
+use Rattle.station_api.specs.declared.parse.Parsed.{Parsed}
 use Rattle.station_api.specs.declared.parse.Route.{Route}
 use Rattle.station_api.specs.declared.parse.Route.TheVariants.{MakeOrder, ShowOrder}
 use Rattle.station_api.specs.Orders.{make_order_of, name_parameter}
@@ -35,11 +39,20 @@ shows_order name = record { number = 0; digest = replicate 32 0; command = Show 
 abbrev pub order_shown : List ℕ → Result Request Refusal
 order_shown query = ok_or (option_map shows_order (name_parameter query)) BadMember
 
-abbrev pub asked_on : Option Route → List ℕ → List ℕ → Result Request Refusal
-asked_on None query body = Err UnknownPath
-asked_on (Some MakeOrder) query body = order_made body
-asked_on (Some ShowOrder) query body = order_shown query
+-- a seat's path is the seats' alone: the manager is refused there, whatever the body
+abbrev pub for_seats : Caller → Result Request Refusal → Result Parsed Refusal
+for_seats Manager wanted = Err WrongCaller
+for_seats (Seat seat) wanted = result_map (λ request. record { seat = seat; request = request }) wanted
 
--- what a request asks for, or the lowest refusal of its path, its method, its body and its members
-abbrev pub asked : HttpRequest → Result Request Refusal
-asked r = asked_on (route_of r.head.method (path_of r.head.target)) (query_of r.head.target) r.body
+abbrev pub asked_on : Option Route → Caller → List ℕ → List ℕ → Result Parsed Refusal
+asked_on None caller query body = Err UnknownPath
+asked_on (Some MakeOrder) caller query body = for_seats caller (order_made body)
+asked_on (Some ShowOrder) caller query body = for_seats caller (order_shown query)
+
+-- what a caller's request asks for, or the lowest refusal of its path, its method, its caller, its body and its members
+abbrev pub asked : Caller → HttpRequest → Result Parsed Refusal
+asked caller r = asked_on (route_of r.head.method (path_of r.head.target)) caller (query_of r.head.target) r.body
+
+-- it is the caller that asks, and what it can ask for
+abbrev pub IsParsed : Caller → Parsed → Type 0
+IsParsed caller parsed = (caller ≡ Seat parsed.seat) × IsAsked parsed.request

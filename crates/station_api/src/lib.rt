@@ -13,5 +13,5 @@ pub use http_frames::memory::Counted;
 pub use http_frames::transfer::{Drain, Source, Transfer};
 pub use http_replies::{Body, Flags, Reply, Status, reply_head};
 pub use http_serving::Served;
-pub use parse::parse_command;
+pub use parse::{Parsed, parse_command};
 pub use stream::serve_stream;

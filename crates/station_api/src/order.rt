@@ -1,6 +1,7 @@
 // The requests about orders.
-ghost use Rattle.std.specs.Prelude.{◌≡◌, IfOk, ok_or};
+ghost use Rattle.std.specs.Prelude.{◌≡◌, IfOk, IfSome, ok_or};
 ghost use Rattle.serde_json.specs.View.{view};
+ghost use Rattle.office_commands.specs.Asked.{IsAsked, IsNewOrder};
 ghost use Rattle.station_api.specs.Orders.{make_order_of, new_order_of, name_parameter};
 
 use crate::digest::{named_members, request_digest};
@@ -22,7 +23,8 @@ const ORDER_MEMBERS: [&str; 8] = [
 /// The order that a body asks for, if its members are of their forms.
 #[tactic(auto, unfolding(crate::specs::Orders::new_order_of))]
 fn new_order(alloc: Global, value: &Value) -> Result<Option<NewOrder>, AllocError>
-    ensures { IfOk result (λ order. order ≡ new_order_of (view value.now)) }
+    ensures value { IfOk result (λ order. order ≡ new_order_of (view value.now)) }
+    ensures asked { IfOk result (λ order. IfSome order IsNewOrder) }
 {
     let Some(name) = name_member(value, "name") else {
         return Ok(None);
@@ -59,7 +61,8 @@ fn new_order(alloc: Global, value: &Value) -> Result<Option<NewOrder>, AllocErro
 /// The request that the body of `POST /v1/order` asks for, if its members are of their forms.
 #[tactic(auto, unfolding(crate::specs::Orders::make_order_of))]
 pub fn make_order_request(alloc: Global, value: &Value) -> Result<Option<Request>, AllocError>
-    ensures { IfOk result (λ request. request ≡ make_order_of (view value.now)) }
+    ensures value { IfOk result (λ request. request ≡ make_order_of (view value.now)) }
+    ensures asked { IfOk result (λ request. IfSome request IsAsked) }
 {
     let Some(number) = whole_member(value, "nr", 1, LARGEST_WHOLE) else {
         return Ok(None);

@@ -1,18 +1,27 @@
 // What a request asks for.
-ghost use Rattle.std.specs.Prelude.{◌≡◌, bytes_eq, codes, option_map};
+ghost use Rattle.std.specs.Prelude.{◌≡◌, bytes_eq, codes, option_map, IfOk};
 ghost use Rattle.serde_json.specs.View.{view};
 ghost use Rattle.text_core.specs.Answer.{GivesUnless};
 ghost use Rattle.http_frames.specs.Frames.{Request as HttpRequest};
 ghost use Rattle.http_frames.specs.Looks.{IsFrameAt};
-ghost use Rattle.station_api.specs.Requests.{route_of, order_made, order_shown, asked};
+ghost use Rattle.office_commands.specs.Asked.{IsAsked};
+ghost use Rattle.station_api.specs.Requests.{route_of, order_made, order_shown, asked, IsParsed};
 
 use crate::order::{ORDER_PATH, make_order_request, order_name};
 use http_fields::split_target;
 use http_frames::buffer::Buffer;
 use http_frames::frame::Frame;
+use office_core::site::{Caller, SeatCaller};
 use office_core::{Command, Refusal, Request, Show};
 use std::alloc::Global;
 use text_core::{Digest, JsonFault, read_json};
+
+/// What a seat asks of the office.
+#[derive(Debug, Drop)]
+pub struct Parsed {
+    pub seat: SeatCaller,
+    pub request: Request,
+}
 
 /// What a method and a path lead to.
 #[derive(Clone, Copy, Debug, PartialEq, Eq)]
@@ -41,7 +50,8 @@ fn find_route(method: &[u8], path: &[u8]) -> Option<Route>
 
 /// The order that a body asks for, or the lowest refusal of it.
 fn read_order(alloc: Global, body: &[u8]) -> Result<Request, Refusal>
-    ensures { GivesUnless Refusal.Unkept result (order_made body.now) }
+    ensures asked { IfOk result IsAsked }
+    ensures order { GivesUnless Refusal.Unkept result (order_made body.now) }
 {
     let value = match read_json(alloc, body) {
         Ok(value) => value,
@@ -57,7 +67,8 @@ fn read_order(alloc: Global, body: &[u8]) -> Result<Request, Refusal>
 
 /// The order that a query asks for, or the refusal of it.
 fn read_order_name(query: &[u8]) -> Result<Request, Refusal>
-    ensures { result ≡ order_shown query.now }
+    ensures asked { IfOk result IsAsked }
+    ensures shown { result ≡ order_shown query.now }
 {
     let Some(name) = order_name(query) else {
         return Err(Refusal::BadMember);
@@ -69,17 +80,29 @@ fn read_order_name(query: &[u8]) -> Result<Request, Refusal>
     })
 }
 
-/// The command that a request of a known caller asks for, or the lowest refusal of its path, its
-/// method, its body and its members. `Unkept` is want of memory and nothing else.
-pub fn parse_command(alloc: Global, frame: Frame, buffer: &Buffer) -> Result<Request, Refusal>
+/// What a request of a known caller asks for, or the lowest refusal of its path, its method, its
+/// caller, its body and its members. `Unkept` is want of memory and nothing else.
+pub fn parse_command(
+    alloc: Global,
+    caller: Caller,
+    frame: Frame,
+    buffer: &Buffer,
+) -> Result<Parsed, Refusal>
     requires { (request : HttpRequest) × IsFrameAt buffer.now.window buffer.now.spans frame request }
-    ensures { (request : HttpRequest) → IsFrameAt buffer.now.window buffer.now.spans frame request
-        → GivesUnless Refusal.Unkept result (asked request) }
+    ensures asked { (request : HttpRequest) → IsFrameAt buffer.now.window buffer.now.spans frame request
+        → GivesUnless Refusal.Unkept result (asked caller request) }
+    ensures parsed { IfOk result (IsParsed caller) }
 {
     let (path, query) = split_target(frame.target(buffer));
-    match find_route(frame.method(buffer), path) {
-        None => Err(Refusal::UnknownPath),
-        Some(Route::MakeOrder) => read_order(alloc, frame.body(buffer)),
-        Some(Route::ShowOrder) => read_order_name(query),
-    }
+    let Some(route) = find_route(frame.method(buffer), path) else {
+        return Err(Refusal::UnknownPath);
+    };
+    let Caller::Seat(seat) = caller else {
+        return Err(Refusal::WrongCaller);
+    };
+    let request = match route {
+        Route::MakeOrder => read_order(alloc, frame.body(buffer))?,
+        Route::ShowOrder => read_order_name(query)?,
+    };
+    Ok(Parsed { seat, request })
 }

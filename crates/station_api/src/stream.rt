@@ -1,4 +1,4 @@
-// Serves a stream of a site's seats.
+// Serves a stream of a site's callers.
 ghost use Rattle.std.specs.Prelude.{◌≡◌, ◌+◌, ◌<◌, ◌≤◌, ◌^◌, IfSome, IsSomeAnd, Some};
 ghost use Rattle.http_serving.specs.Streams.{Reaches, read_faults, write_faults};
 ghost use Rattle.office_tables.specs.Tables.{Tables};

@@ -3,6 +3,10 @@
 #![tactic(auto)]
 
 #[cfg(test)]
+mod addresses;
+#[cfg(test)]
+mod customers;
+#[cfg(test)]
 mod faults;
 #[cfg(test)]
 mod orders;

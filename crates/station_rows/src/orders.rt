@@ -1,6 +1,7 @@
 //! Orders, their repeats and their refusals.
 use crate::parts::{
-    ORDER, ORDER_REPLY, count_orders, expect, expect_order, order_request, reply, request,
+    A1, ORDER, ORDER_REPLY, count_orders, expect, expect_order, expect_reply, order_request,
+    request,
 };
 use office_core::Keep;
 use std::process::Abort;
@@ -12,23 +13,24 @@ pub fn repeats_an_order<K: Keep>(
     keep: &mut K,
 ) -> Result<(), Fail> {
     let alloc = rt.alloc();
-    let once = order_request(alloc, ORDER)?;
+    let once = order_request(alloc, A1, ORDER)?;
     let once = once.as_str();
     let stream = format!(in alloc; "{once}{once}")?;
     let replies = format!(in alloc; "{ORDER_REPLY}{ORDER_REPLY}")?;
     expect(rt, keep, stream.as_str(), replies.as_str())?;
-    assert_eq!(rt; count_orders(keep)?, 1);
+    assert_eq!(rt; count_orders(keep, "acme")?, 1);
     Ok(())
 }
 
 /// The last number with another request, and a number that isn't the next: neither takes a number.
 pub fn refuses_numbers<K: Keep>(rt: &(impl Abort + AllocGlobal), keep: &mut K) -> Result<(), Fail> {
     let alloc = rt.alloc();
-    let once = order_request(alloc, ORDER)?;
+    let once = order_request(alloc, A1, ORDER)?;
     expect(rt, keep, once.as_str(), ORDER_REPLY)?;
     expect_order(
         rt,
         keep,
+        A1,
         "{\"nr\":1,\"name\":\"o1\",\"issuer\":\"acme-ca\",\"prefix\":\"A\",\"width\":3,\"first\":998,\"quantity\":1,\"macs\":0}",
         "409 Conflict",
         "{\"error\":\"other_body\",\"no\":12}",
@@ -36,6 +38,7 @@ pub fn refuses_numbers<K: Keep>(rt: &(impl Abort + AllocGlobal), keep: &mut K) -
     expect_order(
         rt,
         keep,
+        A1,
         "{\"nr\":3,\"name\":\"o3\",\"issuer\":\"acme-ca\",\"prefix\":\"C\",\"width\":3,\"first\":1,\"quantity\":1,\"macs\":0}",
         "409 Conflict",
         "{\"error\":\"wrong_number\",\"expected\":2,\"no\":11}",
@@ -43,11 +46,12 @@ pub fn refuses_numbers<K: Keep>(rt: &(impl Abort + AllocGlobal), keep: &mut K) -
     expect_order(
         rt,
         keep,
+        A1,
         "{\"nr\":2,\"name\":\"o2\",\"issuer\":\"acme-ca\",\"prefix\":\"B\",\"width\":2,\"first\":7,\"quantity\":3,\"macs\":0}",
         "200 OK",
         "{\"first\":7,\"issuer\":\"acme-ca\",\"mac\":null,\"macs\":0,\"name\":\"o2\",\"next\":\"B07\",\"prefix\":\"B\",\"quantity\":3,\"width\":2}",
     )?;
-    assert_eq!(rt; count_orders(keep)?, 2);
+    assert_eq!(rt; count_orders(keep, "acme")?, 2);
     Ok(())
 }
 
@@ -55,7 +59,7 @@ pub fn refuses_numbers<K: Keep>(rt: &(impl Abort + AllocGlobal), keep: &mut K) -
 /// the first: no refusal took a number.
 pub fn refuses_orders<K: Keep>(rt: &(impl Abort + AllocGlobal), keep: &mut K) -> Result<(), Fail> {
     let alloc = rt.alloc();
-    let once = order_request(alloc, ORDER)?;
+    let once = order_request(alloc, A1, ORDER)?;
     expect(rt, keep, once.as_str(), ORDER_REPLY)?;
     let refused: [(&str, &str, &str); 9] = [
         // 998, 999, 1000: the numbers overlap too.
@@ -75,7 +79,7 @@ pub fn refuses_orders<K: Keep>(rt: &(impl Abort + AllocGlobal), keep: &mut K) ->
             "{\"error\":\"bad_serial\",\"no\":30}",
         ),
         (
-            "{\"nr\":2,\"name\":\"o2\",\"issuer\":\"acme-ca\",\"prefix\":\"A\",\"width\":3,\"first\":997,\"quantity\":2,\"macs\":1}",
+            "{\"nr\":2,\"name\":\"o2\",\"issuer\":\"acme-ca\",\"prefix\":\"A\",\"width\":3,\"first\":997,\"quantity\":2,\"macs\":4}",
             "409 Conflict",
             "{\"error\":\"no_mac_room\",\"no\":33}",
         ),
@@ -102,11 +106,12 @@ pub fn refuses_orders<K: Keep>(rt: &(impl Abort + AllocGlobal), keep: &mut K) ->
         ("{", "400 Bad Request", "{\"error\":\"bad_json\",\"no\":9}"),
     ];
     for (body, status, answer) in refused {
-        expect_order(rt, keep, body, status, answer)?;
+        expect_order(rt, keep, A1, body, status, answer)?;
     }
     expect_order(
         rt,
         keep,
+        A1,
         "{\"nr\":2,\"name\":\"o2\",\"issuer\":\"acme-ca\",\"prefix\":\"A\",\"width\":3,\"first\":997,\"quantity\":1,\"macs\":0}",
         "200 OK",
         "{\"first\":997,\"issuer\":\"acme-ca\",\"mac\":null,\"macs\":0,\"name\":\"o2\",\"next\":\"A997\",\"prefix\":\"A\",\"quantity\":1,\"width\":3}",
@@ -116,9 +121,9 @@ pub fn refuses_orders<K: Keep>(rt: &(impl Abort + AllocGlobal), keep: &mut K) ->
 /// An order is shown as its reply was, and one that isn't there is refused.
 pub fn shows_orders<K: Keep>(rt: &(impl Abort + AllocGlobal), keep: &mut K) -> Result<(), Fail> {
     let alloc = rt.alloc();
-    let once = order_request(alloc, ORDER)?;
+    let once = order_request(alloc, A1, ORDER)?;
     expect(rt, keep, once.as_str(), ORDER_REPLY)?;
-    let show = request(alloc, "GET", "/v1/order?name=o1", "")?;
+    let show = request(alloc, A1, "GET", "/v1/order?name=o1", "")?;
     expect(rt, keep, show.as_str(), ORDER_REPLY)?;
     let refused: [(&str, &str, &str); 4] = [
         (
@@ -143,9 +148,8 @@ pub fn shows_orders<K: Keep>(rt: &(impl Abort + AllocGlobal), keep: &mut K) -> R
         ),
     ];
     for (target, status, answer) in refused {
-        let stream = request(alloc, "GET", target, "")?;
-        let replies = reply(alloc, status, answer)?;
-        expect(rt, keep, stream.as_str(), replies.as_str())?;
+        let show = request(alloc, A1, "GET", target, "")?;
+        expect_reply(rt, keep, show.as_str(), status, answer)?;
     }
     Ok(())
 }

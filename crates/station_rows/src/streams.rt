@@ -1,7 +1,7 @@
 //! Streams: where they end, and what they are refused for.
 ghost use Rattle.std.specs.Prelude.{◌<◌};
 
-use crate::parts::{ORDER, ORDER_REPLY, count_orders, expect, order_request, reply, serve};
+use crate::parts::{A1, ORDER, ORDER_REPLY, count_orders, expect, order_request, reply, serve};
 use office_core::Keep;
 use station_api::Served;
 use std::process::Abort;
@@ -11,12 +11,12 @@ use std::test::Fail;
 pub fn is_cut<K: Keep>(rt: &(impl Abort + AllocGlobal), keep: &mut K) -> Result<(), Fail> {
     let alloc = rt.alloc();
     expect(rt, keep, "", "")?;
-    let once = order_request(alloc, ORDER)?;
+    let once = order_request(alloc, A1, ORDER)?;
     let cut = once.as_str().strip_suffix("}").ok_or("no body")?;
     let (served, writer) = serve(alloc, keep, cut, 4096)?;
     assert_eq!(rt; served, Served::Cut);
     assert!(rt; writer.bytes().is_empty());
-    assert_eq!(rt; count_orders(keep)?, 0);
+    assert_eq!(rt; count_orders(keep, "acme")?, 0);
     Ok(())
 }
 
@@ -25,7 +25,7 @@ pub fn limits_bodies<K: Keep>(rt: &(impl Abort + AllocGlobal), keep: &mut K) -> 
     let alloc = rt.alloc();
     let spaces = 65_536 - ORDER.len();
     let long = format!(in alloc; "{ORDER}{:spaces$}", "")?;
-    let stream = order_request(alloc, long.as_str())?;
+    let stream = order_request(alloc, A1, long.as_str())?;
     expect(rt, keep, stream.as_str(), ORDER_REPLY)?;
     let refused: [(&str, &str); 3] = [
         (
@@ -55,7 +55,7 @@ pub fn asks_for_a_token<K: Keep>(
     keep: &mut K,
 ) -> Result<(), Fail> {
     let alloc = rt.alloc();
-    let once = order_request(alloc, ORDER)?;
+    let once = order_request(alloc, A1, ORDER)?;
     let once = once.as_str();
     let stream = format!(in alloc;
         "GET /v1/none HTTP/1.1\r\nAuthorization: Bearer zzz\r\n\r\nHEAD /v1/order?name=o1 HTTP/1.1\r\nAuthorization: Bearer abc\r\n\r\n{once}"
@@ -75,8 +75,8 @@ pub fn comes_in_pieces<K: Keep>(
     requires { 0 < step }
 {
     let alloc = rt.alloc();
-    let once = order_request(alloc, ORDER)?;
-    let unknown = order_request(alloc, "[]")?;
+    let once = order_request(alloc, A1, ORDER)?;
+    let unknown = order_request(alloc, A1, "[]")?;
     let (once, unknown) = (once.as_str(), unknown.as_str());
     let stream = format!(in alloc; "{once}{unknown}{once}")?;
     let bad = reply(

@@ -1,5 +1,5 @@
 //! The examples over the keeper in memory.
-use crate::{faults, orders, streams};
+use crate::{addresses, customers, faults, orders, streams};
 use office_core::MemKeep;
 use std::test::Fail;
 
@@ -21,6 +21,29 @@ fn refuses_orders(rt: HostRuntime) -> Result<(), Fail> {
 #[test]
 fn shows_orders(rt: HostRuntime) -> Result<(), Fail> {
     orders::shows_orders(&rt, &mut MemKeep::new(rt.alloc()))
+}
+
+#[test]
+fn reserves_addresses(rt: HostRuntime) -> Result<(), Fail> {
+    addresses::reserves_addresses(&rt, &mut MemKeep::new(rt.alloc()))
+}
+
+#[test]
+fn serves_seats_in_turn(rt: HostRuntime) -> Result<(), Fail> {
+    for turns in ["aa", "bb", "aabb", "abab", "abba", "baab", "baba", "bbaa"] {
+        customers::serves_seats_in_turn(&rt, &mut MemKeep::new(rt.alloc()), turns)?;
+    }
+    Ok(())
+}
+
+#[test]
+fn refuses_the_issuer_of_another(rt: HostRuntime) -> Result<(), Fail> {
+    customers::refuses_the_issuer_of_another(&rt, &mut MemKeep::new(rt.alloc()))
+}
+
+#[test]
+fn refuses_the_manager(rt: HostRuntime) -> Result<(), Fail> {
+    customers::refuses_the_manager(&rt, &mut MemKeep::new(rt.alloc()))
 }
 
 #[test]

@@ -1,4 +1,5 @@
 pub mod BodyRead
+pub mod DocumentLists
 pub mod Lists
 pub mod Padding
 pub mod Shorts

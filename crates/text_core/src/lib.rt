@@ -3,6 +3,7 @@
 
 mod chip;
 mod digest;
+pub mod document;
 mod json;
 mod name;
 mod prefix;

@@ -1,3 +1,4 @@
+use crate::document::{self, DocumentFault};
 use crate::{
     Chip, Digest, JsonFault, LARGEST_WHOLE, Name, Prefix, Serial, Text, chip_member, digest_member,
     list_member, name_member, read_json, text_member, whole_member,
@@ -181,6 +182,66 @@ fn refuses_what_is_no_json(rt: HostRuntime) -> Result<(), Fail> {
         match read_json(rt.alloc(), body) {
             Ok(_) => assert!(rt; false),
             Err(fault) => assert_eq!(rt; fault, JsonFault::NotJson),
+        }
+    }
+    Ok(())
+}
+
+#[test]
+fn reads_members_of_documents(rt: HostRuntime) -> Result<(), Fail> {
+    let alloc = rt.alloc();
+    let text = format!(in alloc;
+        "n = 7\nzero = 0\nless = -1\nreal = 7.0\nlargest = 9223372036854775807\nname = \"o1\"\nempty = []\nlist = [1, 2]\ndigest = \"{ABC}\"\n[[table]]\nn = 8\n"
+    )?;
+    let value = document::read_document(alloc, text.as_str())?;
+    for (name, least, greatest, wanted) in [
+        ("n", 7, 7, Some(7)),
+        ("n", 8, 9, None),
+        ("n", 0, 6, None),
+        ("zero", 0, 1, Some(0)),
+        ("zero", 1, 2, None),
+        ("less", 0, u64::MAX, None),
+        ("real", 0, u64::MAX, None),
+        ("largest", 0, u64::MAX, Some(9223372036854775807)),
+        ("name", 0, u64::MAX, None),
+        ("nothing", 0, u64::MAX, None),
+    ] {
+        let found = document::whole_member(&value, name, least, greatest);
+        assert_eq!(rt; found, wanted, "{name} {least}");
+    }
+    assert_eq!(rt; document::text_member(&value, "name"), Some("o1"));
+    assert_eq!(rt; document::text_member(&value, "n"), None);
+    assert_eq!(rt; document::name_member(&value, "name"), Name::parse("o1"));
+    assert!(rt; document::name_member(&value, "nothing").is_none());
+    assert_eq!(rt;
+        document::digest_member(&value, "digest"),
+        Some(Digest::of(b"abc"))
+    );
+    assert!(rt; document::digest_member(&value, "name").is_none());
+    for (name, items, optional) in [
+        ("list", Some(2), Some(2)),
+        ("empty", Some(0), Some(0)),
+        ("table", Some(1), Some(1)),
+        ("n", None, None),
+        ("nothing", None, Some(0)),
+    ] {
+        let found = document::items_member(&value, name).map(<[toml::Value]>::len);
+        assert_eq!(rt; found, items, "{name}");
+        let found = document::optional_items(&value, name).map(<[toml::Value]>::len);
+        assert_eq!(rt; found, optional, "{name}");
+    }
+    Ok(())
+}
+
+#[test]
+fn refuses_what_is_no_document(rt: HostRuntime) -> Result<(), Fail> {
+    for text in ["", "a = 1", "[a]\n[[b]]"] {
+        assert!(rt; document::read_document(rt.alloc(), text).is_ok(), "{text}");
+    }
+    for text in ["a", "a =", "[[a]", "a = 1\na = 2", "{}"] {
+        match document::read_document(rt.alloc(), text) {
+            Ok(_) => assert!(rt; false, "{text}"),
+            Err(fault) => assert_eq!(rt; fault, DocumentFault::NotToml),
         }
     }
     Ok(())

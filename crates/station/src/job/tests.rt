@@ -9,11 +9,8 @@ enum Outcome {
     NoMemory,
 }
 
-fn outcome_of(alloc: Global, line: &str) -> Outcome {
-    let Ok(words) = line.split_whitespace().collect::<Vec<&str>>(alloc) else {
-        return Outcome::NoMemory;
-    };
-    match read_job(alloc, words.as_slice()) {
+fn outcome_of(alloc: Global, words: &[&str]) -> Outcome {
+    match read_job(alloc, words) {
         Ok(job) => Outcome::Done(job),
         Err(WordsFault::Help(_)) => Outcome::Help,
         Err(WordsFault::Refused(_)) => Outcome::Refused,
@@ -21,10 +18,37 @@ fn outcome_of(alloc: Global, line: &str) -> Outcome {
     }
 }
 
+fn outcome_of_line(alloc: Global, line: &str) -> Outcome {
+    match line.split_whitespace().collect::<Vec<&str>>(alloc) {
+        Ok(words) => outcome_of(alloc, words.as_slice()),
+        Err(_) => Outcome::NoMemory,
+    }
+}
+
 #[test]
-fn replay_is_a_job(rt: HostRuntime) {
-    let outcome = outcome_of(rt.alloc(), "station replay");
-    assert_eq!(rt; outcome, Outcome::Done(Job::Replay));
+fn replay_is_a_job(rt: HostRuntime) -> Result<(), AllocError> {
+    let alloc = rt.alloc();
+    for (line, name) in [
+        ("station replay --site site.toml", "site.toml"),
+        ("station replay --site=../a/site.toml", "../a/site.toml"),
+        ("station replay --site=--site", "--site"),
+    ] {
+        let site = Text::copy_of(alloc, name)?;
+        let outcome = outcome_of_line(alloc, line);
+        assert_eq!(rt; outcome, Outcome::Done(Job::Replay { site }), "{line}");
+    }
+    Ok(())
+}
+
+#[test]
+fn the_name_of_the_file_stays_as_it_was_given(rt: HostRuntime) -> Result<(), AllocError> {
+    let alloc = rt.alloc();
+    for name in ["a site.toml", " ", "\u{e4}\n"] {
+        let site = Text::copy_of(alloc, name)?;
+        let outcome = outcome_of(alloc, &["station", "replay", "--site", name]);
+        assert_eq!(rt; outcome, Outcome::Done(Job::Replay { site }), "{name}");
+    }
+    Ok(())
 }
 
 #[test]
@@ -32,10 +56,11 @@ fn help_is_shown(rt: HostRuntime) {
     for line in [
         "station --help",
         "station replay --help",
+        "station replay --site site.toml --help",
         "station help",
         "station help replay",
     ] {
-        assert_eq!(rt; outcome_of(rt.alloc(), line), Outcome::Help, "{line}");
+        assert_eq!(rt; outcome_of_line(rt.alloc(), line), Outcome::Help, "{line}");
     }
 }
 
@@ -44,11 +69,21 @@ fn other_words_are_refused(rt: HostRuntime) {
     for line in [
         "",
         "station",
-        "replay",
+        "replay --site site.toml",
         "station frobnicate",
         "station help frobnicate",
-        "station replay --db x",
+        "station replay",
+        "station replay site.toml",
+        "station replay --site",
+        "station replay --site a --site b",
+        "station replay --site a b",
+        "station replay --site a --db x",
+        "station --site a replay",
     ] {
-        assert_eq!(rt; outcome_of(rt.alloc(), line), Outcome::Refused, "{line}");
+        assert_eq!(rt;
+            outcome_of_line(rt.alloc(), line),
+            Outcome::Refused,
+            "{line}"
+        );
     }
 }

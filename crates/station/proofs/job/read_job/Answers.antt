@@ -9,7 +9,7 @@ use Rattle.clap.proofs.OnLiterals.{clap_on_literals}
 use Rattle.station.specs.declared.job.Job.{Job}
 use Rattle.station.specs.declared.job.WordsFault.{WordsFault}
 use Rattle.station.specs.declared.job.WordsFault.TheVariants.{Help, Refused, NoMemory}
-use Rattle.station.specs.CommandLine.{CanGive, GivenBy, RefusesWith, job_named, job_of, station_app, texts, unless_faulty}
+use Rattle.station.specs.CommandLine.{CanGive, GivenBy, RefusesWith, job_by, job_of, station_app, texts, unless_faulty}
 use Rattle.station.proofs.job.read_job.Goals as goal
 
 simple : is_simple station_app ≡ true
@@ -55,21 +55,10 @@ refusal kinds NoMemory text none is = tt
 of_made : (P : Kinds → Type 0) (made app : App) (words : List Text) → made ≡ app → P (fault_of made words) → P (fault_of app words)
 of_made P made app words same = subst (λ (a : App). P (fault_of a words)) same
 
--- the job of a subcommand's name, by its name and its rows
-by_name : {C : Type 0} (name : C → Text) (rows : C → List Row) (o : Option C)
-    → option_and_then job_named (option_map name o)
-    ≡ option_and_then (λ (e : Text × List Row). job_named e.0) (option_map {U = Text × List Row} (λ (x : C). (name x, rows x)) o)
-by_name name rows None = refl
-by_name name rows (Some x) = refl
-
--- the same of matches
-by_name-matches : (m : ArgMatches) → option_and_then job_named (subcommand_name_of m) ≡ option_and_then (λ e. job_named e.0) (subcommand_rows_of m)
-by_name-matches m = by_name _ _ (out-ArgMatches m).subcommand
-
 -- what the words give, by what the matches of the command give
 read : (made app : App) (words : List Text) (rows : Option (Text × List Row)) (job : Option Job) → made ≡ app
-    → fault_of made words ≡ [] → rows ≡ subcommand_of made words → job ≡ option_and_then (λ e. job_named e.0) rows
-    → unless_faulty (fault_of app words) (option_and_then (λ e. job_named e.0) (subcommand_of app words)) ≡ job
+    → fault_of made words ≡ [] → rows ≡ subcommand_of made words → job ≡ option_and_then job_by rows
+    → unless_faulty (fault_of app words) (option_and_then job_by (subcommand_of app words)) ≡ job
 read made app words rows job same none found is =
     let clear : fault_of app words ≡ [] = ap (λ (a : App). fault_of a words) (sym same) ∙ none in
     let entered : subcommand_of app words ≡ rows = ap (λ (a : App). subcommand_of a words) (sym same) ∙ sym found in
@@ -93,15 +82,15 @@ pub returns-in-Some-clause-ok : goal.returns-in-Some-clause-ok
 returns-in-Some-clause-ok c =
     let made = c.in_ok-command.ensures in
     read (app_of c.in_ok-command.command) station_app (texts c.args.words) _ _ made
-    (c.in-Ok.ensures.kinds (ap is_simple_and_free made ∙ free)) (c.in-Ok.ensures.matches (ap is_simple made ∙ simple)).1
-    (c.in-Some.ensures ∙ by_name-matches _)
+    (c.in-Ok.ensures.kinds (ap is_simple_and_free made ∙ free)) (c.in-Ok.ensures.matches (ap is_simple made ∙ simple)).1 c.in_ok-job.ensures
+    ∙ c.in-Some.is
 
 pub returns-clause-err : goal.returns-clause-err
 returns-clause-err c =
     let made = c.in_ok-command.ensures in
     inr (read (app_of c.in_ok-command.command) station_app (texts c.args.words) _ _ made
-    (c.in-Ok.ensures.kinds (ap is_simple_and_free made ∙ free)) (c.in-Ok.ensures.matches (ap is_simple made ∙ simple)).1
-    (c.in-None.ensures ∙ by_name-matches _))
+    (c.in-Ok.ensures.kinds (ap is_simple_and_free made ∙ free)) (c.in-Ok.ensures.matches (ap is_simple made ∙ simple)).1 c.in_ok-job.ensures
+    ∙ c.in-None.is)
 
 pub returns-clause-fault : goal.returns-clause-fault
 returns-clause-fault c =

@@ -1,22 +1,28 @@
 use Rattle.office_commands.specs.declared.refusal.Refusal.TheVariants.{Unkept}
 use Rattle.station_api.specs.Requests.{asked}
-use Rattle.station_api.proofs.Answering.{asked_is, answers_caller, step_answers, refused_caller, or_so, unchanged}
+use Rattle.station_api.proofs.Answering.{answers_caller, asked_is, is_seat, or_so, refused_caller, step_answers, unchanged}
 use Rattle.station_api.proofs.desk.answer_caller.Goals as goal
+
+pub answer-requires : goal.answer-requires
+answer-requires g c = record {
+  caller = is_seat c.args.desk.now.site.now c.args.caller c.in-Ok.parsed c.requires.caller c.in-Ok.ensures.parsed;
+  asked = c.in-Ok.ensures.parsed.1;
+}
 
 pub returns-in-Ok : goal.returns-in-Ok
 returns-in-Ok g c = λ request framed.
     let site = c.args.desk.now.site.now in
-    let wanted = asked_is (asked request) c.in-Ok.request Unkept (c.in-Ok.ensures request framed) in
+    let wanted = asked_is (asked c.args.caller request) c.in-Ok.parsed Unkept (c.in-Ok.ensures.asked request framed) in
     record {
       was_open = c.answer.ensures.was_open;
       was_honest = c.answer.ensures.was_honest;
       answered = λ honest t stands.
           let over = c.answer.ensures.step honest t stands in
-          (over.0, answers_caller site c.args.caller request c.in-Ok.request t _ over.0 wanted over.1, over.2);
+          (over.0, answers_caller site c.args.caller request c.in-Ok.parsed t _ over.0 wanted over.1, over.3);
       crash = λ honest t left. or_so (c.answer.ensures.crash honest t left)
-          (λ made. (made.0, made.1, step_answers site c.args.caller request c.in-Ok.request _ made.1 t wanted made.2));
+          (λ made. (made.0, made.1, step_answers site c.args.caller request c.in-Ok.parsed _ made.1 t wanted made.2));
     }
 
 pub returns-in-Err : goal.returns-in-Err
 returns-in-Err g c = λ request framed.
-    unchanged _ _ _ _ _ _ _ (λ t. refused_caller c.args.desk.now.site.now c.args.caller request t _ c.in-Err.reason (c.in-Err.ensures request framed) c.refusal_reply.ensures)
+    unchanged _ _ _ _ _ _ _ (λ t. refused_caller c.args.desk.now.site.now c.args.caller request t _ c.in-Err.reason (c.in-Err.ensures.asked request framed) c.refusal_reply.ensures)

@@ -1,0 +1,6 @@
+use Rattle.std.proofs.Common.{◌≡◌, take}
+use Rattle.std.specs.List.{flat_map}
+use Rattle.site_core.proofs.judge.all_pools.Given as goal
+
+abbrev pub invariant-loop-customer : goal.invariant-loop-customer
+invariant-loop-customer l = l.pools.items ≡ flat_map (λ s. s.pools) (take l.customer-index l.customers)

@@ -1,0 +1,9 @@
+use Rattle.std.proofs.Common.{◌∙◌}
+use Rattle.std.proofs.lemmas.Result.{IfOk-weaker}
+use Rattle.std.proofs.lemmas.Map.Text.{is_eq-slice_cmp}
+use Rattle.site_core.proofs.Pairs.{has_pair-alike}
+use Rattle.site_core.proofs.judge.digest_comes_twice.Goals as goal
+
+pub returns : goal.returns
+returns c =
+    IfOk-weaker c.comes_twice.result _ _ (λ found known. known ∙ has_pair-alike _ _ is_eq-slice_cmp c.args.digests.now) c.comes_twice.ensures

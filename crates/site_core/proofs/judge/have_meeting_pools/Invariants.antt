@@ -1,0 +1,7 @@
+use Rattle.std.proofs.Common.{◌≡◌, drop}
+use Rattle.site_core.specs.Site.{pools_meet}
+use Rattle.site_core.specs.SiteFaults.{has_pair}
+use Rattle.site_core.proofs.judge.have_meeting_pools.Given as goal
+
+abbrev pub invariant-loop-index : goal.invariant-loop-index
+invariant-loop-index l = has_pair pools_meet l.pools ≡ has_pair pools_meet (drop l.index l.pools)

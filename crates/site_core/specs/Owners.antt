@@ -1,0 +1,41 @@
+-- Whose an issuer, a seat and a hardware address are.
+use Rattle.std.specs.Prelude.{◌≡◌, false, ℕ, List, [], find, Option, Some, None, option_map, Bool, bytes_eq, Any}
+use Rattle.std.specs.List.{list_any, AllByRecursion}
+use Rattle.id_ranges.specs.Pool.{Pool}
+use Rattle.id_ranges.specs.Blocks.{IsWithin, IsApart}
+use Rattle.site_core.specs.Section.{Section, SiteValue}
+
+-- the customer of an issuer, the customer of a seat, and a customer's pools
+pub record Owners : Type 0 where
+  pub issuer : List ℕ → Option (List ℕ)
+  pub seat : List ℕ → Option (List ℕ)
+  pub pools : List ℕ → List Pool
+
+abbrev pub has_issuer : List ℕ → Section → Bool
+has_issuer issuer s = list_any (bytes_eq issuer) s.issuers
+
+abbrev pub has_seat : List ℕ → Section → Bool
+has_seat seat s = list_any (λ own. bytes_eq seat own.name) s.seats
+
+abbrev pub pools_in : Option Section → List Pool
+pools_in None = []
+pools_in (Some s) = s.pools
+
+-- by a site
+abbrev pub owners_of : SiteValue → Owners
+owners_of site = record {
+  issuer = λ issuer. option_map (λ s. s.name) (find (has_issuer issuer) site.customers);
+  seat = λ seat. option_map (λ s. s.name) (find (has_seat seat) site.customers);
+  pools = λ customer. pools_in (find (λ s. bytes_eq customer s.name) site.customers);
+}
+
+-- the issuers, the seats and the pools of a section are its customer's
+pub record IsSection (owners : Owners) (s : Section) : Type 0 where
+  pub issuers : AllByRecursion (λ issuer. owners.issuer issuer ≡ Some s.name) s.issuers
+  pub seats : AllByRecursion (λ seat. owners.seat seat.name ≡ Some s.name) s.seats
+  pub pools : owners.pools s.name ≡ s.pools
+
+-- no address lies within pools of two customers
+abbrev pub AreApart : Owners → Type 0
+AreApart owners = (one other : List ℕ) → bytes_eq one other ≡ false → (a b : ℕ × ℕ)
+    → Any (IsWithin a) (owners.pools one) → Any (IsWithin b) (owners.pools other) → IsApart a b

@@ -1,0 +1,52 @@
+-- The faults of a site's text.
+use Rattle.std.specs.Prelude.{ℕ, Bool, false, not, ◌||◌, List, [], ◌∷◌, Result, Ok, Err, bytes_eq, if◌then◌else◌}
+use Rattle.std.specs.List.{flat_map, list_any}
+use Rattle.id_ranges.specs.Pool.{Pool, is_pool}
+use Rattle.text_core.specs.declared.document.DocumentFault.{DocumentFault}
+use Rattle.text_core.specs.declared.document.DocumentFault.TheVariants as document
+use Rattle.site_core.specs.Section.{Section, SiteValue, names_of, issuers_of, pools_of, seat_names_of, tokens_of}
+use Rattle.site_core.specs.Site.{pools_meet, is_over_limit}
+use Rattle.site_core.specs.declared.fault.SiteFault.{SiteFault}
+use Rattle.site_core.specs.declared.fault.SiteFault.TheVariants.{NotToml, BadMember, Repeated, PoolsMeet, BadPool, OverLimit, OutOfMemory}
+
+-- the number of a fault
+abbrev pub fault_number : SiteFault → ℕ
+fault_number NotToml = 1
+fault_number BadMember = 2
+fault_number Repeated = 3
+fault_number PoolsMeet = 4
+fault_number BadPool = 5
+fault_number OverLimit = 6
+fault_number OutOfMemory = 7
+
+-- the fault of a text that has no document
+abbrev pub fault_of_document : DocumentFault → SiteFault
+fault_of_document document.NotToml = NotToml
+fault_of_document document.OutOfMemory = OutOfMemory
+
+-- an element goes with one after it
+abbrev pub has_pair : {A : Type 0} → (A → A → Bool) → List A → Bool
+has_pair goes_with [] = false
+has_pair goes_with (x ∷ xs) = list_any (goes_with x) xs || has_pair goes_with xs
+
+-- a customer, an issuer, a seat or a token comes twice
+abbrev pub has_repeat : SiteValue → Bool
+has_repeat site =
+    has_pair bytes_eq (names_of site) || has_pair bytes_eq (issuers_of site) || has_pair bytes_eq (seat_names_of site) || has_pair bytes_eq (tokens_of site)
+
+-- the pool has a group address, or one of more than 48 bits
+abbrev pub is_bad_pool : Pool → Bool
+is_bad_pool p = not (is_pool p.first p.count)
+
+-- a customer has such a pool
+abbrev pub has_bad_pool : List Section → Bool
+has_bad_pool customers = list_any is_bad_pool (flat_map (λ s. s.pools) customers)
+
+-- the site, or the lowest fault of how its parts fit together
+abbrev pub judged : SiteValue → Result SiteValue SiteFault
+judged site =
+    if has_repeat site then Err Repeated
+    else if has_pair pools_meet (pools_of site) then Err PoolsMeet
+    else if has_bad_pool site.customers then Err BadPool
+    else if is_over_limit site then Err OverLimit
+    else Ok site

@@ -1,0 +1,80 @@
+-- The site that a text is.
+use Rattle.std.specs.Prelude.{◌≡◌, ℕ, ◌≤◌, nat_lt, List, length, codes, Option, Some, None, option_and_then, option_map, Result, Err, if◌then◌else◌}
+use Rattle.std.specs.Option.{ok_or}
+use Rattle.toml.specs.Data.{Data, get, as_str}
+use Rattle.id_ranges.specs.Mac.{mac_of_text}
+use Rattle.id_ranges.specs.Pool.{Pool}
+use Rattle.id_ranges.specs.declared.pool.TheConstants.{LARGEST_POOL}
+use Rattle.text_core.specs.Answer.{result_and_then}
+use Rattle.text_core.specs.Documents.{document_of, whole_member, text_member, name_member, digest_member, items_member, optional_items}
+use Rattle.text_core.specs.Name.{name_of_text}
+use Rattle.text_core.specs.Options.{◌>>=◌, all_of}
+use Rattle.site_core.specs.Section.{SeatOf, Section, SiteValue}
+use Rattle.site_core.specs.Site.{IsSite}
+use Rattle.site_core.specs.SiteFaults.{judged}
+use Rattle.site_core.specs.declared.fault.SiteFault.{SiteFault}
+use Rattle.site_core.specs.declared.fault.SiteFault.TheVariants.{NotToml, BadMember, OverLimit}
+use Rattle.site_core.specs.declared.text.TheConstants.{TEXT_LIMIT}
+
+-- a value that is a name
+abbrev pub name_in : Data → Option (List ℕ)
+name_in d = option_and_then name_of_text (as_str d)
+
+-- a member that is a hardware address
+abbrev pub mac_member : List ℕ → Data → Option ℕ
+mac_member name d = option_and_then mac_of_text (text_member name d)
+
+-- a pool, whatever its addresses
+unfoldable pub pool_in : Data → Option Pool
+pool_in d = do
+  first ← mac_member (codes "first") d
+  count ← whole_member (codes "count") 1 LARGEST_POOL d
+  Some (record { first = first; count = count })
+
+-- a seat
+unfoldable pub seat_in : Data → Option SeatOf
+seat_in d = do
+  name ← name_member (codes "name") d
+  token ← digest_member (codes "token") d
+  Some (record { name = name; token = token })
+
+-- a customer
+unfoldable pub customer_in : Data → Option Section
+customer_in d = do
+  name ← name_member (codes "name") d
+  issuer_items ← items_member (codes "issuer") d
+  issuers ← all_of name_in issuer_items
+  pool_items ← optional_items (codes "pool") d
+  pools ← all_of pool_in pool_items
+  seat_items ← optional_items (codes "seat") d
+  seats ← all_of seat_in seat_items
+  Some (record { name = name; issuers = issuers; pools = pools; seats = seats })
+
+-- the digest of a manager's token, where there is a manager
+abbrev pub token_of : Option Data → Option (Option (List ℕ))
+token_of None = Some None
+token_of (Some d) = option_map Some (digest_member (codes "token") d)
+
+-- the digest of the manager's token, where the document names one
+abbrev pub manager_in : Data → Option (Option (List ℕ))
+manager_in d = token_of (get (codes "manager") d)
+
+-- the site of a document whose named members are of their types and ranges
+unfoldable pub site_of : Data → Option SiteValue
+site_of d = do
+  items ← items_member (codes "customer") d
+  customers ← all_of customer_in items
+  manager ← manager_in d
+  Some (record { customers = customers; manager = manager })
+
+-- the text is a TOML document of at most so many bytes whose named members are the site's, and the site is one
+pub record IsSiteText (text : List ℕ) (site : SiteValue) : Type 0 where
+  pub within : length text ≤ TEXT_LIMIT
+  pub members : (document_of text >>= site_of) ≡ Some site
+  pub is_site : IsSite site
+
+-- the site that a text is, or its lowest fault
+abbrev pub site_read : List ℕ → Result SiteValue SiteFault
+site_read text =
+    if nat_lt TEXT_LIMIT (length text) then Err OverLimit
+    else result_and_then (λ d. result_and_then judged (ok_or (site_of d) BadMember)) (ok_or (document_of text) NotToml)
