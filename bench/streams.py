@@ -1,9 +1,9 @@
 #!/usr/bin/env python3
 """Streams of order requests for the program `station`, and what it takes to answer them.
 
-    streams.py --stream N                     writes a stream of N orders to standard output
-    streams.py --cmd 'station replay'         runs the command on streams, and prints a line for each
-    streams.py --cmd 'station replay' --slow  runs it on the longest request, a byte a write
+    streams.py --stream N                              writes a stream of N orders to standard output
+    streams.py --cmd 'station replay --site F'         runs the command on streams, and prints a line for each
+    streams.py --cmd 'station replay --site F' --slow  runs it on the longest request, a byte a write
 
 Python 3.11, standard library alone, on Linux.
 """
