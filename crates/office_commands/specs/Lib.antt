@@ -1,3 +1,4 @@
+pub mod NewOrders
 pub mod Asked
 pub mod Refusals
 pub mod Replies

@@ -3,7 +3,7 @@ use Rattle.std.specs.Prelude.{ℕ, List, ◌++◌, codes, decimal}
 use Rattle.http_replies.specs.declared.Status.{Status}
 use Rattle.http_replies.specs.declared.Status.TheVariants.{BadRequest, Unauthorized, Forbidden, NotFound, Conflict, Unprocessable, Unavailable}
 use Rattle.office_commands.specs.declared.refusal.Refusal.{Refusal}
-use Rattle.office_commands.specs.declared.refusal.Refusal.TheVariants.{UnknownToken, UnknownPath, WrongCaller, BadJson, BadMember, WrongNumber, OtherBody, UnknownOrder, Exists, BadSerial, NumberTooWide, NoMacRoom, RangeOverlap, ForeignIssuer, Limit, Unkept}
+use Rattle.office_commands.specs.declared.refusal.Refusal.TheVariants.{UnknownToken, UnknownPath, WrongCaller, BadJson, BadMember, WrongNumber, OtherBody, UnknownOrder, Exists, BadMap, BadSerial, NumberTooWide, NoMacRoom, RangeOverlap, ForeignIssuer, MapDigestTaken, Limit, Unkept}
 
 abbrev pub refusal_status : Refusal → Status
 refusal_status UnknownToken = Unauthorized
@@ -15,11 +15,13 @@ refusal_status (WrongNumber expected) = Conflict
 refusal_status OtherBody = Conflict
 refusal_status UnknownOrder = NotFound
 refusal_status Exists = Conflict
+refusal_status (BadMap fault) = Unprocessable
 refusal_status BadSerial = Unprocessable
 refusal_status NumberTooWide = Unprocessable
 refusal_status NoMacRoom = Conflict
 refusal_status RangeOverlap = Conflict
 refusal_status ForeignIssuer = Unprocessable
+refusal_status MapDigestTaken = Conflict
 refusal_status Limit = Conflict
 refusal_status Unkept = Unavailable
 
@@ -33,10 +35,12 @@ refusal_body (WrongNumber expected) = codes "{\"error\":\"wrong_number\",\"expec
 refusal_body OtherBody = codes "{\"error\":\"other_body\",\"no\":12}"
 refusal_body UnknownOrder = codes "{\"error\":\"unknown_order\",\"no\":14}"
 refusal_body Exists = codes "{\"error\":\"exists\",\"no\":16}"
+refusal_body (BadMap fault) = codes "{\"error\":\"bad_map\",\"fault\":" ++ (decimal fault ++ codes ",\"no\":29}")
 refusal_body BadSerial = codes "{\"error\":\"bad_serial\",\"no\":30}"
 refusal_body NumberTooWide = codes "{\"error\":\"number_too_wide\",\"no\":31}"
 refusal_body NoMacRoom = codes "{\"error\":\"no_mac_room\",\"no\":33}"
 refusal_body RangeOverlap = codes "{\"error\":\"range_overlap\",\"no\":34}"
 refusal_body ForeignIssuer = codes "{\"error\":\"foreign_issuer\",\"no\":37}"
+refusal_body MapDigestTaken = codes "{\"error\":\"map_digest_taken\",\"no\":39}"
 refusal_body Limit = codes "{\"error\":\"limit\",\"no\":40}"
 refusal_body Unkept = codes "{\"error\":\"unkept\",\"no\":50}"

@@ -2,6 +2,7 @@
 use Rattle.std.specs.Prelude.{ℕ, List, [], ◌∷◌, codes, Option, Some, None}
 use Rattle.serde_json.specs.Data.{Data, null, number, unsigned, string, object, Members, no_members, member}
 use Rattle.serde_json.specs.Written.{compact_text}
+use Rattle.hex.specs.Hex.{encode_lower}
 use Rattle.http_replies.specs.Replies.{Answer}
 use Rattle.http_replies.specs.declared.Status.TheVariants.{Success}
 use Rattle.http_replies.specs.declared.Kind.TheVariants.{Json}
@@ -49,3 +50,11 @@ order_data o next = object (members_of (
 -- the text of that
 unfoldable pub order_body : Order → Option (List ℕ) → List ℕ
 order_body o next = compact_text (order_data o next)
+
+-- a fuse map, by the digest of its text
+abbrev pub map_data : List ℕ → Data
+map_data digest = object (members_of ((codes "map", string (encode_lower digest)) ∷ []))
+
+-- the text of that
+unfoldable pub map_body : List ℕ → List ℕ
+map_body digest = compact_text (map_data digest)

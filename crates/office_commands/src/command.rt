@@ -1,30 +1,16 @@
 // What a seat can ask for.
+ghost use Rattle.office_commands.specs.Asked.{IsAsked};
 
+use crate::AskedOrder;
 use text_core::{Digest, Name, Text};
-
-/// An order that is asked for. What its members may be beyond their types is judged.
-#[derive(Debug, Drop)]
-pub struct NewOrder {
-    pub name: Name,
-    /// The issuer of the serial numbers.
-    pub issuer: Name,
-    /// What each serial number begins with, as it was read.
-    pub prefix: Text,
-    /// The digits of a number: 1 to 9.
-    pub width: u8,
-    /// The first number: at most 9007199254740991.
-    pub first: u64,
-    /// How many devices: 1 to 9007199254740991.
-    pub quantity: u64,
-    /// The addresses of one device: 0 to 4.
-    pub macs: u8,
-}
 
 /// A command that writes.
 #[derive(Debug, Drop)]
 pub enum Change {
     /// Makes an order.
-    MakeOrder(NewOrder),
+    MakeOrder(AskedOrder),
+    /// Imports a fuse map by its text.
+    ImportMap(Text),
 }
 
 /// A command that shows something and writes nothing.
@@ -49,4 +35,15 @@ pub struct Request {
     /// What a repeated request is known by.
     pub digest: Digest,
     pub command: Command,
+}
+
+impl Request {
+    /// The numbers of what is asked for are within their ranges.
+    pub fn ranges(&self)
+        ensures { IsAsked self.now }
+    {
+        if let Command::Change(Change::MakeOrder(order)) = &self.command {
+            let _order = order.order();
+        }
+    }
 }

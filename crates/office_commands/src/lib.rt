@@ -2,9 +2,11 @@
 #![tactic(auto)]
 
 mod command;
+mod new_order;
 mod refusal;
 mod reply;
 
-pub use command::{Change, Command, NewOrder, Request, Show};
+pub use command::{Change, Command, Request, Show};
+pub use new_order::{AskedOrder, NewOrder};
 pub use refusal::Refusal;
-pub use reply::{accepted, order_body, refused, unavailable, unknown_token};
+pub use reply::{accepted, map_body, order_body, refused, unavailable, unknown_token};

@@ -36,6 +36,9 @@ pub enum Refusal {
     /// The customer has a row of that name (16).
     #[error("the name is taken")]
     Exists,
+    /// The text is no fuse map, and the number of its fault, 1 to 8 (29).
+    #[error("the text is no fuse map, by its fault {0}")]
+    BadMap(u8),
     /// A prefix or a serial number is not of its form (30).
     #[error("a serial number is not of its form")]
     BadSerial,
@@ -51,6 +54,9 @@ pub enum Refusal {
     /// The issuer isn't among the customer's (37).
     #[error("the issuer is not among the customer's")]
     ForeignIssuer,
+    /// Another text of the customer's has the digest of this one (39).
+    #[error("another map of the customer's has the digest")]
+    MapDigestTaken,
     /// The customer has as many as can be, or asks for more than can be (40).
     #[error("a limit is reached")]
     Limit,
@@ -74,10 +80,12 @@ impl Refusal {
             | Refusal::Exists
             | Refusal::NoMacRoom
             | Refusal::RangeOverlap
+            | Refusal::MapDigestTaken
             | Refusal::Limit => Status::Conflict,
-            Refusal::BadSerial | Refusal::NumberTooWide | Refusal::ForeignIssuer => {
-                Status::Unprocessable
-            }
+            Refusal::BadMap(_)
+            | Refusal::BadSerial
+            | Refusal::NumberTooWide
+            | Refusal::ForeignIssuer => Status::Unprocessable,
             Refusal::Unkept => Status::Unavailable,
         }
     }

@@ -4,7 +4,7 @@ ghost use Rattle.serde_json.specs.View.{view};
 ghost use Rattle.http_replies.specs.Replies.{answer_of, bytes_of, kind_of};
 ghost use Rattle.http_replies.specs.declared.Kind.{Kind};
 ghost use Rattle.office_commands.specs.Refusals.{refusal_body};
-ghost use Rattle.office_commands.specs.Replies.{acceptance, refusal, text_data, mac_data, order_data};
+ghost use Rattle.office_commands.specs.Replies.{acceptance, refusal, text_data, mac_data, order_data, map_data};
 ghost use Rattle.office_commands.specs.Replies as replies;
 
 use crate::Refusal;
@@ -13,6 +13,7 @@ use id_ranges::Mac;
 use office_tables::Order;
 use serde_json::{Value, json};
 use std::alloc::{AllocError, Global};
+use text_core::Digest;
 
 /// The reply to an accepted request: status 200 with a JSON text.
 pub fn accepted(body: String) -> Reply
@@ -46,7 +47,7 @@ pub fn unknown_token() -> Reply
     }
 }
 
-/// The reply to a refused request. Only the one that names a number takes memory.
+/// The reply to a refused request. Only those that name a number take memory.
 pub fn refused(alloc: Global, reason: Refusal) -> Result<Reply, AllocError>
     ensures { IfOk result (λ reply. answer_of reply ≡ refusal reason) }
 {
@@ -74,11 +75,17 @@ fn refusal_text(alloc: Global, reason: Refusal) -> Result<Body, AllocError>
         Refusal::OtherBody => "{\"error\":\"other_body\",\"no\":12}",
         Refusal::UnknownOrder => "{\"error\":\"unknown_order\",\"no\":14}",
         Refusal::Exists => "{\"error\":\"exists\",\"no\":16}",
+        Refusal::BadMap(fault) => {
+            return Ok(Body::Json(format!(in alloc;
+                "{{\"error\":\"bad_map\",\"fault\":{fault},\"no\":29}}"
+            )?));
+        }
         Refusal::BadSerial => "{\"error\":\"bad_serial\",\"no\":30}",
         Refusal::NumberTooWide => "{\"error\":\"number_too_wide\",\"no\":31}",
         Refusal::NoMacRoom => "{\"error\":\"no_mac_room\",\"no\":33}",
         Refusal::RangeOverlap => "{\"error\":\"range_overlap\",\"no\":34}",
         Refusal::ForeignIssuer => "{\"error\":\"foreign_issuer\",\"no\":37}",
+        Refusal::MapDigestTaken => "{\"error\":\"map_digest_taken\",\"no\":39}",
         Refusal::Limit => "{\"error\":\"limit\",\"no\":40}",
         Refusal::Unkept => "{\"error\":\"unkept\",\"no\":50}",
     }))
@@ -126,4 +133,19 @@ pub fn order_body(alloc: Global, order: &Order, next: Option<&str>) -> Result<St
     ensures { IfOk result (λ body. string_bytes body ≡ replies.order_body order.now (option_map (λ t. t.now) next.entry)) }
 {
     order_value(alloc, order, next)?.to_string(alloc)
+}
+
+fn map_value(alloc: Global, digest: &Digest) -> Result<Value, AllocError>
+    ensures { IfOk result (λ v. view v ≡ map_data digest.now) }
+{
+    let text = digest.to_string(alloc)?;
+    json!(in alloc; { "map": text.as_str() })
+}
+
+/// The body that names a fuse map by the digest of its text, in lower case.
+#[tactic(auto, unfolding(crate::specs::Replies::map_body))]
+pub fn map_body(alloc: Global, digest: &Digest) -> Result<String, AllocError>
+    ensures { IfOk result (λ body. string_bytes body ≡ replies.map_body digest.now) }
+{
+    map_value(alloc, digest)?.to_string(alloc)
 }

@@ -1,18 +1,19 @@
 -- A step acts on the customer's view as the customer's own machine does, leaves each other view, and keeps the tables sound.
-use Rattle.std.proofs.Common.{◌≡◌, ℕ, Bool, true, false, cond, List, [], ◌∷◌, map, Option, Some, None, Ordering, Less, Equal, Greater, refl, sym, ap, ◌∙◌, subst}
+use Rattle.std.proofs.Common.{◌≡◌, ℕ, Bool, true, false, cond, List, [], ◌∷◌, ◌++◌, map, Option, Some, None, Equal, refl, sym, ap, ◌∙◌, subst}
 use Rattle.std.specs.Prelude.{◌||◌, MatchOption}
 use Rattle.std.specs.List.{AllByRecursion, list_any}
 use Rattle.std.specs.Option.{option_map}
-use Rattle.std.specs.Ordering.{match_ordering, ordering_then, is_eq}
-use Rattle.std.specs.Cmp.Lexicographic.{texts_ties}
 use Rattle.std.specs.Str.{bytes_eq}
+use Rattle.sha2.specs.Sha256.{sha256}
 use Rattle.http_replies.specs.Replies.{Answer}
 use Rattle.site_core.specs.Section.{Section}
 use Rattle.site_core.specs.Owners.{AreApart, IsSection, Owners}
 use Rattle.office_tables.specs.declared.rows.Owned.{Owned}
 use Rattle.office_tables.specs.declared.rows.Seat.{Seat}
+use Rattle.office_tables.specs.declared.rows.Link.{Link}
+use Rattle.office_tables.specs.declared.rows.MapRow.{MapRow}
 use Rattle.office_tables.specs.declared.rows.Order.{Order}
-use Rattle.office_tables.specs.Tables.{Tables, is_of, own, placed, text_cmp, seat_cmp, order_cmp, order_at, with_seat, with_order}
+use Rattle.office_tables.specs.Tables.{Tables, is_of, link_at, map_at, map_with, own, placed, seat_cmp, order_cmp, order_at, with_link, with_map, with_seat, with_order}
 use Rattle.std.proofs.lemmas.Bool.{not-false}
 use Rattle.office_tables.proofs.Placing.{all_map, all_placed, placed_in_order, placed_other, placed_own}
 use Rattle.office_commands.specs.Asked.{IsAsked, IsChange, IsCommand}
@@ -20,38 +21,25 @@ use Rattle.office_commands.specs.declared.command.Request.{Request}
 use Rattle.office_commands.specs.declared.command.Command.{Command}
 use Rattle.office_commands.specs.declared.command.Command.TheVariants.{Change as Changing, Show}
 use Rattle.office_commands.specs.declared.command.Change.{Change}
-use Rattle.office_commands.specs.declared.command.Change.TheVariants.{MakeOrder}
+use Rattle.office_commands.specs.declared.command.Change.TheVariants.{MakeOrder, ImportMap}
 use Rattle.office_commands.specs.declared.command.Show.TheVariants.{Order as ShowOrder}
 use Rattle.office_commands.specs.declared.refusal.Refusal.{Refusal}
-use Rattle.office_commands.specs.Replies.{acceptance, refusal, order_body}
+use Rattle.office_commands.specs.Replies.{acceptance, refusal, order_body, map_body}
 use Rattle.office_judges.specs.Rules.{lowest}
 use Rattle.office_judges.specs.Orders.{next_of, shown_order, wanted_by}
+use Rattle.office_judges.specs.MapFaults.{map_fault}
+use Rattle.office_judges.specs.Maps.{Imports, Links, bad_map}
 use Rattle.office_judges.specs.Judging.{refusals, Changes}
 use Rattle.office_core.specs.Office.{settled, Turn, Repeats, Differs, Next, Skips, turn, turn_at, Judges, Turns, Serves, Step}
-use Rattle.office_core.specs.Solo.{State, own_seat_cmp, own_order_cmp, own_next, own_refusals, own_change, with_own_seat, own_settled, own_verdict, own_turn, own_shown_order, own_serves, solo}
-use Rattle.office_core.specs.Isolation.{at_first, view}
-use Rattle.office_core.specs.Sound.{AreDisjoint, IsInPool, IsOrder, IsSound}
+use Rattle.office_core.specs.Solo.{OwnMap, State, own_import, own_map_cmp, own_seat_cmp, own_order_cmp, own_next, own_refusals, own_change, with_own_seat, own_settled, own_verdict, own_turn, own_shown_order, own_serves, solo}
+use Rattle.office_core.specs.Isolation.{at_first, own_map, text_in, view}
+use Rattle.office_core.specs.Sound.{AreDisjoint, IsInPool, IsLinked, IsOrder, IsSound}
 use Rattle.office_core.proofs.Addresses.{each_apart_placed, wanted_apart, wanted_in_pool}
 use Rattle.office_core.proofs.Terms.{wanted_terms}
-use Rattle.office_core.proofs.Readings.{wanted_own, same_text, text_itself, seats_total, orders_total, order_agree, owner_is, seat_own, order_own, next_own, order_issuer, refusals_own}
-
--- texts of equal place are one
-same_place : (a b : List ℕ) → text_cmp a b ≡ Equal → a ≡ b
-same_place a b e = same_text a b (texts_ties a b ∙ ap is_eq e)
-
-first_equal : (a b : Ordering) → ordering_then a b ≡ Equal → a ≡ Equal
-first_equal Less b e = e
-first_equal Equal b e = refl
-first_equal Greater b e = e
-
--- a row that is taken over into another form keeps its place
-map_placed : {A : Type 0} (f : A → A) (cmp : A → A → Ordering) → ((a b : A) → cmp (f a) (f b) ≡ cmp a b) → (x : A) (ys : List A) → map f (placed cmp x ys) ≡ placed cmp (f x) (map f ys)
-map_placed f cmp same x [] = refl
-map_placed f cmp same x (y ∷ ys) = rw (same x y) (elim (cmp x y) as (λ o. map f (match_ordering o (x ∷ y ∷ ys) (x ∷ ys) (y ∷ placed cmp x ys)) ≡ match_ordering o (f x ∷ f y ∷ map f ys) (f x ∷ map f ys) (f y ∷ placed cmp (f x) (map f ys))) [
-  | Less ↦ refl
-  | Equal ↦ refl
-  | Greater ↦ ap (λ zs. f y ∷ zs) (map_placed f cmp same x ys)
-])
+use Rattle.office_core.proofs.MapLaws.{link_hidden, link_sound, link_view, map_hidden, map_sound}
+use Rattle.office_core.proofs.MapRows.{map_of_text, new_map_found}
+use Rattle.office_core.proofs.Placed.{first_equal, map_placed, same_place}
+use Rattle.office_core.proofs.Readings.{map_own, wanted_own, same_text, text_itself, seats_total, orders_total, order_agree, owner_is, seat_own, order_own, next_own, order_issuer, refusals_own}
 
 module _ {owners : Owners} {t : Tables} (sound : IsSound owners t) where
   order_sound : (c : List ℕ) (o : Order) → owners.issuer o.issuer ≡ Some c → IsOrder o → IsInPool owners (record { customer = c; row = o })
@@ -66,6 +54,11 @@ module _ {owners : Owners} {t : Tables} (sound : IsSound owners t) where
     terms = all_placed (λ o. IsOrder o.row) order_cmp _ t.orders terms sound.terms;
     in_pools = all_placed (IsInPool owners) order_cmp _ t.orders in_pool sound.in_pools;
     apart = each_apart_placed order_cmp _ t.orders apart sound.apart;
+    maps_in_order = sound.maps_in_order;
+    texts_apart = sound.texts_apart;
+    links_in_order = sound.links_in_order;
+    links = sound.links;
+    linked = sound.linked;
   }
 
   seat_sound : (c : List ℕ) (r : Seat) → owners.seat r.name ≡ Some c → IsSound owners (with_seat (record { customer = c; row = r }) t)
@@ -79,6 +72,11 @@ module _ {owners : Owners} {t : Tables} (sound : IsSound owners t) where
     terms = sound.terms;
     in_pools = sound.in_pools;
     apart = sound.apart;
+    maps_in_order = sound.maps_in_order;
+    texts_apart = sound.texts_apart;
+    links_in_order = sound.links_in_order;
+    links = sound.links;
+    linked = sound.linked;
   }
 
   -- an order whose place another has is the same customer's
@@ -95,16 +93,18 @@ module _ {owners : Owners} {t : Tables} (sound : IsSound owners t) where
   order_view c o first = λ i. record {
     seats = own c t.seats;
     given = own c t.given;
+    maps = map (own_map t) (own c t.links);
     orders = (ap (map at_first) (placed_own c order_cmp own_order_cmp orders_total (order_agree c) (record { customer = c; row = o }) (text_itself c c refl) t.orders sound.orders_in_order
         (all_map (λ y. order_cmp (record { customer = c; row = o }) y ≡ Equal → c ≡ y.customer) (λ y. order_cmp (record { customer = c; row = o }) y ≡ Equal → is_of c y ≡ true)
         (λ y f e. text_itself c y.customer (f e)) t.orders (order_place c o t.orders)))
-        ∙ (map_placed at_first own_order_cmp (λ _ _. refl) o (own c t.orders) ∙ ap (λ (x : Order). placed own_order_cmp x (map at_first (own c t.orders))) first)) i;
+        ∙ (map_placed at_first own_order_cmp own_order_cmp (λ _ _. refl) o (own c t.orders) ∙ ap (λ (x : Order). placed own_order_cmp x (map at_first (own c t.orders))) first)) i;
   }
 
   seat_view : (c : List ℕ) (r : Seat) → owners.seat r.name ≡ Some c → view c (with_seat (record { customer = c; row = r }) t) ≡ with_own_seat r (view c t)
   seat_view c r mine = λ i. record {
     orders = map at_first (own c t.orders);
     given = own c t.given;
+    maps = map (own_map t) (own c t.links);
     seats = placed_own c seat_cmp own_seat_cmp seats_total (λ _ _ _ _. refl) (record { customer = c; row = r }) (text_itself c c refl) t.seats sound.seats_in_order
         (all_map (λ y. seat_cmp (record { customer = c; row = r }) y ≡ Equal → c ≡ y.customer) (λ y. seat_cmp (record { customer = c; row = r }) y ≡ Equal → is_of c y ≡ true)
         (λ y f e. text_itself c y.customer (f e)) t.seats (seat_place c r mine)) i;
@@ -114,6 +114,7 @@ module _ {owners : Owners} {t : Tables} (sound : IsSound owners t) where
   order_hidden c d o other = λ i. record {
     seats = own d t.seats;
     given = own d t.given;
+    maps = map (own_map t) (own d t.links);
     orders = map at_first (placed_other d order_cmp (record { customer = c; row = o }) other t.orders
         (all_map (λ y. order_cmp (record { customer = c; row = o }) y ≡ Equal → c ≡ y.customer) (λ y. order_cmp (record { customer = c; row = o }) y ≡ Equal → is_of d y ≡ false)
         (λ y f e. subst (λ x. bytes_eq d x ≡ false) (f e) other) t.orders (order_place c o t.orders)) i);
@@ -123,6 +124,7 @@ module _ {owners : Owners} {t : Tables} (sound : IsSound owners t) where
   seat_hidden c d r mine other = λ i. record {
     orders = map at_first (own d t.orders);
     given = own d t.given;
+    maps = map (own_map t) (own d t.links);
     seats = placed_other d seat_cmp (record { customer = c; row = r }) other t.seats
         (all_map (λ y. seat_cmp (record { customer = c; row = r }) y ≡ Equal → c ≡ y.customer) (λ y. seat_cmp (record { customer = c; row = r }) y ≡ Equal → is_of d y ≡ false)
         (λ y f e. subst (λ x. bytes_eq d x ≡ false) (f e) other) t.seats (seat_place c r mine)) i;
@@ -175,12 +177,54 @@ module _ {owners : Owners} {t : Tables} (sound : IsSound owners t) (apart : AreA
     other = λ d ne. ap (view d) is ∙ order_hidden sound s.name d o ne;
   }
 
+  -- a link to a map that is there, or was just made
+  link_made : (text body : List ℕ) (mid mapped : Tables) (l : Link) (m : MapRow) → IsSound owners mapped → ((d : List ℕ) → view d mapped ≡ view d t)
+      → map_at l.map mapped ≡ Some m → l.digest ≡ sha256 text → text ≡ m.body → map_fault text ≡ None
+      → body ≡ map_body (sha256 text) → mid ≡ with_link (record { customer = s.name; row = l }) mapped
+      → Makes owners s.name t body mid (map_body (sha256 text), own_import (view s.name t) text None)
+  link_made text body mid mapped l m sound_mapped same there is_digest is_text no_fault shown is =
+      let row : Owned Link = record { customer = s.name; row = l } in
+      let linked : IsLinked mapped row = rw there (is_digest ∙ ap sha256 is_text, ap map_fault (sym is_text) ∙ no_fault) in
+      let named : own_map mapped l ≡ record { digest = sha256 text; text = text } =
+      λ i. record { digest = is_digest i; text = (ap text_in there ∙ sym is_text) i } in
+      let added : State → OwnMap → State = λ v m. record v { maps = placed own_map_cmp m v.maps } in
+      record {
+        sound = subst (IsSound owners) (sym is) (link_sound sound_mapped row section.customer linked);
+        own = λ i. (shown i, (ap (view s.name) is ∙ (link_view sound_mapped row ∙ (ap (λ v. added v (own_map mapped l)) (same s.name) ∙ ap (added (view s.name t)) named))) i);
+        other = λ d ne. ap (view d) is ∙ (link_hidden sound_mapped row d ne ∙ same d);
+      }
+
+  linked_made : (text body : List ℕ) (mid : Tables) (found : Option MapRow) → map_with text t ≡ found → map_fault text ≡ None → body ≡ map_body (sha256 text) → Links s t text found mid
+      → Makes owners s.name t body mid (map_body (sha256 text), own_import (view s.name t) text None)
+  linked_made text body mid (Some m) e no_fault shown is =
+      let at = map_of_text text t.maps m sound.maps_in_order e in
+      link_made text body mid t (record { digest = sha256 text; map = m.id }) m sound (λ _. refl) at.0 refl at.1 no_fault shown is
+  linked_made text body mid None e no_fault shown (id, fresh, is) =
+      link_made text body mid (with_map (record { id = id; body = text }) t) (record { digest = sha256 text; map = id }) (record { id = id; body = text })
+      (map_sound sound id text fresh e) (map_hidden sound id text fresh) (new_map_found t id text fresh) refl refl no_fault shown is
+
+  import_made : (text body : List ℕ) (mid : Tables) (link : Option (Owned Link)) → link_at s.name (sha256 text) t ≡ link → map_fault text ≡ None → body ≡ map_body (sha256 text) → Imports s t text link mid
+      → Makes owners s.name t body mid (map_body (sha256 text), own_import (view s.name t) text (option_map (λ l. own_map t l.row) link))
+  import_made text body mid None e no_fault shown change = linked_made text body mid (map_with text t) refl no_fault shown change
+  import_made text body mid (Some l) e no_fault shown is = record {
+    sound = subst (IsSound owners) (sym is) sound;
+    own = λ i. (shown i, view s.name (is i));
+    other = λ d _ i. view d (is i);
+  }
+
+  no_fault_of : (text : List ℕ) (fault : Option ℕ) (later : List (Bool × Refusal)) → map_fault text ≡ fault → lowest (bad_map fault ++ later) ≡ None → map_fault text ≡ None
+  no_fault_of text None later e free = e
+  no_fault_of text (Some fault) later e free = cc
+
   made : (change : Change) (body : List ℕ) (mid : Tables) → IsChange change → lowest (refusals s t change) ≡ None → Changes s t change body mid → Makes owners s.name t body mid (own_change s (view s.name t) change)
   made (MakeOrder o) body mid asked free change =
       let none = lowest_none (refusals s t (MakeOrder o)) free in
       let mine : owners.issuer o.issuer ≡ Some s.name = any_owner o.issuer s.issuers section.issuers (not-false _ none.1.1.1.1.1.0) in
       subst (λ (w : Order). Makes owners s.name t body mid (order_body w (own_next (view s.name t) w), (let v = view s.name t in record v { orders = placed own_order_cmp w v.orders }))) (wanted_own s t o)
       (order_made (wanted_by s t o) body mid refl mine (wanted_terms s t o asked none) (wanted_in_pool owners s section t o) (wanted_apart owners apart s section t o sound.in_pools) change.1 change.2)
+  made (ImportMap text) body mid asked free change =
+      subst (λ (found : Option OwnMap). Makes owners s.name t body mid (map_body (sha256 text), own_import (view s.name t) text found)) (map_own sound s.name (sha256 text))
+      (import_made text body mid (link_at s.name (sha256 text) t) refl (no_fault_of text (map_fault text) _ refl free) change.0 change.1)
 
   judged : (seat : List ℕ) (r : Request) (change : Change) (reply : Answer) (t2 : Tables) → IsChange change → owners.seat seat ≡ Some s.name
       → Judges s seat r t change reply t2

@@ -1,5 +1,8 @@
 mod Addresses
 mod Laws
+mod MapLaws
+mod MapRows
+mod Placed
 mod Readings
 pub mod Served
 mod Settled

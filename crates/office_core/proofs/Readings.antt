@@ -1,6 +1,6 @@
 -- What the office reads for a customer is what the customer's own machine reads.
 use Rattle.std.proofs.Common.{◌≡◌, ℕ, Bool, true, false, List, [], ◌∷◌, map, length, Option, Some, None, Equal, refl, sym, ap, ◌∙◌, subst, cond, ◌++◌, ◌*◌, ◌==◌, arith}
-use Rattle.std.specs.Prelude.{◌&&◌, ◌||◌, find, is_some}
+use Rattle.std.specs.Prelude.{◌&&◌, ◌||◌, find, is_some, nat_le, not, IsSomeAnd}
 use Rattle.std.specs.List.{AllByRecursion, list_any}
 use Rattle.std.specs.Option.{option_map}
 use Rattle.std.specs.Ordering.{ordering_then}
@@ -11,22 +11,28 @@ use Rattle.std.proofs.lemmas.List.{length-map}
 use Rattle.std.proofs.lemmas.Slice.Eq.{bytes_eq-Decides}
 use Rattle.std.proofs.lemmas.Bool.Decides.{nat_tests}
 use Rattle.std.proofs.lemmas.Cmp.{on_total, then_total, nat_list_cmp_total, tied_itself}
+use Rattle.sha2.specs.Sha256.{sha256}
 use Rattle.site_core.specs.Section.{Section}
 use Rattle.site_core.specs.Owners.{Owners}
 use Rattle.office_tables.specs.declared.rows.Owned.{Owned}
+use Rattle.office_tables.specs.declared.rows.Link.{Link}
+use Rattle.office_tables.specs.declared.rows.MapRow.{MapRow}
 use Rattle.office_tables.specs.declared.rows.Order.{Order}
-use Rattle.office_tables.specs.Tables.{Tables, is_of, text_cmp, own, seat_cmp, order_cmp, seat_at, order_at, given_at}
+use Rattle.office_tables.specs.Tables.{Tables, is_of, link_at, map_at, text_cmp, own, seat_cmp, order_cmp, seat_at, order_at, given_at}
 use Rattle.office_tables.proofs.Placing.{all_map, find_own, find_all}
 use Rattle.office_commands.specs.declared.command.Change.{Change}
-use Rattle.office_commands.specs.declared.command.Change.TheVariants.{MakeOrder}
-use Rattle.office_commands.specs.declared.command.NewOrder.{NewOrder}
+use Rattle.office_commands.specs.declared.command.Change.TheVariants.{MakeOrder, ImportMap}
+use Rattle.office_commands.specs.declared.new_order.NewOrder.{NewOrder}
 use Rattle.id_ranges.specs.Blocks.{reserved_start}
 use Rattle.office_judges.specs.Rules.{meets, next_serial, reservations, reserved_for}
 use Rattle.office_judges.specs.Orders.{is_taken, next_of, order_refusals, wanted_by}
+use Rattle.office_commands.specs.declared.refusal.Refusal.TheVariants.{Limit, MapDigestTaken}
+use Rattle.office_judges.specs.MapFaults.{map_fault}
+use Rattle.office_judges.specs.Maps.{bad_map, import_refusals, map_limit, text_is}
 use Rattle.office_judges.specs.Judging.{refusals}
-use Rattle.office_core.specs.Solo.{own_order_cmp, seat_named, order_named, has_given, own_next, own_wanted, own_order_refusals, own_refusals}
-use Rattle.office_core.specs.Isolation.{at_first, view}
-use Rattle.office_core.specs.Sound.{IsSound}
+use Rattle.office_core.specs.Solo.{own_order_cmp, map_of, own_import_refusals, seat_named, order_named, has_given, own_next, own_wanted, own_order_refusals, own_refusals}
+use Rattle.office_core.specs.Isolation.{at_first, own_map, text_in, view}
+use Rattle.office_core.specs.Sound.{IsLinked, IsSound}
 
 pub same_text : (a b : List ℕ) → bytes_eq a b ≡ true → a ≡ b
 same_text a b e = (bytes_eq-Decides a b).0 e
@@ -120,6 +126,23 @@ module _ {owners : Owners} {t : Tables} (sound : IsSound owners t) where
       let found = find_holds (λ o. owners.issuer o.row.issuer ≡ Some o.customer) _ t.orders o sound.orders e in
       found.0 ∙ ap (λ d. Some d) (sym (same_text c o.customer (and_parts _ _ found.1).0))
 
+  -- a customer's map is the one that the customer's own machine has by that digest
+  pub map_own : (c digest : List ℕ) → option_map (λ l. own_map t l.row) (link_at c digest t) ≡ map_of digest (view c t)
+  map_own c digest =
+      sym (map_map (λ l. l.row) (own_map t) (link_at c digest t))
+      ∙ (ap (option_map (own_map t)) (find_own c (λ l. bytes_eq digest l.digest) t.links) ∙ sym (find_map (own_map t) (λ m. bytes_eq digest m.digest) (own c t.links)))
+
+  import_refusals_own : (s : Section) (text : List ℕ) (link : Option (Owned Link)) → link_at s.name (sha256 text) t ≡ link
+      → import_refusals s t text link ≡ own_import_refusals (view s.name t) text (option_map (λ l. own_map t l.row) link)
+  import_refusals_own s text None e =
+      ap (λ n. (false, MapDigestTaken) ∷ (nat_le map_limit n, Limit) ∷ []) (sym (length-map (own s.name t.links) (own_map t)))
+  import_refusals_own s text (Some l) e =
+      ap (λ b. (not b, MapDigestTaken) ∷ (false, Limit) ∷ []) (same_text_in (map_at l.row.map t) (find_holds (IsLinked t) _ t.links l sound.linked e).0)
+    where
+      same_text_in : (found : Option MapRow) → IsSomeAnd found (λ m. (l.row.digest ≡ sha256 m.body) × (map_fault m.body ≡ None)) → text_is text found ≡ bytes_eq text (text_in found)
+      same_text_in None there = absurd there
+      same_text_in (Some m) there = refl
+
   pub refusals_own : (s : Section) (change : Change) → refusals s t change ≡ own_refusals s (view s.name t) change
   refusals_own s (MakeOrder o) =
       let w = wanted_by s t o in
@@ -134,3 +157,5 @@ module _ {owners : Owners} {t : Tables} (sound : IsSound owners t) where
           → length (own s.name t.orders) ≡ length (map at_first (own s.name t.orders))
           → order_refusals s t (wanted_by s t o) ≡ own_order_refusals s (view s.name t) (wanted_by s t o)
       order_refusals_own known met count = rw (known, met, count) refl
+  refusals_own s (ImportMap text) =
+      ap (λ rs. bad_map (map_fault text) ++ rs) (import_refusals_own s text (link_at s.name (sha256 text) t) refl ∙ ap (own_import_refusals (view s.name t) text) (map_own s.name (sha256 text)))

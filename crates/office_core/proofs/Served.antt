@@ -1,23 +1,26 @@
 -- A step is never answered 503.
-use Rattle.std.proofs.Common.{◌≡◌, ℕ, Bool, true, false, List, [], ◌∷◌, Option, Some, None, refl, ◌∙◌, ap, subst}
+use Rattle.std.proofs.Common.{◌≡◌, ℕ, Bool, true, false, List, [], ◌∷◌, ◌++◌, Option, Some, None, refl, ◌∙◌, ap, subst}
 use Rattle.std.specs.Prelude.{MatchOption, if◌then◌else◌}
 use Rattle.std.specs.List.{AllByRecursion}
+use Rattle.sha2.specs.Sha256.{sha256}
 use Rattle.http_replies.specs.Replies.{Answer, is_unavailable}
 use Rattle.site_core.specs.Section.{Section}
 use Rattle.office_tables.specs.declared.rows.Owned.{Owned}
 use Rattle.office_tables.specs.declared.rows.Order.{Order}
-use Rattle.office_tables.specs.Tables.{Tables, order_at, with_seat}
+use Rattle.office_tables.specs.Tables.{Tables, link_at, order_at, with_seat}
 use Rattle.office_commands.specs.declared.refusal.Refusal.{Refusal}
 use Rattle.office_commands.specs.declared.command.Request.{Request}
 use Rattle.office_commands.specs.declared.command.Command.{Command}
 use Rattle.office_commands.specs.declared.command.Command.TheVariants.{Change, Show}
 use Rattle.office_commands.specs.declared.command.Change.{Change as Changing}
-use Rattle.office_commands.specs.declared.command.Change.TheVariants.{MakeOrder}
+use Rattle.office_commands.specs.declared.command.Change.TheVariants.{MakeOrder, ImportMap}
 use Rattle.office_commands.specs.declared.command.Show.TheVariants.{Order as ShowOrder}
 use Rattle.office_commands.specs.Refusals.{refusal_status}
 use Rattle.office_commands.specs.Replies.{acceptance, refusal}
 use Rattle.office_judges.specs.Rules.{lowest}
 use Rattle.office_judges.specs.Orders.{shown_order}
+use Rattle.office_judges.specs.MapFaults.{map_fault}
+use Rattle.office_judges.specs.Maps.{bad_map, import_refusals}
 use Rattle.office_judges.specs.Judging.{refusals, Changes}
 use Rattle.office_core.specs.Office.{settled, Turn, Repeats, Differs, Next, Skips, turn_at, Judges, Turns, Serves, Step, Answers}
 
@@ -38,6 +41,11 @@ found_is_served (c ∷ cs) all reason e =
 
 all_served : (s : Section) (t : Tables) (c : Changing) → AllByRecursion (λ c. is_unavailable (refusal_status c.1) ≡ false) (refusals s t c)
 all_served s t (MakeOrder o) = (refl, (refl, (refl, (refl, (refl, (refl, (refl, tt)))))))
+all_served s t (ImportMap text) = by (map_fault text)
+  where
+    by : (fault : Option ℕ) → AllByRecursion (λ c. is_unavailable (refusal_status c.1) ≡ false) (bad_map fault ++ import_refusals s t text (link_at s.name (sha256 text) t))
+    by None = (refl, (refl, tt))
+    by (Some fault) = (refl, (refl, (refl, tt)))
 
 judges_served : (s : Section) (seat : List ℕ) (r : Request) (t : Tables) (c : Changing) (reply : Answer) (t2 : Tables) → Judges s seat r t c reply t2 → IsServed reply
 judges_served s seat r t c reply t2 =

@@ -1,19 +1,25 @@
 -- Each request has a step.
-use Rattle.std.proofs.Common.{◌≡◌, ℕ, Bool, true, false, List, Option, Some, None, refl}
-use Rattle.std.specs.Prelude.{is_some, MatchOption, if◌then◌else◌}
+use Rattle.std.proofs.Common.{◌≡◌, ◌==◌, ◌+◌, ◌≤◌, ℕ, max, Bool, true, false, List, [], ◌∷◌, Option, Some, None, refl, arith}
+use Rattle.std.specs.Prelude.{find, is_some, MatchOption, if◌then◌else◌}
+use Rattle.std.proofs.lemmas.Bool.Decides.{nat_tests}
+use Rattle.sha2.specs.Sha256.{sha256}
 use Rattle.http_replies.specs.Replies.{Answer}
 use Rattle.site_core.specs.Section.{Section}
-use Rattle.office_tables.specs.Tables.{Tables, order_at, with_seat, with_order}
+use Rattle.office_tables.specs.Tables.{Tables, has_id, link_at, map_with, order_at, with_link, with_new_map, with_seat, with_order}
+use Rattle.office_tables.specs.declared.rows.Owned.{Owned}
+use Rattle.office_tables.specs.declared.rows.Link.{Link}
+use Rattle.office_tables.specs.declared.rows.MapRow.{MapRow}
 use Rattle.office_commands.specs.declared.command.Request.{Request}
 use Rattle.office_commands.specs.declared.command.Command.{Command}
 use Rattle.office_commands.specs.declared.command.Command.TheVariants.{Change, Show}
 use Rattle.office_commands.specs.declared.command.Change.{Change as Changing}
-use Rattle.office_commands.specs.declared.command.Change.TheVariants.{MakeOrder}
+use Rattle.office_commands.specs.declared.command.Change.TheVariants.{MakeOrder, ImportMap}
 use Rattle.office_commands.specs.declared.refusal.Refusal.{Refusal}
 use Rattle.office_commands.specs.declared.refusal.Refusal.TheVariants.{WrongNumber, OtherBody}
-use Rattle.office_commands.specs.Replies.{acceptance, refusal, order_body}
+use Rattle.office_commands.specs.Replies.{acceptance, refusal, order_body, map_body}
 use Rattle.office_judges.specs.Rules.{lowest}
 use Rattle.office_judges.specs.Orders.{next_of, wanted_by}
+use Rattle.office_judges.specs.Maps.{Imports, Links}
 use Rattle.office_judges.specs.Judging.{refusals, Changes}
 use Rattle.office_core.specs.Office.{settled, Turn, Repeats, Differs, Next, Skips, turn_at, shown, Judges, Turns, Serves, Step}
 
@@ -25,6 +31,29 @@ first_is_false : (b : Bool) (first : Refusal) (later : Option Refusal) → (if b
 first_is_false true first later e = cc
 first_is_false false first later e = refl
 
+-- a number above that of each map
+abbrev above : List MapRow → ℕ
+above [] = 0
+above (m ∷ ms) = max (m.id + 1) (above ms)
+
+above_is_free : (ms : List MapRow) (id : ℕ) → above ms ≤ id → find (has_id id) ms ≡ None
+above_is_free [] id low = refl
+above_is_free (m ∷ ms) id low =
+    let bound : max (m.id + 1) (above ms) ≤ id = low in
+    let other : (id == m.id) ≡ false = grind (arith, nat_tests, bound) in
+    rw other (above_is_free ms id (omega (arith, bound)))
+
+import_exists : (s : Section) (t : Tables) (text : List ℕ) (link : Option (Owned Link)) → (t2 : Tables) × Imports s t text link t2
+import_exists s t text (Some l) = (t, refl)
+import_exists s t text None = links_exist (map_with text t)
+  where
+    links_exist : (found : Option MapRow) → (t2 : Tables) × Links s t text found t2
+    links_exist (Some m) = (with_link (record { customer = s.name; row = record { digest = sha256 text; map = m.id } }) t, refl)
+    links_exist None = (
+      with_new_map (record { customer = s.name; row = record { digest = sha256 text; body = text } }) (above t.maps) t,
+      (above t.maps, above_is_free t.maps (above t.maps) (omega arith), refl),
+    )
+
 -- a command that nothing refuses has a change
 change_exists : (s : Section) (t : Tables) (c : Changing) → lowest (refusals s t c) ≡ None → (body : List ℕ) × (mid : Tables) × Changes s t c body mid
 change_exists s t (MakeOrder o) e =
@@ -33,6 +62,8 @@ change_exists s t (MakeOrder o) e =
       with_order (record { customer = s.name; row = w }) t,
       (none_from_test _ (first_is_false (is_some (order_at s.name w.name t)) _ _ e), refl, refl),
     )
+change_exists s t (ImportMap text) e =
+    let made = import_exists s t text (link_at s.name (sha256 text) t) in (map_body (sha256 text), made.0, (refl, made.1))
 
 judged_exists : (s : Section) (seat : List ℕ) (r : Request) (t : Tables) (c : Changing) → (reply : Answer) × (t2 : Tables) × Judges s seat r t c reply t2
 judged_exists s seat r t c =

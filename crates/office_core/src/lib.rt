@@ -12,6 +12,8 @@ pub mod site {
 
 pub use isolation::{always_a_step, no_rows_are_sound, steps_are_the_customers_own};
 pub use office::answer;
-pub use office_commands::{Change, Command, NewOrder, Refusal, Request, Show};
+pub use office_commands::{AskedOrder, Change, Command, NewOrder, Refusal, Request, Show};
 pub use office_memory::MemKeep;
-pub use office_tables::{Keep, Order, OrderRow, Owned, Seat, SeatRow, Sink, Unkept, Write};
+pub use office_tables::{
+    Keep, Link, LinkRow, MapRow, NewMap, Order, OrderRow, Owned, Seat, SeatRow, Sink, Unkept, Write,
+};

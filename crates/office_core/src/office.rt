@@ -5,7 +5,6 @@ ghost use Rattle.office_tables.specs.Keeping.{Reads, Stands, Crashes};
 ghost use Rattle.http_replies.specs.Replies.{Answer, answer_of, is_unavailable};
 ghost use Rattle.site_core.specs.Caller.{IsSeatCaller, section_at, seat_at};
 ghost use Rattle.site_core.specs.Owners.{owners_of};
-ghost use Rattle.office_commands.specs.Asked.{IsAsked, IsChange};
 ghost use Rattle.office_core.specs.Office.{Judges, Turns, turn_at, shown, Step, Answers};
 ghost use Rattle.office_core.specs.Sound.{IsSound};
 
@@ -27,7 +26,6 @@ fn make<K: Keep>(
     request: &Request,
     change: &Change,
 ) -> Result<Reply, Unkept>
-    requires { IsChange change.now }
     ensures was_open { K.is_open keep.new → K.is_open keep.old }
     ensures was_honest { K.is_honest keep.new → K.is_honest keep.old }
     ensures stays_open { K.is_honest keep.new → IfOk result (λ _. K.is_open keep.new) }
@@ -51,7 +49,6 @@ fn change_in_turn<K: Keep>(
     request: &Request,
     change: &Change,
 ) -> Result<Reply, Unkept>
-    requires { IsChange change.now }
     ensures was_open { K.is_open keep.new → K.is_open keep.old }
     ensures was_honest { K.is_honest keep.new → K.is_honest keep.old }
     ensures stays_open { K.is_honest keep.new → IfOk result (λ _. K.is_open keep.new) }
@@ -92,7 +89,6 @@ fn serve<K: Keep>(
     seat: &Name,
     request: &Request,
 ) -> Result<Reply, Unkept>
-    requires { IsAsked request.now }
     ensures was_open { K.is_open keep.new → K.is_open keep.old }
     ensures was_honest { K.is_honest keep.new → K.is_honest keep.old }
     ensures stays_open { K.is_honest keep.new → IfOk result (λ _. K.is_open keep.new) }
@@ -121,8 +117,7 @@ pub fn answer<K: Keep>(
     caller: SeatCaller,
     request: &Request,
 ) -> Reply
-    requires caller { IsSeatCaller site.now caller }
-    requires asked { IsAsked request.now }
+    requires { IsSeatCaller site.now caller }
     ensures was_open { K.is_open keep.new → K.is_open keep.old }
     ensures was_honest { K.is_honest keep.new → K.is_honest keep.old }
     ensures stays_open { K.is_honest keep.new → MatchBool (is_unavailable result.status) (Unit {0}) (K.is_open keep.new) }
@@ -133,6 +128,7 @@ pub fn answer<K: Keep>(
     ensures crash { Crashes K.is_honest K.may_leave (λ t. K.is_open keep.old × (reply : Answer)
         × Step (section_at site.now caller) (seat_at site.now caller) (K.tables keep.old) request.now reply t) keep.old keep.new }
 {
+    request.ranges();
     let seat = site.seat(caller);
     match serve(alloc, keep, site.customer(caller), &seat, request) {
         Ok(reply) => reply,

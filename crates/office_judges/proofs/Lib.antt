@@ -1,4 +1,5 @@
 mod Judged
+mod Links
 mod Numbers
 mod Rooms
 mod Scans

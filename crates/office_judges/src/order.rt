@@ -3,7 +3,6 @@ ghost use Rattle.std.specs.Prelude.{◌≡◌, ℕ, ◌+◌, ◌-◌, ◌^◌, �
 ghost use Rattle.office_tables.specs.Tables.{order_at};
 ghost use Rattle.office_tables.specs.Keeping.{Reads};
 ghost use Rattle.http_replies.specs.Replies.{answer_of};
-ghost use Rattle.office_commands.specs.Asked.{IsNewOrder};
 ghost use Rattle.office_judges.specs.Rules.{lowest, unless_refused};
 ghost use Rattle.office_judges.specs.Orders.{order_refusals, shown_order, wanted_by};
 ghost use Rattle.office_judges.specs.Judging.{IsJudged};
@@ -13,7 +12,7 @@ use crate::scan::{ORDER_LIMIT, scan_orders};
 use crate::serials::next_serial;
 use crate::{Accepted, Verdict};
 use http_replies::Reply;
-use office_commands::{Change, NewOrder, Refusal, accepted, order_body, refused};
+use office_commands::{AskedOrder, Change, Refusal, accepted, order_body, refused};
 use office_tables::{Keep, Order, Owned, Unkept, Write};
 use site_core::Customer;
 use std::alloc::Global;
@@ -38,15 +37,15 @@ fn order_to_make<K: Keep>(
     alloc: Global,
     keep: &mut K,
     customer: &Customer,
-    order: &NewOrder,
+    order: &AskedOrder,
 ) -> Result<Result<Order, Refusal>, Unkept>
-    requires { IsNewOrder order.now }
     ensures reads { Reads K.is_open K.is_honest K.may_leave K.tables keep.old keep.new }
     ensures stays_open { K.is_honest keep.new → IfOk result (λ _. K.is_open keep.new) }
     ensures lowest { K.is_open keep.new → IfOk result (λ judged. judged ≡
         (let wanted = wanted_by customer.now (K.tables keep.old) order.now in
         unless_refused (lowest (order_refusals customer.now (K.tables keep.old) wanted)) wanted)) }
 {
+    let order = order.order();
     if keep.order(&customer.name(), &order.name)?.is_some() {
         return Ok(Err(Refusal::Exists));
     }
@@ -90,9 +89,8 @@ pub fn judge_order<K: Keep>(
     alloc: Global,
     keep: &mut K,
     customer: &Customer,
-    order: &NewOrder,
+    order: &AskedOrder,
 ) -> Result<Verdict, Unkept>
-    requires { IsNewOrder order.now }
     ensures reads { Reads K.is_open K.is_honest K.may_leave K.tables keep.old keep.new }
     ensures stays_open { K.is_honest keep.new → IfOk result (λ _. K.is_open keep.new) }
     ensures judged { K.is_open keep.new → IfOk result (λ verdict.

@@ -2,7 +2,7 @@
 ghost use Rattle.std.specs.Prelude.{◌≡◌, Bool, IfOk};
 ghost use Rattle.office_tables.specs.Tables.{own};
 ghost use Rattle.office_tables.specs.Keeping.{Reads};
-ghost use Rattle.office_commands.specs.Asked.{IsNewOrder};
+ghost use Rattle.office_commands.specs.NewOrders.{IsNewOrder};
 ghost use Rattle.office_judges.specs.Rules.{mac_for, reservations};
 ghost use Rattle.office_judges.specs.Scanning.{Gathers};
 

@@ -1,9 +1,9 @@
 // What a command that writes comes to.
 ghost use Rattle.std.specs.Prelude.{IfOk};
 ghost use Rattle.office_tables.specs.Keeping.{Reads};
-ghost use Rattle.office_commands.specs.Asked.{IsChange};
 ghost use Rattle.office_judges.specs.Judging.{IsJudged};
 
+use crate::maps::judge_map;
 use crate::order::judge_order;
 use office_commands::{Change, Refusal};
 use office_tables::{Keep, Unkept, Write};
@@ -32,12 +32,12 @@ pub fn judge<K: Keep>(
     customer: &Customer,
     change: &Change,
 ) -> Result<Verdict, Unkept>
-    requires { IsChange change.now }
     ensures reads { Reads K.is_open K.is_honest K.may_leave K.tables keep.old keep.new }
     ensures stays_open { K.is_honest keep.new → IfOk result (λ _. K.is_open keep.new) }
     ensures judged { K.is_open keep.new → IfOk result (λ verdict. IsJudged customer.now (K.tables keep.old) change.now verdict) }
 {
     match change {
         Change::MakeOrder(order) => judge_order(alloc, keep, customer, order),
+        Change::ImportMap(text) => judge_map(alloc, keep, customer, text),
     }
 }

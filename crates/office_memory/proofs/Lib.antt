@@ -1,3 +1,4 @@
 pub mod Commits
 pub mod Keys
+pub mod Maps
 pub mod Placing

@@ -1,15 +1,17 @@
 // A table: rows in the order of their keys.
-ghost use Rattle.std.specs.Prelude.{◌≡◌, [], false, find, filter, OnOk, OnErr, IfOk};
+ghost use Rattle.std.specs.Prelude.{◌≡◌, ◌-◌, [], false, length, find, filter, slice_get, OnOk, OnErr, IfOk, IfSome};
+ghost use Rattle.std.specs.List.{AllByRecursion};
 ghost use Rattle.std.specs.Option.{option_copied};
-ghost use Rattle.std.specs.Ordering.{is_gt};
+ghost use Rattle.std.specs.Ordering.{is_gt, is_lt};
 ghost use Rattle.office_tables.specs.Tables.{placed};
 ghost use Rattle.office_tables.specs.Keeping.{Visits};
 ghost use Rattle.office_memory.specs.Keyed.{by_key, has_key, is_between};
-ghost use Rattle.office_memory.specs.Unplaced.{unplaced};
+ghost use Rattle.office_memory.specs.Unplaced.{unplaced, without};
 
 use office_tables::Sink;
 use std::alloc::{AllocError, Global};
 use std::collections::BTreeMap;
+use std::collections::btree_map::Values;
 use std::marker::Model;
 
 /// A row that is known by its key.
@@ -59,6 +61,22 @@ impl<R: Row> Table<R> {
         self.rows.get(key)
     }
 
+    /// The row with the greatest key.
+    pub(crate) fn last(&self) -> Option<&R>
+        ensures last { option_copied result ≡ slice_get self.now (length self.now - 1) }
+        ensures greatest { IfSome result (λ row. AllByRecursion (λ other. is_lt (by_key R.Key.cmp R.key_of row.now other) ≡ false) self.now) }
+    {
+        let (_, row) = self.rows.last_key_value()?;
+        Some(row)
+    }
+
+    /// The rows, in the order of their keys.
+    pub(crate) fn rows(&self) -> Values<'_, R::Key, R>
+        ensures { result ≡ self.now }
+    {
+        self.rows.values()
+    }
+
     /// Puts a row in its place, and gives the row that had its key before.
     pub(crate) fn insert(&mut self, row: R) -> Result<Option<R>, AllocError>
         ensures placed { OnOk result (self.new ≡ placed (by_key R.Key.cmp R.key_of) row self.old) }
@@ -68,15 +86,20 @@ impl<R: Row> Table<R> {
         Ok(self.rows.insert(row.key(), row)?)
     }
 
+    /// Takes out the row with the key.
+    pub(crate) fn remove(&mut self, key: &R::Key)
+        ensures { self.new ≡ without (has_key R.Key.cmp R.key_of key.now) self.old }
+    {
+        self.rows.remove(key);
+    }
+
     /// Takes a row out again, and puts the one that had its key before in its place. This takes
     /// no memory.
     pub(crate) fn undo_insert(&mut self, row: &R, old: Option<R>)
         ensures { self.new ≡ unplaced (by_key R.Key.cmp R.key_of) row.now old self.old }
     {
         match old {
-            None => {
-                self.rows.remove(&row.key());
-            }
+            None => self.remove(&row.key()),
             Some(old) => {
                 if let Some(stored) = self.rows.get_mut(&old.key()) {
                     *stored = old;

@@ -1,4 +1,4 @@
--- The rows of tables that no command writes yet, as plain values. Those of seats and orders are the program's own (src/rows.rt).
+-- The rows of tables that no command writes yet, as plain values. Those of seats, orders, maps and links are the program's own (src/rows.rt).
 use Rattle.std.specs.Prelude.{ℕ, List, Option}
 
 -- what a device's record of burnt fuses keeps: the bits of all blocks, those of key blocks left zero, and the digests of keys (ESP32 eFuse)
@@ -48,16 +48,6 @@ pub record Given : Type 0 where
   pub chip : Option (List ℕ)
   pub mac : Option ℕ
   pub not_after : List ℕ
-
--- a fuse map's text, shared by all customers that link to it
-pub record MapText : Type 0 where
-  pub id : ℕ
-  pub body : List ℕ
-
--- a fuse map of a customer's, by the digest of its text
-pub record Link : Type 0 where
-  pub digest : List ℕ
-  pub map_id : ℕ
 
 -- what an entry of the ledger tells of
 pub data Event : Type 0 where

@@ -1,17 +1,20 @@
 -- The tables of all customers, each a list of rows in the order of its key, and what a list of writes makes of them.
-use Rattle.std.specs.Prelude.{◌≡◌, ℕ, Bool, ◌&&◌, List, [], ◌∷◌, filter, map, find, Option, None}
+use Rattle.std.specs.Prelude.{◌≡◌, ℕ, Bool, true, ◌&&◌, ◌==◌, is_some, List, [], ◌∷◌, filter, map, find, Option, None}
 use Rattle.std.specs.List.{AllByRecursion}
 use Rattle.std.specs.Str.{bytes_eq}
 use Rattle.std.specs.Ordering.{nat_cmp, ordering_then, match_ordering}
 use Rattle.std.specs.declared.cmp.Ordering.{Ordering}
 use Rattle.std.specs.declared.cmp.Ordering.TheVariants.{Less}
 use Rattle.std.specs.Cmp.Lexicographic.{slice_cmp}
-use Rattle.office_tables.specs.Rows.{Device, Given, MapText, Link, Entry}
+use Rattle.office_tables.specs.Rows.{Device, Given, Entry}
 use Rattle.office_tables.specs.declared.rows.Owned.{Owned}
 use Rattle.office_tables.specs.declared.rows.Seat.{Seat}
 use Rattle.office_tables.specs.declared.rows.Order.{Order}
+use Rattle.office_tables.specs.declared.rows.MapRow.{MapRow}
+use Rattle.office_tables.specs.declared.rows.Link.{Link}
+use Rattle.office_tables.specs.declared.rows.NewMap.{NewMap}
 use Rattle.office_tables.specs.declared.rows.Write.{Write}
-use Rattle.office_tables.specs.declared.rows.Write.TheVariants.{PutSeat, AddOrder}
+use Rattle.office_tables.specs.declared.rows.Write.TheVariants.{PutSeat, AddOrder, AddMap, AddLink}
 
 -- the key of each table: a seat's name; customer and name of an order; customer and chip; issuer and serial; a map's number; customer and digest; an entry's number
 pub record Tables : Type 0 where
@@ -19,7 +22,7 @@ pub record Tables : Type 0 where
   pub orders : List (Owned Order)
   pub devices : List (Owned Device)
   pub given : List (Owned Given)
-  pub maps : List MapText
+  pub maps : List MapRow
   pub links : List (Owned Link)
   pub ledger : List (Owned Entry)
 
@@ -55,6 +58,27 @@ is_given issuer serial o = bytes_eq issuer o.row.issuer && bytes_eq serial o.row
 abbrev pub given_at : List ℕ → List ℕ → Tables → Option (Owned Given)
 given_at issuer serial t = find (is_given issuer serial) t.given
 
+-- the map with a number
+abbrev pub has_id : ℕ → MapRow → Bool
+has_id id m = id == m.id
+
+abbrev pub map_at : ℕ → Tables → Option MapRow
+map_at id t = find (has_id id) t.maps
+
+-- the map with a text
+abbrev pub has_body : List ℕ → MapRow → Bool
+has_body body m = bytes_eq body m.body
+
+abbrev pub map_with : List ℕ → Tables → Option MapRow
+map_with body t = find (has_body body) t.maps
+
+-- a customer's link to a map, by the digest of its text
+abbrev pub is_link : List ℕ → List ℕ → Owned Link → Bool
+is_link customer digest o = is_of customer o && bytes_eq digest o.row.digest
+
+abbrev pub link_at : List ℕ → List ℕ → Tables → Option (Owned Link)
+link_at customer digest t = find (is_link customer digest) t.links
+
 -- texts are in the order of their bytes
 abbrev pub text_cmp : List ℕ → List ℕ → Ordering
 text_cmp = slice_cmp nat_cmp
@@ -64,6 +88,12 @@ seat_cmp a b = text_cmp a.row.name b.row.name
 
 abbrev pub order_cmp : Owned Order → Owned Order → Ordering
 order_cmp a b = ordering_then (text_cmp a.customer b.customer) (text_cmp a.row.name b.row.name)
+
+abbrev pub map_cmp : MapRow → MapRow → Ordering
+map_cmp a b = nat_cmp a.id b.id
+
+abbrev pub link_cmp : Owned Link → Owned Link → Ordering
+link_cmp a b = ordering_then (text_cmp a.customer b.customer) (text_cmp a.row.digest b.row.digest)
 
 -- a serial number's place: by issuer, then by its text
 abbrev pub given_cmp : Owned Given → Owned Given → Ordering
@@ -85,20 +115,34 @@ with_seat s t = record t { seats = placed seat_cmp s t.seats }
 abbrev pub with_order : Owned Order → Tables → Tables
 with_order o t = record t { orders = placed order_cmp o t.orders }
 
--- what one write may make of the tables
+abbrev pub with_map : MapRow → Tables → Tables
+with_map m t = record t { maps = placed map_cmp m t.maps }
+
+abbrev pub with_link : Owned Link → Tables → Tables
+with_link l t = record t { links = placed link_cmp l t.links }
+
+-- a new map under this number, and its customer's link to it
+abbrev pub with_new_map : Owned NewMap → ℕ → Tables → Tables
+with_new_map m id t = with_link (record { customer = m.customer; row = record { digest = m.row.digest; map = id } }) (with_map (record { id = id; body = m.row.body }) t)
+
+-- what one write may make of the tables: a new map's number is any that no map has
 abbrev pub Writes : Write → Tables → Tables → Type 0
 Writes (PutSeat s) t t2 = t2 ≡ with_seat s t
 Writes (AddOrder o) t t2 = t2 ≡ with_order o t
+Writes (AddMap m) t t2 = (id : ℕ) × (map_at id t ≡ None) × (t2 ≡ with_new_map m id t)
+Writes (AddLink l) t t2 = t2 ≡ with_link l t
 
 -- and a list of them, the first of them first
 abbrev pub Written : List Write → Tables → Tables → Type 0
 Written [] t t2 = t2 ≡ t
 Written (w ∷ ws) t t2 = (mid : Tables) × Writes w t mid × Written ws mid t2
 
--- no row has the key of a row that is added
+-- no row has the key of a row that is added, or a new map's text, and what the row refers to is there
 abbrev pub IsFree : Write → Tables → Type 0
 IsFree (PutSeat s) t = Unit {0}
 IsFree (AddOrder o) t = order_at o.customer o.row.name t ≡ None
+IsFree (AddMap m) t = (map_with m.row.body t ≡ None) × (link_at m.customer m.row.digest t ≡ None)
+IsFree (AddLink l) t = (link_at l.customer l.row.digest t ≡ None) × (is_some (map_at l.row.map t) ≡ true)
 
 -- each write of the list finds its key free, by the tables and the earlier writes
 abbrev pub CanWrite : List Write → Tables → Type 0

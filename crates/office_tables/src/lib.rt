@@ -5,4 +5,4 @@ mod keep;
 mod rows;
 
 pub use keep::{Keep, Sink, Unkept};
-pub use rows::{Order, OrderRow, Owned, Seat, SeatRow, Write};
+pub use rows::{Link, LinkRow, MapRow, NewMap, Order, OrderRow, Owned, Seat, SeatRow, Write};

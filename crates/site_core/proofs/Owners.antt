@@ -1,6 +1,6 @@
 -- The issuers, seats and pools of each customer of a site are that customer's alone.
 use Rattle.std.proofs.Common.{◌≡◌, ◌<◌, ◌≤◌, ◌+◌, ℕ, List, length, map, take, get_or, Bool, true, false, Option, Some, None, inl, inr, refl, sym, ap, ◌∙◌, arith}
-use Rattle.std.specs.Prelude.{bytes_eq, find, option_map, Any}
+use Rattle.std.specs.Prelude.{bytes_eq, find, is_some, option_map, Any}
 use Rattle.std.specs.List.{Contains, IsDistinct, flat_map, list_any, position_or_len}
 use Rattle.std.proofs.lemmas.Bool.{both_ways, cases_order}
 use Rattle.std.proofs.lemmas.Cmp.{nat_list_eq_equiv}
@@ -92,6 +92,7 @@ seat_owned site caller w within =
 -- the issuers, the seats and the pools of a caller's customer are that customer's
 pub section_owned : (site : SiteValue) (caller : SeatCaller) → IsSite site → IsSeatCaller site caller → IsSection (owners_of site) (section_at site caller)
 section_owned site caller w within = record {
+  customer = ap is_some (find-of_name site.customers caller.customer w.names within.customer_in);
   issuers = recursion_from_All _ _ (λ k d low.
       ap (option_map (λ s. s.name)) (find-of_key (λ issuer. issuer) (λ s. s.issuers) site.customers caller.customer _ w.issuers within.customer_in (Contains-get_or _ k d low)));
   seats = recursion_from_All _ _ (λ k d low. seat_of_section site caller.customer _ w within.customer_in (Contains-get_or _ k d low));

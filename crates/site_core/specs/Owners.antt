@@ -1,12 +1,13 @@
 -- Whose an issuer, a seat and a hardware address are.
-use Rattle.std.specs.Prelude.{◌≡◌, false, ℕ, List, [], find, Option, Some, None, option_map, Bool, bytes_eq, Any}
+use Rattle.std.specs.Prelude.{◌≡◌, true, false, ℕ, List, [], find, Option, Some, None, is_some, option_map, Bool, bytes_eq, Any}
 use Rattle.std.specs.List.{list_any, AllByRecursion}
 use Rattle.id_ranges.specs.Pool.{Pool}
 use Rattle.id_ranges.specs.Blocks.{IsWithin, IsApart}
 use Rattle.site_core.specs.Section.{Section, SiteValue}
 
--- the customer of an issuer, the customer of a seat, and a customer's pools
+-- who is a customer, the customer of an issuer, the customer of a seat, and a customer's pools
 pub record Owners : Type 0 where
+  pub customer : List ℕ → Bool
   pub issuer : List ℕ → Option (List ℕ)
   pub seat : List ℕ → Option (List ℕ)
   pub pools : List ℕ → List Pool
@@ -24,6 +25,7 @@ pools_in (Some s) = s.pools
 -- by a site
 abbrev pub owners_of : SiteValue → Owners
 owners_of site = record {
+  customer = λ customer. is_some (find (λ s. bytes_eq customer s.name) site.customers);
   issuer = λ issuer. option_map (λ s. s.name) (find (has_issuer issuer) site.customers);
   seat = λ seat. option_map (λ s. s.name) (find (has_seat seat) site.customers);
   pools = λ customer. pools_in (find (λ s. bytes_eq customer s.name) site.customers);
@@ -31,6 +33,7 @@ owners_of site = record {
 
 -- the issuers, the seats and the pools of a section are its customer's
 pub record IsSection (owners : Owners) (s : Section) : Type 0 where
+  pub customer : owners.customer s.name ≡ true
   pub issuers : AllByRecursion (λ issuer. owners.issuer issuer ≡ Some s.name) s.issuers
   pub seats : AllByRecursion (λ seat. owners.seat seat.name ≡ Some s.name) s.seats
   pub pools : owners.pools s.name ≡ s.pools

@@ -1,5 +1,5 @@
 -- A site: its customers and its manager.
-use Rattle.std.specs.Prelude.{ℕ, List, [], ◌∷◌, Bool, bytes_eq, map, Option, Some, None}
+use Rattle.std.specs.Prelude.{ℕ, List, ◌∷◌, Bool, bytes_eq, map, Option, Some, None}
 use Rattle.std.specs.List.{flat_map}
 use Rattle.id_ranges.specs.Pool.{Pool}
 

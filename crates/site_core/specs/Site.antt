@@ -1,5 +1,5 @@
 -- What holds of each site.
-use Rattle.std.specs.Prelude.{◌≡◌, ℕ, Bool, true, false, ◌||◌, nat_lt, List, length, bytes_eq}
+use Rattle.std.specs.Prelude.{◌≡◌, Bool, false, ◌||◌, nat_lt, length, bytes_eq}
 use Rattle.std.specs.List.{IsDistinct, list_any, AllByRecursion}
 use Rattle.id_ranges.specs.Pool.{Pool, IsPool}
 use Rattle.id_ranges.specs.Blocks.{meets}

@@ -5,7 +5,7 @@ use Rattle.clap.specs.Words.{App, IsAmong, Kinds, Row, Rule, Text, fault_of, fir
 use Rattle.clap.specs.declared.error.kind.ErrorKind.{ErrorKind}
 use Rattle.clap.specs.declared.error.kind.ErrorKind.TheVariants.{DisplayHelp, OutOfMemory}
 use Rattle.station.specs.declared.job.Job.{Job}
-use Rattle.station.specs.declared.job.Job.TheVariants.{Replay}
+use Rattle.station.specs.declared.job.Job.TheVariants.{CheckMap, Replay}
 use Rattle.station.specs.declared.job.WordsFault.{WordsFault}
 use Rattle.station.specs.declared.job.WordsFault.TheVariants.{Help, Refused, NoMemory}
 
@@ -21,21 +21,36 @@ site_rule = record (new_rule (codes "site")) { long = Some (codes "site"); value
 abbrev pub replay_app : App
 replay_app = with_rule (new_app (codes "replay")) site_rule
 
+-- `F`, which has to be there
+abbrev pub map_rule : Rule
+map_rule = record (new_rule (codes "map")) { value_names = 1; required = true }
+
+-- `check-map F`
+abbrev pub check_map_app : App
+check_map_app = with_rule (new_app (codes "check-map")) map_rule
+
 -- `station`, which asks for a subcommand
 abbrev pub top_app : App
 top_app = let app = new_app (codes "station") in record app { top = record app.top { subcommand_required = true } }
 
--- `station replay --site F`
+-- `station replay --site F` and `station check-map F`
 abbrev pub station_app : App
-station_app = with_subcommand top_app replay_app.top
+station_app = with_subcommand (with_subcommand top_app replay_app.top) check_map_app.top
 
 -- the job of `replay`, by its options
 abbrev pub replay_of : List Row → Option Job
 replay_of options = option_map Replay (first_of (codes "site") options)
 
+-- the job of `check-map`, by its options
+abbrev pub check_map_of : List Row → Option Job
+check_map_of options = option_map CheckMap (first_of (codes "map") options)
+
 -- the job of a subcommand, by its name and its options
 abbrev pub job_by : Text × List Row → Option Job
-job_by entered = if bytes_eq entered.0 (codes "replay") then replay_of entered.1 else None
+job_by entered =
+    if bytes_eq entered.0 (codes "replay") then replay_of entered.1
+    else if bytes_eq entered.0 (codes "check-map") then check_map_of entered.1
+    else None
 
 -- the job of the subcommand that the words enter, as `clap` reads them for this command line
 abbrev pub job_of : List Text → Option Job

@@ -1,3 +1,5 @@
 pub mod CommandLine
+pub mod FileText
+pub mod MapFile
 pub mod SiteFile
 pub mod Statuses

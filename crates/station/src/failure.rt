@@ -11,9 +11,11 @@ pub enum Failure<'a> {
     CannotRead(&'a str),
     /// The text of the site has the fault with this number, 1 to 6.
     SiteFault(u8),
+    /// The text of the fuse map has the fault with this number, 1 to 8.
+    MapFault(u8),
     /// Reading the stream failed.
     ReadFailed,
-    /// Writing the replies failed.
+    /// Writing the output failed.
     WriteFailed,
     /// The stream took more calls of its reader and writer than it may.
     TurnLimit,
@@ -28,6 +30,7 @@ impl fmt::Display for Failure<'_> {
         match self {
             Failure::CannotRead(name) => write!(f, "station: cannot read {name}"),
             Failure::SiteFault(number) => write!(f, "station: site fault {number}"),
+            Failure::MapFault(number) => write!(f, "station: map fault {number}"),
             Failure::ReadFailed => f.write_str("station: read failed"),
             Failure::WriteFailed => f.write_str("station: write failed"),
             Failure::TurnLimit => f.write_str("station: turn limit"),

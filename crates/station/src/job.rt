@@ -2,7 +2,7 @@
 ghost use Rattle.std.specs.Prelude.{◌≡◌, ◌⊎◌, false, Some, None, IfOk, IfErr, option_and_then};
 ghost use Rattle.clap.specs.Words.{app_of, fault_of, first_of, found_of, kind_of, rows_of, subcommand_rows_of};
 ghost use Rattle.clap.specs.declared.builder.command.Command.TheViews.{out-Command as fields_of};
-ghost use Rattle.station.specs.CommandLine.{CanGive, GivenBy, RefusesWith, job_by, job_read, replay_app, replay_of, station_app, texts};
+ghost use Rattle.station.specs.CommandLine.{CanGive, GivenBy, RefusesWith, check_map_app, check_map_of, job_by, job_read, replay_app, replay_of, station_app, texts};
 ghost use Rattle.station.specs.declared.job.WordsFault.TheVariants.{NoMemory};
 
 use clap::error::ErrorKind;
@@ -25,6 +25,11 @@ pub enum Job {
     Replay {
         /// The name of the site's file, as it was given.
         site: Text,
+    },
+    /// Reads one fuse map, and tells its name and its size, or its fault.
+    CheckMap {
+        /// The name of the map's file, as it was given.
+        map: Text,
     },
 }
 
@@ -121,10 +126,12 @@ fn station_command<'a>(alloc: Global) -> Result<Command<'a>, AllocError>
     ensures { IfOk result (λ command. app_of command ≡ station_app) }
 {
     let replay = replay_command(alloc)?;
+    let check_map = check_map_command(alloc)?;
     Command::new(alloc, "station")
         .about("Serves programming stations")
         .subcommand_required(true)
-        .subcommand(replay)
+        .subcommand(replay)?
+        .subcommand(check_map)
 }
 
 /// The subcommand `replay --site F`.
@@ -134,12 +141,26 @@ fn replay_command<'a>(alloc: Global) -> Result<Command<'a>, AllocError>
 {
     let site = Arg::new(alloc, "site")
         .long("site")
+        .required(true)
         .value_name("F")
-        .help("The file of the site: its customers, their seats, and the manager")
-        .required(true);
+        .help("The file of the site: its customers, their seats, and the manager");
     Command::new(alloc, "replay")
         .about("Serves one stream of requests, from standard input to standard output")
         .arg(site)
+}
+
+/// The subcommand `check-map F`.
+fn check_map_command<'a>(alloc: Global) -> Result<Command<'a>, AllocError>
+    ensures shape { IfOk result (λ command. app_of command ≡ check_map_app) }
+    ensures local { IfOk result (λ command. (fields_of command).has_globals ≡ false) }
+{
+    let map = Arg::new(alloc, "map")
+        .required(true)
+        .value_name("F")
+        .help("The file of the fuse map: its blocks and fields");
+    Command::new(alloc, "check-map")
+        .about("Reads a fuse map, and tells its name and its size, or its fault")
+        .arg(map)
 }
 
 /// The fault that an error of `clap` stands for.
@@ -176,6 +197,7 @@ fn job_by(alloc: Global, name: &str, options: &ArgMatches<'_>) -> Result<Option<
 {
     match name {
         "replay" => replay_job(alloc, options),
+        "check-map" => check_map_job(alloc, options),
         _ => Ok(None),
     }
 }
@@ -186,6 +208,16 @@ fn replay_job(alloc: Global, options: &ArgMatches<'_>) -> Result<Option<Job>, Al
 {
     match option_text(alloc, options, "site")? {
         Some(site) => Ok(Some(Job::Replay { site })),
+        None => Ok(None),
+    }
+}
+
+/// The job of `check-map` with these options.
+fn check_map_job(alloc: Global, options: &ArgMatches<'_>) -> Result<Option<Job>, AllocError>
+    ensures { IfOk result (λ job. job ≡ check_map_of (rows_of (found_of options.now))) }
+{
+    match option_text(alloc, options, "map")? {
+        Some(map) => Ok(Some(Job::CheckMap { map })),
         None => Ok(None),
     }
 }

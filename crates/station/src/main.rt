@@ -4,7 +4,9 @@
 ghost use Rattle.station.specs.Statuses.{HasStatus};
 
 mod failure;
+mod file_text;
 mod job;
+mod map_file;
 mod run;
 mod site_file;
 

@@ -1,11 +1,14 @@
 //! Does the jobs of the command line.
-ghost use Rattle.std.specs.Prelude.{◌≡◌, ◌≤◌, ◌⊎◌, ◌++◌, ◌∷◌, [], IfOk, IfErr, IsErrAnd, OnOk};
+ghost use Rattle.std.specs.Prelude.{◌≡◌, ◌≢◌, ◌≤◌, ◌⊎◌, ◌++◌, ◌∷◌, [], IfOk, IfErr, IsErrAnd, MatchResult, OnOk};
 ghost use Rattle.std.specs.Io.KnownBytes.{Appends, Keeps};
-ghost use Rattle.station.specs.SiteFile.{IsUnread, site_in};
+ghost use Rattle.station.specs.FileText.{IsUnread};
+ghost use Rattle.station.specs.MapFile.{map_in, map_line};
+ghost use Rattle.station.specs.SiteFile.{site_in};
 ghost use Rattle.station.specs.Statuses.{end_of, line_of, status_of};
 
 use crate::failure::Failure;
 use crate::job::Job;
+use crate::map_file::{map_of_file, read_map_file, write_map_line};
 use crate::site_file::{read_site_file, site_of_file};
 use office_core::MemKeep;
 use station_api::{Counted, Served, serve_stream};
@@ -21,7 +24,7 @@ pub fn run(
     alloc: Global,
     job: &Job,
     input: impl Read + Drop,
-    output: impl Write + Drop,
+    mut output: impl Write + Drop,
     err: &mut impl Write,
 ) -> u8
     ensures { result ≤ 1 }
@@ -31,6 +34,11 @@ pub fn run(
             let name = site.as_str();
             let file = read_site_file(rt, alloc, name);
             replay(alloc, name, file, input, output)
+        }
+        Job::CheckMap { map } => {
+            let name = map.as_str();
+            let file = read_map_file(rt, alloc, name);
+            check_map(alloc, name, file, &mut output)
         }
     };
     finish(done, err)
@@ -56,6 +64,34 @@ fn replay<'a>(
     let mut reader = Counted::new(input);
     let mut writer = Counted::new(output);
     end_of(serve_stream(alloc, &mut keep, &site, &mut reader, &mut writer))
+}
+
+/// Writes the line of the fuse map that a file describes, by what reading the file with this name
+/// gave.
+fn check_map<'a, W: Write>(
+    alloc: Global,
+    name: &'a str,
+    file: io::Result<Vec<u8>>,
+    output: &mut W,
+) -> Result<(), Failure<'a>>
+    ensures unread { IfErr file (λ error. IsErrAnd result (IsUnread name.entry error)) }
+    ensures no_map { IfOk file (λ bytes. IfErr (map_in name.entry bytes.items) (λ failure.
+        (result ≡ Err failure) ⊎ (result ≡ Err Failure.NoMemory))) }
+
+    // The line of a map is written, unless that fails or memory runs out.
+    ensures map { IfOk file (λ bytes. IfOk (map_in name.entry bytes.items) (λ map. MatchResult result
+        (λ _. Appends (W.contents output.old) (W.contents output.new) (map_line map ++ 10 ∷ []))
+        (λ failure. (failure ≡ Failure.WriteFailed) ⊎ (failure ≡ Failure.NoMemory)))) }
+
+    // Nothing is written before the map is known.
+    ensures silent { IfErr result (λ failure. failure ≢ Failure.WriteFailed
+        → Keeps (W.contents output.old) (W.contents output.new)) }
+{
+    let map = map_of_file(alloc, name, file)?;
+    match write_map_line(&map, output) {
+        Ok(()) => Ok(()),
+        Err(_) => Err(Failure::WriteFailed),
+    }
 }
 
 /// What the end of a stream says of a failure.
@@ -93,5 +129,7 @@ fn write_failure<W: Write>(failure: Failure<'_>, err: &mut W) -> io::Result<()>
     writeln!(err, "{failure}")
 }
 
+#[cfg(test)]
+mod map_tests;
 #[cfg(test)]
 mod tests;

@@ -1,14 +1,15 @@
 //! The file of a site, and the site that it describes.
-ghost use Rattle.std.specs.Prelude.{◌≡◌, IfOk, IfErr, IfSome, IsErrAnd, take};
+ghost use Rattle.std.specs.Prelude.{◌≡◌, IfOk, IfErr, IsErrAnd};
 ghost use Rattle.text_core.specs.Answer.{GivesUnless};
-ghost use Rattle.station.specs.SiteFile.{IsUnread, site_failure, site_in};
+ghost use Rattle.station.specs.FileText.{IsUnread};
+ghost use Rattle.station.specs.SiteFile.{site_failure, site_in};
 
 use crate::failure::Failure;
+use crate::file_text::{read_file, text_in, unread};
 use site_core::{Site, SiteFault, TEXT_LIMIT, read_site};
 use std::alloc::Global;
-use std::io::Read;
+use std::io;
 use std::rt::Files;
-use std::{fs, io, str};
 
 /// The bytes of the site's file with this name. A file that is longer than a site's text may be is
 /// not read whole, but as far as one byte past that limit, which shows that it is too long.
@@ -17,17 +18,7 @@ use std::{fs, io, str};
 ///
 /// The file can't be opened or read, or memory runs out.
 pub fn read_site_file(rt: &impl Files, alloc: Global, name: &str) -> io::Result<Vec<u8>> {
-    let file = fs::open(rt, name)?;
-    first_bytes(alloc, file, TEXT_LIMIT as u64 + 1)
-}
-
-/// The bytes that a reader gives up to its end, or the first of them, at most so many.
-fn first_bytes<R: Read + Drop>(alloc: Global, reader: R, most: u64) -> io::Result<Vec<u8>>
-    ensures { IfOk result (λ bytes. IfSome (R.remaining reader) (λ all. bytes.items ≡ take most all)) }
-{
-    let mut bytes = Vec::new(alloc);
-    reader.take(most).read_to_end(&mut bytes)?;
-    Ok(bytes)
+    read_file(rt, alloc, name, TEXT_LIMIT as u64 + 1)
 }
 
 /// The site that a file describes, by what reading the file with this name gave.
@@ -43,7 +34,8 @@ pub fn site_of_file<'a>(
     file: io::Result<Vec<u8>>,
 ) -> Result<Site, Failure<'a>>
     ensures unread { IfErr file (λ error. IsErrAnd result (IsUnread name.entry error)) }
-    ensures read { IfOk file (λ bytes. GivesUnless Failure.NoMemory result (site_in name.entry bytes.items)) }
+    ensures read { IfOk file (λ bytes.
+        GivesUnless Failure.NoMemory result (site_in name.entry bytes.items)) }
 {
     match file {
         Ok(bytes) => site_from(alloc, name, bytes.as_slice()),
@@ -51,27 +43,12 @@ pub fn site_of_file<'a>(
     }
 }
 
-/// The failure of a file that an error kept from being read.
-fn unread<'a>(name: &'a str, error: &io::Error) -> Failure<'a>
-    ensures { IsUnread name.entry error.now result }
-{
-    if error.kind() == io::ErrorKind::OutOfMemory {
-        Failure::NoMemory
-    } else {
-        Failure::CannotRead(name)
-    }
-}
-
 /// The site that the bytes of the file with this name describe.
 fn site_from<'a>(alloc: Global, name: &'a str, bytes: &[u8]) -> Result<Site, Failure<'a>>
     ensures { GivesUnless Failure.NoMemory result (site_in name.entry bytes.now) }
 {
-    if bytes.len() > TEXT_LIMIT {
-        return Err(site_failure(SiteFault::OverLimit));
-    }
-    let Ok(text) = str::from_utf8(bytes) else {
-        return Err(Failure::CannotRead(name));
-    };
+    let too_long = site_failure(SiteFault::OverLimit);
+    let text = text_in(name, bytes, TEXT_LIMIT, too_long)?;
     read_site(alloc, text).map_err(site_failure)
 }
 

@@ -8,12 +8,12 @@ use Rattle.site_core.specs.declared.site.Caller.TheVariants.{Seat}
 use Rattle.site_core.specs.declared.site.Caller.{Caller}
 use Rattle.office_tables.specs.Tables.{Tables}
 use Rattle.office_commands.specs.declared.refusal.Refusal.{Refusal}
-use Rattle.office_commands.specs.declared.refusal.Refusal.TheVariants.{UnknownToken, UnknownPath, WrongCaller, BadJson, BadMember, WrongNumber, OtherBody, UnknownOrder, Exists, BadSerial, NumberTooWide, NoMacRoom, RangeOverlap, ForeignIssuer, Limit, Unkept}
+use Rattle.office_commands.specs.declared.refusal.Refusal.TheVariants.{UnknownToken, UnknownPath, WrongCaller, BadJson, BadMember, WrongNumber, OtherBody, UnknownOrder, Exists, BadMap, BadSerial, NumberTooWide, NoMacRoom, RangeOverlap, ForeignIssuer, MapDigestTaken, Limit, Unkept}
 use Rattle.office_commands.specs.Refusals.{refusal_status}
 use Rattle.office_commands.specs.Replies.{refusal}
 use Rattle.office_core.specs.Office.{Step, Answers}
 use Rattle.office_core.proofs.Served.{answers}
-use Rattle.station_api.specs.Requests.{asked, IsParsed}
+use Rattle.station_api.specs.Requests.{asked}
 use Rattle.station_api.specs.declared.parse.Parsed.{Parsed}
 use Rattle.station_api.specs.Machine.{caller_at, AnswersCaller, AnswersAny, StationAnswers, DeskSteps}
 
@@ -28,11 +28,13 @@ unavailable_is_unkept (WrongNumber expected) e = cc
 unavailable_is_unkept OtherBody e = cc
 unavailable_is_unkept UnknownOrder e = cc
 unavailable_is_unkept Exists e = cc
+unavailable_is_unkept (BadMap fault) e = cc
 unavailable_is_unkept BadSerial e = cc
 unavailable_is_unkept NumberTooWide e = cc
 unavailable_is_unkept NoMacRoom e = cc
 unavailable_is_unkept RangeOverlap e = cc
 unavailable_is_unkept ForeignIssuer e = cc
+unavailable_is_unkept MapDigestTaken e = cc
 unavailable_is_unkept Limit e = cc
 unavailable_is_unkept Unkept e = refl
 
@@ -62,8 +64,8 @@ asked_is wanted x e (inl is) = sym is
 asked_is wanted x e (inr is) = cc
 
 -- a seat that asks is one of the site's, where the caller is
-pub is_seat : (site : SiteValue) (caller : Caller) (parsed : Parsed) → IsCaller site caller → IsParsed caller parsed → IsSeatCaller site parsed.seat
-is_seat site caller parsed one is = let same : caller ≡ Seat parsed.seat = is.0 in rw same at one
+pub is_seat : (site : SiteValue) (caller : Caller) (parsed : Parsed) → IsCaller site caller → caller ≡ Seat parsed.seat → IsSeatCaller site parsed.seat
+is_seat site caller parsed one same = rw same at one
 
 -- an office's answer to what was asked
 pub answers_caller : (site : SiteValue) (caller : Caller) (r : HttpRequest) (parsed : Parsed) (t : Tables) (reply : Answer) (t2 : Tables)

@@ -11,8 +11,9 @@ use Rattle.serde_json.specs.Written.{has_float, members_have_float}
 use Rattle.text_core.specs.Json.{within, whole_member, text_member, name_member}
 use Rattle.text_core.specs.Name.{name_of_text}
 use Rattle.text_core.specs.Options.{◌>>=◌}
-use Rattle.office_commands.specs.declared.command.NewOrder.{NewOrder}
+use Rattle.office_commands.specs.declared.new_order.NewOrder.{NewOrder}
 use Rattle.station_api.specs.Digests.{with_found, named_members}
+use Rattle.station_api.specs.Maps.{map_members}
 use Rattle.station_api.specs.Orders.{new_order_of, order_members}
 
 pub named_more : (names : List (List ℕ)) (name : List ℕ) (d : Data) → named_members (names ++ name ∷ []) d ≡ with_found name (get name d) (named_members names d)
@@ -146,3 +147,8 @@ order_lacks_float d n o nr order =
         ),
       ),
     ) refl
+
+-- and neither are those of a map's import
+pub map_lacks_float : (d : Data) (n : ℕ) (text : List ℕ) → whole_member (codes "nr") 1 9007199254740991 d ≡ Some n → text_member (codes "text") d ≡ Some text
+    → has_float (object (named_members map_members d)) ≡ false
+map_lacks_float d n text nr is = all_no_float map_members d no_members (whole_member_lacks (codes "nr") 1 9007199254740991 d n nr, (text_member_lacks (codes "text") d text is, tt)) refl

@@ -1,4 +1,5 @@
 pub mod Digests
+pub mod Maps
 pub mod Orders
 pub mod Requests
 pub mod Machine

@@ -6,7 +6,7 @@ use Rattle.text_core.specs.Json.{whole_member, text_member, name_member}
 use Rattle.text_core.specs.Name.{name_of_text}
 use Rattle.text_core.specs.declared.json.TheConstants.{LARGEST_WHOLE}
 use Rattle.http_fields.specs.Fields.{parameters_named}
-use Rattle.office_commands.specs.declared.command.NewOrder.{NewOrder}
+use Rattle.office_commands.specs.declared.new_order.NewOrder.{NewOrder}
 use Rattle.office_commands.specs.declared.command.Request.{Request}
 use Rattle.office_commands.specs.declared.command.Command.TheVariants.{Change}
 use Rattle.office_commands.specs.declared.command.Change.TheVariants.{MakeOrder}

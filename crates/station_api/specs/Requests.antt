@@ -1,13 +1,13 @@
 -- What a request asks for, as a function of its head and its body (RFC 9110, 9112).
-use Rattle.std.specs.Prelude.{◌≡◌, ℕ, List, codes, replicate, bytes_eq, Option, Some, None, option_map, Result, Err, if◌then◌else◌}
+use Rattle.std.specs.Prelude.{ℕ, List, codes, replicate, bytes_eq, Option, Some, None, option_map, Result, Err, if◌then◌else◌}
 use Rattle.std.specs.Option.{ok_or}
+use Rattle.serde_json.specs.Data.{Data}
 use Rattle.text_core.specs.Answer.{result_and_then, result_map}
 use Rattle.text_core.specs.Json.{json_of}
 use Rattle.http_fields.specs.Fields.{path_of, query_of}
 use Rattle.http_frames.specs.Frames.{Request as HttpRequest}
 use Rattle.site_core.specs.declared.site.Caller.{Caller}
 use Rattle.site_core.specs.declared.site.Caller.TheVariants.{Seat, Manager}
-use Rattle.office_commands.specs.Asked.{IsAsked}
 use Rattle.office_commands.specs.declared.command.Request.{Request}
 use Rattle.office_commands.specs.declared.command.Command.TheVariants.{Show}
 use Rattle.office_commands.specs.declared.command.Show.TheVariants.{Order}
@@ -15,7 +15,8 @@ use Rattle.office_commands.specs.declared.refusal.Refusal.{Refusal}
 use Rattle.office_commands.specs.declared.refusal.Refusal.TheVariants.{UnknownPath, WrongCaller, BadJson, BadMember}
 use Rattle.station_api.specs.declared.parse.Parsed.{Parsed}
 use Rattle.station_api.specs.declared.parse.Route.{Route}
-use Rattle.station_api.specs.declared.parse.Route.TheVariants.{MakeOrder, ShowOrder}
+use Rattle.station_api.specs.declared.parse.Route.TheVariants.{MakeOrder, ShowOrder, ImportMap}
+use Rattle.station_api.specs.Maps.{import_map_of}
 use Rattle.station_api.specs.Orders.{make_order_of, name_parameter}
 
 -- what the method of an order's path leads to
@@ -23,13 +24,19 @@ abbrev pub order_route : List ℕ → Option Route
 order_route method =
     if bytes_eq method (codes "POST") then Some MakeOrder else (if bytes_eq method (codes "GET") then Some ShowOrder else None)
 
+-- what the method of a map's path leads to
+abbrev pub map_route : List ℕ → Option Route
+map_route method = if bytes_eq method (codes "POST") then Some ImportMap else None
+
 -- what a method and a path lead to
 abbrev pub route_of : List ℕ → List ℕ → Option Route
-route_of method path = if bytes_eq path (codes "/v1/order") then order_route method else None
+route_of method path =
+    if bytes_eq path (codes "/v1/order") then order_route method
+    else (if bytes_eq path (codes "/v1/map") then map_route method else None)
 
--- the order that a body asks for: no JSON is refused before a member that isn't of its form
-abbrev pub order_made : List ℕ → Result Request Refusal
-order_made body = result_and_then (λ d. ok_or (make_order_of d) BadMember) (ok_or (json_of body) BadJson)
+-- what a body asks for: no JSON is refused before a member that isn't of its form
+abbrev pub body_read : (Data → Option Request) → List ℕ → Result Request Refusal
+body_read request_of body = result_and_then (λ d. ok_or (request_of d) BadMember) (ok_or (json_of body) BadJson)
 
 -- a request that shows something has no use for a number and a digest
 abbrev pub shows_order : List ℕ → Request
@@ -46,13 +53,10 @@ for_seats (Seat seat) wanted = result_map (λ request. record { seat = seat; req
 
 abbrev pub asked_on : Option Route → Caller → List ℕ → List ℕ → Result Parsed Refusal
 asked_on None caller query body = Err UnknownPath
-asked_on (Some MakeOrder) caller query body = for_seats caller (order_made body)
+asked_on (Some MakeOrder) caller query body = for_seats caller (body_read make_order_of body)
 asked_on (Some ShowOrder) caller query body = for_seats caller (order_shown query)
+asked_on (Some ImportMap) caller query body = for_seats caller (body_read import_map_of body)
 
 -- what a caller's request asks for, or the lowest refusal of its path, its method, its caller, its body and its members
 abbrev pub asked : Caller → HttpRequest → Result Parsed Refusal
 asked caller r = asked_on (route_of r.head.method (path_of r.head.target)) caller (query_of r.head.target) r.body
-
--- it is the caller that asks, and what it can ask for
-abbrev pub IsParsed : Caller → Parsed → Type 0
-IsParsed caller parsed = (caller ≡ Seat parsed.seat) × IsAsked parsed.request

@@ -3,6 +3,7 @@
 
 mod desk;
 mod digest;
+mod map;
 mod order;
 mod parse;
 mod stream;

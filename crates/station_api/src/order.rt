@@ -1,12 +1,11 @@
 // The requests about orders.
-ghost use Rattle.std.specs.Prelude.{◌≡◌, IfOk, IfSome, ok_or};
+ghost use Rattle.std.specs.Prelude.{◌≡◌, IfOk, ok_or};
 ghost use Rattle.serde_json.specs.View.{view};
-ghost use Rattle.office_commands.specs.Asked.{IsAsked, IsNewOrder};
 ghost use Rattle.station_api.specs.Orders.{make_order_of, new_order_of, name_parameter};
 
 use crate::digest::{named_members, request_digest};
 use http_fields::{Occurrence, only_parameter};
-use office_core::{Change, Command, NewOrder, Request};
+use office_core::{AskedOrder, Change, Command, NewOrder, Request};
 use serde_json::Value;
 use std::alloc::{AllocError, Global};
 use std::str;
@@ -22,9 +21,8 @@ const ORDER_MEMBERS: [&str; 8] = [
 
 /// The order that a body asks for, if its members are of their forms.
 #[tactic(auto, unfolding(crate::specs::Orders::new_order_of))]
-fn new_order(alloc: Global, value: &Value) -> Result<Option<NewOrder>, AllocError>
-    ensures value { IfOk result (λ order. order ≡ new_order_of (view value.now)) }
-    ensures asked { IfOk result (λ order. IfSome order IsNewOrder) }
+fn new_order(alloc: Global, value: &Value) -> Result<Option<AskedOrder>, AllocError>
+    ensures { IfOk result (λ order. order ≡ new_order_of (view value.now)) }
 {
     let Some(name) = name_member(value, "name") else {
         return Ok(None);
@@ -47,7 +45,7 @@ fn new_order(alloc: Global, value: &Value) -> Result<Option<NewOrder>, AllocErro
     let Some(macs) = whole_member(value, "macs", 0, 4) else {
         return Ok(None);
     };
-    Ok(Some(NewOrder {
+    Ok(Some(AskedOrder::new(NewOrder {
         name,
         issuer,
         prefix: Text::copy_of(alloc, prefix)?,
@@ -55,14 +53,13 @@ fn new_order(alloc: Global, value: &Value) -> Result<Option<NewOrder>, AllocErro
         first,
         quantity,
         macs: macs as u8,
-    }))
+    })))
 }
 
 /// The request that the body of `POST /v1/order` asks for, if its members are of their forms.
 #[tactic(auto, unfolding(crate::specs::Orders::make_order_of))]
 pub fn make_order_request(alloc: Global, value: &Value) -> Result<Option<Request>, AllocError>
-    ensures value { IfOk result (λ request. request ≡ make_order_of (view value.now)) }
-    ensures asked { IfOk result (λ request. IfSome request IsAsked) }
+    ensures { IfOk result (λ request. request ≡ make_order_of (view value.now)) }
 {
     let Some(number) = whole_member(value, "nr", 1, LARGEST_WHOLE) else {
         return Ok(None);

@@ -1,19 +1,23 @@
 // What a request asks for.
-ghost use Rattle.std.specs.Prelude.{◌≡◌, bytes_eq, codes, option_map, IfOk};
+ghost use Rattle.std.specs.Prelude.{◌≡◌, bytes_eq, codes, option_map, ok_or, IfOk, IfErr, Err};
 ghost use Rattle.serde_json.specs.View.{view};
-ghost use Rattle.text_core.specs.Answer.{GivesUnless};
+ghost use Rattle.text_core.specs.Answer.{GivesUnless, result_map};
 ghost use Rattle.http_frames.specs.Frames.{Request as HttpRequest};
 ghost use Rattle.http_frames.specs.Looks.{IsFrameAt};
-ghost use Rattle.office_commands.specs.Asked.{IsAsked};
-ghost use Rattle.station_api.specs.Requests.{route_of, order_made, order_shown, asked, IsParsed};
+ghost use Rattle.text_core.specs.Json.{json_of};
+ghost use Rattle.station_api.specs.Maps.{import_map_of};
+ghost use Rattle.station_api.specs.Orders.{make_order_of};
+ghost use Rattle.station_api.specs.Requests.{route_of, order_route, map_route, body_read, order_shown, asked};
 
+use crate::map::{MAP_PATH, import_map_request};
 use crate::order::{ORDER_PATH, make_order_request, order_name};
 use http_fields::split_target;
 use http_frames::buffer::Buffer;
 use http_frames::frame::Frame;
 use office_core::site::{Caller, SeatCaller};
 use office_core::{Command, Refusal, Request, Show};
-use std::alloc::Global;
+use serde_json::Value;
+use std::alloc::{AllocError, Global};
 use text_core::{Digest, JsonFault, read_json};
 
 /// What a seat asks of the office.
@@ -30,15 +34,14 @@ pub enum Route {
     MakeOrder,
     /// `GET /v1/order`.
     ShowOrder,
+    /// `POST /v1/map`.
+    ImportMap,
 }
 
-/// What a method and a path lead to, if to anything.
-fn find_route(method: &[u8], path: &[u8]) -> Option<Route>
-    ensures { result ≡ route_of method.now path.now }
+/// What the method of an order's path leads to.
+fn order_route(method: &[u8]) -> Option<Route>
+    ensures { result ≡ order_route method.now }
 {
-    if path != ORDER_PATH.as_bytes() {
-        return None;
-    }
     if method == b"POST".as_slice() {
         return Some(Route::MakeOrder);
     }
@@ -48,27 +51,71 @@ fn find_route(method: &[u8], path: &[u8]) -> Option<Route>
     None
 }
 
-/// The order that a body asks for, or the lowest refusal of it.
-fn read_order(alloc: Global, body: &[u8]) -> Result<Request, Refusal>
-    ensures asked { IfOk result IsAsked }
-    ensures order { GivesUnless Refusal.Unkept result (order_made body.now) }
+/// What the method of a map's path leads to.
+fn map_route(method: &[u8]) -> Option<Route>
+    ensures { result ≡ map_route method.now }
 {
-    let value = match read_json(alloc, body) {
-        Ok(value) => value,
-        Err(JsonFault::NotJson) => return Err(Refusal::BadJson),
-        Err(JsonFault::OutOfMemory) => return Err(Refusal::Unkept),
-    };
-    match make_order_request(alloc, &value) {
+    if method != b"POST".as_slice() {
+        return None;
+    }
+    Some(Route::ImportMap)
+}
+
+/// What a method and a path lead to, if to anything.
+fn find_route(method: &[u8], path: &[u8]) -> Option<Route>
+    ensures { result ≡ route_of method.now path.now }
+{
+    if path == ORDER_PATH.as_bytes() {
+        return order_route(method);
+    }
+    if path == MAP_PATH.as_bytes() {
+        return map_route(method);
+    }
+    None
+}
+
+/// The JSON of a body, or the refusal of a body that is none.
+fn read_value(alloc: Global, body: &[u8]) -> Result<Value, Refusal>
+    ensures { GivesUnless Refusal.Unkept (result_map view result) (ok_or (json_of body.now) Refusal.BadJson) }
+{
+    match read_json(alloc, body) {
+        Ok(value) => Ok(value),
+        Err(JsonFault::NotJson) => Err(Refusal::BadJson),
+        Err(JsonFault::OutOfMemory) => Err(Refusal::Unkept),
+    }
+}
+
+/// The request that was found, or the refusal of a body that asks for none.
+fn found_request(found: Result<Option<Request>, AllocError>) -> Result<Request, Refusal>
+    ensures found { IfOk found (λ request. result ≡ ok_or request Refusal.BadMember) }
+    ensures memory { IfErr found (λ _. result ≡ Err Refusal.Unkept) }
+{
+    match found {
         Ok(Some(request)) => Ok(request),
         Ok(None) => Err(Refusal::BadMember),
         Err(_) => Err(Refusal::Unkept),
     }
 }
 
+/// The order that a body asks for, or the lowest refusal of it.
+fn read_order(alloc: Global, body: &[u8]) -> Result<Request, Refusal>
+    ensures { GivesUnless Refusal.Unkept result (body_read make_order_of body.now) }
+{
+    let value = read_value(alloc, body)?;
+    found_request(make_order_request(alloc, &value))
+}
+
+/// The map that a body imports, or the lowest refusal of it.
+fn read_map_text(alloc: Global, body: &[u8]) -> Result<Request, Refusal>
+    ensures { GivesUnless Refusal.Unkept result (body_read import_map_of body.now) }
+{
+    let value = read_value(alloc, body)?;
+    found_request(import_map_request(alloc, &value))
+}
+
 /// The order that a query asks for, or the refusal of it.
 fn read_order_name(query: &[u8]) -> Result<Request, Refusal>
-    ensures asked { IfOk result IsAsked }
-    ensures shown { result ≡ order_shown query.now }
+    ensures { result ≡ order_shown query.now }
 {
     let Some(name) = order_name(query) else {
         return Err(Refusal::BadMember);
@@ -91,7 +138,7 @@ pub fn parse_command(
     requires { (request : HttpRequest) × IsFrameAt buffer.now.window buffer.now.spans frame request }
     ensures asked { (request : HttpRequest) → IsFrameAt buffer.now.window buffer.now.spans frame request
         → GivesUnless Refusal.Unkept result (asked caller request) }
-    ensures parsed { IfOk result (IsParsed caller) }
+    ensures seat { IfOk result (λ parsed. caller ≡ Caller.Seat parsed.seat) }
 {
     let (path, query) = split_target(frame.target(buffer));
     let Some(route) = find_route(frame.method(buffer), path) else {
@@ -103,6 +150,7 @@ pub fn parse_command(
     let request = match route {
         Route::MakeOrder => read_order(alloc, frame.body(buffer))?,
         Route::ShowOrder => read_order_name(query)?,
+        Route::ImportMap => read_map_text(alloc, frame.body(buffer))?,
     };
     Ok(Parsed { seat, request })
 }

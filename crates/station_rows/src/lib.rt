@@ -9,6 +9,8 @@ mod customers;
 #[cfg(test)]
 mod faults;
 #[cfg(test)]
+mod maps;
+#[cfg(test)]
 mod orders;
 #[cfg(test)]
 mod parts;

@@ -1,5 +1,5 @@
 //! The examples over the keeper in memory.
-use crate::{addresses, customers, faults, orders, streams};
+use crate::{addresses, customers, faults, maps, orders, streams};
 use office_core::MemKeep;
 use std::test::Fail;
 
@@ -85,4 +85,39 @@ fn stops_where_the_writer_does(rt: HostRuntime) -> Result<(), Fail> {
         faults::stops_where_the_writer_does(&rt, &mut MemKeep::new(rt.alloc()), taken)?;
     }
     Ok(())
+}
+
+#[test]
+fn imports_a_map(rt: HostRuntime) -> Result<(), Fail> {
+    maps::imports_a_map(&rt, &mut MemKeep::new(rt.alloc()))
+}
+
+#[test]
+fn imports_a_map_alone(rt: HostRuntime) -> Result<(), Fail> {
+    maps::imports_a_map_alone(&rt, &mut MemKeep::new(rt.alloc()))
+}
+
+#[test]
+fn refuses_maps(rt: HostRuntime) -> Result<(), Fail> {
+    maps::refuses_maps(&rt, &mut MemKeep::new(rt.alloc()))
+}
+
+#[test]
+fn takes_a_read_lock_of_the_coding_field(rt: HostRuntime) -> Result<(), Fail> {
+    maps::takes_a_read_lock_of_the_coding_field(&rt, &mut MemKeep::new(rt.alloc()))
+}
+
+#[test]
+fn limits_maps(rt: HostRuntime) -> Result<(), Fail> {
+    maps::limits_maps(&rt, &mut MemKeep::new(rt.alloc()))
+}
+
+#[test]
+fn tells_a_taken_digest(rt: HostRuntime) -> Result<(), Fail> {
+    maps::tells_a_taken_digest(&rt, &mut MemKeep::new(rt.alloc()))
+}
+
+#[test]
+fn refuses_requests_for_maps(rt: HostRuntime) -> Result<(), Fail> {
+    maps::refuses_requests_for_maps(&rt, &mut MemKeep::new(rt.alloc()))
 }

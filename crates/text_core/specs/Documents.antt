@@ -1,7 +1,7 @@
 -- A text as a TOML document, and the members of its tables.
-use Rattle.std.specs.Prelude.{ℕ, ℤ, pos, negsuc, List, [], ◌∷◌, ◌&&◌, nat_le, Option, Some, None, Result, option_and_then, option_map, if◌then◌else◌}
+use Rattle.std.specs.Prelude.{ℕ, ℤ, pos, negsuc, List, [], ◌∷◌, Bool, false, ◌&&◌, nat_le, Option, Some, None, Result, option_and_then, option_map, if◌then◌else◌}
 use Rattle.std.specs.Option.{ok_or}
-use Rattle.toml.specs.Data.{Data, Items, no_items, item, table, get, as_array, as_integer, as_str}
+use Rattle.toml.specs.Data.{Data, Items, no_items, item, table, get, as_array, as_bool, as_integer, as_str}
 use Rattle.toml.specs.Parse.{parse_document}
 use Rattle.text_core.specs.Digest.{digest_of_text}
 use Rattle.text_core.specs.Name.{name_of_text}
@@ -28,6 +28,24 @@ whole_within least greatest d = option_and_then (within least greatest) (as_inte
 -- a member that is a whole number of a range
 abbrev pub whole_member : List ℕ → ℕ → ℕ → Data → Option ℕ
 whole_member name least greatest d = option_and_then (whole_within least greatest) (get name d)
+
+-- what is read of what was found, or nothing where nothing was
+abbrev pub if_there : {A : Type 0} → (Data → Option A) → Option Data → Option (Option A)
+if_there read None = Some None
+if_there read (Some d) = option_map Some (read d)
+
+-- a member that is a whole number of a range, or nothing where there is no such member
+abbrev pub optional_whole : List ℕ → ℕ → ℕ → Data → Option (Option ℕ)
+optional_whole name least greatest d = if_there (whole_within least greatest) (get name d)
+
+-- the truth value that was found, or false where nothing was
+abbrev pub flag_in : Option Data → Option Bool
+flag_in None = Some false
+flag_in (Some d) = as_bool d
+
+-- a member that is a truth value, or false where there is no such member
+abbrev pub flag_member : List ℕ → Data → Option Bool
+flag_member name d = flag_in (get name d)
 
 -- a member that is a text
 abbrev pub text_member : List ℕ → Data → Option (List ℕ)

@@ -59,6 +59,30 @@ pub fn whole_member(value: &Value, name: &str, least: u64, greatest: u64) -> Opt
     whole_within(value.get(name)?, least, greatest)
 }
 
+/// A member that is a whole number from least to greatest, or nothing where there is no such
+/// member. `None` where the member is something else.
+pub fn optional_whole(value: &Value, name: &str, least: u64, greatest: u64) -> Option<Option<u64>>
+    ensures value { result ≡ documents.optional_whole name.now least greatest (view value.now) }
+    ensures bounds { IfSome result (λ found.
+        IfSome found (λ number. (least ≤ number) × (number ≤ greatest))) }
+{
+    match value.get(name) {
+        Some(found) => Some(Some(whole_within(found, least, greatest)?)),
+        None => Some(None),
+    }
+}
+
+/// A member that is a truth value, or false where there is no such member. `None` where the member
+/// is something else.
+pub fn flag_member(value: &Value, name: &str) -> Option<bool>
+    ensures { result ≡ documents.flag_member name.now (view value.now) }
+{
+    match value.get(name) {
+        Some(found) => found.as_bool(),
+        None => Some(false),
+    }
+}
+
 /// A member that is a text.
 pub fn text_member<'v>(value: &'v Value, name: &str) -> Option<&'v str>
     ensures { option_map (λ text. text.now) result

@@ -41,12 +41,30 @@ fn replay_is_a_job(rt: HostRuntime) -> Result<(), AllocError> {
 }
 
 #[test]
+fn check_map_is_a_job(rt: HostRuntime) -> Result<(), AllocError> {
+    let alloc = rt.alloc();
+    for (line, name) in [
+        ("station check-map map.toml", "map.toml"),
+        ("station check-map ../a/map.toml", "../a/map.toml"),
+        ("station check-map -- --help", "--help"),
+    ] {
+        let map = Text::copy_of(alloc, name)?;
+        let outcome = outcome_of_line(alloc, line);
+        assert_eq!(rt; outcome, Outcome::Done(Job::CheckMap { map }), "{line}");
+    }
+    Ok(())
+}
+
+#[test]
 fn the_name_of_the_file_stays_as_it_was_given(rt: HostRuntime) -> Result<(), AllocError> {
     let alloc = rt.alloc();
     for name in ["a site.toml", " ", "\u{e4}\n"] {
         let site = Text::copy_of(alloc, name)?;
         let outcome = outcome_of(alloc, &["station", "replay", "--site", name]);
         assert_eq!(rt; outcome, Outcome::Done(Job::Replay { site }), "{name}");
+        let map = Text::copy_of(alloc, name)?;
+        let outcome = outcome_of(alloc, &["station", "check-map", name]);
+        assert_eq!(rt; outcome, Outcome::Done(Job::CheckMap { map }), "{name}");
     }
     Ok(())
 }
@@ -59,6 +77,9 @@ fn help_is_shown(rt: HostRuntime) {
         "station replay --site site.toml --help",
         "station help",
         "station help replay",
+        "station check-map --help",
+        "station check-map map.toml -h",
+        "station help check-map",
     ] {
         assert_eq!(rt; outcome_of_line(rt.alloc(), line), Outcome::Help, "{line}");
     }
@@ -79,6 +100,14 @@ fn other_words_are_refused(rt: HostRuntime) {
         "station replay --site a b",
         "station replay --site a --db x",
         "station --site a replay",
+        "check-map map.toml",
+        "station check-map",
+        "station check-map --",
+        "station check-map a b",
+        "station check-map --map a",
+        "station check-map --site a",
+        "station check-map a --site b",
+        "station replay check-map a",
     ] {
         assert_eq!(rt;
             outcome_of_line(rt.alloc(), line),

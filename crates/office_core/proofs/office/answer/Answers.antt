@@ -18,7 +18,7 @@ returns-in-Ok-clause-step g c = λ honest t stands.
     subst (λ (t : Tables). Step section seat t c.args.request.now (answer_of c.in-Ok.reply) (tables c.serve.new.keep)) (stands (c.serve.ensures.was_open is)) step in (
       tables c.serve.new.keep,
       answers section seat t c.args.request.now _ _ same,
-      step_sound c.args.site.now c.args.caller c.customer.ensures.site c.requires.caller t c.args.request.now c.requires.asked _ _ same,
+      step_sound c.args.site.now c.args.caller c.customer.ensures.site c.requires t c.args.request.now c.ranges-2.ensures _ _ same,
       λ _. refl,
     )
 

@@ -1,9 +1,6 @@
-use Rattle.std.proofs.Common.{◌≡◌, ◌⊎◌, true, None, List, [], ◌∷◌, Option, Some, option_map, option_and_then, inl, inr, refl, sym, ap, subst, ◌∙◌}
+use Rattle.std.proofs.Common.{◌≡◌, ◌⊎◌, true, None, List, [], ◌∷◌, Option, option_and_then, inl, inr, refl, sym, ap, subst, ◌∙◌}
 use Rattle.clap.specs.Words.{App, IsAmong, Row, Text, Kinds, HasKind, kind_of, app_of, is_simple, is_simple_and_free, fault_of, subcommand_of}
-use Rattle.clap.specs.Words.{subcommand_name_of, subcommand_rows_of}
 use Rattle.clap.specs.declared.error.Error.{Error}
-use Rattle.clap.specs.declared.parser.matches.ArgMatches.{ArgMatches}
-use Rattle.clap.specs.declared.parser.matches.ArgMatches.TheViews.{out-ArgMatches}
 use Rattle.clap.specs.declared.error.kind.ErrorKind.TheVariants.{DisplayHelp, OutOfMemory}
 use Rattle.clap.proofs.OnLiterals.{clap_on_literals}
 use Rattle.station.specs.declared.job.Job.{Job}

@@ -1,12 +1,11 @@
-use Rattle.std.proofs.Common.{inl, sym}
-use Rattle.station.proofs.FileTexts.{site_in-given, site_in-no_text}
+use Rattle.std.proofs.Common.{refl}
+use Rattle.site_core.specs.SiteText.{site_read}
+use Rattle.site_core.specs.declared.fault.SiteFault.TheVariants.{OutOfMemory}
+use Rattle.station.proofs.FileTexts.{given_of_text}
+use Rattle.station.specs.SiteFile.{site_failure}
 use Rattle.station.proofs.site_file.site_from.Goals as goal
-
-pub returns-in_default : goal.returns-in_default
-returns-in_default c = inl (sym (site_in-no_text c.args.name c.args.bytes.now c.if-bytes-gt-TEXT_LIMIT.false c.in_default.ensures.cases.0))
 
 pub returns : goal.returns
 returns c =
-    let text = c.in-Ok.ensures.cases in
-    site_in-given c.args.name c.args.bytes.now c.read_site.result c.map_err.result c.if-bytes-gt-TEXT_LIMIT.false text.1
-    (rw text.0 at c.read_site.ensures.exact) c.map_err.ensures.cases
+    given_of_text site_failure OutOfMemory site_read _ c.in_ok-text.text.now c.read_site.result c.map_err.result refl
+    (rw c.site_failure-too_long.ensures at c.in_ok-text.ensures) c.read_site.ensures.exact c.map_err.ensures.cases

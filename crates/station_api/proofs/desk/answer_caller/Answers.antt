@@ -4,10 +4,7 @@ use Rattle.station_api.proofs.Answering.{answers_caller, asked_is, is_seat, or_s
 use Rattle.station_api.proofs.desk.answer_caller.Goals as goal
 
 pub answer-requires : goal.answer-requires
-answer-requires g c = record {
-  caller = is_seat c.args.desk.now.site.now c.args.caller c.in-Ok.parsed c.requires.caller c.in-Ok.ensures.parsed;
-  asked = c.in-Ok.ensures.parsed.1;
-}
+answer-requires g c = is_seat c.args.desk.now.site.now c.args.caller c.in-Ok.parsed c.requires.caller c.in-Ok.ensures.seat
 
 pub returns-in-Ok : goal.returns-in-Ok
 returns-in-Ok g c = λ request framed.

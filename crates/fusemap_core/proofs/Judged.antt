@@ -1,0 +1,77 @@
+-- A map in which no fault is found keeps the rules, and the other way round.
+use Rattle.std.proofs.Common.{◌≡◌, ◌≢◌, Bool, true, false, not, Option, Some, None, Ok, All, AllPairs, Decides, refl, ap}
+use Rattle.std.specs.Prelude.{if◌then◌else◌}
+use Rattle.std.specs.List.{list_all}
+use Rattle.fusemap_core.specs.declared.fault.MapFault.{MapFault}
+use Rattle.fusemap_core.specs.declared.fault.MapFault.TheVariants.{NameTwice, OutOfBlock, FieldsOverlap, BadLockField, BadLockIndex, BadKeyField}
+use Rattle.fusemap_core.specs.Map.{Map, IsMap, IsInRange, IsInBlock, AreApart, HasItsLocks, IsKeyField}
+use Rattle.fusemap_core.specs.MapFaults.{all_pairs, have_other_names, is_in_block, are_apart, has_lock_fields, has_its_locks, is_plain_or_key, lowest_fault, unless_faulty, judged}
+use Rattle.fusemap_core.proofs.Pairs.{Decides-all_pairs, Decides-list_all}
+use Rattle.fusemap_core.proofs.Rules.{Decides-have_other_names, Decides-is_in_block, Decides-are_apart, Decides-has_lock_fields, Decides-has_its_locks, Decides-is_plain_or_key}
+
+-- what a judgement that finds no fault says of its six tests
+no_fault : (names inside apart locks bits keys : Bool)
+    → (if not names then Some NameTwice else if not inside then Some OutOfBlock else if not apart then Some FieldsOverlap else if not locks then Some BadLockField else if not bits then Some BadLockIndex else if not keys then Some BadKeyField else None) ≡ None
+    → (names ≡ true) × (inside ≡ true) × (apart ≡ true) × (locks ≡ true) × (bits ≡ true) × (keys ≡ true)
+no_fault false inside apart locks bits keys e = cc
+no_fault true false apart locks bits keys e = cc
+no_fault true true false locks bits keys e = cc
+no_fault true true true false bits keys e = cc
+no_fault true true true true false keys e = cc
+no_fault true true true true true false e = cc
+no_fault true true true true true true e = (refl, refl, refl, refl, refl, refl)
+
+names_decided : (m : Map) → Decides (all_pairs have_other_names m.fields) (AllPairs (λ f g. f.name ≢ g.name) m.fields)
+names_decided m = Decides-all_pairs have_other_names (λ f g. f.name ≢ g.name) Decides-have_other_names m.fields
+
+blocks_decided : (m : Map) → Decides (list_all (is_in_block m.blocks) m.fields) (All (IsInBlock m.blocks) m.fields)
+blocks_decided m = Decides-list_all (is_in_block m.blocks) (IsInBlock m.blocks) (Decides-is_in_block m.blocks) m.fields
+
+apart_decided : (m : Map) → Decides (all_pairs are_apart m.fields) (AllPairs AreApart m.fields)
+apart_decided m = Decides-all_pairs are_apart AreApart Decides-are_apart m.fields
+
+locks_decided : (m : Map) → Decides (list_all (has_its_locks m.fields m.wr m.rd) m.fields) (All (HasItsLocks m) m.fields)
+locks_decided m = Decides-list_all (has_its_locks m.fields m.wr m.rd) (HasItsLocks m) (Decides-has_its_locks m) m.fields
+
+keys_decided : (m : Map) → Decides (list_all (is_plain_or_key m.blocks) m.fields) (All (λ f. f.key ≡ true → IsKeyField m.blocks f) m.fields)
+keys_decided m = Decides-list_all (is_plain_or_key m.blocks) (λ f. f.key ≡ true → IsKeyField m.blocks f) (Decides-is_plain_or_key m.blocks) m.fields
+
+-- a map in which no fault is found
+pub IsMap-from_no_fault : (m : Map) → IsInRange m → lowest_fault m ≡ None → IsMap m
+IsMap-from_no_fault m ranges none =
+    let parts = no_fault (all_pairs have_other_names m.fields) (list_all (is_in_block m.blocks) m.fields) (all_pairs are_apart m.fields) (has_lock_fields m) (list_all (has_its_locks m.fields m.wr m.rd) m.fields) (list_all (is_plain_or_key m.blocks) m.fields) none in
+    record {
+      ranges = ranges;
+      names = (names_decided m).0 parts.0;
+      in_block = (blocks_decided m).0 parts.1;
+      apart = (apart_decided m).0 parts.2;
+      lock_fields = (Decides-has_lock_fields m).0 parts.3;
+      locks = (locks_decided m).0 parts.4;
+      keys = (keys_decided m).0 parts.5;
+    }
+
+-- a map has no fault
+no_fault-from_IsMap : (m : Map) → IsMap m → lowest_fault m ≡ None
+no_fault-from_IsMap m is =
+    let names = (names_decided m).1 is.names in
+    let blocks = (blocks_decided m).1 is.in_block in
+    let apart = (apart_decided m).1 is.apart in
+    let lock_fields = (Decides-has_lock_fields m).1 is.lock_fields in
+    let locks = (locks_decided m).1 is.locks in
+    let keys = (keys_decided m).1 is.keys in
+    rw (names, blocks, apart, lock_fields, locks, keys) refl
+
+-- a judgement that gives a map found no fault, and gives the map that was judged
+faultless : (fault : Option MapFault) (m found : Map) → unless_faulty fault m ≡ Ok found → (fault ≡ None) × (m ≡ found)
+faultless (Some fault) m found e = cc
+faultless None m found e = (refl, cc)
+
+pub same-from_judged : (m found : Map) → judged m ≡ Ok found → m ≡ found
+same-from_judged m found e = (faultless (lowest_fault m) m found e).1
+
+pub IsMap-from_judged : (m found : Map) → IsInRange m → judged m ≡ Ok found → IsMap found
+IsMap-from_judged m found ranges e =
+    let parts = faultless (lowest_fault m) m found e in rw (← parts.1) (IsMap-from_no_fault m ranges parts.0)
+
+pub judged-from_IsMap : (m : Map) → IsMap m → judged m ≡ Ok m
+judged-from_IsMap m is = ap (λ fault. unless_faulty fault m) (no_fault-from_IsMap m is)

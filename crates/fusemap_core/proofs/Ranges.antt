@@ -1,0 +1,111 @@
+-- The ranges of the numbers that a document gives.
+use Rattle.std.proofs.Common.{◌≡◌, ℕ, suc, zero, ℤ, pos, negsuc, ◌≤◌, ◌&&◌, List, [], ◌∷◌, length, Option, Some, None, All, option_map, option_and_then, refl, ap, ◌∙◌, arith}
+use Rattle.std.specs.Prelude.{nat_le, if◌then◌else◌, codes}
+use Rattle.std.proofs.lemmas.Bool.{and_parts, leb-true}
+use Rattle.std.proofs.lemmas.Option.{cond_some, option_and_then_some}
+use Rattle.toml.specs.Data.{Data, get, as_integer}
+use Rattle.text_core.specs.Documents.{within, whole_within, whole_member, optional_whole, flag_member, name_member, items_member}
+use Rattle.text_core.specs.Options.{all_of}
+use Rattle.fusemap_core.specs.declared.field.Field.{Field}
+use Rattle.fusemap_core.specs.declared.map.TheConstants.{BLOCK_LIMIT, FIELD_LIMIT, WORD_LIMIT}
+use Rattle.fusemap_core.specs.declared.text.TheConstants.{LARGEST_INTEGER}
+use Rattle.fusemap_core.specs.Map.{Map, IsInRange}
+use Rattle.fusemap_core.specs.MapText.{optional_name, of_length, list_member, words_in, field_in, map_of}
+
+-- a number in a range
+in_bounds : (least greatest n found : ℕ) → (if nat_le least n && nat_le n greatest then Some n else None) ≡ Some found → (least ≤ found) × (found ≤ greatest)
+in_bounds least greatest n found e =
+    let chosen = cond_some (nat_le least n && nat_le n greatest) n found e in
+    let parts = and_parts (nat_le least n) (nat_le n greatest) chosen.0 in
+    let low = leb-true least n parts.0 in
+    let high = leb-true n greatest parts.1 in
+    (rw (← chosen.1) low, rw (← chosen.1) high)
+
+within_bounds : (least greatest : ℕ) (z : ℤ) (n : ℕ) → within least greatest z ≡ Some n → (least ≤ n) × (n ≤ greatest)
+within_bounds least greatest (pos m) n e = in_bounds least greatest m n e
+within_bounds least greatest (negsuc m) n e = cc
+
+-- a member that is a whole number lies in its range
+whole_member_bounds : (name : List ℕ) (least greatest : ℕ) (d : Data) (n : ℕ) → whole_member name least greatest d ≡ Some n → (least ≤ n) × (n ≤ greatest)
+whole_member_bounds name least greatest d n e =
+    option_and_then_some (whole_within least greatest) (get name d) n e
+    (λ found there whole. option_and_then_some (within least greatest) (as_integer found) n whole (λ z is inside. within_bounds least greatest z n inside))
+
+-- what is read of a first element and of the others
+parts_of : {B : Type 0} (first : Option B) (others : Option (List B)) (all : List B) → option_and_then (λ y. option_map (λ ys. y ∷ ys) others) first ≡ Some all
+    → (y : B) × (ys : List B) × (first ≡ Some y) × (others ≡ Some ys) × (y ∷ ys ≡ all)
+parts_of None others all e = cc
+parts_of (Some y) None all e = cc
+parts_of (Some y) (Some ys) all e = (y, ys, refl, refl, cc)
+
+-- as many are read as there are
+length-all_of : {A B : Type 0} (f : A → Option B) (xs : List A) (ys : List B) → all_of f xs ≡ Some ys → length xs ≡ length ys
+length-all_of f [] ys e = let same : [] ≡ ys = cc in ap length same
+length-all_of f (x ∷ xs) ys e =
+    let parts = parts_of (f x) (all_of f xs) ys e in
+    ap suc (length-all_of f xs parts.1 parts.3) ∙ ap length parts.4
+
+-- what holds of what is read of each element
+first_and_others : {B : Type 0} (P : B → Type 0) (y : B) (ys : List B) → P y → All P ys → All P (y ∷ ys)
+first_and_others P y ys here others zero d low = here
+first_and_others P y ys here others (suc k) d low = others k d (omega arith)
+
+All-all_of : {A B : Type 0} (f : A → Option B) (P : B → Type 0) → ((x : A) (y : B) → f x ≡ Some y → P y) → (xs : List A) (ys : List B) → all_of f xs ≡ Some ys → All P ys
+All-all_of f P each [] ys e = let same : [] ≡ ys = cc in rw (← same) (λ k d low. absurd (omega (arith, low)))
+All-all_of f P each (x ∷ xs) ys e =
+    let parts = parts_of (f x) (all_of f xs) ys e in
+    rw (← parts.4) (first_and_others P parts.0 parts.1 (each x parts.0 parts.2) (All-all_of f P each xs parts.1 parts.3))
+
+-- a list of so many items
+of_length_bounds : (least greatest : ℕ) (ds items : List Data) → of_length least greatest ds ≡ Some items → (least ≤ length items) × (length items ≤ greatest)
+of_length_bounds least greatest ds items e =
+    let chosen = cond_some (nat_le least (length ds) && nat_le (length ds) greatest) ds items e in
+    let parts = and_parts (nat_le least (length ds)) (nat_le (length ds) greatest) chosen.0 in
+    let low = leb-true least (length ds) parts.0 in
+    let high = leb-true (length ds) greatest parts.1 in
+    (rw (← chosen.1) low, rw (← chosen.1) high)
+
+list_member_bounds : (name : List ℕ) (least greatest : ℕ) (d : Data) (items : List Data) → list_member name least greatest d ≡ Some items → (least ≤ length items) × (length items ≤ greatest)
+list_member_bounds name least greatest d items e =
+    option_and_then_some (of_length least greatest) (items_member name d) items e (λ ds there. of_length_bounds least greatest ds items)
+
+-- a field has at least one bit
+count_of_field : (d : Data) (f : Field) → field_in d ≡ Some f → 1 ≤ f.count
+unfolding field_in
+count_of_field d f e =
+    option_and_then_some _ (name_member (codes "name") d) f e (λ name is_name e1.
+    option_and_then_some _ (whole_member (codes "block") 0 LARGEST_INTEGER d) f e1 (λ block is_block e2.
+    option_and_then_some _ (whole_member (codes "bit") 0 LARGEST_INTEGER d) f e2 (λ bit is_bit e3.
+    option_and_then_some _ (whole_member (codes "count") 1 LARGEST_INTEGER d) f e3 (λ count is_count e4.
+    option_and_then_some _ (optional_whole (codes "write") 0 LARGEST_INTEGER d) f e4 (λ write is_write e5.
+    option_and_then_some _ (optional_whole (codes "read") 0 LARGEST_INTEGER d) f e5 (λ read is_read e6.
+    option_and_then_some _ (flag_member (codes "key") d) f e6 (λ key is_key e7.
+    let same : ◌≡◌ {A = Field} (record { name = name; block = block; bit = bit; count = count; write = write; read = read; key = key }) f = cc in
+    rw (← same) (whole_member_bounds (codes "count") 1 LARGEST_INTEGER d count is_count).0)))))))
+
+-- the numbers of a map that a document gives are in range
+pub IsInRange-from_map_of : (d : Data) (m : Map) → map_of d ≡ Some m → IsInRange m
+unfolding map_of
+IsInRange-from_map_of d m e =
+    option_and_then_some _ (name_member (codes "name") d) m e (λ name is_name e1.
+    option_and_then_some _ (list_member (codes "block") 1 BLOCK_LIMIT d) m e1 (λ block_items is_blocks e2.
+    option_and_then_some _ (all_of words_in block_items) m e2 (λ blocks are_blocks e3.
+    option_and_then_some _ (list_member (codes "field") 1 FIELD_LIMIT d) m e3 (λ field_items is_fields e4.
+    option_and_then_some _ (all_of field_in field_items) m e4 (λ fields are_fields e5.
+    option_and_then_some _ (name_member (codes "wr") d) m e5 (λ wr is_wr e6.
+    option_and_then_some _ (name_member (codes "rd") d) m e6 (λ rd is_rd e7.
+    option_and_then_some _ (optional_name (codes "coding") d) m e7 (λ coding is_coding e8.
+    let same : ◌≡◌ {A = Map} (record { name = name; blocks = blocks; fields = fields; wr = wr; rd = rd; coding = coding }) m = cc in
+    let block_count = length-all_of words_in block_items blocks are_blocks in
+    let field_count = length-all_of field_in field_items fields are_fields in
+    let block_bounds = list_member_bounds (codes "block") 1 BLOCK_LIMIT d block_items is_blocks in
+    let field_bounds = list_member_bounds (codes "field") 1 FIELD_LIMIT d field_items is_fields in
+    rw (← same)
+    (record {
+      least_blocks = rw (← block_count) block_bounds.0;
+      most_blocks = rw (← block_count) block_bounds.1;
+      words = All-all_of words_in (λ words. (1 ≤ words) × (words ≤ WORD_LIMIT)) (whole_member_bounds (codes "words") 1 WORD_LIMIT) block_items blocks are_blocks;
+      least_fields = rw (← field_count) field_bounds.0;
+      most_fields = rw (← field_count) field_bounds.1;
+      counts = All-all_of field_in (λ f. 1 ≤ f.count) count_of_field field_items fields are_fields;
+    })))))))))

@@ -1,0 +1,72 @@
+-- The fuse map that a text is.
+use Rattle.std.specs.Prelude.{◌≡◌, ℕ, ◌≤◌, ◌&&◌, nat_le, nat_lt, List, length, codes, Option, Some, None, option_and_then, Result, Err, if◌then◌else◌}
+use Rattle.std.specs.Option.{ok_or}
+use Rattle.toml.specs.Data.{Data, get, as_str}
+use Rattle.text_core.specs.Answer.{result_and_then}
+use Rattle.text_core.specs.Documents.{document_of, whole_member, optional_whole, flag_member, name_member, items_member, if_there}
+use Rattle.text_core.specs.Name.{name_of_text}
+use Rattle.text_core.specs.Options.{◌>>=◌, all_of}
+use Rattle.fusemap_core.specs.declared.fault.MapFault.{MapFault}
+use Rattle.fusemap_core.specs.declared.fault.MapFault.TheVariants.{NotToml, BadMember}
+use Rattle.fusemap_core.specs.declared.field.Field.{Field}
+use Rattle.fusemap_core.specs.declared.map.TheConstants.{BLOCK_LIMIT, FIELD_LIMIT, WORD_LIMIT}
+use Rattle.fusemap_core.specs.declared.text.TheConstants.{TEXT_LIMIT, LARGEST_INTEGER}
+use Rattle.fusemap_core.specs.Map.{Map, IsMap}
+use Rattle.fusemap_core.specs.MapFaults.{judged}
+
+-- a value that is a name
+abbrev pub name_in : Data → Option (List ℕ)
+name_in d = option_and_then name_of_text (as_str d)
+
+-- a member that is a name, or nothing where there is no such member
+abbrev pub optional_name : List ℕ → Data → Option (Option (List ℕ))
+optional_name name d = if_there name_in (get name d)
+
+-- a list whose length lies in a range
+abbrev pub of_length : ℕ → ℕ → List Data → Option (List Data)
+of_length least greatest ds = if nat_le least (length ds) && nat_le (length ds) greatest then Some ds else None
+
+-- a member that is an array of so many items
+abbrev pub list_member : List ℕ → ℕ → ℕ → Data → Option (List Data)
+list_member name least greatest d = option_and_then (of_length least greatest) (items_member name d)
+
+-- the words of a block
+abbrev pub words_in : Data → Option ℕ
+words_in d = whole_member (codes "words") 1 WORD_LIMIT d
+
+-- a field
+unfoldable pub field_in : Data → Option Field
+field_in d = do
+  name ← name_member (codes "name") d
+  block ← whole_member (codes "block") 0 LARGEST_INTEGER d
+  bit ← whole_member (codes "bit") 0 LARGEST_INTEGER d
+  count ← whole_member (codes "count") 1 LARGEST_INTEGER d
+  write ← optional_whole (codes "write") 0 LARGEST_INTEGER d
+  read ← optional_whole (codes "read") 0 LARGEST_INTEGER d
+  key ← flag_member (codes "key") d
+  Some (record { name = name; block = block; bit = bit; count = count; write = write; read = read; key = key })
+
+-- the map of a document whose named members are of their types and ranges
+unfoldable pub map_of : Data → Option Map
+map_of d = do
+  name ← name_member (codes "name") d
+  block_items ← list_member (codes "block") 1 BLOCK_LIMIT d
+  blocks ← all_of words_in block_items
+  field_items ← list_member (codes "field") 1 FIELD_LIMIT d
+  fields ← all_of field_in field_items
+  wr ← name_member (codes "wr") d
+  rd ← name_member (codes "rd") d
+  coding ← optional_name (codes "coding") d
+  Some (record { name = name; blocks = blocks; fields = fields; wr = wr; rd = rd; coding = coding })
+
+-- the text is a TOML document of at most so many bytes whose named members are the map's, and the map is one
+pub record IsMapText (text : List ℕ) (m : Map) : Type 0 where
+  pub within : length text ≤ TEXT_LIMIT
+  pub members : (document_of text >>= map_of) ≡ Some m
+  pub is_map : IsMap m
+
+-- the map that a text is, or its lowest fault
+abbrev pub map_read : List ℕ → Result Map MapFault
+map_read text =
+    if nat_lt TEXT_LIMIT (length text) then Err BadMember
+    else result_and_then (λ d. result_and_then judged (ok_or (map_of d) BadMember)) (ok_or (document_of text) NotToml)

@@ -1,0 +1,186 @@
+ghost use Rattle.std.specs.Prelude.{◌≡◌, ◌≢◌, IfErr, IfOk, map, option_map};
+ghost use Rattle.toml.specs.View.{view};
+ghost use Rattle.text_core.specs.Answer.{GivesUnless};
+ghost use Rattle.text_core.specs.Options.{all_of};
+ghost use Rattle.fusemap_core.specs.Map.{Map};
+ghost use Rattle.fusemap_core.specs.MapText as map_text;
+ghost use Rattle.fusemap_core.specs.MapText.{IsMapText, field_in, map_of, map_read, name_in, words_in};
+
+use crate::draft::{FieldDraft, MapDraft};
+use crate::fault::MapFault;
+use crate::judge::judged_map;
+use crate::map::{BLOCK_LIMIT, FIELD_LIMIT, FuseMap, WORD_LIMIT};
+use std::alloc::{AllocError, Global};
+use text_core::Name;
+use text_core::document::{
+    flag_member, items_member, name_member, optional_whole, read_document, whole_member,
+};
+use toml::Value;
+
+/// The most bytes of a map's text.
+pub const TEXT_LIMIT: usize = 32768;
+
+/// The greatest whole number of TOML: 2^63 - 1.
+const LARGEST_INTEGER: u64 = 9223372036854775807;
+
+/// Reads the fuse map that a text is, or tells the lowest of its faults. The text is a TOML
+/// document: names `name`, `wr` and `rd`, a name `coding` where there is a coding field, an array of
+/// 1 to 4 tables `block`, each with its `words` (1 to 8), and an array of 1 to 128 tables `field`,
+/// each with its `name`, `block`, `bit` (0 or more) and `count` (1 or more), and, where it has them,
+/// the numbers of its locks, `write` and `read` (0 or more), and `key`, which is true for a key
+/// field. Blocks are numbered from 0 in the text's order. Other members are ignored.
+/// `MapFault::OutOfMemory` where memory ran out, whatever the text.
+pub fn read_map(alloc: Global, text: &str) -> Result<FuseMap, MapFault>
+    ensures exact { GivesUnless MapFault.OutOfMemory result (map_read text.now) }
+    ensures valid { IfOk result (IsMapText text.now) }
+
+    // No map is the text's where a fault other than want of memory is told.
+    ensures refused { IfErr result (λ fault. fault ≢ MapFault.OutOfMemory
+        → (map : Map) → ¬ IsMapText text.now map) }
+{
+    if TEXT_LIMIT < text.len() {
+        return Err(MapFault::BadMember);
+    }
+    let document = read_document(alloc, text)?;
+    let draft = read_draft(alloc, &document)?.ok_or(MapFault::BadMember)?;
+    judged_map(alloc, draft)
+}
+
+/// What a document gives as a map, whether or not its parts fit together.
+#[tactic(auto, unfolding(crate::specs::MapText::map_of))]
+fn read_draft(alloc: Global, document: &Value) -> Result<Option<MapDraft>, AllocError>
+    ensures { IfOk result (λ draft. draft ≡ map_of (view document.now)) }
+{
+    let Some(name) = name_member(document, "name") else {
+        return Ok(None);
+    };
+    let Some(block_items) = list_member(document, "block", 1, BLOCK_LIMIT) else {
+        return Ok(None);
+    };
+    let Some(blocks) = read_blocks(alloc, block_items)? else {
+        return Ok(None);
+    };
+    let Some(field_items) = list_member(document, "field", 1, FIELD_LIMIT) else {
+        return Ok(None);
+    };
+    let Some(fields) = read_fields(alloc, field_items)? else {
+        return Ok(None);
+    };
+    let Some(wr) = name_member(document, "wr") else {
+        return Ok(None);
+    };
+    let Some(rd) = name_member(document, "rd") else {
+        return Ok(None);
+    };
+    let Some(coding) = optional_name(document, "coding") else {
+        return Ok(None);
+    };
+    Ok(Some(MapDraft {
+        name,
+        blocks,
+        fields,
+        wr,
+        rd,
+        coding,
+    }))
+}
+
+/// The words of each block.
+fn read_blocks(alloc: Global, values: &[Value]) -> Result<Option<Vec<u8>>, AllocError>
+    ensures { IfOk result (λ found. option_map (λ blocks. blocks.items) found
+        ≡ all_of words_in (map view values.now)) }
+{
+    let mut blocks = Vec::new(alloc);
+    for value in values {
+        let Some(words) = read_words(value) else {
+            return Ok(None);
+        };
+        blocks.push(words)?;
+    }
+    Ok(Some(blocks))
+}
+
+fn read_words(value: &Value) -> Option<u8>
+    ensures { result ≡ words_in (view value.now) }
+{
+    let words = whole_member(value, "words", 1, WORD_LIMIT)?;
+    Some(words as u8)
+}
+
+fn read_fields(alloc: Global, values: &[Value]) -> Result<Option<Vec<FieldDraft>>, AllocError>
+    ensures { IfOk result (λ found. option_map (λ fields. fields.items) found
+        ≡ all_of field_in (map view values.now)) }
+{
+    let mut fields = Vec::new(alloc);
+    for value in values {
+        let Some(field) = read_field(value) else {
+            return Ok(None);
+        };
+        fields.push(field)?;
+    }
+    Ok(Some(fields))
+}
+
+#[tactic(auto, unfolding(crate::specs::MapText::field_in))]
+fn read_field(value: &Value) -> Option<FieldDraft>
+    ensures { result ≡ field_in (view value.now) }
+{
+    let name = name_member(value, "name")?;
+    let block = whole_member(value, "block", 0, LARGEST_INTEGER)?;
+    let bit = whole_member(value, "bit", 0, LARGEST_INTEGER)?;
+    let count = whole_member(value, "count", 1, LARGEST_INTEGER)?;
+    let write = optional_whole(value, "write", 0, LARGEST_INTEGER)?;
+    let read = optional_whole(value, "read", 0, LARGEST_INTEGER)?;
+    let key = flag_member(value, "key")?;
+    Some(FieldDraft {
+        name,
+        block,
+        bit,
+        count,
+        write,
+        read,
+        key,
+    })
+}
+
+/// A member that is a name, or nothing where there is no such member. `None` where the member is
+/// something else.
+fn optional_name(value: &Value, name: &str) -> Option<Option<Name>>
+    ensures { result ≡ map_text.optional_name name.now (view value.now) }
+{
+    match value.get(name) {
+        Some(found) => Some(Some(read_name(found)?)),
+        None => Some(None),
+    }
+}
+
+fn read_name(value: &Value) -> Option<Name>
+    ensures { result ≡ name_in (view value.now) }
+{
+    Name::parse(value.as_str()?)
+}
+
+/// The items of a member that is an array of so many.
+fn list_member<'v>(
+    value: &'v Value,
+    name: &str,
+    least: usize,
+    greatest: usize,
+) -> Option<&'v [Value]>
+    ensures { option_map (λ items. map view items.now) result
+        ≡ map_text.list_member name.now least greatest (view value.now) }
+{
+    of_length(items_member(value, name)?, least, greatest)
+}
+
+/// The items, if there are so many.
+fn of_length(items: &[Value], least: usize, greatest: usize) -> Option<&[Value]>
+    ensures { option_map (λ found. map view found.now) result
+        ≡ map_text.of_length least greatest (map view items.now) }
+{
+    if least <= items.len() && items.len() <= greatest {
+        Some(items)
+    } else {
+        None
+    }
+}
