@@ -205,11 +205,16 @@ pub fn tells_a_taken_digest<K: Keep>(
 ) -> Result<(), Fail> {
     let alloc = rt.alloc();
     let other = format!(in alloc; "{SAMPLE}# another\n")?;
-    let row = NewMap {
-        digest: Digest::of(SAMPLE.as_bytes()),
-        body: Text::from_string(other),
-    };
+    let digest = Digest::of(SAMPLE.as_bytes());
     let customer = Name::parse("acme").ok_or("no name")?;
+    let body = Text::from_string(other);
+    let None = keep.link(&customer, &digest).map_err(|_| "unkept")? else {
+        return Err(Fail::from("acme has the map"));
+    };
+    let None = keep.map_with(body.as_str()).map_err(|_| "unkept")? else {
+        return Err(Fail::from("the text is there"));
+    };
+    let row = NewMap { digest, body };
     let writes = vec![in alloc; Write::AddMap(Owned { customer, row })]?;
     keep.commit(writes.as_slice()).map_err(|_| "unkept")?;
     let answer = "{\"error\":\"map_digest_taken\",\"no\":39}";
