@@ -9,7 +9,7 @@ Python 3.11, standard library alone, on Linux.
 
 import argparse
 import os
-import resource
+import re
 import shlex
 import subprocess
 import sys
@@ -18,6 +18,7 @@ import time
 
 TEXT_BYTES = 32768
 FIELDS = 128
+PEAK = re.compile(r"^VmHWM:\s*([0-9]+) kB$", re.MULTILINE)
 
 
 def map_text():
@@ -33,8 +34,36 @@ def map_text():
     return text + "#" * (TEXT_BYTES - len(text) - 1) + "\n"
 
 
+def peak_of(command):
+    """The most memory that the command had in RAM when it was about to write its line, in KiB.
+
+    Its output is a pipe without room, so it waits there and can be looked at. The count that
+    `wait4` gives begins with the memory of the process that started it, which is Python's.
+    """
+    reader, writer = os.pipe()
+    os.set_blocking(writer, False)
+    try:
+        while True:
+            os.write(writer, b" " * 4096)
+    except BlockingIOError:
+        os.set_blocking(writer, True)
+    with subprocess.Popen(command, stdout=writer) as process:
+        os.close(writer)
+        while True:
+            with open(f"/proc/{process.pid}/syscall", encoding="ascii") as call:
+                if call.read().startswith("1 "):
+                    break
+            time.sleep(0.001)
+        with open(f"/proc/{process.pid}/status", encoding="ascii") as status:
+            peak = int(PEAK.search(status.read())[1])
+        while os.read(reader, 65536):
+            pass
+    os.close(reader)
+    return peak
+
+
 def measure(command, runs):
-    """Seconds of the fastest run, and the most memory that one took."""
+    """Prints the seconds of the fastest run, and the most memory of one more."""
     text = map_text().encode()
     assert len(text) == TEXT_BYTES
     with tempfile.NamedTemporaryFile(suffix=".toml") as file:
@@ -49,7 +78,7 @@ def measure(command, runs):
             if done.returncode != 0 or done.stdout != b"ok largest 4 128\n" or done.stderr:
                 print(f"FAILED: {done}", file=sys.stderr)
                 return 1
-    peak = resource.getrusage(resource.RUSAGE_CHILDREN).ru_maxrss
+        peak = peak_of(command + [file.name])
     print(f"{TEXT_BYTES} bytes, {FIELDS} fields: {fastest:.4f} seconds, peak {peak} KiB")
     return 0
 
