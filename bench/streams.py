@@ -181,11 +181,27 @@ def run_stream(command, size, seconds):
     print(f"{size} orders: {size / took:.0f} requests a second, peak {peak} KiB")
 
 
+def run_streams(command, sizes, seconds):
+    """Runs the command on streams of so many orders, one after another."""
+    for size in sizes:
+        run_stream(command, size, seconds)
+
+
 def run_slow(command, seconds):
     """Runs the command on the longest request, a byte a write, and prints the time to its reply."""
     request = longest_request()
     took, peak = run(command, request, 1, 1, seconds)
     print(f"{len(request)} bytes, one a write: {took:.3f} seconds, peak {peak} KiB")
+
+
+def status_of(measure, *words):
+    """Measures, and returns the exit status: 1 where it failed, which is then printed."""
+    try:
+        measure(*words)
+    except Failed as failure:
+        print(f"FAILED: {failure}", file=sys.stderr)
+        return 1
+    return 0
 
 
 def main():
@@ -203,16 +219,10 @@ def main():
     if not args.cmd:
         parser.error("--cmd or --stream is needed")
     command = shlex.split(args.cmd)
-    try:
-        if args.slow:
-            run_slow(command, args.seconds)
-            return 0
-        for size in args.sizes.split(","):
-            run_stream(command, int(size), args.seconds)
-    except Failed as failure:
-        print(f"FAILED: {failure}", file=sys.stderr)
-        return 1
-    return 0
+    if args.slow:
+        return status_of(run_slow, command, args.seconds)
+    sizes = [int(size) for size in args.sizes.split(",")]
+    return status_of(run_streams, command, sizes, args.seconds)
 
 
 if __name__ == "__main__":

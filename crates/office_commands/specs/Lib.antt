@@ -2,3 +2,4 @@ pub mod NewOrders
 pub mod Asked
 pub mod Refusals
 pub mod Replies
+pub mod DeviceReplies

@@ -3,7 +3,7 @@ use Rattle.std.specs.Prelude.{ℕ, List, ◌++◌, codes, decimal}
 use Rattle.http_replies.specs.declared.Status.{Status}
 use Rattle.http_replies.specs.declared.Status.TheVariants.{BadRequest, Unauthorized, Forbidden, NotFound, Conflict, Unprocessable, Unavailable}
 use Rattle.office_commands.specs.declared.refusal.Refusal.{Refusal}
-use Rattle.office_commands.specs.declared.refusal.Refusal.TheVariants.{UnknownToken, UnknownPath, WrongCaller, BadJson, BadMember, WrongNumber, OtherBody, UnknownOrder, Exists, BadMap, BadSerial, NumberTooWide, NoMacRoom, RangeOverlap, ForeignIssuer, MapDigestTaken, Limit, Unkept}
+use Rattle.office_commands.specs.declared.refusal.Refusal.TheVariants.{UnknownToken, UnknownPath, WrongCaller, BadJson, BadMember, WrongNumber, OtherBody, UnknownMap, UnknownOrder, UnknownDevice, Exists, QuantityReached, BadMap, BadSerial, NumberTooWide, NoMacRoom, RangeOverlap, CodingScheme, ForeignIssuer, MapDigestTaken, Limit, BadReadback, Unkept}
 
 abbrev pub refusal_status : Refusal → Status
 refusal_status UnknownToken = Unauthorized
@@ -13,16 +13,21 @@ refusal_status BadJson = BadRequest
 refusal_status BadMember = BadRequest
 refusal_status (WrongNumber expected) = Conflict
 refusal_status OtherBody = Conflict
+refusal_status UnknownMap = NotFound
 refusal_status UnknownOrder = NotFound
+refusal_status UnknownDevice = NotFound
 refusal_status Exists = Conflict
+refusal_status QuantityReached = Conflict
 refusal_status (BadMap fault) = Unprocessable
 refusal_status BadSerial = Unprocessable
 refusal_status NumberTooWide = Unprocessable
 refusal_status NoMacRoom = Conflict
 refusal_status RangeOverlap = Conflict
+refusal_status CodingScheme = Unprocessable
 refusal_status ForeignIssuer = Unprocessable
 refusal_status MapDigestTaken = Conflict
 refusal_status Limit = Conflict
+refusal_status BadReadback = Unprocessable
 refusal_status Unkept = Unavailable
 
 abbrev pub refusal_body : Refusal → List ℕ
@@ -33,14 +38,19 @@ refusal_body BadJson = codes "{\"error\":\"bad_json\",\"no\":9}"
 refusal_body BadMember = codes "{\"error\":\"bad_member\",\"no\":10}"
 refusal_body (WrongNumber expected) = codes "{\"error\":\"wrong_number\",\"expected\":" ++ (decimal expected ++ codes ",\"no\":11}")
 refusal_body OtherBody = codes "{\"error\":\"other_body\",\"no\":12}"
+refusal_body UnknownMap = codes "{\"error\":\"unknown_map\",\"no\":13}"
 refusal_body UnknownOrder = codes "{\"error\":\"unknown_order\",\"no\":14}"
+refusal_body UnknownDevice = codes "{\"error\":\"unknown_device\",\"no\":15}"
 refusal_body Exists = codes "{\"error\":\"exists\",\"no\":16}"
+refusal_body QuantityReached = codes "{\"error\":\"quantity_reached\",\"no\":18}"
 refusal_body (BadMap fault) = codes "{\"error\":\"bad_map\",\"fault\":" ++ (decimal fault ++ codes ",\"no\":29}")
 refusal_body BadSerial = codes "{\"error\":\"bad_serial\",\"no\":30}"
 refusal_body NumberTooWide = codes "{\"error\":\"number_too_wide\",\"no\":31}"
 refusal_body NoMacRoom = codes "{\"error\":\"no_mac_room\",\"no\":33}"
 refusal_body RangeOverlap = codes "{\"error\":\"range_overlap\",\"no\":34}"
+refusal_body CodingScheme = codes "{\"error\":\"coding_scheme\",\"no\":36}"
 refusal_body ForeignIssuer = codes "{\"error\":\"foreign_issuer\",\"no\":37}"
 refusal_body MapDigestTaken = codes "{\"error\":\"map_digest_taken\",\"no\":39}"
 refusal_body Limit = codes "{\"error\":\"limit\",\"no\":40}"
+refusal_body BadReadback = codes "{\"error\":\"bad_readback\",\"no\":41}"
 refusal_body Unkept = codes "{\"error\":\"unkept\",\"no\":50}"

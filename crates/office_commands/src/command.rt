@@ -1,8 +1,8 @@
 // What a seat can ask for.
 ghost use Rattle.office_commands.specs.Asked.{IsAsked};
 
-use crate::AskedOrder;
-use text_core::{Digest, Name, Text};
+use crate::{AskedOrder, NewDevice};
+use text_core::{Chip, Digest, Name, Text};
 
 /// A command that writes.
 #[derive(Debug, Drop)]
@@ -11,6 +11,8 @@ pub enum Change {
     MakeOrder(AskedOrder),
     /// Imports a fuse map by its text.
     ImportMap(Text),
+    /// Registers a device.
+    RegisterDevice(NewDevice),
 }
 
 /// A command that shows something and writes nothing.
@@ -18,6 +20,10 @@ pub enum Change {
 pub enum Show {
     /// An order, by its name.
     Order(Name),
+    /// A device, by its chip.
+    Device(Chip),
+    /// The ledger of a device, by its chip.
+    Ledger(Chip),
 }
 
 /// A command of a seat.

@@ -2,11 +2,17 @@
 #![tactic(auto)]
 
 mod command;
+mod device_reply;
+mod new_device;
 mod new_order;
 mod refusal;
 mod reply;
+#[cfg(test)]
+mod tests;
 
 pub use command::{Change, Command, Request, Show};
+pub use device_reply::{device_body, ledger_body};
+pub use new_device::NewDevice;
 pub use new_order::{AskedOrder, NewOrder};
 pub use refusal::Refusal;
 pub use reply::{accepted, map_body, order_body, refused, unavailable, unknown_token};

@@ -30,12 +30,21 @@ pub enum Refusal {
     /// The last number came with another request (12).
     #[error("the last request number came with another request")]
     OtherBody,
+    /// The customer has no fuse map with such a digest (13).
+    #[error("unknown map")]
+    UnknownMap,
     /// The customer has no such order (14).
     #[error("unknown order")]
     UnknownOrder,
+    /// The customer has no such device (15).
+    #[error("unknown device")]
+    UnknownDevice,
     /// The customer has a row of that name (16).
     #[error("the name is taken")]
     Exists,
+    /// The order has as many devices as it is for (18).
+    #[error("the order has as many devices as it is for")]
+    QuantityReached,
     /// The text is no fuse map, and the number of its fault, 1 to 8 (29).
     #[error("the text is no fuse map, by its fault {0}")]
     BadMap(u8),
@@ -51,6 +60,9 @@ pub enum Refusal {
     /// Another order has one of the numbers (34).
     #[error("another order has one of the numbers")]
     RangeOverlap,
+    /// The chip has another coding scheme than None, or hides which it has (36).
+    #[error("the chip has another coding scheme than None, or hides which it has")]
+    CodingScheme,
     /// The issuer isn't among the customer's (37).
     #[error("the issuer is not among the customer's")]
     ForeignIssuer,
@@ -60,6 +72,9 @@ pub enum Refusal {
     /// The customer has as many as can be, or asks for more than can be (40).
     #[error("a limit is reached")]
     Limit,
+    /// The read-back isn't of the map's shape, or shows what its own locks hide (41).
+    #[error("the read-back is not of the map's shape, or shows what its own locks hide")]
+    BadReadback,
     /// There is no memory for an answer, or the store failed (50).
     #[error("the request can't be kept")]
     Unkept,
@@ -72,12 +87,16 @@ impl Refusal {
     {
         match self {
             Refusal::UnknownToken => Status::Unauthorized,
-            Refusal::UnknownPath | Refusal::UnknownOrder => Status::NotFound,
+            Refusal::UnknownPath
+            | Refusal::UnknownMap
+            | Refusal::UnknownOrder
+            | Refusal::UnknownDevice => Status::NotFound,
             Refusal::WrongCaller => Status::Forbidden,
             Refusal::BadJson | Refusal::BadMember => Status::BadRequest,
             Refusal::WrongNumber(_)
             | Refusal::OtherBody
             | Refusal::Exists
+            | Refusal::QuantityReached
             | Refusal::NoMacRoom
             | Refusal::RangeOverlap
             | Refusal::MapDigestTaken
@@ -85,7 +104,9 @@ impl Refusal {
             Refusal::BadMap(_)
             | Refusal::BadSerial
             | Refusal::NumberTooWide
-            | Refusal::ForeignIssuer => Status::Unprocessable,
+            | Refusal::CodingScheme
+            | Refusal::ForeignIssuer
+            | Refusal::BadReadback => Status::Unprocessable,
             Refusal::Unkept => Status::Unavailable,
         }
     }

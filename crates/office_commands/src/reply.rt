@@ -73,8 +73,11 @@ fn refusal_text(alloc: Global, reason: Refusal) -> Result<Body, AllocError>
             )?));
         }
         Refusal::OtherBody => "{\"error\":\"other_body\",\"no\":12}",
+        Refusal::UnknownMap => "{\"error\":\"unknown_map\",\"no\":13}",
         Refusal::UnknownOrder => "{\"error\":\"unknown_order\",\"no\":14}",
+        Refusal::UnknownDevice => "{\"error\":\"unknown_device\",\"no\":15}",
         Refusal::Exists => "{\"error\":\"exists\",\"no\":16}",
+        Refusal::QuantityReached => "{\"error\":\"quantity_reached\",\"no\":18}",
         Refusal::BadMap(fault) => {
             return Ok(Body::Json(format!(in alloc;
                 "{{\"error\":\"bad_map\",\"fault\":{fault},\"no\":29}}"
@@ -84,9 +87,11 @@ fn refusal_text(alloc: Global, reason: Refusal) -> Result<Body, AllocError>
         Refusal::NumberTooWide => "{\"error\":\"number_too_wide\",\"no\":31}",
         Refusal::NoMacRoom => "{\"error\":\"no_mac_room\",\"no\":33}",
         Refusal::RangeOverlap => "{\"error\":\"range_overlap\",\"no\":34}",
+        Refusal::CodingScheme => "{\"error\":\"coding_scheme\",\"no\":36}",
         Refusal::ForeignIssuer => "{\"error\":\"foreign_issuer\",\"no\":37}",
         Refusal::MapDigestTaken => "{\"error\":\"map_digest_taken\",\"no\":39}",
         Refusal::Limit => "{\"error\":\"limit\",\"no\":40}",
+        Refusal::BadReadback => "{\"error\":\"bad_readback\",\"no\":41}",
         Refusal::Unkept => "{\"error\":\"unkept\",\"no\":50}",
     }))
 }

@@ -11,7 +11,7 @@ ghost use Rattle.office_core.specs.Sound.{IsSound};
 use crate::retry::{Place, place_of, settle};
 use http_replies::Reply;
 use office_commands::{Change, Command, Refusal, Request, Show, accepted, refused, unavailable};
-use office_judges::{Verdict, judge, show_order};
+use office_judges::{Verdict, judge, show_device, show_ledger, show_order};
 use office_tables::{Keep, Unkept};
 use site_core::{Customer, SeatCaller, Site};
 use std::alloc::Global;
@@ -34,7 +34,7 @@ fn make<K: Keep>(
         (λ _. K.tables keep.new ≡ K.tables keep.old) }
     ensures crash { Crashes K.is_honest K.may_leave (λ t. K.is_open keep.old × (reply : Answer) × Judges customer.now seat.now request.now (K.tables keep.old) change.now reply t) keep.old keep.new }
 {
-    match judge(alloc, keep, customer, change)? {
+    match judge(alloc, keep, customer, seat, change)? {
         Verdict::Refused(refusal) => Ok(refused(alloc, refusal)?),
         Verdict::Accepted(judged) => settle(alloc, keep, &customer.name(), seat, request, judged),
     }
@@ -78,6 +78,8 @@ fn show<K: Keep>(
 {
     match asked {
         Show::Order(name) => show_order(alloc, keep, customer, name),
+        Show::Device(chip) => show_device(alloc, keep, customer, chip),
+        Show::Ledger(chip) => show_ledger(alloc, keep, customer, chip),
     }
 }
 

@@ -1,5 +1,5 @@
 // The import of fuse maps.
-ghost use Rattle.std.specs.Prelude.{◌≡◌, ℕ, None, Some, IfOk, length, min, option_map, string_bytes};
+ghost use Rattle.std.specs.Prelude.{◌≡◌, ℕ, List, None, Some, IfOk, length, min, option_map, string_bytes};
 ghost use Rattle.sha2.specs.Sha256.{sha256};
 ghost use Rattle.office_tables.specs.Tables.{own, link_at, map_at};
 ghost use Rattle.office_tables.specs.Keeping.{Reads};
@@ -154,8 +154,8 @@ pub fn judge_map<K: Keep>(
 ) -> Result<Verdict, Unkept>
     ensures reads { Reads K.is_open K.is_honest K.may_leave K.tables keep.old keep.new }
     ensures stays_open { K.is_honest keep.new → IfOk result (λ _. K.is_open keep.new) }
-    ensures judged { K.is_open keep.new → IfOk result (λ verdict.
-        IsJudged customer.now (K.tables keep.old) (Change.ImportMap text.now) verdict) }
+    ensures judged { K.is_open keep.new → IfOk result (λ verdict. (seat : List ℕ) →
+        IsJudged customer.now seat (K.tables keep.old) (Change.ImportMap text.now) verdict) }
 {
     let digest = Digest::of(text.as_str().as_bytes());
     let link = keep.link(&customer.name(), &digest)?;

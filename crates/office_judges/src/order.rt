@@ -1,5 +1,5 @@
 // The commands of orders.
-ghost use Rattle.std.specs.Prelude.{◌≡◌, ℕ, ◌+◌, ◌-◌, ◌^◌, ◌≤◌, nat_le, IfOk};
+ghost use Rattle.std.specs.Prelude.{◌≡◌, ℕ, List, ◌+◌, ◌-◌, ◌^◌, ◌≤◌, nat_le, IfOk};
 ghost use Rattle.office_tables.specs.Tables.{order_at};
 ghost use Rattle.office_tables.specs.Keeping.{Reads};
 ghost use Rattle.http_replies.specs.Replies.{answer_of};
@@ -93,8 +93,8 @@ pub fn judge_order<K: Keep>(
 ) -> Result<Verdict, Unkept>
     ensures reads { Reads K.is_open K.is_honest K.may_leave K.tables keep.old keep.new }
     ensures stays_open { K.is_honest keep.new → IfOk result (λ _. K.is_open keep.new) }
-    ensures judged { K.is_open keep.new → IfOk result (λ verdict.
-        IsJudged customer.now (K.tables keep.old) (Change.MakeOrder order.now) verdict) }
+    ensures judged { K.is_open keep.new → IfOk result (λ verdict. (seat : List ℕ) →
+        IsJudged customer.now seat (K.tables keep.old) (Change.MakeOrder order.now) verdict) }
 {
     let wanted = match order_to_make(alloc, keep, customer, order)? {
         Ok(wanted) => wanted,

@@ -8,7 +8,7 @@ use Rattle.site_core.specs.declared.site.Caller.TheVariants.{Seat}
 use Rattle.site_core.specs.declared.site.Caller.{Caller}
 use Rattle.office_tables.specs.Tables.{Tables}
 use Rattle.office_commands.specs.declared.refusal.Refusal.{Refusal}
-use Rattle.office_commands.specs.declared.refusal.Refusal.TheVariants.{UnknownToken, UnknownPath, WrongCaller, BadJson, BadMember, WrongNumber, OtherBody, UnknownOrder, Exists, BadMap, BadSerial, NumberTooWide, NoMacRoom, RangeOverlap, ForeignIssuer, MapDigestTaken, Limit, Unkept}
+use Rattle.office_commands.specs.declared.refusal.Refusal.TheVariants.{UnknownToken, UnknownPath, WrongCaller, BadJson, BadMember, WrongNumber, OtherBody, UnknownMap, UnknownOrder, UnknownDevice, QuantityReached, CodingScheme, BadReadback, Exists, BadMap, BadSerial, NumberTooWide, NoMacRoom, RangeOverlap, ForeignIssuer, MapDigestTaken, Limit, Unkept}
 use Rattle.office_commands.specs.Refusals.{refusal_status}
 use Rattle.office_commands.specs.Replies.{refusal}
 use Rattle.office_core.specs.Office.{Step, Answers}
@@ -26,6 +26,11 @@ unavailable_is_unkept BadJson e = cc
 unavailable_is_unkept BadMember e = cc
 unavailable_is_unkept (WrongNumber expected) e = cc
 unavailable_is_unkept OtherBody e = cc
+unavailable_is_unkept UnknownMap e = cc
+unavailable_is_unkept UnknownDevice e = cc
+unavailable_is_unkept QuantityReached e = cc
+unavailable_is_unkept CodingScheme e = cc
+unavailable_is_unkept BadReadback e = cc
 unavailable_is_unkept UnknownOrder e = cc
 unavailable_is_unkept Exists e = cc
 unavailable_is_unkept (BadMap fault) e = cc
@@ -76,10 +81,6 @@ pub step_answers : (site : SiteValue) (caller : Caller) (r : HttpRequest) (parse
     → asked caller r ≡ Ok parsed → Step (section_at site parsed.seat) (seat_at site parsed.seat) t parsed.request reply t2 → AnswersCaller site caller r t reply t2
 step_answers site caller r parsed t reply t2 wanted step =
     answers_caller site caller r parsed t reply t2 wanted (answers (section_at site parsed.seat) (seat_at site parsed.seat) t parsed.request reply t2 step)
-
-pub or_so : {A B C : Type 0} → A ⊎ B → (B → C) → A ⊎ C
-or_so (inl a) f = inl a
-or_so (inr b) f = inr (f b)
 
 -- a keeper that isn't asked
 pub unchanged : {K : Type 0} (is_open is_honest : K → Type 0) (may_leave : K → Tables → Type 0) (tables : K → Tables) (step : Tables → Answer → Tables → Type 0) (k : K) (reply : Answer)

@@ -1,17 +1,22 @@
--- The named members, one name after another, and that none of an order's is a float.
+-- The named members, one name after another, and that none of a request's is a float.
 use Rattle.std.proofs.Common.{◌≡◌, ℕ, List, [], ◌∷◌, ◌++◌, Bool, true, false, Option, Some, None, Less, Equal, Greater, refl}
-use Rattle.std.specs.Prelude.{◌||◌, fold, IfSome, codes, option_and_then}
+use Rattle.std.specs.Prelude.{◌||◌, fold, IfSome, codes, map, option_and_then}
 use Rattle.std.specs.Ordering.{nat_cmp, match_ordering}
 use Rattle.std.specs.Cmp.Lexicographic.{slice_cmp}
 use Rattle.std.specs.List.{AllByRecursion}
 use Rattle.std.proofs.lemmas.List.Sums.{fold-append}
 use Rattle.serde_json.specs.Data.{Data, null, boolean, number, string, array, object, Num, unsigned, negative, float, Members, no_members, member, put}
 use Rattle.serde_json.specs.Find.{get, as_str, as_number, as_u64}
-use Rattle.serde_json.specs.Written.{has_float, members_have_float}
-use Rattle.text_core.specs.Json.{within, whole_member, text_member, name_member}
+use Rattle.serde_json.specs.Written.{has_float, items_have_float, members_have_float}
+use Rattle.text_core.specs.Json.{within, whole_member, text_member, name_member, digest_member, chip_member}
+use Rattle.text_core.specs.Chip.{chip_of_text}
+use Rattle.text_core.specs.Digest.{digest_of_text}
 use Rattle.text_core.specs.Name.{name_of_text}
 use Rattle.text_core.specs.Options.{◌>>=◌}
+use Rattle.office_commands.specs.declared.new_device.NewDevice.{NewDevice}
 use Rattle.office_commands.specs.declared.new_order.NewOrder.{NewOrder}
+use Rattle.office_commands.specs.DeviceReplies.{items_of}
+use Rattle.station_api.specs.Devices.{block_digest, blocks_member, device_members, new_device_of}
 use Rattle.station_api.specs.Digests.{with_found, named_members}
 use Rattle.station_api.specs.Maps.{map_members}
 use Rattle.station_api.specs.Orders.{new_order_of, order_members}
@@ -62,15 +67,22 @@ text_found : (found : Option Data) (x : List ℕ) → option_and_then as_str fou
 text_found None x e = tt
 text_found (Some v) x e = text_lacks v x e
 
-name_found : (found : Option (List ℕ)) (x : List ℕ) → option_and_then name_of_text found ≡ Some x → (text : List ℕ) × (found ≡ Some text)
-name_found None x e = cc
-name_found (Some text) x e = (text, refl)
+-- what is read of a text is read of one that is there
+read_found : (read : List ℕ → Option (List ℕ)) (found : Option (List ℕ)) (x : List ℕ) → option_and_then read found ≡ Some x → (text : List ℕ) × (found ≡ Some text)
+read_found read None x e = cc
+read_found read (Some text) x e = (text, refl)
 
 text_member_lacks : (name : List ℕ) (d : Data) (x : List ℕ) → text_member name d ≡ Some x → LacksFloat d name
 text_member_lacks name d x e = text_found (get name d) x e
 
 name_member_lacks : (name : List ℕ) (d : Data) (x : List ℕ) → name_member name d ≡ Some x → LacksFloat d name
-name_member_lacks name d x e = let found = name_found (text_member name d) x e in text_member_lacks name d found.0 found.1
+name_member_lacks name d x e = let found = read_found name_of_text (text_member name d) x e in text_member_lacks name d found.0 found.1
+
+chip_member_lacks : (name : List ℕ) (d : Data) (x : List ℕ) → chip_member name d ≡ Some x → LacksFloat d name
+chip_member_lacks name d x e = let found = read_found chip_of_text (text_member name d) x e in text_member_lacks name d found.0 found.1
+
+digest_member_lacks : (name : List ℕ) (d : Data) (x : List ℕ) → digest_member name d ≡ Some x → LacksFloat d name
+digest_member_lacks name d x e = let found = read_found digest_of_text (text_member name d) x e in text_member_lacks name d found.0 found.1
 
 number_lacks : (n : Num) (least greatest x : ℕ) → option_and_then (within least greatest) (as_u64 n) ≡ Some x → has_float (number n) ≡ false
 number_lacks (unsigned n) least greatest x e = refl
@@ -152,3 +164,34 @@ order_lacks_float d n o nr order =
 pub map_lacks_float : (d : Data) (n : ℕ) (text : List ℕ) → whole_member (codes "nr") 1 9007199254740991 d ≡ Some n → text_member (codes "text") d ≡ Some text
     → has_float (object (named_members map_members d)) ≡ false
 map_lacks_float d n text nr is = all_no_float map_members d no_members (whole_member_lacks (codes "nr") 1 9007199254740991 d n nr, (text_member_lacks (codes "text") d text is, tt)) refl
+
+-- what is left of a device's members, once so many are read
+abbrev after_map : Data → List ℕ → List ℕ → List ℕ → Option NewDevice
+after_map d chip order digest = blocks_member (codes "blocks") d >>= (λ blocks. Some (record { chip = chip; order = order; map = digest; blocks = blocks }))
+
+abbrev after_order : Data → List ℕ → List ℕ → Option NewDevice
+after_order d chip order = digest_member (codes "map") d >>= after_map d chip order
+
+abbrev after_chip : Data → List ℕ → Option NewDevice
+after_chip d chip = name_member (codes "order") d >>= after_order d chip
+
+digests_lack_float : (blocks : List (List ℕ)) → items_have_float (items_of (map block_digest blocks)) ≡ false
+digests_lack_float [] = refl
+digests_lack_float (block ∷ blocks) = digests_lack_float blocks
+
+-- and neither are those of a registration, with the digests of its blocks in their place
+pub device_lacks_float : (d : Data) (n : ℕ) (o : NewDevice) → whole_member (codes "nr") 1 9007199254740991 d ≡ Some n → new_device_of d ≡ Some o
+    → has_float (object (put (codes "blocks") (array (items_of (map block_digest o.blocks))) (named_members device_members d))) ≡ false
+unfolding new_device_of
+device_lacks_float d n o nr device =
+    let chip = bound (chip_member (codes "chip") d) (after_chip d) o device in
+    let order = bound (name_member (codes "order") d) (after_order d chip.0) o chip.2 in
+    let digest = bound (digest_member (codes "map") d) (after_map d chip.0 order.0) o order.2 in
+    let others = all_no_float device_members d no_members (
+      chip_member_lacks (codes "chip") d chip.0 chip.1,
+      (
+        digest_member_lacks (codes "map") d digest.0 digest.1,
+        (whole_member_lacks (codes "nr") 1 9007199254740991 d n nr, (name_member_lacks (codes "order") d order.0 order.1, tt)),
+      ),
+    ) refl in
+    put_no_float (codes "blocks") (array (items_of (map block_digest o.blocks))) (named_members device_members d) (digests_lack_float o.blocks) others

@@ -1,5 +1,6 @@
 pub mod Digests
 pub mod Maps
+pub mod Devices
 pub mod Orders
 pub mod Requests
 pub mod Machine

@@ -9,42 +9,59 @@ use Rattle.http_frames.specs.Frames.{Request as HttpRequest}
 use Rattle.site_core.specs.declared.site.Caller.{Caller}
 use Rattle.site_core.specs.declared.site.Caller.TheVariants.{Seat, Manager}
 use Rattle.office_commands.specs.declared.command.Request.{Request}
-use Rattle.office_commands.specs.declared.command.Command.TheVariants.{Show}
-use Rattle.office_commands.specs.declared.command.Show.TheVariants.{Order}
+use Rattle.office_commands.specs.declared.command.Command.TheVariants.{Show as Showing}
+use Rattle.office_commands.specs.declared.command.Show.{Show}
+use Rattle.office_commands.specs.declared.command.Show.TheVariants.{Order, Device, Ledger}
 use Rattle.office_commands.specs.declared.refusal.Refusal.{Refusal}
 use Rattle.office_commands.specs.declared.refusal.Refusal.TheVariants.{UnknownPath, WrongCaller, BadJson, BadMember}
 use Rattle.station_api.specs.declared.parse.Parsed.{Parsed}
 use Rattle.station_api.specs.declared.parse.Route.{Route}
-use Rattle.station_api.specs.declared.parse.Route.TheVariants.{MakeOrder, ShowOrder, ImportMap}
+use Rattle.station_api.specs.declared.parse.Route.TheVariants.{MakeOrder, ShowOrder, ImportMap, RegisterDevice, ShowDevice, ShowLedger}
+use Rattle.station_api.specs.Devices.{register_device_of, chip_parameter}
 use Rattle.station_api.specs.Maps.{import_map_of}
 use Rattle.station_api.specs.Orders.{make_order_of, name_parameter}
 
--- what the method of an order's path leads to
-abbrev pub order_route : List ℕ → Option Route
-order_route method =
-    if bytes_eq method (codes "POST") then Some MakeOrder else (if bytes_eq method (codes "GET") then Some ShowOrder else None)
+-- what the method of a path leads to where something is both made and shown
+abbrev pub posts_or_gets : List ℕ → Route → Route → Option Route
+posts_or_gets method posted shown =
+    if bytes_eq method (codes "POST") then Some posted else (if bytes_eq method (codes "GET") then Some shown else None)
 
 -- what the method of a map's path leads to
 abbrev pub map_route : List ℕ → Option Route
 map_route method = if bytes_eq method (codes "POST") then Some ImportMap else None
 
+-- what the method of a ledger's path leads to
+abbrev pub ledger_route : List ℕ → Option Route
+ledger_route method = if bytes_eq method (codes "GET") then Some ShowLedger else None
+
 -- what a method and a path lead to
 abbrev pub route_of : List ℕ → List ℕ → Option Route
 route_of method path =
-    if bytes_eq path (codes "/v1/order") then order_route method
-    else (if bytes_eq path (codes "/v1/map") then map_route method else None)
+    if bytes_eq path (codes "/v1/order") then posts_or_gets method MakeOrder ShowOrder
+    else if bytes_eq path (codes "/v1/map") then map_route method
+    else if bytes_eq path (codes "/v1/device") then posts_or_gets method RegisterDevice ShowDevice
+    else if bytes_eq path (codes "/v1/ledger") then ledger_route method
+    else None
 
 -- what a body asks for: no JSON is refused before a member that isn't of its form
 abbrev pub body_read : (Data → Option Request) → List ℕ → Result Request Refusal
 body_read request_of body = result_and_then (λ d. ok_or (request_of d) BadMember) (ok_or (json_of body) BadJson)
 
 -- a request that shows something has no use for a number and a digest
-abbrev pub shows_order : List ℕ → Request
-shows_order name = record { number = 0; digest = replicate 32 0; command = Show (Order name) }
+abbrev pub shows : Show → Request
+shows show = record { number = 0; digest = replicate 32 0; command = Showing show }
 
 -- the order that a query asks for
 abbrev pub order_shown : List ℕ → Result Request Refusal
-order_shown query = ok_or (option_map shows_order (name_parameter query)) BadMember
+order_shown query = ok_or (option_map (λ name. shows (Order name)) (name_parameter query)) BadMember
+
+-- the device that a query asks for
+abbrev pub device_shown : List ℕ → Result Request Refusal
+device_shown query = ok_or (option_map (λ chip. shows (Device chip)) (chip_parameter query)) BadMember
+
+-- the ledger that a query asks for
+abbrev pub ledger_shown : List ℕ → Result Request Refusal
+ledger_shown query = ok_or (option_map (λ chip. shows (Ledger chip)) (chip_parameter query)) BadMember
 
 -- a seat's path is the seats' alone: the manager is refused there, whatever the body
 abbrev pub for_seats : Caller → Result Request Refusal → Result Parsed Refusal
@@ -56,6 +73,9 @@ asked_on None caller query body = Err UnknownPath
 asked_on (Some MakeOrder) caller query body = for_seats caller (body_read make_order_of body)
 asked_on (Some ShowOrder) caller query body = for_seats caller (order_shown query)
 asked_on (Some ImportMap) caller query body = for_seats caller (body_read import_map_of body)
+asked_on (Some RegisterDevice) caller query body = for_seats caller (body_read register_device_of body)
+asked_on (Some ShowDevice) caller query body = for_seats caller (device_shown query)
+asked_on (Some ShowLedger) caller query body = for_seats caller (ledger_shown query)
 
 -- what a caller's request asks for, or the lowest refusal of its path, its method, its caller, its body and its members
 abbrev pub asked : Caller → HttpRequest → Result Parsed Refusal

@@ -2,6 +2,7 @@
 #![tactic(auto)]
 
 mod desk;
+mod device;
 mod digest;
 mod map;
 mod order;

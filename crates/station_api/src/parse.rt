@@ -5,10 +5,12 @@ ghost use Rattle.text_core.specs.Answer.{GivesUnless, result_map};
 ghost use Rattle.http_frames.specs.Frames.{Request as HttpRequest};
 ghost use Rattle.http_frames.specs.Looks.{IsFrameAt};
 ghost use Rattle.text_core.specs.Json.{json_of};
+ghost use Rattle.station_api.specs.Devices.{register_device_of};
 ghost use Rattle.station_api.specs.Maps.{import_map_of};
 ghost use Rattle.station_api.specs.Orders.{make_order_of};
-ghost use Rattle.station_api.specs.Requests.{route_of, order_route, map_route, body_read, order_shown, asked};
+ghost use Rattle.station_api.specs.Requests.{route_of, posts_or_gets, map_route, ledger_route, body_read, shows, order_shown, device_shown, ledger_shown, asked};
 
+use crate::device::{DEVICE_PATH, LEDGER_PATH, chip_parameter, register_device_request};
 use crate::map::{MAP_PATH, import_map_request};
 use crate::order::{ORDER_PATH, make_order_request, order_name};
 use http_fields::split_target;
@@ -36,17 +38,23 @@ pub enum Route {
     ShowOrder,
     /// `POST /v1/map`.
     ImportMap,
+    /// `POST /v1/device`.
+    RegisterDevice,
+    /// `GET /v1/device`.
+    ShowDevice,
+    /// `GET /v1/ledger`.
+    ShowLedger,
 }
 
-/// What the method of an order's path leads to.
-fn order_route(method: &[u8]) -> Option<Route>
-    ensures { result ≡ order_route method.now }
+/// What the method of a path leads to where something is both made and shown.
+fn posts_or_gets(method: &[u8], posted: Route, shown: Route) -> Option<Route>
+    ensures { result ≡ posts_or_gets method.now posted shown }
 {
     if method == b"POST".as_slice() {
-        return Some(Route::MakeOrder);
+        return Some(posted);
     }
     if method == b"GET".as_slice() {
-        return Some(Route::ShowOrder);
+        return Some(shown);
     }
     None
 }
@@ -61,15 +69,31 @@ fn map_route(method: &[u8]) -> Option<Route>
     Some(Route::ImportMap)
 }
 
+/// What the method of a ledger's path leads to.
+fn ledger_route(method: &[u8]) -> Option<Route>
+    ensures { result ≡ ledger_route method.now }
+{
+    if method != b"GET".as_slice() {
+        return None;
+    }
+    Some(Route::ShowLedger)
+}
+
 /// What a method and a path lead to, if to anything.
 fn find_route(method: &[u8], path: &[u8]) -> Option<Route>
     ensures { result ≡ route_of method.now path.now }
 {
     if path == ORDER_PATH.as_bytes() {
-        return order_route(method);
+        return posts_or_gets(method, Route::MakeOrder, Route::ShowOrder);
     }
     if path == MAP_PATH.as_bytes() {
         return map_route(method);
+    }
+    if path == DEVICE_PATH.as_bytes() {
+        return posts_or_gets(method, Route::RegisterDevice, Route::ShowDevice);
+    }
+    if path == LEDGER_PATH.as_bytes() {
+        return ledger_route(method);
     }
     None
 }
@@ -113,6 +137,25 @@ fn read_map_text(alloc: Global, body: &[u8]) -> Result<Request, Refusal>
     found_request(import_map_request(alloc, &value))
 }
 
+/// The device that a body registers, or the lowest refusal of it.
+fn read_device(alloc: Global, body: &[u8]) -> Result<Request, Refusal>
+    ensures { GivesUnless Refusal.Unkept result (body_read register_device_of body.now) }
+{
+    let value = read_value(alloc, body)?;
+    found_request(register_device_request(alloc, &value))
+}
+
+/// A request that shows something: it has no use for a number and a digest.
+fn shows(show: Show) -> Request
+    ensures { result ≡ shows show }
+{
+    Request {
+        number: 0,
+        digest: Digest::from_bytes([0; 32]),
+        command: Command::Show(show),
+    }
+}
+
 /// The order that a query asks for, or the refusal of it.
 fn read_order_name(query: &[u8]) -> Result<Request, Refusal>
     ensures { result ≡ order_shown query.now }
@@ -120,11 +163,27 @@ fn read_order_name(query: &[u8]) -> Result<Request, Refusal>
     let Some(name) = order_name(query) else {
         return Err(Refusal::BadMember);
     };
-    Ok(Request {
-        number: 0,
-        digest: Digest::from_bytes([0; 32]),
-        command: Command::Show(Show::Order(name)),
-    })
+    Ok(shows(Show::Order(name)))
+}
+
+/// The device that a query asks for, or the refusal of it.
+fn read_device_chip(query: &[u8]) -> Result<Request, Refusal>
+    ensures { result ≡ device_shown query.now }
+{
+    let Some(chip) = chip_parameter(query) else {
+        return Err(Refusal::BadMember);
+    };
+    Ok(shows(Show::Device(chip)))
+}
+
+/// The ledger that a query asks for, or the refusal of it.
+fn read_ledger_chip(query: &[u8]) -> Result<Request, Refusal>
+    ensures { result ≡ ledger_shown query.now }
+{
+    let Some(chip) = chip_parameter(query) else {
+        return Err(Refusal::BadMember);
+    };
+    Ok(shows(Show::Ledger(chip)))
 }
 
 /// What a request of a known caller asks for, or the lowest refusal of its path, its method, its
@@ -151,6 +210,9 @@ pub fn parse_command(
         Route::MakeOrder => read_order(alloc, frame.body(buffer))?,
         Route::ShowOrder => read_order_name(query)?,
         Route::ImportMap => read_map_text(alloc, frame.body(buffer))?,
+        Route::RegisterDevice => read_device(alloc, frame.body(buffer))?,
+        Route::ShowDevice => read_device_chip(query)?,
+        Route::ShowLedger => read_ledger_chip(query)?,
     };
     Ok(Parsed { seat, request })
 }

@@ -9,11 +9,11 @@ use std::process::Abort;
 use std::test::Fail;
 
 /// The order of the first example as `bolt` gives it.
-const BOLT_ORDER: &str =
+pub const BOLT_ORDER: &str =
     "{\"nr\":1,\"name\":\"o1\",\"issuer\":\"bolt-ca\",\"prefix\":\"B\",\"width\":3,\"first\":998,\"quantity\":2,\"macs\":0}";
 
 /// The reply to it, whole.
-const BOLT_REPLY: &str =
+pub const BOLT_REPLY: &str =
     "HTTP/1.1 200 OK\r\nContent-Type: application/json\r\nContent-Length: 114\r\n\r\n{\"first\":998,\"issuer\":\"bolt-ca\",\"mac\":null,\"macs\":0,\"name\":\"o1\",\"next\":\"B998\",\"prefix\":\"B\",\"quantity\":2,\"width\":3}";
 
 /// A seat's order, and then a request that shows it.

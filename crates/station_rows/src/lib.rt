@@ -7,6 +7,8 @@ mod addresses;
 #[cfg(test)]
 mod customers;
 #[cfg(test)]
+mod devices;
+#[cfg(test)]
 mod faults;
 #[cfg(test)]
 mod maps;

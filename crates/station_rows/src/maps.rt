@@ -9,7 +9,7 @@ use std::test::Fail;
 use text_core::{Digest, Name, Text};
 
 /// The text of a map.
-const SAMPLE: &str = "name = \"esp32-sample\"
+pub const SAMPLE: &str = "name = \"esp32-sample\"
 wr = \"WR_DIS\"
 rd = \"RD_DIS\"
 coding = \"CODING_SCHEME\"
@@ -68,11 +68,11 @@ read = 2
 ";
 
 /// The reply to its import: the SHA-256 of the text.
-const IMPORTED: &str =
+pub const IMPORTED: &str =
     "{\"map\":\"453e1a59aaf4956999cac589cf209d34bfa882946bada4f1aa5199c4256c4fab\"}";
 
 /// A request that imports a map.
-fn import_request(
+pub fn import_request(
     alloc: Global,
     token: &str,
     number: u64,
@@ -83,7 +83,7 @@ fn import_request(
 }
 
 /// Imports a map, whose reply is expected.
-fn expect_import<K: Keep>(
+pub fn expect_import<K: Keep>(
     rt: &(impl Abort + AllocGlobal),
     keep: &mut K,
     token: &str,
@@ -154,6 +154,15 @@ pub fn refuses_maps<K: Keep>(rt: &(impl Abort + AllocGlobal), keep: &mut K) -> R
     expect_import(rt, keep, A1, 1, SAMPLE, "200 OK", IMPORTED)
 }
 
+/// The text of the map in which the coding field has a read lock.
+pub fn with_read_lock_of_coding(alloc: Global) -> Result<String, AllocError> {
+    SAMPLE.replace(
+        alloc,
+        "bit = 192\ncount = 2\n",
+        "bit = 192\ncount = 2\nread = 3\n",
+    )
+}
+
 /// Serves an import, and answers whether it is accepted.
 fn is_imported<K: Keep>(
     alloc: Global,
@@ -172,11 +181,7 @@ pub fn takes_a_read_lock_of_the_coding_field<K: Keep>(
     keep: &mut K,
 ) -> Result<(), Fail> {
     let alloc = rt.alloc();
-    let text = SAMPLE.replace(
-        alloc,
-        "bit = 192\ncount = 2\n",
-        "bit = 192\ncount = 2\nread = 3\n",
-    )?;
+    let text = with_read_lock_of_coding(alloc)?;
     assert!(rt; is_imported(alloc, keep, 1, text.as_str())?);
     Ok(())
 }

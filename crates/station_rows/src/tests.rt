@@ -1,5 +1,5 @@
 //! The examples over the keeper in memory.
-use crate::{addresses, customers, faults, maps, orders, streams};
+use crate::{addresses, customers, devices, faults, maps, orders, streams};
 use office_core::MemKeep;
 use std::test::Fail;
 
@@ -120,4 +120,39 @@ fn tells_a_taken_digest(rt: HostRuntime) -> Result<(), Fail> {
 #[test]
 fn refuses_requests_for_maps(rt: HostRuntime) -> Result<(), Fail> {
     maps::refuses_requests_for_maps(&rt, &mut MemKeep::new(rt.alloc()))
+}
+
+#[test]
+fn registers_in_turn(rt: HostRuntime) -> Result<(), Fail> {
+    for turns in [
+        "aaaa", "bbbb", "abababab", "aaaabbbb", "bbbbaaaa", "baabbaab",
+    ] {
+        devices::registers_in_turn(&rt, &mut MemKeep::new(rt.alloc()), turns)?;
+    }
+    Ok(())
+}
+
+#[test]
+fn judges_read_backs(rt: HostRuntime) -> Result<(), Fail> {
+    devices::judges_read_backs(&rt, &mut MemKeep::new(rt.alloc()))
+}
+
+#[test]
+fn refuses_devices(rt: HostRuntime) -> Result<(), Fail> {
+    devices::refuses_devices(&rt, &mut MemKeep::new(rt.alloc()))
+}
+
+#[test]
+fn refuses_blocks(rt: HostRuntime) -> Result<(), Fail> {
+    devices::refuses_blocks(&rt, &mut MemKeep::new(rt.alloc()))
+}
+
+#[test]
+fn repeats_a_device(rt: HostRuntime) -> Result<(), Fail> {
+    devices::repeats_a_device(&rt, &mut MemKeep::new(rt.alloc()))
+}
+
+#[test]
+fn refuses_requests_for_devices(rt: HostRuntime) -> Result<(), Fail> {
+    devices::refuses_requests_for_devices(&rt, &mut MemKeep::new(rt.alloc()))
 }

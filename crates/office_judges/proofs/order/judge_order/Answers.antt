@@ -8,10 +8,10 @@ use Rattle.office_judges.proofs.Judged.{refused_by, refused_by_none, made_of, or
 use Rattle.office_judges.proofs.order.judge_order.Goals as goal
 
 pub returns-in-Err-clause-judged : goal.returns-in-Err-clause-judged
-returns-in-Err-clause-judged g c = λ is. refused_by _ (wanted_by c.args.customer.now (g.K.Keep.tables c.args.keep.now) c.args.order.now) _ (sym c.in-Err.is ∙ c.in_ok-wanted.ensures.lowest is)
+returns-in-Err-clause-judged g c = λ is seat. refused_by _ (wanted_by c.args.customer.now (g.K.Keep.tables c.args.keep.now) c.args.order.now) _ (sym c.in-Err.is ∙ c.in_ok-wanted.ensures.lowest is)
 
 pub returns-clause-judged : goal.returns-clause-judged
-returns-clause-judged g c = λ is.
+returns-clause-judged g c = λ is seat.
     let t = g.K.Keep.tables c.args.keep.now in
     let wanted = wanted_by c.args.customer.now t c.args.order.now in
     let before = c.next_serial.ensures.reads.was_open is in

@@ -1,6 +1,7 @@
 use Rattle.office_commands.specs.declared.refusal.Refusal.TheVariants.{Unkept}
+use Rattle.office_core.proofs.Settled.{or_then}
 use Rattle.station_api.specs.Requests.{asked}
-use Rattle.station_api.proofs.Answering.{answers_caller, asked_is, is_seat, or_so, refused_caller, step_answers, unchanged}
+use Rattle.station_api.proofs.Answering.{answers_caller, asked_is, is_seat, refused_caller, step_answers, unchanged}
 use Rattle.station_api.proofs.desk.answer_caller.Goals as goal
 
 pub answer-requires : goal.answer-requires
@@ -16,7 +17,7 @@ returns-in-Ok g c = λ request framed.
       answered = λ honest t stands.
           let over = c.answer.ensures.step honest t stands in
           (over.0, answers_caller site c.args.caller request c.in-Ok.parsed t _ over.0 wanted over.1, over.3);
-      crash = λ honest t left. or_so (c.answer.ensures.crash honest t left)
+      crash = λ honest t left. or_then (c.answer.ensures.crash honest t left)
           (λ made. (made.0, made.1, step_answers site c.args.caller request c.in-Ok.parsed _ made.1 t wanted made.2));
     }
 

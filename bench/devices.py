@@ -1,0 +1,158 @@
+#!/usr/bin/env python3
+"""A stream of registrations for the program `station`, and what it takes to answer them.
+
+    devices.py --stream                          writes the stream to standard output
+    devices.py --cmd 'station replay --site F'   runs the command on it, and prints what it took
+
+Python 3.11, standard library alone, on Linux. It needs streams.py beside it.
+"""
+
+import argparse
+import hashlib
+import json
+import shlex
+import sys
+import time
+
+from streams import Program, status_of
+
+ORDERS = 10
+DEVICES = 10000
+PART = 1000
+
+# Four blocks, the lock fields, and a key field in each of two blocks.
+MAP = """name = "bench"
+wr = "WR_DIS"
+rd = "RD_DIS"
+[[block]]
+words = 7
+[[block]]
+words = 8
+[[block]]
+words = 8
+[[block]]
+words = 8
+[[field]]
+name = "WR_DIS"
+block = 0
+bit = 0
+count = 16
+[[field]]
+name = "RD_DIS"
+block = 0
+bit = 16
+count = 4
+[[field]]
+name = "BLOCK1"
+block = 1
+bit = 0
+count = 256
+write = 7
+read = 0
+key = true
+[[field]]
+name = "BLOCK2"
+block = 2
+bit = 0
+count = 256
+write = 8
+read = 1
+key = true
+"""
+
+
+def request(path, members):
+    """A request of the seat `a1` with these members."""
+    body = json.dumps(members, separators=(",", ":")).encode()
+    head = f"POST {path} HTTP/1.1\r\nAuthorization: Bearer abc\r\nContent-Length: {len(body)}\r\n\r\n"
+    return head.encode() + body
+
+
+def order_request(number):
+    """An order for as many devices as each order gets."""
+    count = DEVICES // ORDERS
+    return request(
+        "/v1/order",
+        {
+            "nr": number,
+            "name": f"o{number}",
+            "issuer": "acme-ca",
+            "prefix": "A",
+            "width": 9,
+            "first": number * count,
+            "quantity": count,
+            "macs": 0,
+        },
+    )
+
+
+def blocks_of(number):
+    """What a chip shows: a few bits of each plain block, and a key of its own in one block."""
+    words = [[0] * 7, [0] * 8, [0] * 8, [0] * 8]
+    words[0][6] = number % 2**16
+    words[1] = [number + 1] * 8
+    words[3][7] = 0x80000000
+    return [[f"{word:08x}" for word in block] for block in words]
+
+
+def device_request(number, digest):
+    """The device with this number: the orders take turns."""
+    return request(
+        "/v1/device",
+        {
+            "nr": ORDERS + 1 + number,
+            "chip": f"{number:012x}",
+            "order": f"o{(number - 1) % ORDERS + 1}",
+            "map": digest,
+            "blocks": blocks_of(number),
+        },
+    )
+
+
+def stream():
+    """The requests before the devices, and those of the devices."""
+    digest = hashlib.sha256(MAP.encode()).hexdigest()
+    before = [order_request(number) for number in range(1, ORDERS + 1)]
+    before.append(request("/v1/map", {"nr": ORDERS + 1, "text": MAP}))
+    return before, [device_request(number, digest) for number in range(1, DEVICES + 1)]
+
+
+def measure(command, seconds):
+    """Prints the requests a second, the peak of memory, and the last part's time to the first's."""
+    before, devices = stream()
+    with Program(command, seconds) as program:
+        program.start_writing(b"".join(before + devices), 65536)
+        for _ in before:
+            program.replies.check_next()
+        times = [time.perf_counter()]
+        for number in range(1, DEVICES + 1):
+            program.replies.check_next()
+            if number % PART == 0:
+                times.append(time.perf_counter())
+        peak = program.peak()
+        program.writer.join()
+        program.end()
+    took, ratio = times[-1] - times[0], (times[-1] - times[-2]) / (times[1] - times[0])
+    print(
+        f"{DEVICES} devices: {DEVICES / took:.0f} requests a second, peak {peak} KiB, "
+        f"last {PART} to first {PART}: {ratio:.2f}"
+    )
+
+
+def main():
+    parser = argparse.ArgumentParser(description="A stream of registrations for station.")
+    parser.add_argument("--cmd", help="the program and its words, as 'path/to/station replay'")
+    parser.add_argument("--seconds", type=float, default=300, help="the longest that a run may take")
+    parser.add_argument("--stream", action="store_true", help="write the stream alone")
+    args = parser.parse_args()
+    if args.stream:
+        before, devices = stream()
+        sys.stdout.buffer.write(b"".join(before + devices))
+        return 0
+    if not args.cmd:
+        parser.error("--cmd or --stream is needed")
+    return status_of(measure, shlex.split(args.cmd), args.seconds)
+
+
+if __name__ == "__main__":
+    sys.exit(main())

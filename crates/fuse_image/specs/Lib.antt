@@ -1,0 +1,9 @@
+pub mod Numbers
+pub mod NumbersAgain
+pub mod Places
+pub mod Bits
+pub mod BitsAgain
+pub mod Words
+pub mod Keys
+pub mod Locks
+pub mod Image

@@ -1,0 +1,19 @@
+//! Burnt fuses: sets of fuse positions, tables of key digests, and what the locks of a fuse map
+//! hide and protect.
+#![tactic(auto)]
+
+mod bits;
+mod image;
+mod keys;
+mod locks;
+mod numbers;
+#[cfg(test)]
+mod tests;
+
+pub use bits::Bits;
+pub use image::Image;
+pub use keys::Keys;
+pub use locks::{
+    hidden_positions, is_hidden_key, is_key_block, is_write_protected_key, key_positions,
+    write_protected_positions,
+};

@@ -1,0 +1,4 @@
+pub mod InPlace
+pub mod Blocks
+pub mod BlocksAgain
+pub mod Redaction

@@ -1,0 +1,81 @@
+-- Nothing that is shown of a device has a float.
+use Rattle.std.proofs.Common.{◌≡◌, ℕ, suc, ◌==◌, Bool, true, false, List, [], ◌∷◌, map, Option, Some, None, Ordering, Less, Equal, Greater, refl, if◌then◌else◌}
+use Rattle.std.proofs.lemmas.Bool.{or_from, or_parts}
+use Rattle.std.specs.FinMap as table
+use Rattle.std.specs.Ordering.{match_ordering}
+use Rattle.serde_json.specs.Data.{Data, Members, no_members, member, put}
+use Rattle.serde_json.specs.Written.{has_float, items_have_float, members_have_float}
+use Rattle.fusemap_core.specs.declared.field.Field.{Field}
+use Rattle.fuse_image.specs.Keys.{KeyTable}
+use Rattle.fuse_image.specs.Places.{Positions}
+use Rattle.fuse_image.specs.Words.{words_of}
+use Rattle.office_tables.specs.declared.rows.Device.{Device}
+use Rattle.office_tables.specs.declared.rows.NewEntry.{NewEntry}
+use Rattle.office_tables.specs.declared.rows.Reason.{Reason}
+use Rattle.office_tables.specs.declared.rows.Reason.TheVariants.{Lost, Stray, Key}
+use Rattle.office_commands.specs.Replies.{text_data}
+use Rattle.office_commands.specs.DeviceReplies.{items_of, word_data, word_list, bits_data, key_at, with_digest, with_keys, keys_data, work_data, reason_data, device_data, entry_data, ledger_data}
+
+in_words_shown : (is_zero : Bool) (d : Data) (ds : List Data) → has_float d ≡ false → items_have_float (items_of ds) ≡ false → items_have_float (items_of (if is_zero then ds else d ∷ ds)) ≡ false
+in_words_shown true d ds first others = others
+in_words_shown false d ds first others = or_from _ _ first others
+
+in_words : (place : ℕ) (words : List ℕ) → items_have_float (items_of (word_list place words)) ≡ false
+in_words place [] = refl
+in_words place (word ∷ words) = in_words_shown (word == 0) (word_data place word) (word_list (suc place) words) refl (in_words (suc place) words)
+
+in_bits : (bits : Positions) → has_float (bits_data bits) ≡ false
+in_bits bits = in_words 0 (words_of bits)
+
+in_put_at : (o : Ordering) (k l : List ℕ) (d e : Data) (ms : Members) → has_float d ≡ false → has_float e ≡ false → members_have_float ms ≡ false → members_have_float (put k d ms) ≡ false
+    → members_have_float (match_ordering o (member k d (member l e ms)) (member l d ms) (member l e (put k d ms))) ≡ false
+in_put_at Less k l d e ms new old others later = or_from _ _ new (or_from _ _ old others)
+in_put_at Equal k l d e ms new old others later = or_from _ _ new others
+in_put_at Greater k l d e ms new old others later = or_from _ _ old later
+
+in_put : (k : List ℕ) (d : Data) (ms : Members) → has_float d ≡ false → members_have_float ms ≡ false → members_have_float (put k d ms) ≡ false
+in_put k d no_members new others = or_from _ _ new refl
+in_put k d (member l e ms) new others =
+    let parts = or_parts (has_float e) (members_have_float ms) others in
+    in_put_at _ k l d e ms new parts.0 parts.1 (in_put k d ms new parts.1)
+
+in_digest : (name : List ℕ) (digest : Option (List ℕ)) (ms : Members) → members_have_float ms ≡ false → members_have_float (with_digest name digest ms) ≡ false
+in_digest name None ms others = others
+in_digest name (Some digest) ms others = in_put name _ ms refl others
+
+in_fields : (keys : KeyTable) (fields : List Field) (ms : Members) → members_have_float ms ≡ false → members_have_float (with_keys keys fields ms) ≡ false
+in_fields keys [] ms others = others
+in_fields keys (f ∷ fs) ms others = in_fields keys fs (with_digest f.name (key_at f keys) ms) (in_digest f.name (key_at f keys) ms others)
+
+in_keys : (fields : List Field) (keys : KeyTable) → has_float (keys_data fields keys) ≡ false
+in_keys fields keys = in_fields keys fields no_members refl
+
+in_work : (fields : List Field) (bits : Positions) (keys : KeyTable) → has_float (work_data fields bits keys) ≡ false
+in_work fields bits keys = or_from _ _ (in_bits bits) (or_from _ _ (in_keys fields keys) refl)
+
+in_reason : (reason : Option Reason) → has_float (reason_data reason) ≡ false
+in_reason None = refl
+in_reason (Some Lost) = refl
+in_reason (Some Stray) = refl
+in_reason (Some Key) = refl
+
+in_text : (text : Option (List ℕ)) → has_float (text_data text) ≡ false
+in_text None = refl
+in_text (Some text) = refl
+
+pub in_device : (fields : List Field) (d : Device) → has_float (device_data fields d) ≡ false
+in_device fields d =
+    or_from _ _ (in_bits d.burnt.burnt)
+    (or_from _ _ (in_keys fields d.burnt.keys)
+    (or_from _ _ (or_from _ _ (in_work fields d.pending.first d.pending.keys) (or_from _ _ (in_work fields d.pending.second table.empty) refl))
+    (or_from _ _ (in_reason d.reason) (or_from _ _ (in_text d.serial) refl))))
+
+in_entry : (fields : List Field) (e : NewEntry) → has_float (entry_data fields e) ≡ false
+in_entry fields e = or_from _ _ (in_bits e.added.burnt) (or_from _ _ (in_keys fields e.added.keys) refl)
+
+in_entries : (fields : List Field) (entries : List NewEntry) → items_have_float (items_of (map (entry_data fields) entries)) ≡ false
+in_entries fields [] = refl
+in_entries fields (e ∷ es) = or_from _ _ (in_entry fields e) (in_entries fields es)
+
+pub in_ledger : (fields : List Field) (chip : List ℕ) (entries : List NewEntry) → has_float (ledger_data fields chip entries) ≡ false
+in_ledger fields chip entries = or_from _ _ (in_entries fields entries) refl
