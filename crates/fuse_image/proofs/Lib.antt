@@ -4,3 +4,4 @@ pub mod BitSets
 pub mod WordBits
 pub mod Tables
 pub mod Governed
+pub mod InFront

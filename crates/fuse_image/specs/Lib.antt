@@ -1,3 +1,6 @@
+pub mod InPlace
+pub mod Blocks
+pub mod BlocksAgain
 pub mod Numbers
 pub mod NumbersAgain
 pub mod Places

@@ -16,7 +16,7 @@ const PLACES: u16 = 1024;
 
 /// A set of fuse positions in 4 blocks of 8 words of 32 bits (ESP32's eFuse controller has four
 /// such blocks). It takes no memory.
-#[derive(Clone, Copy, Debug)]
+#[derive(Clone, Copy)]
 pub struct Bits {
     numbers: Numbers,
 }

@@ -17,7 +17,7 @@ use text_core::Digest;
 /// What is known of a chip's fuses: the burnt positions outside key fields, and the digests of the
 /// keys by their blocks (a readable key block is known by its SHA-256 digest alone). It takes no
 /// memory.
-#[derive(Clone, Copy, Debug)]
+#[derive(Clone, Copy)]
 pub struct Image {
     /// The burnt positions.
     pub burnt: Bits,

@@ -9,7 +9,7 @@ use text_core::Digest;
 
 /// A table from key blocks, by their numbers 0 to 3, to the SHA-256 digests of their keys (the key
 /// blocks of ESP32's eFuse controller). It takes no memory.
-#[derive(Clone, Copy, Debug)]
+#[derive(Clone, Copy)]
 pub struct Keys {
     digests: [Option<Digest>; 4],
 }

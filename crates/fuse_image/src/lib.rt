@@ -1,14 +1,14 @@
-//! Burnt fuses: sets of fuse positions, tables of key digests, and what the locks of a fuse map
-//! hide and protect.
+//! Burnt fuses: the words of a chip's blocks, sets of fuse positions, tables of key digests, and what
+//! the locks of a fuse map hide and protect.
 #![tactic(auto)]
 
 mod bits;
+mod blocks;
 mod image;
 mod keys;
 mod locks;
 mod numbers;
-#[cfg(test)]
-mod tests;
+mod words;
 
 pub use bits::Bits;
 pub use image::Image;
@@ -17,3 +17,4 @@ pub use locks::{
     hidden_positions, is_hidden_key, is_key_block, is_write_protected_key, key_positions,
     write_protected_positions,
 };
+pub use words::BlockWords;

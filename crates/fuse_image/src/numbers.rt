@@ -6,7 +6,7 @@ use std::marker::Model;
 pub(crate) const ROOM: usize = 1024;
 
 /// A list of at most 1,024 numbers, in place. The array has zeros after them.
-#[derive(Clone, Copy, Debug)]
+#[derive(Clone, Copy)]
 pub(crate) struct Numbers {
     array: [u16; ROOM],
     len: usize,

@@ -1,4 +1,1 @@
-pub mod InPlace
-pub mod Blocks
-pub mod BlocksAgain
 pub mod Redaction

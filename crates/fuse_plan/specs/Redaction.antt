@@ -13,7 +13,7 @@ use Rattle.fuse_image.specs.Keys.{KeyTable, table_where}
 use Rattle.fuse_image.specs.Locks.{is_burnt, is_hidden, is_hidden_key, is_key_block, is_key_position}
 use Rattle.fuse_image.specs.Places.{is_empty, Positions, places_where}
 use Rattle.fuse_plan.specs.declared.redaction.ReadBack.{ReadBack}
-use Rattle.fuse_plan.specs.Blocks.{bytes_of}
+use Rattle.fuse_image.specs.Blocks.{bytes_of}
 
 -- there are as many blocks as the map has, each of as many words
 abbrev pub Fits : Map → List (List ℕ) → Type 0

@@ -9,13 +9,14 @@ ghost use Rattle.fuse_image.specs.Places.{IsPlace, places_where};
 ghost use Rattle.fuse_plan.specs.Redaction as redaction;
 ghost use Rattle.fuse_plan.specs.Redaction.{AreKeys, AreOutsideKeys, Fits, redacted};
 
-use crate::words::BlockWords;
-use fuse_image::{Bits, Keys, hidden_positions, is_hidden_key, is_key_block, key_positions};
+use fuse_image::{
+    Bits, BlockWords, Keys, hidden_positions, is_hidden_key, is_key_block, key_positions,
+};
 use fusemap_core::{Field, FieldId, FuseMap, Pos};
 use text_core::Digest;
 
 /// What a chip shows when it is read back.
-#[derive(Clone, Copy, Debug)]
+#[derive(Clone, Copy)]
 pub struct ReadBack {
     /// The positions outside key fields that read 1.
     pub ones: Bits,

@@ -4,7 +4,7 @@ use Rattle.std.specs.Prelude.{nat_le, if◌then◌else◌, codes}
 use Rattle.std.proofs.lemmas.Bool.{and_parts, leb-true}
 use Rattle.std.proofs.lemmas.Option.{cond_some, option_and_then_some}
 use Rattle.toml.specs.Data.{Data, get, as_integer}
-use Rattle.text_core.specs.Documents.{within, whole_within, whole_member, optional_whole, flag_member, name_member, items_member}
+use Rattle.toml_members.specs.Documents.{within, whole_within, whole_member, optional_whole, flag_member, name_member, items_member}
 use Rattle.text_core.specs.Options.{all_of}
 use Rattle.fusemap_core.specs.declared.field.Field.{Field}
 use Rattle.fusemap_core.specs.declared.map.TheConstants.{BLOCK_LIMIT, FIELD_LIMIT, WORD_LIMIT}

@@ -2,8 +2,8 @@
 use Rattle.std.specs.Prelude.{ℕ, ◌+◌, ◌*◌, Bool, true, false, not, ◌&&◌, ◌||◌, ◌==◌, nat_le, nat_lt, min, max, List, [], ◌∷◌, length, Option, Some, None, is_some, is_none, Result, Ok, Err, bytes_eq, if◌then◌else◌}
 use Rattle.std.specs.List.{list_all}
 use Rattle.std.specs.Option.{option_map_or}
-use Rattle.text_core.specs.declared.document.DocumentFault.{DocumentFault}
-use Rattle.text_core.specs.declared.document.DocumentFault.TheVariants as document
+use Rattle.toml_members.specs.declared.DocumentFault.{DocumentFault}
+use Rattle.toml_members.specs.declared.DocumentFault.TheVariants as document
 use Rattle.fusemap_core.specs.declared.fault.MapFault.{MapFault}
 use Rattle.fusemap_core.specs.declared.fault.MapFault.TheVariants.{NotToml, BadMember, NameTwice, OutOfBlock, FieldsOverlap, BadLockField, BadLockIndex, BadKeyField, OutOfMemory}
 use Rattle.fusemap_core.specs.declared.field.Field.{Field}

@@ -3,7 +3,7 @@ use Rattle.std.specs.Prelude.{◌≡◌, ℕ, ◌≤◌, ◌&&◌, nat_le, nat_l
 use Rattle.std.specs.Option.{ok_or}
 use Rattle.toml.specs.Data.{Data, get, as_str}
 use Rattle.text_core.specs.Answer.{result_and_then}
-use Rattle.text_core.specs.Documents.{document_of, whole_member, optional_whole, flag_member, name_member, items_member, if_there}
+use Rattle.toml_members.specs.Documents.{document_of, whole_member, optional_whole, flag_member, name_member, items_member, if_there}
 use Rattle.text_core.specs.Name.{name_of_text}
 use Rattle.text_core.specs.Options.{◌>>=◌, all_of}
 use Rattle.fusemap_core.specs.declared.fault.MapFault.{MapFault}

@@ -2,7 +2,7 @@ use std::marker::Model;
 use text_core::Name;
 
 /// A field as a text gives it: its numbers are whole numbers of TOML, below 2^63.
-#[derive(Clone, Copy, PartialEq, Eq, Debug)]
+#[derive(Clone, Copy)]
 pub(crate) struct FieldDraft {
     pub(crate) name: Name,
     pub(crate) block: u64,
@@ -27,7 +27,7 @@ impl Model for FieldDraft {
 }
 
 /// A map as a text gives it, which may have faults.
-#[derive(Debug, Drop)]
+#[derive(Drop)]
 pub(crate) struct MapDraft {
     pub(crate) name: Name,
     pub(crate) blocks: Vec<u8>,

@@ -3,8 +3,8 @@ ghost use Rattle.fusemap_core.specs.MapFaults.{fault_number, fault_of_document};
 ghost use Rattle.fusemap_core.specs.declared.fault.MapFault.TheVariants.{OutOfMemory};
 
 use std::alloc::{AllocError, AllocFailed};
-use text_core::document::DocumentFault;
 use thiserror::Error;
+use toml_members::DocumentFault;
 
 /// Why a text is no fuse map, in the order of the faults' numbers: where several hold, the first is
 /// told. A text of more than 32,768 bytes isn't read, and has the fault `BadMember` alone.

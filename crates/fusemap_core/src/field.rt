@@ -5,7 +5,7 @@ use crate::pos::Pos;
 use text_core::Name;
 
 /// A field of a fuse map: a run of positions in one block.
-#[derive(Clone, Copy, PartialEq, Eq, Debug)]
+#[derive(Clone, Copy)]
 pub struct Field {
     /// The name of the field.
     pub name: Name,

@@ -9,8 +9,6 @@ mod judge;
 mod locks;
 mod map;
 mod pos;
-#[cfg(test)]
-mod tests;
 mod text;
 
 pub use fault::MapFault;

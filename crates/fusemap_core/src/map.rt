@@ -21,7 +21,7 @@ pub const FIELD_LIMIT: usize = 128;
 /// A fuse map: the blocks of a chip's fuses, the fields in them, and which of the fields are the
 /// lock fields and the coding field. A field that has a write lock or a read lock is governed by a
 /// bit of that lock field (ESP32's eFuse controller).
-#[derive(Debug, Drop)]
+#[derive(Drop)]
 pub struct FuseMap {
     name: Name,
     blocks: Vec<u8>,
@@ -42,7 +42,7 @@ impl Model for FuseMap {
 }
 
 /// A field of a map, by its place.
-#[derive(Clone, Copy, PartialEq, Eq, Debug)]
+#[derive(Clone, Copy)]
 pub struct FieldId {
     index: usize,
 }

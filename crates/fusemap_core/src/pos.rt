@@ -1,5 +1,5 @@
 /// A position of a fuse map: a bit of a block.
-#[derive(Clone, Copy, PartialEq, Eq, PartialOrd, Ord, Debug)]
+#[derive(Clone, Copy, PartialEq, Eq)]
 pub struct Pos {
     /// The number of the block, from 0 on.
     pub block: u8,

@@ -12,10 +12,10 @@ use crate::judge::judged_map;
 use crate::map::{BLOCK_LIMIT, FIELD_LIMIT, FuseMap, WORD_LIMIT};
 use std::alloc::{AllocError, Global};
 use text_core::Name;
-use text_core::document::{
+use toml::Value;
+use toml_members::{
     flag_member, items_member, name_member, optional_whole, read_document, whole_member,
 };
-use toml::Value;
 
 /// The most bytes of a map's text.
 pub const TEXT_LIMIT: usize = 32768;

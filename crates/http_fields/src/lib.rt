@@ -32,7 +32,7 @@ pub enum FrameRefusal {
 }
 
 /// How often a field or a parameter with some name occurs, with its value where that is just once.
-#[derive(Clone, Copy, Debug)]
+#[derive(Clone, Copy)]
 pub enum Occurrence<'a> {
     /// There is none.
     Absent,
@@ -281,6 +281,3 @@ pub fn only_parameter<'q>(query: &'q [u8], name: &[u8]) -> Occurrence<'q>
     }
     found_more(found, value_of_piece(rest, name))
 }
-
-#[cfg(test)]
-mod tests;

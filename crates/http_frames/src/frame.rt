@@ -11,7 +11,7 @@ use http_fields::{FrameRefusal, read_token};
 use httparse::spans::{HeaderSpan, RequestSpans};
 
 /// Where a request stands in a buffer, until the buffer cuts the next one.
-#[derive(Clone, Copy, Debug)]
+#[derive(Clone, Copy)]
 pub struct Frame {
     /// The parts of the head.
     pub head: RequestSpans,
@@ -24,7 +24,7 @@ pub struct Frame {
 }
 
 /// What stands at the front of a stream.
-#[derive(Clone, Copy, Debug)]
+#[derive(Clone, Copy)]
 pub enum Framed {
     /// A whole request.
     Request(Frame),

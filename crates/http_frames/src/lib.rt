@@ -9,6 +9,4 @@ pub mod buffer;
 pub mod frame;
 pub mod look;
 pub mod memory;
-#[cfg(test)]
-mod tests;
 pub mod transfer;

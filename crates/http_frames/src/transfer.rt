@@ -4,7 +4,7 @@ ghost use Rattle.std.specs.Prelude.{◌≡◌, ℕ, ◌+◌, ◌<◌, ◌^◌, L
 ghost use Rattle.http_frames.specs.Transfers.{MovesAtMost, failures_of, write_failures, Reads, Writes};
 
 /// What one call of a reader or writer did.
-#[derive(Clone, Copy, Debug, PartialEq, Eq)]
+#[derive(Clone, Copy)]
 pub enum Transfer {
     /// So many bytes were moved.
     Moved(usize),

@@ -11,7 +11,7 @@ mod head;
 pub use crate::head::{HEAD_ROOM, reply_head};
 
 /// The statuses of the server's replies (RFC 9110, section 15).
-#[derive(Clone, Copy, Debug, PartialEq, Eq)]
+#[derive(Clone, Copy)]
 pub enum Status {
     /// 200: the request was carried out.
     Success,
@@ -36,7 +36,7 @@ pub enum Status {
 }
 
 /// What a body is.
-#[derive(Clone, Copy, Debug, PartialEq, Eq)]
+#[derive(Clone, Copy)]
 pub enum Kind {
     /// A JSON text (RFC 8259).
     Json,
@@ -45,7 +45,7 @@ pub enum Kind {
 }
 
 /// The body of a reply.
-#[derive(Debug, Drop)]
+#[derive(Drop)]
 pub enum Body {
     /// A JSON text that takes no memory, as that of a refusal.
     Constant(&'static str),
@@ -56,7 +56,7 @@ pub enum Body {
 }
 
 /// A reply to a request. The fields of its head follow from these two (RFC 9110, sections 8.3, 8.6 and 11.6.1).
-#[derive(Debug, Drop)]
+#[derive(Drop)]
 pub struct Reply {
     /// What came of the request.
     pub status: Status,
@@ -65,7 +65,7 @@ pub struct Reply {
 }
 
 /// How a reply is sent, which the request and its stream decide.
-#[derive(Clone, Copy, Debug, PartialEq, Eq)]
+#[derive(Clone, Copy)]
 pub struct Flags {
     /// The request's method is `HEAD`, so the body's bytes are left out (RFC 9110, section 9.3.2).
     pub is_head: bool,
@@ -172,6 +172,3 @@ impl Reply {
         self.body.kind()
     }
 }
-
-#[cfg(test)]
-mod tests;

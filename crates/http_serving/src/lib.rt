@@ -169,6 +169,3 @@ pub fn serve_stream<S, V: Service<S>, R: Source, W: Drain>(
         }
     }
 }
-
-#[cfg(test)]
-mod tests;

@@ -9,7 +9,7 @@ use http_frames::transfer::{Drain, Transfer};
 use http_replies::{Flags, HEAD_ROOM, Reply, reply_head};
 
 /// What became of some bytes.
-#[derive(Clone, Copy, Debug, PartialEq, Eq)]
+#[derive(Clone, Copy)]
 pub enum Sent {
     /// All of them were written.
     All,

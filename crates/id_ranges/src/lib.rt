@@ -7,8 +7,6 @@ mod key_digest;
 mod mac;
 mod pool;
 mod serial;
-#[cfg(test)]
-mod tests;
 
 pub use blocks::reserve;
 pub use fault::RangeFault;

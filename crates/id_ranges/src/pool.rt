@@ -13,7 +13,7 @@ const ADDRESSES: u64 = 0x1_0000_0000_0000;
 
 /// Consecutive hardware addresses (EUI-48, IEEE 802), from which devices get theirs: 1 to 2^24,
 /// each of them an individual address.
-#[derive(Clone, Copy, PartialEq, Eq, Debug)]
+#[derive(Clone, Copy)]
 pub struct MacPool {
     first: Mac,
     count: u64,

@@ -1,6 +1,6 @@
 -- What an order that is asked for is.
 use Rattle.std.specs.Prelude.{◌≤◌}
-use Rattle.text_core.specs.declared.json.TheConstants.{LARGEST_WHOLE}
+use Rattle.text_core.specs.declared.whole.TheConstants.{LARGEST_WHOLE}
 use Rattle.office_commands.specs.declared.new_order.NewOrder.{NewOrder}
 
 -- a width of 1 to 9, a first number and a quantity that JSON readers hold exactly, and 0 to 4 addresses a device

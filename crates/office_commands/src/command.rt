@@ -5,7 +5,7 @@ use crate::{AskedOrder, NewDevice};
 use text_core::{Chip, Digest, Name, Text};
 
 /// A command that writes.
-#[derive(Debug, Drop)]
+#[derive(Drop)]
 pub enum Change {
     /// Makes an order.
     MakeOrder(AskedOrder),
@@ -16,7 +16,7 @@ pub enum Change {
 }
 
 /// A command that shows something and writes nothing.
-#[derive(Clone, Copy, Debug, Drop)]
+#[derive(Clone, Copy, Drop)]
 pub enum Show {
     /// An order, by its name.
     Order(Name),
@@ -27,14 +27,14 @@ pub enum Show {
 }
 
 /// A command of a seat.
-#[derive(Debug, Drop)]
+#[derive(Drop)]
 pub enum Command {
     Change(Change),
     Show(Show),
 }
 
 /// What a seat asks. To a command that shows, the number and the digest mean nothing.
-#[derive(Debug, Drop)]
+#[derive(Drop)]
 pub struct Request {
     /// The number of the request: 1 to 9007199254740991.
     pub number: u64,

@@ -7,8 +7,6 @@ mod new_device;
 mod new_order;
 mod refusal;
 mod reply;
-#[cfg(test)]
-mod tests;
 
 pub use command::{Change, Command, Request, Show};
 pub use device_reply::{device_body, ledger_body};

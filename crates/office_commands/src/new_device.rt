@@ -1,10 +1,10 @@
 // The devices that a seat can register.
 
-use fuse_plan::BlockWords;
+use fuse_image::BlockWords;
 use text_core::{Chip, Digest, Name};
 
 /// A device that is registered, with what its chip shows.
-#[derive(Clone, Copy, Debug, Drop)]
+#[derive(Clone, Copy, Drop)]
 pub struct NewDevice {
     pub chip: Chip,
     /// The name of its order.

@@ -6,7 +6,7 @@ use std::marker::Model;
 use text_core::{Name, Text};
 
 /// An order that is asked for. What its members may be beyond their types is judged.
-#[derive(Debug, Drop)]
+#[derive(Drop)]
 pub struct NewOrder {
     pub name: Name,
     /// The issuer of the serial numbers.
@@ -24,7 +24,7 @@ pub struct NewOrder {
 }
 
 /// An order that is asked for, whose numbers are within their ranges.
-#[derive(Debug, Drop)]
+#[derive(Drop)]
 pub struct AskedOrder {
     order: NewOrder,
 }

@@ -6,7 +6,7 @@ use Rattle.std.proofs.lemmas.Bool.{ltb-false}
 use Rattle.std.proofs.lemmas.Bool.Decides.{nat_tests}
 use Rattle.toml.specs.Data.{Data}
 use Rattle.text_core.specs.Answer.{GivesUnless, result_and_then}
-use Rattle.text_core.specs.Documents.{document_of}
+use Rattle.toml_members.specs.Documents.{document_of}
 use Rattle.text_core.specs.Options.{◌>>=◌}
 use Rattle.site_core.specs.Section.{SiteValue}
 use Rattle.site_core.specs.Site.{IsSite}

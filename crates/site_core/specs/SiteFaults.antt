@@ -2,8 +2,8 @@
 use Rattle.std.specs.Prelude.{ℕ, Bool, false, not, ◌||◌, List, [], ◌∷◌, Result, Ok, Err, bytes_eq, if◌then◌else◌}
 use Rattle.std.specs.List.{flat_map, list_any}
 use Rattle.id_ranges.specs.Pool.{Pool, is_pool}
-use Rattle.text_core.specs.declared.document.DocumentFault.{DocumentFault}
-use Rattle.text_core.specs.declared.document.DocumentFault.TheVariants as document
+use Rattle.toml_members.specs.declared.DocumentFault.{DocumentFault}
+use Rattle.toml_members.specs.declared.DocumentFault.TheVariants as document
 use Rattle.site_core.specs.Section.{Section, SiteValue, names_of, issuers_of, pools_of, seat_names_of, tokens_of}
 use Rattle.site_core.specs.Site.{pools_meet, is_over_limit}
 use Rattle.site_core.specs.declared.fault.SiteFault.{SiteFault}

@@ -6,7 +6,7 @@ use Rattle.id_ranges.specs.Mac.{mac_of_text}
 use Rattle.id_ranges.specs.Pool.{Pool}
 use Rattle.id_ranges.specs.declared.pool.TheConstants.{LARGEST_POOL}
 use Rattle.text_core.specs.Answer.{result_and_then}
-use Rattle.text_core.specs.Documents.{document_of, whole_member, text_member, name_member, digest_member, items_member, optional_items}
+use Rattle.toml_members.specs.Documents.{document_of, whole_member, text_member, name_member, digest_member, items_member, optional_items}
 use Rattle.text_core.specs.Name.{name_of_text}
 use Rattle.text_core.specs.Options.{◌>>=◌, all_of}
 use Rattle.site_core.specs.Section.{SeatOf, Section, SiteValue}

@@ -17,7 +17,7 @@ pub const POOL_LIMIT: usize = 16;
 
 /// A seat of a customer: its name, and the SHA-256 of the bearer token (RFC 6750) that its requests
 /// carry.
-#[derive(Clone, Copy, PartialEq, Eq, Debug)]
+#[derive(Clone, Copy)]
 pub struct Seat {
     name: Name,
     token: Digest,
@@ -65,7 +65,7 @@ impl Seat {
 
 /// A customer: its name, the issuers of the serial numbers that it may order, the pools that its
 /// devices' hardware addresses come from, and its seats.
-#[derive(Debug, Drop)]
+#[derive(Drop)]
 pub struct Customer {
     name: Name,
     issuers: Vec<Name>,

@@ -5,7 +5,7 @@ use text_core::{Digest, Name};
 
 /// A pool as a text gives it: its first address, and how many addresses there are, 1 to 2^24. Some
 /// of them may be group addresses, or have more than 48 bits.
-#[derive(Clone, Copy, PartialEq, Eq, Debug)]
+#[derive(Clone, Copy)]
 pub(crate) struct PoolDraft {
     pub(crate) first: Mac,
     pub(crate) count: u64,
@@ -26,7 +26,7 @@ impl Model for PoolDraft {
 }
 
 /// A customer as a text gives it.
-#[derive(Debug, Drop)]
+#[derive(Drop)]
 pub(crate) struct CustomerDraft {
     pub(crate) name: Name,
     pub(crate) issuers: Vec<Name>,
@@ -43,7 +43,7 @@ impl Model for CustomerDraft {
 }
 
 /// A site as a text gives it, which may have faults.
-#[derive(Debug, Drop)]
+#[derive(Drop)]
 pub(crate) struct SiteDraft {
     pub(crate) customers: Vec<CustomerDraft>,
     pub(crate) manager: Option<Digest>,

@@ -3,8 +3,8 @@ ghost use Rattle.site_core.specs.SiteFaults.{fault_number, fault_of_document};
 ghost use Rattle.site_core.specs.declared.fault.SiteFault.TheVariants.{OutOfMemory};
 
 use std::alloc::{AllocError, AllocFailed};
-use text_core::document::DocumentFault;
 use thiserror::Error;
+use toml_members::DocumentFault;
 
 /// Why a text is no site, in the order of the faults' numbers: where several hold, the first is
 /// told. A text of more than 1,048,576 bytes isn't read, and has the fault `OverLimit` alone.

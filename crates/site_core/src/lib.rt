@@ -7,8 +7,6 @@ mod fault;
 mod judge;
 mod ownership;
 mod site;
-#[cfg(test)]
-mod tests;
 mod text;
 
 pub use customer::{Customer, ISSUER_LIMIT, POOL_LIMIT, SEAT_LIMIT, Seat};

@@ -14,7 +14,7 @@ pub const CUSTOMER_LIMIT: usize = 64;
 
 /// The customers that a server serves, in the text's order, and the manager's token. Over the whole
 /// site no customer, issuer, seat or token comes twice, and no address lies in two pools.
-#[derive(Debug, Drop)]
+#[derive(Drop)]
 pub struct Site {
     customers: Vec<Customer>,
     manager: Option<Digest>,
@@ -32,14 +32,14 @@ impl Model for Site {
 }
 
 /// A seat of a customer of a site, by its place.
-#[derive(Clone, Copy, PartialEq, Eq, Debug)]
+#[derive(Clone, Copy)]
 pub struct SeatCaller {
     customer: usize,
     seat: usize,
 }
 
 /// Who sent a request, as the site that told it knows.
-#[derive(Clone, Copy, PartialEq, Eq, Debug)]
+#[derive(Clone, Copy)]
 pub enum Caller {
     /// A seat of a customer.
     Seat(SeatCaller),

@@ -13,12 +13,12 @@ use crate::judge::judged_site;
 use crate::site::Site;
 use id_ranges::{LARGEST_POOL, Mac};
 use std::alloc::{AllocError, Global};
-use text_core::document::{
+use text_core::{Digest, Name};
+use toml::Value;
+use toml_members::{
     digest_member, items_member, name_member, optional_items, read_document, text_member,
     whole_member,
 };
-use text_core::{Digest, Name};
-use toml::Value;
 
 /// The most bytes of a site's text: 2^20.
 pub const TEXT_LIMIT: usize = 1048576;

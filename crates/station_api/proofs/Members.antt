@@ -8,7 +8,7 @@ use Rattle.std.proofs.lemmas.List.Sums.{fold-append}
 use Rattle.serde_json.specs.Data.{Data, null, boolean, number, string, array, object, Num, unsigned, negative, float, Members, no_members, member, put}
 use Rattle.serde_json.specs.Find.{get, as_str, as_number, as_u64}
 use Rattle.serde_json.specs.Written.{has_float, items_have_float, members_have_float}
-use Rattle.text_core.specs.Json.{within, whole_member, text_member, name_member, digest_member, chip_member}
+use Rattle.json_members.specs.Json.{within, whole_member, text_member, name_member, digest_member, chip_member}
 use Rattle.text_core.specs.Chip.{chip_of_text}
 use Rattle.text_core.specs.Digest.{digest_of_text}
 use Rattle.text_core.specs.Name.{name_of_text}

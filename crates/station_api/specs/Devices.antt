@@ -8,9 +8,9 @@ use Rattle.serde_json.specs.Find.{as_array, as_str, get}
 use Rattle.sha2.specs.Sha256.{sha256}
 use Rattle.text_core.specs.Chip.{chip_of_text}
 use Rattle.text_core.specs.Options.{◌>>=◌, all_of}
-use Rattle.text_core.specs.Json.{chip_member, digest_member, list_of, name_member, whole_member}
-use Rattle.text_core.specs.declared.json.TheConstants.{LARGEST_WHOLE}
-use Rattle.fuse_plan.specs.Blocks.{blocks_of, bytes_of}
+use Rattle.json_members.specs.Json.{chip_member, digest_member, list_of, name_member, whole_member}
+use Rattle.text_core.specs.declared.whole.TheConstants.{LARGEST_WHOLE}
+use Rattle.fuse_image.specs.Blocks.{blocks_of, bytes_of}
 use Rattle.http_fields.specs.Fields.{parameters_named}
 use Rattle.office_commands.specs.declared.new_device.NewDevice.{NewDevice}
 use Rattle.office_commands.specs.declared.command.Request.{Request}

@@ -3,7 +3,7 @@ use Rattle.std.specs.Prelude.{ℕ, List, codes, replicate, bytes_eq, Option, Som
 use Rattle.std.specs.Option.{ok_or}
 use Rattle.serde_json.specs.Data.{Data}
 use Rattle.text_core.specs.Answer.{result_and_then, result_map}
-use Rattle.text_core.specs.Json.{json_of}
+use Rattle.json_members.specs.Json.{json_of}
 use Rattle.http_fields.specs.Fields.{path_of, query_of}
 use Rattle.http_frames.specs.Frames.{Request as HttpRequest}
 use Rattle.site_core.specs.declared.site.Caller.{Caller}

@@ -3,21 +3,22 @@ ghost use Rattle.std.specs.Prelude.{◌≡◌, codes, IfOk, map, option_and_then
 ghost use Rattle.serde_json.specs.Data.{array, object, put};
 ghost use Rattle.serde_json.specs.View.{view};
 ghost use Rattle.text_core.specs.Options.{all_of};
-ghost use Rattle.fuse_plan.specs.Blocks.{blocks_of};
+ghost use Rattle.fuse_image.specs.Blocks.{blocks_of};
 ghost use Rattle.office_commands.specs.DeviceReplies.{items_of};
 ghost use Rattle.station_api.specs.Digests.{named_members};
 ghost use Rattle.station_api.specs.Devices.{block_digest, block_in, blocks_member, chip_parameter, device_members, new_device_of, register_device_of, word_in, word_of_text};
 
 use crate::digest::{found_members, request_digest};
-use fuse_plan::BlockWords;
+use fuse_image::BlockWords;
 use hex::FromHex;
 use http_fields::{Occurrence, only_parameter};
+use json_members::{chip_member, digest_member, name_member, whole_member};
 use office_commands::NewDevice;
 use office_core::{Change, Command, Request};
 use serde_json::Value;
 use std::alloc::{AllocError, Global};
 use std::str;
-use text_core::{Chip, LARGEST_WHOLE, chip_member, digest_member, name_member, whole_member};
+use text_core::{Chip, LARGEST_WHOLE};
 
 /// The path of devices.
 pub const DEVICE_PATH: &str = "/v1/device";
@@ -59,7 +60,7 @@ fn read_words(alloc: Global, values: &[Value]) -> Result<Option<Vec<u32>>, Alloc
 }
 
 /// The words of a block, if the JSON value is an array of words.
-#[tactic(auto, using(text_core::proofs::Lists::list_of_items))]
+#[tactic(auto, using(json_members::proofs::Lists::list_of_items))]
 fn read_block(alloc: Global, value: &Value) -> Result<Option<Vec<u32>>, AllocError>
     ensures { IfOk result (λ found. option_map (λ words. words.items) found
         ≡ block_in (view value.now)) }
@@ -97,7 +98,7 @@ fn known_blocks(alloc: Global, values: &[Value]) -> Result<Option<BlockWords>, A
 }
 
 /// A member that is an array of 1 to 4 blocks of 1 to 8 words.
-#[tactic(auto, using(text_core::proofs::Lists::list_of_items), unfolding(crate::specs::Devices::blocks_member))]
+#[tactic(auto, using(json_members::proofs::Lists::list_of_items), unfolding(crate::specs::Devices::blocks_member))]
 fn blocks_member(alloc: Global, value: &Value, name: &str) -> Result<Option<BlockWords>, AllocError>
     ensures { IfOk result (λ blocks. blocks ≡ blocks_member name.now (view value.now)) }
 {

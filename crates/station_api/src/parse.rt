@@ -4,7 +4,7 @@ ghost use Rattle.serde_json.specs.View.{view};
 ghost use Rattle.text_core.specs.Answer.{GivesUnless, result_map};
 ghost use Rattle.http_frames.specs.Frames.{Request as HttpRequest};
 ghost use Rattle.http_frames.specs.Looks.{IsFrameAt};
-ghost use Rattle.text_core.specs.Json.{json_of};
+ghost use Rattle.json_members.specs.Json.{json_of};
 ghost use Rattle.station_api.specs.Devices.{register_device_of};
 ghost use Rattle.station_api.specs.Maps.{import_map_of};
 ghost use Rattle.station_api.specs.Orders.{make_order_of};
@@ -16,21 +16,22 @@ use crate::order::{ORDER_PATH, make_order_request, order_name};
 use http_fields::split_target;
 use http_frames::buffer::Buffer;
 use http_frames::frame::Frame;
+use json_members::{JsonFault, read_json};
 use office_core::site::{Caller, SeatCaller};
 use office_core::{Command, Refusal, Request, Show};
 use serde_json::Value;
 use std::alloc::{AllocError, Global};
-use text_core::{Digest, JsonFault, read_json};
+use text_core::Digest;
 
 /// What a seat asks of the office.
-#[derive(Debug, Drop)]
+#[derive(Drop)]
 pub struct Parsed {
     pub seat: SeatCaller,
     pub request: Request,
 }
 
 /// What a method and a path lead to.
-#[derive(Clone, Copy, Debug, PartialEq, Eq)]
+#[derive(Clone, Copy)]
 pub enum Route {
     /// `POST /v1/order`.
     MakeOrder,

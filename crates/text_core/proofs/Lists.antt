@@ -1,14 +1,7 @@
--- Arrays as lists, and what a reader gives of each of their items.
+-- What a reader gives of each item of a list.
 use Rattle.std.proofs.Common.{◌≡◌, ℕ, zero, suc, ◌+◌, ◌<◌, List, [], ◌∷◌, ◌++◌, length, get_or, take, map, Option, Some, None, option_map, option_and_then, refl, sym, ap, ◌∙◌, arith}
 use Rattle.std.proofs.lemmas.List.{take_more, map-append, length-map, get_or-map}
-use Rattle.serde_json.specs.View.{view, items_view}
-use Rattle.serde_json.specs.declared.value.Value.{Value}
-use Rattle.text_core.specs.Json.{list_of}
 use Rattle.text_core.specs.Options.{all_of}
-
-pub list_of_items : (vs : List Value) → list_of (items_view vs) ≡ map view vs
-list_of_items [] = refl
-list_of_items (v ∷ vs) = ap (λ ds. view v ∷ ds) (list_of_items vs)
 
 -- the results, with one more at the end
 abbrev with_last : {B : Type 0} → Option B → List B → Option (List B)

@@ -1,9 +1,7 @@
 pub mod Answer
 pub mod Chip
 pub mod Digest
-pub mod Documents
 pub mod InPlace
-pub mod Json
 pub mod Name
 pub mod Options
 pub mod Padding

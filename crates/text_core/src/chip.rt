@@ -8,7 +8,7 @@ use std::marker::Model;
 
 /// The identity that a chip is made with, as text: twelve lowercase hexadecimal digits. It lies in
 /// place, and is compared by its bytes.
-#[derive(Clone, Copy, PartialEq, Eq, PartialOrd, Ord, Debug)]
+#[derive(Clone, Copy, PartialEq, Eq, PartialOrd, Ord)]
 pub struct Chip(ShortText);
 
 impl Model for Chip {

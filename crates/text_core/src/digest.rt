@@ -9,7 +9,7 @@ use std::fmt;
 use std::marker::Model;
 
 /// A SHA-256 digest (FIPS 180-4). It is printed as 64 lowercase hexadecimal digits.
-#[derive(Clone, Copy, PartialEq, Eq, PartialOrd, Ord, Debug)]
+#[derive(Clone, Copy, PartialEq, Eq, PartialOrd, Ord)]
 pub struct Digest {
     bytes: [u8; 32],
 }

@@ -8,7 +8,7 @@ use std::marker::Model;
 
 /// A name of a customer, an issuer, a seat or an order: 1 to 32 letters, digits, dots, underscores
 /// and hyphens of ASCII. It lies in place, and is compared by its bytes.
-#[derive(Clone, Copy, PartialEq, Eq, PartialOrd, Ord, Debug)]
+#[derive(Clone, Copy, PartialEq, Eq, PartialOrd, Ord)]
 pub struct Name(ShortText);
 
 impl Model for Name {

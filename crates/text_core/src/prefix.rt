@@ -9,7 +9,7 @@ use std::marker::Model;
 /// What the serial numbers of an order begin with: 1 to 32 capital letters, digits and hyphens, which
 /// are characters of PrintableString (RFC 5280, appendix A). It lies in place, and is compared by
 /// its bytes.
-#[derive(Clone, Copy, PartialEq, Eq, PartialOrd, Ord, Debug)]
+#[derive(Clone, Copy, PartialEq, Eq)]
 pub struct Prefix(ShortText);
 
 impl Model for Prefix {

@@ -8,7 +8,7 @@ use std::marker::Model;
 
 /// A text of any length that owns its memory. Clauses see it as its bytes, and it is compared by
 /// them.
-#[derive(Debug, Drop)]
+#[derive(Drop)]
 pub struct Text {
     text: String,
 }

@@ -1,0 +1,68 @@
+//! Bodies as JSON, and whole numbers in them.
+
+use json_members::{JsonFault, read_json, whole_member};
+use std::alloc::Global;
+use text_core::LARGEST_WHOLE;
+
+/// Bodies, the least and the greatest number that is wanted, and whether they are JSON, with the member
+/// `n` where it is a whole number within these.
+const BODIES: &[(&[u8], u64, u64, Option<Option<u64>>)] = &[
+    (
+        b"{\"n\":9007199254740991}",
+        0,
+        LARGEST_WHOLE,
+        Some(Some(LARGEST_WHOLE)),
+    ),
+    (
+        b"{\"n\":9007199254740991}",
+        0,
+        LARGEST_WHOLE - 1,
+        Some(None),
+    ),
+    (b"{\"n\":9007199254740992}", 0, LARGEST_WHOLE, Some(None)),
+    (
+        b"{\"n\":18446744073709551616}",
+        0,
+        LARGEST_WHOLE,
+        Some(None),
+    ),
+    (b"{\"n\":1,\"n\":2}", 2, 2, Some(Some(2))),
+    (b"{\"n\":1,\"n\":2}", 3, 4, Some(None)),
+    (b"{\"n\":1.0}", 0, LARGEST_WHOLE, Some(None)),
+    (b"{\"n\":-0}", 0, LARGEST_WHOLE, Some(None)),
+    (b"{\"n\":-1}", 0, LARGEST_WHOLE, Some(None)),
+    (b"{\"n\":1e2}", 0, LARGEST_WHOLE, Some(None)),
+    (b"{\"n\":\"1\"}", 0, LARGEST_WHOLE, Some(None)),
+    (b"{\"n\":null}", 0, LARGEST_WHOLE, Some(None)),
+    (b"{\"n\":true}", 0, LARGEST_WHOLE, Some(None)),
+    (b"{\"n\":[1]}", 0, LARGEST_WHOLE, Some(None)),
+    (b"", 0, LARGEST_WHOLE, None),
+    (b"{", 0, LARGEST_WHOLE, None),
+    (b"{} {}", 0, LARGEST_WHOLE, None),
+    (b"{\"n\":01}", 0, LARGEST_WHOLE, None),
+    (b"{\"n\":1e999}", 0, LARGEST_WHOLE, None),
+    (b"{\"n\":\"\\ud800\"}", 0, LARGEST_WHOLE, None),
+    (b"{\"n\":\"\xff\"}", 0, LARGEST_WHOLE, None),
+];
+
+/// The whole number of a body, if it is JSON. An outer `None` stands for want of memory.
+fn whole_number(
+    alloc: Global,
+    body: &[u8],
+    least: u64,
+    greatest: u64,
+) -> Option<Option<Option<u64>>> {
+    match read_json(alloc, body) {
+        Ok(value) => Some(Some(whole_member(&value, "n", least, greatest))),
+        Err(JsonFault::NotJson) => Some(None),
+        Err(JsonFault::OutOfMemory) => None,
+    }
+}
+
+#[test]
+fn reads_json(rt: HostRuntime) {
+    for row in BODIES {
+        let found = whole_number(rt.alloc(), row.0, row.1, row.2);
+        assert!(rt; found == Some(row.3), "{:?}", row.0);
+    }
+}

@@ -1,0 +1,26 @@
+//! Examples of what the low crates do, and the sample texts that they share with the crates above.
+#![tactic(auto)]
+
+#[cfg(test)]
+mod addresses;
+#[cfg(test)]
+mod changes;
+#[cfg(test)]
+mod chips;
+#[cfg(test)]
+mod fuses;
+#[cfg(test)]
+mod json;
+#[cfg(test)]
+mod map_faults;
+#[cfg(test)]
+mod maps;
+#[cfg(test)]
+mod replies;
+pub mod samples;
+#[cfg(test)]
+mod sites;
+#[cfg(test)]
+mod streams;
+#[cfg(test)]
+mod texts;

@@ -1,0 +1,2 @@
+pub mod BodyRead
+pub mod Lists

@@ -1,0 +1,98 @@
+//! What stands for long texts in the bodies of conversations:
+//!
+//! - `$DIGEST`: the SHA-256 of the sample map's text; `$LOCKED`: that of the text in which the coding
+//!   field has a read lock;
+//! - `$NONE`: work in which there is none;
+//! - `$MAP`: the sample map's text as JSON has it, without its quotation marks, and `$MAP~old~new~` the
+//!   same with another part in place of one;
+//! - `$SPACES(n)`: so many spaces;
+//! - `<0.6=00000040 3.7=80000000>`: the blocks of a read-back, zeros but for these words, each after its
+//!   block and its place in it.
+use base_examples::samples::MAP;
+use std::alloc::{AllocError, Global};
+use std::test::Fail;
+
+/// The SHA-256 of the sample map's text.
+const MAP_DIGEST: &str = "453e1a59aaf4956999cac589cf209d34bfa882946bada4f1aa5199c4256c4fab";
+
+/// The SHA-256 of its text where the coding field has a read lock.
+const LOCKED_DIGEST: &str = "e96d07bc3b7df96f50dff86c928556204aa1af88fc584d41f0698c5182763676";
+
+/// Work in which there is none.
+const NO_WORK: &str = r#"{"bits":[],"keys":{}}"#;
+
+/// The text with what each placeholder stands for in its place.
+pub fn filled(alloc: Global, text: &str) -> Result<String, Fail> {
+    let text = text.replace(alloc, "$DIGEST", MAP_DIGEST)?;
+    let text = text.as_str().replace(alloc, "$LOCKED", LOCKED_DIGEST)?;
+    let text = text.as_str().replace(alloc, "$NONE", NO_WORK)?;
+    let text = with_blocks(alloc, text.as_str())?;
+    let text = with_spaces(alloc, text.as_str())?;
+    with_map(alloc, text.as_str())
+}
+
+/// The text with the sample map in place of its placeholder.
+fn with_map(alloc: Global, text: &str) -> Result<String, Fail> {
+    let Some((before, after)) = text.split_once("$MAP") else {
+        return Ok(String::from_str(alloc, text)?);
+    };
+    let map = MAP.replace(alloc, "\"", "\\\"")?;
+    let map = map.as_str().replace(alloc, "\n", "\\n")?;
+    let map = map.as_str();
+    let Some(change) = after.strip_prefix("~") else {
+        return Ok(format!(in alloc; "{before}{map}{after}")?);
+    };
+    let (old, rest) = change.split_once("~").ok_or("no new part")?;
+    let (new, after) = rest.split_once("~").ok_or("no end of the new part")?;
+    let map = map.replace(alloc, old, new)?;
+    Ok(format!(in alloc; "{before}{map}{after}")?)
+}
+
+/// The text with spaces in place of their placeholder.
+fn with_spaces(alloc: Global, text: &str) -> Result<String, Fail> {
+    let Some((before, rest)) = text.split_once("$SPACES(") else {
+        return Ok(String::from_str(alloc, text)?);
+    };
+    let (number, after) = rest.split_once(")").ok_or("no end of the spaces")?;
+    let spaces: usize = number.parse().map_err(|_| "no number of spaces")?;
+    Ok(format!(in alloc; "{before}{:spaces$}{after}", "")?)
+}
+
+/// The text with the blocks of a read-back in place of their placeholder.
+fn with_blocks(alloc: Global, text: &str) -> Result<String, Fail> {
+    let Some((before, rest)) = text.split_once("<") else {
+        return Ok(String::from_str(alloc, text)?);
+    };
+    let (words, after) = rest.split_once(">").ok_or("no end of the blocks")?;
+    let mut blocks = String::new(alloc);
+    for (index, length) in [("0", 7u64), ("1", 8), ("2", 8), ("3", 8)] {
+        let mark = if blocks.is_empty() { "[" } else { "," };
+        let block = block(alloc, index, length, words)?;
+        blocks.push_str(mark)?;
+        blocks.push_str(block.as_str())?;
+    }
+    Ok(format!(in alloc; "{before}{blocks}]{after}")?)
+}
+
+/// A block as JSON: zeros but for the words that are its own.
+fn block(alloc: Global, index: &str, length: u64, words: &str) -> Result<String, AllocError> {
+    let mut block = String::new(alloc);
+    for place in 0..length {
+        let place = format!(in alloc; "{index}.{place}=")?;
+        block.push_str(if block.is_empty() { "[\"" } else { ",\"" })?;
+        block.push_str(digits_at(place.as_str(), words))?;
+        block.push_str("\"")?;
+    }
+    block.push_str("]")?;
+    Ok(block)
+}
+
+/// The digits of the word at a place, or those of zero.
+fn digits_at<'a>(place: &str, words: &'a str) -> &'a str {
+    for word in words.split(" ") {
+        if let Some(digits) = word.strip_prefix(place) {
+            return digits;
+        }
+    }
+    "00000000"
+}

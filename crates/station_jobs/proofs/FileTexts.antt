@@ -1,0 +1,45 @@
+-- What the bytes of a file give, by what reading their text gives.
+use Rattle.std.specs.Result.{IsErrAnd, MatchResult}
+use Rattle.std.proofs.Common.{◌≡◌, ◌≤◌, ℕ, List, length, Bool, true, false, Result, Ok, Err, inl, inr, refl, ap, ◌∙◌}
+use Rattle.std.specs.Borrow.{Bor}
+use Rattle.std.specs.Str.{IsUtf8, is_utf8}
+use Rattle.std.proofs.lemmas.Bool.{le-ltb}
+use Rattle.std.proofs.lemmas.Str.{is_utf8-from_IsUtf8, IsUtf8-from_is_utf8}
+use Rattle.station_jobs.specs.FileText.{or_failure, text_in}
+use Rattle.text_core.specs.Answer.{GivesUnless, result_and_then}
+use Rattle.station_jobs.specs.declared.failure.Failure.{Failure}
+use Rattle.station_jobs.specs.declared.failure.Failure.TheVariants.{CannotRead, NoMemory}
+
+-- bytes that are a text are the text
+pub text_in-text : (name : Bor (List ℕ)) (bytes : List ℕ) (limit : ℕ) (too_long : Failure) → length bytes ≤ limit → IsUtf8 bytes
+    → Ok bytes ≡ text_in name bytes limit too_long
+text_in-text name bytes limit too_long within text = rw (le-ltb limit (length bytes) within, is_utf8-from_IsUtf8 bytes text) refl
+
+-- bytes that are no text can't be read
+pub text_in-no_text : (name : Bor (List ℕ)) (bytes : List ℕ) (limit : ℕ) (too_long : Failure) → length bytes ≤ limit → ¬ IsUtf8 bytes
+    → Err (CannotRead name) ≡ text_in name bytes limit too_long
+text_in-no_text name bytes limit too_long within none = go (is_utf8 bytes) refl
+  where
+    go : (b : Bool) → is_utf8 bytes ≡ b → Err (CannotRead name) ≡ text_in name bytes limit too_long
+    go true is = absurd (none (IsUtf8-from_is_utf8 bytes is))
+    go false is = rw (le-ltb limit (length bytes) within, is) refl
+
+-- a fault passed on as a failure
+passed : {A Fault : Type 0} (failure_of : Fault → Failure) (r : Result A Fault) (out : Result A Failure)
+    → MatchResult r (λ value. out ≡ Ok value) (λ fault. IsErrAnd out (λ failure. failure ≡ failure_of fault)) → out ≡ or_failure failure_of r
+passed failure_of (Ok value) out is = is
+passed failure_of (Err fault) (Ok value) is = absurd is
+passed failure_of (Err fault) (Err failure) is = ap Err is
+
+-- what a text gave, with its fault passed on as a failure
+pub given_of_text : {A Fault : Type 0} (failure_of : Fault → Failure) (none : Fault) (read : List ℕ → Result A Fault)
+    (found : Result (List ℕ) Failure) (text : List ℕ) (r : Result A Fault) (out : Result A Failure)
+    → failure_of none ≡ NoMemory → Ok text ≡ found → GivesUnless none r (read text)
+    → MatchResult r (λ value. out ≡ Ok value) (λ fault. IsErrAnd out (λ failure. failure ≡ failure_of fault))
+    → GivesUnless NoMemory out (result_and_then (λ t. or_failure failure_of (read t)) found)
+given_of_text failure_of none read found text r out memory is_text given is =
+    let same : out ≡ or_failure failure_of r = passed failure_of r out is in
+    elim given [
+      | inl wanted ↦ inl (same ∙ (ap (or_failure failure_of) wanted ∙ ap (result_and_then (λ t. or_failure failure_of (read t))) is_text))
+      | inr out_of_memory ↦ inr (same ∙ (ap (or_failure failure_of) out_of_memory ∙ ap Err memory))
+    ]

@@ -1,0 +1,97 @@
+use Rattle.std.proofs.Common.{◌≡◌, ◌⊎◌, true, None, List, [], ◌∷◌, Option, option_and_then, inl, inr, refl, sym, ap, subst, ◌∙◌}
+use Rattle.clap.specs.Words.{App, IsAmong, Row, Text, Kinds, HasKind, kind_of, app_of, is_simple, is_simple_and_free, fault_of, subcommand_of}
+use Rattle.clap.specs.declared.error.Error.{Error}
+use Rattle.clap.specs.declared.error.kind.ErrorKind.TheVariants.{DisplayHelp, OutOfMemory}
+use Rattle.clap.proofs.OnLiterals.{clap_on_literals}
+use Rattle.station_jobs.specs.declared.job.Job.{Job}
+use Rattle.station_jobs.specs.declared.job.WordsFault.{WordsFault}
+use Rattle.station_jobs.specs.declared.job.WordsFault.TheVariants.{Help, Refused, NoMemory}
+use Rattle.station_jobs.specs.CommandLine.{CanGive, GivenBy, RefusesWith, job_by, job_of, station_app, texts, unless_faulty}
+use Rattle.station_jobs.proofs.job.read_job.Goals as goal
+
+simple : is_simple station_app ≡ true
+unfolding clap_on_literals
+simple = refl
+
+free : is_simple_and_free station_app ≡ true
+unfolding clap_on_literals
+free = refl
+
+-- an error of clap's kinds gives one of the faults that those kinds can give
+can_give : (kinds : Kinds) (e : Error) (fault : WordsFault) → HasKind kinds e → GivenBy (kind_of e) fault → CanGive kinds fault
+can_give kinds e (Help text) h given = elim h [
+  | inl memory ↦ let bad : DisplayHelp ≡ OutOfMemory = sym given ∙ memory in cc
+  | inr among ↦ rw given at among
+]
+can_give kinds e (Refused text) h given = λ only. elim h [
+  | inl memory ↦ absurd (given.1 memory)
+  | inr among ↦
+      let one : IsAmong (kind_of e) (DisplayHelp ∷ []) = rw only at among in
+      elim one [ inl is ↦ absurd (given.0 is) | inr none ↦ absurd none ]
+]
+can_give kinds e NoMemory h given = tt
+
+only_memory : (e : Error) (fault : WordsFault) → kind_of e ≡ OutOfMemory → GivenBy (kind_of e) fault → fault ≡ NoMemory
+only_memory e (Help text) memory given = let bad : DisplayHelp ≡ OutOfMemory = sym given ∙ memory in cc
+only_memory e (Refused text) memory given = absurd (given.1 memory)
+only_memory e NoMemory memory given = refl
+
+-- a fault other than of memory means that the words have a fault
+faulty : (kinds : Kinds) (job : Option Job) (e : Error) (fault : WordsFault) → HasKind kinds e → GivenBy (kind_of e) fault
+    → (fault ≡ NoMemory) ⊎ (unless_faulty kinds job ≡ None)
+faulty [] job e fault h given = elim h [ inl memory ↦ inl (only_memory e fault memory given) | inr among ↦ absurd among ]
+faulty (kind ∷ kinds) job e fault h given = inr refl
+
+-- a refusal of words that have no fault
+refusal : (kinds : Kinds) (fault : WordsFault) (text : Text) → kinds ≡ [] → RefusesWith text fault → CanGive kinds fault
+refusal kinds (Help given) text none is = absurd is
+refusal kinds (Refused given) text none is = λ only. let bad : [] ≡ DisplayHelp ∷ [] = sym none ∙ only in cc
+refusal kinds NoMemory text none is = tt
+
+-- what holds of the kinds of fault of the command that was made
+of_made : (P : Kinds → Type 0) (made app : App) (words : List Text) → made ≡ app → P (fault_of made words) → P (fault_of app words)
+of_made P made app words same = subst (λ (a : App). P (fault_of a words)) same
+
+-- what the words give, by what the matches of the command give
+read : (made app : App) (words : List Text) (rows : Option (Text × List Row)) (job : Option Job) → made ≡ app
+    → fault_of made words ≡ [] → rows ≡ subcommand_of made words → job ≡ option_and_then job_by rows
+    → unless_faulty (fault_of app words) (option_and_then job_by (subcommand_of app words)) ≡ job
+read made app words rows job same none found is =
+    let clear : fault_of app words ≡ [] = ap (λ (a : App). fault_of a words) (sym same) ∙ none in
+    let entered : subcommand_of app words ≡ rows = ap (λ (a : App). subcommand_of a words) (sym same) ∙ sym found in
+    rw (clear, entered) (sym is)
+
+pub returns-in-Err-clause-err : goal.returns-in-Err-clause-err
+returns-in-Err-clause-err c =
+    let made = c.in_ok-command.ensures in
+    let kinds = of_made (λ (k : Kinds). HasKind k c.in-Err.error) (app_of c.in_ok-command.command) station_app (texts c.args.words) made
+    (c.in-Err.ensures.kinds (ap is_simple_and_free made ∙ free)) in
+    faulty (fault_of station_app (texts c.args.words)) (job_of (texts c.args.words)) c.in-Err.error c.words_fault.result kinds c.words_fault.ensures
+
+pub returns-in-Err-clause-fault : goal.returns-in-Err-clause-fault
+returns-in-Err-clause-fault c =
+    let made = c.in_ok-command.ensures in
+    let kinds = of_made (λ (k : Kinds). HasKind k c.in-Err.error) (app_of c.in_ok-command.command) station_app (texts c.args.words) made
+    (c.in-Err.ensures.kinds (ap is_simple_and_free made ∙ free)) in
+    can_give (fault_of station_app (texts c.args.words)) c.in-Err.error c.words_fault.result kinds c.words_fault.ensures
+
+pub returns-in-Some-clause-ok : goal.returns-in-Some-clause-ok
+returns-in-Some-clause-ok c =
+    let made = c.in_ok-command.ensures in
+    read (app_of c.in_ok-command.command) station_app (texts c.args.words) _ _ made
+    (c.in-Ok.ensures.kinds (ap is_simple_and_free made ∙ free)) (c.in-Ok.ensures.matches (ap is_simple made ∙ simple)).1 c.in_ok-job.ensures
+    ∙ c.in-Some.is
+
+pub returns-clause-err : goal.returns-clause-err
+returns-clause-err c =
+    let made = c.in_ok-command.ensures in
+    inr (read (app_of c.in_ok-command.command) station_app (texts c.args.words) _ _ made
+    (c.in-Ok.ensures.kinds (ap is_simple_and_free made ∙ free)) (c.in-Ok.ensures.matches (ap is_simple made ∙ simple)).1 c.in_ok-job.ensures
+    ∙ c.in-None.is)
+
+pub returns-clause-fault : goal.returns-clause-fault
+returns-clause-fault c =
+    let made = c.in_ok-command.ensures in
+    let none = of_made (λ (k : Kinds). k ≡ []) (app_of c.in_ok-command.command) station_app (texts c.args.words) made
+    (c.in-Ok.ensures.kinds (ap is_simple_and_free made ∙ free)) in
+    refusal (fault_of station_app (texts c.args.words)) c.refused.result _ none c.refused.ensures

@@ -1,0 +1,39 @@
+-- The status that the program ends with, and the line that it writes where it failed.
+use Rattle.std.specs.Prelude.{ℕ, ◌≡◌, ◌≤◌, ◌++◌, List, codes, decimal, Result, Ok, Err}
+use Rattle.http_serving.specs.declared.Served.{Served}
+use Rattle.http_serving.specs.declared.Served.TheVariants.{Ended, Closed, Cut, ReadFault, WriteFault}
+use Rattle.station_jobs.specs.declared.failure.Failure.{Failure}
+use Rattle.station_jobs.specs.declared.failure.Failure.TheVariants.{CannotRead, SiteFault, MapFault, ReadFailed, WriteFailed, TurnLimit}
+use Rattle.station_jobs.specs.declared.job.WordsFault.{WordsFault}
+use Rattle.station_jobs.specs.declared.job.WordsFault.TheVariants.{Help, Refused}
+
+-- help ends with 0, or 1 where it cannot be written; a refusal with 2; want of memory with 1
+abbrev pub HasStatus : WordsFault → ℕ → Type 0
+HasStatus (Help text) status = status ≤ 1
+HasStatus (Refused text) status = status ≡ 2
+HasStatus WordsFault.NoMemory status = status ≡ 1
+
+-- the line of a failure, without its line feed
+abbrev pub line_of : Failure → List ℕ
+line_of (CannotRead name) = codes "station: cannot read " ++ name.now
+line_of (SiteFault number) = codes "station: site fault " ++ decimal number
+line_of (MapFault number) = codes "station: map fault " ++ decimal number
+line_of ReadFailed = codes "station: read failed"
+line_of WriteFailed = codes "station: write failed"
+line_of TurnLimit = codes "station: turn limit"
+line_of Failure.NoMemory = codes "station: no memory"
+
+-- what the end of a stream says of a failure. A stream that is cut is none
+abbrev pub end_of : Served → Result Unit Failure
+end_of Ended = Ok tt
+end_of Closed = Ok tt
+end_of Cut = Ok tt
+end_of ReadFault = Err ReadFailed
+end_of WriteFault = Err WriteFailed
+end_of Served.TurnLimit = Err TurnLimit
+end_of Served.NoMemory = Err Failure.NoMemory
+
+-- a job that is done ends with 0, and one that failed with 1
+abbrev pub status_of : Result Unit Failure → ℕ
+status_of (Ok done) = 0
+status_of (Err failure) = 1

@@ -1,0 +1,238 @@
+//! The job that the words of a command line ask for.
+ghost use Rattle.std.specs.Prelude.{◌≡◌, ◌⊎◌, false, Some, None, IfOk, IfErr, option_and_then};
+ghost use Rattle.clap.specs.Words.{app_of, fault_of, first_of, found_of, kind_of, rows_of, subcommand_rows_of};
+ghost use Rattle.clap.specs.declared.builder.command.Command.TheViews.{out-Command as fields_of};
+ghost use Rattle.station_jobs.specs.CommandLine.{CanGive, GivenBy, RefusesWith, check_map_app, check_map_of, job_by, job_read, replay_app, replay_of, station_app, texts};
+ghost use Rattle.station_jobs.specs.declared.job.WordsFault.TheVariants.{NoMemory};
+
+use clap::error::ErrorKind;
+use clap::{Arg, ArgMatches, Command, Error};
+use std::alloc::{AllocError, Global};
+use std::rt::Env;
+use std::{env, io};
+use text_core::Text;
+
+/// Why a word that the system passed the program is refused.
+const NOT_UTF8: &str = "error: a word of the command line is not UTF-8\n";
+
+/// Why words that `clap` takes are refused, should it ever enter a subcommand that names no job.
+const NO_JOB: &str = "error: the words name no job\n";
+
+/// What the program is to do.
+#[derive(Drop)]
+pub enum Job {
+    /// Serves one stream of requests, from standard input to standard output.
+    Replay {
+        /// The name of the site's file, as it was given.
+        site: Text,
+    },
+    /// Reads one fuse map, and tells its name and its size, or its fault.
+    CheckMap {
+        /// The name of the map's file, as it was given.
+        map: Text,
+    },
+}
+
+/// Why words give no job.
+#[derive(Debug, Drop, thiserror::Error)]
+pub enum WordsFault {
+    /// The words ask for help, which is the text.
+    #[error("{0}")]
+    Help(String),
+    /// The words are no command line of the program: the text says why, and how it is used.
+    #[error("{0}")]
+    Refused(String),
+    /// Memory ran out.
+    #[error("no memory")]
+    NoMemory,
+}
+
+impl From<AllocError> for WordsFault {
+    ghost from_gives = { λ _ fault. fault ≡ NoMemory };
+
+    fn from(_error: AllocError) -> WordsFault {
+        WordsFault::NoMemory
+    }
+}
+
+/// The job that the program was started for, by the words that the system passed it.
+///
+/// # Errors
+///
+/// Those of `read_job`; a word that is not UTF-8 is refused.
+pub fn job_from_env(rt: &(impl Env + AllocGlobal)) -> Result<Job, WordsFault> {
+    let alloc = rt.alloc();
+    let args = match env::args(rt) {
+        Ok(args) => args,
+        Err(error) => return Err(args_fault(alloc, &error)),
+    };
+    let args: Vec<String> = args.collect(alloc)?;
+    let words: Vec<&str> = args.iter().map(|arg| arg.as_str()).collect(alloc)?;
+    read_job(alloc, words.as_slice())
+}
+
+/// The fault that an error in reading the program's words stands for.
+fn args_fault(alloc: Global, error: &io::Error) -> WordsFault
+    ensures { RefusesWith NOT_UTF8.now result }
+{
+    if error.kind() == io::ErrorKind::OutOfMemory {
+        return WordsFault::NoMemory;
+    }
+    refused(alloc, NOT_UTF8)
+}
+
+/// The refusal with this text, or want of memory.
+fn refused(alloc: Global, text: &str) -> WordsFault
+    ensures { RefusesWith text.now result }
+{
+    match String::from_str(alloc, text) {
+        Ok(text) => WordsFault::Refused(text),
+        Err(_) => WordsFault::NoMemory,
+    }
+}
+
+/// The job that the words give, by `clap`'s reading of the program's command line.
+///
+/// The words are all those that the system passes a program, so the first is the program's own
+/// name, which is passed over. No word at all is a missing subcommand.
+///
+/// # Errors
+///
+/// `Help` with the text of help where the words ask for it, `Refused` with `clap`'s text where they
+/// are no command line of the program, `NoMemory` where memory runs out.
+pub fn read_job<'a>(alloc: Global, words: &'a [&'a str]) -> Result<Job, WordsFault>
+    ensures ok { IfOk result (λ job. job_read (texts words.entry) ≡ Some job) }
+    ensures err { IfErr result (λ fault.
+        (fault ≡ NoMemory) ⊎ (job_read (texts words.entry) ≡ None)) }
+
+    // Help comes only where it is among the answers that `clap` may give to the words, and a refusal
+    // only where help is not the one answer. `clap` leaves two open where `help` stands for a
+    // subcommand, since what follows it may name none.
+    ensures fault { IfErr result (CanGive (fault_of station_app (texts words.entry))) }
+{
+    let command = station_command(alloc)?;
+    let matches = match command.try_get_matches_from(words) {
+        Ok(matches) => matches,
+        Err(error) => return Err(words_fault(alloc, &error)),
+    };
+    match job_from(alloc, &matches)? {
+        Some(job) => Ok(job),
+        None => Err(refused(alloc, NO_JOB)),
+    }
+}
+
+/// The program's command line.
+fn station_command<'a>(alloc: Global) -> Result<Command<'a>, AllocError>
+    ensures { IfOk result (λ command. app_of command ≡ station_app) }
+{
+    let replay = replay_command(alloc)?;
+    let check_map = check_map_command(alloc)?;
+    Command::new(alloc, "station")
+        .about("Serves programming stations")
+        .subcommand_required(true)
+        .subcommand(replay)?
+        .subcommand(check_map)
+}
+
+/// The subcommand `replay --site F`.
+fn replay_command<'a>(alloc: Global) -> Result<Command<'a>, AllocError>
+    ensures shape { IfOk result (λ command. app_of command ≡ replay_app) }
+    ensures local { IfOk result (λ command. (fields_of command).has_globals ≡ false) }
+{
+    let site = Arg::new(alloc, "site")
+        .long("site")
+        .required(true)
+        .value_name("F")
+        .help("The file of the site: its customers, their seats, and the manager");
+    Command::new(alloc, "replay")
+        .about("Serves one stream of requests, from standard input to standard output")
+        .arg(site)
+}
+
+/// The subcommand `check-map F`.
+fn check_map_command<'a>(alloc: Global) -> Result<Command<'a>, AllocError>
+    ensures shape { IfOk result (λ command. app_of command ≡ check_map_app) }
+    ensures local { IfOk result (λ command. (fields_of command).has_globals ≡ false) }
+{
+    let map = Arg::new(alloc, "map")
+        .required(true)
+        .value_name("F")
+        .help("The file of the fuse map: its blocks and fields");
+    Command::new(alloc, "check-map")
+        .about("Reads a fuse map, and tells its name and its size, or its fault")
+        .arg(map)
+}
+
+/// The fault that an error of `clap` stands for.
+fn words_fault(alloc: Global, error: &Error) -> WordsFault
+    ensures { GivenBy (kind_of error.now) result }
+{
+    let kind = error.kind();
+    if kind == ErrorKind::OutOfMemory {
+        return WordsFault::NoMemory;
+    }
+    let Ok(text) = error.to_string(alloc) else {
+        return WordsFault::NoMemory;
+    };
+    if kind == ErrorKind::DisplayHelp {
+        WordsFault::Help(text)
+    } else {
+        WordsFault::Refused(text)
+    }
+}
+
+/// The job of the subcommand that was met.
+fn job_from(alloc: Global, matches: &ArgMatches<'_>) -> Result<Option<Job>, AllocError>
+    ensures { IfOk result (λ job. job ≡ option_and_then job_by (subcommand_rows_of matches.now)) }
+{
+    match matches.subcommand() {
+        Some((name, options)) => job_by(alloc, name, options),
+        None => Ok(None),
+    }
+}
+
+/// The job of the subcommand with this name and these options.
+fn job_by(alloc: Global, name: &str, options: &ArgMatches<'_>) -> Result<Option<Job>, AllocError>
+    ensures { IfOk result (λ job. job ≡ job_by (name.now, rows_of (found_of options.now))) }
+{
+    match name {
+        "replay" => replay_job(alloc, options),
+        "check-map" => check_map_job(alloc, options),
+        _ => Ok(None),
+    }
+}
+
+/// The job of `replay` with these options.
+fn replay_job(alloc: Global, options: &ArgMatches<'_>) -> Result<Option<Job>, AllocError>
+    ensures { IfOk result (λ job. job ≡ replay_of (rows_of (found_of options.now))) }
+{
+    match option_text(alloc, options, "site")? {
+        Some(site) => Ok(Some(Job::Replay { site })),
+        None => Ok(None),
+    }
+}
+
+/// The job of `check-map` with these options.
+fn check_map_job(alloc: Global, options: &ArgMatches<'_>) -> Result<Option<Job>, AllocError>
+    ensures { IfOk result (λ job. job ≡ check_map_of (rows_of (found_of options.now))) }
+{
+    match option_text(alloc, options, "map")? {
+        Some(map) => Ok(Some(Job::CheckMap { map })),
+        None => Ok(None),
+    }
+}
+
+/// The text that an option was given, the first if there are several.
+#[tactic(auto, using(crate::proofs::Options::first_of_rows))]
+fn option_text(
+    alloc: Global,
+    options: &ArgMatches<'_>,
+    id: &str,
+) -> Result<Option<Text>, AllocError>
+    ensures { IfOk result (λ text. text ≡ first_of id.now (rows_of (found_of options.now))) }
+{
+    match options.get_str(id) {
+        Some(text) => Ok(Some(Text::copy_of(alloc, text)?)),
+        None => Ok(None),
+    }
+}

@@ -1,0 +1,16 @@
+//! The jobs of the program: the words of its command line are read to a job, and a job is done over a
+//! reader and two writers.
+#![tactic(auto)]
+
+mod failure;
+mod file_text;
+mod job;
+mod map_file;
+mod reporting;
+mod running;
+mod site_file;
+
+pub use failure::Failure;
+pub use job::{Job, WordsFault, job_from_env, read_job};
+pub use reporting::report;
+pub use running::run;

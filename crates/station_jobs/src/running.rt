@@ -1,0 +1,130 @@
+//! Does the jobs of the command line.
+ghost use Rattle.std.specs.Prelude.{◌≡◌, ◌≢◌, ◌≤◌, ◌⊎◌, ◌++◌, ◌∷◌, [], IfOk, IfErr, IsErrAnd, MatchResult, OnOk};
+ghost use Rattle.std.specs.Io.KnownBytes.{Appends, Keeps};
+ghost use Rattle.station_jobs.specs.FileText.{IsUnread};
+ghost use Rattle.station_jobs.specs.MapFile.{map_in, map_line};
+ghost use Rattle.station_jobs.specs.SiteFile.{site_in};
+ghost use Rattle.station_jobs.specs.Statuses.{end_of, line_of, status_of};
+
+use crate::failure::Failure;
+use crate::job::Job;
+use crate::map_file::{map_of_file, read_map_file, write_map_line};
+use crate::site_file::{read_site_file, site_of_file};
+use office_core::MemKeep;
+use station_api::{Counted, Served, serve_stream};
+use std::alloc::Global;
+use std::io;
+use std::io::{Read, Write};
+use std::rt::Files;
+
+/// Does a job: reads the file that it names, then its input, writes its output, and writes one line
+/// on `err` where it fails. Answers the status that the program ends with: 0, or 1 where it failed.
+pub fn run(
+    rt: &impl Files,
+    alloc: Global,
+    job: &Job,
+    input: impl Read + Drop,
+    mut output: impl Write + Drop,
+    err: &mut impl Write,
+) -> u8
+    ensures { result ≤ 1 }
+{
+    let done = match job {
+        Job::Replay { site } => {
+            let name = site.as_str();
+            let file = read_site_file(rt, alloc, name);
+            replay(alloc, name, file, input, output)
+        }
+        Job::CheckMap { map } => {
+            let name = map.as_str();
+            let file = read_map_file(rt, alloc, name);
+            check_map(alloc, name, file, &mut output)
+        }
+    };
+    finish(done, err)
+}
+
+/// Serves one stream over a keeper in memory that has no rows, for the site that a file describes,
+/// by what reading the file with this name gave.
+fn replay<'a>(
+    alloc: Global,
+    name: &'a str,
+    file: io::Result<Vec<u8>>,
+    input: impl Read + Drop,
+    output: impl Write + Drop,
+) -> Result<(), Failure<'a>>
+    ensures unread { IfErr file (λ error. IsErrAnd result (IsUnread name.entry error)) }
+
+    // A file that describes no site is the failure, whatever the stream.
+    ensures no_site { IfOk file (λ bytes. IfErr (site_in name.entry bytes.items) (λ failure.
+        (result ≡ Err failure) ⊎ (result ≡ Err Failure.NoMemory))) }
+{
+    let site = site_of_file(alloc, name, file)?;
+    let mut keep = MemKeep::new(alloc);
+    let mut reader = Counted::new(input);
+    let mut writer = Counted::new(output);
+    end_of(serve_stream(alloc, &mut keep, &site, &mut reader, &mut writer))
+}
+
+/// Writes the line of the fuse map that a file describes, by what reading the file with this name
+/// gave.
+fn check_map<'a, W: Write>(
+    alloc: Global,
+    name: &'a str,
+    file: io::Result<Vec<u8>>,
+    output: &mut W,
+) -> Result<(), Failure<'a>>
+    ensures unread { IfErr file (λ error. IsErrAnd result (IsUnread name.entry error)) }
+    ensures no_map { IfOk file (λ bytes. IfErr (map_in name.entry bytes.items) (λ failure.
+        (result ≡ Err failure) ⊎ (result ≡ Err Failure.NoMemory))) }
+
+    // The line of a map is written, unless that fails or memory runs out.
+    ensures map { IfOk file (λ bytes. IfOk (map_in name.entry bytes.items) (λ map. MatchResult result
+        (λ _. Appends (W.contents output.old) (W.contents output.new) (map_line map ++ 10 ∷ []))
+        (λ failure. (failure ≡ Failure.WriteFailed) ⊎ (failure ≡ Failure.NoMemory)))) }
+
+    // Nothing is written before the map is known.
+    ensures silent { IfErr result (λ failure. failure ≢ Failure.WriteFailed
+        → Keeps (W.contents output.old) (W.contents output.new)) }
+{
+    let map = map_of_file(alloc, name, file)?;
+    match write_map_line(&map, output) {
+        Ok(()) => Ok(()),
+        Err(_) => Err(Failure::WriteFailed),
+    }
+}
+
+/// What the end of a stream says of a failure.
+fn end_of(served: Served) -> Result<(), Failure<'static>>
+    ensures { result ≡ end_of served }
+{
+    match served {
+        Served::Ended | Served::Closed | Served::Cut => Ok(()),
+        Served::ReadFault => Err(Failure::ReadFailed),
+        Served::WriteFault => Err(Failure::WriteFailed),
+        Served::TurnLimit => Err(Failure::TurnLimit),
+        Served::NoMemory => Err(Failure::NoMemory),
+    }
+}
+
+/// Writes the line of a failure, and answers the status of a job that ended so. A line that can't be
+/// written is passed over.
+fn finish<W: Write>(done: Result<(), Failure<'_>>, err: &mut W) -> u8
+    ensures status { result ≡ status_of done.entry }
+    ensures silent { OnOk done.entry (Keeps (W.contents err.old) (W.contents err.new)) }
+{
+    match done {
+        Ok(()) => 0,
+        Err(failure) => {
+            let _ = write_failure(failure, err);
+            1
+        }
+    }
+}
+
+/// Writes the line of a failure.
+fn write_failure<W: Write>(failure: Failure<'_>, err: &mut W) -> io::Result<()>
+    ensures { OnOk result (Appends (W.contents err.old) (W.contents err.new) (line_of failure.entry ++ 10 ∷ [])) }
+{
+    writeln!(err, "{failure}")
+}

@@ -1,0 +1,63 @@
+//! The file of a site, and the site that it describes.
+ghost use Rattle.std.specs.Prelude.{◌≡◌, IfOk, IfErr, IsErrAnd};
+ghost use Rattle.text_core.specs.Answer.{GivesUnless};
+ghost use Rattle.station_jobs.specs.FileText.{IsUnread};
+ghost use Rattle.station_jobs.specs.SiteFile.{site_failure, site_in};
+
+use crate::failure::Failure;
+use crate::file_text::{read_file, text_in, unread};
+use site_core::{Site, SiteFault, TEXT_LIMIT, read_site};
+use std::alloc::Global;
+use std::io;
+use std::rt::Files;
+
+/// The bytes of the site's file with this name. A file that is longer than a site's text may be is
+/// not read whole, but as far as one byte past that limit, which shows that it is too long.
+///
+/// # Errors
+///
+/// The file can't be opened or read, or memory runs out.
+pub fn read_site_file(rt: &impl Files, alloc: Global, name: &str) -> io::Result<Vec<u8>> {
+    read_file(rt, alloc, name, TEXT_LIMIT as u64 + 1)
+}
+
+/// The site that a file describes, by what reading the file with this name gave.
+///
+/// # Errors
+///
+/// `CannotRead` where the file wasn't read or is no UTF-8; `SiteFault` with the number of its text's
+/// fault; `NoMemory`. A file over the limit of a site's text has that fault and no other, whatever
+/// its bytes are.
+pub fn site_of_file<'a>(
+    alloc: Global,
+    name: &'a str,
+    file: io::Result<Vec<u8>>,
+) -> Result<Site, Failure<'a>>
+    ensures unread { IfErr file (λ error. IsErrAnd result (IsUnread name.entry error)) }
+    ensures read { IfOk file (λ bytes.
+        GivesUnless Failure.NoMemory result (site_in name.entry bytes.items)) }
+{
+    match file {
+        Ok(bytes) => site_from(alloc, name, bytes.as_slice()),
+        Err(error) => Err(unread(name, &error)),
+    }
+}
+
+/// The site that the bytes of the file with this name describe.
+fn site_from<'a>(alloc: Global, name: &'a str, bytes: &[u8]) -> Result<Site, Failure<'a>>
+    ensures { GivesUnless Failure.NoMemory result (site_in name.entry bytes.now) }
+{
+    let too_long = site_failure(SiteFault::OverLimit);
+    let text = text_in(name, bytes, TEXT_LIMIT, too_long)?;
+    read_site(alloc, text).map_err(site_failure)
+}
+
+/// The failure that a fault of a site's text is.
+fn site_failure(fault: SiteFault) -> Failure<'static>
+    ensures { result ≡ site_failure fault }
+{
+    match fault {
+        SiteFault::OutOfMemory => Failure::NoMemory,
+        _ => Failure::SiteFault(fault.number()),
+    }
+}
