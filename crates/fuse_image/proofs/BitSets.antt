@@ -1,169 +1,238 @@
--- Sets of positions by their numbers.
-use Rattle.std.proofs.Common.{◌≡◌, ℕ, zero, suc, ◌+◌, ◌*◌, ◌/◌, ◌%◌, ◌<◌, ◌≤◌, Bool, true, false, ◌&&◌, ◌||◌, not, List, [], ◌∷◌, ◌++◌, length, All, refl, sym, ap, ap₂, ◌∙◌, arith, is_eq}
-use Rattle.std.specs.Prelude.{◌==◌, nat_le, nat_lt, get_or}
-use Rattle.std.specs.Int.{bit_at}
-use Rattle.std.specs.List.{list_any}
+-- Sets of positions by the bits of words.
+use Rattle.std.proofs.Common.{◌≡◌, ℕ, zero, suc, ◌+◌, ◌-◌, ◌*◌, ◌/◌, ◌%◌, ◌^◌, ◌<◌, max, min, Bool, true, false, ◌&&◌, ◌||◌, not, List, length, get_or, set as list_set, replicate, ◌↔◌, is_eq, refl, sym, ap, ap₂, ◌∙◌, inl, inr, arith}
+use Rattle.std.specs.Prelude.{◌==◌, bit_and, bit_or}
+use Rattle.std.specs.Int.{bit_at, bit_not, w32}
 use Rattle.std.specs.FinSet as set
+use Rattle.std.proofs.lemmas.Bool.{cases_Bool, cases_eq, and_parts, and_from, and_left, and_right, or_from, or_left, eq-eqb, eqb-true, ne_eqb, true≢false, false_from_ne_true}
+use Rattle.std.specs.Int.Bits.{and_lt}
 use Rattle.std.specs.Ordering.{eq_by_cmp}
 use Rattle.std.specs.Cmp.{Equal-is, tied_itself}
-use Rattle.std.proofs.lemmas.Bool.{and_parts, and_from, and_left, or_from, ltb-true, lt-ltb, le-leb, leb-true, eq-eqb, ne_eqb, eqb-true, true≢false, false_from_ne_true}
+use Rattle.std.proofs.lemmas.Grind.{get_or-set_at}
+use Rattle.std.proofs.lemmas.List.{get_or-set_other}
+use Rattle.std.proofs.lemmas.Nat.Bits.{bit_at_or, bit_at_and, bit_at_not, bit_at-lt, bit_at-zero, bit_at_set_same, bit_at_set_other, shr_and_one, same_from_bits_below}
 use Rattle.fusemap_core.specs.declared.pos.Pos.{Pos}
-use Rattle.fuse_image.specs.Numbers.{numbers_where, is_among}
-use Rattle.fuse_image.specs.Places.{is_empty, Positions, pos_cmp, pos_total, pos_exact, is_place, IsPlace, places_where, run, same_bool}
-use Rattle.fuse_image.specs.Bits.{number_at, place_at, positions_of, AreInOrder}
-use Rattle.fuse_image.specs.BitsAgain.{same_numbers}
-use Rattle.fuse_image.specs.Words.{bit_in}
-use Rattle.fuse_image.proofs.NumberLists.{is_among-numbers_where}
-use Rattle.fuse_image.proofs.Sets.{none_in, is_empty-from_none, is_place-from_IsPlace, places_where-at, same_places, none_outside}
+use Rattle.fuse_image.specs.Places.{is_empty, meets, Positions, pos_cmp, pos_total, pos_exact, is_place, IsPlace, places_where, contains-places_where, same_bool}
+use Rattle.fuse_image.specs.Words.{bit_in, place_of}
+use Rattle.fuse_image.specs.WordsAgain.{AreWords, contains-place_of}
+use Rattle.fuse_image.proofs.Sets.{none_in, is_empty-from_none, is_empty-difference, is_place-from_IsPlace, IsPlace-from_is_place, same_places, none_outside}
 
--- which of the numbers below 1,024 pass
-is_among-passing : (test : ℕ → Bool) (n : ℕ) → n < 1024 → is_among (numbers_where test 1024) n ≡ test n
-is_among-passing test n low = is_among-numbers_where test 1024 n ∙ ap (λ b. b && test n) (lt-ltb n 1024 low)
+-- the positions at which words have ones
+abbrev pub positions_of : List ℕ → Positions
+positions_of words = places_where (bit_in words)
 
--- the numbers that pass a test are in order
-pub in_order : (test : ℕ → Bool) → AreInOrder (numbers_where test 1024)
-in_order test = same_numbers test (is_among (numbers_where test 1024)) 1024 (λ n low. sym (is_among-passing test n low))
+-- the words by their indices have ones at the positions of the set, which has none outside of 4 blocks
+pub record AreBitsOf (word : ℕ → ℕ) (s : Positions) : Type 0 where
+  pub bits : (w i : ℕ) → w < 32 → i < 32 → (bit_at (word w) i == 1) ≡ set.contains s (place_of w i)
+  pub none : (p : Pos) → is_place p ≡ false → set.contains s p ≡ false
 
--- the positions of the numbers that pass a test are a set with which the test agrees
-pub positions_where : (test : ℕ → Bool) (s : Positions) → ((p : Pos) → IsPlace p → test (number_at p) ≡ set.contains s p) → ((p : Pos) → is_place p ≡ false → set.contains s p ≡ false) → positions_of (numbers_where test 1024) ≡ s
-positions_where test s agree none =
-    same_places (λ p. is_among (numbers_where test 1024) (number_at p)) s
-    (λ p is. is_among-passing test (number_at p) (omega (arith, is.0, is.1)) ∙ agree p is) none
+place_again : (p : Pos) → IsPlace p → place_of (8 * p.block + p.bit / 32) (p.bit % 32) ≡ p
+place_again p is =
+    let block : (8 * p.block + p.bit / 32) / 8 ≡ p.block = omega (arith, is.1) in
+    let bit : 32 * ((8 * p.block + p.bit / 32) % 8) + p.bit % 32 ≡ p.bit = omega (arith, is.1) in
+    ap₂ (λ (x y : ℕ). let r : Pos = record { block = x; bit = y } in r) block bit
 
--- a position is in the set where its number is among the set's
-pub has_number : (numbers : List ℕ) (p : Pos) → IsPlace p → is_among numbers (number_at p) ≡ set.contains (positions_of numbers) p
-has_number numbers p is = sym (places_where-at (λ q. is_among numbers (number_at q)) p is)
+-- the bit of a position
+bit_of : (word : ℕ → ℕ) (s : Positions) → AreBitsOf word s → (p : Pos) → IsPlace p → (bit_at (word (8 * p.block + p.bit / 32)) (p.bit % 32) == 1) ≡ set.contains s p
+bit_of word s are p is =
+    are.bits (8 * p.block + p.bit / 32) (p.bit % 32) (omega (arith, is.0, is.1)) (omega arith)
+    ∙ ap (set.contains s) (place_again p is)
 
-none_else : (numbers : List ℕ) (p : Pos) → is_place p ≡ false → set.contains (positions_of numbers) p ≡ false
-none_else numbers p not_one = none_outside (λ q. is_among numbers (number_at q)) p not_one
+-- the words of a set have its bits, and words with the bits of a set are its words
+pub AreBitsOf-words : (words : List ℕ) → AreBitsOf (λ w. get_or words w 0) (positions_of words)
+AreBitsOf-words words = record {
+  bits = λ w i low small. sym (contains-place_of words w i low small);
+  none = none_outside (bit_in words);
+}
 
-pub is_place-from_numbers : (numbers : List ℕ) (p : Pos) → set.contains (positions_of numbers) p ≡ true → is_place p ≡ true
-is_place-from_numbers numbers p has = elim (is_place p) as (λ b. is_place p ≡ b → b ≡ true) [
-  | true ↦ λ _. refl
-  | false ↦ λ not_one. absurd (true≢false (sym has ∙ none_else numbers p not_one))
-] refl
+pub positions_of-bits : (words : List ℕ) (s : Positions) → AreBitsOf (λ w. get_or words w 0) s → positions_of words ≡ s
+positions_of-bits words s are = same_places (bit_in words) s (bit_of (λ w. get_or words w 0) s are) are.none
 
--- no numbers
-numbers_where-none : (n : ℕ) → [] ≡ numbers_where (λ _. false) n
-unfolding numbers_where
-numbers_where-none zero = refl
-numbers_where-none (suc n) = ap (λ (numbers : List ℕ). numbers ++ []) (numbers_where-none n)
+pub AreBitsOf-same : (f g : ℕ → ℕ) (s : Positions) → ((w : ℕ) → w < 32 → g w ≡ f w) → AreBitsOf f s → AreBitsOf g s
+AreBitsOf-same f g s same are = record {
+  bits = λ w i low small. ap (λ (word : ℕ). bit_at word i == 1) (same w low) ∙ are.bits w i low small;
+  none = are.none;
+}
 
-pub none_in_order : AreInOrder []
-none_in_order = numbers_where-none 1024
+-- one bit of `|`, `&` and `!`
+or_bit : (a b : ℕ) → a < 2 → b < 2 → (max a b == 1) ≡ (a == 1 || b == 1)
+or_bit zero zero h k = refl
+or_bit zero (suc zero) h k = refl
+or_bit (suc zero) zero h k = refl
+or_bit (suc zero) (suc zero) h k = refl
+or_bit (suc (suc a)) b h k = absurd (omega (arith, h))
+or_bit a (suc (suc b)) h k = absurd (omega (arith, k))
 
-pub positions_of-none : positions_of [] ≡ set.empty
-positions_of-none =
-    same_places (λ _. false) set.empty (λ p _. sym (set.contains-empty pos_cmp p)) (λ p _. set.contains-empty pos_cmp p)
+and_bit : (a b : ℕ) → a < 2 → b < 2 → (min a b == 1) ≡ (a == 1 && b == 1)
+and_bit zero zero h k = refl
+and_bit zero (suc zero) h k = refl
+and_bit (suc zero) zero h k = refl
+and_bit (suc zero) (suc zero) h k = refl
+and_bit (suc (suc a)) b h k = absurd (omega (arith, h))
+and_bit a (suc (suc b)) h k = absurd (omega (arith, k))
 
--- a set is empty where it has no numbers
-first_below : (n : ℕ) (numbers : List ℕ) → AreInOrder (n ∷ numbers) → n < 1024
-first_below n numbers is =
-    let among : is_among (n ∷ numbers) n ≡ true = ap (λ b. b || is_among numbers n) (eq-eqb n n refl) in
-    ltb-true n 1024 (and_parts _ _ (sym (is_among-numbers_where (is_among (n ∷ numbers)) 1024 n) ∙ (ap (λ (ns : List ℕ). is_among ns n) (sym is) ∙ among))).0
+not_bit : (b : ℕ) → b < 2 → (1 - b == 1) ≡ not (b == 1)
+not_bit zero h = refl
+not_bit (suc zero) h = refl
+not_bit (suc (suc b)) h = absurd (omega (arith, h))
 
-pub no_number : (numbers : List ℕ) → AreInOrder numbers → (length numbers == 0) ≡ is_empty (positions_of numbers)
-no_number [] is = sym (ap is_empty positions_of-none ∙ is_empty-from_none set.empty (set.contains-empty pos_cmp))
-no_number (n ∷ numbers) is =
-    let low : n < 1024 = first_below n numbers is in
-    let again : number_at (place_at n) ≡ n = omega arith in
-    let among : is_among (n ∷ numbers) (number_at (place_at n)) ≡ true = ap (λ b. b || is_among numbers (number_at (place_at n))) (eq-eqb n (number_at (place_at n)) (sym again)) in
-    let here : IsPlace (place_at n) = (omega (arith, low), omega arith) in
-    ne_eqb (suc (length numbers)) 0 (λ e. omega (arith, e)) ∙ sym (false_from_ne_true (is_empty (positions_of (n ∷ numbers))) (λ empty.
-    true≢false (sym among ∙ (has_number (n ∷ numbers) (place_at n) here ∙ none_in (positions_of (n ∷ numbers)) empty (place_at n)))))
+-- the sets of words that are `|`, `&` and `& !` of those of two sets
+pub AreBitsOf-or : (f g : ℕ → ℕ) (s t : Positions) → AreBitsOf f s → AreBitsOf g t → AreBitsOf (λ w. bit_or (f w) (g w)) (set.union s t)
+AreBitsOf-or f g s t own other = record {
+  bits = λ w i low small.
+      ap (λ (b : ℕ). b == 1) (bit_at_or (f w) (g w) i)
+      ∙ (or_bit (bit_at (f w) i) (bit_at (g w) i) (bit_at-lt (f w) i) (bit_at-lt (g w) i)
+      ∙ (ap₂ (λ (a b : Bool). a || b) (own.bits w i low small) (other.bits w i low small)
+      ∙ sym (set.contains-union pos_total s t (place_of w i))));
+  none = λ p not_one. set.contains-union pos_total s t p ∙ or_from _ _ (own.none p not_one) (other.none p not_one);
+}
 
--- the numbers of both, and those that the other hasn't
-pub positions_of-both : (own other : List ℕ) → positions_of (numbers_where (λ n. is_among own n || is_among other n) 1024) ≡ set.union (positions_of own) (positions_of other)
-positions_of-both own other =
-    positions_where (λ n. is_among own n || is_among other n) (set.union (positions_of own) (positions_of other))
-    (λ p is. ap₂ (λ (a b : Bool). a || b) (has_number own p is) (has_number other p is) ∙ sym (set.contains-union pos_total (positions_of own) (positions_of other) p))
-    (λ p not_one. set.contains-union pos_total (positions_of own) (positions_of other) p ∙ or_from _ _ (none_else own p not_one) (none_else other p not_one))
+pub AreBitsOf-and : (f g : ℕ → ℕ) (s t : Positions) → AreBitsOf f s → AreBitsOf g t → AreBitsOf (λ w. bit_and (f w) (g w)) (set.intersection s t)
+AreBitsOf-and f g s t own other = record {
+  bits = λ w i low small.
+      ap (λ (b : ℕ). b == 1) (bit_at_and (f w) (g w) i)
+      ∙ (and_bit (bit_at (f w) i) (bit_at (g w) i) (bit_at-lt (f w) i) (bit_at-lt (g w) i)
+      ∙ (ap₂ (λ (a b : Bool). a && b) (own.bits w i low small) (other.bits w i low small)
+      ∙ sym (set.contains-intersection pos_total s t (place_of w i))));
+  none = λ p not_one. set.contains-intersection pos_total s t p ∙ and_left _ _ (own.none p not_one);
+}
 
-pub positions_of-without : (own other : List ℕ) → positions_of (numbers_where (λ n. is_among own n && not (is_among other n)) 1024) ≡ set.difference (positions_of own) (positions_of other)
-positions_of-without own other =
-    positions_where (λ n. is_among own n && not (is_among other n)) (set.difference (positions_of own) (positions_of other))
-    (λ p is. ap₂ (λ (a b : Bool). a && not b) (has_number own p is) (has_number other p is) ∙ sym (set.contains-difference pos_total (positions_of own) (positions_of other) p))
-    (λ p not_one. set.contains-difference pos_total (positions_of own) (positions_of other) p ∙ and_left _ _ (none_else own p not_one))
+pub AreBitsOf-and_not : (f g : ℕ → ℕ) (s t : Positions) → AreBitsOf f s → AreBitsOf g t → ((w : ℕ) → g w < 2 ^ 32) → AreBitsOf (λ w. bit_and (f w) (bit_not w32 (g w))) (set.difference s t)
+AreBitsOf-and_not f g s t own other small_words = record {
+  bits = λ w i low small.
+      ap (λ (b : ℕ). b == 1) (bit_at_and (f w) (bit_not w32 (g w)) i)
+      ∙ (and_bit (bit_at (f w) i) (bit_at (bit_not w32 (g w)) i) (bit_at-lt (f w) i) (bit_at-lt (bit_not w32 (g w)) i)
+      ∙ (ap₂ (λ (a b : Bool). a && b) (own.bits w i low small) (
+      ap (λ (b : ℕ). b == 1) (bit_at_not w32 (g w) i (small_words w) small)
+      ∙ (not_bit (bit_at (g w) i) (bit_at-lt (g w) i) ∙ ap not (other.bits w i low small)))
+      ∙ sym (set.contains-difference pos_total s t (place_of w i))));
+  none = λ p not_one. set.contains-difference pos_total s t p ∙ and_left _ _ (own.none p not_one);
+}
 
--- the numbers of a run of bits in one block
-run_numbers : (first : Pos) (count : ℕ) (p : Pos) → first.bit + count ≤ 256 → IsPlace p
-    → (nat_le (number_at first) (number_at p) && nat_lt (number_at p) (number_at first + count)) ≡ (first.block == p.block && (nat_le first.bit p.bit && nat_lt p.bit (first.bit + count)))
-run_numbers first count p fits is = same_bool _ _
+-- no ones
+pub AreBitsOf-zeros : AreBitsOf (λ _. 0) set.empty
+AreBitsOf-zeros = record {
+  bits = λ w i low small. ap (λ (b : ℕ). b == 1) (bit_at-zero i) ∙ sym (set.contains-empty pos_cmp (place_of w i));
+  none = λ p _. set.contains-empty pos_cmp p;
+}
+
+zeros_at : (n w : ℕ) → get_or {A = ℕ} (replicate n 0) w 0 ≡ zero
+zeros_at zero w = refl
+zeros_at (suc n) zero = refl
+zeros_at (suc n) (suc w) = zeros_at n w
+
+pub AreWords-zeros : AreWords (replicate 32 0)
+AreWords-zeros = record { count = refl; small = λ w. omega (arith, zeros_at 32 w) }
+
+pub positions_of-zeros : positions_of (replicate 32 0) ≡ set.empty
+positions_of-zeros =
+    positions_of-bits (replicate 32 0) set.empty (AreBitsOf-same (λ _. 0) (λ w. get_or (replicate 32 0) w 0) set.empty (λ w low. zeros_at 32 w) AreBitsOf-zeros)
+
+-- a set is empty where all its words are zeros
+no_bit : (b : ℕ) → b < 2 → (b == 1) ≡ false → b ≡ 0
+no_bit zero h e = refl
+no_bit (suc zero) h e = absurd (true≢false e)
+no_bit (suc (suc b)) h e = absurd (omega (arith, h))
+
+pub is_empty-zeros : (word : ℕ → ℕ) (s : Positions) → AreBitsOf word s → ((w : ℕ) → word w < 2 ^ 32) → (are_zeros : Bool) → ((are_zeros ≡ true) ↔ ((w : ℕ) → w < 32 → word w ≡ 0)) → are_zeros ≡ is_empty s
+is_empty-zeros word s are small_words are_zeros each = same_bool are_zeros (is_empty s)
+    (λ is. is_empty-from_none s (λ p. elim (cases_Bool (is_place p)) as (λ _. set.contains s p ≡ false) [
+      | inl here ↦
+          let place : IsPlace p = IsPlace-from_is_place p here in
+          sym (bit_of word s are p place)
+          ∙ (ap (λ (w : ℕ). bit_at w (p.bit % 32) == 1) (each.0 is (8 * p.block + p.bit / 32) (omega (arith, place.0, place.1)))
+          ∙ ap (λ (b : ℕ). b == 1) (bit_at-zero (p.bit % 32)))
+      | inr not_one ↦ are.none p not_one
+    ]))
+    (λ empty. each.1 (λ w low. same_from_bits_below 32 (word w) 0 (small_words w) (omega arith) (λ i small.
+    no_bit (bit_at (word w) i) (bit_at-lt (word w) i) (are.bits w i low small ∙ none_in s empty (place_of w i)) ∙ sym (bit_at-zero i))))
+
+-- a set of words has positions of the four blocks alone
+pub is_place-of_words : (words : List ℕ) (p : Pos) → set.contains (positions_of words) p ≡ true → is_place p ≡ true
+is_place-of_words words p has = (and_parts (is_place p) (bit_in words p) (sym (contains-places_where (bit_in words) p) ∙ has)).0
+
+-- what the operations on words do to their sets
+pub positions_of-both : (own other words : List ℕ) → ((w : ℕ) → w < 32 → get_or words w 0 ≡ bit_or (get_or own w 0) (get_or other w 0)) → positions_of words ≡ set.union (positions_of own) (positions_of other)
+positions_of-both own other words each =
+    let s = set.union (positions_of own) (positions_of other) in
+    positions_of-bits words s (AreBitsOf-same _ (λ w. get_or words w 0) s each (AreBitsOf-or (λ w. get_or own w 0) (λ w. get_or other w 0) _ _ (AreBitsOf-words own) (AreBitsOf-words other)))
+
+pub positions_of-shared : (own other words : List ℕ) → ((w : ℕ) → w < 32 → get_or words w 0 ≡ bit_and (get_or own w 0) (get_or other w 0)) → positions_of words ≡ set.intersection (positions_of own) (positions_of other)
+positions_of-shared own other words each =
+    let s = set.intersection (positions_of own) (positions_of other) in
+    positions_of-bits words s (AreBitsOf-same _ (λ w. get_or words w 0) s each (AreBitsOf-and (λ w. get_or own w 0) (λ w. get_or other w 0) _ _ (AreBitsOf-words own) (AreBitsOf-words other)))
+
+pub positions_of-without : (own other words : List ℕ) → AreWords other → ((w : ℕ) → w < 32 → get_or words w 0 ≡ bit_and (get_or own w 0) (bit_not w32 (get_or other w 0))) → positions_of words ≡ set.difference (positions_of own) (positions_of other)
+positions_of-without own other words are each =
+    let s = set.difference (positions_of own) (positions_of other) in
+    positions_of-bits words s (AreBitsOf-same _ (λ w. get_or words w 0) s each (AreBitsOf-and_not (λ w. get_or own w 0) (λ w. get_or other w 0) _ _ (AreBitsOf-words own) (AreBitsOf-words other) are.small))
+
+-- what tests of words say of their sets
+pub is_subset-words : (own other : List ℕ) → AreWords own → AreWords other → (is : Bool) → ((is ≡ true) ↔ ((w : ℕ) → w < 32 → bit_and (get_or own w 0) (bit_not w32 (get_or other w 0)) ≡ 0)) → is ≡ set.is_subset (positions_of own) (positions_of other)
+is_subset-words own other own_words other_words is each =
+    is_empty-zeros (λ w. bit_and (get_or own w 0) (bit_not w32 (get_or other w 0))) (set.difference (positions_of own) (positions_of other))
+    (AreBitsOf-and_not (λ w. get_or own w 0) (λ w. get_or other w 0) _ _ (AreBitsOf-words own) (AreBitsOf-words other) other_words.small)
+    (λ w. and_lt 32 _ _ (own_words.small w) (omega arith)) is each
+    ∙ is_empty-difference (positions_of own) (positions_of other)
+
+pub meets-words : (own other : List ℕ) → AreWords own → AreWords other → (is : Bool) → ((is ≡ true) ↔ ((w : ℕ) → w < 32 → bit_and (get_or own w 0) (get_or other w 0) ≡ 0)) → not is ≡ meets (positions_of own) (positions_of other)
+meets-words own other own_words other_words is each =
+    ap not (
+    is_empty-zeros (λ w. bit_and (get_or own w 0) (get_or other w 0)) (set.intersection (positions_of own) (positions_of other))
+    (AreBitsOf-and (λ w. get_or own w 0) (λ w. get_or other w 0) _ _ (AreBitsOf-words own) (AreBitsOf-words other))
+    (λ w. and_lt 32 _ _ (own_words.small w) (other_words.small w)) is each)
+
+-- one bit
+pub contains-shifted : (words : List ℕ) (p : Pos) (index : ℕ) → index ≡ 8 * p.block + p.bit / 32 → IsPlace p → (bit_and (get_or words index 0 / 2 ^ (p.bit % 32)) 1 == 1) ≡ set.contains (positions_of words) p
+contains-shifted words p index is place =
+    ap (λ (b : ℕ). b == 1) (shr_and_one (get_or words index 0) (p.bit % 32) ∙ ap (λ (w : ℕ). bit_at (get_or words w 0) (p.bit % 32)) is)
+    ∙ bit_of (λ w. get_or words w 0) (positions_of words) (AreBitsOf-words words) p place
+
+-- one position more
+same_place : (p : Pos) (w i : ℕ) → IsPlace p → i < 32 → eq_by_cmp pos_cmp (place_of w i) p ≡ (w == 8 * p.block + p.bit / 32 && i == p.bit % 32)
+same_place p w i place small = same_bool _ _
     (λ h.
-    let parts = and_parts (nat_le (number_at first) (number_at p)) (nat_lt (number_at p) (number_at first + count)) h in
-    let low = leb-true (number_at first) (number_at p) parts.0 in
-    let high = ltb-true (number_at p) (number_at first + count) parts.1 in
-    let block : first.block ≡ p.block = omega (arith, low, high, fits, is.1) in
-    and_from _ _ (eq-eqb first.block p.block block)
-    (and_from _ _ (le-leb first.bit p.bit (omega (arith, low, block))) (lt-ltb p.bit (first.bit + count) (omega (arith, high, block)))))
+    let same : place_of w i ≡ p = pos_exact (place_of w i) p ((Equal-is (pos_cmp (place_of w i) p)).0 h) in
+    let block : w / 8 ≡ p.block = ap (λ (q : Pos). q.block) same in
+    let bit : 32 * (w % 8) + i ≡ p.bit = ap (λ (q : Pos). q.bit) same in
+    and_from _ _ (eq-eqb w (8 * p.block + p.bit / 32) (omega (arith, block, bit, small))) (eq-eqb i (p.bit % 32) (omega (arith, bit, small))))
     (λ h.
-    let parts = and_parts (first.block == p.block) (nat_le first.bit p.bit && nat_lt p.bit (first.bit + count)) h in
-    let ends = and_parts (nat_le first.bit p.bit) (nat_lt p.bit (first.bit + count)) parts.1 in
-    let block = eqb-true first.block p.block parts.0 in
-    let low = leb-true first.bit p.bit ends.0 in
-    let high = ltb-true p.bit (first.bit + count) ends.1 in
-    and_from _ _ (le-leb (number_at first) (number_at p) (omega (arith, low, block)))
-    (lt-ltb (number_at p) (number_at first + count) (omega (arith, high, block))))
+    let parts = and_parts (w == 8 * p.block + p.bit / 32) (i == p.bit % 32) h in
+    let word = eqb-true w (8 * p.block + p.bit / 32) parts.0 in
+    let bit = eqb-true i (p.bit % 32) parts.1 in
+    let same : place_of w i ≡ p = ap₂ place_of word bit ∙ place_again p place in
+    ap (λ (q : Pos). eq_by_cmp pos_cmp q p) same ∙ ap is_eq (tied_itself pos_total p))
 
-pub positions_of-run : (own : List ℕ) (first : Pos) (count : ℕ) → first.bit + count ≤ 256
-    → positions_of (numbers_where (λ n. is_among own n || (nat_le (number_at first) n && nat_lt n (number_at first + count))) 1024) ≡ set.union (positions_of own) (run first count)
-positions_of-run own first count fits =
-    let test : Pos → Bool = λ p. first.block == p.block && (nat_le first.bit p.bit && nat_lt p.bit (first.bit + count)) in
-    positions_where (λ n. is_among own n || (nat_le (number_at first) n && nat_lt n (number_at first + count))) (set.union (positions_of own) (run first count))
-    (λ p is.
-    ap₂ (λ (a b : Bool). a || b) (has_number own p is) (run_numbers first count p fits is ∙ sym (places_where-at test p is))
-    ∙ sym (set.contains-union pos_total (positions_of own) (run first count) p))
-    (λ p not_one. set.contains-union pos_total (positions_of own) (run first count) p ∙ or_from _ _ (none_else own p not_one) (none_outside test p not_one))
-
--- the numbers of a list of positions
-abbrev pub has_place : List Pos → ℕ → Bool
-has_place positions n = list_any (λ p. p.block == n / 256 && p.bit == n % 256) positions
-
-same_place : (p q : Pos) → IsPlace p → (q.block == number_at p / 256 && q.bit == number_at p % 256) ≡ eq_by_cmp pos_cmp p q
-same_place p q is =
-    let block : number_at p / 256 ≡ p.block = omega (arith, is.1) in
-    let bit : number_at p % 256 ≡ p.bit = omega (arith, is.1) in
-    same_bool _ _
-    (λ h.
-    let parts = and_parts (q.block == number_at p / 256) (q.bit == number_at p % 256) h in
-    let block_is = eqb-true q.block (number_at p / 256) parts.0 ∙ block in
-    let bit_is = eqb-true q.bit (number_at p % 256) parts.1 ∙ bit in
-    ap₂ (λ (x y : ℕ). eq_by_cmp pos_cmp p (record { block = x; bit = y })) block_is bit_is ∙ ap is_eq (tied_itself pos_total p))
-    (λ h.
-    let same : p ≡ q = pos_exact p q ((Equal-is (pos_cmp p q)).0 h) in
-    and_from _ _ (eq-eqb q.block (number_at p / 256) (sym (block ∙ ap (λ (r : Pos). r.block) same)))
-    (eq-eqb q.bit (number_at p % 256) (sym (bit ∙ ap (λ (r : Pos). r.bit) same))))
-
-has_place-same : (positions : List Pos) (p : Pos) → IsPlace p → has_place positions (number_at p) ≡ list_any (eq_by_cmp pos_cmp p) positions
-has_place-same [] p is = refl
-has_place-same (q ∷ positions) p is = ap₂ (λ (a b : Bool). a || b) (same_place p q is) (has_place-same positions p is)
-
-no_other_place : (positions : List Pos) (p : Pos) → All IsPlace positions → is_place p ≡ false → list_any (eq_by_cmp pos_cmp p) positions ≡ false
-no_other_place [] p all not_one = refl
-no_other_place (q ∷ positions) p all not_one =
-    or_from _ _
-    (false_from_ne_true (eq_by_cmp pos_cmp p q) (λ h.
-    let same : p ≡ q = pos_exact p q ((Equal-is (pos_cmp p q)).0 h) in
-    true≢false (sym (is_place-from_IsPlace q (all 0 q (omega arith))) ∙ (ap is_place (sym same) ∙ not_one))))
-    (no_other_place positions p (λ k d low. all (suc k) d (omega (arith, low))) not_one)
-
-pub positions_of-list : (own : List ℕ) (positions : List Pos) → All IsPlace positions
-    → positions_of (numbers_where (λ n. is_among own n || has_place positions n) 1024) ≡ set.union (positions_of own) (set.from_list positions)
-positions_of-list own positions all =
-    positions_where (λ n. is_among own n || has_place positions n) (set.union (positions_of own) (set.from_list positions))
-    (λ p is.
-    ap₂ (λ (a b : Bool). a || b) (has_number own p is) (has_place-same positions p is ∙ sym (set.contains-from_list pos_total positions p))
-    ∙ sym (set.contains-union pos_total (positions_of own) (set.from_list positions) p))
-    (λ p not_one.
-    set.contains-union pos_total (positions_of own) (set.from_list positions) p
-    ∙ or_from _ _ (none_else own p not_one) (set.contains-from_list pos_total positions p ∙ no_other_place positions p all not_one))
-
--- the numbers of the ones in words
-pub positions_of-ones : (words : List ℕ) → positions_of (numbers_where (λ n. bit_at (get_or words (n / 32) 0) (n % 32) == 1) 1024) ≡ places_where (bit_in words)
-positions_of-ones words =
-    positions_where (λ n. bit_at (get_or words (n / 32) 0) (n % 32) == 1) (places_where (bit_in words))
-    (λ p is.
-    let word : number_at p / 32 ≡ 8 * p.block + p.bit / 32 = omega arith in
-    let bit : number_at p % 32 ≡ p.bit % 32 = omega arith in
-    ap₂ (λ (w b : ℕ). bit_at (get_or words w 0) b == 1) word bit ∙ sym (places_where-at (bit_in words) p is))
-    (none_outside (bit_in words))
+pub positions_of-insert : (words : List ℕ) (p : Pos) (index : ℕ) → index ≡ 8 * p.block + p.bit / 32 → IsPlace p → length words ≡ 32
+    → positions_of (list_set words index (bit_or (get_or words index 0) (1 * 2 ^ (p.bit % 32) % 2 ^ 32))) ≡ set.insert (positions_of words) p
+positions_of-insert words p index is place count =
+    let bit = p.bit % 32 in
+    let within : bit < 32 = omega arith in
+    let low : index < length words = omega (arith, is, place.0, place.1, count) in
+    let one = bit_or (get_or words index 0) (1 * 2 ^ bit % 2 ^ 32) in
+    positions_of-bits (list_set words index one) (set.insert (positions_of words) p) (record {
+      bits = λ w i low_index small.
+          (elim (cases_eq w index) as (λ _. (bit_at (get_or (list_set words index one) w 0) i == 1) ≡ ((w == 8 * p.block + p.bit / 32 && i == p.bit % 32) || bit_at (get_or words w 0) i == 1)) [
+            | inl here ↦ elim (cases_eq i bit) as (λ _. (bit_at (get_or (list_set words index one) w 0) i == 1) ≡ ((w == 8 * p.block + p.bit / 32 && i == p.bit % 32) || bit_at (get_or words w 0) i == 1)) [
+              | inl same ↦
+                  ap (λ (x : ℕ). bit_at x i == 1) (get_or-set_at words index w one 0 here low)
+                  ∙ (ap (λ (j : ℕ). bit_at one j == 1) same ∙ (ap (λ (b : ℕ). b == 1) (bit_at_set_same w32 (get_or words index 0) bit within)
+                  ∙ sym (or_left _ _ (and_from _ _ (eq-eqb w _ (here ∙ is)) (eq-eqb i bit same)))))
+              | inr other ↦
+                  ap (λ (x : ℕ). bit_at x i == 1) (get_or-set_at words index w one 0 here low)
+                  ∙ (ap (λ (b : ℕ). b == 1) (bit_at_set_other w32 (get_or words index 0) bit within i other)
+                  ∙ (ap (λ (j : ℕ). bit_at (get_or words j 0) i == 1) (sym here)
+                  ∙ ap (λ (b : Bool). b || bit_at (get_or words w 0) i == 1) (sym (and_right (w == 8 * p.block + p.bit / 32) (i == bit) (ne_eqb i bit other)))))
+            ]
+            | inr elsewhere ↦
+                ap (λ (x : ℕ). bit_at x i == 1) (get_or-set_other words index w one 0 elsewhere)
+                ∙ ap (λ (b : Bool). b || bit_at (get_or words w 0) i == 1) (sym (and_left (w == 8 * p.block + p.bit / 32) (i == bit) (ne_eqb w _ (λ e. elsewhere (e ∙ sym is)))))
+          ])
+          ∙ (ap₂ (λ (a b : Bool). a || b) (sym (same_place p w i place small)) (sym (contains-place_of words w i low_index small))
+          ∙ sym (set.contains-insert pos_total (positions_of words) p (place_of w i)));
+      none = λ q not_one.
+          set.contains-insert pos_total (positions_of words) p q
+          ∙ or_from _ _ (false_from_ne_true (eq_by_cmp pos_cmp q p) (λ h.
+          let same : q ≡ p = pos_exact q p ((Equal-is (pos_cmp q p)).0 h) in
+          true≢false (sym (is_place-from_IsPlace p place) ∙ (ap is_place (sym same) ∙ not_one))))
+          (none_outside (bit_in words) q not_one);
+    })

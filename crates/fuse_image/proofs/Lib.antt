@@ -1,7 +1,7 @@
-pub mod NumberLists
 pub mod Sets
 pub mod BitSets
-pub mod WordBits
+pub mod Changed
+pub mod Masks
 pub mod Tables
 pub mod Governed
 pub mod InFront

@@ -1,6 +1,8 @@
 -- Sets of positions, by their positions.
-use Rattle.std.proofs.Common.{◌≡◌, Bool, true, false, ◌&&◌, not, refl, sym, ap, ◌∙◌, inl, inr}
+use Rattle.std.proofs.Common.{◌≡◌, ℕ, ◌+◌, ◌<◌, Bool, true, false, ◌&&◌, ◌||◌, not, List, length, take, get_or, refl, sym, ap, ◌∙◌, inl, inr}
 use Rattle.std.specs.FinSet as set
+use Rattle.std.specs.Ordering.{eq_by_cmp}
+use Rattle.std.proofs.lemmas.List.{take_more}
 use Rattle.std.proofs.lemmas.Bool.{eqb-true, eq-eqb, and_parts, and_from, ltb-true, lt-ltb, cases_Bool, true≢false, false≢true}
 use Rattle.fusemap_core.specs.declared.pos.Pos.{Pos}
 use Rattle.fuse_image.specs.Places.{is_empty, Positions, pos_cmp, pos_total, pos_exact, is_place, IsPlace, places_where, contains-places_where, same_bool}
@@ -64,3 +66,32 @@ difference-places_where s test inside = set.same_set pos_total pos_exact (set.di
     ∙ (ap (λ (b : Bool). set.contains s p && not b) (contains-places_where test p)
     ∙ (kept_where (set.contains s p) (is_place p) (test p) (inside p)
     ∙ sym (set.contains-retain s (λ q. not (test q)) p (λ q e. ap (λ (r : Pos). not (test r)) (sym (pos_exact p q e)))))))
+
+-- a set with a list of positions, one after another
+or_none : (a : Bool) → a ≡ (a || false)
+or_none true = refl
+or_none false = refl
+
+or_swap : (a b c : Bool) → (a || (b || c)) ≡ (b || (a || c))
+or_swap true true c = refl
+or_swap true false c = refl
+or_swap false b c = refl
+
+pub union-none : (s : Positions) → s ≡ set.union s set.empty
+union-none s = set.same_set pos_total pos_exact s (set.union s set.empty) (λ q.
+    or_none (set.contains s q)
+    ∙ (ap (λ (b : Bool). set.contains s q || b) (sym (set.contains-empty pos_cmp q)) ∙ sym (set.contains-union pos_total s set.empty q)))
+
+insert-union : (s t : Positions) (p : Pos) → set.insert (set.union s t) p ≡ set.union s (set.insert t p)
+insert-union s t p = set.same_set pos_total pos_exact (set.insert (set.union s t) p) (set.union s (set.insert t p)) (λ q.
+    set.contains-insert pos_total (set.union s t) p q
+    ∙ (ap (λ (b : Bool). eq_by_cmp pos_cmp q p || b) (set.contains-union pos_total s t q)
+    ∙ (or_swap (eq_by_cmp pos_cmp q p) (set.contains s q) (set.contains t q)
+    ∙ (ap (λ (b : Bool). set.contains s q || b) (sym (set.contains-insert pos_total t p q))
+    ∙ sym (set.contains-union pos_total s (set.insert t p) q)))))
+
+pub union-more : (s : Positions) (positions : List Pos) (i : ℕ) (d : Pos) → i < length positions → set.insert (set.union s (set.from_list (take i positions))) (get_or positions i d) ≡ set.union s (set.from_list (take (i + 1) positions))
+union-more s positions i d low =
+    insert-union s (set.from_list (take i positions)) (get_or positions i d)
+    ∙ (ap (set.union s) (sym (set.from_list_push pos_total pos_exact (take i positions) (get_or positions i d)))
+    ∙ ap (λ (ps : List Pos). set.union s (set.from_list ps)) (sym (take_more positions i d low)))

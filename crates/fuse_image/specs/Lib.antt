@@ -1,12 +1,10 @@
 pub mod InPlace
 pub mod Blocks
 pub mod BlocksAgain
-pub mod Numbers
-pub mod NumbersAgain
 pub mod Places
-pub mod Bits
-pub mod BitsAgain
 pub mod Words
+pub mod WordsAgain
+pub mod Masks
 pub mod Keys
 pub mod Locks
 pub mod Image

@@ -1,5 +1,5 @@
 -- Positions of fuse bits, and sets of them.
-use Rattle.std.specs.Prelude.{◌≡◌, ℕ, zero, suc, ◌+◌, ◌*◌, ◌/◌, ◌%◌, ◌<◌, Bool, true, false, ◌&&◌, ◌==◌, nat_lt, nat_le, List, [], ◌∷◌}
+use Rattle.std.specs.Prelude.{◌≡◌, ℕ, zero, suc, ◌+◌, ◌*◌, ◌/◌, ◌%◌, ◌<◌, Bool, true, false, not, ◌&&◌, ◌==◌, nat_lt, nat_le, List, [], ◌∷◌}
 use Rattle.std.proofs.Common.{refl, sym, ap, ap₂, ◌∙◌, inl, inr, arith, Ordering, nat_cmp, is_eq}
 use Rattle.std.specs.List.{list_any}
 use Rattle.std.specs.Ordering.{ordering_then, eq_by_cmp}
@@ -33,6 +33,10 @@ pos_total = then_total (on_total (λ (p : Pos). p.block) nat_cmp_total) (on_tota
 -- the set has no position
 abbrev pub is_empty : Positions → Bool
 is_empty s = set.len s == 0
+
+-- the sets share a position
+abbrev pub meets : Positions → Positions → Bool
+meets s t = not (is_empty (set.intersection s t))
 
 -- the position lies in 4 blocks of 8 words of 32 bits
 abbrev pub is_place : Pos → Bool

@@ -7,7 +7,6 @@ mod blocks;
 mod image;
 mod keys;
 mod locks;
-mod numbers;
 mod words;
 
 pub use bits::Bits;

@@ -63,18 +63,6 @@ pub AreKeys-redacted : (m : Map) (blocks : List (List ℕ)) → AreKeys m (redac
 unfolding redacted
 AreKeys-redacted m blocks = AreKeys-shown m blocks
 
--- what two sets share
-shared : (a b : Bool) → (a && not (a && not b)) ≡ (a && b)
-shared true true = refl
-shared true false = refl
-shared false b = refl
-
-pub difference-difference : (s t : Positions) → set.difference s (set.difference s t) ≡ set.intersection s t
-difference-difference s t = set.same_set pos_total pos_exact (set.difference s (set.difference s t)) (set.intersection s t) (λ p.
-    set.contains-difference pos_total s (set.difference s t) p
-    ∙ (ap (λ (b : Bool). set.contains s p && not b) (set.contains-difference pos_total s t p)
-    ∙ (shared (set.contains s p) (set.contains t p) ∙ sym (set.contains-intersection pos_total s t p))))
-
 -- nothing and a set
 pub union-empty : (s : Positions) → set.union set.empty s ≡ s
 union-empty s = set.same_set pos_total pos_exact (set.union set.empty s) s (λ p.

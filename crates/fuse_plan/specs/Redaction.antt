@@ -11,7 +11,7 @@ use Rattle.fusemap_core.specs.declared.pos.Pos.{Pos}
 use Rattle.fusemap_core.specs.Map.{Map, field_named, holds, read_lock}
 use Rattle.fuse_image.specs.Keys.{KeyTable, table_where}
 use Rattle.fuse_image.specs.Locks.{is_burnt, is_hidden, is_hidden_key, is_key_block, is_key_position}
-use Rattle.fuse_image.specs.Places.{is_empty, Positions, places_where}
+use Rattle.fuse_image.specs.Places.{meets, Positions, places_where}
 use Rattle.fuse_plan.specs.declared.redaction.ReadBack.{ReadBack}
 use Rattle.fuse_image.specs.Blocks.{bytes_of}
 
@@ -47,10 +47,6 @@ AreKeys m keys = (b : ℕ) → is_some (map.get keys b) ≡ true → (b < 4) × 
 -- no position of the set lies in a key field
 abbrev pub AreOutsideKeys : Map → Positions → Type 0
 AreOutsideKeys m s = (p : Pos) → set.contains s p ≡ true → is_key_position m p ≡ false
-
--- the sets share a position
-abbrev pub meets : Positions → Positions → Bool
-meets s t = not (is_empty (set.intersection s t))
 
 -- a key field passes a test of its block
 abbrev pub some_key : Map → (ℕ → Bool) → Bool

@@ -128,7 +128,7 @@ fn may_be_set(map: &FuseMap, id: FieldId, ones: &Bits) -> bool
         result ≡ redaction.may_be_set map.now ones.now f }
 {
     let field = map.get(id);
-    meets(ones, &positions_of(&field)) || is_burnt(ones, map.read_lock(id))
+    ones.meets(&positions_of(&field)) || is_burnt(ones, map.read_lock(id))
 }
 
 /// The positions of a field.
@@ -154,18 +154,11 @@ fn is_burnt(burnt: &Bits, lock: Option<Pos>) -> bool
     }
 }
 
-/// Whether the sets share a position.
-fn meets(bits: &Bits, other: &Bits) -> bool
-    ensures { result ≡ redaction.meets bits.now other.now }
-{
-    !bits.minus(&bits.minus(other)).is_empty()
-}
-
 /// Whether a position or a key field that the read-back's own read locks hide shows something.
 pub fn shows_what_is_hidden(map: &FuseMap, readback: &ReadBack) -> bool
     ensures { result ≡ redaction.shows_what_is_hidden map.now readback.now }
 {
-    meets(&readback.ones, &hidden_positions(map, &readback.ones))
+    readback.ones.meets(&hidden_positions(map, &readback.ones))
         || shows_hidden_key(map, &readback.ones, &readback.shown)
 }
 

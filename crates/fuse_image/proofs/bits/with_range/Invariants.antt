@@ -1,7 +1,7 @@
-use Rattle.std.proofs.Common.{◌≡◌, ◌&&◌, ◌||◌, nat_le, nat_lt}
-use Rattle.fuse_image.specs.Numbers.{is_among, numbers_where}
+use Rattle.std.proofs.Common.{bit_or}
+use Rattle.fuse_image.specs.Masks.{mask_of}
+use Rattle.fuse_image.proofs.Changed.{AreChanged}
 use Rattle.fuse_image.proofs.bits.with_range.Given as goal
 
-abbrev pub invariant-loop-number : goal.invariant-loop-number
-invariant-loop-number l =
-    l.numbers ≡ numbers_where (λ n. is_among l.own n || (nat_le l.start n && nat_lt n l.end)) l.number-counter
+abbrev pub invariant-loop-word : goal.invariant-loop-word
+invariant-loop-word l = AreChanged (λ k x. bit_or x (mask_of l.start l.end k)) l.own l.words l.word

@@ -1,7 +1,7 @@
-use Rattle.std.proofs.Common.{◌≡◌, ◌&&◌, not}
-use Rattle.fuse_image.specs.Numbers.{is_among, numbers_where}
+use Rattle.std.proofs.Common.{get_or, bit_and}
+use Rattle.std.specs.Int.{bit_not, w32}
+use Rattle.fuse_image.proofs.Changed.{AreChanged}
 use Rattle.fuse_image.proofs.bits.without.Given as goal
 
-abbrev pub invariant-loop-number : goal.invariant-loop-number
-invariant-loop-number l =
-    l.numbers ≡ numbers_where (λ n. is_among l.own n && not (is_among l.other n)) l.number-counter
+abbrev pub invariant-loop-word : goal.invariant-loop-word
+invariant-loop-word l = AreChanged (λ k x. bit_and x (bit_not w32 (get_or l.other k 0))) l.own l.words l.word

@@ -4,8 +4,7 @@ use Rattle.std.proofs.lemmas.Option.{same_Some}
 use Rattle.fusemap_core.specs.declared.field.Field.{Field}
 use Rattle.fusemap_core.specs.Map.{holds, read_lock}
 use Rattle.fuse_image.specs.Locks.{is_burnt}
-use Rattle.fuse_image.specs.Places.{places_where}
-use Rattle.fuse_plan.specs.Redaction.{meets}
+use Rattle.fuse_image.specs.Places.{meets, places_where}
 use Rattle.fuse_plan.proofs.redaction.may_be_set.Goals as goal
 
 pub returns-then-meets : goal.returns-then-meets

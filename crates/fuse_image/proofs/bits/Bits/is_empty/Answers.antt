@@ -1,11 +1,10 @@
-use Rattle.std.proofs.Common.{ℕ, List, length, ap, ◌∙◌}
-use Rattle.std.specs.Prelude.{◌==◌}
+use Rattle.std.proofs.Common.{get_or, ap, ◌∙◌}
 use Rattle.fuse_image.specs.Places.{is_empty}
-use Rattle.fuse_image.proofs.BitSets.{no_number}
+use Rattle.fuse_image.proofs.BitSets.{AreBitsOf-words, is_empty-zeros, positions_of}
 use Rattle.fuse_image.proofs.bits.Bits.is_empty.Goals as goal
 
 pub returns : goal.returns
 returns c =
-    c.is_empty.ensures
-    ∙ (ap (λ (numbers : List ℕ). length numbers == 0) c.as_slice.ensures
-    ∙ (no_number c.self.inside.numbers c.self.invariant ∙ ap is_empty c.self.view_is))
+    let words = c.self.inside.words in
+    is_empty-zeros (λ w. get_or words w 0) (positions_of words) (AreBitsOf-words words) c.self.invariant.small c.are_zeros.result c.are_zeros.ensures
+    ∙ ap is_empty c.self.view_is

@@ -1,17 +1,16 @@
-use Rattle.std.proofs.Common.{ℕ, List, ◌||◌, ap, ◌∙◌}
+use Rattle.std.proofs.Common.{get_or, ap, ◌∙◌}
 use Rattle.std.specs.FinSet as set
-use Rattle.fuse_image.specs.Numbers.{numbers_where, is_among}
+use Rattle.fusemap_core.specs.declared.pos.Pos.{Pos}
 use Rattle.fuse_image.specs.Places.{Positions}
-use Rattle.fuse_image.specs.Bits.{positions_of}
-use Rattle.fuse_image.proofs.BitSets.{in_order, has_place, positions_of-list}
+use Rattle.fuse_image.proofs.Sets.{union-none, union-more}
 use Rattle.fuse_image.proofs.bits.Bits.with_bits.Goals as goal
 
-pub invariant_of-result : goal.invariant_of-result
-invariant_of-result c = rw c.with_positions.ensures (in_order _)
+pub loop-pos-init : goal.loop-pos-init
+loop-pos-init c = union-none c.args.self.now
 
-pub returns : goal.returns
-returns c =
-    ap positions_of c.with_positions.ensures
-    ∙ (ap (λ (own : List ℕ). positions_of (numbers_where (λ n. is_among own n || has_place c.args.positions.now n) 1024)) c.as_slice.ensures
-    ∙ (positions_of-list c.self.inside.numbers c.args.positions.now c.requires
-    ∙ ap (λ (s : Positions). set.union s (set.from_list c.args.positions.now)) c.self.view_is))
+pub loop-pos-preserved : goal.loop-pos-preserved
+loop-pos-preserved c =
+    let none : Pos = record { block = 0; bit = 0 } in
+    c.add.ensures
+    ∙ (ap (λ (s : Positions). set.insert s (get_or c.args.positions.now c.loop-pos.pos-index none)) c.loop-pos.invariant
+    ∙ union-more c.args.self.now c.args.positions.now c.loop-pos.pos-index none c.loop-pos-test.true)

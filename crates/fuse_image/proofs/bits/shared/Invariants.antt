@@ -1,0 +1,6 @@
+use Rattle.std.proofs.Common.{get_or, bit_and}
+use Rattle.fuse_image.proofs.Changed.{AreChanged}
+use Rattle.fuse_image.proofs.bits.shared.Given as goal
+
+abbrev pub invariant-loop-word : goal.invariant-loop-word
+invariant-loop-word l = AreChanged (λ k x. bit_and x (get_or l.other k 0)) l.own l.words l.word
