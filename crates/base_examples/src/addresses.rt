@@ -39,46 +39,65 @@ const POOLS: &[(&str, u64, bool)] = &[
 type Run = (&'static str, u64);
 
 /// Two pools, two reserved intervals, how many addresses are asked for, and the first that is given.
-const RESERVED: &[([Run; 4], u64, Option<u64>)] = &[
-    ([LOW, HIGH, NONE, NONE], 3, Some(0x0200_0000_0010)),
+type ReserveRow = (Run, Run, Run, Run, u64, Option<u64>);
+
+const RESERVED: &[ReserveRow] = &[
+    (LOW, HIGH, NONE, NONE, 3, Some(0x0200_0000_0010)),
     (
-        [LOW, HIGH, ("020000000010", 3), NONE],
+        LOW,
+        HIGH,
+        ("020000000010", 3),
+        NONE,
         2,
         Some(0x0200_0000_0020),
     ),
+    (LOW, HIGH, ("020000000010", 3), ("020000000020", 2), 3, None),
     (
-        [LOW, HIGH, ("020000000010", 3), ("020000000020", 2)],
-        3,
-        None,
-    ),
-    (
-        [LOW, HIGH, ("020000000020", 2), ("020000000010", 3)],
+        LOW,
+        HIGH,
+        ("020000000020", 2),
+        ("020000000010", 3),
         1,
         Some(0x0200_0000_0013),
     ),
     (
-        [EIGHT, OTHER, ("020000000012", 0), NONE],
+        EIGHT,
+        OTHER,
+        ("020000000012", 0),
+        NONE,
         8,
         Some(0x0200_0000_0010),
     ),
     (
-        [EIGHT, OTHER, ("020000000012", 1), NONE],
+        EIGHT,
+        OTHER,
+        ("020000000012", 1),
+        NONE,
         2,
         Some(0x0200_0000_0010),
     ),
     (
-        [EIGHT, OTHER, ("020000000012", 1), NONE],
+        EIGHT,
+        OTHER,
+        ("020000000012", 1),
+        NONE,
         3,
         Some(0x0200_0000_0013),
     ),
-    ([EIGHT, OTHER, ("020000000012", u64::MAX), NONE], 3, None),
+    (EIGHT, OTHER, ("020000000012", u64::MAX), NONE, 3, None),
     (
-        [EIGHT, OTHER, ("020000000012", u64::MAX), NONE],
+        EIGHT,
+        OTHER,
+        ("020000000012", u64::MAX),
+        NONE,
         u64::MAX,
         None,
     ),
     (
-        [EIGHT, OTHER, ("000000000000", 0x0200_0000_0014), NONE],
+        EIGHT,
+        OTHER,
+        ("000000000000", 0x0200_0000_0014),
+        NONE,
         4,
         Some(0x0200_0000_0014),
     ),
@@ -114,8 +133,8 @@ fn pool(first: &str, count: u64) -> Option<MacPool> {
 }
 
 /// The first address that is given, or an inner `None` where no pool has room.
-fn given(runs: &[Run; 4], count: u64) -> Option<Option<u64>> {
-    let [first, second, third, fourth] = *runs;
+fn given(row: &ReserveRow) -> Option<Option<u64>> {
+    let (first, second, third, fourth, count, _) = *row;
     let pools = [pool(first.0, first.1)?, pool(second.0, second.1)?];
     let reserved = [
         (Mac::parse(third.0)?, third.1),
@@ -158,7 +177,7 @@ fn tells_addresses_and_pools(rt: HostRuntime) {
 fn gives_addresses_and_serials(rt: HostRuntime) {
     let alloc = rt.alloc();
     for row in RESERVED {
-        assert!(rt; given(&row.0, row.1) == Some(row.2), "{}", row.1);
+        assert!(rt; given(row) == Some(row.5), "{}", row.4);
     }
     for row in SERIALS {
         assert!(rt; is_serial(alloc, row.0, row.1, row.2), "{}", row.2);
