@@ -14,27 +14,30 @@ use std::alloc::Global;
 use std::str;
 use std::test::Fail;
 
-/// The token of a caller of the sample site: a seat, or the manager. Nobody has the last one.
-fn token(caller: &str) -> &'static str {
-    match caller {
-        "a1" => "abc",
-        "b1" => "hello",
-        "manager" => "test",
-        _ => "zzz",
-    }
-}
+/// The callers of the sample site, seats and the manager, and their tokens.
+const TOKENS: &[(&str, &str)] = &[("a1", "abc"), ("b1", "hello"), ("manager", "test")];
 
-/// The phrase of a status (RFC 9110, section 15).
-fn phrase(status: &str) -> &'static str {
-    match status {
-        "200" => "OK",
-        "400" => "Bad Request",
-        "403" => "Forbidden",
-        "404" => "Not Found",
-        "409" => "Conflict",
-        "422" => "Unprocessable Entity",
-        _ => "Service Unavailable",
+/// A token that nobody has.
+const NO_TOKEN: &str = "zzz";
+
+/// Statuses and their phrases (RFC 9110, section 15).
+const PHRASES: &[(&str, &str)] = &[
+    ("200", "OK"),
+    ("400", "Bad Request"),
+    ("403", "Forbidden"),
+    ("404", "Not Found"),
+    ("409", "Conflict"),
+    ("422", "Unprocessable Entity"),
+];
+
+/// What a table has beside a name.
+fn listed(table: &'static [(&'static str, &'static str)], name: &str) -> Option<&'static str> {
+    for row in table {
+        if row.0 == name {
+            return Some(row.1);
+        }
     }
+    None
 }
 
 /// The bytes of the request of a line.
@@ -42,7 +45,7 @@ pub fn request(alloc: Global, line: &str) -> Result<String, Fail> {
     let (caller, rest) = line.split_once(" ").ok_or("no caller")?;
     let (method, rest) = rest.split_once(" ").ok_or("no method")?;
     let (target, body) = rest.split_once(" ").unwrap_or((rest, ""));
-    let token = token(caller);
+    let token = listed(TOKENS, caller).unwrap_or(NO_TOKEN);
     let body = filled(alloc, body)?;
     let size = body.len();
     Ok(format!(in alloc;
@@ -53,7 +56,7 @@ pub fn request(alloc: Global, line: &str) -> Result<String, Fail> {
 /// The bytes of the reply of a line.
 pub fn reply(alloc: Global, line: &str) -> Result<String, Fail> {
     let (status, body) = line.split_once(" ").ok_or("no status")?;
-    let phrase = phrase(status);
+    let phrase = listed(PHRASES, status).ok_or("no such status")?;
     let body = filled(alloc, body)?;
     let size = body.len();
     Ok(format!(in alloc;
@@ -115,6 +118,28 @@ pub fn first_difference<K: Keep>(
             return Ok(found);
         }
         asked = None;
+    }
+    Ok(String::new(alloc))
+}
+
+/// Holds a conversation without lines that say nothing, in which an allocation may be refused: a
+/// request that is answered with 503, or by the stream's end, is sent again and gets its reply then.
+pub fn first_difference_after_want<K: Keep>(
+    alloc: Global,
+    keep: &mut K,
+    conversation: &str,
+) -> Result<String, Fail> {
+    let mut lines = conversation.lines();
+    for _ in 0..conversation.lines().count() / 2 {
+        let asked = lines.next().ok_or("no request is left")?;
+        let wanted = lines.next().ok_or("no reply is left")?;
+        let mut found = difference(alloc, keep, asked, wanted)?;
+        if found.as_str().ends_with("-> ") || found.as_str().contains("-> HTTP/1.1 503 ") {
+            found = difference(alloc, keep, asked, wanted)?;
+        }
+        if !found.is_empty() {
+            return Ok(found);
+        }
     }
     Ok(String::new(alloc))
 }

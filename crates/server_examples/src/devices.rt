@@ -6,7 +6,7 @@ use std::test::Fail;
 use text_core::{Chip, Name};
 
 /// The conversations, each under its name.
-pub const DEVICES: [(&str, &str); 5] = [
+pub const DEVICES: &[(&str, &str)] = &[
     ("read-backs of chips", READ_BACKS),
     ("what a device refers to", REFERENCES),
     ("blocks that are none", BAD_BLOCKS),

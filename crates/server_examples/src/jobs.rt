@@ -1,7 +1,7 @@
 //! The program's command line, and its jobs over files, readers and writers.
 use base_examples::samples::{MAP, SITE};
 use station_jobs::{Job, WordsFault, read_job, run};
-use std::alloc::Global;
+use std::alloc::{AllocError, Global};
 use std::io::{Read, Write};
 use std::rt::Files;
 use std::test::Fail;
@@ -9,7 +9,7 @@ use std::{fs, io};
 use text_core::Text;
 
 /// Lines of words, and what becomes of each: the job and the name that it has, help, or a refusal.
-pub const LINES: [(&str, &str); 34] = [
+pub const LINES: &[(&str, &str)] = &[
     ("station replay --site site.toml", "replay site.toml"),
     (
         "station replay --site=../a/site.toml",
@@ -49,75 +49,131 @@ pub const LINES: [(&str, &str); 34] = [
     ("station replay check-map a", "refused"),
 ];
 
+/// Names of files that are one word of a line.
+pub const SITE_NAMES: &[&str] = &["a site.toml", " ", "\u{e4}\n"];
+
 /// What becomes of words.
-pub fn outcome(alloc: Global, words: &[&str]) -> Result<String, Fail> {
-    match read_job(alloc, words) {
-        Ok(Job::Replay { site }) => Ok(format!(in alloc; "replay {site}")?),
-        Ok(Job::CheckMap { map }) => Ok(format!(in alloc; "check-map {map}")?),
-        Err(WordsFault::Help(_)) => Ok(String::from_str(alloc, "help")?),
-        Err(WordsFault::Refused(_)) => Ok(String::from_str(alloc, "refused")?),
-        Err(WordsFault::NoMemory) => Err(Fail::from("no memory")),
-    }
+fn outcome(alloc: Global, words: &[&str]) -> Result<String, AllocError> {
+    let found = read_job(alloc, words);
+    let (outcome, name) = match &found {
+        Ok(Job::Replay { site }) => ("replay ", site.as_str()),
+        Ok(Job::CheckMap { map }) => ("check-map ", map.as_str()),
+        Err(WordsFault::Help(_)) => ("help", ""),
+        Err(WordsFault::Refused(_)) => ("refused", ""),
+        Err(WordsFault::NoMemory) => ("no memory", ""),
+    };
+    format!(in alloc; "{outcome}{name}")
+}
+
+/// Whether the site with a name is replayed.
+pub fn is_replayed(alloc: Global, name: &str) -> Result<bool, AllocError> {
+    let told = outcome(alloc, &["station", "replay", "--site", name])?;
+    Ok(told.as_str().strip_prefix("replay ") == Some(name))
 }
 
 /// What becomes of the words of a line.
-pub fn outcome_of_line(alloc: Global, line: &str) -> Result<String, Fail> {
+pub fn outcome_of_line(alloc: Global, line: &str) -> Result<String, AllocError> {
     let words: Vec<&str> = line.split_whitespace().collect(alloc)?;
     outcome(alloc, words.as_slice())
 }
 
-/// Texts of files, in which `$MAP` and `$SITE` stand for the samples, and what a check of the map in
-/// it writes: on standard output where the text is accepted, else on standard error.
-pub const MAP_FILES: [(&str, &str); 9] = [
-    ("$MAP", "ok esp32-sample 4 7\n"),
+/// Files by the job that reads them, their text, in which `$MAP` and `$SITE` stand for the samples, and
+/// what is written for them, for a replay over an empty stream: on standard output where a map is
+/// accepted, else on standard error.
+pub const FILES: &[(&str, &str, &str)] = &[
+    ("check-map", "$MAP", "ok esp32-sample 4 7\n"),
     (
+        "check-map",
         "$MAP[[field]]\nname = \"X\"\nblock = 0\nbit = 216\ncount = 8\n",
         "ok esp32-sample 4 8\n",
     ),
-    ("$MAP[[field]]\nfield\n", "station: map fault 1\n"),
-    ("", "station: map fault 2\n"),
-    ("$MAP[[field]]\nwords = 8\n", "station: map fault 2\n"),
     (
+        "check-map",
+        "$MAP[[field]]\nfield\n",
+        "station: map fault 1\n",
+    ),
+    ("check-map", "", "station: map fault 2\n"),
+    (
+        "check-map",
+        "$MAP[[field]]\nwords = 8\n",
+        "station: map fault 2\n",
+    ),
+    (
+        "check-map",
         "$MAP[[field]]\nname = \"WR_DIS\"\nblock = 0\nbit = 216\ncount = 8\n",
         "station: map fault 3\n",
     ),
     (
+        "check-map",
         "$MAP[[field]]\nname = \"X\"\nblock = 0\nbit = 216\ncount = 9\n",
         "station: map fault 4\n",
     ),
     (
+        "check-map",
         "$MAP[[field]]\nname = \"X\"\nblock = 0\nbit = 198\ncount = 1\n",
         "station: map fault 5\n",
     ),
-    ("$MAP[[field]]\n", "station: map fault 2\n"),
-];
-
-/// Texts of files, and what a replay of an empty stream for the site in it writes on standard error.
-pub const SITE_FILES: [(&str, &str); 7] = [
-    ("$SITE", ""),
-    ("customer", "station: site fault 1\n"),
-    ("", "station: site fault 2\n"),
+    ("check-map", "$MAP[[field]]\n", "station: map fault 2\n"),
+    ("replay", "$SITE", ""),
+    ("replay", "customer", "station: site fault 1\n"),
+    ("replay", "", "station: site fault 2\n"),
     (
+        "replay",
         "[[customer]]\nname = \"acme\"\nissuer = [\"acme-ca\", \"acme-ca\"]\n",
         "station: site fault 3\n",
     ),
     (
+        "replay",
         "[[customer]]\nname = \"acme\"\nissuer = []\npool = [{ first = \"020000000010\", count = 4 }, { first = \"020000000013\", count = 1 }]\n",
         "station: site fault 4\n",
     ),
     (
+        "replay",
         "[[customer]]\nname = \"acme\"\nissuer = []\npool = [{ first = \"010000000000\", count = 1 }]\n",
         "station: site fault 5\n",
     ),
     (
+        "replay",
         "[[customer]]\nname = \"acme\"\nissuer = [\"1\", \"2\", \"3\", \"4\", \"5\", \"6\", \"7\", \"8\", \"9\"]\n",
         "station: site fault 6\n",
     ),
 ];
 
-/// What stands behind a text of 1,048,575 bytes in a file, and whether the file is read: one byte more
-/// is, and no other, whatever the bytes are. The cut may lie inside a character.
-pub const LONG_ENDS: [(&[u8], bool); 5] = [
+/// Files that can't be read, by the job and their name: those that aren't there, a folder, and those
+/// that are no text, with what is in them.
+pub const UNREAD: &[(&str, &str, &[u8])] = &[
+    ("check-map", "none.toml", b""),
+    ("check-map", "no/such file", b""),
+    ("check-map", "", b""),
+    ("check-map", "folder", b""),
+    ("check-map", "latin.toml", b"# \xe4\n"),
+    ("check-map", "latin.toml", b"\xff"),
+    ("check-map", "latin.toml", b"customer = []\n# \xc3"),
+    ("replay", "none.toml", b""),
+    ("replay", "no/such file", b""),
+    ("replay", "", b""),
+    ("replay", "folder", b""),
+    ("replay", "latin.toml", b"# \xe4\n"),
+    ("replay", "latin.toml", b"\xff"),
+    ("replay", "latin.toml", b"customer = []\n# \xc3"),
+];
+
+/// Files at their limit, by the job: the text and how long it is made, and what is written where a
+/// byte more is read, and where it isn't.
+pub const LONG_FILES: &[(&str, &str, usize, &str, &str)] = &[
+    (
+        "check-map",
+        MAP,
+        32_767,
+        "ok esp32-sample 4 7\n",
+        "station: map fault 2\n",
+    ),
+    ("replay", SITE, 1_048_575, "", "station: site fault 6\n"),
+];
+
+/// What stands behind such a text in a file, and whether the file is read: one byte more is, and no
+/// other, whatever the bytes are. The cut may lie inside a character.
+pub const LONG_ENDS: &[(&[u8], bool)] = &[
     (b"", true),
     (b" ", true),
     (b"\xc3\xa4", false),
@@ -125,8 +181,17 @@ pub const LONG_ENDS: [(&[u8], bool); 5] = [
     (b" and so on, and so on", false),
 ];
 
-/// Files that are no text.
-pub const NO_TEXTS: [&[u8]; 3] = [b"# \xe4\n", b"\xff", b"customer = []\n# \xc3"];
+/// How many bytes the line has that says what the sample map is.
+pub const LINE_LENGTH: usize = 20;
+
+/// The line for a writer that fails.
+pub const WRITE_FAILED: &str = "station: write failed\n";
+
+/// A reader that fails, and a writer that takes nothing.
+pub const BROKEN: Short = Short {
+    room: 0,
+    flushes: true,
+};
 
 /// The samples in place of what stands for them.
 pub fn with_samples(alloc: Global, text: &str) -> Result<String, Fail> {
@@ -135,7 +200,7 @@ pub fn with_samples(alloc: Global, text: &str) -> Result<String, Fail> {
 }
 
 /// The job of one kind for the file with a name.
-pub fn job(alloc: Global, kind: &str, name: &str) -> Result<Job, Fail> {
+fn job(alloc: Global, kind: &str, name: &str) -> Result<Job, Fail> {
     let name = Text::copy_of(alloc, name)?;
     if kind == "replay" {
         return Ok(Job::Replay { site: name });
@@ -148,7 +213,8 @@ pub fn job(alloc: Global, kind: &str, name: &str) -> Result<Job, Fail> {
 pub fn written<R: Files>(
     rt: &R,
     alloc: Global,
-    (kind, name): (&str, &str),
+    kind: &str,
+    name: &str,
     input: &[u8],
 ) -> Result<String, Fail> {
     let job = job(alloc, kind, name)?;
@@ -193,30 +259,58 @@ impl Write for Short {
     }
 }
 
-/// Does a job of one kind for the file with a name, from a reader that fails or an input to a writer
-/// that may fail: the line on standard error.
-pub fn line_of_failure<R: Files>(
+/// Does a job to a writer that may fail: the line on standard error.
+fn line_of_failure<R: Files>(
     rt: &R,
     alloc: Global,
-    (kind, name): (&str, &str),
+    job: &Job,
     input: impl Read + Drop,
     output: Short,
 ) -> Result<String, Fail> {
-    let job = job(alloc, kind, name)?;
     let mut err = Vec::new(alloc);
-    let status = run(rt, alloc, &job, input, output, &mut err);
+    let status = run(rt, alloc, job, input, output, &mut err);
     if (status == 1) == err.is_empty() {
         return Err(Fail::from("another status"));
     }
     Ok(String::from_utf8(err).map_err(|_| "no text")?)
 }
 
-/// Makes the file with a name of a text of the sample map or of a site, with as many spaces behind it
-/// as make so many bytes, and then these.
+/// Checks the sample map's file to a writer that takes so many bytes, and may fail to flush: the line
+/// on standard error.
+pub fn line_of_check<R: Files>(
+    rt: &R,
+    alloc: Global,
+    room: usize,
+    flushes: bool,
+) -> Result<String, Fail> {
+    let job = job(alloc, "check-map", "map.toml")?;
+    line_of_failure(rt, alloc, &job, b"".as_slice(), Short { room, flushes })
+}
+
+/// Replays an input for the sample site's file to a writer that takes nothing: the line on standard
+/// error.
+pub fn line_of_replay<R: Files>(
+    rt: &R,
+    alloc: Global,
+    input: impl Read + Drop,
+) -> Result<String, Fail> {
+    let job = job(alloc, "replay", "site.toml")?;
+    line_of_failure(rt, alloc, &job, input, BROKEN)
+}
+
+/// Whether a line says that the file with a name can't be read.
+pub fn tells_unread(line: &str, name: &str) -> bool {
+    let Some(rest) = line.strip_prefix("station: cannot read ") else {
+        return false;
+    };
+    rest.strip_suffix("\n") == Some(name)
+}
+
+/// Makes the file `long.toml` of a text, with as many spaces behind it as make so many bytes, and then
+/// these.
 pub fn write_long_file<R: Files>(
     rt: &R,
     alloc: Global,
-    name: &str,
     (start, size): (&str, usize),
     end: &[u8],
 ) -> Result<(), Fail> {
@@ -224,5 +318,5 @@ pub fn write_long_file<R: Files>(
     let text = format!(in alloc; "{start}{:spaces$}", "")?;
     let mut text = text.as_bytes().to_vec(alloc)?;
     text.extend_from_slice(end)?;
-    Ok(fs::write(rt, name, text.as_slice())?)
+    Ok(fs::write(rt, "long.toml", text.as_slice())?)
 }

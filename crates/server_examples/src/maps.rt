@@ -7,7 +7,7 @@ use std::test::Fail;
 use text_core::{Digest, Name, Text};
 
 /// The conversations, each under its name.
-pub const MAPS: [(&str, &str); 4] = [
+pub const MAPS: &[(&str, &str)] = &[
     ("a map of two customers", IMPORTS),
     ("refused maps", REFUSED),
     ("requests that are refused unread", UNREAD),

@@ -2,7 +2,7 @@
 //! customers and a manager in one store.
 
 /// The conversations, each under its name.
-pub const ORDERS: [(&str, &str); 8] = [
+pub const ORDERS: &[(&str, &str)] = &[
     ("an order and its repeat", REPEAT),
     ("numbers of requests", NUMBERS),
     ("refused orders", REFUSED),

@@ -38,14 +38,19 @@ fn with_map(alloc: Global, text: &str) -> Result<String, Fail> {
     };
     let map = MAP.replace(alloc, "\"", "\\\"")?;
     let map = map.as_str().replace(alloc, "\n", "\\n")?;
-    let map = map.as_str();
     let Some(change) = after.strip_prefix("~") else {
         return Ok(format!(in alloc; "{before}{map}{after}")?);
     };
-    let (old, rest) = change.split_once("~").ok_or("no new part")?;
-    let (new, after) = rest.split_once("~").ok_or("no end of the new part")?;
-    let map = map.replace(alloc, old, new)?;
+    let (old, new, after) = change_of(change).ok_or("no change of the map")?;
+    let map = map.as_str().replace(alloc, old, new)?;
     Ok(format!(in alloc; "{before}{map}{after}")?)
+}
+
+/// The old part, the new part and what is behind them.
+fn change_of(change: &str) -> Option<(&str, &str, &str)> {
+    let (old, rest) = change.split_once("~")?;
+    let (new, after) = rest.split_once("~")?;
+    Some((old, new, after))
 }
 
 /// The text with spaces in place of their placeholder.

@@ -22,7 +22,7 @@ pub const ORDERED: &str =
 
 /// Streams over an empty store, in which `$ORDER` stands for the order and `$ORDERED` for its reply:
 /// what is written, and how the stream ends.
-pub const STREAMS: [(&str, &str, Served); 9] = [
+pub const STREAMS: &[(&str, &str, Served)] = &[
     ("", "", Served::Ended),
     ("$ORDER$ORDER", "$ORDERED$ORDERED", Served::Ended),
     // The body lacks its last byte.
@@ -62,6 +62,15 @@ pub const STREAMS: [(&str, &str, Served); 9] = [
     ("$ORDER\r\n", "$ORDERED", Served::Cut),
 ];
 
+/// The stream of one order.
+const ONE_ORDER: (&str, &str, Served) = ("$ORDER", "$ORDERED", Served::Ended);
+
+/// The lengths of the pieces in which streams come.
+pub const STEPS: &[usize] = &[1, 7, 97, 65_536];
+
+/// How many bytes of a reply a writer takes before it fails.
+pub const TAKEN: &[u32] = &[0, 10, 72, 100];
+
 /// The bytes of a stream or of what is written.
 fn with_orders(alloc: Global, text: &str) -> Result<String, Fail> {
     let text = text.replace(alloc, "$ORDERED", ORDERED)?;
@@ -73,16 +82,13 @@ fn with_orders(alloc: Global, text: &str) -> Result<String, Fail> {
 pub fn ends_so<K: Keep>(
     alloc: Global,
     keep: &mut K,
-    stream: (&str, &str, Served),
+    row: &(&str, &str, Served),
     step: usize,
-) -> Result<bool, Fail>
-    requires { 0 < step }
-{
-    let (stream, wanted, end) = stream;
-    let stream = with_orders(alloc, stream)?;
-    let wanted = with_orders(alloc, wanted)?;
-    let (served, writer) = serve(alloc, keep, stream.as_str(), step)?;
-    Ok(served == end && writer.bytes() == wanted.as_bytes())
+) -> Result<bool, Fail> {
+    let stream = with_orders(alloc, row.0)?;
+    let wanted = with_orders(alloc, row.1)?;
+    let (served, writer) = serve(alloc, keep, stream.as_str(), step.max(1))?;
+    Ok(served == row.2 && writer.bytes() == wanted.as_bytes())
 }
 
 /// Whether an order is served though reader and writer are interrupted at every second call.
@@ -116,6 +122,6 @@ pub fn stops_where_the_writer_does<K: Keep>(
     let served = serve_stream(alloc, keep, &site, &mut reader, &mut writer);
     let bytes = writer.inner().bytes();
     let is_front = ORDERED.as_bytes().starts_with(bytes) && bytes.len() == taken as usize;
-    let is_there = ends_so(alloc, keep, ("$ORDER", "$ORDERED", Served::Ended), 4096)?;
+    let is_there = ends_so(alloc, keep, &ONE_ORDER, 4096)?;
     Ok(served == Served::WriteFault && is_front && is_there)
 }

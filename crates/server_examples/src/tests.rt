@@ -1,28 +1,53 @@
 //! The examples over the keeper in memory, and those of the program.
-use crate::conversation::{first_difference, first_difference_in_turns};
+use crate::conversation::{
+    first_difference, first_difference_after_want, first_difference_in_turns,
+};
 use crate::devices::{ACME, BOLT, DEVICES, chips_are_visited};
 use crate::jobs::{
-    LINES, LONG_ENDS, MAP_FILES, NO_TEXTS, SITE_FILES, Short, line_of_failure, outcome,
-    outcome_of_line, with_samples, write_long_file, written,
+    BROKEN, FILES, LINE_LENGTH, LINES, LONG_ENDS, LONG_FILES, SITE_NAMES, UNREAD, WRITE_FAILED,
+    is_replayed, line_of_check, line_of_replay, outcome_of_line, tells_unread, with_samples,
+    write_long_file, written,
 };
 use crate::maps::{MAPS, has_taken_digest};
 use crate::orders::ORDERS;
 use crate::streams::{
-    ORDER, STREAMS, ends_so, goes_on_after_interruptions, stops_where_the_reader_fails,
-    stops_where_the_writer_does,
+    ORDER, STEPS, STREAMS, TAKEN, ends_so, goes_on_after_interruptions,
+    stops_where_the_reader_fails, stops_where_the_writer_does,
 };
 use base_examples::samples::{MAP, SITE};
 use office_core::MemKeep;
+use std::alloc::Global;
 use std::fs;
 use std::test::Fail;
 
+/// The conversations, each under its name.
+const ALL: &[&[(&str, &str)]] = &[ORDERS, MAPS, DEVICES];
+
+/// The orders in which the requests of two seats can come.
+const TURNS: &[&str] = &[
+    "aaaa", "bbbb", "aaabbbab", "aababbab", "aabbabab", "aabbbaab", "abaabbab", "abababab",
+    "ababbaab", "abbaabab", "abbabaab", "abbbaaab", "baaabbab", "baababab", "baabbaab", "babaabab",
+    "bababaab", "babbaaab", "bbaaabab", "bbaabaab", "bbabaaab", "bbbaaaab",
+];
+
+/// Holds conversations, each over a store without rows: what differs first, behind the name of its
+/// conversation.
+fn first_of(alloc: Global, table: &[(&str, &str)]) -> Result<String, Fail> {
+    for row in table {
+        let mut keep = MemKeep::new(alloc);
+        let found = first_difference(alloc, &mut keep, row.1)?;
+        if !found.is_empty() {
+            return Ok(format!(in alloc; "{}: {found}", row.0)?);
+        }
+    }
+    Ok(String::new(alloc))
+}
+
 #[test]
 fn conversations_get_their_replies(rt: HostRuntime) -> Result<(), Fail> {
-    let alloc = rt.alloc();
-    for (name, conversation) in ORDERS.into_iter().chain(MAPS).chain(DEVICES) {
-        let mut keep = MemKeep::new(alloc);
-        let found = first_difference(alloc, &mut keep, conversation)?;
-        assert_eq!(rt; found.as_str(), "", "{name}");
+    for table in ALL {
+        let found = first_of(rt.alloc(), table)?;
+        assert_eq!(rt; found.as_str(), "");
     }
     Ok(())
 }
@@ -31,30 +56,31 @@ fn conversations_get_their_replies(rt: HostRuntime) -> Result<(), Fail> {
 /// both ledgers: each seat gets the replies that it gets alone.
 #[test]
 fn seats_are_served_as_if_alone(rt: HostRuntime) -> Result<(), Fail> {
-    let alloc = rt.alloc();
-    for turns in [
-        "aaaa", "bbbb", "aaabbbab", "aababbab", "aabbabab", "aabbbaab", "abaabbab", "abababab",
-        "ababbaab", "abbaabab", "abbabaab", "abbbaaab", "baaabbab", "baababab", "baabbaab",
-        "babaabab", "bababaab", "babbaaab", "bbaaabab", "bbaabaab", "bbabaaab", "bbbaaaab",
-    ] {
-        let mut keep = MemKeep::new(alloc);
-        let found = first_difference_in_turns(alloc, &mut keep, ACME, BOLT, turns)?;
+    for turns in TURNS {
+        let mut keep = MemKeep::new(rt.alloc());
+        let found = first_difference_in_turns(rt.alloc(), &mut keep, ACME, BOLT, turns)?;
         assert_eq!(rt; found.as_str(), "", "{turns}");
     }
     Ok(())
 }
 
+/// Made to hold where the server is refused an allocation; where the example is, it ends with that
+/// error.
+#[test]
+fn want_of_memory_changes_nothing(rt: HostRuntime) -> Result<(), Fail> {
+    let alloc = rt.alloc();
+    let found = first_difference_after_want(alloc, &mut MemKeep::new(alloc), ACME)?;
+    assert_eq!(rt; found.as_str(), "");
+    Ok(())
+}
+
 #[test]
 fn streams_end_as_they_must(rt: HostRuntime) -> Result<(), Fail> {
-    let alloc = rt.alloc();
-    for stream in STREAMS {
-        for step in [1, 7, 97, 65_536] {
-            let mut keep = MemKeep::new(alloc);
-            let (bytes, _, _) = stream;
-            assert!(rt;
-                ends_so(alloc, &mut keep, stream, step)?,
-                "{bytes} by {step}"
-            );
+    for row in STREAMS {
+        for step in STEPS {
+            let mut keep = MemKeep::new(rt.alloc());
+            let is_so = ends_so(rt.alloc(), &mut keep, row, *step)?;
+            assert!(rt; is_so, "{} by {step}", row.0);
         }
     }
     Ok(())
@@ -66,12 +92,10 @@ fn readers_and_writers_may_fail(rt: HostRuntime) -> Result<(), Fail> {
     let goes_on = goes_on_after_interruptions(alloc, &mut MemKeep::new(alloc))?;
     let stops = stops_where_the_reader_fails(alloc, &mut MemKeep::new(alloc))?;
     assert!(rt; goes_on && stops);
-    for taken in [0, 10, 72, 100] {
+    for taken in TAKEN {
         let mut keep = MemKeep::new(alloc);
-        assert!(rt;
-            stops_where_the_writer_does(alloc, &mut keep, taken)?,
-            "{taken}"
-        );
+        let stops = stops_where_the_writer_does(alloc, &mut keep, *taken)?;
+        assert!(rt; stops, "{taken}");
     }
     Ok(())
 }
@@ -94,75 +118,46 @@ fn devices_are_visited_by_their_chips(rt: HostRuntime) -> Result<(), Fail> {
 
 #[test]
 fn words_give_their_jobs(rt: HostRuntime) -> Result<(), Fail> {
-    let alloc = rt.alloc();
-    for (line, wanted) in LINES {
-        assert_eq!(rt; outcome_of_line(alloc, line)?.as_str(), wanted, "{line}");
+    for row in LINES {
+        let told = outcome_of_line(rt.alloc(), row.0)?;
+        assert_eq!(rt; told.as_str(), row.1, "{}", row.0);
     }
-    for name in ["a site.toml", " ", "\u{e4}\n"] {
-        let told = outcome(alloc, &["station", "replay", "--site", name])?;
-        let wanted = format!(in alloc; "replay {name}")?;
-        assert!(rt; told.as_str() == wanted.as_str(), "{name}");
+    for name in SITE_NAMES {
+        assert!(rt; is_replayed(rt.alloc(), name)?, "{name}");
     }
     Ok(())
 }
 
 #[test]
 fn files_of_maps_and_sites_are_judged(rt: HostRuntime) -> Result<(), Fail> {
-    let alloc = rt.alloc();
-    for (kind, files) in [
-        ("check-map", MAP_FILES.as_slice()),
-        ("replay", SITE_FILES.as_slice()),
-    ] {
-        for (text, wanted) in files {
-            let text = with_samples(alloc, text)?;
-            fs::write(&rt, "judged.toml", text.as_str())?;
-            let told = written(&rt, alloc, (kind, "judged.toml"), b"")?;
-            assert_eq!(rt; told.as_str(), *wanted, "{kind} {text}");
-        }
+    for row in FILES {
+        let text = with_samples(rt.alloc(), row.1)?;
+        fs::write(&rt, "judged.toml", text.as_str())?;
+        let told = written(&rt, rt.alloc(), row.0, "judged.toml", b"")?;
+        assert_eq!(rt; told.as_str(), row.2, "{} {}", row.0, row.1);
     }
     Ok(())
 }
 
 #[test]
 fn files_that_cannot_be_read_are_told(rt: HostRuntime) -> Result<(), Fail> {
-    let alloc = rt.alloc();
     fs::create_dir(&rt, "folder")?;
-    for kind in ["check-map", "replay"] {
-        for name in ["none.toml", "no/such file", "", "folder"] {
-            let told = written(&rt, alloc, (kind, name), ORDER.as_bytes())?;
-            let wanted = format!(in alloc; "station: cannot read {name}\n")?;
-            assert!(rt; told.as_str() == wanted.as_str(), "{kind} {name}");
-        }
-        for text in NO_TEXTS {
-            fs::write(&rt, "latin.toml", text)?;
-            let told = written(&rt, alloc, (kind, "latin.toml"), b"")?;
-            assert_eq!(rt;
-                told.as_str(),
-                "station: cannot read latin.toml\n",
-                "{kind}"
-            );
-        }
+    for row in UNREAD {
+        fs::write(&rt, "latin.toml", row.2)?;
+        let told = written(&rt, rt.alloc(), row.0, row.1, ORDER.as_bytes())?;
+        assert!(rt; tells_unread(told.as_str(), row.1), "{} {}", row.0, row.1);
     }
     Ok(())
 }
 
 #[test]
 fn files_over_their_limit_are_told_unread(rt: HostRuntime) -> Result<(), Fail> {
-    let alloc = rt.alloc();
-    for (kind, start, accepted, refused) in [
-        (
-            "check-map",
-            (MAP, 32_767),
-            "ok esp32-sample 4 7\n",
-            "station: map fault 2\n",
-        ),
-        ("replay", (SITE, 1_048_575), "", "station: site fault 6\n"),
-    ] {
-        for (end, is_read) in LONG_ENDS {
-            write_long_file(&rt, alloc, "long.toml", start, end)?;
-            let told = written(&rt, alloc, (kind, "long.toml"), b"")?;
-            let wanted = if is_read { accepted } else { refused };
-            assert_eq!(rt; told.as_str(), wanted, "{kind}");
+    for row in LONG_FILES {
+        for end in LONG_ENDS {
+            write_long_file(&rt, rt.alloc(), (row.1, row.2), end.0)?;
+            let told = written(&rt, rt.alloc(), row.0, "long.toml", b"")?;
+            let wanted = if end.1 { row.3 } else { row.4 };
+            assert_eq!(rt; told.as_str(), wanted, "{}", row.0);
         }
     }
     Ok(())
@@ -170,42 +165,18 @@ fn files_over_their_limit_are_told_unread(rt: HostRuntime) -> Result<(), Fail> {
 
 #[test]
 fn failed_reads_and_writes_are_told(rt: HostRuntime) -> Result<(), Fail> {
-    let alloc = rt.alloc();
     fs::write(&rt, "map.toml", MAP)?;
     fs::write(&rt, "site.toml", SITE)?;
-    let length = "ok esp32-sample 4 7\n".len();
-    for room in 0..length + 1 {
-        for flushes in [false, true] {
-            let output = Short { room, flushes };
-            let told = line_of_failure(
-                &rt,
-                alloc,
-                ("check-map", "map.toml"),
-                b"".as_slice(),
-                output,
-            )?;
-            let is_done = flushes && room == length;
-            let wanted = if is_done {
-                ""
-            } else {
-                "station: write failed\n"
-            };
-            assert_eq!(rt; told.as_str(), wanted, "{room}");
-        }
+    for room in 0..LINE_LENGTH + 1 {
+        let told = line_of_check(&rt, rt.alloc(), room, true)?;
+        let wanted = if room < LINE_LENGTH { WRITE_FAILED } else { "" };
+        assert_eq!(rt; told.as_str(), wanted, "{room}");
+        let told = line_of_check(&rt, rt.alloc(), room, false)?;
+        assert_eq!(rt; told.as_str(), WRITE_FAILED, "{room}");
     }
-    let broken = || Short {
-        room: 0,
-        flushes: true,
-    };
-    let told = line_of_failure(&rt, alloc, ("replay", "site.toml"), broken(), broken())?;
+    let told = line_of_replay(&rt, rt.alloc(), BROKEN)?;
     assert_eq!(rt; told.as_str(), "station: read failed\n");
-    let told = line_of_failure(
-        &rt,
-        alloc,
-        ("replay", "site.toml"),
-        ORDER.as_bytes(),
-        broken(),
-    )?;
-    assert_eq!(rt; told.as_str(), "station: write failed\n");
+    let told = line_of_replay(&rt, rt.alloc(), ORDER.as_bytes())?;
+    assert_eq!(rt; told.as_str(), WRITE_FAILED);
     Ok(())
 }
