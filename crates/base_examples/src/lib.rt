@@ -8,6 +8,8 @@ mod changes;
 #[cfg(test)]
 mod chips;
 #[cfg(test)]
+mod columns;
+#[cfg(test)]
 mod fuses;
 #[cfg(test)]
 mod json;

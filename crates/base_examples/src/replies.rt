@@ -1,68 +1,67 @@
 //! The bodies that show devices and their ledgers.
 
-ghost use Rattle.std.specs.Prelude.{◌<◌, IfSome};
-ghost use Rattle.fusemap_core.specs.Map.{IsSmall};
-
-use fuse_image::{Bits, Image, Keys};
-use fusemap_core::{Field, Pos};
+use crate::changes::changed;
+use crate::samples::MAP;
+use fuse_columns::{Work, encode_bits, encode_keys, encode_todo};
+use fuse_image::{Bits, Keys};
+use fusemap_core::{FuseMap, Pos, read_map};
 use office_commands::{device_body, ledger_body};
-use office_tables::{Device, DeviceState, Event, NewEntry, Outcome, Reason, Work};
+use office_tables::{Device, DeviceState, Event, NewEntry, Outcome, Reason};
 use std::alloc::Global;
 use std::test::Fail;
 use text_core::{Chip, Digest, Name, Serial};
 
-/// A field of a whole block.
-fn whole_block(name: &str, block: u8, key: bool) -> Option<Field>
-    requires { block < 4 }
-    ensures { IfSome result IsSmall }
-{
-    Some(Field {
-        name: Name::parse(name)?,
-        block,
-        bit: 0,
-        count: 256,
-        write: None,
-        read: None,
-        key,
-    })
+/// The sample map with another name of the key field of block 1, so that names don't stand in the
+/// order of blocks.
+fn named_map(alloc: Global) -> Option<FuseMap> {
+    let text = changed(alloc, MAP, "\"BLOCK1\"", "\"Z1\"")?;
+    read_map(alloc, text.as_str()).ok()
+}
+
+/// No work.
+fn no_work() -> Work {
+    Work {
+        first: Bits::empty(),
+        second: Bits::empty(),
+        keys: Keys::empty(),
+    }
 }
 
 /// A device of which nothing is burnt, with SHA-256 of `abc` as the digest of its map.
-fn blank_device() -> Option<Device> {
+fn blank_device(map: &FuseMap) -> Option<Device> {
     Some(Device {
         chip: Chip::parse("00000000000a")?,
         order: Name::parse("o1")?,
         map: Digest::of(b"abc"),
         state: DeviceState::Registered,
         reason: None,
-        burnt: Image::empty(),
-        pending: Work {
-            first: Bits::empty(),
-            second: Bits::empty(),
-            keys: Keys::empty(),
-        },
+        bits: encode_bits(map, &Bits::empty()),
+        keys: encode_keys(map, &Keys::empty()),
+        todo: encode_todo(map, &no_work()),
         serial: None,
     })
 }
 
 /// A device that is burnt in part and quarantined. The second word of its first batch begins where
 /// the first ends, and the key of block 3 belongs to no key field.
-fn quarantined_device(blank: Device) -> Device {
+fn quarantined_device(map: &FuseMap, blank: Device) -> Device {
     let bits = [Pos { block: 3, bit: 255 }, Pos { block: 0, bit: 1 }];
     let (abc, hello, test) = (
         Digest::of(b"abc"),
         Digest::of(b"hello"),
         Digest::of(b"test"),
     );
+    let work = Work {
+        first: Bits::empty().with_run(Pos { block: 0, bit: 30 }, 4),
+        second: Bits::empty().with_run(Pos { block: 0, bit: 7 }, 1),
+        keys: Keys::new([None, Some(hello), Some(test), Some(abc)]),
+    };
     Device {
         state: DeviceState::Quarantined,
         reason: Some(Reason::Stray),
-        burnt: Image::empty().with_bits(&bits).with_key(1, hello),
-        pending: Work {
-            first: Bits::empty().with_run(Pos { block: 0, bit: 30 }, 4),
-            second: Bits::empty().with_run(Pos { block: 0, bit: 7 }, 1),
-            keys: Keys::new([None, Some(hello), Some(test), Some(abc)]),
-        },
+        bits: encode_bits(map, &Bits::empty().with_bits(&bits)),
+        keys: encode_keys(map, &Keys::empty().with(1, hello)),
+        todo: encode_todo(map, &work),
         serial: Serial::parse("A-1"),
         ..blank
     }
@@ -78,18 +77,19 @@ const LEDGER: &str =
     r#"{"chip":"00000000000a","entries":[{"bits":[],"event":"registered","keys":{},"n":1,"note":"","seat":"a1"},{"bits":[],"event":"read","keys":{"Z1":"2cf24dba5fb0a30e26e83b2ac5b9e29e1b161e5c1fa7425e73043362938b9824"},"n":7,"note":"short","seat":"a1"},{"bits":[],"event":"identified","keys":{},"n":8,"note":"A-1","seat":"a1"}]}"#;
 
 /// Three entries of a device's ledger.
-fn entries(chip: Chip) -> Option<[NewEntry; 3]> {
+fn entries(map: &FuseMap, chip: Chip) -> Option<[NewEntry; 3]> {
     let registered = NewEntry {
         chip,
         number: 1,
         event: Event::Registered,
         seat: Name::parse("a1")?,
-        added: Image::empty(),
+        bits: encode_bits(map, &Bits::empty()),
+        keys: encode_keys(map, &Keys::empty()),
     };
     let read = NewEntry {
         number: 7,
         event: Event::Read(Outcome::Short),
-        added: Image::empty().with_key(1, Digest::of(b"hello")),
+        keys: encode_keys(map, &Keys::empty().with(1, Digest::of(b"hello"))),
         ..registered
     };
     let identified = NewEntry {
@@ -101,31 +101,27 @@ fn entries(chip: Chip) -> Option<[NewEntry; 3]> {
 }
 
 /// Whether a device is shown so.
-fn is_shown(alloc: Global, device: &Device, wanted: &str) -> Option<bool> {
-    let fields = [
-        whole_block("Z1", 1, true)?,
-        whole_block("BLOCK2", 2, true)?,
-        whole_block("PLAIN3", 3, false)?,
-    ];
-    let body = device_body(alloc, &fields, device).ok()?;
+fn is_shown(alloc: Global, map: &FuseMap, device: &Device, wanted: &str) -> Option<bool> {
+    let body = device_body(alloc, Some(map), device).ok()?;
     Some(body.as_str() == wanted)
 }
 
-/// Whether a ledger is shown so.
-fn is_ledger_shown(alloc: Global, wanted: &str) -> Option<bool> {
+/// Whether devices and a ledger are shown as they must be.
+fn are_shown(alloc: Global) -> Option<bool> {
+    let map = named_map(alloc)?;
+    let blank = blank_device(&map)?;
+    let quarantined = quarantined_device(&map, blank);
     let chip = Chip::parse("00000000000a")?;
-    let fields = [whole_block("Z1", 1, true)?];
-    let body = ledger_body(alloc, &fields, &chip, &entries(chip)?).ok()?;
-    Some(body.as_str() == wanted)
+    let ledger = ledger_body(alloc, Some(&map), &chip, &entries(&map, chip)?).ok()?;
+    Some(
+        is_shown(alloc, &map, &blank, BLANK)?
+            && is_shown(alloc, &map, &quarantined, QUARANTINED)?
+            && ledger.as_str() == LEDGER,
+    )
 }
 
 #[test]
 fn shows_devices_and_ledgers(rt: HostRuntime) -> Result<(), Fail> {
-    let alloc = rt.alloc();
-    let blank = blank_device().ok_or("no device")?;
-    let quarantined = quarantined_device(blank);
-    assert!(rt; is_shown(alloc, &blank, BLANK) == Some(true));
-    assert!(rt; is_shown(alloc, &quarantined, QUARANTINED) == Some(true));
-    assert!(rt; is_ledger_shown(alloc, LEDGER) == Some(true));
+    assert!(rt; are_shown(rt.alloc()) == Some(true));
     Ok(())
 }

@@ -1,3 +1,4 @@
+-- The lemmas of this crate.
 pub mod Sets
 pub mod BitSets
 pub mod Changed

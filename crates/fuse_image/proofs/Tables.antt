@@ -1,5 +1,5 @@
 -- Tables of four digests.
-use Rattle.std.proofs.Common.{◌≡◌, ℕ, ◌<◌, Bool, true, List, [], ◌∷◌, get_or, length, refl, sym, ap, ◌∙◌, arith, zero, suc, nat_cmp, inl, inr}
+use Rattle.std.proofs.Common.{◌≡◌, ℕ, ◌<◌, Bool, true, List, [], ◌∷◌, get_or, length, refl, sym, ap, ◌∙◌, arith, zero, suc, nat_cmp, inl, inr, subst}
 use Rattle.std.specs.Prelude.{Option, Some, None, IfSome, is_none, if◌then◌else◌, nat_lt, ◌==◌}
 use Rattle.std.specs.FinMap as map
 use Rattle.std.specs.FinMap.{nat_cmp-IsAntisymmetric}
@@ -7,7 +7,7 @@ use Rattle.std.specs.List.{list_all}
 use Rattle.std.specs.Cmp.{nat_cmp_total, unsigned_tied}
 use Rattle.std.proofs.lemmas.Bool.{cases_lt, lt-ltb, le-ltb, eqb-true, eq-eqb, ne_eqb, cond-true, cond-false, false≢true, and_parts, and_from}
 use Rattle.std.proofs.lemmas.List.{get_or_default}
-use Rattle.fuse_image.specs.Keys.{KeyTable, table, table_where, get-table_where, has_no_key, AreAmong, AreDigests, AreEachAmong}
+use Rattle.fuse_image.specs.Keys.{KeyTable, table, table_where, get-table_where, has_no_key, AreAmong, AreDigests, AreEachAmong, HoldsDigests}
 use Rattle.fuse_image.specs.Places.{same_bool}
 
 -- a table at one of the 4 blocks, and past them
@@ -111,3 +111,19 @@ AreAmong-from_each digests others each b = elim (cases_lt b 4) as (λ _. IfSome 
 
 pub each_among-from_tables : (digests others : List (Option (List ℕ))) → AreAmong (table digests) (table others) → AreEachAmong digests others 4
 each_among-from_tables digests others among b low = rw (get_table digests b low, get_table others b low) (among b)
+
+-- a table of four digests holds digests where each of them has 32 bytes
+abbrev IsDigest : Option (List ℕ) → Type 0
+IsDigest d = IfSome d (λ digest. length digest ≡ 32)
+
+at_block : (digests : List (Option (List ℕ))) (b : ℕ) (x : Option (List ℕ)) → b < 4 → AreDigests digests → IsDigest (get_or digests b x) → IsDigest (map.get (table digests) b)
+at_block digests b x low four is =
+    rw (get_within (λ k. get_or digests k None) b low) (subst IsDigest (get_or_default digests b x None (omega (arith, low, four))) is)
+
+pub HoldsDigests-from_four : (digests : List (Option (List ℕ))) (x0 x1 x2 x3 : Option (List ℕ)) → AreDigests digests
+    → IsDigest (get_or digests 0 x0) → IsDigest (get_or digests 1 x1) → IsDigest (get_or digests 2 x2) → IsDigest (get_or digests 3 x3) → HoldsDigests (table digests)
+HoldsDigests-from_four digests x0 x1 x2 x3 four d0 d1 d2 d3 zero = at_block digests 0 x0 (omega arith) four d0
+HoldsDigests-from_four digests x0 x1 x2 x3 four d0 d1 d2 d3 (suc zero) = at_block digests 1 x1 (omega arith) four d1
+HoldsDigests-from_four digests x0 x1 x2 x3 four d0 d1 d2 d3 (suc (suc zero)) = at_block digests 2 x2 (omega arith) four d2
+HoldsDigests-from_four digests x0 x1 x2 x3 four d0 d1 d2 d3 (suc (suc (suc zero))) = at_block digests 3 x3 (omega arith) four d3
+HoldsDigests-from_four digests x0 x1 x2 x3 four d0 d1 d2 d3 (suc (suc (suc (suc b)))) = rw (get_past (λ k. get_or digests k None) (suc (suc (suc (suc b)))) (λ low. omega (arith, low))) tt

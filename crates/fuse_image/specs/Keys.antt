@@ -40,6 +40,10 @@ without keys others = table_where (λ b. if is_some (map.get others b) then None
 abbrev pub AreAmong : KeyTable → KeyTable → Type 0
 AreAmong keys others = (b : ℕ) → IfSome (map.get keys b) (λ d. map.get others b ≡ Some d)
 
+-- each key of the table is a digest of 32 bytes
+abbrev pub HoldsDigests : KeyTable → Type 0
+HoldsDigests t = (b : ℕ) → IfSome (map.get t b) (λ digest. length digest ≡ 32)
+
 -- the table of four digests, and the four digests of a table
 abbrev pub table : List (Option (List ℕ)) → KeyTable
 table digests = table_where (λ b. slice_index_or digests b None)

@@ -1,4 +1,4 @@
-pub mod InPlace
+-- What the contracts of this crate are made of.
 pub mod Blocks
 pub mod BlocksAgain
 pub mod Places

@@ -17,7 +17,7 @@ pub record AreWords (words : List ℕ) : Type 0 where
   pub small : (word : ℕ) → slice_index words word < 2 ^ 32
 
 -- tests that agree below n give one number
-same_number : (f g : ℕ → Bool) (n : ℕ) → ((m : ℕ) → m < n → f m ≡ g m) → number_with f n ≡ number_with g n
+pub same_number : (f g : ℕ → Bool) (n : ℕ) → ((m : ℕ) → m < n → f m ≡ g m) → number_with f n ≡ number_with g n
 unfolding number_with
 same_number f g zero agree = refl
 same_number f g (suc n) agree =

@@ -1,3 +1,4 @@
+// Sets of fuse positions, as packed words.
 ghost use Rattle.std.specs.Prelude.{◌≡◌, ◌<◌, ◌≤◌, ◌+◌, ◌*◌, ◌/◌, ◌↔◌, true, ℕ, All, IsTrue, length, slice_index, bit_and, bit_or};
 ghost use Rattle.std.specs.Int.{bit_not, w32};
 ghost use Rattle.std.specs.FinSet as set;

@@ -1,3 +1,4 @@
+// Words of blocks that lie in place.
 ghost use Rattle.std.specs.Prelude.{◌≡◌, ◌<◌, ◌≤◌, [], ◌∷◌, ◌++◌, length};
 
 use std::marker::Model;
@@ -17,7 +18,7 @@ pub(crate) struct Block {
 
 impl Model for Block {
     ghost use Rattle.std.specs.Prelude.{List, ℕ, take, length, ◌++◌, ◌-◌, replicate};
-    ghost use Rattle.fuse_image.specs.InPlace.{AreAtFront};
+    ghost use Rattle.text_core.specs.InPlace.{AreAtFront};
 
     ghost Value = { List ℕ };
 
@@ -59,7 +60,7 @@ pub(crate) struct Blocks {
 
 impl Model for Blocks {
     ghost use Rattle.std.specs.Prelude.{List, ℕ, [], take, length, ◌++◌, ◌-◌, replicate};
-    ghost use Rattle.fuse_image.specs.InPlace.{AreAtFront};
+    ghost use Rattle.text_core.specs.InPlace.{AreAtFront};
 
     ghost Value = { List (List ℕ) };
 

@@ -1,3 +1,4 @@
+// What is burnt in a chip: its positions and its keys.
 ghost use Rattle.std.specs.Prelude.{◌≡◌, ◌<◌, ◌↔◌, All, IsTrue, None, not, if◌then◌else◌};
 ghost use Rattle.std.specs.FinMap as table;
 ghost use Rattle.std.specs.FinSet as set;

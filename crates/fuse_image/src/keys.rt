@@ -1,8 +1,9 @@
-ghost use Rattle.std.specs.Prelude.{◌≡◌, ◌<◌, ◌↔◌, IsTrue, IfSome, Some, None, is_some, is_none, if◌then◌else◌};
+// Tables of the digests of keys, by block.
+ghost use Rattle.std.specs.Prelude.{◌≡◌, ◌<◌, ◌↔◌, IsTrue, IfSome, Some, None, is_some, is_none, length, if◌then◌else◌};
 ghost use Rattle.std.specs.FinMap as map;
 ghost use Rattle.std.specs.List.{list_all};
 ghost use Rattle.std.specs.Option.{option_or};
-ghost use Rattle.fuse_image.specs.Keys.{AreAmong, AreDigests, AreEachAmong, has_no_key, joined, table, without};
+ghost use Rattle.fuse_image.specs.Keys.{AreAmong, AreDigests, AreEachAmong, HoldsDigests, has_no_key, joined, table, without};
 
 use std::marker::Model;
 use text_core::Digest;
@@ -114,6 +115,24 @@ impl Keys {
         ensures { IsTrue result ↔ AreAmong self.now other.now }
     {
         are_among(&self.digests, &other.digests)
+    }
+
+    /// Each digest has 32 bytes.
+    pub fn known(&self)
+        ensures { HoldsDigests self.now }
+    {
+        known_digest(self.digests[0]);
+        known_digest(self.digests[1]);
+        known_digest(self.digests[2]);
+        known_digest(self.digests[3]);
+    }
+}
+
+fn known_digest(digest: Option<Digest>)
+    ensures { IfSome digest (λ bytes. length bytes ≡ 32) }
+{
+    if let Some(digest) = digest {
+        let _bytes = digest.as_bytes();
     }
 }
 

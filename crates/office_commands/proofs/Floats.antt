@@ -6,15 +6,18 @@ use Rattle.std.specs.Ordering.{match_ordering}
 use Rattle.serde_json.specs.Data.{Data, Members, no_members, member, put}
 use Rattle.serde_json.specs.Written.{has_float, items_have_float, members_have_float}
 use Rattle.fusemap_core.specs.declared.field.Field.{Field}
+use Rattle.fusemap_core.specs.Map.{Map}
+use Rattle.fuse_image.specs.declared.image.Image.{Image}
 use Rattle.fuse_image.specs.Keys.{KeyTable}
 use Rattle.fuse_image.specs.Places.{Positions}
 use Rattle.fuse_image.specs.Words.{words_of}
+use Rattle.fuse_columns.specs.declared.todo.Work.{Work}
 use Rattle.office_tables.specs.declared.rows.Device.{Device}
 use Rattle.office_tables.specs.declared.rows.NewEntry.{NewEntry}
 use Rattle.office_tables.specs.declared.rows.Reason.{Reason}
 use Rattle.office_tables.specs.declared.rows.Reason.TheVariants.{Lost, Stray, Key}
 use Rattle.office_commands.specs.Replies.{text_data}
-use Rattle.office_commands.specs.DeviceReplies.{items_of, word_data, word_list, bits_data, key_at, with_digest, with_keys, keys_data, work_data, reason_data, device_data, entry_data, ledger_data}
+use Rattle.office_commands.specs.DeviceReplies.{items_of, word_data, word_list, bits_data, key_at, with_digest, with_keys, keys_data, work_data, reason_data, device_data, entry_by, entry_data, fields_of, image_by, ledger_data}
 
 in_words_shown : (is_zero : Bool) (d : Data) (ds : List Data) → has_float d ≡ false → items_have_float (items_of ds) ≡ false → items_have_float (items_of (if is_zero then ds else d ∷ ds)) ≡ false
 in_words_shown true d ds first others = others
@@ -63,19 +66,19 @@ in_text : (text : Option (List ℕ)) → has_float (text_data text) ≡ false
 in_text None = refl
 in_text (Some text) = refl
 
-pub in_device : (fields : List Field) (d : Device) → has_float (device_data fields d) ≡ false
-in_device fields d =
-    or_from _ _ (in_bits d.burnt.burnt)
-    (or_from _ _ (in_keys fields d.burnt.keys)
-    (or_from _ _ (or_from _ _ (in_work fields d.pending.first d.pending.keys) (or_from _ _ (in_work fields d.pending.second table.empty) refl))
+pub in_device : (fields : List Field) (burnt : Image) (pending : Work) (d : Device) → has_float (device_data fields burnt pending d) ≡ false
+in_device fields burnt pending d =
+    or_from _ _ (in_bits burnt.burnt)
+    (or_from _ _ (in_keys fields burnt.keys)
+    (or_from _ _ (or_from _ _ (in_work fields pending.first pending.keys) (or_from _ _ (in_work fields pending.second table.empty) refl))
     (or_from _ _ (in_reason d.reason) (or_from _ _ (in_text d.serial) refl))))
 
-in_entry : (fields : List Field) (e : NewEntry) → has_float (entry_data fields e) ≡ false
-in_entry fields e = or_from _ _ (in_bits e.added.burnt) (or_from _ _ (in_keys fields e.added.keys) refl)
+in_entry : (fields : List Field) (added : Image) (e : NewEntry) → has_float (entry_data fields added e) ≡ false
+in_entry fields added e = or_from _ _ (in_bits added.burnt) (or_from _ _ (in_keys fields added.keys) refl)
 
-in_entries : (fields : List Field) (entries : List NewEntry) → items_have_float (items_of (map (entry_data fields) entries)) ≡ false
-in_entries fields [] = refl
-in_entries fields (e ∷ es) = or_from _ _ (in_entry fields e) (in_entries fields es)
+in_entries : (m : Option Map) (entries : List NewEntry) → items_have_float (items_of (map (entry_by m) entries)) ≡ false
+in_entries m [] = refl
+in_entries m (e ∷ es) = or_from _ _ (in_entry (fields_of m) (image_by m e.bits e.keys) e) (in_entries m es)
 
-pub in_ledger : (fields : List Field) (chip : List ℕ) (entries : List NewEntry) → has_float (ledger_data fields chip entries) ≡ false
-in_ledger fields chip entries = or_from _ _ (in_entries fields entries) refl
+pub in_ledger : (m : Option Map) (chip : List ℕ) (entries : List NewEntry) → has_float (ledger_data m chip entries) ≡ false
+in_ledger m chip entries = or_from _ _ (in_entries m entries) refl

@@ -1,3 +1,4 @@
+-- What the contracts of this crate are made of.
 pub mod NewOrders
 pub mod Asked
 pub mod Refusals

@@ -1,3 +1,5 @@
+-- The lemmas of this crate.
+pub mod InFront
 pub mod Lists
 pub mod Padding
 pub mod Shorts

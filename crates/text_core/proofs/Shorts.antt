@@ -10,8 +10,10 @@ pub IsShortText-copied : (text : List ℕ) → IsUtf8 text → length text ≤ 6
 IsShortText-copied text utf8 low =
     let zeros : drop (length text) (replicate 64 0) ≡ replicate (64 - length text) 0 = drop-replicate (length text) 64 0 in
     record {
-      room = rw (length-append, zeros, length-replicate) (omega arith);
-      within = low;
+      front = record {
+        room = rw (length-append, zeros, length-replicate) (omega arith);
+        within = low;
+        blanks = drop-append_seam text (drop (length text) (replicate 64 0)) ∙ zeros;
+      };
       is_text = rw take-append_seam (is_utf8-from_IsUtf8 text utf8);
-      zeros = drop-append_seam text (drop (length text) (replicate 64 0)) ∙ zeros;
     }

@@ -1,6 +1,9 @@
+-- What the contracts of this crate are made of.
 pub mod Answer
 pub mod Chip
+pub mod Column
 pub mod Digest
+pub mod InFront
 pub mod InPlace
 pub mod Name
 pub mod Options
@@ -8,3 +11,4 @@ pub mod Padding
 pub mod Prefix
 pub mod Serial
 pub mod ShortText
+pub mod ShortTextAgain

@@ -1,3 +1,4 @@
+// The identifiers of chips.
 ghost use Rattle.std.specs.Prelude.{◌≡◌, true, Some};
 ghost use Rattle.std.specs.List.{list_all};
 ghost use Rattle.text_core.specs.Chip.{chip_of_text, is_chip, is_lower_hex_digit};

@@ -1,3 +1,4 @@
+// SHA-256 digests.
 ghost use Rattle.std.specs.Prelude.{◌≡◌, Some};
 ghost use Rattle.hex.specs.Hex.{encode_lower};
 ghost use Rattle.sha2.specs.Sha256.{sha256};

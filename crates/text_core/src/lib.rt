@@ -1,7 +1,8 @@
-//! Small texts and values in place, which every crate above names.
+//! Small texts, columns of bytes and values in place, which every crate above names.
 #![tactic(auto)]
 
 mod chip;
+mod column;
 mod digest;
 mod name;
 mod prefix;
@@ -11,6 +12,7 @@ mod text;
 mod whole;
 
 pub use chip::{Chip, are_lower_hex_digits};
+pub use column::{BitsColumn, Column, KeysColumn, TodoColumn};
 pub use digest::Digest;
 pub use name::Name;
 pub use prefix::Prefix;

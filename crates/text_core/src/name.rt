@@ -1,3 +1,4 @@
+// Names.
 ghost use Rattle.std.specs.Prelude.{◌≡◌, true, Some};
 ghost use Rattle.std.specs.List.{list_all};
 ghost use Rattle.text_core.specs.Name.{is_name, is_name_byte, name_of_text};

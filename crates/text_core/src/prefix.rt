@@ -1,3 +1,4 @@
+// What serial numbers begin with.
 ghost use Rattle.std.specs.Prelude.{◌≡◌, true, Some};
 ghost use Rattle.text_core.specs.Prefix.{is_prefix, prefix_of_text};
 

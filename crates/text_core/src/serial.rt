@@ -1,3 +1,4 @@
+// Serial numbers.
 ghost use Rattle.std.specs.Prelude.{◌≡◌, true, Some};
 ghost use Rattle.std.specs.List.{list_all};
 ghost use Rattle.text_core.specs.Serial.{is_serial, is_serial_byte, serial_of_text};

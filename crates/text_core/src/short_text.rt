@@ -1,3 +1,4 @@
+// Short texts that lie in place.
 ghost use Rattle.std.specs.Prelude.{◌≡◌, ◌≤◌, length, Some, nat_eq, refl};
 ghost use Rattle.std.specs.Cmp.{partial_equiv_from_equiv};
 ghost use Rattle.std.specs.Cmp.Lexicographic.{pointwise, slice_cmp, nat_list_cmp_total, nat_list_eq_equiv, texts_po, texts_ties};
@@ -21,7 +22,7 @@ impl Model for ShortText {
 
     ghost Value = { List ℕ };
 
-    ghost use Rattle.text_core.specs.InPlace.{padded-take};
+    ghost use Rattle.text_core.specs.ShortTextAgain.{padded-take};
 
     ghost view = { λ t. take t.len t.bytes };
 

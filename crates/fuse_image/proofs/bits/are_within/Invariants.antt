@@ -1,3 +1,4 @@
+-- What the loops of `bits::are_within` keep.
 use Rattle.std.proofs.Common.{◌≡◌, ◌<◌, ℕ, get_or, bit_and}
 use Rattle.std.specs.Int.{bit_not, w32}
 use Rattle.fuse_image.proofs.bits.are_within.Given as goal

@@ -1,3 +1,4 @@
+-- What the loops of `bits::joined` keep.
 use Rattle.std.proofs.Common.{get_or, bit_or}
 use Rattle.fuse_image.proofs.Changed.{AreChanged}
 use Rattle.fuse_image.proofs.bits.joined.Given as goal

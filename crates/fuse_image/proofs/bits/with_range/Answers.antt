@@ -1,3 +1,4 @@
+-- Why `bits::with_range` meets its contract, where that has to be said.
 use Rattle.std.proofs.Common.{◌≡◌, ℕ, ◌*◌, ◌≤◌, get_or, bit_or, sym, ap, ap₂, ◌∙◌, inl, inr, arith}
 use Rattle.std.specs.Int.Bits.{or_zero_r}
 use Rattle.std.proofs.lemmas.Bool.{cases_lt}

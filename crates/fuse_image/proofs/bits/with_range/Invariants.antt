@@ -1,3 +1,4 @@
+-- What the loops of `bits::with_range` keep.
 use Rattle.std.proofs.Common.{bit_or}
 use Rattle.fuse_image.specs.Masks.{mask_of}
 use Rattle.fuse_image.proofs.Changed.{AreChanged}

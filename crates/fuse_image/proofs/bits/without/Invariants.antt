@@ -1,3 +1,4 @@
+-- What the loops of `bits::without` keep.
 use Rattle.std.proofs.Common.{get_or, bit_and}
 use Rattle.std.specs.Int.{bit_not, w32}
 use Rattle.fuse_image.proofs.Changed.{AreChanged}

@@ -1,3 +1,4 @@
+-- Why `image::visible_bits` meets its contract, where that has to be said.
 use Rattle.std.proofs.Common.{ap, ◌∙◌}
 use Rattle.std.specs.FinSet as set
 use Rattle.fuse_image.specs.Locks.{is_hidden}

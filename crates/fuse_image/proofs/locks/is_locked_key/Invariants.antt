@@ -1,3 +1,4 @@
+-- What the loops of `locks::is_locked_key` keep.
 use Rattle.std.proofs.Common.{◌≡◌, ◌&&◌, Bool, drop}
 use Rattle.std.specs.Prelude.{◌==◌}
 use Rattle.std.specs.List.{list_any}

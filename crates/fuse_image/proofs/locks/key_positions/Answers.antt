@@ -1,3 +1,4 @@
+-- Why `locks::key_positions` meets its contract, where that has to be said.
 use Rattle.std.proofs.Common.{Bool, ap₂, ◌∙◌}
 use Rattle.std.specs.FinSet as set
 use Rattle.fusemap_core.specs.declared.field.Field.{Field}

@@ -1,3 +1,4 @@
+-- Why `locks::locked_positions` meets its contract, where that has to be said.
 use Rattle.std.proofs.Common.{◌≡◌, Bool, sym, ap, ap₂, ◌∙◌}
 use Rattle.std.specs.FinSet as set
 use Rattle.std.proofs.lemmas.List.{take_all}

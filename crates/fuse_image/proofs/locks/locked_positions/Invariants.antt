@@ -1,3 +1,4 @@
+-- What the loops of `locks::locked_positions` keep.
 use Rattle.std.proofs.Common.{◌≡◌, take}
 use Rattle.fuse_image.specs.Locks.{has_burnt_lock, positions_in}
 use Rattle.fuse_image.proofs.locks.locked_positions.Given as goal

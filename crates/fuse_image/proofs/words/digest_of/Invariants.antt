@@ -1,3 +1,4 @@
+-- What the loops of `words::digest_of` keep.
 use Rattle.std.proofs.Common.{take}
 use Rattle.std.specs.Int.{to_le_bytes, w32}
 use Rattle.std.specs.List.{flat_map}

@@ -1,3 +1,4 @@
+-- What the loops of `words::have_words` keep.
 use Rattle.std.proofs.Common.{◌≡◌, map, drop}
 use Rattle.std.specs.List.{list_all}
 use Rattle.fuse_image.specs.Blocks.{is_block}

@@ -1,3 +1,4 @@
+-- Why `bits::Bits::is_within` meets its contract, where that has to be said.
 use Rattle.std.proofs.Common.{ap₂, ◌∙◌}
 use Rattle.std.specs.FinSet as set
 use Rattle.fuse_image.proofs.BitSets.{is_subset-words}

@@ -1,3 +1,4 @@
+-- Why `bits::Bits::known` meets its contract, where that has to be said.
 use Rattle.std.proofs.Common.{ap, ◌∙◌}
 use Rattle.std.specs.FinSet as set
 use Rattle.fuse_image.specs.Places.{Positions}

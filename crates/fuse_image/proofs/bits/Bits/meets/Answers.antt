@@ -1,3 +1,4 @@
+-- Why `bits::Bits::meets` meets its contract, where that has to be said.
 use Rattle.std.proofs.Common.{ap₂, ◌∙◌}
 use Rattle.fuse_image.specs.Places.{meets}
 use Rattle.fuse_image.proofs.BitSets.{meets-words}

@@ -1,3 +1,4 @@
+-- Why `bits::Bits::to_words` meets its contract, where that has to be said.
 use Rattle.std.proofs.Common.{sym, ap, ◌∙◌}
 use Rattle.fuse_image.specs.Words.{words_of}
 use Rattle.fuse_image.specs.WordsAgain.{words_again}

@@ -1,3 +1,4 @@
+-- Why `bits::Bits::with_bits` meets its contract, where that has to be said.
 use Rattle.std.proofs.Common.{get_or, ap, ◌∙◌}
 use Rattle.std.specs.FinSet as set
 use Rattle.fusemap_core.specs.declared.pos.Pos.{Pos}

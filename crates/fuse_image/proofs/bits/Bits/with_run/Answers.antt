@@ -1,3 +1,4 @@
+-- Why `bits::Bits::with_run` meets its contract, where that has to be said.
 use Rattle.std.proofs.Common.{ℕ, ◌+◌, ◌*◌, get_or, bit_or, ap, ◌∙◌}
 use Rattle.std.specs.FinSet as set
 use Rattle.fuse_image.specs.Masks.{mask_of}

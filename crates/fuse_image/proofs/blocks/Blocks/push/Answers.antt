@@ -1,3 +1,4 @@
+-- Why `blocks::Blocks::push` meets its contract, where that has to be said.
 use Rattle.std.proofs.Common.{◌<◌, [], length, ap, arith}
 use Rattle.std.proofs.lemmas.List.{length-take-le}
 use Rattle.fuse_image.proofs.InFront.{one_more_at_front}

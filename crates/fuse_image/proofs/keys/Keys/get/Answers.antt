@@ -1,3 +1,4 @@
+-- Why `keys::Keys::get` meets its contract, where that has to be said.
 use Rattle.std.proofs.Common.{ℕ, get_or, ap, ◌∙◌, arith}
 use Rattle.std.specs.Prelude.{None}
 use Rattle.std.specs.FinMap as map

@@ -1,3 +1,4 @@
+-- Why `keys::Keys::minus` meets its contract, where that has to be said.
 use Rattle.std.proofs.Common.{List, ℕ, ap₂, ◌∙◌}
 use Rattle.std.specs.Prelude.{Option, None, is_some, if◌then◌else◌}
 use Rattle.std.specs.FinMap as map

@@ -1,3 +1,4 @@
+-- Why `keys::Keys::with` meets its contract, where that has to be said.
 use Rattle.std.proofs.Common.{◌≡◌, ℕ, List, [], ◌∷◌, get_or, ap, ◌∙◌, arith}
 use Rattle.std.specs.Prelude.{Option, Some, None, ◌==◌, if◌then◌else◌}
 use Rattle.std.specs.FinMap as map

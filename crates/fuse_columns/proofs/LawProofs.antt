@@ -1,0 +1,55 @@
+-- The laws of columns, by the lemmas of their parts.
+use Rattle.std.proofs.Common.{[], sym, ap, ◌∙◌}
+use Rattle.std.proofs.lemmas.List.{append-nil}
+use Rattle.fuse_columns.specs.BitsColumns.{bits_column, bits_in}
+use Rattle.fuse_columns.specs.Laws.{PlainBitsComeBack, BitsComeBack, KeysComeBack, ImageComesBack, WorkComesBack, BitsLieInMap, KeysLieInMap, WorkLiesInMap, BitsHaveLength, KeysHaveLength, WorkHasLength, BitsBytesComeBack, KeyBytesComeBack, WorkBytesComeBack}
+use Rattle.fuse_columns.proofs.BytesBack.{bytes_back}
+use Rattle.fuse_columns.proofs.WorkBytesBack.{key_bytes_back, work_bytes_back}
+use Rattle.fuse_columns.proofs.KeyBytes.{AreKeysOf-keys_in}
+use Rattle.fuse_columns.proofs.SetBytes.{AreBits-bits_in, bits_back, length-bits_column}
+use Rattle.fuse_columns.proofs.WorkBytes.{IsWork-work_in, bits_return_whole, keys_return_whole, work_returns, length-keys_column, length-todo_column}
+
+pub plain_bits_come_back : PlainBitsComeBack
+plain_bits_come_back m is s = ap (bits_in m) (sym (append-nil (bits_column m s))) ∙ bits_back m is s []
+
+pub bits_come_back : BitsComeBack
+bits_come_back m is s bits = bits_return_whole m is s bits
+
+pub keys_come_back : KeysComeBack
+keys_come_back m t lies = keys_return_whole m t lies
+
+pub image_comes_back : ImageComesBack
+image_comes_back m is image bits keys =
+    let burnt = bits_return_whole m is image.burnt bits in
+    let table = keys_return_whole m image.keys keys in
+    λ i. record { burnt = burnt i; keys = table i }
+
+pub work_comes_back : WorkComesBack
+work_comes_back m is work lies = work_returns m is work lies
+
+pub bits_lie_in_map : BitsLieInMap
+bits_lie_in_map m bytes = AreBits-bits_in m bytes
+
+pub keys_lie_in_map : KeysLieInMap
+keys_lie_in_map m bytes = AreKeysOf-keys_in m bytes
+
+pub work_lies_in_map : WorkLiesInMap
+work_lies_in_map m bytes = IsWork-work_in m bytes
+
+pub bits_have_length : BitsHaveLength
+bits_have_length m s = length-bits_column m s
+
+pub keys_have_length : KeysHaveLength
+keys_have_length m t digests = length-keys_column m t digests
+
+pub work_has_length : WorkHasLength
+work_has_length m work digests = length-todo_column m work digests
+
+pub bits_bytes_come_back : BitsBytesComeBack
+bits_bytes_come_back m is bytes column = bytes_back m is bytes column
+
+pub key_bytes_come_back : KeyBytesComeBack
+key_bytes_come_back m is bytes keys = key_bytes_back m is bytes keys
+
+pub work_bytes_come_back : WorkBytesComeBack
+work_bytes_come_back m is bytes column = work_bytes_back m is bytes column

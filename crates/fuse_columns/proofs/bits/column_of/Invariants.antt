@@ -1,0 +1,10 @@
+-- What the loops of `bits::column_of` keep.
+use Rattle.std.proofs.Common.{◌≡◌, ◌≤◌, ◌*◌, length}
+use Rattle.fuse_columns.specs.Words.{bytes_of_blocks}
+use Rattle.fuse_columns.proofs.bits.column_of.Given as goal
+
+abbrev pub invariant-loop-block : goal.invariant-loop-block
+invariant-loop-block l = record {
+  value : l.column ≡ bytes_of_blocks l.words l.blocks l.block;
+  few : length l.column ≤ 32 * l.block;
+}

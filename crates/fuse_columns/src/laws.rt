@@ -1,0 +1,55 @@
+// What holds of columns and of what they stand for.
+ghost use Rattle.std.specs.Prelude.{ℕ};
+ghost use Rattle.fusemap_core.specs.Map.{IsMap, Map};
+ghost use Rattle.fuse_columns.specs.Zeros.{NothingIsZeros, ZerosAreNothing};
+ghost use Rattle.fuse_columns.specs.Lying.{ReadBacksLie, SetsStay, TablesStay};
+ghost use Rattle.fuse_columns.specs.Laws.{PlainBitsComeBack, BitsComeBack, KeysComeBack, ImageComesBack, WorkComesBack, BitsLieInMap, KeysLieInMap, WorkLiesInMap, BitsHaveLength, KeysHaveLength, WorkHasLength, BitsBytesComeBack, KeyBytesComeBack, WorkBytesComeBack};
+
+/// What was made a column comes back from it as it was: sets of positions of the map outside key
+/// fields, keys at its key fields, and an image and work made of both. Of any other set such positions
+/// come back.
+pub fn come_back()
+    ensures plain { PlainBitsComeBack }
+    ensures bits { BitsComeBack }
+    ensures keys { KeysComeBack }
+    ensures image { ImageComesBack }
+    ensures work { WorkComesBack }
+{}
+
+/// Whatever the bytes of a column are, what they stand for lies in the map: its bits outside key
+/// fields, its keys at key fields.
+pub fn lie_in_map()
+    ensures bits { BitsLieInMap }
+    ensures keys { KeysLieInMap }
+    ensures work { WorkLiesInMap }
+{}
+
+/// Columns are as long as the map says.
+pub fn have_lengths()
+    ensures bits { BitsHaveLength }
+    ensures keys { KeysHaveLength }
+    ensures work { WorkHasLength }
+{}
+
+/// Bytes of the form that the map asks for come back from what they stand for: so no two such
+/// columns stand for the same. Bits are as long as the map says, with zeros for key blocks; a key is
+/// 33 zeros, or 1 and a digest.
+pub fn bytes_come_back()
+    ensures bits { BitsBytesComeBack }
+    ensures keys { KeyBytesComeBack }
+    ensures work { WorkBytesComeBack }
+{}
+
+/// What lies in a map stays in it: two sets or tables together, and what is left of one. What a
+/// chip of the map's shape shows lies in it too.
+pub fn stay_in_map()
+    ensures sets { (m : Map) → SetsStay m }
+    ensures tables { (m : Map) → TablesStay m }
+    ensures readbacks { ReadBacksLie }
+{}
+
+/// Zeros stand for nothing, however many they are, and nothing is as many zeros as the map says.
+pub fn zeros_are_nothing()
+    ensures zeros { (m : Map) (count : ℕ) → ZerosAreNothing m count }
+    ensures nothing { (m : Map) → IsMap m → NothingIsZeros m }
+{}

@@ -1,0 +1,68 @@
+// Pending work as bytes, and back.
+ghost use Rattle.std.specs.Prelude.{◌≡◌, ◌+◌, length};
+ghost use Rattle.fuse_columns.specs.BitsColumns.{bits_length};
+ghost use Rattle.fuse_columns.specs.KeysColumns.{keys_length};
+ghost use Rattle.fuse_columns.specs.TodoColumns.{IsWork, todo_column, work_in};
+
+use crate::bits::{encode_bits, read_bits};
+use crate::keys::{after, encode_keys, read_keys};
+use fuse_image::{Bits, Keys};
+use fusemap_core::FuseMap;
+use text_core::TodoColumn;
+
+/// What is still to be burnt: bits in two batches, and keys in the first.
+#[derive(Clone, Copy)]
+pub struct Work {
+    /// The bits of the first batch.
+    pub first: Bits,
+    /// The bits of the second batch.
+    pub second: Bits,
+    /// The digests of the keys of the first batch.
+    pub keys: Keys,
+}
+
+/// The bits of batch 1, the bits of batch 2 and the keys of batch 1 as bytes, each in the form that it
+/// has in a column of its own.
+pub fn encode_todo(map: &FuseMap, work: &Work) -> TodoColumn
+    ensures same { result ≡ todo_column map.now work.now }
+    ensures length { length result
+        ≡ bits_length map.now + (bits_length map.now + keys_length map.now) }
+{
+    let first = encode_bits(map, &work.first);
+    let second = encode_bits(map, &work.second);
+    let keys = encode_keys(map, &work.keys);
+    let mut column = TodoColumn::empty();
+    column.append(first.as_bytes());
+    column.append(second.as_bytes());
+    column.append(keys.as_bytes());
+    column
+}
+
+/// The work that the bytes stand for, whatever they are: bits of the map's blocks outside key fields,
+/// and keys at its key fields.
+pub fn decode_todo(map: &FuseMap, column: &TodoColumn) -> Work
+    ensures same { result ≡ work_in map.now column.now }
+    ensures work { IsWork map.now result }
+{
+    let length = bits_length(map);
+    let first = column.as_bytes();
+    let second = after(first, length);
+    let keys = after(second, length);
+    Work {
+        first: read_bits(map, first),
+        second: read_bits(map, second),
+        keys: read_keys(map, keys),
+    }
+}
+
+/// How many bytes the map's blocks have.
+fn bits_length(map: &FuseMap) -> usize
+    ensures { result ≡ bits_length map.now }
+{
+    let blocks = map.blocks();
+    let mut words = 0;
+    for count in blocks {
+        words += usize::from(*count);
+    }
+    4 * words
+}
