@@ -1,4 +1,5 @@
-ghost use Rattle.std.specs.Prelude.{◌≡◌, ◌≢◌, IfErr, IfOk, map, option_map};
+// The text of a fuse map.
+ghost use Rattle.std.specs.Prelude.{◌≡◌, ◌≢◌, ◌<◌, IfErr, IfOk, length, map, option_map};
 ghost use Rattle.toml.specs.View.{view};
 ghost use Rattle.text_core.specs.Answer.{GivesUnless};
 ghost use Rattle.text_core.specs.Options.{all_of};
@@ -29,7 +30,7 @@ const LARGEST_INTEGER: u64 = 9223372036854775807;
 /// each with its `name`, `block`, `bit` (0 or more) and `count` (1 or more), and, where it has them,
 /// the numbers of its locks, `write` and `read` (0 or more), and `key`, which is true for a key
 /// field. Blocks are numbered from 0 in the text's order. Other members are ignored.
-/// `MapFault::OutOfMemory` where memory ran out, whatever the text.
+/// `MapFault::OutOfMemory` where memory ran out, whatever the text up to its limit.
 pub fn read_map(alloc: Global, text: &str) -> Result<FuseMap, MapFault>
     ensures exact { GivesUnless MapFault.OutOfMemory result (map_read text.now) }
     ensures valid { IfOk result (IsMapText text.now) }
@@ -37,6 +38,9 @@ pub fn read_map(alloc: Global, text: &str) -> Result<FuseMap, MapFault>
     // No map is the text's where a fault other than want of memory is told.
     ensures refused { IfErr result (λ fault. fault ≢ MapFault.OutOfMemory
         → (map : Map) → ¬ IsMapText text.now map) }
+
+    // A text over its limit takes no memory.
+    ensures too_long { TEXT_LIMIT < length text.now → result ≡ Err MapFault.BadMember }
 {
     if TEXT_LIMIT < text.len() {
         return Err(MapFault::BadMember);

@@ -158,6 +158,7 @@ pub fn serve_stream<S, V: Service<S>, R: Source, W: Drain>(
     ensures read_faults { R.failures reader.new ≡ R.failures reader.old + read_faults (Some result) }
     ensures write_faults { W.failures writer.new ≡ W.failures writer.old + write_faults (Some result) }
     ensures no_memory { result ≡ Served.NoMemory → (R.calls reader.new ≡ R.calls reader.old) × (W.calls writer.new ≡ W.calls writer.old) }
+    ensures unserved { result ≡ Served.NoMemory → state.new ≡ state.old }
 {
     let mut buffer = match Buffer::new(alloc) {
         Ok(buffer) => buffer,

@@ -1,3 +1,4 @@
+// The digests of public keys.
 ghost use Rattle.std.specs.Prelude.{◌≡◌, Some};
 ghost use Rattle.hex.specs.Hex.{encode_lower};
 ghost use Rattle.sha2.specs.Sha256.{sha256};
@@ -29,6 +30,13 @@ impl KeyDigest {
         ensures { result ≡ sha256 key_info.now }
     {
         KeyDigest(Digest::of(key_info))
+    }
+
+    /// The digest that has these bytes, as a table keeps them.
+    pub fn from_bytes(bytes: [u8; 32]) -> KeyDigest
+        ensures { result ≡ bytes }
+    {
+        KeyDigest(Digest::from_bytes(bytes))
     }
 
     /// Reads 64 hexadecimal digits of either case.

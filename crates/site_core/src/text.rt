@@ -1,4 +1,5 @@
-ghost use Rattle.std.specs.Prelude.{◌≡◌, ◌≢◌, IfErr, IfOk, map, option_map};
+// The text of a site.
+ghost use Rattle.std.specs.Prelude.{◌≡◌, ◌≢◌, ◌<◌, IfErr, IfOk, length, map, option_map};
 ghost use Rattle.toml.specs.View.{view};
 ghost use Rattle.text_core.specs.Answer.{GivesUnless};
 ghost use Rattle.text_core.specs.Options.{all_of};
@@ -28,7 +29,7 @@ pub const TEXT_LIMIT: usize = 1048576;
 /// has them, arrays of tables `pool` (`first`, twelve lowercase hexadecimal digits, and `count`, 1
 /// to 16777216) and `seat` (`name`, and `token`, the SHA-256 of the bearer token in hexadecimal
 /// digits); and a table `manager` with a `token`, where there is a manager. Other members are
-/// ignored. `SiteFault::OutOfMemory` where memory ran out, whatever the text.
+/// ignored. `SiteFault::OutOfMemory` where memory ran out, whatever the text up to its limit.
 pub fn read_site(alloc: Global, text: &str) -> Result<Site, SiteFault>
     ensures exact { GivesUnless SiteFault.OutOfMemory result (site_read text.now) }
     ensures valid { IfOk result (IsSiteText text.now) }
@@ -36,6 +37,9 @@ pub fn read_site(alloc: Global, text: &str) -> Result<Site, SiteFault>
     // No site is the text's where a fault other than want of memory is told.
     ensures refused { IfErr result (λ fault. fault ≢ SiteFault.OutOfMemory
         → (site : SiteValue) → ¬ IsSiteText text.now site) }
+
+    // A text over its limit takes no memory.
+    ensures too_long { TEXT_LIMIT < length text.now → result ≡ Err SiteFault.OverLimit }
 {
     if TEXT_LIMIT < text.len() {
         return Err(SiteFault::OverLimit);

@@ -39,6 +39,7 @@ pub fn serve_stream<K: Keep, R: Source, W: Drain>(
     ensures read_faults { R.failures reader.new ≡ R.failures reader.old + read_faults (Some result) }
     ensures write_faults { W.failures writer.new ≡ W.failures writer.old + write_faults (Some result) }
     ensures no_memory { result ≡ Served.NoMemory → (R.calls reader.new ≡ R.calls reader.old) × (W.calls writer.new ≡ W.calls writer.old) }
+    ensures unserved { result ≡ Served.NoMemory → keep.new ≡ keep.old }
 {
     let desk = Desk { alloc, site };
     http_serving::serve_stream(alloc, &desk, keep, reader, writer)
