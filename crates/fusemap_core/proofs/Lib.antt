@@ -1,3 +1,4 @@
+-- The lemmas of this crate.
 pub mod Bounds
 pub mod Judged
 pub mod Pairs

@@ -1,3 +1,4 @@
+// The parts of a map as its text has them, before they are judged.
 use std::marker::Model;
 use text_core::Name;
 

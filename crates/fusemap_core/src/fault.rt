@@ -1,3 +1,4 @@
+// The faults of a map's text.
 ghost use Rattle.std.specs.Prelude.{◌≡◌};
 ghost use Rattle.fusemap_core.specs.MapFaults.{fault_number, fault_of_document};
 ghost use Rattle.fusemap_core.specs.declared.fault.MapFault.TheVariants.{OutOfMemory};

@@ -1,3 +1,4 @@
+// Fields of a map.
 ghost use Rattle.std.specs.Prelude.{◌≡◌};
 ghost use Rattle.fusemap_core.specs.Map as map;
 

@@ -1,3 +1,4 @@
+// Fuse maps, and what they tell of their fields.
 ghost use Rattle.std.specs.Prelude.{◌≡◌, ◌≤◌, All, IfSome, find, length};
 ghost use Rattle.std.specs.Option.{option_and_then};
 ghost use Rattle.fusemap_core.specs.Map as map;

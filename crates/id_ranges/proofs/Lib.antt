@@ -1,3 +1,4 @@
+-- The lemmas of this crate.
 pub mod FreeBlocks
 pub mod Pools
 pub mod Ranges

@@ -1,3 +1,4 @@
+// The lowest free block of addresses.
 ghost use Rattle.std.specs.Prelude.{◌≡◌, ◌≤◌, ℕ, true, false, find, Any, IfOk, OnErr};
 ghost use Rattle.std.specs.Option.{ok_or};
 ghost use Rattle.id_ranges.specs.Blocks as spec;

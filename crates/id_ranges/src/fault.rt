@@ -1,3 +1,4 @@
+// The faults of ranges.
 ghost use Rattle.std.specs.Prelude.{◌≡◌};
 ghost use Rattle.id_ranges.specs.declared.fault.RangeFault.TheVariants.{OutOfMemory};
 

@@ -1,3 +1,4 @@
+// Hardware addresses.
 ghost use Rattle.std.specs.Prelude.{◌≡◌, ◌<◌, ◌^◌, Some};
 ghost use Rattle.id_ranges.specs.Mac as spec;
 ghost use Rattle.id_ranges.specs.Mac.{mac_of_text};

@@ -1,3 +1,4 @@
+// Pools of hardware addresses.
 ghost use Rattle.std.specs.Prelude.{◌≡◌};
 ghost use Rattle.id_ranges.specs.Pool.{pool_of, IsPool};
 

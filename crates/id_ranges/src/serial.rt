@@ -1,3 +1,4 @@
+// The texts of serial numbers.
 ghost use Rattle.std.specs.Prelude.{◌≡◌, IfOk, string_bytes};
 ghost use Rattle.id_ranges.specs.Serial as spec;
 

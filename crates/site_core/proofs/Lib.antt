@@ -1,3 +1,4 @@
+-- The lemmas of this crate.
 pub mod Callers
 pub mod Judged
 pub mod Owners

@@ -1,3 +1,4 @@
+-- What the contracts of this crate are made of.
 pub mod Caller
 pub mod Owners
 pub mod Section

@@ -1,3 +1,4 @@
+// A customer's section of a site.
 ghost use Rattle.std.specs.Prelude.{◌≡◌, bytes_eq};
 ghost use Rattle.std.specs.List.{list_any, position};
 ghost use Rattle.site_core.specs.Section.{has_token};

@@ -1,3 +1,4 @@
+// The parts of a site as its text has them, before they are judged.
 use crate::customer::Seat;
 use id_ranges::Mac;
 use std::marker::Model;

@@ -1,3 +1,4 @@
+// The faults of a site's text.
 ghost use Rattle.std.specs.Prelude.{◌≡◌};
 ghost use Rattle.site_core.specs.SiteFaults.{fault_number, fault_of_document};
 ghost use Rattle.site_core.specs.declared.fault.SiteFault.TheVariants.{OutOfMemory};

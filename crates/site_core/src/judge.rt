@@ -1,3 +1,4 @@
+// The lowest fault of a draft, or the site that it is.
 ghost use Rattle.std.specs.Prelude.{◌≡◌, ◌||◌, IfOk, bytes_eq, length, nat_lt, map, if◌then◌else◌};
 ghost use Rattle.std.specs.Ordering.{eq_by_cmp};
 ghost use Rattle.std.specs.List.{flat_map, list_any};

@@ -1,3 +1,4 @@
+// Sites, and whose a token is.
 ghost use Rattle.std.specs.Prelude.{◌≡◌, ◌<◌, IfSome, is_some, length, bytes_eq};
 ghost use Rattle.std.specs.List.{list_any, position};
 ghost use Rattle.sha2.specs.Sha256.{sha256};

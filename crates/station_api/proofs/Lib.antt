@@ -1,3 +1,4 @@
+-- The lemmas of this crate.
 mod Answering
 mod Members
 mod NameTexts

@@ -1,3 +1,4 @@
+-- What the contracts of this crate are made of.
 pub mod Digests
 pub mod Maps
 pub mod Devices

@@ -1,3 +1,4 @@
+-- What the contracts of this crate are made of.
 pub mod CommandLine
 pub mod FileText
 pub mod MapFile

@@ -1,3 +1,4 @@
+-- What the loops of `after_spaces` keep.
 use Rattle.std.proofs.Common.{◌≡◌, length}
 use Rattle.http_fields.specs.Fields.{skip_spaces}
 use Rattle.http_fields.proofs.after_spaces.Given as goal

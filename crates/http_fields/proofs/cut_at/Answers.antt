@@ -1,3 +1,4 @@
+-- Why `cut_at` meets its contract, where that has to be said.
 use Rattle.std.proofs.Common.{rules}
 use Rattle.std.proofs.lemmas.List.{take_rest}
 use Rattle.http_fields.proofs.FieldsLemmas.{lacks, lacks-take, seam_at}

@@ -1,3 +1,4 @@
+-- Why `is_close_asked` meets its contract, where that has to be said.
 use Rattle.std.proofs.Common.{◌∙◌, ap, sym, ◌&&◌}
 use Rattle.std.specs.Prelude.{codes}
 use Rattle.http_fields.specs.Fields.{is_named, same_ignoring_case, has_close}

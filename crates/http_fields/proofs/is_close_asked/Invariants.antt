@@ -1,3 +1,4 @@
+-- What the loops of `is_close_asked` keep.
 use Rattle.std.proofs.Common.{◌≡◌, take, false}
 use Rattle.http_fields.specs.Fields.{asks_close, headers_at}
 use Rattle.http_fields.proofs.is_close_asked.Given as goal

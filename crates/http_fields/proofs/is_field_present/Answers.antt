@@ -1,3 +1,4 @@
+-- Why `is_field_present` meets its contract, where that has to be said.
 use Rattle.std.proofs.Common.{◌∙◌, ap, sym}
 use Rattle.http_fields.specs.Fields.{is_named, same_ignoring_case}
 use Rattle.http_fields.proofs.FieldsLemmas.{any_header_at}

@@ -1,3 +1,4 @@
+-- What the loops of `is_field_present` keep.
 use Rattle.std.proofs.Common.{◌≡◌, take, false}
 use Rattle.http_fields.specs.Fields.{has_field, headers_at}
 use Rattle.http_fields.proofs.is_field_present.Given as goal

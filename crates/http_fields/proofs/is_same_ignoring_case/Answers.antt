@@ -1,3 +1,4 @@
+-- Why `is_same_ignoring_case` meets its contract, where that has to be said.
 use Rattle.std.proofs.Common.{map}
 use Rattle.std.specs.Char.{to_ascii_lowercase}
 use Rattle.std.proofs.lemmas.Bool.Decides.{same_from_decides}

@@ -1,3 +1,4 @@
+-- Why `lists_close` meets its contract, where that has to be said.
 use Rattle.std.proofs.Common.{◌||◌, ◌∙◌, ap, sym, subst}
 use Rattle.http_fields.specs.Fields.{has_close, IsCut}
 use Rattle.http_fields.proofs.FieldsLemmas.{has_close_at, has_close_whole}

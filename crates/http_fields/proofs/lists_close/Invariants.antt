@@ -1,3 +1,4 @@
+-- What the loops of `lists_close` keep.
 use Rattle.std.proofs.Common.{◌≡◌, length}
 use Rattle.http_fields.specs.Fields.{has_close}
 use Rattle.http_fields.proofs.lists_close.Given as goal

@@ -1,3 +1,4 @@
+-- Why `only_parameter` meets its contract, where that has to be said.
 use Rattle.std.proofs.Common.{◌++◌, ◌∙◌, ap, sym, subst, append_assoc, List, ℕ}
 use Rattle.http_fields.specs.Fields.{IsCut, IsOccurrence, parameters_named, piece_values}
 use Rattle.http_fields.proofs.FieldsLemmas.{parameters_at, parameters_whole}

@@ -1,3 +1,4 @@
+-- What the loops of `only_parameter` keep.
 use Rattle.std.proofs.Common.{◌≡◌, length, List, ℕ, ◌++◌}
 use Rattle.http_fields.specs.Fields.{IsOccurrence, parameters_named}
 use Rattle.http_fields.proofs.only_parameter.Given as goal

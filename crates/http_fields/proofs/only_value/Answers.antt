@@ -1,3 +1,4 @@
+-- Why `only_value` meets its contract, where that has to be said.
 use Rattle.std.proofs.Common.{◌∙◌, ap, subst, List, ℕ}
 use Rattle.http_fields.specs.Fields.{IsOccurrence, same_ignoring_case}
 use Rattle.http_fields.proofs.FieldsLemmas.{values_named-nil, values_named_more}

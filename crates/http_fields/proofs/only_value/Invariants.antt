@@ -1,3 +1,4 @@
+-- What the loops of `only_value` keep.
 use Rattle.std.proofs.Common.{take}
 use Rattle.http_fields.specs.Fields.{IsOccurrence, values_named, headers_at}
 use Rattle.http_fields.proofs.only_value.Given as goal

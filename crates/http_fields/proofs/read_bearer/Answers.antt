@@ -1,3 +1,4 @@
+-- Why `read_bearer` meets its contract, where that has to be said.
 use Rattle.std.proofs.Common.{◌≡◌, ◌<◌, ◌∙◌, ap, sym, refl, true, false, length, arith}
 use Rattle.std.proofs.lemmas.Bool.Decides.{nat_tests}
 use Rattle.http_fields.specs.Fields.{some_token}

@@ -1,3 +1,4 @@
+-- Why `split_once` meets its contract, where that has to be said.
 use Rattle.std.proofs.Common.{sym, subst, ap, ◌∙◌}
 use Rattle.http_fields.specs.Fields.{IsCut, before_byte, after_byte}
 use Rattle.http_fields.proofs.FieldsLemmas.{before_at, after_at, before_whole, after_whole}

@@ -1,3 +1,4 @@
+-- Why `trim` meets its contract, where that has to be said.
 use Rattle.std.proofs.Common.{ap, ◌∙◌, reverse}
 use Rattle.httparse.specs.Grammar.{trim_ows, skip_ows}
 use Rattle.http_fields.proofs.trim.Goals as goal

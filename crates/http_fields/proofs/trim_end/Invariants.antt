@@ -1,3 +1,4 @@
+-- What the loops of `trim_end` keep.
 use Rattle.std.proofs.Common.{◌≡◌, length, reverse}
 use Rattle.httparse.specs.Grammar.{skip_ows}
 use Rattle.http_fields.proofs.trim_end.Given as goal

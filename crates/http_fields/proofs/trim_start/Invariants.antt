@@ -1,3 +1,4 @@
+-- What the loops of `trim_start` keep.
 use Rattle.std.proofs.Common.{◌≡◌, length}
 use Rattle.httparse.specs.Grammar.{skip_ows}
 use Rattle.http_fields.proofs.trim_start.Given as goal

@@ -1,3 +1,4 @@
+-- Why `serve_stream` meets its contract, where that has to be said.
 use Rattle.std.proofs.Common.{ap, arith}
 use Rattle.std.specs.Prelude.{Some}
 use Rattle.http_frames.specs.Buffers.{unread}

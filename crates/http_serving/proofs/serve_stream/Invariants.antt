@@ -1,3 +1,4 @@
+-- What the loops of `serve_stream` keep.
 use Rattle.std.proofs.Common.{◌≡◌, ◌+◌, ◌-◌, ◌≤◌}
 use Rattle.http_frames.specs.Buffers.{unread}
 use Rattle.http_serving.specs.Streams.{ServingSoFar, Reaches}

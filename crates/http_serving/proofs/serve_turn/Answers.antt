@@ -1,3 +1,4 @@
+-- Why `serve_turn` meets its contract, where that has to be said.
 use Rattle.std.proofs.Common.{◌∙◌, ap, sym, subst, refl, drop, List, ℕ}
 use Rattle.std.specs.Prelude.{true}
 use Rattle.http_frames.specs.Buffers.{unread}

@@ -1,3 +1,4 @@
+-- Why `redaction::may_be_set` meets its contract, where that has to be said.
 use Rattle.std.proofs.Common.{◌≡◌, ◌||◌, Bool, option_and_then, ap, ◌∙◌, sym}
 use Rattle.std.proofs.lemmas.Bool.{or_left}
 use Rattle.std.proofs.lemmas.Option.{same_Some}

@@ -1,3 +1,4 @@
+-- Why `redaction::plain_ones` meets its contract, where that has to be said.
 use Rattle.std.proofs.Common.{ap₂, ◌∙◌}
 use Rattle.std.specs.FinSet as set
 use Rattle.fuse_plan.proofs.Redacted.{plain_ones-words}

@@ -1,3 +1,4 @@
+-- Why `redaction::positions_of` meets its contract, where that has to be said.
 use Rattle.std.proofs.Common.{ap, ◌∙◌}
 use Rattle.std.specs.FinSet as set
 use Rattle.fusemap_core.specs.Map.{holds}

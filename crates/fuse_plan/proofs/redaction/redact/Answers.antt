@@ -1,3 +1,4 @@
+-- Why `redaction::redact` meets its contract, where that has to be said.
 use Rattle.fuse_plan.proofs.Redacted.{AreKeys-shown, AreOutsideKeys-plain_ones}
 use Rattle.fuse_plan.proofs.redaction.redact.Goals as goal
 

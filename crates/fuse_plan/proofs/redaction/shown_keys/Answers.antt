@@ -1,3 +1,4 @@
+-- Why `redaction::shown_keys` meets its contract, where that has to be said.
 use Rattle.std.proofs.Common.{◌∙◌}
 use Rattle.fuse_image.proofs.Tables.{table_is}
 use Rattle.fuse_plan.specs.Redaction.{shown_key}

@@ -1,3 +1,4 @@
+-- What the loops of `redaction::shows_hidden_key` keep.
 use Rattle.std.proofs.Common.{◌≡◌, ◌&&◌, Bool, drop}
 use Rattle.std.specs.Prelude.{is_some}
 use Rattle.std.specs.List.{list_any}

@@ -1,3 +1,4 @@
+-- What the loops of `judge::are_apart` keep.
 use Rattle.std.proofs.Common.{◌≡◌, drop}
 use Rattle.fusemap_core.specs.MapFaults as faults
 use Rattle.fusemap_core.specs.MapFaults.{all_pairs}

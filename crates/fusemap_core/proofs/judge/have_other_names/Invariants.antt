@@ -1,3 +1,4 @@
+-- What the loops of `judge::have_other_names` keep.
 use Rattle.std.proofs.Common.{◌≡◌, drop}
 use Rattle.fusemap_core.specs.MapFaults as faults
 use Rattle.fusemap_core.specs.MapFaults.{all_pairs}

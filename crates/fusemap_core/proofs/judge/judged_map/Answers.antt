@@ -1,3 +1,4 @@
+-- Why `judge::judged_map` meets its contract, where that has to be said.
 use Rattle.std.proofs.Common.{◌≡◌, sym, ap, ◌∙◌}
 use Rattle.fusemap_core.specs.Map.{Map}
 use Rattle.fusemap_core.proofs.Bounds.{are_small}

@@ -1,3 +1,4 @@
+-- What the loops of `judge::make_fields` keep.
 use Rattle.std.proofs.Common.{◌≡◌, take}
 use Rattle.fusemap_core.proofs.judge.make_fields.Given as goal
 

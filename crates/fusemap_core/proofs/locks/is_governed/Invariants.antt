@@ -1,3 +1,4 @@
+-- What the loops of `locks::is_governed` keep.
 use Rattle.std.proofs.Common.{◌≡◌, ◌&&◌, ◌||◌, Bool, drop, option_and_then}
 use Rattle.std.specs.List.{list_any}
 use Rattle.fusemap_core.specs.declared.field.Field.{Field}

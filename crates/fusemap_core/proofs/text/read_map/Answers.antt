@@ -1,3 +1,4 @@
+-- Why `text::read_map` meets its contract, where that has to be said.
 use Rattle.std.proofs.Common.{arith, sym, ◌∙◌}
 use Rattle.std.proofs.lemmas.Grind.{common_steps}
 use Rattle.text_core.specs.Answer.{GivesUnless}

@@ -1,3 +1,4 @@
+-- Why `buffer::read_request` meets its contract, where that has to be said.
 use Rattle.std.proofs.Common.{sym, subst, refl}
 use Rattle.http_frames.specs.Frames.{IsUndecided}
 use Rattle.http_frames.specs.Looks.{IsLook}

@@ -1,3 +1,4 @@
+-- What the loops of `buffer::read_request` keep.
 use Rattle.std.proofs.Common.{◌≡◌, ◌+◌, ◌-◌, ◌≤◌}
 use Rattle.http_frames.specs.Buffers.{unread, Keeps}
 use Rattle.http_frames.proofs.buffer.read_request.Given as goal

@@ -1,3 +1,4 @@
+-- Why `head::put_number` meets its contract, where that has to be said.
 use Rattle.std.proofs.Common.{length, ap, arith}
 use Rattle.http_replies.proofs.head.put_number.Goals as goal
 

@@ -1,3 +1,4 @@
+-- Why `head::reply_head` meets its contract, where that has to be said.
 use Rattle.std.proofs.Common.{◌≡◌, ◌++◌, ◌∙◌, ap, length, List, ℕ}
 use Rattle.std.specs.Prelude.{codes, decimal}
 use Rattle.http_replies.specs.Replies.{head_text, line_if, media_type_of}

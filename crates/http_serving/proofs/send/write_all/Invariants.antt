@@ -1,3 +1,4 @@
+-- What the loops of `send::write_all` keep.
 use Rattle.std.proofs.Common.{◌≡◌, ◌+◌, ◌-◌, ◌≤◌, ◌<◌, length, ◌⊎◌}
 use Rattle.http_serving.specs.Sends.{SendsPart}
 use Rattle.http_serving.proofs.send.write_all.Given as goal

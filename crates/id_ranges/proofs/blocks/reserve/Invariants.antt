@@ -1,3 +1,4 @@
+-- What the loops of `blocks::reserve` keep.
 use Rattle.std.proofs.Common.{◌≡◌, drop}
 use Rattle.id_ranges.specs.Blocks.{reserved_start}
 use Rattle.id_ranges.proofs.blocks.reserve.Given as goal

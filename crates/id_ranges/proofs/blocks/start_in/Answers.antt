@@ -1,3 +1,4 @@
+-- Why `blocks::start_in` meets its contract, where that has to be said.
 use Rattle.std.proofs.Common.{◌+◌, ◌-◌, inl, inr, sym, ◌∙◌, arith}
 use Rattle.std.proofs.lemmas.Bool.{cases_lt}
 use Rattle.id_ranges.specs.Blocks.{is_free}

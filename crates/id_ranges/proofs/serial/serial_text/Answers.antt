@@ -1,3 +1,4 @@
+-- Why `serial::serial_text` meets its contract, where that has to be said.
 use Rattle.std.proofs.Common.{rules}
 use Rattle.text_core.proofs.Padding.{styled_decimal-zeros}
 use Rattle.id_ranges.proofs.serial.serial_text.Goals as goal

@@ -1,3 +1,4 @@
+-- What the loops of `judge::all_tokens` keep.
 use Rattle.std.proofs.Common.{◌≡◌, map, take}
 use Rattle.site_core.specs.Section.{with_token}
 use Rattle.site_core.proofs.judge.all_tokens.Given as goal

@@ -1,3 +1,4 @@
+-- Why `judge::comes_twice` meets its contract, where that has to be said.
 use Rattle.std.proofs.Common.{rules, ◌≡◌, ◌∙◌, IfOk}
 use Rattle.std.specs.Ordering.{eq_by_cmp}
 use Rattle.std.specs.BTreeSet.{IsFromIterResult}

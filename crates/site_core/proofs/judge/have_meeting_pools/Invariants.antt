@@ -1,3 +1,4 @@
+-- What the loops of `judge::have_meeting_pools` keep.
 use Rattle.std.proofs.Common.{◌≡◌, drop}
 use Rattle.site_core.specs.Site.{pools_meet}
 use Rattle.site_core.specs.SiteFaults.{has_pair}

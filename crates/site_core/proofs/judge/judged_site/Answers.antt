@@ -1,3 +1,4 @@
+-- Why `judge::judged_site` meets its contract, where that has to be said.
 use Rattle.std.proofs.Common.{◌≡◌, false, sym, ◌∙◌}
 use Rattle.std.specs.List.{flat_map}
 use Rattle.site_core.specs.Site.{pools_meet}

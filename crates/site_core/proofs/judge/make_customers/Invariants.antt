@@ -1,3 +1,4 @@
+-- What the loops of `judge::make_customers` keep.
 use Rattle.std.proofs.Common.{◌≡◌, ◌++◌, false}
 use Rattle.std.specs.Vec.Iter.{into_iter_items}
 use Rattle.site_core.specs.SiteFaults.{has_bad_pool}

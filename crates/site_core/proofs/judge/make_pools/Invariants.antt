@@ -1,3 +1,4 @@
+-- What the loops of `judge::make_pools` keep.
 use Rattle.std.proofs.Common.{◌≡◌, false, take}
 use Rattle.std.specs.List.{list_any}
 use Rattle.site_core.specs.SiteFaults.{is_bad_pool}

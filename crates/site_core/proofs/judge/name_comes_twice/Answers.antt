@@ -1,3 +1,4 @@
+-- Why `judge::name_comes_twice` meets its contract, where that has to be said.
 use Rattle.std.proofs.Common.{◌∙◌}
 use Rattle.std.proofs.lemmas.Result.{IfOk-weaker}
 use Rattle.std.proofs.lemmas.Map.Text.{is_eq-slice_cmp}

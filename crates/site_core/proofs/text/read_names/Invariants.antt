@@ -1,3 +1,4 @@
+-- What the loops of `text::read_names` keep.
 use Rattle.std.proofs.Common.{◌≡◌, Some, map, take}
 use Rattle.toml.specs.View.{view}
 use Rattle.text_core.specs.Options.{all_of}

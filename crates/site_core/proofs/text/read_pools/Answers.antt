@@ -1,3 +1,4 @@
+-- Why `text::read_pools` meets its contract, where that has to be said.
 use Rattle.std.proofs.Common.{sym, ◌∙◌}
 use Rattle.toml.specs.View.{view}
 use Rattle.text_core.proofs.Lists.{all_of_more, all_of_stop}

@@ -1,3 +1,4 @@
+-- Why `text::read_site` meets its contract, where that has to be said.
 use Rattle.std.proofs.Common.{arith}
 use Rattle.std.proofs.lemmas.Grind.{common_steps}
 use Rattle.site_core.proofs.Reading.{valid_from_exact, refused_from_exact}

@@ -1,3 +1,4 @@
+-- Why `desk::answer_caller` meets its contract, where that has to be said.
 use Rattle.office_commands.specs.declared.refusal.Refusal.TheVariants.{Unkept}
 use Rattle.office_core.proofs.Settled.{or_then}
 use Rattle.station_api.specs.Requests.{asked}

@@ -1,3 +1,4 @@
+-- Why `device::read_words` meets its contract, where that has to be said.
 use Rattle.std.proofs.Common.{sym, ◌∙◌}
 use Rattle.serde_json.specs.View.{view}
 use Rattle.text_core.proofs.Lists.{all_of_more, all_of_stop}

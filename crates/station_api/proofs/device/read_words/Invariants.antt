@@ -1,3 +1,4 @@
+-- What the loops of `device::read_words` keep.
 use Rattle.std.proofs.Common.{◌≡◌, Some, map, take}
 use Rattle.serde_json.specs.View.{view}
 use Rattle.text_core.specs.Options.{all_of}

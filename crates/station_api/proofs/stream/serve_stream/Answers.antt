@@ -1,3 +1,4 @@
+-- Why `stream::serve_stream` meets its contract, where that has to be said.
 use Rattle.station_api.specs.Machine.{StationAnswers}
 use Rattle.station_api.proofs.Streaming.{serving_tables, reaches_tables, runs_honest}
 use Rattle.station_api.proofs.stream.serve_stream.Goals as goal

@@ -1,3 +1,4 @@
+-- Why `file_text::text_in` meets its contract, where that has to be said.
 use Rattle.std.proofs.Common.{Ok, ap, ◌∙◌}
 use Rattle.station_jobs.proofs.FileTexts.{text_in-text, text_in-no_text}
 use Rattle.station_jobs.proofs.file_text.text_in.Goals as goal

@@ -1,3 +1,4 @@
+-- Why `job::job_from` meets its contract, where that has to be said.
 use Rattle.station_jobs.proofs.Options.{both_parts}
 use Rattle.station_jobs.proofs.job.job_from.Goals as goal
 

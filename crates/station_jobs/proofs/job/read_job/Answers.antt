@@ -1,3 +1,4 @@
+-- Why `job::read_job` meets its contract, where that has to be said.
 use Rattle.std.proofs.Common.{◌≡◌, ◌⊎◌, true, None, List, [], ◌∷◌, Option, option_and_then, inl, inr, refl, sym, ap, subst, ◌∙◌}
 use Rattle.clap.specs.Words.{App, IsAmong, Row, Text, Kinds, HasKind, kind_of, app_of, is_simple, is_simple_and_free, fault_of, subcommand_of}
 use Rattle.clap.specs.declared.error.Error.{Error}

@@ -1,3 +1,4 @@
+-- Why `map_file::map_from` meets its contract, where that has to be said.
 use Rattle.std.proofs.Common.{refl}
 use Rattle.fusemap_core.specs.MapText.{map_read}
 use Rattle.fusemap_core.specs.declared.fault.MapFault.TheVariants.{OutOfMemory}

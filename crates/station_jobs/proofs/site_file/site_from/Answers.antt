@@ -1,3 +1,4 @@
+-- Why `site_file::site_from` meets its contract, where that has to be said.
 use Rattle.std.proofs.Common.{refl}
 use Rattle.site_core.specs.SiteText.{site_read}
 use Rattle.site_core.specs.declared.fault.SiteFault.TheVariants.{OutOfMemory}

@@ -1,3 +1,4 @@
+-- Why `map::FuseMap::field_at` meets its contract, where that has to be said.
 use Rattle.std.proofs.Common.{Bool, List, Some, None, ap, ◌∙◌}
 use Rattle.std.specs.Prelude.{position}
 use Rattle.fusemap_core.specs.declared.field.Field.{Field}

@@ -1,3 +1,4 @@
+-- Why `map::FuseMap::fields` meets its contract, where that has to be said.
 use Rattle.fusemap_core.proofs.Bounds.{are_small}
 use Rattle.fusemap_core.proofs.map.FuseMap.fields.Goals as goal
 

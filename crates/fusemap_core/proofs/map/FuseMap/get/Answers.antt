@@ -1,3 +1,4 @@
+-- Why `map::FuseMap::get` meets its contract, where that has to be said.
 use Rattle.std.proofs.Common.{◌<◌, length, ap}
 use Rattle.fusemap_core.specs.Map.{Map}
 use Rattle.fusemap_core.proofs.Bounds.{are_small}

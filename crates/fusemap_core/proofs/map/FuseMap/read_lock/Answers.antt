@@ -1,3 +1,4 @@
+-- Why `map::FuseMap::read_lock` meets its contract, where that has to be said.
 use Rattle.std.proofs.Common.{◌≡◌, List, option_and_then, ap, ◌∙◌}
 use Rattle.fusemap_core.specs.declared.field.Field.{Field}
 use Rattle.fusemap_core.specs.Map.{Map, lock_at, read_lock}

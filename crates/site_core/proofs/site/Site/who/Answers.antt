@@ -1,3 +1,4 @@
+-- Why `site::Site::who` meets its contract, where that has to be said.
 use Rattle.std.proofs.Common.{◌≡◌, ◌∙◌, Some, is_some, ap, rules}
 use Rattle.sha2.specs.Sha256.{sha256}
 use Rattle.site_core.specs.Caller.{caller_of, seat_caller_with}
