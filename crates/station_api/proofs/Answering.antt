@@ -11,7 +11,7 @@ use Rattle.office_commands.specs.declared.refusal.Refusal.{Refusal}
 use Rattle.office_commands.specs.declared.refusal.Refusal.TheVariants.{UnknownToken, UnknownPath, WrongCaller, BadJson, BadMember, WrongNumber, OtherBody, UnknownMap, UnknownOrder, UnknownDevice, QuantityReached, CodingScheme, BadReadback, Exists, BadMap, BadSerial, NumberTooWide, NoMacRoom, RangeOverlap, ForeignIssuer, MapDigestTaken, Limit, Unkept}
 use Rattle.office_commands.specs.Refusals.{refusal_status}
 use Rattle.office_commands.specs.Replies.{refusal}
-use Rattle.office_core.specs.Office.{Step, Answers}
+use Rattle.office_rules.specs.Office.{Step, Answers}
 use Rattle.office_core.proofs.Served.{answers}
 use Rattle.station_api.specs.Requests.{asked}
 use Rattle.station_api.specs.declared.parse.Parsed.{Parsed}

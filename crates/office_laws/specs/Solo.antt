@@ -1,0 +1,197 @@
+-- A customer's own machine. It knows the customer's section of the site, and no row or request of anybody else.
+use Rattle.std.specs.Prelude.{ℕ, nat_lt, nat_le, Bool, false, not, ◌&&◌, ◌||◌, ◌++◌, List, [], ◌∷◌, length, find, filter, Option, Some, None, is_some, option_map, option_and_then}
+use Rattle.std.specs.List.{list_any}
+use Rattle.std.specs.Str.{bytes_eq}
+use Rattle.std.specs.Ordering.{nat_cmp, ordering_then}
+use Rattle.std.specs.declared.cmp.Ordering.{Ordering}
+use Rattle.sha2.specs.Sha256.{sha256}
+use Rattle.text_core.specs.Prefix.{is_prefix}
+use Rattle.fusemap_core.specs.Map.{Map}
+use Rattle.fuse_plan.specs.Redaction.{redacted}
+use Rattle.http_replies.specs.Replies.{Answer}
+use Rattle.site_core.specs.Section.{Section}
+use Rattle.office_tables.specs.Rows.{Given}
+use Rattle.office_tables.specs.declared.rows.Seat.{Seat}
+use Rattle.office_tables.specs.declared.rows.Order.{Order}
+use Rattle.office_tables.specs.declared.rows.Device.{Device}
+use Rattle.office_tables.specs.declared.rows.NewEntry.{NewEntry}
+use Rattle.office_tables.specs.Tables.{placed, text_cmp}
+use Rattle.office_commands.specs.declared.new_order.NewOrder.{NewOrder}
+use Rattle.office_commands.specs.declared.new_device.NewDevice.{NewDevice}
+use Rattle.office_commands.specs.declared.command.Request.{Request}
+use Rattle.office_commands.specs.declared.command.Command.{Command}
+use Rattle.office_commands.specs.declared.command.Command.TheVariants.{Change, Show}
+use Rattle.office_commands.specs.declared.command.Change.{Change as Changing}
+use Rattle.office_commands.specs.declared.command.Change.TheVariants.{MakeOrder, ImportMap, RegisterDevice}
+use Rattle.office_commands.specs.declared.command.Show.{Show as Showing}
+use Rattle.office_commands.specs.declared.command.Show.TheVariants.{Order as ShowOrder, Device as ShowDevice, Ledger as ShowLedger}
+use Rattle.office_commands.specs.declared.refusal.Refusal.{Refusal}
+use Rattle.office_commands.specs.declared.refusal.Refusal.TheVariants.{WrongNumber, OtherBody, UnknownMap, UnknownOrder, UnknownDevice, Exists, QuantityReached, BadSerial, NumberTooWide, NoMacRoom, RangeOverlap, ForeignIssuer, MapDigestTaken, Limit}
+use Rattle.office_commands.specs.Replies.{acceptance, refusal, order_body, map_body}
+use Rattle.office_commands.specs.DeviceReplies.{device_body, ledger_body}
+use Rattle.office_rules.specs.Rules.{wanted, order_limit, quantity_limit, is_too_wide, lacks_room, meets, next_serial, lowest}
+use Rattle.office_rules.specs.MapFaults.{map_fault}
+use Rattle.office_rules.specs.Maps.{bad_map, map_limit}
+use Rattle.office_rules.specs.DeviceRules.{first_entry, is_full, map_in, readback_refusals, registered}
+use Rattle.office_rules.specs.Office.{Turn, Repeats, Differs, Next, Skips, turn}
+
+-- a fuse map of the customer's, by the digest of its text
+pub record OwnMap : Type 0 where
+  pub digest : List ℕ
+  pub text : List ℕ
+
+-- the customer's tables, each in the order of its key. An order's cursor stands at its first number: the machine has no use for one
+pub record State : Type 0 where
+  pub seats : List Seat
+  pub orders : List Order
+  pub given : List Given
+  pub maps : List OwnMap
+  pub devices : List Device
+  pub ledger : List NewEntry
+
+abbrev pub own_seat_cmp : Seat → Seat → Ordering
+own_seat_cmp a b = text_cmp a.name b.name
+
+abbrev pub own_order_cmp : Order → Order → Ordering
+own_order_cmp a b = text_cmp a.name b.name
+
+abbrev pub own_map_cmp : OwnMap → OwnMap → Ordering
+own_map_cmp a b = text_cmp a.digest b.digest
+
+abbrev pub own_device_cmp : Device → Device → Ordering
+own_device_cmp a b = text_cmp a.chip b.chip
+
+-- an entry's place: by its device, then by its number
+abbrev pub own_entry_cmp : NewEntry → NewEntry → Ordering
+own_entry_cmp a b = ordering_then (text_cmp a.chip b.chip) (nat_cmp a.number b.number)
+
+abbrev pub seat_named : List ℕ → State → Option Seat
+seat_named name s = find (λ r. bytes_eq name r.name) s.seats
+
+abbrev pub order_named : List ℕ → State → Option Order
+order_named name s = find (λ r. bytes_eq name r.name) s.orders
+
+abbrev pub map_of : List ℕ → State → Option OwnMap
+map_of digest s = find (λ m. bytes_eq digest m.digest) s.maps
+
+-- the fuse map of a text of the customer's
+abbrev pub own_map_named : List ℕ → State → Option Map
+own_map_named digest s = option_and_then map_in (option_map (λ m. m.text) (map_of digest s))
+
+abbrev pub device_named : List ℕ → State → Option Device
+device_named chip s = find (λ d. bytes_eq chip d.chip) s.devices
+
+-- a device's ledger
+abbrev pub ledger_of : List ℕ → State → List NewEntry
+ledger_of chip s = filter (λ e. bytes_eq chip e.chip) s.ledger
+
+abbrev pub has_given : State → List ℕ → List ℕ → Bool
+has_given s issuer serial = is_some (find (λ r. bytes_eq issuer r.issuer && bytes_eq serial r.serial) s.given)
+
+-- the order's next serial number
+abbrev pub own_next : State → Order → Option (List ℕ)
+own_next s o = next_serial (has_given s o.issuer) o
+
+-- the order that is asked for, beside the orders that there are
+abbrev pub own_wanted : Section → State → NewOrder → Order
+own_wanted c s o = wanted c.pools s.orders o
+
+-- what refuses a command, in the order of the refusals' numbers
+abbrev pub own_order_refusals : Section → State → Order → List (Bool × Refusal)
+own_order_refusals c s o =
+    (is_some (order_named o.name s), Exists)
+    ∷ (not (is_prefix o.prefix), BadSerial)
+    ∷ (is_too_wide o, NumberTooWide)
+    ∷ (lacks_room o, NoMacRoom)
+    ∷ (list_any (meets o) s.orders, RangeOverlap)
+    ∷ (not (list_any (bytes_eq o.issuer) c.issuers), ForeignIssuer)
+    ∷ (nat_lt quantity_limit o.quantity || nat_le order_limit (length s.orders), Limit)
+    ∷ []
+
+-- another text has the digest, or there are as many maps as can be
+abbrev pub own_import_refusals : State → List ℕ → Option OwnMap → List (Bool × Refusal)
+own_import_refusals s text None = (false, MapDigestTaken) ∷ (nat_le map_limit (length s.maps), Limit) ∷ []
+own_import_refusals s text (Some m) = (not (bytes_eq text m.text), MapDigestTaken) ∷ (false, Limit) ∷ []
+
+abbrev pub own_map_refusals : State → List ℕ → List (Bool × Refusal)
+own_map_refusals s text = bad_map (map_fault text) ++ own_import_refusals s text (map_of (sha256 text) s)
+
+abbrev pub own_refusals_by : State → NewDevice → Option Map → List (Bool × Refusal)
+own_refusals_by s d map =
+    (not (is_some map), UnknownMap)
+    ∷ (not (is_some (order_named d.order s)), UnknownOrder)
+    ∷ (is_some (device_named d.chip s), Exists)
+    ∷ (is_full s.devices (order_named d.order s), QuantityReached)
+    ∷ readback_refusals map d.blocks
+
+abbrev pub own_refusals : Section → State → Changing → List (Bool × Refusal)
+own_refusals c s (MakeOrder o) = own_order_refusals c s (own_wanted c s o)
+own_refusals c s (ImportMap text) = own_map_refusals s text
+own_refusals c s (RegisterDevice d) = own_refusals_by s d (own_map_named d.map s)
+
+-- the digest's map is the text, if there was none
+abbrev pub own_import : State → List ℕ → Option OwnMap → State
+own_import s text None = record s { maps = placed own_map_cmp (record { digest = sha256 text; text = text }) s.maps }
+own_import s text (Some m) = s
+
+-- a new device, and the first entry of its ledger
+abbrev pub with_own_device : List ℕ → Device → State → State
+with_own_device seat device s = record s {
+  devices = placed own_device_cmp device s.devices;
+  ledger = placed own_entry_cmp (first_entry seat device) s.ledger;
+}
+
+-- the device as its chip shows itself, by its map
+abbrev pub own_register : List ℕ → State → NewDevice → Option Map → List ℕ × State
+own_register seat s d None = ([], s)
+own_register seat s d (Some m) =
+    (device_body (Some m) (registered m d (redacted m d.blocks)), with_own_device seat (registered m d (redacted m d.blocks)) s)
+
+-- the reply's body, and the state after the change
+abbrev pub own_change : Section → List ℕ → State → Changing → List ℕ × State
+own_change c seat s (MakeOrder o) =
+    (order_body (own_wanted c s o) (own_next s (own_wanted c s o)), record s { orders = placed own_order_cmp (own_wanted c s o) s.orders })
+own_change c seat s (RegisterDevice d) = own_register seat s d (own_map_named d.map s)
+own_change c seat s (ImportMap text) = (map_body (sha256 text), own_import s text (map_of (sha256 text) s))
+
+abbrev pub with_own_seat : Seat → State → State
+with_own_seat r s = record s { seats = placed own_seat_cmp r s.seats }
+
+-- the seat's row once this reply was given to the request
+abbrev pub own_settled : List ℕ → Request → List ℕ → Seat
+own_settled seat r body = record { name = seat; last = r.number; digest = r.digest; reply = body }
+
+abbrev pub own_verdict : List ℕ → Request → State → List ℕ × State → Option Refusal → Answer × State
+own_verdict seat r s made None = (acceptance made.0, with_own_seat (own_settled seat r made.0) made.1)
+own_verdict seat r s made (Some reason) = (refusal reason, s)
+
+abbrev pub own_turn : Section → List ℕ → Request → State → Changing → Turn → Answer × State
+own_turn c seat r s change (Repeats body) = (acceptance body, s)
+own_turn c seat r s change Differs = (refusal OtherBody, s)
+own_turn c seat r s change (Skips expected) = (refusal (WrongNumber expected), s)
+own_turn c seat r s change Next = own_verdict seat r s (own_change c seat s change) (lowest (own_refusals c s change))
+
+abbrev pub own_shown_order : State → Option Order → Answer
+own_shown_order s None = refusal UnknownOrder
+own_shown_order s (Some o) = acceptance (order_body o (own_next s o))
+
+abbrev pub own_shown_device : State → Option Device → Answer
+own_shown_device s None = refusal UnknownDevice
+own_shown_device s (Some d) = acceptance (device_body (own_map_named d.map s) d)
+
+abbrev pub own_shown_ledger : State → Option Device → Answer
+own_shown_ledger s None = refusal UnknownDevice
+own_shown_ledger s (Some d) = acceptance (ledger_body (own_map_named d.map s) d.chip (ledger_of d.chip s))
+
+abbrev pub own_shown : State → Showing → Answer
+own_shown s (ShowOrder name) = own_shown_order s (order_named name s)
+own_shown s (ShowDevice chip) = own_shown_device s (device_named chip s)
+own_shown s (ShowLedger chip) = own_shown_ledger s (device_named chip s)
+
+abbrev pub own_serves : Section → List ℕ → Request → State → Command → Answer × State
+own_serves c seat r s (Show asked) = (own_shown s asked, s)
+own_serves c seat r s (Change change) = own_turn c seat r s change (turn (seat_named seat s) r.number r.digest)
+
+-- the reply to a seat's request, and the state after it
+abbrev pub solo : Section → List ℕ → State → Request → Answer × State
+solo c seat s r = own_serves c seat r s r.command
