@@ -1,5 +1,5 @@
 -- Numbers with a 1 at each place that passes a test.
-use Rattle.std.proofs.Common.{ℕ, zero, suc, ◌+◌, ◌^◌, ◌<◌, ◌≤◌, Bool, true, false, cond, arith}
+use Rattle.std.proofs.Common.{ℕ, zero, suc, ◌^◌, ◌<◌, ◌≤◌, Bool, true, false, cond, arith}
 use Rattle.std.proofs.Math.Nat.{pow-suc}
 use Rattle.fuse_image.specs.Words.{number_with}
 

@@ -1,6 +1,6 @@
 -- Zeros stand for nothing, and nothing is zeros.
 use Rattle.std.proofs.Common.{◌≡◌, ℕ, zero, suc, ◌+◌, ◌-◌, ◌*◌, ◌/◌, ◌%◌, ◌<◌, false, ◌&&◌, List, [], ◌∷◌, ◌++◌, length, get_or, take, drop, None, refl, sym, ap, ap₂, ◌∙◌, inl, inr, arith, nat_cmp}
-use Rattle.std.specs.Prelude.{◌==◌, slice_index, if◌then◌else◌}
+use Rattle.std.specs.Prelude.{◌==◌, if◌then◌else◌}
 use Rattle.std.specs.Int.{bit_at}
 use Rattle.std.specs.FinSet as set
 use Rattle.std.specs.FinMap as map
@@ -10,6 +10,7 @@ use Rattle.text_core.specs.Column.{zeros}
 use Rattle.fusemap_core.specs.declared.pos.Pos.{Pos}
 use Rattle.fusemap_core.specs.Map.{Map, IsMap}
 use Rattle.fuse_image.specs.Places.{pos_cmp}
+use Rattle.fuse_image.proofs.BitSets.{zeros_at}
 use Rattle.fuse_image.proofs.Sets.{same_places}
 use Rattle.fuse_image.proofs.Tables.{table_where-same}
 use Rattle.fuse_columns.specs.BitsColumns.{bits_column, bits_in, bits_length, is_plain, reads_one, start_of}
@@ -21,18 +22,13 @@ use Rattle.fuse_columns.proofs.BytesBack.{bytes_back}
 use Rattle.fuse_columns.proofs.KeyBytes.{key_of-other}
 use Rattle.fuse_columns.proofs.WorkBytesBack.{key_bytes_back}
 
-zero_at : (count i : ℕ) → slice_index (zeros count) i ≡ 0
-zero_at zero i = refl
-zero_at (suc count) zero = refl
-zero_at (suc count) (suc i) = zero_at count i
-
 zeros_after : (count n : ℕ) → drop n (zeros count) ≡ zeros (count - n)
 zeros_after count n = drop-replicate n count 0
 
 reads_none : (blocks : List ℕ) (count : ℕ) (p : Pos) → reads_one blocks (zeros count) p ≡ false
 reads_none blocks count p =
     let none : bit_at 0 (p.bit % 8) ≡ 0 = omega arith in
-    ap (λ k. bit_at k (p.bit % 8) == 1) (zero_at count (start_of blocks p.block + p.bit / 8)) ∙ ap (λ k. k == 1) none
+    ap (λ k. bit_at k (p.bit % 8) == 1) (zeros_at count (start_of blocks p.block + p.bit / 8)) ∙ ap (λ k. k == 1) none
 
 no_bits : (m : Map) (count : ℕ) → bits_in m (zeros count) ≡ set.empty
 unfolding bits_in
@@ -46,7 +42,7 @@ no_key [] count block = refl
 no_key (b ∷ blocks) count block = elim (cases_Bool (b == block)) as (λ _. (if b == block then key_of (take 33 (zeros count)) else key_in blocks (drop 33 (zeros count)) block) ≡ None) [
   | inl here ↦
       cond-true (b == block) (key_of (take 33 (zeros count))) (key_in blocks (drop 33 (zeros count)) block) here
-      ∙ key_of-other (zeros count) (λ e. omega (arith, e, zero_at count 0))
+      ∙ key_of-other (zeros count) (λ e. omega (arith, e, zeros_at count 0))
   | inr other ↦
       cond-false (b == block) (key_of (take 33 (zeros count))) (key_in blocks (drop 33 (zeros count)) block) other
       ∙ (ap (λ bytes. key_in blocks bytes block) (zeros_after count 33) ∙ no_key blocks (count - 33) block)

@@ -115,7 +115,8 @@ AreBitsOf-zeros = record {
   none = λ p _. set.contains-empty pos_cmp p;
 }
 
-zeros_at : (n w : ℕ) → get_or {A = ℕ} (replicate n 0) w 0 ≡ zero
+-- each of some zeros
+pub zeros_at : (n w : ℕ) → get_or {A = ℕ} (replicate n 0) w 0 ≡ 0
 zeros_at zero w = refl
 zeros_at (suc n) zero = refl
 zeros_at (suc n) (suc w) = zeros_at n w

@@ -4,6 +4,7 @@ use Rattle.std.specs.Prelude.{slice_get}
 use Rattle.std.specs.List.{list_any}
 use Rattle.std.specs.FinSet as set
 use Rattle.std.proofs.lemmas.List.Folds.{list_any_more}
+use Rattle.std.proofs.Math.Bool.{and-true, or-false}
 use Rattle.std.proofs.lemmas.Bool.{and_right}
 use Rattle.std.proofs.lemmas.Option.{slice_get_read}
 use Rattle.fusemap_core.specs.declared.field.Field.{Field}
@@ -19,14 +20,6 @@ both_parts : (x a h : Bool) → (x && (a || h)) ≡ ((x && a) || (x && h))
 both_parts true a h = refl
 both_parts false a h = refl
 
-and_true : (h : Bool) → (h && true) ≡ h
-and_true true = refl
-and_true false = refl
-
-or_false : (h : Bool) → (h || false) ≡ h
-or_false true = refl
-or_false false = refl
-
 -- no field has no position
 pub positions_in-none : (test : Field → Bool) → set.empty ≡ positions_in test []
 positions_in-none test = set.same_set pos_total pos_exact set.empty (positions_in test []) (λ p.
@@ -40,7 +33,7 @@ positions_in-passes test fields i f low e passes = set.same_set pos_total pos_ex
     set.contains-union pos_total (positions_in test (take i fields)) (run (record { block = f.block; bit = f.bit }) f.count) p
     ∙ (ap₂ (λ (a b : Bool). a || b)
     (contains-places_where (λ q. list_any (λ g. holds g q && test g) (take i fields)) p)
-    (contains-places_where (λ q. holds f q) p ∙ ap (λ (a : Bool). is_place p && a) (sym (and_true (holds f p)) ∙ (ap (λ (a : Bool). holds f p && a) (sym passes) ∙ ap at e)))
+    (contains-places_where (λ q. holds f q) p ∙ ap (λ (a : Bool). is_place p && a) (sym (and-true (holds f p)) ∙ (ap (λ (a : Bool). holds f p && a) (sym passes) ∙ ap at e)))
     ∙ (sym (both_parts (is_place p) (list_any at (take i fields)) (at (get_or fields i f)))
     ∙ (ap (λ (a : Bool). is_place p && a) (sym (list_any_more at fields i f low))
     ∙ sym (contains-places_where (λ q. list_any (λ g. holds g q && test g) (take (i + 1) fields)) p)))))
@@ -51,7 +44,7 @@ positions_in-fails test fields i f low e fails = set.same_set pos_total pos_exac
     let at : Field → Bool = λ g. holds g p && test g in
     contains-places_where (λ q. list_any (λ g. holds g q && test g) (take i fields)) p
     ∙ (ap (λ (a : Bool). is_place p && a)
-    (sym (or_false (list_any at (take i fields))) ∙ (ap (λ (a : Bool). list_any at (take i fields) || a) (sym (and_right (holds f p) (test f) fails) ∙ ap at e)
+    (sym (or-false (list_any at (take i fields))) ∙ (ap (λ (a : Bool). list_any at (take i fields) || a) (sym (and_right (holds f p) (test f) fails) ∙ ap at e)
     ∙ sym (list_any_more at fields i f low)))
     ∙ sym (contains-places_where (λ q. list_any (λ g. holds g q && test g) (take (i + 1) fields)) p)))
 

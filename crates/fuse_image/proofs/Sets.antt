@@ -3,6 +3,7 @@ use Rattle.std.proofs.Common.{◌≡◌, ℕ, ◌+◌, ◌<◌, Bool, true, fals
 use Rattle.std.specs.FinSet as set
 use Rattle.std.specs.Ordering.{eq_by_cmp}
 use Rattle.std.proofs.lemmas.List.{take_more}
+use Rattle.std.proofs.Math.Bool.{or-false}
 use Rattle.std.proofs.lemmas.Bool.{eqb-true, eq-eqb, and_parts, and_from, ltb-true, lt-ltb, cases_Bool, true≢false, false≢true}
 use Rattle.fusemap_core.specs.declared.pos.Pos.{Pos}
 use Rattle.fuse_image.specs.Places.{is_empty, Positions, pos_cmp, pos_total, pos_exact, is_place, IsPlace, places_where, contains-places_where, same_bool}
@@ -68,10 +69,6 @@ difference-places_where s test inside = set.same_set pos_total pos_exact (set.di
     ∙ sym (set.contains-retain s (λ q. not (test q)) p (λ q e. ap (λ (r : Pos). not (test r)) (sym (pos_exact p q e)))))))
 
 -- a set with a list of positions, one after another
-or_none : (a : Bool) → a ≡ (a || false)
-or_none true = refl
-or_none false = refl
-
 or_swap : (a b c : Bool) → (a || (b || c)) ≡ (b || (a || c))
 or_swap true true c = refl
 or_swap true false c = refl
@@ -79,7 +76,7 @@ or_swap false b c = refl
 
 pub union-none : (s : Positions) → s ≡ set.union s set.empty
 union-none s = set.same_set pos_total pos_exact s (set.union s set.empty) (λ q.
-    or_none (set.contains s q)
+    sym (or-false (set.contains s q))
     ∙ (ap (λ (b : Bool). set.contains s q || b) (sym (set.contains-empty pos_cmp q)) ∙ sym (set.contains-union pos_total s set.empty q)))
 
 insert-union : (s t : Positions) (p : Pos) → set.insert (set.union s t) p ≡ set.union s (set.insert t p)

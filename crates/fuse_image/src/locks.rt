@@ -1,15 +1,13 @@
 // What the locks of a map hide and protect.
 ghost use Rattle.std.specs.Prelude.{◌≡◌, ◌<◌, ◌&&◌, ◌==◌, IfSome};
 ghost use Rattle.std.specs.List.{list_any};
-ghost use Rattle.std.specs.Option.{option_and_then};
-ghost use Rattle.fusemap_core.specs.Map.{holds, lock_at};
+ghost use Rattle.fusemap_core.specs.Map.{holds};
 ghost use Rattle.fuse_image.specs.Locks as locks;
 ghost use Rattle.fuse_image.specs.Locks.{has_burnt_lock, positions_in};
 ghost use Rattle.fuse_image.specs.Places.{IsPlace, places_where};
 
 use crate::bits::Bits;
 use fusemap_core::{Field, FuseMap, Pos};
-use text_core::Name;
 
 /// The two locks that a field may have: one against further burning, one against reading.
 #[derive(Clone, Copy)]
@@ -75,7 +73,7 @@ pub fn key_positions(map: &FuseMap) -> Bits
     let mut positions = Bits::empty();
     for field in fields {
         if field.key {
-            let first = first_of(field);
+            let first = field.first();
             positions = positions.with_run(first, field.count);
         }
     }
@@ -99,7 +97,7 @@ fn locked_positions(map: &FuseMap, lock: Lock, burnt: &Bits) -> Bits
     let mut positions = Bits::empty();
     for field in fields {
         if is_burnt(burnt, lock_of(map, lock, field)) {
-            positions = positions.with_run(first_of(field), field.count);
+            positions = positions.with_run(field.first(), field.count);
         }
     }
     positions
@@ -127,27 +125,11 @@ fn is_locked(map: &FuseMap, lock: Lock, burnt: &Bits, pos: Pos) -> bool
 {
     let fields = map.fields();
     for field in fields {
-        if has_position(field, pos) && is_burnt(burnt, lock_of(map, lock, field)) {
+        if field.holds(pos) && is_burnt(burnt, lock_of(map, lock, field)) {
             return true;
         }
     }
     false
-}
-
-/// Whether the field has the position.
-fn has_position(field: &Field, pos: Pos) -> bool
-    ensures { result ≡ holds field.now pos }
-{
-    field.block == pos.block && field.bit <= pos.bit && pos.bit - field.bit < field.count
-}
-
-fn first_of(field: &Field) -> Pos
-    ensures { result ≡ record { block = field.now.block; bit = field.now.bit } }
-{
-    Pos {
-        block: field.block,
-        bit: field.bit,
-    }
 }
 
 /// The position that is a lock of the field, if it has one.
@@ -155,26 +137,13 @@ fn lock_of(map: &FuseMap, lock: Lock, field: &Field) -> Option<Pos>
     ensures { result ≡ locks.lock_of map.now lock field.now }
 {
     match lock {
-        Lock::Write => lock_at(map, &map.wr(), field.write),
-        Lock::Read => lock_at(map, &map.rd(), field.read),
+        Lock::Write => map.write_lock_of(field),
+        Lock::Read => map.read_lock_of(field),
     }
 }
 
-/// The position of a lock by its number in the lock field of a name.
-fn lock_at(map: &FuseMap, name: &Name, number: Option<u8>) -> Option<Pos>
-    ensures { result ≡ option_and_then (lock_at map.now.fields name.now) number }
-{
-    let number = number?;
-    let id = map.field(name)?;
-    let field = map.get(id);
-    Some(Pos {
-        block: field.block,
-        bit: field.bit + u16::from(number),
-    })
-}
-
 /// Whether there is a lock, and it is burnt.
-fn is_burnt(burnt: &Bits, lock: Option<Pos>) -> bool
+pub fn is_burnt(burnt: &Bits, lock: Option<Pos>) -> bool
     requires { IfSome lock IsPlace }
     ensures { result ≡ locks.is_burnt burnt.now lock }
 {

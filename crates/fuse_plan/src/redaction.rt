@@ -6,14 +6,14 @@ ghost use Rattle.fusemap_core.specs.declared.field.Field.{Field};
 ghost use Rattle.fusemap_core.specs.Map.{IsFieldOf, IsSmall, field_of, holds};
 ghost use Rattle.fuse_image.specs.Keys.{table_where};
 ghost use Rattle.fuse_image.specs.Locks as locks;
-ghost use Rattle.fuse_image.specs.Places.{IsPlace, places_where};
+ghost use Rattle.fuse_image.specs.Places.{places_where};
 ghost use Rattle.fuse_plan.specs.Redaction as redaction;
 ghost use Rattle.fuse_plan.specs.Redaction.{AreKeys, AreOutsideKeys, Fits, redacted};
 
 use fuse_image::{
-    Bits, BlockWords, Keys, hidden_positions, is_hidden_key, is_key_block, key_positions,
+    Bits, BlockWords, Keys, hidden_positions, is_burnt, is_hidden_key, is_key_block, key_positions,
 };
-use fusemap_core::{Field, FieldId, FuseMap, Pos};
+use fusemap_core::{Field, FieldId, FuseMap};
 use text_core::Digest;
 
 /// What a chip shows when it is read back.
@@ -137,22 +137,7 @@ fn positions_of(field: &Field) -> Bits
     requires { IsSmall field.now }
     ensures { result ≡ places_where (holds field.now) }
 {
-    let first = Pos {
-        block: field.block,
-        bit: field.bit,
-    };
-    Bits::empty().with_run(first, field.count)
-}
-
-/// Whether there is a lock, and it is burnt.
-fn is_burnt(burnt: &Bits, lock: Option<Pos>) -> bool
-    requires { IfSome lock IsPlace }
-    ensures { result ≡ locks.is_burnt burnt.now lock }
-{
-    match lock {
-        Some(pos) => burnt.has(pos),
-        None => false,
-    }
+    Bits::empty().with_run(field.first(), field.count)
 }
 
 /// Whether a position or a key field that the read-back's own read locks hide shows something.

@@ -1,10 +1,9 @@
 -- The fuse map that a text is.
 use Rattle.std.specs.Prelude.{◌≡◌, ℕ, ◌≤◌, ◌&&◌, nat_le, nat_lt, List, length, codes, Option, Some, None, option_and_then, Result, Err, if◌then◌else◌}
 use Rattle.std.specs.Option.{ok_or}
-use Rattle.toml.specs.Data.{Data, get, as_str}
+use Rattle.toml.specs.Data.{Data, get}
 use Rattle.text_core.specs.Answer.{result_and_then}
-use Rattle.toml_members.specs.Documents.{document_of, whole_member, optional_whole, flag_member, name_member, items_member, if_there}
-use Rattle.text_core.specs.Name.{name_of_text}
+use Rattle.toml_members.specs.Documents.{document_of, whole_member, optional_whole, flag_member, name_in, name_member, items_member, if_there}
 use Rattle.text_core.specs.Options.{◌>>=◌, all_of}
 use Rattle.fusemap_core.specs.declared.fault.MapFault.{MapFault}
 use Rattle.fusemap_core.specs.declared.fault.MapFault.TheVariants.{NotToml, BadMember}
@@ -13,10 +12,6 @@ use Rattle.fusemap_core.specs.declared.map.TheConstants.{BLOCK_LIMIT, FIELD_LIMI
 use Rattle.fusemap_core.specs.declared.text.TheConstants.{TEXT_LIMIT, LARGEST_INTEGER}
 use Rattle.fusemap_core.specs.Map.{Map, IsMap}
 use Rattle.fusemap_core.specs.MapFaults.{judged}
-
--- a value that is a name
-abbrev pub name_in : Data → Option (List ℕ)
-name_in d = option_and_then name_of_text (as_str d)
 
 -- a member that is a name, or nothing where there is no such member
 abbrev pub optional_name : List ℕ → Data → Option (Option (List ℕ))

@@ -26,9 +26,19 @@ pub struct Field {
 
 impl Field {
     /// Whether the field has the position.
-    pub(crate) fn holds(&self, pos: Pos) -> bool
+    pub fn holds(&self, pos: Pos) -> bool
         ensures { result ≡ map.holds self.now pos }
     {
         self.block == pos.block && self.bit <= pos.bit && pos.bit - self.bit < self.count
+    }
+
+    /// The position of its lowest bit.
+    pub fn first(&self) -> Pos
+        ensures { result ≡ record { block = self.now.block; bit = self.now.bit } }
+    {
+        Pos {
+            block: self.block,
+            bit: self.bit,
+        }
     }
 }

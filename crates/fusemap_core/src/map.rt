@@ -152,7 +152,13 @@ impl FuseMap {
         ensures is_position { IfSome result (IsPosition self.now.blocks) }
         ensures small { IfSome result IsSmallPosition }
     {
-        let field = self.get(id);
+        self.write_lock_of(&self.get(id))
+    }
+
+    /// The position that governs the writing of a field that is given itself, if one does.
+    pub fn write_lock_of(&self, field: &Field) -> Option<Pos>
+        ensures { result ≡ map.write_lock self.now field.now }
+    {
         locks::lock_of(self.fields.as_slice(), &self.wr, field.write)
     }
 
@@ -164,7 +170,13 @@ impl FuseMap {
         ensures is_position { IfSome result (IsPosition self.now.blocks) }
         ensures small { IfSome result IsSmallPosition }
     {
-        let field = self.get(id);
+        self.read_lock_of(&self.get(id))
+    }
+
+    /// The position that governs the reading of a field that is given itself, if one does.
+    pub fn read_lock_of(&self, field: &Field) -> Option<Pos>
+        ensures { result ≡ map.read_lock self.now field.now }
+    {
         locks::lock_of(self.fields.as_slice(), &self.rd, field.read)
     }
 

@@ -2,10 +2,9 @@
 ghost use Rattle.std.specs.Prelude.{◌≡◌, ◌≢◌, ◌<◌, IfErr, IfOk, length, map, option_map};
 ghost use Rattle.toml.specs.View.{view};
 ghost use Rattle.text_core.specs.Answer.{GivesUnless};
-ghost use Rattle.text_core.specs.Options.{all_of};
 ghost use Rattle.fusemap_core.specs.Map.{Map};
 ghost use Rattle.fusemap_core.specs.MapText as map_text;
-ghost use Rattle.fusemap_core.specs.MapText.{IsMapText, field_in, map_of, map_read, name_in, words_in};
+ghost use Rattle.fusemap_core.specs.MapText.{IsMapText, field_in, map_of, map_read, words_in};
 
 use crate::draft::{FieldDraft, MapDraft};
 use crate::fault::MapFault;
@@ -15,7 +14,8 @@ use std::alloc::{AllocError, Global};
 use text_core::Name;
 use toml::Value;
 use toml_members::{
-    flag_member, items_member, name_member, optional_whole, read_document, whole_member,
+    flag_member, items_member, name_member, optional_whole, read_all, read_document, read_name,
+    whole_member,
 };
 
 /// The most bytes of a map's text.
@@ -39,7 +39,7 @@ pub fn read_map(alloc: Global, text: &str) -> Result<FuseMap, MapFault>
     ensures refused { IfErr result (λ fault. fault ≢ MapFault.OutOfMemory
         → (map : Map) → ¬ IsMapText text.now map) }
 
-    // A text over its limit takes no memory.
+    // A text over its limit is told its fault, and never want of memory.
     ensures too_long { TEXT_LIMIT < length text.now → result ≡ Err MapFault.BadMember }
 {
     if TEXT_LIMIT < text.len() {
@@ -61,13 +61,13 @@ fn read_draft(alloc: Global, document: &Value) -> Result<Option<MapDraft>, Alloc
     let Some(block_items) = list_member(document, "block", 1, BLOCK_LIMIT) else {
         return Ok(None);
     };
-    let Some(blocks) = read_blocks(alloc, block_items)? else {
+    let Some(blocks) = read_all(alloc, block_items, read_words)? else {
         return Ok(None);
     };
     let Some(field_items) = list_member(document, "field", 1, FIELD_LIMIT) else {
         return Ok(None);
     };
-    let Some(fields) = read_fields(alloc, field_items)? else {
+    let Some(fields) = read_all(alloc, field_items, read_field)? else {
         return Ok(None);
     };
     let Some(wr) = name_member(document, "wr") else {
@@ -89,40 +89,12 @@ fn read_draft(alloc: Global, document: &Value) -> Result<Option<MapDraft>, Alloc
     }))
 }
 
-/// The words of each block.
-fn read_blocks(alloc: Global, values: &[Value]) -> Result<Option<Vec<u8>>, AllocError>
-    ensures { IfOk result (λ found. option_map (λ blocks. blocks.items) found
-        ≡ all_of words_in (map view values.now)) }
-{
-    let mut blocks = Vec::new(alloc);
-    for value in values {
-        let Some(words) = read_words(value) else {
-            return Ok(None);
-        };
-        blocks.push(words)?;
-    }
-    Ok(Some(blocks))
-}
-
+/// The words of a block.
 fn read_words(value: &Value) -> Option<u8>
     ensures { result ≡ words_in (view value.now) }
 {
     let words = whole_member(value, "words", 1, WORD_LIMIT)?;
     Some(words as u8)
-}
-
-fn read_fields(alloc: Global, values: &[Value]) -> Result<Option<Vec<FieldDraft>>, AllocError>
-    ensures { IfOk result (λ found. option_map (λ fields. fields.items) found
-        ≡ all_of field_in (map view values.now)) }
-{
-    let mut fields = Vec::new(alloc);
-    for value in values {
-        let Some(field) = read_field(value) else {
-            return Ok(None);
-        };
-        fields.push(field)?;
-    }
-    Ok(Some(fields))
 }
 
 #[tactic(auto, unfolding(crate::specs::MapText::field_in))]
@@ -156,12 +128,6 @@ fn optional_name(value: &Value, name: &str) -> Option<Option<Name>>
         Some(found) => Some(Some(read_name(found)?)),
         None => Some(None),
     }
-}
-
-fn read_name(value: &Value) -> Option<Name>
-    ensures { result ≡ name_in (view value.now) }
-{
-    Name::parse(value.as_str()?)
 }
 
 /// The items of a member that is an array of so many.

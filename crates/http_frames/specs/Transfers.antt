@@ -22,8 +22,8 @@ Takes left after room Interrupted = after ≡ left
 Takes left after room Failed = after ≡ left
 
 -- the same, where the reader tells its bytes
-abbrev pub Reads : Option (List ℕ) → Option (List ℕ) → List ℕ → Transfer → Type 0
-Reads old new room result = IfSome old (λ left. IsSomeAnd new (λ after. Takes left after room result))
+abbrev pub ReadsBytes : Option (List ℕ) → Option (List ℕ) → List ℕ → Transfer → Type 0
+ReadsBytes old new room result = IfSome old (λ left. IsSomeAnd new (λ after. Takes left after room result))
 
 -- a front of the bytes was added
 abbrev pub Adds : List ℕ → List ℕ → List ℕ → Transfer → Type 0
@@ -32,8 +32,8 @@ Adds before after bytes Interrupted = after ≡ before
 Adds before after bytes Failed = after ≡ before
 
 -- the same, where the writer tells its bytes
-abbrev pub Writes : Option (List ℕ) → Option (List ℕ) → List ℕ → Transfer → Type 0
-Writes old new bytes result = IfSome old (λ before. IsSomeAnd new (λ after. Adds before after bytes result))
+abbrev pub WritesBytes : Option (List ℕ) → Option (List ℕ) → List ℕ → Transfer → Type 0
+WritesBytes old new bytes result = IfSome old (λ before. IsSomeAnd new (λ after. Adds before after bytes result))
 
 -- a write that takes none of some bytes counts as failed
 abbrev pub write_failures : List ℕ → Transfer → ℕ

@@ -1,7 +1,7 @@
 //! The bytes of a stream that were read and not yet served.
 
 ghost use Rattle.std.specs.Prelude.{◌≡◌, ℕ, ◌+◌, ◌-◌, ◌<◌, ◌≤◌, ◌^◌, ◌++◌, List, [], ◌↔◌, ◌==◌, true, length, take, drop, IfOk, Option, vec_len};
-ghost use Rattle.http_frames.specs.Transfers.{Reads, failures_of};
+ghost use Rattle.http_frames.specs.Transfers.{ReadsBytes, failures_of};
 ghost use Rattle.http_frames.specs.Looks.{IsLook};
 ghost use Rattle.http_frames.specs.Buffers.{unread, count_of, Keeps, IsFramed, IsEnd, faults_of, end_of};
 
@@ -55,7 +55,7 @@ fn read_behind<R: Source>(reader: &mut R, bytes: &mut [u8], len: usize) -> Trans
     ensures failed { R.failures reader.new ≡ R.failures reader.old + failures_of result }
     ensures most { len + count_of result ≤ length bytes.new }
     ensures before { take len bytes.new ≡ take len bytes.old }
-    ensures bytes { Reads (R.left reader.old) (R.left reader.new) (drop len bytes.new) result }
+    ensures bytes { ReadsBytes (R.left reader.old) (R.left reader.new) (drop len bytes.new) result }
 {
     reader.read(&mut bytes[len..])
 }

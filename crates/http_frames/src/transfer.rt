@@ -1,7 +1,7 @@
 //! What bytes come from and go to, one call at a time.
 
 ghost use Rattle.std.specs.Prelude.{◌≡◌, ℕ, ◌+◌, ◌<◌, ◌^◌, List, length, Option};
-ghost use Rattle.http_frames.specs.Transfers.{MovesAtMost, failures_of, write_failures, Reads, Writes};
+ghost use Rattle.http_frames.specs.Transfers.{MovesAtMost, failures_of, write_failures, ReadsBytes, WritesBytes};
 
 /// What one call of a reader or writer did.
 #[derive(Clone, Copy)]
@@ -29,7 +29,7 @@ pub trait Source {
         ensures counted { calls self.new ≡ calls self.old + 1 }
         ensures failed { failures self.new ≡ failures self.old + failures_of result }
         ensures most { MovesAtMost result (length room.new) }
-        ensures bytes { Reads (left self.old) (left self.new) room.new result };
+        ensures bytes { ReadsBytes (left self.old) (left self.new) room.new result };
 }
 
 /// What bytes go to.
@@ -47,5 +47,5 @@ pub trait Drain {
         ensures counted { calls self.new ≡ calls self.old + 1 }
         ensures failed { failures self.new ≡ failures self.old + write_failures bytes.now result }
         ensures most { MovesAtMost result (length bytes.now) }
-        ensures bytes { Writes (written self.old) (written self.new) bytes.now result };
+        ensures bytes { WritesBytes (written self.old) (written self.new) bytes.now result };
 }

@@ -17,7 +17,7 @@ use Rattle.http_serving.specs.Sends.{Sends, Sending}
 use Rattle.http_serving.specs.declared.send.Sent.{Sent}
 use Rattle.http_serving.specs.declared.Served.{Served}
 use Rattle.http_replies.specs.Replies.{Answer, reply_text}
-use Rattle.http_serving.specs.Streams.{outcome_of, Turning, Serving, ServingSoFar, StopsReading, StopsWriting, Piece, whole, refused, IsPiece, is_last, text_of, texts_of, Machine, Steps, Serves, IsOpen, Ends, Turns, Runs, Reaches}
+use Rattle.http_serving.specs.Streams.{outcome_of, Turning, Serving, ServingSoFar, StopsReading, StopsWriting, Piece, whole, refused, IsPiece, is_last, text_of, texts_of, Machine, Steps, Serves, IsOpen, Ends, TakesTurns, Runs, Reaches}
 
 -- a request stays one whatever bytes follow
 pub request_more : (rest more : List ℕ) (request : Request) (after : List ℕ) → HasRequest rest request after → HasRequest (rest ++ more) request (after ++ more)
@@ -90,7 +90,7 @@ none_more before = sym (append-nil before)
 -- one piece and its reply, or a front of the reply
 piece_turn : {S : Type 0} (step : Machine S) (old new : S) (rest after left before written : List ℕ) (piece : Piece) (last : Bool) (sent : Sent) → is_last piece ≡ last
     → IsPiece rest piece after → Steps step old piece new → Sends before written (text_of piece) sent
-    → Turns step old new rest after left before written (outcome_of sent last)
+    → TakesTurns step old new rest after left before written (outcome_of sent last)
 piece_turn step old new rest after left before written piece true Sent.All last is_piece steps sends =
     (piece ∷ [], after, (new, after, is_piece, steps, (λ _. refl), (refl, refl)), (ap (λ t. t || false) last, sends ∙ sym (one before (text_of piece))))
 piece_turn step old new rest after left before written piece false Sent.All last is_piece steps sends = (piece, is_piece, steps, last, sends)
@@ -110,7 +110,7 @@ piece_turn step old new rest after left before written piece last Sent.TurnLimit
 -- a refusal always ends the stream, so that nothing is said of what follows
 refused_turn : {S : Type 0} (step : Machine S) (old : S) (rest next left before written : List ℕ) (refusal : FrameRefusal) (is_head : Bool) (sent : Sent)
     → IsRefused rest refusal is_head → Sends before written (text_of (refused refusal is_head)) sent
-    → Turns step old old rest next left before written (outcome_of sent true)
+    → TakesTurns step old old rest next left before written (outcome_of sent true)
 refused_turn step old rest next left before written refusal is_head Sent.All is_refused sends =
     piece_turn step old old rest rest left before written (refused refusal is_head) true Sent.All refl (is_refused, refl) refl sends
 refused_turn step old rest next left before written refusal is_head Sent.Fault is_refused sends =
@@ -120,7 +120,7 @@ refused_turn step old rest next left before written refusal is_head Sent.TurnLim
 
 -- a turn without a write
 pub quiet : {S : Type 0} (step : Machine S) (old : S) (front window next : List ℕ) (left_old left_new written : Option (List ℕ)) (ended : Type 0) (result : Option Served) → Keeps front left_old window left_new ended
-    → ((left after before : List ℕ) → front ++ left ≡ window ++ after → (ended → after ≡ []) → Turns step old old (front ++ left) (next ++ after) after before before result)
+    → ((left after before : List ℕ) → front ++ left ≡ window ++ after → (ended → after ≡ []) → TakesTurns step old old (front ++ left) (next ++ after) after before before result)
     → Turning step old old front left_old next left_new written written result
 quiet step old front window next None left_new written ended result keeps turn = tt
 quiet step old front window next (Some left) None None ended result keeps turn = tt
@@ -131,7 +131,7 @@ quiet step old front window next (Some left) (Some after) (Some before) ended re
 -- a turn with a reply
 pub told : {S : Type 0} (step : Machine S) (old new : S) (front window next text : List ℕ) (left_old left_new written_old written_new : Option (List ℕ)) (ended : Type 0) (sent : Sent) (result : Option Served)
     → Keeps front left_old window left_new ended → Sending written_old written_new text sent
-    → ((left after before written : List ℕ) → front ++ left ≡ window ++ after → Sends before written text sent → Turns step old new (front ++ left) (next ++ after) after before written result)
+    → ((left after before written : List ℕ) → front ++ left ≡ window ++ after → Sends before written text sent → TakesTurns step old new (front ++ left) (next ++ after) after before written result)
     → Turning step old new front left_old next left_new written_old written_new result
 told step old new front window next text None left_new written_old written_new ended sent result keeps sends turn = tt
 told step old new front window next text (Some left) left_new None written_new ended sent result keeps sends turn = tt

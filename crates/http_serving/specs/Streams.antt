@@ -106,10 +106,10 @@ IsServed step old new stream left before written served =
     (pieces : List Piece) × (rest : List ℕ) × Serves step old stream pieces new rest × Ends served pieces rest left before written
 
 -- one turn: a piece more, or the end
-abbrev pub Turns : {S : Type 0} → Machine S → S → S → List ℕ → List ℕ → List ℕ → List ℕ → List ℕ → Option Served → Type 0
-Turns step old new rest next left before written None =
+abbrev pub TakesTurns : {S : Type 0} → Machine S → S → S → List ℕ → List ℕ → List ℕ → List ℕ → List ℕ → Option Served → Type 0
+TakesTurns step old new rest next left before written None =
     (piece : Piece) × IsPiece rest piece next × Steps step old piece new × (is_last piece ≡ false) × (written ≡ before ++ text_of piece)
-Turns step old new rest next left before written (Some served) = IsServed step old new rest left before written served
+TakesTurns step old new rest next left before written (Some served) = IsServed step old new rest left before written served
 
 -- what became of a stream where this became of a reply
 abbrev pub outcome_of : Sent → Bool → Option Served
@@ -123,7 +123,7 @@ abbrev pub Turning : {S : Type 0} → Machine S → S → S → List ℕ → Opt
 Turning step old new front left_old next left_new written_old written_new result =
     IfSome left_old (λ left. IfSome written_old (λ before.
     IsSomeAnd left_new (λ after. IsSomeAnd written_new (λ written.
-    Turns step old new (front ++ left) (next ++ after) after before written result))))
+    TakesTurns step old new (front ++ left) (next ++ after) after before written result))))
 
 -- a whole stream, where the reader and the writer tell their bytes
 abbrev pub Serving : {S : Type 0} → Machine S → S → S → Option (List ℕ) → Option (List ℕ) → Option (List ℕ) → Option (List ℕ) → Served → Type 0

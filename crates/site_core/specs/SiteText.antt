@@ -1,13 +1,12 @@
 -- The site that a text is.
 use Rattle.std.specs.Prelude.{◌≡◌, ℕ, ◌≤◌, nat_lt, List, length, codes, Option, Some, None, option_and_then, option_map, Result, Err, if◌then◌else◌}
 use Rattle.std.specs.Option.{ok_or}
-use Rattle.toml.specs.Data.{Data, get, as_str}
+use Rattle.toml.specs.Data.{Data, get}
 use Rattle.id_ranges.specs.Mac.{mac_of_text}
 use Rattle.id_ranges.specs.Pool.{Pool}
 use Rattle.id_ranges.specs.declared.pool.TheConstants.{LARGEST_POOL}
 use Rattle.text_core.specs.Answer.{result_and_then}
-use Rattle.toml_members.specs.Documents.{document_of, whole_member, text_member, name_member, digest_member, items_member, optional_items}
-use Rattle.text_core.specs.Name.{name_of_text}
+use Rattle.toml_members.specs.Documents.{document_of, whole_member, text_member, name_in, name_member, digest_member, items_member, optional_items}
 use Rattle.text_core.specs.Options.{◌>>=◌, all_of}
 use Rattle.site_core.specs.Section.{SeatOf, Section, SiteValue}
 use Rattle.site_core.specs.Site.{IsSite}
@@ -15,10 +14,6 @@ use Rattle.site_core.specs.SiteFaults.{judged}
 use Rattle.site_core.specs.declared.fault.SiteFault.{SiteFault}
 use Rattle.site_core.specs.declared.fault.SiteFault.TheVariants.{NotToml, BadMember, OverLimit}
 use Rattle.site_core.specs.declared.text.TheConstants.{TEXT_LIMIT}
-
--- a value that is a name
-abbrev pub name_in : Data → Option (List ℕ)
-name_in d = option_and_then name_of_text (as_str d)
 
 -- a member that is a hardware address
 abbrev pub mac_member : List ℕ → Data → Option ℕ

@@ -1,11 +1,10 @@
 // The text of a site.
-ghost use Rattle.std.specs.Prelude.{◌≡◌, ◌≢◌, ◌<◌, IfErr, IfOk, length, map, option_map};
+ghost use Rattle.std.specs.Prelude.{◌≡◌, ◌≢◌, ◌<◌, IfErr, IfOk, length};
 ghost use Rattle.toml.specs.View.{view};
 ghost use Rattle.text_core.specs.Answer.{GivesUnless};
-ghost use Rattle.text_core.specs.Options.{all_of};
 ghost use Rattle.site_core.specs.Section.{SiteValue};
 ghost use Rattle.site_core.specs.SiteText as site_text;
-ghost use Rattle.site_core.specs.SiteText.{IsSiteText, customer_in, manager_in, name_in, pool_in, seat_in, site_of, site_read};
+ghost use Rattle.site_core.specs.SiteText.{IsSiteText, customer_in, manager_in, pool_in, seat_in, site_of, site_read};
 
 use crate::customer::Seat;
 use crate::draft::{CustomerDraft, PoolDraft, SiteDraft};
@@ -14,11 +13,11 @@ use crate::judge::judged_site;
 use crate::site::Site;
 use id_ranges::{LARGEST_POOL, Mac};
 use std::alloc::{AllocError, Global};
-use text_core::{Digest, Name};
+use text_core::Digest;
 use toml::Value;
 use toml_members::{
-    digest_member, items_member, name_member, optional_items, read_document, text_member,
-    whole_member,
+    digest_member, items_member, name_member, optional_items, read_all, read_document, read_name,
+    text_member, try_read_all, whole_member,
 };
 
 /// The most bytes of a site's text: 2^20.
@@ -38,7 +37,7 @@ pub fn read_site(alloc: Global, text: &str) -> Result<Site, SiteFault>
     ensures refused { IfErr result (λ fault. fault ≢ SiteFault.OutOfMemory
         → (site : SiteValue) → ¬ IsSiteText text.now site) }
 
-    // A text over its limit takes no memory.
+    // A text over its limit is told its fault, and never want of memory.
     ensures too_long { TEXT_LIMIT < length text.now → result ≡ Err SiteFault.OverLimit }
 {
     if TEXT_LIMIT < text.len() {
@@ -57,7 +56,7 @@ fn read_draft(alloc: Global, document: &Value) -> Result<Option<SiteDraft>, Allo
     let Some(items) = items_member(document, "customer") else {
         return Ok(None);
     };
-    let Some(customers) = read_customers(alloc, items)? else {
+    let Some(customers) = try_read_all(alloc, items, |value| read_customer(alloc, value))? else {
         return Ok(None);
     };
     let Some(manager) = read_manager(document) else {
@@ -76,20 +75,6 @@ fn read_manager(document: &Value) -> Option<Option<Digest>>
     }
 }
 
-fn read_customers(alloc: Global, values: &[Value]) -> Result<Option<Vec<CustomerDraft>>, AllocError>
-    ensures { IfOk result (λ found. option_map (λ customers. customers.items) found
-        ≡ all_of customer_in (map view values.now)) }
-{
-    let mut customers = Vec::new(alloc);
-    for value in values {
-        let Some(customer) = read_customer(alloc, value)? else {
-            return Ok(None);
-        };
-        customers.push(customer)?;
-    }
-    Ok(Some(customers))
-}
-
 #[tactic(auto, unfolding(crate::specs::SiteText::customer_in))]
 fn read_customer(alloc: Global, value: &Value) -> Result<Option<CustomerDraft>, AllocError>
     ensures { IfOk result (λ customer. customer ≡ customer_in (view value.now)) }
@@ -100,19 +85,19 @@ fn read_customer(alloc: Global, value: &Value) -> Result<Option<CustomerDraft>, 
     let Some(issuer_items) = items_member(value, "issuer") else {
         return Ok(None);
     };
-    let Some(issuers) = read_names(alloc, issuer_items)? else {
+    let Some(issuers) = read_all(alloc, issuer_items, read_name)? else {
         return Ok(None);
     };
     let Some(pool_items) = optional_items(value, "pool") else {
         return Ok(None);
     };
-    let Some(pools) = read_pools(alloc, pool_items)? else {
+    let Some(pools) = read_all(alloc, pool_items, read_pool)? else {
         return Ok(None);
     };
     let Some(seat_items) = optional_items(value, "seat") else {
         return Ok(None);
     };
-    let Some(seats) = read_seats(alloc, seat_items)? else {
+    let Some(seats) = read_all(alloc, seat_items, read_seat)? else {
         return Ok(None);
     };
     Ok(Some(CustomerDraft {
@@ -121,40 +106,6 @@ fn read_customer(alloc: Global, value: &Value) -> Result<Option<CustomerDraft>, 
         pools,
         seats,
     }))
-}
-
-fn read_names(alloc: Global, values: &[Value]) -> Result<Option<Vec<Name>>, AllocError>
-    ensures { IfOk result (λ found. option_map (λ names. names.items) found
-        ≡ all_of name_in (map view values.now)) }
-{
-    let mut names = Vec::new(alloc);
-    for value in values {
-        let Some(name) = read_name(value) else {
-            return Ok(None);
-        };
-        names.push(name)?;
-    }
-    Ok(Some(names))
-}
-
-fn read_name(value: &Value) -> Option<Name>
-    ensures { result ≡ name_in (view value.now) }
-{
-    Name::parse(value.as_str()?)
-}
-
-fn read_pools(alloc: Global, values: &[Value]) -> Result<Option<Vec<PoolDraft>>, AllocError>
-    ensures { IfOk result (λ found. option_map (λ pools. pools.items) found
-        ≡ all_of pool_in (map view values.now)) }
-{
-    let mut pools = Vec::new(alloc);
-    for value in values {
-        let Some(pool) = read_pool(value) else {
-            return Ok(None);
-        };
-        pools.push(pool)?;
-    }
-    Ok(Some(pools))
 }
 
 #[tactic(auto, unfolding(crate::specs::SiteText::pool_in))]
@@ -170,20 +121,6 @@ fn mac_member(value: &Value, name: &str) -> Option<Mac>
     ensures { result ≡ site_text.mac_member name.now (view value.now) }
 {
     Mac::parse(text_member(value, name)?)
-}
-
-fn read_seats(alloc: Global, values: &[Value]) -> Result<Option<Vec<Seat>>, AllocError>
-    ensures { IfOk result (λ found. option_map (λ seats. seats.items) found
-        ≡ all_of seat_in (map view values.now)) }
-{
-    let mut seats = Vec::new(alloc);
-    for value in values {
-        let Some(seat) = read_seat(value) else {
-            return Ok(None);
-        };
-        seats.push(seat)?;
-    }
-    Ok(Some(seats))
 }
 
 #[tactic(auto, unfolding(crate::specs::SiteText::seat_in))]

@@ -1,14 +1,11 @@
 // What a request asks for.
-ghost use Rattle.std.specs.Prelude.{◌≡◌, bytes_eq, codes, option_map, ok_or, IfOk, IfErr, Err};
+ghost use Rattle.std.specs.Prelude.{◌≡◌, ◌&&◌, bytes_eq, ok_or, IfOk};
 ghost use Rattle.serde_json.specs.View.{view};
 ghost use Rattle.text_core.specs.Answer.{GivesUnless, result_map};
 ghost use Rattle.http_frames.specs.Frames.{Request as HttpRequest};
 ghost use Rattle.http_frames.specs.Looks.{IsFrameAt};
 ghost use Rattle.json_members.specs.Json.{json_of};
-ghost use Rattle.station_api.specs.Devices.{register_device_of};
-ghost use Rattle.station_api.specs.Maps.{import_map_of};
-ghost use Rattle.station_api.specs.Orders.{make_order_of};
-ghost use Rattle.station_api.specs.Requests.{route_of, posts_or_gets, map_route, ledger_route, body_read, shows, order_shown, device_shown, ledger_shown, asked};
+ghost use Rattle.station_api.specs.Requests.{asked, body_read, query_read, request_of, route_of, show_of};
 
 use crate::device::{DEVICE_PATH, LEDGER_PATH, chip_parameter, register_device_request};
 use crate::map::{MAP_PATH, import_map_request};
@@ -30,71 +27,57 @@ pub struct Parsed {
     pub request: Request,
 }
 
+/// The commands that write, each of which has a body.
+#[derive(Clone, Copy)]
+pub enum Posted {
+    Order,
+    Map,
+    Device,
+}
+
+/// The commands that show, each of which has a query.
+#[derive(Clone, Copy)]
+pub enum Shown {
+    Order,
+    Device,
+    Ledger,
+}
+
 /// What a method and a path lead to.
 #[derive(Clone, Copy)]
 pub enum Route {
-    /// `POST /v1/order`.
-    MakeOrder,
-    /// `GET /v1/order`.
-    ShowOrder,
-    /// `POST /v1/map`.
-    ImportMap,
-    /// `POST /v1/device`.
-    RegisterDevice,
-    /// `GET /v1/device`.
-    ShowDevice,
-    /// `GET /v1/ledger`.
-    ShowLedger,
+    Posts(Posted),
+    Shows(Shown),
 }
 
-/// What the method of a path leads to where something is both made and shown.
-fn posts_or_gets(method: &[u8], posted: Route, shown: Route) -> Option<Route>
-    ensures { result ≡ posts_or_gets method.now posted shown }
+/// Whether a method and a path are these.
+fn is_command(method: &[u8], path: &[u8], known_method: &str, known_path: &str) -> bool
+    ensures { result ≡ (bytes_eq method.now known_method.now && bytes_eq path.now known_path.now) }
 {
-    if method == b"POST".as_slice() {
-        return Some(posted);
-    }
-    if method == b"GET".as_slice() {
-        return Some(shown);
-    }
-    None
-}
-
-/// What the method of a map's path leads to.
-fn map_route(method: &[u8]) -> Option<Route>
-    ensures { result ≡ map_route method.now }
-{
-    if method != b"POST".as_slice() {
-        return None;
-    }
-    Some(Route::ImportMap)
-}
-
-/// What the method of a ledger's path leads to.
-fn ledger_route(method: &[u8]) -> Option<Route>
-    ensures { result ≡ ledger_route method.now }
-{
-    if method != b"GET".as_slice() {
-        return None;
-    }
-    Some(Route::ShowLedger)
+    method == known_method.as_bytes() && path == known_path.as_bytes()
 }
 
 /// What a method and a path lead to, if to anything.
 fn find_route(method: &[u8], path: &[u8]) -> Option<Route>
     ensures { result ≡ route_of method.now path.now }
 {
-    if path == ORDER_PATH.as_bytes() {
-        return posts_or_gets(method, Route::MakeOrder, Route::ShowOrder);
+    if is_command(method, path, "POST", ORDER_PATH) {
+        return Some(Route::Posts(Posted::Order));
     }
-    if path == MAP_PATH.as_bytes() {
-        return map_route(method);
+    if is_command(method, path, "GET", ORDER_PATH) {
+        return Some(Route::Shows(Shown::Order));
     }
-    if path == DEVICE_PATH.as_bytes() {
-        return posts_or_gets(method, Route::RegisterDevice, Route::ShowDevice);
+    if is_command(method, path, "POST", MAP_PATH) {
+        return Some(Route::Posts(Posted::Map));
     }
-    if path == LEDGER_PATH.as_bytes() {
-        return ledger_route(method);
+    if is_command(method, path, "POST", DEVICE_PATH) {
+        return Some(Route::Posts(Posted::Device));
+    }
+    if is_command(method, path, "GET", DEVICE_PATH) {
+        return Some(Route::Shows(Shown::Device));
+    }
+    if is_command(method, path, "GET", LEDGER_PATH) {
+        return Some(Route::Shows(Shown::Ledger));
     }
     None
 }
@@ -110,81 +93,52 @@ fn read_value(alloc: Global, body: &[u8]) -> Result<Value, Refusal>
     }
 }
 
-/// The request that was found, or the refusal of a body that asks for none.
-fn found_request(found: Result<Option<Request>, AllocError>) -> Result<Request, Refusal>
-    ensures found { IfOk found (λ request. result ≡ ok_or request Refusal.BadMember) }
-    ensures memory { IfErr found (λ _. result ≡ Err Refusal.Unkept) }
+/// The request that the value of a body makes, if its members are of their forms.
+fn find_request(alloc: Global, posted: Posted, value: &Value) -> Result<Option<Request>, AllocError>
+    ensures { IfOk result (λ found. found ≡ request_of posted (view value.now)) }
 {
-    match found {
+    match posted {
+        Posted::Order => make_order_request(alloc, value),
+        Posted::Map => import_map_request(alloc, value),
+        Posted::Device => register_device_request(alloc, value),
+    }
+}
+
+/// The request that a body makes, or the lowest refusal of it.
+fn read_body(alloc: Global, posted: Posted, body: &[u8]) -> Result<Request, Refusal>
+    ensures { GivesUnless Refusal.Unkept result (body_read posted body.now) }
+{
+    let value = read_value(alloc, body)?;
+    match find_request(alloc, posted, &value) {
         Ok(Some(request)) => Ok(request),
         Ok(None) => Err(Refusal::BadMember),
         Err(_) => Err(Refusal::Unkept),
     }
 }
 
-/// The order that a body asks for, or the lowest refusal of it.
-fn read_order(alloc: Global, body: &[u8]) -> Result<Request, Refusal>
-    ensures { GivesUnless Refusal.Unkept result (body_read make_order_of body.now) }
+/// What a query asks to be shown, if its parameters are of their forms.
+fn find_show(shown: Shown, query: &[u8]) -> Option<Show>
+    ensures { result ≡ show_of shown query.now }
 {
-    let value = read_value(alloc, body)?;
-    found_request(make_order_request(alloc, &value))
-}
-
-/// The map that a body imports, or the lowest refusal of it.
-fn read_map_text(alloc: Global, body: &[u8]) -> Result<Request, Refusal>
-    ensures { GivesUnless Refusal.Unkept result (body_read import_map_of body.now) }
-{
-    let value = read_value(alloc, body)?;
-    found_request(import_map_request(alloc, &value))
-}
-
-/// The device that a body registers, or the lowest refusal of it.
-fn read_device(alloc: Global, body: &[u8]) -> Result<Request, Refusal>
-    ensures { GivesUnless Refusal.Unkept result (body_read register_device_of body.now) }
-{
-    let value = read_value(alloc, body)?;
-    found_request(register_device_request(alloc, &value))
-}
-
-/// A request that shows something: it has no use for a number and a digest.
-fn shows(show: Show) -> Request
-    ensures { result ≡ shows show }
-{
-    Request {
-        number: 0,
-        digest: Digest::from_bytes([0; 32]),
-        command: Command::Show(show),
+    match shown {
+        Shown::Order => Some(Show::Order(order_name(query)?)),
+        Shown::Device => Some(Show::Device(chip_parameter(query)?)),
+        Shown::Ledger => Some(Show::Ledger(chip_parameter(query)?)),
     }
 }
 
-/// The order that a query asks for, or the refusal of it.
-fn read_order_name(query: &[u8]) -> Result<Request, Refusal>
-    ensures { result ≡ order_shown query.now }
+/// The request that a query makes, or the refusal of it. It has no use for a number and a digest.
+fn read_query(shown: Shown, query: &[u8]) -> Result<Request, Refusal>
+    ensures { result ≡ query_read shown query.now }
 {
-    let Some(name) = order_name(query) else {
+    let Some(show) = find_show(shown, query) else {
         return Err(Refusal::BadMember);
     };
-    Ok(shows(Show::Order(name)))
-}
-
-/// The device that a query asks for, or the refusal of it.
-fn read_device_chip(query: &[u8]) -> Result<Request, Refusal>
-    ensures { result ≡ device_shown query.now }
-{
-    let Some(chip) = chip_parameter(query) else {
-        return Err(Refusal::BadMember);
-    };
-    Ok(shows(Show::Device(chip)))
-}
-
-/// The ledger that a query asks for, or the refusal of it.
-fn read_ledger_chip(query: &[u8]) -> Result<Request, Refusal>
-    ensures { result ≡ ledger_shown query.now }
-{
-    let Some(chip) = chip_parameter(query) else {
-        return Err(Refusal::BadMember);
-    };
-    Ok(shows(Show::Ledger(chip)))
+    Ok(Request {
+        number: 0,
+        digest: Digest::from_bytes([0; 32]),
+        command: Command::Show(show),
+    })
 }
 
 /// What a request of a known caller asks for, or the lowest refusal of its path, its method, its
@@ -208,12 +162,8 @@ pub fn parse_command(
         return Err(Refusal::WrongCaller);
     };
     let request = match route {
-        Route::MakeOrder => read_order(alloc, frame.body(buffer))?,
-        Route::ShowOrder => read_order_name(query)?,
-        Route::ImportMap => read_map_text(alloc, frame.body(buffer))?,
-        Route::RegisterDevice => read_device(alloc, frame.body(buffer))?,
-        Route::ShowDevice => read_device_chip(query)?,
-        Route::ShowLedger => read_ledger_chip(query)?,
+        Route::Posts(posted) => read_body(alloc, posted, frame.body(buffer))?,
+        Route::Shows(shown) => read_query(shown, query)?,
     };
     Ok(Parsed { seat, request })
 }

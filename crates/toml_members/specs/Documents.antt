@@ -51,6 +51,10 @@ flag_member name d = flag_in (get name d)
 abbrev pub text_member : List ℕ → Data → Option (List ℕ)
 text_member name d = option_and_then as_str (get name d)
 
+-- a value that is a name
+abbrev pub name_in : Data → Option (List ℕ)
+name_in d = option_and_then name_of_text (as_str d)
+
 -- a member that is a name
 abbrev pub name_member : List ℕ → Data → Option (List ℕ)
 name_member name d = option_and_then name_of_text (text_member name d)

@@ -1,13 +1,17 @@
 //! Texts as TOML documents, and the members of their tables.
 #![tactic(auto)]
 
-ghost use Rattle.std.specs.Prelude.{◌≡◌, ◌≤◌, IfSome, map, option_map};
+ghost use Rattle.std.specs.Prelude.{◌≡◌, ◌≤◌, IfOk, IfSome, Option, map, option_map};
+ghost use Rattle.std.specs.Fn.{FnReturnsAt};
+ghost use Rattle.toml.specs.Data.{Data};
 ghost use Rattle.toml.specs.View.{view};
 ghost use Rattle.text_core.specs.Answer.{GivesUnless, result_map};
+ghost use Rattle.text_core.specs.Options.{all_of};
 ghost use Rattle.toml_members.specs.Documents as documents;
 ghost use Rattle.toml_members.specs.Documents.{document_read};
+ghost use Rattle.toml_members.specs.Readers.{Reads, ReadsOrFails};
 
-use std::alloc::Global;
+use std::alloc::{AllocError, Global};
 use text_core::{Digest, Name};
 use thiserror::Error;
 use toml::Value;
@@ -92,6 +96,13 @@ pub fn text_member<'v>(value: &'v Value, name: &str) -> Option<&'v str>
     value.get(name)?.as_str()
 }
 
+/// A value that is a name.
+pub fn read_name(value: &Value) -> Option<Name>
+    ensures { result ≡ documents.name_in (view value.now) }
+{
+    Name::parse(value.as_str()?)
+}
+
 /// A member that is a name.
 pub fn name_member(value: &Value, name: &str) -> Option<Name>
     ensures { result ≡ documents.name_member name.now (view value.now) }
@@ -133,4 +144,43 @@ pub fn optional_items<'v>(value: &'v Value, name: &str) -> Option<&'v [Value]>
         Some(found) => items_of(found),
         None => Some(&[]),
     }
+}
+
+/// What `read` makes of each value, or `None` where it makes nothing of one of them.
+pub fn read_all<T: Drop, F: Fn(&Value) -> Option<T>>(
+    alloc: Global,
+    values: &[Value],
+    read: F,
+) -> Result<Option<Vec<T>>, AllocError>
+    requires { F.IsAlwaysCallable read }
+    ensures { (item_in : Data → Option T) → Reads F.Fn read item_in
+        → IfOk result (λ found. option_map (λ items. items.items) found
+        ≡ all_of item_in (map view values.now)) }
+{
+    let try_read = |value: &Value|
+        requires { F.IsAlwaysCallable read }
+        ensures { IfOk result (FnReturnsAt F.Fn read value.now) }
+    { Ok(read(value)) };
+    try_read_all(alloc, values, try_read)
+}
+
+/// The same of a `read` that takes memory.
+pub fn try_read_all<T: Drop, F: Fn(&Value) -> Result<Option<T>, AllocError>>(
+    alloc: Global,
+    values: &[Value],
+    read: F,
+) -> Result<Option<Vec<T>>, AllocError>
+    requires { F.IsAlwaysCallable read }
+    ensures { (item_in : Data → Option T) → ReadsOrFails F.Fn read item_in
+        → IfOk result (λ found. option_map (λ items. items.items) found
+        ≡ all_of item_in (map view values.now)) }
+{
+    let mut items = Vec::new(alloc);
+    for value in values {
+        let Some(item) = read(value)? else {
+            return Ok(None);
+        };
+        items.push(item)?;
+    }
+    Ok(Some(items))
 }

@@ -20,7 +20,7 @@ loop-field-preserved c =
       | then-field w ↦
           w.positions-is
           ∙ (w.with_run-positions.ensures
-          ∙ (ap₂ (λ (s : Positions) (first : Pos). set.union s (run first f.count)) c.loop-field.invariant w.first_of-first.ensures
+          ∙ (ap₂ (λ (s : Positions) (first : Pos). set.union s (run first f.count)) c.loop-field.invariant w.first-first.ensures
           ∙ positions_in-passes is_key fields c.loop-field.field-index f c.loop-field-test.true c.field-item.is w.if-field.true))
       | else-field w ↦
           w.positions-is

@@ -27,7 +27,7 @@ loop-field-preserved c =
       | then-is_burnt w ↦
           w.positions-is
           ∙ (w.with_run-positions.ensures
-          ∙ (ap₂ (λ (s : Positions) (first : Pos). set.union s (run first f.count)) c.loop-field.invariant w.first_of.ensures
+          ∙ (ap₂ (λ (s : Positions) (first : Pos). set.union s (run first f.count)) c.loop-field.invariant w.first.ensures
           ∙ positions_in-passes test fields c.loop-field.field-index f c.loop-field-test.true c.field-item.is (told ∙ w.if-is_burnt.true)))
       | else-is_burnt w ↦
           w.positions-is
