@@ -34,7 +34,6 @@ fn blank_device(map: &FuseMap) -> Option<Device> {
         order: Name::parse("o1")?,
         map: Digest::of(b"abc"),
         state: DeviceState::Registered,
-        reason: None,
         bits: encode_bits(map, &Bits::empty()),
         keys: encode_keys(map, &Keys::empty()),
         todo: encode_todo(map, &no_work()),
@@ -57,8 +56,7 @@ fn quarantined_device(map: &FuseMap, blank: Device) -> Device {
         keys: Keys::new([None, Some(hello), Some(test), Some(abc)]),
     };
     Device {
-        state: DeviceState::Quarantined,
-        reason: Some(Reason::Stray),
+        state: DeviceState::Quarantined(Reason::Stray),
         bits: encode_bits(map, &Bits::empty().with_bits(&bits)),
         keys: encode_keys(map, &Keys::empty().with(1, hello)),
         todo: encode_todo(map, &work),

@@ -11,7 +11,7 @@ use text_core::Digest;
 /// The digest of a public key: SHA-256 (FIPS 180-4) over the bytes of the key's
 /// SubjectPublicKeyInfo (RFC 5280, section 4.1.2.7) as they were handed in. It is printed as 64
 /// lowercase hexadecimal digits.
-#[derive(Clone, Copy)]
+#[derive(Clone, Copy, PartialEq, Eq, PartialOrd, Ord)]
 pub struct KeyDigest(Digest);
 
 impl Model for KeyDigest {

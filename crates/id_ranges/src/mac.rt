@@ -11,7 +11,7 @@ use text_core::are_lower_hex_digits;
 
 /// A hardware address: an EUI-48 (IEEE 802), 48 bits. It is printed as twelve lowercase hexadecimal
 /// digits.
-#[derive(Clone, Copy, PartialEq, Eq)]
+#[derive(Clone, Copy, PartialEq, Eq, PartialOrd, Ord)]
 pub struct Mac {
     value: u64,
 }

@@ -1,6 +1,6 @@
--- A device that is registered acts on the customer's view as on the customer's own machine, leaves each other view, and keeps the tables sound.
-use Rattle.std.proofs.Common.{◌≡◌, ℕ, true, false, List, [], ◌∷◌, map, None, Ordering, Equal, refl, sym, ap, ◌∙◌, subst}
-use Rattle.std.specs.Prelude.{bytes_eq, find, is_some}
+-- A step of a device acts on the customer's view as on the customer's own machine, leaves each other view, and keeps the tables sound.
+use Rattle.std.proofs.Common.{◌≡◌, ◌+◌, ℕ, true, false, List, [], ◌∷◌, map, Some, None, Ordering, Equal, refl, sym, ap, ◌∙◌, subst}
+use Rattle.std.specs.Prelude.{bytes_eq, filter, find, is_some}
 use Rattle.std.specs.List.{AllByRecursion}
 use Rattle.std.specs.Ordering.{nat_cmp, ordering_then}
 use Rattle.std.specs.Cmp.{IsTotalOrder}
@@ -10,18 +10,23 @@ use Rattle.site_core.specs.Owners.{Owners}
 use Rattle.office_tables.specs.declared.rows.Owned.{Owned}
 use Rattle.office_tables.specs.declared.rows.Device.{Device}
 use Rattle.office_tables.specs.declared.rows.Entry.{Entry}
-use Rattle.office_tables.specs.Tables.{Tables, device_at, device_cmp, entry_cmp, entry_under, is_device, is_entry_of, is_of, link_at, order_at, own, text_cmp, with_device, with_new_entry}
-use Rattle.office_tables.proofs.Finding.{filter_only, filter_other, none_passes, some_placed, still_there}
+use Rattle.office_tables.specs.declared.rows.NewEntry.{NewEntry}
+use Rattle.fusemap_core.specs.Map.{Map}
+use Rattle.office_tables.specs.Tables.{Tables, device_at, device_cmp, entry_cmp, entry_under, entry_with, greatest, has_entry_id, is_device, is_entry_of, is_of, last_number, link_at, order_at, own, placed, text_cmp, with_device, with_new_entry}
+use Rattle.office_tables.proofs.Finding.{filter_none, filter_only, filter_other, none_passes, some_placed, still_there}
 use Rattle.office_tables.proofs.Placing.{all_map, all_placed, placed_in_order, placed_other, placed_own}
-use Rattle.office_rules.specs.DeviceRules.{first_entry}
+use Rattle.office_rules.specs.DeviceSteps.{entry_of}
+use Rattle.office_rules.specs.declared.device_step.DeviceStep.{DeviceStep}
 use Rattle.office_rules.specs.Devices.{map_named, own_entry}
-use Rattle.office_laws.specs.Solo.{own_device_cmp, own_entry_cmp, with_own_device}
+use Rattle.office_laws.specs.Solo.{own_device_cmp, own_entry_cmp, own_last, own_step}
 use Rattle.office_laws.specs.View.{at_first, own_map, view}
-use Rattle.office_laws.specs.SoundDevices.{AreNumbered, AreSoundDevices, HasLedger, IsReferred, Named, all_added}
+use Rattle.office_laws.specs.SoundDevices.{AreNumbered, AreSoundDevices, HasLedger, IsKept, IsReferred, Named}
+use Rattle.office_laws.specs.SoundRecords.{IsNumbered, IsRecordOf}
 use Rattle.office_laws.specs.Sound.{IsSound}
-use Rattle.office_laws.proofs.DeviceRows.{columns_alone}
-use Rattle.office_laws.proofs.Placed.{first_equal, map_placed, same_place, second_equal}
-use Rattle.office_laws.proofs.Readings.{same_text, text_itself}
+use Rattle.office_laws.proofs.DeviceRows.{ids_apart_placed}
+use Rattle.office_laws.proofs.Placed.{all_placed_apart, first_equal, map_placed, same_place, second_equal}
+use Rattle.office_laws.proofs.Readings.{entries_own, same_text, text_itself}
+use Rattle.office_laws.proofs.RecordRows.{Follows, each_device, own_device, record_after_device, tied_device}
 
 devices_total : IsTotalOrder device_cmp
 devices_total = then_total (on_total (λ o. o.customer) nat_list_cmp_total) (on_total (λ o. o.row.chip) nat_list_cmp_total)
@@ -52,144 +57,162 @@ entry_place : (e : Owned Entry) (rows : List (Owned Entry)) → AllByRecursion (
 entry_place e [] = tt
 entry_place e (y ∷ ys) = ((λ h. same_place e.customer y.customer (first_equal _ _ (first_equal _ _ h))), entry_place e ys)
 
--- the device of a chip is the row's own
-own_device : (d : Owned Device) → is_device d.customer d.row.chip d ≡ true
-own_device d = and_from (bytes_eq d.customer d.customer) (bytes_eq d.row.chip d.row.chip) (text_itself d.customer d.customer refl) (text_itself d.row.chip d.row.chip refl)
+-- the numbers of a customer's entries are those that the customer's own machine knows
+numbers : (rows : List (Owned Entry)) → map (λ e. e.number) (map (λ e. own_entry e.row) rows) ≡ map (λ e. e.row.number) rows
+numbers [] = refl
+numbers (e ∷ es) = ap (λ later. e.row.number ∷ later) (numbers es)
 
--- a device that takes the place of another has its chip and its customer
-same_device : (customer chip : List ℕ) (x y : Owned Device) → device_cmp x y ≡ Equal → is_device customer chip y ≡ true → is_device customer chip x ≡ true
-same_device customer chip x y same passes =
-    let owner : x.customer ≡ y.customer = same_place x.customer y.customer (first_equal _ _ same) in
-    let named : x.row.chip ≡ y.row.chip = same_place x.row.chip y.row.chip (second_equal _ _ same) in
-    rw (owner, named) passes
+last_own : (c chip : List ℕ) (t : Tables) → last_number c chip t ≡ own_last chip (view c t)
+last_own c chip t = ap greatest (sym (numbers (filter (is_entry_of c chip) t.ledger)) ∙ ap (map (λ e. e.number)) (entries_own c chip t.ledger))
 
-each_device : (customer chip : List ℕ) (x : Owned Device) (rows : List (Owned Device)) → AllByRecursion (λ y. device_cmp x y ≡ Equal → is_device customer chip y ≡ true → is_device customer chip x ≡ true) rows
-each_device customer chip x [] = tt
-each_device customer chip x (y ∷ ys) = (same_device customer chip x y, each_device customer chip x ys)
+-- a step of a customer's device, by the seat that made it and the number of its entry over all customers
+module _ {owners : Owners} {t : Tables} (sound : IsSound owners t) (c seat : List ℕ) (step : DeviceStep) (id : ℕ) where
+  abbrev d : Owned Device
+  d = record { customer = c; row = step.device }
 
-module _ {owners : Owners} {t : Tables} (sound : IsSound owners t) (d : Owned Device) (seat : List ℕ) (id : ℕ) where
+  abbrev its_entry : Owned NewEntry
+  its_entry = record { customer = c; row = entry_of seat (last_number c step.device.chip t + 1) step }
+
   abbrev entry : Owned Entry
-  entry = entry_under (record { customer = d.customer; row = first_entry seat d.row }) id
+  entry = entry_under its_entry id
 
-  abbrev after : Tables
-  after = with_new_entry (record { customer = d.customer; row = first_entry seat d.row }) id (with_device d t)
+  abbrev pub after : Tables
+  after = with_new_entry its_entry id (with_device d t)
 
-  module _ (mine : owners.customer d.customer ≡ true) (order : is_some (order_at d.customer d.row.order t) ≡ true) (link : is_some (link_at d.customer d.row.map t) ≡ true)
-      (new : device_at d.customer d.row.chip t ≡ None) where
-    abbrev named : Named
-    named = λ customer digest. map_named customer digest t
+  abbrev named : Named
+  named = λ customer digest. map_named customer digest t
 
-    -- no device has the new one's chip, and so no entry is one of its ledger
-    other_chip : AllByRecursion (λ y. is_device d.customer d.row.chip y ≡ false) t.devices
-    other_chip = none_passes (is_device d.customer d.row.chip) t.devices new
+  -- what a step asks for: its customer is the site's, its order and its map are there, its entry's number is new, it follows the device that was there, and its ledger is what its map asks for
+  pub record IsLawful : Type 0 where
+    pub mine : owners.customer c ≡ true
+    pub order : is_some (order_at c step.device.order t) ≡ true
+    pub link : is_some (link_at c step.device.map t) ≡ true
+    pub new_id : entry_with id t ≡ None
+    pub follows : (old : Owned Device) → device_at c step.device.chip t ≡ Some old → Follows old.row step.device
+    pub numbered : IsNumbered d
+    pub ledger : HasLedger named after.ledger d
 
-    no_entries : AllByRecursion (λ e. is_entry_of d.customer d.row.chip e ≡ false) t.ledger
-    no_entries = all_map (λ e. is_some (find (is_device e.customer e.row.chip) t.devices) ≡ true) (λ e. is_entry_of d.customer d.row.chip e ≡ false) not_its t.ledger sound.devices.of_devices
-      where
-        not_its : (e : Owned Entry) → is_some (find (is_device e.customer e.row.chip) t.devices) ≡ true → is_entry_of d.customer d.row.chip e ≡ false
-        not_its e there = elim (is_entry_of d.customer d.row.chip e) as (λ b. is_entry_of d.customer d.row.chip e ≡ b → b ≡ false) [
-          | true ↦ λ its.
-              let parts = and_parts (bytes_eq d.customer e.customer) (bytes_eq d.row.chip e.row.chip) its in
-              let owner : d.customer ≡ e.customer = same_text d.customer e.customer parts.0 in
-              let chip : d.row.chip ≡ e.row.chip = same_text d.row.chip e.row.chip parts.1 in
-              let none : find (is_device e.customer e.row.chip) t.devices ≡ None = rw (← owner, ← chip) new in
-              cc
-          | false ↦ λ _. refl
-        ] refl
+  -- the ledger of another device
+  old_ledger : (y : Owned Device) → is_device c step.device.chip y ≡ false → HasLedger named t.ledger y → HasLedger named after.ledger y
+  old_ledger y other has =
+      let same = filter_other (is_entry_of y.customer y.row.chip) entry_cmp entry t.ledger not_its (each t.ledger) in
+      record { numbered = subst (AreNumbered 1) (sym same) has.numbered; by_map = λ m is. subst (IsKept m y.row) (sym same) (has.by_map m is) }
+    where
+      not_its : is_entry_of y.customer y.row.chip entry ≡ false
+      not_its = elim (is_entry_of y.customer y.row.chip entry) as (λ b. is_entry_of y.customer y.row.chip entry ≡ b → b ≡ false) [
+        | true ↦ λ its.
+            let parts = and_parts (bytes_eq y.customer c) (bytes_eq y.row.chip step.device.chip) its in
+            let owner : y.customer ≡ c = same_text y.customer c parts.0 in
+            let chip : y.row.chip ≡ step.device.chip = same_text y.row.chip step.device.chip parts.1 in
+            let passes : is_device c step.device.chip y ≡ true = and_from (bytes_eq c y.customer) (bytes_eq step.device.chip y.row.chip) (text_itself c y.customer (sym owner)) (text_itself step.device.chip y.row.chip (sym chip)) in
+            cc (passes, other)
+        | false ↦ λ _. refl
+      ] refl
 
-    -- the ledger of a device that was there
-    old_ledger : (y : Owned Device) → is_device d.customer d.row.chip y ≡ false → HasLedger named t.ledger y → HasLedger named after.ledger y
-    old_ledger y other has =
-        let same = filter_other (is_entry_of y.customer y.row.chip) entry_cmp entry t.ledger not_its (each t.ledger) in
-        record { numbered = subst (AreNumbered 1) (sym same) has.numbered; added = λ m is. ap (all_added m) same ∙ has.added m is }
-      where
-        not_its : is_entry_of y.customer y.row.chip entry ≡ false
-        not_its = elim (is_entry_of y.customer y.row.chip entry) as (λ b. is_entry_of y.customer y.row.chip entry ≡ b → b ≡ false) [
-          | true ↦ λ its.
-              let parts = and_parts (bytes_eq y.customer d.customer) (bytes_eq y.row.chip d.row.chip) its in
-              let owner : y.customer ≡ d.customer = same_text y.customer d.customer parts.0 in
-              let chip : y.row.chip ≡ d.row.chip = same_text y.row.chip d.row.chip parts.1 in
-              let passes : is_device d.customer d.row.chip y ≡ true = and_from (bytes_eq d.customer y.customer) (bytes_eq d.row.chip y.row.chip) (text_itself d.customer y.customer (sym owner)) (text_itself d.row.chip y.row.chip (sym chip)) in
-              cc
-          | false ↦ λ _. refl
-        ] refl
+      each : (rows : List (Owned Entry)) → AllByRecursion (λ e. entry_cmp entry e ≡ Equal → is_entry_of y.customer y.row.chip e ≡ false) rows
+      each [] = tt
+      each (e ∷ es) = (
+        λ same.
+            let device = first_equal _ _ same in
+            let owner : c ≡ e.customer = same_place c e.customer (first_equal _ _ device) in
+            let chip : step.device.chip ≡ e.row.chip = same_place step.device.chip e.row.chip (second_equal _ _ device) in
+            rw (← owner, ← chip) not_its,
+        each es,
+      )
 
-        each : (rows : List (Owned Entry)) → AllByRecursion (λ e. entry_cmp entry e ≡ Equal → is_entry_of y.customer y.row.chip e ≡ false) rows
-        each [] = tt
-        each (e ∷ es) = (
-          λ same.
-              let device = first_equal _ _ same in
-              let owner : d.customer ≡ e.customer = same_place d.customer e.customer (first_equal _ _ device) in
-              let chip : d.row.chip ≡ e.row.chip = same_place d.row.chip e.row.chip (second_equal _ _ device) in
-              rw (← owner, ← chip) not_its,
-          each es,
-        )
+  ledgers_after : (rows : List (Owned Device)) → AllByRecursion (HasLedger named t.ledger) rows → AllByRecursion (λ y. (device_cmp d y ≡ Equal → ⊥) → HasLedger named after.ledger y) rows
+  ledgers_after rows has = all_map (HasLedger named t.ledger) (λ y. (device_cmp d y ≡ Equal → ⊥) → HasLedger named after.ledger y) (λ y its other. old_ledger y (differs y other) its) rows has
+    where
+      differs : (y : Owned Device) → (device_cmp d y ≡ Equal → ⊥) → is_device c step.device.chip y ≡ false
+      differs y other = elim (is_device c step.device.chip y) as (λ b. is_device c step.device.chip y ≡ b → b ≡ false) [
+        | true ↦ λ its. absurd (other (tied_device d y its))
+        | false ↦ λ _. refl
+      ] refl
 
-    -- and that of the new one
-    new_ledger : HasLedger named after.ledger d
-    new_ledger =
-        let only = filter_only (is_entry_of d.customer d.row.chip) entry_cmp entry t.ledger (own_device d) no_entries in
-        record { numbered = subst (AreNumbered 1) (sym only) (refl, tt); added = λ m _. ap (all_added m) only ∙ columns_alone m d.row.bits d.row.keys }
+  devices_after : IsLawful → AreSoundDevices owners named after.orders after.links after.devices after.ledger
+  devices_after lawful = record {
+    devices_in_order = placed_in_order device_cmp devices_total d t.devices sound.devices.devices_in_order;
+    ledger_in_order = placed_in_order entry_cmp entries_total entry t.ledger sound.devices.ledger_in_order;
+    ids_apart = ids_apart_placed entry t.ledger (none_passes (has_entry_id id) t.ledger lawful.new_id) sound.devices.ids_apart;
+    customers = all_placed (λ o. owners.customer o.customer ≡ true) device_cmp d t.devices lawful.mine sound.devices.customers;
+    referred = all_placed (IsReferred t.orders t.links) device_cmp d t.devices (record { order = lawful.order; map = lawful.link }) sound.devices.referred;
+    ledgers = all_placed_apart device_cmp d (HasLedger named after.ledger) devices_total t.devices lawful.ledger sound.devices.devices_in_order (ledgers_after t.devices sound.devices.ledgers);
+    of_devices = all_placed (λ e. is_some (find (is_device e.customer e.row.chip) after.devices) ≡ true) entry_cmp entry t.ledger
+        (some_placed (is_device c step.device.chip) device_cmp d t.devices (own_device d))
+        (all_map (λ e. is_some (find (is_device e.customer e.row.chip) t.devices) ≡ true) (λ e. is_some (find (is_device e.customer e.row.chip) after.devices) ≡ true)
+        (λ e there. still_there (is_device e.customer e.row.chip) device_cmp d t.devices (each_device e.customer e.row.chip d t.devices) there) t.ledger sound.devices.of_devices);
+  }
 
-    devices_after : AreSoundDevices owners named after.orders after.links after.devices after.ledger
-    devices_after = record {
-      devices_in_order = placed_in_order device_cmp devices_total d t.devices sound.devices.devices_in_order;
-      ledger_in_order = placed_in_order entry_cmp entries_total entry t.ledger sound.devices.ledger_in_order;
-      customers = all_placed (λ o. owners.customer o.customer ≡ true) device_cmp d t.devices mine sound.devices.customers;
-      referred = all_placed (IsReferred t.orders t.links) device_cmp d t.devices (record { order = order; map = link }) sound.devices.referred;
-      ledgers = all_placed (HasLedger named after.ledger) device_cmp d t.devices new_ledger (both t.devices other_chip sound.devices.ledgers);
-      of_devices = all_placed (λ e. is_some (find (is_device e.customer e.row.chip) after.devices) ≡ true) entry_cmp entry t.ledger
-          (some_placed (is_device d.customer d.row.chip) device_cmp d t.devices (own_device d))
-          (all_map (λ e. is_some (find (is_device e.customer e.row.chip) t.devices) ≡ true) (λ e. is_some (find (is_device e.customer e.row.chip) after.devices) ≡ true)
-          (λ e there. still_there (is_device e.customer e.row.chip) device_cmp d t.devices (each_device e.customer e.row.chip d t.devices) there) t.ledger sound.devices.of_devices);
-    }
-      where
-        both : (rows : List (Owned Device)) → AllByRecursion (λ y. is_device d.customer d.row.chip y ≡ false) rows → AllByRecursion (HasLedger named t.ledger) rows → AllByRecursion (HasLedger named after.ledger) rows
-        both [] others has = tt
-        both (y ∷ ys) others has = (old_ledger y others.0 has.0, both ys others.1 has.1)
+  pub step_sound : IsLawful → IsSound owners after
+  step_sound lawful = record {
+    seats_in_order = sound.seats_in_order;
+    orders_in_order = sound.orders_in_order;
+    given_in_order = sound.given_in_order;
+    seats = sound.seats;
+    orders = sound.orders;
+    given = sound.given;
+    terms = sound.terms;
+    in_pools = sound.in_pools;
+    apart = sound.apart;
+    maps_in_order = sound.maps_in_order;
+    texts_apart = sound.texts_apart;
+    links_in_order = sound.links_in_order;
+    links = sound.links;
+    linked = sound.linked;
+    records = record {
+      keys_apart = sound.records.keys_apart;
+      addresses_apart = sound.records.addresses_apart;
+      records = all_map (λ g. IsRecordOf t.orders t.devices g g.row.chip) (λ g. IsRecordOf t.orders after.devices g g.row.chip)
+          (λ g is. record_after_device t.orders t.devices g d lawful.follows g.row.chip is) t.given sound.records.records;
+      numbered = all_placed IsNumbered device_cmp d t.devices lawful.numbered sound.records.numbered;
+      cursors = sound.records.cursors;
+    };
+    devices = devices_after lawful;
+  }
 
-    pub device_sound : IsSound owners after
-    device_sound = record {
-      seats_in_order = sound.seats_in_order;
-      orders_in_order = sound.orders_in_order;
-      given_in_order = sound.given_in_order;
-      seats = sound.seats;
-      orders = sound.orders;
-      given = sound.given;
-      terms = sound.terms;
-      in_pools = sound.in_pools;
-      apart = sound.apart;
-      maps_in_order = sound.maps_in_order;
-      texts_apart = sound.texts_apart;
-      links_in_order = sound.links_in_order;
-      links = sound.links;
-      linked = sound.linked;
-      devices = devices_after;
-    }
+  -- the ledger of a device that wasn't there
+  pub new_ledger : device_at c step.device.chip t ≡ None → ((m : Map) → named c step.device.map ≡ Some m → IsKept m step.device (entry ∷ [])) → HasLedger named after.ledger d
+  new_ledger new kept =
+      let only = filter_only (is_entry_of c step.device.chip) entry_cmp entry t.ledger (own_device d) no_entries in
+      let number : last_number c step.device.chip t + 1 ≡ 1 = ap (λ (rows : List (Owned Entry)). greatest (map (λ e. e.row.number) rows) + 1) (filter_none (is_entry_of c step.device.chip) t.ledger no_entries) in
+      record { numbered = subst (AreNumbered 1) (sym only) (number, tt); by_map = λ m is. subst (IsKept m step.device) (sym only) (kept m is) }
+    where
+      not_its : (e : Owned Entry) → is_some (find (is_device e.customer e.row.chip) t.devices) ≡ true → is_entry_of c step.device.chip e ≡ false
+      not_its e there = elim (is_entry_of c step.device.chip e) as (λ b. is_entry_of c step.device.chip e ≡ b → b ≡ false) [
+        | true ↦ λ its.
+            let parts = and_parts (bytes_eq c e.customer) (bytes_eq step.device.chip e.row.chip) its in
+            let owner : c ≡ e.customer = same_text c e.customer parts.0 in
+            let chip : step.device.chip ≡ e.row.chip = same_text step.device.chip e.row.chip parts.1 in
+            let none : find (is_device e.customer e.row.chip) t.devices ≡ None = rw (← owner, ← chip) new in
+            cc
+        | false ↦ λ _. refl
+      ] refl
 
-  pub device_view : view d.customer after ≡ with_own_device seat d.row (view d.customer t)
-  device_view =
-      let c = d.customer in
-      λ i. record {
-        seats = own c t.seats;
-        orders = map at_first (own c t.orders);
-        given = own c t.given;
-        maps = map (own_map t) (own c t.links);
-        devices = placed_own c device_cmp own_device_cmp devices_total (device_agree c) d (text_itself c c refl) t.devices sound.devices.devices_in_order
-            (all_map (λ y. device_cmp d y ≡ Equal → c ≡ y.customer) (λ y. device_cmp d y ≡ Equal → is_of c y ≡ true) (λ y f e. text_itself c y.customer (f e)) t.devices (device_place d t.devices)) i;
-        ledger = (ap (map own_entry) (placed_own c entry_cmp entry_row_cmp entries_total (entry_agree c) entry (text_itself c c refl) t.ledger sound.devices.ledger_in_order
-            (all_map (λ y. entry_cmp entry y ≡ Equal → c ≡ y.customer) (λ y. entry_cmp entry y ≡ Equal → is_of c y ≡ true) (λ y f e. text_itself c y.customer (f e)) t.ledger (entry_place entry t.ledger)))
-            ∙ map_placed own_entry entry_row_cmp own_entry_cmp (λ _ _. refl) entry.row (own c t.ledger)) i;
-      }
+      no_entries : AllByRecursion (λ e. is_entry_of c step.device.chip e ≡ false) t.ledger
+      no_entries = all_map (λ e. is_some (find (is_device e.customer e.row.chip) t.devices) ≡ true) (λ e. is_entry_of c step.device.chip e ≡ false) not_its t.ledger sound.devices.of_devices
 
-  pub device_hidden : (c : List ℕ) → bytes_eq c d.customer ≡ false → view c after ≡ view c t
-  device_hidden c other = λ i. record {
+  pub step_view : view c after ≡ own_step seat step (view c t)
+  step_view = λ i. record {
     seats = own c t.seats;
     orders = map at_first (own c t.orders);
     given = own c t.given;
     maps = map (own_map t) (own c t.links);
-    devices = placed_other c device_cmp d other t.devices
-        (all_map (λ y. device_cmp d y ≡ Equal → d.customer ≡ y.customer) (λ y. device_cmp d y ≡ Equal → is_of c y ≡ false) (λ y f e. subst (λ x. bytes_eq c x ≡ false) (f e) other) t.devices (device_place d t.devices)) i;
-    ledger = map own_entry (placed_other c entry_cmp entry other t.ledger
-        (all_map (λ y. entry_cmp entry y ≡ Equal → d.customer ≡ y.customer) (λ y. entry_cmp entry y ≡ Equal → is_of c y ≡ false) (λ y f e. subst (λ x. bytes_eq c x ≡ false) (f e) other) t.ledger (entry_place entry t.ledger)) i);
+    devices = placed_own c device_cmp own_device_cmp devices_total (device_agree c) d (text_itself c c refl) t.devices sound.devices.devices_in_order
+        (all_map (λ y. device_cmp d y ≡ Equal → c ≡ y.customer) (λ y. device_cmp d y ≡ Equal → is_of c y ≡ true) (λ y f e. text_itself c y.customer (f e)) t.devices (device_place d t.devices)) i;
+    ledger = (ap (map own_entry) (placed_own c entry_cmp entry_row_cmp entries_total (entry_agree c) entry (text_itself c c refl) t.ledger sound.devices.ledger_in_order
+        (all_map (λ y. entry_cmp entry y ≡ Equal → c ≡ y.customer) (λ y. entry_cmp entry y ≡ Equal → is_of c y ≡ true) (λ y f e. text_itself c y.customer (f e)) t.ledger (entry_place entry t.ledger)))
+        ∙ (map_placed own_entry entry_row_cmp own_entry_cmp (λ _ _. refl) entry.row (own c t.ledger)
+        ∙ ap (λ last. placed own_entry_cmp (entry_of seat (last + 1) step) (map own_entry (own c t.ledger))) (last_own c step.device.chip t))) i;
+  }
+
+  pub step_hidden : (other : List ℕ) → bytes_eq other c ≡ false → view other after ≡ view other t
+  step_hidden other differs = λ i. record {
+    seats = own other t.seats;
+    orders = map at_first (own other t.orders);
+    given = own other t.given;
+    maps = map (own_map t) (own other t.links);
+    devices = placed_other other device_cmp d differs t.devices
+        (all_map (λ y. device_cmp d y ≡ Equal → c ≡ y.customer) (λ y. device_cmp d y ≡ Equal → is_of other y ≡ false) (λ y f e. subst (λ x. bytes_eq other x ≡ false) (f e) differs) t.devices (device_place d t.devices)) i;
+    ledger = map own_entry (placed_other other entry_cmp entry differs t.ledger
+        (all_map (λ y. entry_cmp entry y ≡ Equal → c ≡ y.customer) (λ y. entry_cmp entry y ≡ Equal → is_of other y ≡ false) (λ y f e. subst (λ x. bytes_eq other x ≡ false) (f e) differs) t.ledger (entry_place entry t.ledger)) i);
   }

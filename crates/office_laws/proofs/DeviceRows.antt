@@ -1,9 +1,10 @@
 -- Devices whose orders and maps are among more rows, and columns that are all that a ledger added.
-use Rattle.std.proofs.Common.{◌≡◌, ◌<◌, ℕ, Bool, true, false, List, [], ◌∷◌, Option, Some, None, Equal, refl, sym, ◌∙◌}
-use Rattle.std.specs.Prelude.{◌||◌, find, is_some}
+use Rattle.std.proofs.Common.{◌≡◌, ◌<◌, ℕ, arith, Bool, true, false, List, [], ◌∷◌, Option, Some, None, Less, Equal, Greater, refl, sym, ◌∙◌}
+use Rattle.std.specs.Prelude.{◌||◌, ◌==◌, find, is_some}
 use Rattle.std.specs.List.{AllByRecursion}
 use Rattle.std.specs.Option.{option_or}
-use Rattle.std.specs.Ordering.{nat_cmp}
+use Rattle.std.specs.Ordering.{match_ordering, nat_cmp}
+use Rattle.std.proofs.lemmas.Bool.Decides.{nat_tests}
 use Rattle.std.specs.FinMap as map
 use Rattle.std.specs.FinSet as set
 use Rattle.fusemap_core.specs.Map.{Map}
@@ -22,10 +23,10 @@ use Rattle.office_tables.specs.declared.rows.Order.{Order}
 use Rattle.office_tables.specs.declared.rows.Link.{Link}
 use Rattle.office_tables.specs.declared.rows.Device.{Device}
 use Rattle.office_tables.specs.declared.rows.Entry.{Entry}
-use Rattle.office_tables.specs.Tables.{is_order, is_link, link_cmp, order_cmp, placed}
+use Rattle.office_tables.specs.Tables.{entry_cmp, has_entry_id, is_order, is_link, link_cmp, order_cmp, placed}
 use Rattle.office_tables.proofs.Finding.{still_there}
-use Rattle.office_tables.proofs.Placing.{all_map}
-use Rattle.office_laws.specs.SoundDevices.{AreSoundDevices, HasLedger, IsReferred, Named, all_added}
+use Rattle.office_tables.proofs.Placing.{all_map, all_placed}
+use Rattle.office_laws.specs.SoundDevices.{AreIdsApart, AreSoundDevices, HasLedger, IsReferred, Named, all_added}
 use Rattle.office_laws.proofs.Placed.{first_equal, second_equal, same_place}
 
 -- an order that takes the place of another has its name and its customer
@@ -41,7 +42,7 @@ same_link customer digest x y same passes =
     let named : x.row.digest ≡ y.row.digest = same_place x.row.digest y.row.digest (second_equal _ _ same) in
     rw (owner, named) passes
 
-each_order : (customer name : List ℕ) (x : Owned Order) (rows : List (Owned Order)) → AllByRecursion (λ y. order_cmp x y ≡ Equal → is_order customer name y ≡ true → is_order customer name x ≡ true) rows
+pub each_order : (customer name : List ℕ) (x : Owned Order) (rows : List (Owned Order)) → AllByRecursion (λ y. order_cmp x y ≡ Equal → is_order customer name y ≡ true → is_order customer name x ≡ true) rows
 each_order customer name x [] = tt
 each_order customer name x (y ∷ ys) = (same_order customer name x y, each_order customer name x ys)
 
@@ -54,6 +55,7 @@ module _ (owners : Owners) (named : Named) (orders : List (Owned Order)) (links 
   referred_after_order x sound = record {
     devices_in_order = sound.devices_in_order;
     ledger_in_order = sound.ledger_in_order;
+    ids_apart = sound.ids_apart;
     customers = sound.customers;
     referred = all_map (IsReferred orders links) (IsReferred (placed order_cmp x orders) links)
         (λ d r. record { order = still_there (is_order d.customer d.row.order) order_cmp x orders (each_order d.customer d.row.order x orders) r.order; map = r.map }) devices sound.referred;
@@ -68,7 +70,7 @@ module _ (owners : Owners) (named : Named) (orders : List (Owned Order)) (links 
   ledgers_kept : (later : Named) → AreKept later → (ds : List (Owned Device)) → AllByRecursion (IsReferred orders links) ds → AllByRecursion (HasLedger named ledger) ds → AllByRecursion (HasLedger later ledger) ds
   ledgers_kept later kept [] referred has = tt
   ledgers_kept later kept (d ∷ ds) referred has = (
-    record { numbered = has.0.numbered; added = λ m is. has.0.added m (sym (kept d referred.0.map) ∙ is) },
+    record { numbered = has.0.numbered; by_map = λ m is. has.0.by_map m (sym (kept d referred.0.map) ∙ is) },
     ledgers_kept later kept ds referred.1 has.1,
   )
 
@@ -76,6 +78,7 @@ module _ (owners : Owners) (named : Named) (orders : List (Owned Order)) (links 
   referred_after_map later kept sound = record {
     devices_in_order = sound.devices_in_order;
     ledger_in_order = sound.ledger_in_order;
+    ids_apart = sound.ids_apart;
     customers = sound.customers;
     referred = sound.referred;
     ledgers = ledgers_kept later kept devices sound.referred sound.ledgers;
@@ -86,6 +89,7 @@ module _ (owners : Owners) (named : Named) (orders : List (Owned Order)) (links 
   referred_after_link later kept x sound = record {
     devices_in_order = sound.devices_in_order;
     ledger_in_order = sound.ledger_in_order;
+    ids_apart = sound.ids_apart;
     customers = sound.customers;
     referred = all_map (IsReferred orders links) (IsReferred orders (placed link_cmp x links))
         (λ d r. record { order = r.order; map = still_there (is_link d.customer d.row.map) link_cmp x links (each_link d.customer d.row.map x links) r.map }) devices sound.referred;
@@ -119,3 +123,19 @@ keys-nothing t low =
 pub columns_alone : (m : Map) (bits keys : List ℕ) → image.joined (image_in m bits keys) (all_added m []) ≡ image_in m bits keys
 columns_alone m bits keys =
     λ i. record { burnt = union-nothing (bits_in m bits) i; keys = keys-nothing (keys_in m keys) (λ b there. ((keys_lie_in_map m keys).keys b there).0) i }
+
+-- a new number of an entry among others
+pub ids_apart_placed : (e : Owned Entry) (es : List (Owned Entry)) → AllByRecursion (λ other. has_entry_id e.row.id other ≡ false) es → AreIdsApart es → AreIdsApart (placed entry_cmp e es)
+ids_apart_placed e [] all apart = (tt, tt)
+ids_apart_placed e (y ∷ ys) all apart =
+    elim (entry_cmp e y) as (λ o. AreIdsApart (match_ordering o (e ∷ y ∷ ys) (e ∷ ys) (y ∷ placed entry_cmp e ys))) [
+      | Less ↦ (all, apart)
+      | Equal ↦ (all.1, apart.1)
+      | Greater ↦ (
+        all_placed (λ other. has_entry_id y.row.id other ≡ false) entry_cmp e ys (turned all.0) apart.0,
+        ids_apart_placed e ys all.1 apart.1,
+      )
+    ]
+  where
+    turned : (e.row.id == y.row.id) ≡ false → (y.row.id == e.row.id) ≡ false
+    turned differs = grind (arith, nat_tests, differs)

@@ -15,8 +15,11 @@ use Rattle.office_commands.specs.Replies.{acceptance, refusal}
 use Rattle.office_commands.specs.DeviceReplies.{device_body}
 use Rattle.office_rules.specs.Rules.{lowest}
 use Rattle.office_rules.specs.DeviceRules.{fits, is_full, readback_refusals, registered, shown_refusals}
-use Rattle.office_rules.specs.Devices.{Adds, device_refusals, map_named, refusals_by, Registers, RegistersBy}
-use Rattle.office_rules.specs.Office.{settled, Turn, Repeats, Differs, Next, Skips, turn_at, Judges, Turns, Step, registers}
+use Rattle.office_rules.specs.DeviceSteps.{registration}
+use Rattle.office_rules.specs.Devices.{MakesStep, device_refusals, map_named, refusals_by, Registers, RegistersBy}
+use Rattle.office_rules.specs.declared.turn.Turn.{Turn}
+use Rattle.office_rules.specs.declared.turn.Turn.TheVariants.{Repeats, Differs, Next, Skips}
+use Rattle.office_rules.specs.Office.{settled, turn_at, Judges, Turns, Step, registers}
 
 module _ (s : Section) (seat : List ℕ) (t : Tables) (m : Map) (number : ℕ) (digest : List ℕ) (d : NewDevice) (blocks : List (List ℕ)) (reply : Answer) (t2 : Tables)
     (known : map_named s.name d.map t ≡ Some m) (fit : fits m d.blocks ≡ fits m blocks) (same : redacted m d.blocks ≡ redacted m blocks) where
@@ -39,7 +42,7 @@ module _ (s : Section) (seat : List ℕ) (t : Tables) (m : Map) (number : ℕ) (
   same_change : (body : List ℕ) (mid : Tables) → Registers s seat t d body mid → Registers s seat t other body mid
   same_change body mid =
       subst (λ (found : Option Map). RegistersBy s seat t d found body mid → RegistersBy s seat t other found body mid) (sym known)
-      (subst (λ (r : ReadBack). (device_at s.name d.chip t ≡ None) × (body ≡ device_body (Some m) (registered m d r)) × Adds s seat t (registered m d r) mid) same)
+      (subst (λ (r : ReadBack). (device_at s.name d.chip t ≡ None) × (body ≡ device_body (Some m) (registered m d r)) × MakesStep s seat t (registration m d r) mid) same)
 
   judged : Judges s seat (registers number digest d) t (RegisterDevice d) reply t2 → Judges s seat (registers number digest other) t (RegisterDevice other) reply t2
   judged j = by (lowest (device_refusals s t other)) (subst (λ (cs : List (Bool × Refusal)). MatchOption (lowest cs)

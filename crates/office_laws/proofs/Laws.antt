@@ -1,6 +1,6 @@
 -- A step acts on the customer's view as the customer's own machine does, leaves each other view, and keeps the tables sound.
-use Rattle.std.proofs.Common.{◌≡◌, ℕ, Bool, true, false, cond, List, [], ◌∷◌, ◌++◌, map, Option, Some, None, Equal, refl, sym, ap, ◌∙◌, subst}
-use Rattle.std.specs.Prelude.{◌||◌, MatchOption, is_some, not}
+use Rattle.std.proofs.Common.{◌≡◌, ◌+◌, ℕ, arith, Bool, true, false, cond, List, [], ◌∷◌, ◌++◌, map, Option, Some, None, Equal, refl, sym, ap, ◌∙◌, subst}
+use Rattle.std.specs.Prelude.{◌||◌, MatchOption, is_some, not, if◌then◌else◌}
 use Rattle.std.specs.List.{AllByRecursion, list_any}
 use Rattle.std.specs.Option.{option_map}
 use Rattle.std.specs.Str.{bytes_eq}
@@ -9,15 +9,16 @@ use Rattle.http_replies.specs.Replies.{Answer}
 use Rattle.site_core.specs.Section.{Section}
 use Rattle.site_core.specs.Owners.{AreApart, IsSection, Owners}
 use Rattle.office_tables.specs.declared.rows.Owned.{Owned}
-use Rattle.office_tables.specs.declared.rows.Seat.{Seat}
+use Rattle.office_tables.specs.declared.rows.SeatState.{SeatState}
 use Rattle.office_tables.specs.declared.rows.Link.{Link}
 use Rattle.office_tables.specs.declared.rows.MapRow.{MapRow}
 use Rattle.office_tables.specs.declared.rows.Order.{Order}
-use Rattle.office_tables.specs.declared.rows.Device.{Device}
+use Rattle.office_tables.specs.declared.rows.Entry.{Entry}
 use Rattle.fusemap_core.specs.Map.{Map}
-use Rattle.fuse_plan.specs.Redaction.{redacted}
+use Rattle.fuse_plan.specs.Redaction.{Fits, redacted}
+use Rattle.std.proofs.lemmas.Slice.Eq.{bytes_eq-Decides}
 use Rattle.office_commands.specs.declared.new_device.NewDevice.{NewDevice}
-use Rattle.office_tables.specs.Tables.{Tables, device_at, is_of, link_at, map_at, map_with, own, placed, seat_cmp, order_cmp, order_at, with_link, with_map, with_seat, with_order}
+use Rattle.office_tables.specs.Tables.{Tables, device_at, entry_under, is_of, last_number, link_at, map_at, map_with, own, placed, seat_cmp, order_cmp, order_at, with_link, with_map, with_seat, with_order}
 use Rattle.std.proofs.lemmas.Bool.{not-false}
 use Rattle.office_tables.proofs.Placing.{all_map, all_placed, placed_in_order, placed_other, placed_own}
 use Rattle.office_commands.specs.Asked.{IsAsked, IsChange, IsCommand}
@@ -28,33 +29,42 @@ use Rattle.office_commands.specs.declared.command.Change.{Change}
 use Rattle.office_commands.specs.declared.command.Change.TheVariants.{MakeOrder, ImportMap, RegisterDevice}
 use Rattle.office_commands.specs.declared.command.Show.TheVariants.{Order as ShowOrder, Device as ShowDevice, Ledger as ShowLedger}
 use Rattle.office_commands.specs.declared.refusal.Refusal.{Refusal}
+use Rattle.office_commands.specs.declared.refusal.Refusal.TheVariants.{BadReadback}
 use Rattle.office_commands.specs.Replies.{acceptance, refusal, order_body, map_body}
 use Rattle.office_rules.specs.Rules.{lowest}
 use Rattle.office_rules.specs.Orders.{next_of, shown_order, wanted_by}
 use Rattle.office_rules.specs.MapFaults.{map_fault}
 use Rattle.office_rules.specs.Maps.{Imports, Links, bad_map}
-use Rattle.office_rules.specs.Devices.{map_named, own_entry, refusals_by, RegistersBy}
-use Rattle.office_rules.specs.DeviceRules.{registered}
+use Rattle.office_rules.specs.Devices.{map_named, map_text, own_entry, refusals_by, RegistersBy}
+use Rattle.office_rules.specs.DeviceSteps.{entry_of, registration, shown_device, shown_ledger}
+use Rattle.office_rules.specs.declared.device_step.DeviceStep.{DeviceStep}
+use Rattle.office_rules.specs.DeviceRules.{fits, is_full, readback_refusals, shown_refusals}
 use Rattle.office_rules.specs.Commands.{refusals, Changes}
-use Rattle.office_rules.proofs.Refusing.{first_is_false}
+use Rattle.office_rules.proofs.Refusing.{first_is_false, later_is_none}
 use Rattle.office_rules.proofs.Linked.{map_is_linked}
-use Rattle.office_rules.specs.Office.{settled, Turn, Repeats, Differs, Next, Skips, turn, turn_at, Judges, Turns, Serves, Step}
-use Rattle.office_laws.specs.Solo.{OwnMap, State, own_import, own_register, own_map_cmp, own_seat_cmp, own_order_cmp, own_next, own_refusals, own_change, with_own_seat, own_settled, own_verdict, own_turn, own_shown_order, own_shown_device, own_shown_ledger, own_serves, solo}
+use Rattle.office_rules.specs.declared.turn.Turn.{Turn}
+use Rattle.office_rules.specs.declared.turn.Turn.TheVariants.{Repeats, Differs, Next, Skips}
+use Rattle.office_rules.specs.Office.{kept_of, settled, shown, turn, turn_at, Judges, Turns, Serves, Step}
+use Rattle.office_laws.specs.Solo.{OwnMap, State, own_import, own_register, own_map_cmp, own_seat_cmp, own_order_cmp, own_next, own_refusals, own_change, with_own_seat, own_judgement, own_turn, own_shown, own_shown_order, own_serves, solo}
 use Rattle.office_laws.specs.View.{at_first, own_map, text_in, view}
 use Rattle.office_laws.specs.Sound.{AreDisjoint, IsInPool, IsLinked, IsOrder, IsSound}
 use Rattle.office_laws.proofs.Addresses.{each_apart_placed, wanted_apart, wanted_in_pool}
 use Rattle.office_laws.proofs.Terms.{wanted_terms}
 use Rattle.office_laws.proofs.MapLaws.{link_hidden, link_sound, link_view, map_hidden, map_sound}
-use Rattle.office_laws.proofs.DeviceLaws.{device_hidden, device_sound, device_view}
+use Rattle.office_laws.proofs.DeviceLaws.{new_ledger, step_hidden, step_sound, step_view}
 use Rattle.office_laws.proofs.DeviceRows.{referred_after_order}
+use Rattle.office_laws.proofs.RecordRows.{record_after_order}
+use Rattle.office_laws.proofs.Registrations.{found_is_map, registered_kept}
+use Rattle.office_laws.specs.SoundDevices.{IsKept}
+use Rattle.office_laws.specs.SoundRecords.{IsGivenBelow, IsRecordOf}
 use Rattle.office_laws.proofs.MapRows.{map_of_text, new_map_found}
 use Rattle.office_laws.proofs.Placed.{first_equal, map_placed, same_place}
-use Rattle.office_laws.proofs.Readings.{map_own, wanted_own, same_text, text_itself, seats_total, orders_total, order_agree, owner_is, seat_own, order_own, map_named_own, device_own, shown_device_own, shown_ledger_own, next_own, order_issuer, refusals_own}
+use Rattle.office_laws.proofs.Readings.{map_own, wanted_own, same_text, text_itself, seats_total, orders_total, order_agree, owner_is, seat_own, order_own, map_named_own, device_found_own, entries_own, next_own, order_issuer, refusals_own}
 
 module _ {owners : Owners} {t : Tables} (sound : IsSound owners t) where
   order_sound : (c : List ℕ) (o : Order) → owners.issuer o.issuer ≡ Some c → IsOrder o → IsInPool owners (record { customer = c; row = o })
-      → AllByRecursion (λ other. AreDisjoint o other.row) t.orders → IsSound owners (with_order (record { customer = c; row = o }) t)
-  order_sound c o mine terms in_pool apart = record {
+      → AllByRecursion (λ other. AreDisjoint o other.row) t.orders → order_at c o.name t ≡ None → at_first o ≡ o → IsSound owners (with_order (record { customer = c; row = o }) t)
+  order_sound c o mine terms in_pool apart new first = record {
     seats_in_order = sound.seats_in_order;
     orders_in_order = placed_in_order order_cmp orders_total _ t.orders sound.orders_in_order;
     given_in_order = sound.given_in_order;
@@ -69,10 +79,18 @@ module _ {owners : Owners} {t : Tables} (sound : IsSound owners t) where
     links_in_order = sound.links_in_order;
     links = sound.links;
     linked = sound.linked;
+    records = record {
+      keys_apart = sound.records.keys_apart;
+      addresses_apart = sound.records.addresses_apart;
+      records = all_map (λ g. IsRecordOf t.orders t.devices g g.row.chip) (λ g. IsRecordOf (placed order_cmp (record { customer = c; row = o }) t.orders) t.devices g g.row.chip)
+          (λ g is. record_after_order t.orders t.devices g (record { customer = c; row = o }) new g.row.chip is) t.given sound.records.records;
+      numbered = sound.records.numbered;
+      cursors = all_placed (IsGivenBelow t.given) order_cmp _ t.orders (λ n least below. let start : o.first ≡ o.cursor = ap (λ (x : Order). x.cursor) first in absurd (omega (arith, least, below, start))) sound.records.cursors;
+    };
     devices = referred_after_order owners (λ customer digest. map_named customer digest t) t.orders t.links t.devices t.ledger (record { customer = c; row = o }) sound.devices;
   }
 
-  seat_sound : (c : List ℕ) (r : Seat) → owners.seat r.name ≡ Some c → IsSound owners (with_seat (record { customer = c; row = r }) t)
+  seat_sound : (c : List ℕ) (r : SeatState) → owners.seat r.name ≡ Some c → IsSound owners (with_seat (record { customer = c; row = r }) t)
   seat_sound c r mine = record {
     seats_in_order = placed_in_order seat_cmp seats_total _ t.seats sound.seats_in_order;
     orders_in_order = sound.orders_in_order;
@@ -88,6 +106,7 @@ module _ {owners : Owners} {t : Tables} (sound : IsSound owners t) where
     links_in_order = sound.links_in_order;
     links = sound.links;
     linked = sound.linked;
+    records = sound.records;
     devices = sound.devices;
   }
 
@@ -97,7 +116,7 @@ module _ {owners : Owners} {t : Tables} (sound : IsSound owners t) where
   order_place c o (y ∷ ys) = ((λ e. same_place c y.customer (first_equal _ _ e)), order_place c o ys)
 
   -- and so is a seat's row
-  seat_place : (c : List ℕ) (r : Seat) → owners.seat r.name ≡ Some c → AllByRecursion (λ y. seat_cmp (record { customer = c; row = r }) y ≡ Equal → c ≡ y.customer) t.seats
+  seat_place : (c : List ℕ) (r : SeatState) → owners.seat r.name ≡ Some c → AllByRecursion (λ y. seat_cmp (record { customer = c; row = r }) y ≡ Equal → c ≡ y.customer) t.seats
   seat_place c r mine = all_map (λ o. owners.seat o.row.name ≡ Some o.customer) (λ y. seat_cmp (record { customer = c; row = r }) y ≡ Equal → c ≡ y.customer)
       (λ o owner e. owner_is owners.seat r.name o.row.name c o.customer mine owner (text_itself r.name o.row.name (same_place r.name o.row.name e))) t.seats sound.seats
 
@@ -114,7 +133,7 @@ module _ {owners : Owners} {t : Tables} (sound : IsSound owners t) where
         ∙ (map_placed at_first own_order_cmp own_order_cmp (λ _ _. refl) o (own c t.orders) ∙ ap (λ (x : Order). placed own_order_cmp x (map at_first (own c t.orders))) first)) i;
   }
 
-  seat_view : (c : List ℕ) (r : Seat) → owners.seat r.name ≡ Some c → view c (with_seat (record { customer = c; row = r }) t) ≡ with_own_seat r (view c t)
+  seat_view : (c : List ℕ) (r : SeatState) → owners.seat r.name ≡ Some c → view c (with_seat (record { customer = c; row = r }) t) ≡ with_own_seat r (view c t)
   seat_view c r mine = λ i. record {
     orders = map at_first (own c t.orders);
     given = own c t.given;
@@ -138,7 +157,7 @@ module _ {owners : Owners} {t : Tables} (sound : IsSound owners t) where
         (λ y f e. subst (λ x. bytes_eq d x ≡ false) (f e) other) t.orders (order_place c o t.orders)) i);
   }
 
-  seat_hidden : (c d : List ℕ) (r : Seat) → owners.seat r.name ≡ Some c → bytes_eq d c ≡ false → view d (with_seat (record { customer = c; row = r }) t) ≡ view d t
+  seat_hidden : (c d : List ℕ) (r : SeatState) → owners.seat r.name ≡ Some c → bytes_eq d c ≡ false → view d (with_seat (record { customer = c; row = r }) t) ≡ view d t
   seat_hidden c d r mine other = λ i. record {
     orders = map at_first (own d t.orders);
     given = own d t.given;
@@ -189,10 +208,10 @@ module _ {owners : Owners} {t : Tables} (sound : IsSound owners t) (apart : AreA
       ] refl e
 
   order_made : (o : Order) (body : List ℕ) (mid : Tables) → at_first o ≡ o → owners.issuer o.issuer ≡ Some s.name → IsOrder o → IsInPool owners (record { customer = s.name; row = o })
-      → AllByRecursion (λ other. AreDisjoint o other.row) t.orders → body ≡ order_body o (next_of t o) → mid ≡ with_order (record { customer = s.name; row = o }) t
+      → AllByRecursion (λ other. AreDisjoint o other.row) t.orders → order_at s.name o.name t ≡ None → body ≡ order_body o (next_of t o) → mid ≡ with_order (record { customer = s.name; row = o }) t
       → Makes owners s.name t body mid (order_body o (own_next (view s.name t) o), (let v = view s.name t in record v { orders = placed own_order_cmp o v.orders }))
-  order_made o body mid first mine terms in_pool disjoint text is = record {
-    sound = subst (IsSound owners) (sym is) (order_sound sound s.name o mine terms in_pool disjoint);
+  order_made o body mid first mine terms in_pool disjoint new text is = record {
+    sound = subst (IsSound owners) (sym is) (order_sound sound s.name o mine terms in_pool disjoint new first);
     own = λ i. ((text ∙ ap (order_body o) (next_own sound s.name o mine)) i, (ap (view s.name) is ∙ order_view sound s.name o first) i);
     other = λ d ne. ap (view d) is ∙ order_hidden sound s.name d o ne;
   }
@@ -236,6 +255,13 @@ module _ {owners : Owners} {t : Tables} (sound : IsSound owners t) (apart : AreA
   no_fault_of text None later e free = e
   no_fault_of text (Some fault) later e free = cc
 
+  -- what nothing refuses of a read-back fits the map
+  fits_from : (m : Map) (blocks : List (List ℕ)) → lowest (readback_refusals (Some m) blocks) ≡ None → fits m blocks ≡ true
+  fits_from m blocks free = elim (fits m blocks) as (λ b. lowest (if b then shown_refusals m (redacted m blocks) else (true, BadReadback) ∷ []) ≡ None → b ≡ true) [
+    | true ↦ λ _. refl
+    | false ↦ λ free. cc
+  ] free
+
   -- a device whose map is known
   device_made : (seat : List ℕ) (d : NewDevice) (found : Option Map) (body : List ℕ) (mid : Tables) → map_named s.name d.map t ≡ found → lowest (refusals_by s t d found) ≡ None → RegistersBy s seat t d found body mid
       → Makes owners s.name t body mid (own_register seat (view s.name t) d found)
@@ -243,12 +269,28 @@ module _ {owners : Owners} {t : Tables} (sound : IsSound owners t) (apart : AreA
   device_made seat d (Some m) body mid known free change =
       let order : is_some (order_at s.name d.order t) ≡ true = not-false _ (first_is_false (not (is_some (order_at s.name d.order t))) _ _ free) in
       let link = map_is_linked (link_at s.name d.map t) t m known in
+      let last : lowest (readback_refusals (Some m) d.blocks) ≡ None =
+      later_is_none (is_full (own s.name t.devices) (option_map (λ o. o.row) (order_at s.name d.order t))) _ _
+      (later_is_none (is_some (device_at s.name d.chip t)) _ _ (later_is_none (not (is_some (order_at s.name d.order t))) _ _ free)) in
       let id = change.2.0 in
-      let added : Owned Device = record { customer = s.name; row = registered m d (redacted m d.blocks) } in
-      let is = change.2.2 in record {
-        sound = subst (IsSound owners) (sym is) (device_sound sound added seat id section.customer order link change.0);
-        own = λ i. (change.1 i, (ap (view s.name) is ∙ device_view sound added seat id) i);
-        other = λ c ne. ap (view c) is ∙ device_hidden sound added seat id c ne;
+      let step : DeviceStep = registration m d (redacted m d.blocks) in
+      let is = change.2.2 in
+      let fit : Fits m d.blocks = (bytes_eq-Decides _ _).0 (fits_from m d.blocks last) in
+      let entry : Owned Entry = entry_under (record { customer = s.name; row = entry_of seat (last_number s.name d.chip t + 1) step }) id in
+      let kept : (found : Map) → map_named s.name d.map t ≡ Some found → IsKept found step.device (entry ∷ []) =
+      λ found also. let same : m ≡ found = cc (known, also) in subst (λ (x : Map). IsKept x step.device (entry ∷ [])) same (registered_kept m (found_is_map (map_text s.name d.map t) m known) d fit entry refl refl) in
+      record {
+        sound = subst (IsSound owners) (sym is) (step_sound sound s.name seat step id (record {
+          mine = section.customer;
+          order = order;
+          link = link;
+          new_id = change.2.1;
+          follows = λ old there. let none = change.0 in cc (none, there);
+          numbered = λ has. cc;
+          ledger = new_ledger sound s.name seat step id change.0 kept;
+        }));
+        own = λ i. (change.1 i, (ap (view s.name) is ∙ step_view sound s.name seat step id) i);
+        other = λ c ne. ap (view c) is ∙ step_hidden sound s.name seat step id c ne;
       }
 
   made : (seat : List ℕ) (change : Change) (body : List ℕ) (mid : Tables) → IsChange change → lowest (refusals s t change) ≡ None → Changes s seat t change body mid → Makes owners s.name t body mid (own_change s seat (view s.name t) change)
@@ -256,7 +298,7 @@ module _ {owners : Owners} {t : Tables} (sound : IsSound owners t) (apart : AreA
       let none = lowest_none (refusals s t (MakeOrder o)) free in
       let mine : owners.issuer o.issuer ≡ Some s.name = any_owner o.issuer s.issuers section.issuers (not-false _ none.1.1.1.1.1.0) in
       subst (λ (w : Order). Makes owners s.name t body mid (order_body w (own_next (view s.name t) w), (let v = view s.name t in record v { orders = placed own_order_cmp w v.orders }))) (wanted_own s t o)
-      (order_made (wanted_by s t o) body mid refl mine (wanted_terms s t o asked none) (wanted_in_pool owners s section t o) (wanted_apart owners apart s section t o sound.in_pools) change.1 change.2)
+      (order_made (wanted_by s t o) body mid refl mine (wanted_terms s t o asked none) (wanted_in_pool owners s section t o) (wanted_apart owners apart s section t o sound.in_pools) change.0 change.1 change.2)
   made seat (RegisterDevice d) body mid asked free change =
       subst (λ (found : Option Map). Makes owners s.name t body mid (own_register seat (view s.name t) d found)) (map_named_own sound s d.map)
       (device_made seat d (map_named s.name d.map t) body mid refl free change)
@@ -266,22 +308,22 @@ module _ {owners : Owners} {t : Tables} (sound : IsSound owners t) (apart : AreA
 
   judged : (seat : List ℕ) (r : Request) (change : Change) (reply : Answer) (t2 : Tables) → IsChange change → owners.seat seat ≡ Some s.name
       → Judges s seat r t change reply t2
-      → Obeys owners s.name t reply t2 (own_verdict seat r (view s.name t) (own_change s seat (view s.name t) change) (lowest (own_refusals s (view s.name t) change)))
+      → Obeys owners s.name t reply t2 (own_judgement seat r (view s.name t) (own_change s seat (view s.name t) change) (lowest (own_refusals s (view s.name t) change)))
   judged seat r change reply t2 asked mine j =
       let own = own_change s seat (view s.name t) change in
-      subst (λ v. Obeys owners s.name t reply t2 (own_verdict seat r (view s.name t) own v)) (ap lowest (refusals_own sound s change))
+      subst (λ v. Obeys owners s.name t reply t2 (own_judgement seat r (view s.name t) own v)) (ap lowest (refusals_own sound s change))
       (elim (lowest (refusals s t change)) as (λ v. lowest (refusals s t change) ≡ v → MatchOption v
       ((body : List ℕ) × (mid : Tables) × Changes s seat t change body mid × (reply ≡ acceptance body) × (t2 ≡ with_seat (settled s.name seat r body) mid))
-      (λ reason. (reply ≡ refusal reason) × (t2 ≡ t)) → Obeys owners s.name t reply t2 (own_verdict seat r (view s.name t) own v)) [
+      (λ reason. (reply ≡ refusal reason) × (t2 ≡ t)) → Obeys owners s.name t reply t2 (own_judgement seat r (view s.name t) own v)) [
         | Some reason ↦ λ _ j. stays reply (refusal reason) t2 j.0 j.1
         | None ↦ λ free j.
             let m = made seat change j.0 j.1 asked free j.2 in
-            let row : Seat = own_settled seat r j.0 in
+            let row : SeatState = kept_of seat r j.0 in
             let kept : ◌≡◌ {A = Answer × State} (reply, view s.name t2) (acceptance j.0, with_own_seat row (view s.name j.1)) =
             λ i. (j.3 i, (ap (view s.name) j.4 ∙ seat_view m.sound s.name row mine) i) in
             record {
               sound = subst (IsSound owners) (sym j.4) (seat_sound m.sound s.name row mine);
-              own = kept ∙ ap (λ (made : List ℕ × State). (acceptance made.0, with_own_seat (own_settled seat r made.0) made.1)) m.own;
+              own = kept ∙ ap (λ (made : List ℕ × State). (acceptance made.0, with_own_seat (kept_of seat r made.0) made.1)) m.own;
               other = λ d ne. ap (view d) j.4 ∙ (seat_hidden m.sound s.name d row mine ne ∙ m.other d ne);
             }
       ] refl j)
@@ -304,10 +346,11 @@ module _ {owners : Owners} {t : Tables} (sound : IsSound owners t) (apart : AreA
       let found = shown_order_own name (order_at s.name name t) refl ∙ ap (own_shown_order (view s.name t)) (order_own sound s.name name) in
       stays reply _ t2 (e.0 ∙ found) e.1
   served seat r (Show (ShowDevice chip)) reply t2 asked mine e =
-      let found = shown_device_own sound s (device_at s.name chip t) ∙ ap (own_shown_device (view s.name t)) (device_own s.name chip t) in
+      let found = ap shown_device (device_found_own sound s chip) in
       stays reply _ t2 (e.0 ∙ found) e.1
   served seat r (Show (ShowLedger chip)) reply t2 asked mine e =
-      let found = shown_ledger_own sound s (device_at s.name chip t) ∙ ap (own_shown_ledger (view s.name t)) (device_own s.name chip t) in
+      let found : shown s t (ShowLedger chip) ≡ own_shown (view s.name t) (ShowLedger chip) =
+      λ i. shown_ledger (λ own_chip. entries_own s.name own_chip t.ledger i) (device_found_own sound s chip i) in
       stays reply _ t2 (e.0 ∙ found) e.1
   served seat r (Changing change) reply t2 asked mine e =
       subst (λ row. Obeys owners s.name t reply t2 (own_turn s seat r (view s.name t) change (turn row r.number r.digest))) (seat_own sound s.name seat mine)

@@ -9,6 +9,8 @@ mod MapRows
 mod NamedMaps
 mod Placed
 mod Readings
+mod RecordRows
+mod Registrations
 pub mod Sounding
 mod Steps
 mod Terms

@@ -54,6 +54,7 @@ module _ {owners : Owners} {t : Tables} (sound : IsSound owners t) where
     links_in_order = placed_in_order link_cmp links_total l t.links sound.links_in_order;
     links = all_placed (λ l. owners.customer l.customer ≡ true) link_cmp l t.links mine sound.links;
     linked = all_placed (IsLinked t) link_cmp l t.links linked sound.linked;
+    records = sound.records;
     devices = referred_after_link owners (λ customer digest. map_named customer digest t) t.orders t.links t.devices t.ledger
         (λ customer digest. map_named customer digest (with_link l t)) (λ d there. named_after_link t l none d.customer d.row.map there) l sound.devices;
   }
@@ -100,6 +101,7 @@ module _ {owners : Owners} {t : Tables} (sound : IsSound owners t) where
     links_in_order = sound.links_in_order;
     links = sound.links;
     linked = all_map (IsLinked t) (IsLinked (with_map (record { id = id; body = body }) t)) (linked_after t id body fresh) t.links sound.linked;
+    records = sound.records;
     devices = referred_after_map owners (λ customer digest. map_named customer digest t) t.orders t.links t.devices t.ledger
         (λ customer digest. map_named customer digest (with_map (record { id = id; body = body }) t)) (λ d _. named_after_map t id body fresh sound.linked d.customer d.row.map) sound.devices;
   }

@@ -31,14 +31,13 @@ use Rattle.office_rules.specs.Rules.{meets, next_serial, reservations, reserved_
 use Rattle.office_rules.specs.Orders.{is_taken, next_of, order_refusals, wanted_by}
 use Rattle.office_commands.specs.declared.refusal.Refusal.{Refusal}
 use Rattle.office_commands.specs.declared.refusal.Refusal.TheVariants.{Limit, MapDigestTaken, UnknownMap, UnknownOrder, Exists, QuantityReached}
-use Rattle.office_commands.specs.Replies.{acceptance}
-use Rattle.office_commands.specs.DeviceReplies.{device_body, ledger_body}
 use Rattle.office_rules.specs.DeviceRules.{is_full, map_in, readback_refusals}
-use Rattle.office_rules.specs.Devices.{map_named, own_entry, shown_device, shown_ledger}
+use Rattle.office_rules.specs.Devices.{device_found, map_named, own_entry}
+use Rattle.office_rules.specs.declared.device_step.FoundDevice.{FoundDevice}
 use Rattle.office_rules.specs.MapFaults.{map_fault}
 use Rattle.office_rules.specs.Maps.{bad_map, import_refusals, map_limit, text_is}
 use Rattle.office_rules.specs.Commands.{refusals}
-use Rattle.office_laws.specs.Solo.{own_order_cmp, map_of, own_import_refusals, seat_named, order_named, has_given, own_next, own_wanted, own_order_refusals, own_refusals, own_map_named, device_named, own_shown_device, own_shown_ledger}
+use Rattle.office_laws.specs.Solo.{own_order_cmp, map_of, own_import_refusals, seat_named, order_named, has_given, own_next, own_wanted, own_order_refusals, own_refusals, own_map_named, device_named, own_device_found}
 use Rattle.office_laws.specs.View.{at_first, own_map, text_in, view}
 use Rattle.office_laws.specs.Sound.{IsLinked, IsSound}
 
@@ -169,14 +168,15 @@ module _ {owners : Owners} {t : Tables} (sound : IsSound owners t) where
           text_there None there = absurd there
           text_there (Some m) there = refl
 
-  pub shown_device_own : (s : Section) (found : Option (Owned Device)) → shown_device s t found ≡ own_shown_device (view s.name t) (option_map (λ d. d.row) found)
-  shown_device_own s None = refl
-  shown_device_own s (Some d) = ap (λ map. acceptance (device_body map d.row)) (map_named_own s d.row.map)
-
-  pub shown_ledger_own : (s : Section) (found : Option (Owned Device)) → shown_ledger s t found ≡ own_shown_ledger (view s.name t) (option_map (λ d. d.row) found)
-  shown_ledger_own s None = refl
-  shown_ledger_own s (Some d) =
-      λ i. acceptance (ledger_body (map_named_own s d.row.map i) d.row.chip (entries_own s.name d.row.chip t.ledger i))
+  -- a customer's device is found with its map as by the customer's own machine
+  pub device_found_own : (s : Section) (chip : List ℕ) → device_found s chip t ≡ own_device_found chip (view s.name t)
+  device_found_own s chip =
+      (λ i. option_map (λ (d : Owned Device). by_map d.row (map_named_own s d.row.map i)) (device_at s.name chip t))
+      ∙ (sym (map_map (λ d. d.row) (λ d. by_map d (own_map_named d.map (view s.name t))) (device_at s.name chip t))
+      ∙ ap (option_map (λ d. by_map d (own_map_named d.map (view s.name t)))) (device_own s.name chip t))
+    where
+      by_map : Device → Option Map → FoundDevice
+      by_map d m = record { device = d; map = m }
 
   import_refusals_own : (s : Section) (text : List ℕ) (link : Option (Owned Link)) → link_at s.name (sha256 text) t ≡ link
       → import_refusals s t text link ≡ own_import_refusals (view s.name t) text (option_map (λ l. own_map t l.row) link)

@@ -7,13 +7,13 @@ use Rattle.http_replies.specs.Replies.{Answer}
 use Rattle.site_core.specs.Section.{Section}
 use Rattle.fusemap_core.specs.Map.{Map}
 use Rattle.fuse_plan.specs.Redaction.{redacted}
-use Rattle.office_tables.specs.declared.rows.Device.{Device}
 use Rattle.office_tables.specs.declared.rows.Entry.{Entry}
 use Rattle.office_commands.specs.declared.new_device.NewDevice.{NewDevice}
 use Rattle.office_commands.specs.DeviceReplies.{device_body}
-use Rattle.office_rules.specs.DeviceRules.{first_entry, registered}
+use Rattle.office_rules.specs.DeviceSteps.{entry_of, registration}
+use Rattle.office_rules.specs.declared.device_step.DeviceStep.{DeviceStep}
 use Rattle.office_rules.specs.Devices.{map_named, refusals_by, RegistersBy}
-use Rattle.office_tables.specs.Tables.{Tables, device_at, has_entry_id, has_id, link_at, with_device, with_new_entry, map_with, order_at, with_link, with_new_map, with_seat, with_order}
+use Rattle.office_tables.specs.Tables.{Tables, device_at, has_entry_id, has_id, last_number, link_at, with_device, with_new_entry, map_with, order_at, with_link, with_new_map, with_seat, with_order}
 use Rattle.office_tables.specs.declared.rows.Owned.{Owned}
 use Rattle.office_tables.specs.declared.rows.Link.{Link}
 use Rattle.office_tables.specs.declared.rows.MapRow.{MapRow}
@@ -29,7 +29,9 @@ use Rattle.office_rules.specs.Orders.{next_of, wanted_by}
 use Rattle.office_rules.specs.Maps.{Imports, Links}
 use Rattle.office_rules.specs.Commands.{refusals, Changes}
 use Rattle.office_rules.proofs.Refusing.{first_is_false, later_is_none, none_from_test}
-use Rattle.office_rules.specs.Office.{settled, Turn, Repeats, Differs, Next, Skips, turn_at, shown, Judges, Turns, Serves, Step}
+use Rattle.office_rules.specs.declared.turn.Turn.{Turn}
+use Rattle.office_rules.specs.declared.turn.Turn.TheVariants.{Repeats, Differs, Next, Skips}
+use Rattle.office_rules.specs.Office.{settled, turn_at, shown, Judges, Turns, Serves, Step}
 
 -- a number above that of each map
 abbrev above : List MapRow → ℕ
@@ -69,11 +71,11 @@ entry_above_is_free (e ∷ es) id low =
 registration_exists : (s : Section) (seat : List ℕ) (t : Tables) (d : NewDevice) (found : Option Map) → lowest (refusals_by s t d found) ≡ None → (body : List ℕ) × (mid : Tables) × RegistersBy s seat t d found body mid
 registration_exists s seat t d None e = cc
 registration_exists s seat t d (Some m) e =
-    let device : Device = registered m d (redacted m d.blocks) in
+    let step : DeviceStep = registration m d (redacted m d.blocks) in
     let later = later_is_none (not (is_some (order_at s.name d.order t))) _ _ e in
     let id = above_entries t.ledger in (
-      device_body (Some m) device,
-      with_new_entry (record { customer = s.name; row = first_entry seat device }) id (with_device (record { customer = s.name; row = device }) t),
+      device_body (Some m) step.device,
+      with_new_entry (record { customer = s.name; row = entry_of seat (last_number s.name d.chip t + 1) step }) id (with_device (record { customer = s.name; row = step.device }) t),
       (none_from_test _ (first_is_false (is_some (device_at s.name d.chip t)) _ _ later), refl, (id, entry_above_is_free t.ledger id (omega arith), refl)),
     )
 

@@ -1,21 +1,19 @@
 -- A customer's own machine. It knows the customer's section of the site, and no row or request of anybody else.
-use Rattle.std.specs.Prelude.{ℕ, nat_lt, nat_le, Bool, false, not, ◌&&◌, ◌||◌, ◌++◌, List, [], ◌∷◌, length, find, filter, Option, Some, None, is_some, option_map, option_and_then}
-use Rattle.std.specs.List.{list_any}
+use Rattle.std.specs.Prelude.{ℕ, ◌+◌, Bool, false, not, ◌&&◌, ◌++◌, List, [], length, map, find, filter, Option, Some, None, is_some, option_map, option_and_then}
 use Rattle.std.specs.Str.{bytes_eq}
 use Rattle.std.specs.Ordering.{nat_cmp, ordering_then}
 use Rattle.std.specs.declared.cmp.Ordering.{Ordering}
 use Rattle.sha2.specs.Sha256.{sha256}
-use Rattle.text_core.specs.Prefix.{is_prefix}
 use Rattle.fusemap_core.specs.Map.{Map}
 use Rattle.fuse_plan.specs.Redaction.{redacted}
 use Rattle.http_replies.specs.Replies.{Answer}
 use Rattle.site_core.specs.Section.{Section}
-use Rattle.office_tables.specs.Rows.{Given}
-use Rattle.office_tables.specs.declared.rows.Seat.{Seat}
+use Rattle.office_tables.specs.declared.rows.Given.{Given}
+use Rattle.office_tables.specs.declared.rows.SeatState.{SeatState}
 use Rattle.office_tables.specs.declared.rows.Order.{Order}
 use Rattle.office_tables.specs.declared.rows.Device.{Device}
 use Rattle.office_tables.specs.declared.rows.NewEntry.{NewEntry}
-use Rattle.office_tables.specs.Tables.{placed, text_cmp}
+use Rattle.office_tables.specs.Tables.{greatest, placed, text_cmp}
 use Rattle.office_commands.specs.declared.new_order.NewOrder.{NewOrder}
 use Rattle.office_commands.specs.declared.new_device.NewDevice.{NewDevice}
 use Rattle.office_commands.specs.declared.command.Request.{Request}
@@ -26,14 +24,19 @@ use Rattle.office_commands.specs.declared.command.Change.TheVariants.{MakeOrder,
 use Rattle.office_commands.specs.declared.command.Show.{Show as Showing}
 use Rattle.office_commands.specs.declared.command.Show.TheVariants.{Order as ShowOrder, Device as ShowDevice, Ledger as ShowLedger}
 use Rattle.office_commands.specs.declared.refusal.Refusal.{Refusal}
-use Rattle.office_commands.specs.declared.refusal.Refusal.TheVariants.{WrongNumber, OtherBody, UnknownMap, UnknownOrder, UnknownDevice, Exists, QuantityReached, BadSerial, NumberTooWide, NoMacRoom, RangeOverlap, ForeignIssuer, MapDigestTaken, Limit}
+use Rattle.office_commands.specs.declared.refusal.Refusal.TheVariants.{WrongNumber, OtherBody, UnknownOrder}
 use Rattle.office_commands.specs.Replies.{acceptance, refusal, order_body, map_body}
-use Rattle.office_commands.specs.DeviceReplies.{device_body, ledger_body}
-use Rattle.office_rules.specs.Rules.{wanted, order_limit, quantity_limit, is_too_wide, lacks_room, meets, next_serial, lowest}
+use Rattle.office_commands.specs.DeviceReplies.{device_body}
+use Rattle.office_rules.specs.Rules.{lowest, next_serial, refusals_of_order, wanted}
 use Rattle.office_rules.specs.MapFaults.{map_fault}
-use Rattle.office_rules.specs.Maps.{bad_map, map_limit}
-use Rattle.office_rules.specs.DeviceRules.{first_entry, is_full, map_in, readback_refusals, registered}
-use Rattle.office_rules.specs.Office.{Turn, Repeats, Differs, Next, Skips, turn}
+use Rattle.office_rules.specs.Maps.{bad_map, refusals_of_text}
+use Rattle.office_rules.specs.DeviceRules.{is_full, map_in, registered, registration_refusals}
+use Rattle.office_rules.specs.DeviceSteps.{entry_of, registration, shown_device, shown_ledger}
+use Rattle.office_rules.specs.declared.device_step.DeviceStep.{DeviceStep}
+use Rattle.office_rules.specs.declared.device_step.FoundDevice.{FoundDevice}
+use Rattle.office_rules.specs.declared.turn.Turn.{Turn}
+use Rattle.office_rules.specs.declared.turn.Turn.TheVariants.{Repeats, Differs, Next, Skips}
+use Rattle.office_rules.specs.Office.{kept_of, turn}
 
 -- a fuse map of the customer's, by the digest of its text
 pub record OwnMap : Type 0 where
@@ -42,14 +45,14 @@ pub record OwnMap : Type 0 where
 
 -- the customer's tables, each in the order of its key. An order's cursor stands at its first number: the machine has no use for one
 pub record State : Type 0 where
-  pub seats : List Seat
+  pub seats : List SeatState
   pub orders : List Order
   pub given : List Given
   pub maps : List OwnMap
   pub devices : List Device
   pub ledger : List NewEntry
 
-abbrev pub own_seat_cmp : Seat → Seat → Ordering
+abbrev pub own_seat_cmp : SeatState → SeatState → Ordering
 own_seat_cmp a b = text_cmp a.name b.name
 
 abbrev pub own_order_cmp : Order → Order → Ordering
@@ -65,7 +68,7 @@ own_device_cmp a b = text_cmp a.chip b.chip
 abbrev pub own_entry_cmp : NewEntry → NewEntry → Ordering
 own_entry_cmp a b = ordering_then (text_cmp a.chip b.chip) (nat_cmp a.number b.number)
 
-abbrev pub seat_named : List ℕ → State → Option Seat
+abbrev pub seat_named : List ℕ → State → Option SeatState
 seat_named name s = find (λ r. bytes_eq name r.name) s.seats
 
 abbrev pub order_named : List ℕ → State → Option Order
@@ -96,33 +99,25 @@ own_next s o = next_serial (has_given s o.issuer) o
 abbrev pub own_wanted : Section → State → NewOrder → Order
 own_wanted c s o = wanted c.pools s.orders o
 
--- what refuses a command, in the order of the refusals' numbers
+-- what refuses a new order
 abbrev pub own_order_refusals : Section → State → Order → List (Bool × Refusal)
-own_order_refusals c s o =
-    (is_some (order_named o.name s), Exists)
-    ∷ (not (is_prefix o.prefix), BadSerial)
-    ∷ (is_too_wide o, NumberTooWide)
-    ∷ (lacks_room o, NoMacRoom)
-    ∷ (list_any (meets o) s.orders, RangeOverlap)
-    ∷ (not (list_any (bytes_eq o.issuer) c.issuers), ForeignIssuer)
-    ∷ (nat_lt quantity_limit o.quantity || nat_le order_limit (length s.orders), Limit)
-    ∷ []
+own_order_refusals c s o = refusals_of_order c.issuers s.orders (order_named o.name s) o
 
--- another text has the digest, or there are as many maps as can be
+-- the map of the text's digest has another text
+abbrev pub is_own_other : List ℕ → Option OwnMap → Bool
+is_own_other text None = false
+is_own_other text (Some m) = not (bytes_eq text m.text)
+
+-- what refuses the import of a map's text, by the map of its digest
 abbrev pub own_import_refusals : State → List ℕ → Option OwnMap → List (Bool × Refusal)
-own_import_refusals s text None = (false, MapDigestTaken) ∷ (nat_le map_limit (length s.maps), Limit) ∷ []
-own_import_refusals s text (Some m) = (not (bytes_eq text m.text), MapDigestTaken) ∷ (false, Limit) ∷ []
+own_import_refusals s text found = refusals_of_text (is_own_other text found) found (length s.maps)
 
 abbrev pub own_map_refusals : State → List ℕ → List (Bool × Refusal)
 own_map_refusals s text = bad_map (map_fault text) ++ own_import_refusals s text (map_of (sha256 text) s)
 
+-- what refuses the registration of a device, by its map
 abbrev pub own_refusals_by : State → NewDevice → Option Map → List (Bool × Refusal)
-own_refusals_by s d map =
-    (not (is_some map), UnknownMap)
-    ∷ (not (is_some (order_named d.order s)), UnknownOrder)
-    ∷ (is_some (device_named d.chip s), Exists)
-    ∷ (is_full s.devices (order_named d.order s), QuantityReached)
-    ∷ readback_refusals map d.blocks
+own_refusals_by s d map = registration_refusals map (order_named d.order s) (device_named d.chip s) (is_full s.devices (order_named d.order s)) d.blocks
 
 abbrev pub own_refusals : Section → State → Changing → List (Bool × Refusal)
 own_refusals c s (MakeOrder o) = own_order_refusals c s (own_wanted c s o)
@@ -134,18 +129,21 @@ abbrev pub own_import : State → List ℕ → Option OwnMap → State
 own_import s text None = record s { maps = placed own_map_cmp (record { digest = sha256 text; text = text }) s.maps }
 own_import s text (Some m) = s
 
--- a new device, and the first entry of its ledger
-abbrev pub with_own_device : List ℕ → Device → State → State
-with_own_device seat device s = record s {
-  devices = placed own_device_cmp device s.devices;
-  ledger = placed own_entry_cmp (first_entry seat device) s.ledger;
+-- the number of the last entry of a device's ledger
+abbrev pub own_last : List ℕ → State → ℕ
+own_last chip s = greatest (map (λ e. e.number) (ledger_of chip s))
+
+-- a step of a device: it stands as the step leaves it, and its ledger has one entry more
+abbrev pub own_step : List ℕ → DeviceStep → State → State
+own_step seat step s = record s {
+  devices = placed own_device_cmp step.device s.devices;
+  ledger = placed own_entry_cmp (entry_of seat (own_last step.device.chip s + 1) step) s.ledger;
 }
 
 -- the device as its chip shows itself, by its map
 abbrev pub own_register : List ℕ → State → NewDevice → Option Map → List ℕ × State
 own_register seat s d None = ([], s)
-own_register seat s d (Some m) =
-    (device_body (Some m) (registered m d (redacted m d.blocks)), with_own_device seat (registered m d (redacted m d.blocks)) s)
+own_register seat s d (Some m) = (device_body (Some m) (registered m d (redacted m d.blocks)), own_step seat (registration m d (redacted m d.blocks)) s)
 
 -- the reply's body, and the state after the change
 abbrev pub own_change : Section → List ℕ → State → Changing → List ℕ × State
@@ -154,39 +152,31 @@ own_change c seat s (MakeOrder o) =
 own_change c seat s (RegisterDevice d) = own_register seat s d (own_map_named d.map s)
 own_change c seat s (ImportMap text) = (map_body (sha256 text), own_import s text (map_of (sha256 text) s))
 
-abbrev pub with_own_seat : Seat → State → State
+abbrev pub with_own_seat : SeatState → State → State
 with_own_seat r s = record s { seats = placed own_seat_cmp r s.seats }
 
--- the seat's row once this reply was given to the request
-abbrev pub own_settled : List ℕ → Request → List ℕ → Seat
-own_settled seat r body = record { name = seat; last = r.number; digest = r.digest; reply = body }
-
-abbrev pub own_verdict : List ℕ → Request → State → List ℕ × State → Option Refusal → Answer × State
-own_verdict seat r s made None = (acceptance made.0, with_own_seat (own_settled seat r made.0) made.1)
-own_verdict seat r s made (Some reason) = (refusal reason, s)
+abbrev pub own_judgement : List ℕ → Request → State → List ℕ × State → Option Refusal → Answer × State
+own_judgement seat r s made None = (acceptance made.0, with_own_seat (kept_of seat r made.0) made.1)
+own_judgement seat r s made (Some reason) = (refusal reason, s)
 
 abbrev pub own_turn : Section → List ℕ → Request → State → Changing → Turn → Answer × State
 own_turn c seat r s change (Repeats body) = (acceptance body, s)
 own_turn c seat r s change Differs = (refusal OtherBody, s)
 own_turn c seat r s change (Skips expected) = (refusal (WrongNumber expected), s)
-own_turn c seat r s change Next = own_verdict seat r s (own_change c seat s change) (lowest (own_refusals c s change))
+own_turn c seat r s change Next = own_judgement seat r s (own_change c seat s change) (lowest (own_refusals c s change))
 
 abbrev pub own_shown_order : State → Option Order → Answer
 own_shown_order s None = refusal UnknownOrder
 own_shown_order s (Some o) = acceptance (order_body o (own_next s o))
 
-abbrev pub own_shown_device : State → Option Device → Answer
-own_shown_device s None = refusal UnknownDevice
-own_shown_device s (Some d) = acceptance (device_body (own_map_named d.map s) d)
-
-abbrev pub own_shown_ledger : State → Option Device → Answer
-own_shown_ledger s None = refusal UnknownDevice
-own_shown_ledger s (Some d) = acceptance (ledger_body (own_map_named d.map s) d.chip (ledger_of d.chip s))
+-- the device of a chip, with its fuse map
+abbrev pub own_device_found : List ℕ → State → Option FoundDevice
+own_device_found chip s = option_map (λ d. record { device = d; map = own_map_named d.map s }) (device_named chip s)
 
 abbrev pub own_shown : State → Showing → Answer
 own_shown s (ShowOrder name) = own_shown_order s (order_named name s)
-own_shown s (ShowDevice chip) = own_shown_device s (device_named chip s)
-own_shown s (ShowLedger chip) = own_shown_ledger s (device_named chip s)
+own_shown s (ShowDevice chip) = shown_device (own_device_found chip s)
+own_shown s (ShowLedger chip) = shown_ledger (λ own_chip. ledger_of own_chip s) (own_device_found chip s)
 
 abbrev pub own_serves : Section → List ℕ → Request → State → Command → Answer × State
 own_serves c seat r s (Show asked) = (own_shown s asked, s)

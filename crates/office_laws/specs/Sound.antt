@@ -14,6 +14,7 @@ use Rattle.office_rules.specs.Devices.{map_named}
 use Rattle.office_rules.specs.MapFaults.{map_fault}
 use Rattle.office_rules.specs.Rules.{is_too_wide, quantity_limit}
 use Rattle.office_laws.specs.SoundDevices.{AreSoundDevices}
+use Rattle.office_laws.specs.SoundRecords.{AreSoundRecords}
 
 -- the members that an order may have: its last number fits its width, and it has addresses exactly where it asked for some
 pub record IsOrder (o : Order) : Type 0 where
@@ -54,7 +55,7 @@ AreTextsApart (m ∷ ms) = AllByRecursion (λ other. bytes_eq m.body other.body 
 abbrev pub IsLinked : Tables → Owned Link → Type 0
 IsLinked t l = IsSomeAnd (map_at l.row.map t) (λ m. (l.row.digest ≡ sha256 m.body) × (map_fault m.body ≡ None))
 
--- each table is in the order of its key, each row lies in its customer's section, each order is one that may be made, no address is reserved twice, each link names a valid map by its digest, and each device has an order, a map and a ledger
+-- each table is in the order of its key, each row lies in its customer's section, each order is one that may be made, no address is reserved twice, each link names a valid map by its digest, each record of a serial number is that of a device or was imported, and each device has an order, a map and a ledger
 pub record IsSound (owners : Owners) (t : Tables) : Type 0 where
   pub seats_in_order : IsInOrder seat_cmp t.seats
   pub orders_in_order : IsInOrder order_cmp t.orders
@@ -70,4 +71,5 @@ pub record IsSound (owners : Owners) (t : Tables) : Type 0 where
   pub links_in_order : IsInOrder link_cmp t.links
   pub links : AllByRecursion (λ l. owners.customer l.customer ≡ true) t.links
   pub linked : AllByRecursion (IsLinked t) t.links
+  pub records : AreSoundRecords t.orders t.devices t.given
   pub devices : AreSoundDevices owners (λ customer digest. map_named customer digest t) t.orders t.links t.devices t.ledger

@@ -12,3 +12,4 @@ pub mod Prefix
 pub mod Serial
 pub mod ShortText
 pub mod ShortTextAgain
+pub mod Time

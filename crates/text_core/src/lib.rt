@@ -9,6 +9,7 @@ mod prefix;
 mod serial;
 mod short_text;
 mod text;
+mod time;
 mod whole;
 
 pub use chip::{Chip, are_lower_hex_digits};
@@ -18,4 +19,5 @@ pub use name::Name;
 pub use prefix::Prefix;
 pub use serial::Serial;
 pub use text::Text;
+pub use time::Time;
 pub use whole::LARGEST_WHOLE;

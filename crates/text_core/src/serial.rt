@@ -10,7 +10,7 @@ use std::marker::Model;
 /// A serial number as a certificate's serialNumber attribute carries it: 1 to 64 capital letters,
 /// digits and hyphens, which are characters of PrintableString (RFC 5280, appendix A). It lies in
 /// place, and is compared by its bytes.
-#[derive(Clone, Copy)]
+#[derive(Clone, Copy, PartialEq, Eq, PartialOrd, Ord)]
 pub struct Serial(ShortText);
 
 impl Model for Serial {

@@ -1,0 +1,12 @@
+-- Why `given::GivenRows::visit` meets its contract, where that has to be said.
+use Rattle.std.proofs.Common.{refl}
+use Rattle.std.specs.Cmp.Lexicographic.{nat_list_cmp_total}
+use Rattle.std.proofs.lemmas.Cmp.{tied_itself}
+use Rattle.office_memory.proofs.Records.{filter_issuer}
+use Rattle.office_memory.proofs.given.GivenRows.visit.Goals as goal
+
+pub visit-requires : goal.visit-requires
+visit-requires g c = rw (c.given_key-first.ensures, c.given_key-last.ensures, tied_itself nat_list_cmp_total c.args.issuer.now) refl
+
+pub returns : goal.returns
+returns g c = rw (← c.self.view_is, ← (filter_issuer c.args.issuer.now c.self.inside.rows)) (rw (c.given_key-first.ensures, c.given_key-last.ensures) at c.visit.ensures)

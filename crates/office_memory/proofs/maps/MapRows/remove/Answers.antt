@@ -1,0 +1,18 @@
+-- Why `maps::MapRows::remove` meets its contract, where that has to be said.
+use Rattle.std.proofs.Common.{◌∙◌, None, sym}
+use Rattle.std.proofs.lemmas.Map.Text.{btree_map_updates_text}
+use Rattle.office_memory.proofs.Counted.{without_none}
+use Rattle.office_memory.proofs.Keys.{find_map, without_map}
+use Rattle.office_memory.proofs.Texts.{found-without}
+use Rattle.office_memory.proofs.maps.MapRows.remove.Goals as goal
+
+pub invariant_of-self : goal.invariant_of-self
+invariant_of-self c =
+    let rows = c.self.inside.rows in
+    rw (c.remove.ensures.others, without_map c.args.id rows)
+    (found-without rows c.self.inside.ids c.remove-in-Some.new.self c.self.invariant c.in-Some.map c.args.id
+    (sym (find_map c.args.id rows) ∙ (sym c.remove.ensures.removed ∙ c.in-Some.is))
+    (btree_map_updates_text c.in-Some.map.body c.self.inside.ids c.remove-in-Some.new.self None (rw c.as_str.ensures at c.remove-in-Some.ensures.updates)))
+
+pub invariant_of-self-in_default : goal.invariant_of-self-in_default
+invariant_of-self-in_default c = rw c.remove.ensures.others (rw (without_none _ c.self.inside.rows (sym c.remove.ensures.removed ∙ c.in_default.is)) c.self.invariant)

@@ -1,0 +1,101 @@
+// The maps, found by their numbers and by their texts.
+ghost use Rattle.std.specs.Prelude.{◌≡◌, [], None, find, option_map, IfOk, IfSome, OnErr};
+ghost use Rattle.std.specs.Option.{option_copied};
+ghost use Rattle.office_tables.specs.Tables.{has_body, has_id, map_cmp, placed};
+ghost use Rattle.office_memory.specs.Unplaced.{without};
+
+use crate::table::Table;
+use office_tables::{MapRow, Unkept};
+use std::alloc::Global;
+use std::collections::BTreeMap;
+use std::marker::Model;
+use text_core::Text;
+
+/// The maps, and the number of each by its text, which no two have in common.
+#[derive(Drop)]
+pub(crate) struct MapRows {
+    rows: Table<MapRow>,
+    ids: BTreeMap<String, u64>,
+}
+
+impl Model for MapRows {
+    ghost use Rattle.std.specs.Prelude.{List};
+    ghost use Rattle.office_tables.specs.declared.rows.MapRow.{MapRow};
+    ghost use Rattle.office_memory.specs.Indexing.{AreFoundByText};
+
+    ghost Value = { List MapRow };
+
+    ghost view = { λ m. m.rows };
+
+    ghost invariant = { λ m. AreFoundByText m.rows m.ids };
+}
+
+impl MapRows {
+    /// No maps.
+    pub(crate) fn new(alloc: Global) -> MapRows
+        ensures { result ≡ [] }
+    {
+        MapRows {
+            rows: Table::new(alloc),
+            ids: BTreeMap::new(alloc),
+        }
+    }
+
+    /// The map with a number.
+    pub(crate) fn get(&self, id: u64) -> Option<&MapRow>
+        ensures { option_copied result ≡ find (has_id id) self.now }
+    {
+        self.rows.get(&id)
+    }
+
+    /// The number of the map with a text.
+    pub(crate) fn id_of(&self, body: &str) -> Option<u64>
+        ensures { result ≡ option_map (λ m. m.id) (find (has_body body.now) self.now) }
+    {
+        self.ids.get(body).copied()
+    }
+
+    /// Adds a map with the text under a number that no other has, and gives the number. It is
+    /// refused where a map has the text.
+    pub(crate) fn add(&mut self, body: Text) -> Result<u64, Unkept>
+        ensures free { IfOk result (λ id. find (has_id id) self.old ≡ None) }
+        ensures placed { IfOk result (λ id. self.new ≡ placed map_cmp (record { id = id; body = body }) self.old) }
+        ensures undone { IfOk result (λ id. without (has_id id) self.new ≡ self.old) }
+        ensures err { OnErr result (self.new ≡ self.old) }
+    {
+        let None = self.id_of(body.as_str()) else {
+            return Err(Unkept);
+        };
+        let Some(id) = self.free_id() else {
+            return Err(Unkept);
+        };
+        let key = body.copy()?.into_string();
+        self.rows.insert(MapRow { id, body })?;
+        match self.ids.insert(key, id) {
+            Ok(_) => Ok(id),
+            Err(_) => {
+                self.rows.remove(&id);
+                Err(Unkept)
+            }
+        }
+    }
+
+    /// A number that no map has: one above the greatest.
+    fn free_id(&self) -> Option<u64>
+        ensures { IfSome result (λ id. find (has_id id) self.now ≡ None) }
+    {
+        match self.rows.last() {
+            None => Some(1),
+            Some(map) => map.id.checked_add(1),
+        }
+    }
+
+    /// Takes a map out again. This takes no memory.
+    pub(crate) fn remove(&mut self, id: u64)
+        ensures { self.new ≡ without (has_id id) self.old }
+    {
+        if let Some(map) = self.rows.remove(&id) {
+            self.ids.remove(map.body.as_str());
+        }
+    }
+}
