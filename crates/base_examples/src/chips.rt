@@ -10,7 +10,7 @@ use std::test::Fail;
 use text_core::Digest;
 
 /// Eight words that hold the bytes 0 to 31, each its lowest byte first.
-const COUNTED: [u32; 8] = [
+pub const COUNTED: [u32; 8] = [
     0x0302_0100,
     0x0706_0504,
     0x0b0a_0908,
@@ -22,12 +22,12 @@ const COUNTED: [u32; 8] = [
 ];
 
 /// The SHA-256 digest of the bytes 0 to 31.
-const COUNTED_DIGEST: &str = "630dcd2966c4336691125448bbb25b4ff412a49c732db2c8abc1b8581bd710dd";
+pub const COUNTED_DIGEST: &str = "630dcd2966c4336691125448bbb25b4ff412a49c732db2c8abc1b8581bd710dd";
 
 /// The SHA-256 digest of a byte 1 and 31 zeros.
 const ONE_DIGEST: &str = "01d0fabd251fcbbe2b93b4b927b26ad2a1a99077152e45ded1e678afa45dbec5";
 
-const ZEROS: [u32; 8] = [0, 0, 0, 0, 0, 0, 0, 0];
+pub const ZEROS: [u32; 8] = [0, 0, 0, 0, 0, 0, 0, 0];
 
 const FIRST: [u32; 8] = [1, 0, 0, 0, 0, 0, 0, 0];
 

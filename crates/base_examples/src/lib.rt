@@ -23,6 +23,8 @@ pub mod samples;
 #[cfg(test)]
 mod sites;
 #[cfg(test)]
+mod steps;
+#[cfg(test)]
 mod streams;
 #[cfg(test)]
 mod texts;

@@ -12,7 +12,7 @@ use Rattle.fusemap_core.specs.Map.{Map}
 use Rattle.fuse_image.specs.Keys.{HoldsDigests, KeyTable, table_where}
 use Rattle.fuse_image.specs.Locks.{is_key_block}
 use Rattle.fuse_image.proofs.Tables.{get_within, get_past, table_where-same}
-use Rattle.fuse_plan.specs.Redaction.{AreKeys}
+use Rattle.fuse_redaction.specs.Redaction.{AreKeys}
 use Rattle.fuse_columns.specs.KeysColumns.{AreKeysOf, key_blocks, key_bytes, keys_column, key_of, key_in, keys_in}
 use Rattle.fuse_columns.proofs.KeyFields.{key_blocks-key, key_blocks-plain, key_block_is}
 

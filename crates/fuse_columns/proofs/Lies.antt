@@ -18,8 +18,8 @@ use Rattle.fuse_image.specs.Locks.{is_key_block, is_key_position}
 use Rattle.fuse_image.specs.Places.{pos_cmp, pos_total, contains-places_where, is_place}
 use Rattle.fuse_image.proofs.Tables.{get_within, get_past}
 use Rattle.fuse_image.specs.Blocks.{bytes_of}
-use Rattle.fuse_plan.specs.Redaction.{Fits, has_one, reads_one, redacted, shown_key}
-use Rattle.fuse_plan.proofs.Redacted.{AreKeys-redacted}
+use Rattle.fuse_redaction.specs.Redaction.{Fits, has_one, reads_one, redacted, shown_key}
+use Rattle.fuse_redaction.proofs.Redacted.{AreKeys-redacted}
 use Rattle.fuse_columns.specs.BitsColumns.{AreBits}
 use Rattle.fuse_columns.specs.KeysColumns.{AreKeysOf}
 use Rattle.fuse_columns.specs.Lying.{SetsStay, TablesStay, ReadBacksLie}

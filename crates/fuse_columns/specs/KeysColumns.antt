@@ -5,7 +5,7 @@ use Rattle.std.specs.FinMap as map
 use Rattle.fusemap_core.specs.declared.field.Field.{Field}
 use Rattle.fusemap_core.specs.Map.{Map}
 use Rattle.fuse_image.specs.Keys.{HoldsDigests, KeyTable, table_where}
-use Rattle.fuse_plan.specs.Redaction.{AreKeys}
+use Rattle.fuse_redaction.specs.Redaction.{AreKeys}
 
 -- the blocks of the key fields, in the map's order
 abbrev pub key_blocks : List Field → List ℕ

@@ -5,7 +5,7 @@ use Rattle.std.specs.FinMap as map
 use Rattle.fusemap_core.specs.Map.{Map}
 use Rattle.fuse_image.specs.Keys.{KeyTable, joined, without}
 use Rattle.fuse_image.specs.Places.{Positions}
-use Rattle.fuse_plan.specs.Redaction.{Fits, redacted}
+use Rattle.fuse_redaction.specs.Redaction.{Fits, redacted}
 use Rattle.fuse_columns.specs.BitsColumns.{AreBits}
 use Rattle.fuse_columns.specs.KeysColumns.{AreKeysOf}
 

@@ -79,6 +79,10 @@ union-none s = set.same_set pos_total pos_exact s (set.union s set.empty) (λ q.
     sym (or-false (set.contains s q))
     ∙ (ap (λ (b : Bool). set.contains s q || b) (sym (set.contains-empty pos_cmp q)) ∙ sym (set.contains-union pos_total s set.empty q)))
 
+pub union-empty : (s : Positions) → set.union set.empty s ≡ s
+union-empty s = set.same_set pos_total pos_exact (set.union set.empty s) s (λ p.
+    set.contains-union pos_total set.empty s p ∙ ap (λ (b : Bool). b || set.contains s p) (set.contains-empty pos_cmp p))
+
 insert-union : (s t : Positions) (p : Pos) → set.insert (set.union s t) p ≡ set.union s (set.insert t p)
 insert-union s t p = set.same_set pos_total pos_exact (set.insert (set.union s t) p) (set.union s (set.insert t p)) (λ q.
     set.contains-insert pos_total (set.union s t) p q

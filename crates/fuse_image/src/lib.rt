@@ -14,6 +14,6 @@ pub use image::Image;
 pub use keys::Keys;
 pub use locks::{
     hidden_positions, is_burnt, is_hidden_key, is_key_block, is_write_protected_key, key_positions,
-    write_protected_positions,
+    positions_of, write_protected_positions,
 };
 pub use words::BlockWords;

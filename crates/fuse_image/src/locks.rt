@@ -1,7 +1,7 @@
 // What the locks of a map hide and protect.
 ghost use Rattle.std.specs.Prelude.{◌≡◌, ◌<◌, ◌&&◌, ◌==◌, IfSome};
 ghost use Rattle.std.specs.List.{list_any};
-ghost use Rattle.fusemap_core.specs.Map.{holds};
+ghost use Rattle.fusemap_core.specs.Map.{IsSmall, holds};
 ghost use Rattle.fuse_image.specs.Locks as locks;
 ghost use Rattle.fuse_image.specs.Locks.{has_burnt_lock, positions_in};
 ghost use Rattle.fuse_image.specs.Places.{IsPlace, places_where};
@@ -87,6 +87,14 @@ pub fn is_key_block(map: &FuseMap, block: u8) -> bool
     map.fields()
         .iter()
         .any(|field| field.key && field.block == block)
+}
+
+/// The positions of a field.
+pub fn positions_of(field: &Field) -> Bits
+    requires { IsSmall field.now }
+    ensures { result ≡ places_where (holds field.now) }
+{
+    Bits::empty().with_run(field.first(), field.count)
 }
 
 /// The positions of the fields with a burnt lock of one kind.

@@ -1,2 +1,9 @@
 -- The lemmas of this crate.
-pub mod Redacted
+pub mod Compared
+pub mod Law
+pub mod Asked
+pub mod Windows
+pub mod Digits
+pub mod Shown
+pub mod Pending
+pub mod Lies

@@ -1,9 +1,12 @@
 //! Bodies as JSON, and the members of a JSON value.
 #![tactic(auto)]
 
-ghost use Rattle.std.specs.Prelude.{◌≡◌, ◌≤◌, IfSome, map, option_map};
+ghost use Rattle.std.specs.Prelude.{◌≡◌, ◌≤◌, IfOk, IfSome, Option, map, option_map};
+ghost use Rattle.serde_json.specs.Data.{Data};
 ghost use Rattle.serde_json.specs.View.{view};
 ghost use Rattle.text_core.specs.Answer.{GivesUnless, result_map};
+ghost use Rattle.text_core.specs.Options.{all_of};
+ghost use Rattle.text_core.specs.Readers.{Reads, ReadsOrFails};
 ghost use Rattle.json_members.specs.Json as json;
 ghost use Rattle.json_members.specs.Json.{json_read};
 ghost use Rattle.json_members.specs.declared.JsonFault.TheVariants.{OutOfMemory};
@@ -109,4 +112,32 @@ pub fn list_member<'v>(
 {
     let items = value.get(name)?.as_array()?;
     of_length(items.as_slice(), least, greatest)
+}
+
+/// What `read` makes of each value, or `None` where it makes nothing of one of them.
+pub fn read_all<T: Drop, F: Fn(&Value) -> Option<T>>(
+    alloc: Global,
+    values: &[Value],
+    read: F,
+) -> Result<Option<Vec<T>>, AllocError>
+    requires { F.IsAlwaysCallable read }
+    ensures { (item_in : Data → Option T) → Reads F.Fn read (λ value. item_in (view value))
+        → IfOk result (λ found. option_map (λ items. items.items) found
+        ≡ all_of item_in (map view values.now)) }
+{
+    text_core::read_all(alloc, values, read)
+}
+
+/// The same of a `read` that takes memory.
+pub fn try_read_all<T: Drop, F: Fn(&Value) -> Result<Option<T>, AllocError>>(
+    alloc: Global,
+    values: &[Value],
+    read: F,
+) -> Result<Option<Vec<T>>, AllocError>
+    requires { F.IsAlwaysCallable read }
+    ensures { (item_in : Data → Option T) → ReadsOrFails F.Fn read (λ value. item_in (view value))
+        → IfOk result (λ found. option_map (λ items. items.items) found
+        ≡ all_of item_in (map view values.now)) }
+{
+    text_core::try_read_all(alloc, values, read)
 }

@@ -14,10 +14,13 @@ use Rattle.fuse_image.specs.Words.{words_of}
 use Rattle.fuse_columns.specs.declared.todo.Work.{Work}
 use Rattle.office_tables.specs.Quarantine.{reason_of}
 use Rattle.office_tables.specs.declared.rows.Device.{Device}
+use Rattle.office_tables.specs.declared.rows.DeviceState.{DeviceState}
 use Rattle.office_tables.specs.declared.rows.NewEntry.{NewEntry}
+use Rattle.office_tables.specs.declared.rows.Outcome.{Outcome}
 use Rattle.office_tables.specs.declared.rows.Reason.{Reason}
 use Rattle.office_tables.specs.declared.rows.Reason.TheVariants.{Lost, Stray, Key}
 use Rattle.office_commands.specs.Replies.{text_data}
+use Rattle.office_commands.specs.StepReplies.{outcome_data, plan_data}
 use Rattle.office_commands.specs.DeviceReplies.{items_of, word_data, word_list, bits_data, key_at, with_digest, with_keys, keys_data, work_data, reason_data, device_data, entry_by, entry_data, fields_of, image_by, ledger_data}
 
 in_words_shown : (is_zero : Bool) (d : Data) (ds : List Data) → has_float d ≡ false → items_have_float (items_of ds) ≡ false → items_have_float (items_of (if is_zero then ds else d ∷ ds)) ≡ false
@@ -83,3 +86,9 @@ in_entries m (e ∷ es) = or_from _ _ (in_entry (fields_of m) (image_by m e.bits
 
 pub in_ledger : (m : Option Map) (chip : List ℕ) (entries : List NewEntry) → has_float (ledger_data m chip entries) ≡ false
 in_ledger m chip entries = or_from _ _ (in_entries m entries) refl
+
+pub in_plan : (fields : List Field) (work : Work) (state : DeviceState) → has_float (plan_data fields work state) ≡ false
+in_plan fields work state = or_from _ _ (in_work fields work.first work.keys) (or_from _ _ (in_work fields work.second table.empty) refl)
+
+pub in_outcome : (fields : List Field) (outcome : Outcome) (rest : Image) (state : DeviceState) → has_float (outcome_data fields outcome rest state) ≡ false
+in_outcome fields outcome rest state = or_from _ _ (in_work fields rest.burnt rest.keys) refl

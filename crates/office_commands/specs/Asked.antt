@@ -1,15 +1,29 @@
 -- What a seat can ask for: the numbers of an order are within their ranges.
+use Rattle.std.specs.Prelude.{◌≡◌, length}
+use Rattle.std.specs.List.{AllByRecursion}
+use Rattle.fuse_plan.specs.declared.wish.Want.{Want}
+use Rattle.fuse_plan.specs.declared.wish.Want.TheVariants.{Bit, Value, Key, WriteLock, ReadLock}
 use Rattle.office_commands.specs.NewOrders.{IsNewOrder}
 use Rattle.office_commands.specs.declared.command.Change.{Change}
-use Rattle.office_commands.specs.declared.command.Change.TheVariants.{MakeOrder, ImportMap, RegisterDevice}
+use Rattle.office_commands.specs.declared.command.Change.TheVariants.{MakeOrder, ImportMap, RegisterDevice, PlanDevice, ReadBack}
 use Rattle.office_commands.specs.declared.command.Command.{Command}
 use Rattle.office_commands.specs.declared.command.Command.TheVariants.{Change as Changing, Show}
 use Rattle.office_commands.specs.declared.command.Request.{Request}
+
+-- a key that is wished for is named by a digest of 32 bytes
+abbrev pub HasDigest : Want → Type 0
+HasDigest (Bit i) = Unit {0}
+HasDigest (Value v) = Unit {0}
+HasDigest (Key digest) = length digest ≡ 32
+HasDigest WriteLock = Unit {0}
+HasDigest ReadLock = Unit {0}
 
 abbrev pub IsChange : Change → Type 0
 IsChange (MakeOrder o) = IsNewOrder o
 IsChange (ImportMap text) = Unit {0}
 IsChange (RegisterDevice d) = Unit {0}
+IsChange (PlanDevice p) = AllByRecursion (λ w. HasDigest w.want) p.wishes
+IsChange (ReadBack r) = Unit {0}
 
 abbrev pub IsCommand : Command → Type 0
 IsCommand (Changing c) = IsChange c

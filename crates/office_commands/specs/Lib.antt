@@ -4,3 +4,4 @@ pub mod Asked
 pub mod Refusals
 pub mod Replies
 pub mod DeviceReplies
+pub mod StepReplies

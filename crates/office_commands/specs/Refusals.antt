@@ -2,8 +2,10 @@
 use Rattle.std.specs.Prelude.{ℕ, List, ◌++◌, codes, decimal}
 use Rattle.http_replies.specs.declared.Status.{Status}
 use Rattle.http_replies.specs.declared.Status.TheVariants.{BadRequest, Unauthorized, Forbidden, NotFound, Conflict, Unprocessable, Unavailable}
+use Rattle.fuse_plan.specs.declared.fault.PlanFault.{PlanFault}
+use Rattle.fuse_plan.specs.declared.fault.PlanFault.TheVariants.{UnknownField, UnmappedBit, ValueTooWide, ClearsBurnt, Contradiction, WrongKind, OtherKey, WriteProtected, Hidden, NoLock}
 use Rattle.office_commands.specs.declared.refusal.Refusal.{Refusal}
-use Rattle.office_commands.specs.declared.refusal.Refusal.TheVariants.{UnknownToken, UnknownPath, WrongCaller, BadJson, BadMember, WrongNumber, OtherBody, UnknownMap, UnknownOrder, UnknownDevice, Exists, QuantityReached, BadMap, BadSerial, NumberTooWide, NoMacRoom, RangeOverlap, CodingScheme, ForeignIssuer, MapDigestTaken, Limit, BadReadback, Unkept}
+use Rattle.office_commands.specs.declared.refusal.Refusal.TheVariants.{UnknownToken, UnknownPath, WrongCaller, BadJson, BadMember, WrongNumber, OtherBody, UnknownMap, UnknownOrder, UnknownDevice, Exists, WrongState, QuantityReached, BadPlan, BadMap, BadSerial, NumberTooWide, NoMacRoom, RangeOverlap, CodingScheme, ForeignIssuer, MapDigestTaken, Limit, BadReadback, Unkept}
 
 abbrev pub refusal_status : Refusal → Status
 refusal_status UnknownToken = Unauthorized
@@ -17,7 +19,9 @@ refusal_status UnknownMap = NotFound
 refusal_status UnknownOrder = NotFound
 refusal_status UnknownDevice = NotFound
 refusal_status Exists = Conflict
+refusal_status WrongState = Conflict
 refusal_status QuantityReached = Conflict
+refusal_status (BadPlan fault) = Unprocessable
 refusal_status (BadMap fault) = Unprocessable
 refusal_status BadSerial = Unprocessable
 refusal_status NumberTooWide = Unprocessable
@@ -29,6 +33,19 @@ refusal_status MapDigestTaken = Conflict
 refusal_status Limit = Conflict
 refusal_status BadReadback = Unprocessable
 refusal_status Unkept = Unavailable
+
+-- the faults of wishes have the numbers from 19 on
+abbrev pub plan_fault_body : PlanFault → List ℕ
+plan_fault_body UnknownField = codes "{\"error\":\"unknown_field\",\"no\":19}"
+plan_fault_body UnmappedBit = codes "{\"error\":\"unmapped_bit\",\"no\":20}"
+plan_fault_body ValueTooWide = codes "{\"error\":\"value_too_wide\",\"no\":21}"
+plan_fault_body ClearsBurnt = codes "{\"error\":\"clears_burnt\",\"no\":22}"
+plan_fault_body Contradiction = codes "{\"error\":\"contradiction\",\"no\":23}"
+plan_fault_body WrongKind = codes "{\"error\":\"wrong_kind\",\"no\":24}"
+plan_fault_body OtherKey = codes "{\"error\":\"other_key\",\"no\":25}"
+plan_fault_body WriteProtected = codes "{\"error\":\"write_protected\",\"no\":26}"
+plan_fault_body Hidden = codes "{\"error\":\"hidden\",\"no\":27}"
+plan_fault_body NoLock = codes "{\"error\":\"no_lock\",\"no\":28}"
 
 abbrev pub refusal_body : Refusal → List ℕ
 refusal_body UnknownToken = codes "{\"error\":\"unknown_token\",\"no\":6}"
@@ -42,7 +59,9 @@ refusal_body UnknownMap = codes "{\"error\":\"unknown_map\",\"no\":13}"
 refusal_body UnknownOrder = codes "{\"error\":\"unknown_order\",\"no\":14}"
 refusal_body UnknownDevice = codes "{\"error\":\"unknown_device\",\"no\":15}"
 refusal_body Exists = codes "{\"error\":\"exists\",\"no\":16}"
+refusal_body WrongState = codes "{\"error\":\"wrong_state\",\"no\":17}"
 refusal_body QuantityReached = codes "{\"error\":\"quantity_reached\",\"no\":18}"
+refusal_body (BadPlan fault) = plan_fault_body fault
 refusal_body (BadMap fault) = codes "{\"error\":\"bad_map\",\"fault\":" ++ (decimal fault ++ codes ",\"no\":29}")
 refusal_body BadSerial = codes "{\"error\":\"bad_serial\",\"no\":30}"
 refusal_body NumberTooWide = codes "{\"error\":\"number_too_wide\",\"no\":31}"

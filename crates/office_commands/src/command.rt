@@ -1,7 +1,7 @@
 // What a seat can ask for.
 ghost use Rattle.office_commands.specs.Asked.{IsAsked};
 
-use crate::{AskedOrder, NewDevice};
+use crate::{AskedOrder, NewDevice, NewPlan, NewReadBack};
 use text_core::{Chip, Digest, Name, Text};
 
 /// A command that writes.
@@ -13,6 +13,10 @@ pub enum Change {
     ImportMap(Text),
     /// Registers a device.
     RegisterDevice(NewDevice),
+    /// Plans what is to be burnt of a device.
+    PlanDevice(NewPlan),
+    /// Compares what a device shows with what was to be burnt.
+    ReadBack(NewReadBack),
 }
 
 /// A command that shows something and writes nothing.
@@ -48,8 +52,12 @@ impl Request {
     pub fn ranges(&self)
         ensures { IsAsked self.now }
     {
-        if let Command::Change(Change::MakeOrder(order)) = &self.command {
-            let _order = order.order();
+        match &self.command {
+            Command::Change(Change::MakeOrder(order)) => {
+                let _order = order.order();
+            }
+            Command::Change(Change::PlanDevice(plan)) => plan.digests(),
+            _ => {}
         }
     }
 }

@@ -5,12 +5,16 @@ mod command;
 mod device_reply;
 mod new_device;
 mod new_order;
+mod new_plan;
 mod refusal;
 mod reply;
+mod step_reply;
 
 pub use command::{Change, Command, Request, Show};
 pub use device_reply::{device_body, ledger_body};
 pub use new_device::NewDevice;
 pub use new_order::{AskedOrder, NewOrder};
+pub use new_plan::{NewPlan, NewReadBack, Wishes};
 pub use refusal::Refusal;
 pub use reply::{accepted, map_body, order_body, refused, unavailable, unknown_token};
+pub use step_reply::{outcome_body, plan_body};

@@ -2,6 +2,7 @@
 ghost use Rattle.std.specs.Prelude.{◌≡◌};
 ghost use Rattle.office_commands.specs.Refusals.{refusal_status};
 
+use fuse_plan::PlanFault;
 use http_replies::Status;
 use thiserror::Error;
 
@@ -42,9 +43,15 @@ pub enum Refusal {
     /// The customer has a row of that name (16).
     #[error("the name is taken")]
     Exists,
+    /// The device isn't in a state for it (17).
+    #[error("the device is not in a state for it")]
+    WrongState,
     /// The order has as many devices as it is for (18).
     #[error("the order has as many devices as it is for")]
     QuantityReached,
+    /// The wishes can't be burnt, by their fault (19 to 28).
+    #[error("the wishes can't be burnt: {0}")]
+    BadPlan(PlanFault),
     /// The text is no fuse map, and the number of its fault, 1 to 8 (29).
     #[error("the text is no fuse map, by its fault {0}")]
     BadMap(u8),
@@ -96,12 +103,14 @@ impl Refusal {
             Refusal::WrongNumber(_)
             | Refusal::OtherBody
             | Refusal::Exists
+            | Refusal::WrongState
             | Refusal::QuantityReached
             | Refusal::NoMacRoom
             | Refusal::RangeOverlap
             | Refusal::MapDigestTaken
             | Refusal::Limit => Status::Conflict,
-            Refusal::BadMap(_)
+            Refusal::BadPlan(_)
+            | Refusal::BadMap(_)
             | Refusal::BadSerial
             | Refusal::NumberTooWide
             | Refusal::CodingScheme

@@ -3,11 +3,12 @@ ghost use Rattle.std.specs.Prelude.{◌≡◌, IfOk, option_map, string_bytes};
 ghost use Rattle.serde_json.specs.View.{view};
 ghost use Rattle.http_replies.specs.Replies.{answer_of, bytes_of, kind_of};
 ghost use Rattle.http_replies.specs.declared.Kind.{Kind};
-ghost use Rattle.office_commands.specs.Refusals.{refusal_body};
+ghost use Rattle.office_commands.specs.Refusals.{plan_fault_body, refusal_body};
 ghost use Rattle.office_commands.specs.Replies.{acceptance, refusal, text_data, mac_data, order_data, map_data};
 ghost use Rattle.office_commands.specs.Replies as replies;
 
 use crate::Refusal;
+use fuse_plan::PlanFault;
 use http_replies::{Body, Reply, Status};
 use id_ranges::Mac;
 use office_tables::Order;
@@ -57,6 +58,24 @@ pub fn refused(alloc: Global, reason: Refusal) -> Result<Reply, AllocError>
     })
 }
 
+/// What answers wishes that can't be burnt.
+fn plan_fault_text(fault: PlanFault) -> &'static str
+    ensures { result.now ≡ plan_fault_body fault }
+{
+    match fault {
+        PlanFault::UnknownField => "{\"error\":\"unknown_field\",\"no\":19}",
+        PlanFault::UnmappedBit => "{\"error\":\"unmapped_bit\",\"no\":20}",
+        PlanFault::ValueTooWide => "{\"error\":\"value_too_wide\",\"no\":21}",
+        PlanFault::ClearsBurnt => "{\"error\":\"clears_burnt\",\"no\":22}",
+        PlanFault::Contradiction => "{\"error\":\"contradiction\",\"no\":23}",
+        PlanFault::WrongKind => "{\"error\":\"wrong_kind\",\"no\":24}",
+        PlanFault::OtherKey => "{\"error\":\"other_key\",\"no\":25}",
+        PlanFault::WriteProtected => "{\"error\":\"write_protected\",\"no\":26}",
+        PlanFault::Hidden => "{\"error\":\"hidden\",\"no\":27}",
+        PlanFault::NoLock => "{\"error\":\"no_lock\",\"no\":28}",
+    }
+}
+
 fn refusal_text(alloc: Global, reason: Refusal) -> Result<Body, AllocError>
     ensures kind { IfOk result (λ body. kind_of body ≡ Kind.Json) }
     ensures text { IfOk result (λ body. bytes_of body ≡ refusal_body reason) }
@@ -77,7 +96,9 @@ fn refusal_text(alloc: Global, reason: Refusal) -> Result<Body, AllocError>
         Refusal::UnknownOrder => "{\"error\":\"unknown_order\",\"no\":14}",
         Refusal::UnknownDevice => "{\"error\":\"unknown_device\",\"no\":15}",
         Refusal::Exists => "{\"error\":\"exists\",\"no\":16}",
+        Refusal::WrongState => "{\"error\":\"wrong_state\",\"no\":17}",
         Refusal::QuantityReached => "{\"error\":\"quantity_reached\",\"no\":18}",
+        Refusal::BadPlan(fault) => return Ok(Body::Constant(plan_fault_text(fault))),
         Refusal::BadMap(fault) => {
             return Ok(Body::Json(format!(in alloc;
                 "{{\"error\":\"bad_map\",\"fault\":{fault},\"no\":29}}"

@@ -1,5 +1,5 @@
 -- A step of a device acts on the customer's view as on the customer's own machine, leaves each other view, and keeps the tables sound.
-use Rattle.std.proofs.Common.{◌≡◌, ◌+◌, ℕ, true, false, List, [], ◌∷◌, map, Some, None, Ordering, Equal, refl, sym, ap, ◌∙◌, subst}
+use Rattle.std.proofs.Common.{◌≡◌, ◌+◌, ◌++◌, ℕ, arith, true, false, List, [], ◌∷◌, length, map, Some, None, Ordering, Equal, refl, sym, ap, ◌∙◌, subst}
 use Rattle.std.specs.Prelude.{bytes_eq, filter, find, is_some}
 use Rattle.std.specs.List.{AllByRecursion}
 use Rattle.std.specs.Ordering.{nat_cmp, ordering_then}
@@ -23,9 +23,10 @@ use Rattle.office_laws.specs.View.{at_first, own_map, view}
 use Rattle.office_laws.specs.SoundDevices.{AreNumbered, AreSoundDevices, HasLedger, IsKept, IsReferred, Named}
 use Rattle.office_laws.specs.SoundRecords.{IsNumbered, IsRecordOf}
 use Rattle.office_laws.specs.Sound.{IsSound}
+use Rattle.office_laws.proofs.Appended.{all_below, appended, last_of_numbered, numbered_appended}
 use Rattle.office_laws.proofs.DeviceRows.{ids_apart_placed}
 use Rattle.office_laws.proofs.Placed.{all_placed_apart, first_equal, map_placed, same_place, second_equal}
-use Rattle.office_laws.proofs.Readings.{entries_own, same_text, text_itself}
+use Rattle.office_laws.proofs.Readings.{entries_own, find_holds, same_text, text_itself}
 use Rattle.office_laws.proofs.RecordRows.{Follows, each_device, own_device, record_after_device, tied_device}
 
 devices_total : IsTotalOrder device_cmp
@@ -190,6 +191,28 @@ module _ {owners : Owners} {t : Tables} (sound : IsSound owners t) (c seat : Lis
 
       no_entries : AllByRecursion (λ e. is_entry_of c step.device.chip e ≡ false) t.ledger
       no_entries = all_map (λ e. is_some (find (is_device e.customer e.row.chip) t.devices) ≡ true) (λ e. is_entry_of c step.device.chip e ≡ false) not_its t.ledger sound.devices.of_devices
+
+  -- and that of a device that was there: one entry more at its end
+  pub next_ledger : (old : Owned Device) → device_at c step.device.chip t ≡ Some old → step.device.map ≡ old.row.map
+      → ((m : Map) → named c old.row.map ≡ Some m → (es : List (Owned Entry)) → IsKept m old.row es → IsKept m step.device (es ++ entry ∷ [])) → HasLedger named after.ledger d
+  next_ledger old there same_map kept =
+      let found = find_holds (HasLedger named t.ledger) (is_device c step.device.chip) t.devices old sound.devices.ledgers there in
+      let parts = and_parts (bytes_eq c old.customer) (bytes_eq step.device.chip old.row.chip) found.1 in
+      let owner : c ≡ old.customer = same_text c old.customer parts.0 in
+      let chip : step.device.chip ≡ old.row.chip = same_text step.device.chip old.row.chip parts.1 in
+      let es = filter (is_entry_of c step.device.chip) t.ledger in
+      let was_numbered : AreNumbered 1 es = rw (owner, chip) found.0.numbered in
+      let last : last_number c step.device.chip t ≡ length es = last_of_numbered es was_numbered in
+      let grown : filter (is_entry_of c step.device.chip) after.ledger ≡ es ++ entry ∷ [] =
+      appended entry (own_device d) (λ x y. entries_total.trans entry x y) t.ledger sound.devices.ledger_in_order
+      (all_below c step.device.chip t.ledger (last_number c step.device.chip t + 1) (omega arith)) in
+      record {
+        numbered = subst (AreNumbered 1) (sym grown) (numbered_appended 1 es entry was_numbered (omega (arith, last)));
+        by_map = λ m is.
+            let known : named c old.row.map ≡ Some m = rw (← same_map) is in
+            let was : IsKept m old.row es = rw (owner, chip) (found.0.by_map m (rw (← owner) known)) in
+            subst (IsKept m step.device) (sym grown) (kept m known es was);
+      }
 
   pub step_view : view c after ≡ own_step seat step (view c t)
   step_view = λ i. record {

@@ -1,4 +1,4 @@
--- A step acts on the customer's view as the customer's own machine does, leaves each other view, and keeps the tables sound.
+-- A step acts on the customer's view as the customer's own machine does, leaves each other view, keeps the tables sound, and forgets nothing that was burnt.
 use Rattle.std.proofs.Common.{◌≡◌, ◌+◌, ℕ, arith, Bool, true, false, cond, List, [], ◌∷◌, ◌++◌, map, Option, Some, None, Equal, refl, sym, ap, ◌∙◌, subst}
 use Rattle.std.specs.Prelude.{◌||◌, MatchOption, is_some, not, if◌then◌else◌}
 use Rattle.std.specs.List.{AllByRecursion, list_any}
@@ -13,12 +13,13 @@ use Rattle.office_tables.specs.declared.rows.SeatState.{SeatState}
 use Rattle.office_tables.specs.declared.rows.Link.{Link}
 use Rattle.office_tables.specs.declared.rows.MapRow.{MapRow}
 use Rattle.office_tables.specs.declared.rows.Order.{Order}
+use Rattle.office_tables.specs.declared.rows.Device.{Device}
 use Rattle.office_tables.specs.declared.rows.Entry.{Entry}
 use Rattle.fusemap_core.specs.Map.{Map}
-use Rattle.fuse_plan.specs.Redaction.{Fits, redacted}
+use Rattle.fuse_redaction.specs.Redaction.{Fits, redacted}
 use Rattle.std.proofs.lemmas.Slice.Eq.{bytes_eq-Decides}
 use Rattle.office_commands.specs.declared.new_device.NewDevice.{NewDevice}
-use Rattle.office_tables.specs.Tables.{Tables, device_at, entry_under, is_of, last_number, link_at, map_at, map_with, own, placed, seat_cmp, order_cmp, order_at, with_link, with_map, with_seat, with_order}
+use Rattle.office_tables.specs.Tables.{Tables, device_at, entry_under, is_device, is_of, last_number, link_at, map_at, map_with, own, placed, seat_cmp, order_cmp, order_at, with_link, with_map, with_seat, with_order}
 use Rattle.std.proofs.lemmas.Bool.{not-false}
 use Rattle.office_tables.proofs.Placing.{all_map, all_placed, placed_in_order, placed_other, placed_own}
 use Rattle.office_commands.specs.Asked.{IsAsked, IsChange, IsCommand}
@@ -26,7 +27,7 @@ use Rattle.office_commands.specs.declared.command.Request.{Request}
 use Rattle.office_commands.specs.declared.command.Command.{Command}
 use Rattle.office_commands.specs.declared.command.Command.TheVariants.{Change as Changing, Show}
 use Rattle.office_commands.specs.declared.command.Change.{Change}
-use Rattle.office_commands.specs.declared.command.Change.TheVariants.{MakeOrder, ImportMap, RegisterDevice}
+use Rattle.office_commands.specs.declared.command.Change.TheVariants.{MakeOrder, ImportMap, RegisterDevice, PlanDevice, ReadBack}
 use Rattle.office_commands.specs.declared.command.Show.TheVariants.{Order as ShowOrder, Device as ShowDevice, Ledger as ShowLedger}
 use Rattle.office_commands.specs.declared.refusal.Refusal.{Refusal}
 use Rattle.office_commands.specs.declared.refusal.Refusal.TheVariants.{BadReadback}
@@ -35,7 +36,14 @@ use Rattle.office_rules.specs.Rules.{lowest}
 use Rattle.office_rules.specs.Orders.{next_of, shown_order, wanted_by}
 use Rattle.office_rules.specs.MapFaults.{map_fault}
 use Rattle.office_rules.specs.Maps.{Imports, Links, bad_map}
-use Rattle.office_rules.specs.Devices.{map_named, map_text, own_entry, refusals_by, RegistersBy}
+use Rattle.office_rules.specs.Devices.{map_named, map_text, own_entry, refusals_by, RegistersBy, StepsFound, StepsWith}
+use Rattle.office_rules.specs.StepRules.{Does, is_awaited, known_of, may_be_planned, plan_refusals, plans, read_refusals, reads}
+use Rattle.office_laws.proofs.Planning.{missing_digests, plan_keeps, unnumbered_from}
+use Rattle.office_laws.proofs.ReadingBack.{read_keeps, unnumbered_awaited}
+use Rattle.fuse_columns.specs.Lying.{ReadBackLies}
+use Rattle.fuse_columns.proofs.Lies.{read_backs_lie}
+use Rattle.office_rules.specs.declared.device_step.FoundDevice.{FoundDevice}
+use Rattle.office_laws.proofs.StepLaws.{Keeps, steps_made}
 use Rattle.office_rules.specs.DeviceSteps.{entry_of, registration, shown_device, shown_ledger}
 use Rattle.office_rules.specs.declared.device_step.DeviceStep.{DeviceStep}
 use Rattle.office_rules.specs.DeviceRules.{fits, is_full, readback_refusals, shown_refusals}
@@ -45,9 +53,12 @@ use Rattle.office_rules.proofs.Linked.{map_is_linked}
 use Rattle.office_rules.specs.declared.turn.Turn.{Turn}
 use Rattle.office_rules.specs.declared.turn.Turn.TheVariants.{Repeats, Differs, Next, Skips}
 use Rattle.office_rules.specs.Office.{kept_of, settled, shown, turn, turn_at, Judges, Turns, Serves, Step}
-use Rattle.office_laws.specs.Solo.{OwnMap, State, own_import, own_register, own_map_cmp, own_seat_cmp, own_order_cmp, own_next, own_refusals, own_change, with_own_seat, own_judgement, own_turn, own_shown, own_shown_order, own_serves, solo}
+use Rattle.office_laws.specs.Grows.{Grows}
+use Rattle.office_laws.specs.Solo.{OwnMap, State, own_import, own_register, own_map_cmp, own_seat_cmp, own_order_cmp, own_next, own_refusals, own_change, with_own_seat, own_judgement, own_turn, own_shown, own_shown_order, own_serves, own_steps, own_steps_with, solo}
 use Rattle.office_laws.specs.View.{at_first, own_map, text_in, view}
 use Rattle.office_laws.specs.Sound.{AreDisjoint, IsInPool, IsLinked, IsOrder, IsSound}
+use Rattle.office_laws.proofs.Growing.{device_grows, grows_itself, link_grows, map_grows, order_grows, seat_grows}
+use Rattle.office_laws.proofs.Makes.{Makes}
 use Rattle.office_laws.proofs.Addresses.{each_apart_placed, wanted_apart, wanted_in_pool}
 use Rattle.office_laws.proofs.Terms.{wanted_terms}
 use Rattle.office_laws.proofs.MapLaws.{link_hidden, link_sound, link_view, map_hidden, map_sound}
@@ -56,10 +67,10 @@ use Rattle.office_laws.proofs.DeviceRows.{referred_after_order}
 use Rattle.office_laws.proofs.RecordRows.{record_after_order}
 use Rattle.office_laws.proofs.Registrations.{found_is_map, registered_kept}
 use Rattle.office_laws.specs.SoundDevices.{IsKept}
-use Rattle.office_laws.specs.SoundRecords.{IsGivenBelow, IsRecordOf}
+use Rattle.office_laws.specs.SoundRecords.{IsNumbered, IsGivenBelow, IsRecordOf}
 use Rattle.office_laws.proofs.MapRows.{map_of_text, new_map_found}
 use Rattle.office_laws.proofs.Placed.{first_equal, map_placed, same_place}
-use Rattle.office_laws.proofs.Readings.{map_own, wanted_own, same_text, text_itself, seats_total, orders_total, order_agree, owner_is, seat_own, order_own, map_named_own, device_found_own, entries_own, next_own, order_issuer, refusals_own}
+use Rattle.office_laws.proofs.Readings.{find_holds, map_own, wanted_own, same_text, text_itself, seats_total, orders_total, order_agree, owner_is, seat_own, order_own, map_named_own, device_found_own, entries_own, next_own, order_issuer, refusals_own}
 
 module _ {owners : Owners} {t : Tables} (sound : IsSound owners t) where
   order_sound : (c : List ℕ) (o : Order) → owners.issuer o.issuer ≡ Some c → IsOrder o → IsInPool owners (record { customer = c; row = o })
@@ -178,23 +189,19 @@ lowest_none (c ∷ cs) e =
       | false ↦ λ holds e. (holds, lowest_none cs e)
     ] refl e
 
--- A reply and tables after it are those of the customer's own machine; another view stays.
+-- A reply and tables after it are those of the customer's own machine; another view stays, and so does what is known to be burnt.
 pub record Obeys (owners : Owners) (c : List ℕ) (t : Tables) (reply : Answer) (t2 : Tables) (said : Answer × State) : Type 0 where
   pub sound : IsSound owners t2
+  pub grows : Grows t t2
   pub own : (reply, view c t2) ≡ said
   pub other : (d : List ℕ) → bytes_eq d c ≡ false → view d t2 ≡ view d t
-
--- the same of a change, with its body
-record Makes (owners : Owners) (c : List ℕ) (t : Tables) (body : List ℕ) (mid : Tables) (made : List ℕ × State) : Type 0 where
-  sound : IsSound owners mid
-  own : (body, view c mid) ≡ made
-  other : (d : List ℕ) → bytes_eq d c ≡ false → view d mid ≡ view d t
 
 module _ {owners : Owners} {t : Tables} (sound : IsSound owners t) (apart : AreApart owners) (s : Section) (section : IsSection owners s) where
   -- nothing changes
   stays : (reply said : Answer) (t2 : Tables) → reply ≡ said → t2 ≡ t → Obeys owners s.name t reply t2 (said, view s.name t)
   stays reply said t2 e same = record {
     sound = subst (IsSound owners) (sym same) sound;
+    grows = subst (Grows t) (sym same) (grows_itself t);
     own = λ i. (e i, view s.name (same i));
     other = λ d _ i. view d (same i);
   }
@@ -212,16 +219,17 @@ module _ {owners : Owners} {t : Tables} (sound : IsSound owners t) (apart : AreA
       → Makes owners s.name t body mid (order_body o (own_next (view s.name t) o), (let v = view s.name t in record v { orders = placed own_order_cmp o v.orders }))
   order_made o body mid first mine terms in_pool disjoint new text is = record {
     sound = subst (IsSound owners) (sym is) (order_sound sound s.name o mine terms in_pool disjoint new first);
+    grows = subst (Grows t) (sym is) (order_grows t (record { customer = s.name; row = o }));
     own = λ i. ((text ∙ ap (order_body o) (next_own sound s.name o mine)) i, (ap (view s.name) is ∙ order_view sound s.name o first) i);
     other = λ d ne. ap (view d) is ∙ order_hidden sound s.name d o ne;
   }
 
   -- a link to a map that is there, or was just made
-  link_made : (text body : List ℕ) (mid mapped : Tables) (l : Link) (m : MapRow) → IsSound owners mapped → ((d : List ℕ) → view d mapped ≡ view d t)
+  link_made : (text body : List ℕ) (mid mapped : Tables) (l : Link) (m : MapRow) → IsSound owners mapped → Grows t mapped → ((d : List ℕ) → view d mapped ≡ view d t)
       → map_at l.map mapped ≡ Some m → l.digest ≡ sha256 text → text ≡ m.body → map_fault text ≡ None → link_at s.name l.digest mapped ≡ None
       → body ≡ map_body (sha256 text) → mid ≡ with_link (record { customer = s.name; row = l }) mapped
       → Makes owners s.name t body mid (map_body (sha256 text), own_import (view s.name t) text None)
-  link_made text body mid mapped l m sound_mapped same there is_digest is_text no_fault none shown is =
+  link_made text body mid mapped l m sound_mapped grown same there is_digest is_text no_fault none shown is =
       let row : Owned Link = record { customer = s.name; row = l } in
       let linked : IsLinked mapped row = rw there (is_digest ∙ ap sha256 is_text, ap map_fault (sym is_text) ∙ no_fault) in
       let named : own_map mapped l ≡ record { digest = sha256 text; text = text } =
@@ -229,6 +237,7 @@ module _ {owners : Owners} {t : Tables} (sound : IsSound owners t) (apart : AreA
       let added : State → OwnMap → State = λ v m. record v { maps = placed own_map_cmp m v.maps } in
       record {
         sound = subst (IsSound owners) (sym is) (link_sound sound_mapped row section.customer linked none);
+        grows = subst (Grows t) (sym is) (link_grows t mapped row none grown);
         own = λ i. (shown i, (ap (view s.name) is ∙ (link_view sound_mapped row ∙ (ap (λ v. added v (own_map mapped l)) (same s.name) ∙ ap (added (view s.name t)) named))) i);
         other = λ d ne. ap (view d) is ∙ (link_hidden sound_mapped row d ne ∙ same d);
       }
@@ -237,16 +246,17 @@ module _ {owners : Owners} {t : Tables} (sound : IsSound owners t) (apart : AreA
       → Makes owners s.name t body mid (map_body (sha256 text), own_import (view s.name t) text None)
   linked_made text body mid (Some m) e no_fault none shown is =
       let at = map_of_text text t.maps m sound.maps_in_order e in
-      link_made text body mid t (record { digest = sha256 text; map = m.id }) m sound (λ _. refl) at.0 refl at.1 no_fault none shown is
+      link_made text body mid t (record { digest = sha256 text; map = m.id }) m sound (grows_itself t) (λ _. refl) at.0 refl at.1 no_fault none shown is
   linked_made text body mid None e no_fault none shown (id, fresh, is) =
       link_made text body mid (with_map (record { id = id; body = text }) t) (record { digest = sha256 text; map = id }) (record { id = id; body = text })
-      (map_sound sound id text fresh e) (map_hidden sound id text fresh) (new_map_found t id text fresh) refl refl no_fault none shown is
+      (map_sound sound id text fresh e) (map_grows t id text fresh sound.linked) (map_hidden sound id text fresh) (new_map_found t id text fresh) refl refl no_fault none shown is
 
   import_made : (text body : List ℕ) (mid : Tables) (link : Option (Owned Link)) → link_at s.name (sha256 text) t ≡ link → map_fault text ≡ None → body ≡ map_body (sha256 text) → Imports s t text link mid
       → Makes owners s.name t body mid (map_body (sha256 text), own_import (view s.name t) text (option_map (λ l. own_map t l.row) link))
   import_made text body mid None e no_fault shown change = linked_made text body mid (map_with text t) refl no_fault e shown change
   import_made text body mid (Some l) e no_fault shown is = record {
     sound = subst (IsSound owners) (sym is) sound;
+    grows = subst (Grows t) (sym is) (grows_itself t);
     own = λ i. (shown i, view s.name (is i));
     other = λ d _ i. view d (is i);
   }
@@ -289,9 +299,22 @@ module _ {owners : Owners} {t : Tables} (sound : IsSound owners t) (apart : AreA
           numbered = λ has. cc;
           ledger = new_ledger sound s.name seat step id change.0 kept;
         }));
+        grows = subst (Grows t) (sym is) (device_grows t (record { customer = s.name; row = step.device }) (λ old there. let none = change.0 in cc (none, there)) (record { customer = s.name; row = entry_of seat (last_number s.name d.chip t + 1) step }) id);
         own = λ i. (change.1 i, (ap (view s.name) is ∙ step_view sound s.name seat step id) i);
         other = λ c ne. ap (view c) is ∙ step_hidden sound s.name seat step id c ne;
       }
+
+  -- a step of a device that is found
+  found_made : (seat : List ℕ) (does : Does) (chip : List ℕ) (body : List ℕ) (mid : Tables) (found : Option (Owned Device)) → device_at s.name chip t ≡ found
+      → ((old : Owned Device) (m : Map) → found ≡ Some old → map_named s.name old.row.map t ≡ Some m → Keeps m old.row (does m old.row).0)
+      → StepsFound s seat t does (option_map (λ d. record { device = d.row; map = map_named s.name d.row.map t }) found) body mid
+      → Makes owners s.name t body mid (own_steps seat (view s.name t) does (option_map (λ d. record { device = d.row; map = map_named s.name d.row.map t }) found))
+  found_made seat does chip body mid None there keeps change = absurd change
+  found_made seat does chip body mid (Some old) there keeps change = by (map_named s.name old.row.map t) refl change
+    where
+      by : (m : Option Map) → map_named s.name old.row.map t ≡ m → StepsWith s seat t does m old.row body mid → Makes owners s.name t body mid (own_steps_with seat (view s.name t) does m old.row)
+      by None known change = absurd change
+      by (Some m) known change = steps_made sound s section seat does chip old m body mid there known (keeps old m refl known) change
 
   made : (seat : List ℕ) (change : Change) (body : List ℕ) (mid : Tables) → IsChange change → lowest (refusals s t change) ≡ None → Changes s seat t change body mid → Makes owners s.name t body mid (own_change s seat (view s.name t) change)
   made seat (MakeOrder o) body mid asked free change =
@@ -302,6 +325,25 @@ module _ {owners : Owners} {t : Tables} (sound : IsSound owners t) (apart : AreA
   made seat (RegisterDevice d) body mid asked free change =
       subst (λ (found : Option Map). Makes owners s.name t body mid (own_register seat (view s.name t) d found)) (map_named_own sound s d.map)
       (device_made seat d (map_named s.name d.map t) body mid refl free change)
+  made seat (PlanDevice p) body mid asked free change =
+      subst (λ (found : Option FoundDevice). Makes owners s.name t body mid (own_steps seat (view s.name t) (plans p.wishes) found)) (device_found_own sound s p.chip)
+      (found_made seat (plans p.wishes) p.chip body mid (device_at s.name p.chip t) refl
+      (λ old m there known.
+      let refused : lowest (plan_refusals p.wishes m old.row) ≡ None = rw (there, known) at free in
+      let may : may_be_planned old.row.state ≡ true = not-false _ (first_is_false (not (may_be_planned old.row.state)) _ _ refused) in
+      plan_keeps m (found_is_map (map_text s.name old.row.map t) m known) old.row p.wishes refused (missing_digests m (known_of m old.row) p.wishes asked)
+      (unnumbered_from old (find_holds IsNumbered (is_device s.name p.chip) t.devices old sound.records.numbered there).0 may)) change)
+  made seat (ReadBack r) body mid asked free change =
+      subst (λ (found : Option FoundDevice). Makes owners s.name t body mid (own_steps seat (view s.name t) (reads r.blocks) found)) (device_found_own sound s r.chip)
+      (found_made seat (reads r.blocks) r.chip body mid (device_at s.name r.chip t) refl
+      (λ old m there known.
+      let refused : lowest (read_refusals r.blocks m old.row) ≡ None = rw (there, known) at free in
+      let may : is_awaited old.row.state ≡ true = not-false _ (first_is_false (not (is_awaited old.row.state)) _ _ refused) in
+      let shape : fits m r.blocks ≡ true = not-false _ (first_is_false (not (fits m r.blocks)) _ _ (later_is_none (not (is_awaited old.row.state)) _ _ refused)) in
+      let fit : Fits m r.blocks = (bytes_eq-Decides _ _).0 shape in
+      let lies : ReadBackLies m r.blocks = read_backs_lie m r.blocks fit in
+      read_keeps m (found_is_map (map_text s.name old.row.map t) m known) old.row (redacted m r.blocks) lies.ones lies.shown may
+      (unnumbered_awaited old (find_holds IsNumbered (is_device s.name r.chip) t.devices old sound.records.numbered there).0 may)) change)
   made seat (ImportMap text) body mid asked free change =
       subst (λ (found : Option OwnMap). Makes owners s.name t body mid (map_body (sha256 text), own_import (view s.name t) text found)) (map_own sound s.name (sha256 text))
       (import_made text body mid (link_at s.name (sha256 text) t) refl (no_fault_of text (map_fault text) _ refl free) change.0 change.1)
@@ -323,6 +365,7 @@ module _ {owners : Owners} {t : Tables} (sound : IsSound owners t) (apart : AreA
             λ i. (j.3 i, (ap (view s.name) j.4 ∙ seat_view m.sound s.name row mine) i) in
             record {
               sound = subst (IsSound owners) (sym j.4) (seat_sound m.sound s.name row mine);
+              grows = subst (Grows t) (sym j.4) (seat_grows t j.1 (record { customer = s.name; row = row }) m.grows);
               own = kept ∙ ap (λ (made : List ℕ × State). (acceptance made.0, with_own_seat (kept_of seat r made.0) made.1)) m.own;
               other = λ d ne. ap (view d) j.4 ∙ (seat_hidden m.sound s.name d row mine ne ∙ m.other d ne);
             }

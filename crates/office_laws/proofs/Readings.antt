@@ -24,7 +24,7 @@ use Rattle.fusemap_core.specs.Map.{Map}
 use Rattle.office_tables.specs.Tables.{Tables, device_at, is_entry_of, is_of, link_at, map_at, text_cmp, own, seat_cmp, order_cmp, seat_at, order_at, given_at}
 use Rattle.office_tables.proofs.Placing.{all_map, find_own, find_all}
 use Rattle.office_commands.specs.declared.command.Change.{Change}
-use Rattle.office_commands.specs.declared.command.Change.TheVariants.{MakeOrder, ImportMap, RegisterDevice}
+use Rattle.office_commands.specs.declared.command.Change.TheVariants.{MakeOrder, ImportMap, RegisterDevice, PlanDevice, ReadBack}
 use Rattle.office_commands.specs.declared.new_order.NewOrder.{NewOrder}
 use Rattle.id_ranges.specs.Blocks.{reserved_start}
 use Rattle.office_rules.specs.Rules.{meets, next_serial, reservations, reserved_for}
@@ -37,6 +37,7 @@ use Rattle.office_rules.specs.declared.device_step.FoundDevice.{FoundDevice}
 use Rattle.office_rules.specs.MapFaults.{map_fault}
 use Rattle.office_rules.specs.Maps.{bad_map, import_refusals, map_limit, text_is}
 use Rattle.office_rules.specs.Commands.{refusals}
+use Rattle.office_rules.specs.StepRules.{plan_refusals, read_refusals, step_refusals}
 use Rattle.office_laws.specs.Solo.{own_order_cmp, map_of, own_import_refusals, seat_named, order_named, has_given, own_next, own_wanted, own_order_refusals, own_refusals, own_map_named, device_named, own_device_found}
 use Rattle.office_laws.specs.View.{at_first, own_map, text_in, view}
 use Rattle.office_laws.specs.Sound.{IsLinked, IsSound}
@@ -213,5 +214,7 @@ module _ {owners : Owners} {t : Tables} (sound : IsSound owners t) where
       own_refusals_with : Option Map → Bool → Bool → Bool → List (Bool × Refusal)
       own_refusals_with map known there full =
           (not (is_some map), UnknownMap) ∷ (not known, UnknownOrder) ∷ (there, Exists) ∷ (full, QuantityReached) ∷ readback_refusals map d.blocks
+  refusals_own s (PlanDevice p) = ap (step_refusals (plan_refusals p.wishes)) (device_found_own s p.chip)
+  refusals_own s (ReadBack r) = ap (step_refusals (read_refusals r.blocks)) (device_found_own s r.chip)
   refusals_own s (ImportMap text) =
       ap (λ rs. bad_map (map_fault text) ++ rs) (import_refusals_own s text (link_at s.name (sha256 text) t) refl ∙ ap (own_import_refusals (view s.name t) text) (map_own s.name (sha256 text)))

@@ -34,7 +34,7 @@ tied_device d y its =
     let chip : d.row.chip ≡ y.row.chip = same_text d.row.chip y.row.chip parts.1 in
     rw (← owner, ← chip, tied_itself nat_list_cmp_total d.customer, tied_itself nat_list_cmp_total d.row.chip) refl
 
-each_tied : (d : Owned Device) (rows : List (Owned Device)) → AllByRecursion (λ y. is_device d.customer d.row.chip y ≡ true → device_cmp d y ≡ Equal) rows
+pub each_tied : (d : Owned Device) (rows : List (Owned Device)) → AllByRecursion (λ y. is_device d.customer d.row.chip y ≡ true → device_cmp d y ≡ Equal) rows
 each_tied d [] = tt
 each_tied d (y ∷ ys) = (tied_device d y, each_tied d ys)
 

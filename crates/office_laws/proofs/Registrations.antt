@@ -1,5 +1,5 @@
 -- A device as it is registered is what its fuse map asks for.
-use Rattle.std.proofs.Common.{◌≡◌, ◌∙◌, ℕ, true, false, List, [], ◌∷◌, Option, Some, None, Ok, Err, refl, sym, ap, subst}
+use Rattle.std.proofs.Common.{◌≡◌, ◌∙◌, ℕ, List, [], ◌∷◌, Option, Some, None, Ok, Err, refl, sym, ap, subst}
 use Rattle.std.specs.Prelude.{is_some, option_and_then, Result}
 use Rattle.std.specs.FinMap as table
 use Rattle.std.specs.FinSet as set
@@ -10,8 +10,8 @@ use Rattle.fusemap_core.specs.MapText.{map_read}
 use Rattle.fusemap_core.proofs.Reading.{IsMapText-from_read}
 use Rattle.fuse_image.specs.declared.image.Image.{Image}
 use Rattle.fuse_image.specs.Places.{pos_cmp}
-use Rattle.fuse_plan.specs.Redaction.{Fits, redacted}
-use Rattle.fuse_plan.specs.declared.redaction.ReadBack.{ReadBack}
+use Rattle.fuse_redaction.specs.Redaction.{Fits, redacted}
+use Rattle.fuse_redaction.specs.declared.redaction.ReadBack.{ReadBack}
 use Rattle.fuse_columns.specs.BitsColumns.{bits_column, bits_in}
 use Rattle.fuse_columns.specs.Images.{image_in}
 use Rattle.fuse_columns.specs.KeysColumns.{keys_column, keys_in}
@@ -25,7 +25,8 @@ use Rattle.office_tables.specs.declared.rows.DeviceState.TheVariants.{Registered
 use Rattle.office_tables.specs.declared.rows.Entry.{Entry}
 use Rattle.office_commands.specs.declared.new_device.NewDevice.{NewDevice}
 use Rattle.office_rules.specs.DeviceRules.{map_in, map_or_none, registered}
-use Rattle.office_laws.specs.Pending.{IsPending}
+use Rattle.fuse_plan.specs.Pending.{IsPending}
+use Rattle.office_laws.specs.Pending.{IsAwaited}
 use Rattle.office_laws.specs.SoundDevices.{AreColumns, IsKept}
 use Rattle.office_laws.proofs.DeviceRows.{columns_alone}
 
@@ -43,16 +44,18 @@ found_is_map None m is = cc
 found_is_map (Some text) m is = map_in_is_map text m is
 
 -- nothing is pending where nothing is to be burnt
-nothing_pending : (m : Map) (known : Image) → IsPending m known Registered no_work
+pub nothing_pending : (m : Map) (known : Image) → IsPending m known no_work
 nothing_pending m known = record {
-  by_state = refl;
   new_first = λ p there. let none = set.contains-empty pos_cmp p in cc (none, there);
   new_second = λ p there. let none = set.contains-empty pos_cmp p in cc (none, there);
-  new_keys = λ block there. let none = ap is_some (table.get-empty {X = List ℕ} nat_cmp block) in cc (none, there);
-  one_batch = λ p there. set.contains-empty pos_cmp p;
+  plain = λ p there. let none = set.contains-empty pos_cmp p in cc (none, there);
   locks = λ p there. let none = set.contains-empty pos_cmp p in cc (none, there);
-  shown = λ p there. let none = set.contains-empty pos_cmp p in absurd (let never : false ≡ true = sym (rw none refl) ∙ there in cc);
-  shown_keys = λ block there. let none = ap is_some (table.get-empty {X = List ℕ} nat_cmp block) in cc (none, there);
+  new_keys = λ block there. let none = ap is_some (table.get-empty {X = List ℕ} nat_cmp block) in cc (none, there);
+  keys = ((tables_stay m).none).keys;
+  in_sight = record {
+    bits = λ p there. let none = set.contains-empty pos_cmp p in cc (none, there);
+    keys = λ block there _. let none = ap is_some (table.get-empty {X = List ℕ} nat_cmp block) in cc (none, there);
+  };
 }
 
 pub registered_kept : (m : Map) → IsMap m → (d : NewDevice) → Fits m d.blocks → (e : Owned Entry)
@@ -70,5 +73,5 @@ registered_kept m is d fit e same_bits same_keys =
       todo_back = ap (todo_column m) work;
       entries_columns = (rw (same_bits, same_keys) columns, tt);
       added = rw (same_bits, same_keys) (columns_alone m (bits_column m r.ones) (keys_column m r.shown));
-      pending = subst (IsPending m (image_in m (bits_column m r.ones) (keys_column m r.shown)) Registered) (sym work) (nothing_pending m _);
+      pending = subst (IsAwaited m (image_in m (bits_column m r.ones) (keys_column m r.shown)) Registered) (sym work) (record { by_state = refl; pending = nothing_pending m _ });
     }

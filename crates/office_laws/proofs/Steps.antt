@@ -1,19 +1,31 @@
 -- Each request has a step.
-use Rattle.std.proofs.Common.{◌≡◌, ◌==◌, ◌+◌, ◌≤◌, ℕ, max, false, List, [], ◌∷◌, Option, Some, None, refl, arith}
-use Rattle.std.specs.Prelude.{find, is_some, not, MatchOption}
+use Rattle.std.proofs.Common.{◌≡◌, ◌==◌, ◌+◌, ◌≤◌, ℕ, Bool, max, true, false, List, [], ◌∷◌, Option, Some, None, refl, arith}
+use Rattle.std.specs.Prelude.{bytes_eq, find, is_some, not, IsSomeAnd, MatchOption, option_and_then, option_map, Result, Ok, Err}
+use Rattle.std.proofs.lemmas.Bool.{and_parts}
+use Rattle.fusemap_core.specs.MapText.{map_read}
+use Rattle.fusemap_core.specs.declared.fault.MapFault.{MapFault}
+use Rattle.site_core.specs.Owners.{Owners}
+use Rattle.office_tables.specs.declared.rows.Device.{Device}
+use Rattle.office_rules.specs.DeviceRules.{map_in, map_or_none}
+use Rattle.office_rules.specs.MapFaults.{fault_in, map_fault}
+use Rattle.office_rules.specs.StepRules.{Does, plan_refusals, plans, read_refusals, reads, step_refusals}
+use Rattle.office_commands.specs.declared.refusal.Refusal.{Refusal}
+use Rattle.office_laws.specs.Sound.{IsLinked, IsSound}
+use Rattle.office_laws.specs.SoundDevices.{IsReferred}
+use Rattle.office_laws.proofs.Readings.{find_holds, same_text}
 use Rattle.std.proofs.lemmas.Bool.Decides.{nat_tests}
 use Rattle.sha2.specs.Sha256.{sha256}
 use Rattle.http_replies.specs.Replies.{Answer}
 use Rattle.site_core.specs.Section.{Section}
 use Rattle.fusemap_core.specs.Map.{Map}
-use Rattle.fuse_plan.specs.Redaction.{redacted}
+use Rattle.fuse_redaction.specs.Redaction.{redacted}
 use Rattle.office_tables.specs.declared.rows.Entry.{Entry}
 use Rattle.office_commands.specs.declared.new_device.NewDevice.{NewDevice}
 use Rattle.office_commands.specs.DeviceReplies.{device_body}
 use Rattle.office_rules.specs.DeviceSteps.{entry_of, registration}
 use Rattle.office_rules.specs.declared.device_step.DeviceStep.{DeviceStep}
-use Rattle.office_rules.specs.Devices.{map_named, refusals_by, RegistersBy}
-use Rattle.office_tables.specs.Tables.{Tables, device_at, has_entry_id, has_id, last_number, link_at, with_device, with_new_entry, map_with, order_at, with_link, with_new_map, with_seat, with_order}
+use Rattle.office_rules.specs.Devices.{device_found, map_named, refusals_by, RegistersBy, StepsFound, StepsWith}
+use Rattle.office_tables.specs.Tables.{Tables, device_at, is_device, is_link, map_at, has_entry_id, has_id, last_number, link_at, with_device, with_new_entry, map_with, order_at, with_link, with_new_map, with_seat, with_order}
 use Rattle.office_tables.specs.declared.rows.Owned.{Owned}
 use Rattle.office_tables.specs.declared.rows.Link.{Link}
 use Rattle.office_tables.specs.declared.rows.MapRow.{MapRow}
@@ -21,7 +33,7 @@ use Rattle.office_commands.specs.declared.command.Request.{Request}
 use Rattle.office_commands.specs.declared.command.Command.{Command}
 use Rattle.office_commands.specs.declared.command.Command.TheVariants.{Change, Show}
 use Rattle.office_commands.specs.declared.command.Change.{Change as Changing}
-use Rattle.office_commands.specs.declared.command.Change.TheVariants.{MakeOrder, ImportMap, RegisterDevice}
+use Rattle.office_commands.specs.declared.command.Change.TheVariants.{MakeOrder, ImportMap, RegisterDevice, PlanDevice, ReadBack}
 use Rattle.office_commands.specs.declared.refusal.Refusal.TheVariants.{WrongNumber, OtherBody}
 use Rattle.office_commands.specs.Replies.{acceptance, refusal, order_body, map_body}
 use Rattle.office_rules.specs.Rules.{lowest}
@@ -79,37 +91,87 @@ registration_exists s seat t d (Some m) e =
       (none_from_test _ (first_is_false (is_some (device_at s.name d.chip t)) _ _ later), refl, (id, entry_above_is_free t.ledger id (omega arith), refl)),
     )
 
--- a command that nothing refuses has a change
-change_exists : (s : Section) (seat : List ℕ) (t : Tables) (c : Changing) → lowest (refusals s t c) ≡ None → (body : List ℕ) × (mid : Tables) × Changes s seat t c body mid
-change_exists s seat t (MakeOrder o) e =
-    let w = wanted_by s t o in (
-      order_body w (next_of t w),
-      with_order (record { customer = s.name; row = w }) t,
-      (none_from_test _ (first_is_false (is_some (order_at s.name w.name t)) _ _ e), refl, refl),
+-- a text without a fault is a map's
+read_there : (read : Result Map MapFault) → fault_in read ≡ None → is_some (map_or_none read) ≡ true
+read_there (Ok m) none = refl
+read_there (Err fault) none = cc
+
+text_there : (text : List ℕ) → map_fault text ≡ None → is_some (map_in text) ≡ true
+unfolding map_fault map_in
+text_there text none = read_there (map_read text) none
+
+-- over sound tables a link that is there names a fuse map
+named_there : {owners : Owners} {t : Tables} → IsSound owners t → (customer digest : List ℕ) → is_some (link_at customer digest t) ≡ true → is_some (map_named customer digest t) ≡ true
+named_there {owners} {t} sound customer digest there = by (link_at customer digest t) refl there
+  where
+    row_there : (row : Option MapRow) (digest : List ℕ) → IsSomeAnd row (λ m. (digest ≡ sha256 m.body) × (map_fault m.body ≡ None)) → is_some (option_and_then map_in (option_map (λ m. m.body) row)) ≡ true
+    row_there None digest is = absurd is
+    row_there (Some m) digest is = text_there m.body is.1
+
+    by : (found : Option (Owned Link)) → link_at customer digest t ≡ found → is_some found ≡ true → is_some (option_and_then map_in (option_map (λ m. m.body) (option_and_then (λ l. map_at l.row.map t) found))) ≡ true
+    by None e there = cc
+    by (Some l) e there = row_there (map_at l.row.map t) l.row.digest (find_holds (IsLinked t) (is_link customer digest) t.links l sound.linked e).0
+
+-- a step of a device that nothing refuses
+step_made : (s : Section) (seat : List ℕ) (t : Tables) (does : Does) (m : Map) (d : Device) → (body : List ℕ) × (mid : Tables) × StepsWith s seat t does (Some m) d body mid
+step_made s seat t does m d =
+    let step : DeviceStep = (does m d).0 in
+    let id = above_entries t.ledger in (
+      (does m d).1,
+      with_new_entry (record { customer = s.name; row = entry_of seat (last_number s.name step.device.chip t + 1) step }) id (with_device (record { customer = s.name; row = step.device }) t),
+      (refl, (id, entry_above_is_free t.ledger id (omega arith), refl)),
     )
-change_exists s seat t (RegisterDevice d) e = registration_exists s seat t d (map_named s.name d.map t) e
-change_exists s seat t (ImportMap text) e =
-    let made = import_exists s t text (link_at s.name (sha256 text) t) in (map_body (sha256 text), made.0, (refl, made.1))
 
-judged_exists : (s : Section) (seat : List ℕ) (r : Request) (t : Tables) (c : Changing) → (reply : Answer) × (t2 : Tables) × Judges s seat r t c reply t2
-judged_exists s seat r t c =
-    elim (lowest (refusals s t c)) as (λ found. lowest (refusals s t c) ≡ found → (reply : Answer) × (t2 : Tables) × MatchOption found
-    ((body : List ℕ) × (mid : Tables) × Changes s seat t c body mid × (reply ≡ acceptance body) × (t2 ≡ with_seat (settled s.name seat r body) mid))
-    (λ reason. (reply ≡ refusal reason) × (t2 ≡ t))) [
-      | None ↦ λ e. let made = change_exists s seat t c e in
-          (acceptance made.0, with_seat (settled s.name seat r made.0) made.1, (made.0, made.1, made.2, refl, refl))
-      | Some reason ↦ λ _. (refusal reason, t, (refl, refl))
-    ] refl
+step_there : {owners : Owners} {t : Tables} → IsSound owners t → (s : Section) (seat : List ℕ) (does : Does) (against : Map → Device → List (Bool × Refusal)) (chip : List ℕ)
+    → lowest (step_refusals against (device_found s chip t)) ≡ None → (body : List ℕ) × (mid : Tables) × StepsFound s seat t does (device_found s chip t) body mid
+step_there {owners} {t} sound s seat does against chip free = by (device_at s.name chip t) refl free
+  where
+    with_map : (old : Owned Device) (m : Option Map) → is_some m ≡ true → (body : List ℕ) × (mid : Tables) × StepsWith s seat t does m old.row body mid
+    with_map old None there = cc
+    with_map old (Some m) there = step_made s seat t does m old.row
 
-turned_exists : (turn : Turn) (s : Section) (seat : List ℕ) (r : Request) (t : Tables) (c : Changing) → (reply : Answer) × (t2 : Tables) × Turns turn s seat r t c reply t2
-turned_exists (Repeats body) s seat r t c = (acceptance body, t, (refl, refl))
-turned_exists Differs s seat r t c = (refusal OtherBody, t, (refl, refl))
-turned_exists (Skips expected) s seat r t c = (refusal (WrongNumber expected), t, (refl, refl))
-turned_exists Next s seat r t c = judged_exists s seat r t c
+    by : (found : Option (Owned Device)) → device_at s.name chip t ≡ found → lowest (step_refusals against (option_map (λ d. record { device = d.row; map = map_named s.name d.row.map t }) found)) ≡ None
+        → (body : List ℕ) × (mid : Tables) × StepsFound s seat t does (option_map (λ d. record { device = d.row; map = map_named s.name d.row.map t }) found) body mid
+    by None e free = cc
+    by (Some old) e free =
+        let found = find_holds (IsReferred t.orders t.links) (is_device s.name chip) t.devices old sound.devices.referred e in
+        let owner : s.name ≡ old.customer = same_text s.name old.customer (and_parts (bytes_eq s.name old.customer) (bytes_eq chip old.row.chip) found.1).0 in
+        with_map old (map_named s.name old.row.map t) (named_there sound s.name old.row.map (rw owner found.0.map))
 
-serves_exists : (s : Section) (seat : List ℕ) (r : Request) (t : Tables) (command : Command) → (reply : Answer) × (t2 : Tables) × Serves s seat r t command reply t2
-serves_exists s seat r t (Show asked) = (shown s t asked, t, (refl, refl))
-serves_exists s seat r t (Change c) = turned_exists (turn_at seat r t) s seat r t c
+module _ {owners : Owners} {t : Tables} (sound : IsSound owners t) (s : Section) (seat : List ℕ) where
+  -- a command that nothing refuses has a change
+  change_exists : (c : Changing) → lowest (refusals s t c) ≡ None → (body : List ℕ) × (mid : Tables) × Changes s seat t c body mid
+  change_exists (MakeOrder o) e =
+      let w = wanted_by s t o in (
+        order_body w (next_of t w),
+        with_order (record { customer = s.name; row = w }) t,
+        (none_from_test _ (first_is_false (is_some (order_at s.name w.name t)) _ _ e), refl, refl),
+      )
+  change_exists (RegisterDevice d) e = registration_exists s seat t d (map_named s.name d.map t) e
+  change_exists (PlanDevice p) e = step_there sound s seat (plans p.wishes) (plan_refusals p.wishes) p.chip e
+  change_exists (ReadBack r) e = step_there sound s seat (reads r.blocks) (read_refusals r.blocks) r.chip e
+  change_exists (ImportMap text) e =
+      let made = import_exists s t text (link_at s.name (sha256 text) t) in (map_body (sha256 text), made.0, (refl, made.1))
 
-pub step_exists : (s : Section) (seat : List ℕ) (t : Tables) (r : Request) → (reply : Answer) × (t2 : Tables) × Step s seat t r reply t2
-step_exists s seat t r = serves_exists s seat r t r.command
+  judged_exists : (r : Request) (c : Changing) → (reply : Answer) × (t2 : Tables) × Judges s seat r t c reply t2
+  judged_exists r c =
+      elim (lowest (refusals s t c)) as (λ found. lowest (refusals s t c) ≡ found → (reply : Answer) × (t2 : Tables) × MatchOption found
+      ((body : List ℕ) × (mid : Tables) × Changes s seat t c body mid × (reply ≡ acceptance body) × (t2 ≡ with_seat (settled s.name seat r body) mid))
+      (λ reason. (reply ≡ refusal reason) × (t2 ≡ t))) [
+        | None ↦ λ e. let made = change_exists c e in
+            (acceptance made.0, with_seat (settled s.name seat r made.0) made.1, (made.0, made.1, made.2, refl, refl))
+        | Some reason ↦ λ _. (refusal reason, t, (refl, refl))
+      ] refl
+
+  turned_exists : (turn : Turn) (r : Request) (c : Changing) → (reply : Answer) × (t2 : Tables) × Turns turn s seat r t c reply t2
+  turned_exists (Repeats body) r c = (acceptance body, t, (refl, refl))
+  turned_exists Differs r c = (refusal OtherBody, t, (refl, refl))
+  turned_exists (Skips expected) r c = (refusal (WrongNumber expected), t, (refl, refl))
+  turned_exists Next r c = judged_exists r c
+
+  serves_exists : (r : Request) (command : Command) → (reply : Answer) × (t2 : Tables) × Serves s seat r t command reply t2
+  serves_exists r (Show asked) = (shown s t asked, t, (refl, refl))
+  serves_exists r (Change c) = turned_exists (turn_at seat r t) r c
+
+  pub step_exists : (r : Request) → (reply : Answer) × (t2 : Tables) × Step s seat t r reply t2
+  step_exists r = serves_exists r r.command

@@ -5,7 +5,7 @@ use Rattle.std.specs.Ordering.{nat_cmp, ordering_then}
 use Rattle.std.specs.declared.cmp.Ordering.{Ordering}
 use Rattle.sha2.specs.Sha256.{sha256}
 use Rattle.fusemap_core.specs.Map.{Map}
-use Rattle.fuse_plan.specs.Redaction.{redacted}
+use Rattle.fuse_redaction.specs.Redaction.{redacted}
 use Rattle.http_replies.specs.Replies.{Answer}
 use Rattle.site_core.specs.Section.{Section}
 use Rattle.office_tables.specs.declared.rows.Given.{Given}
@@ -20,7 +20,7 @@ use Rattle.office_commands.specs.declared.command.Request.{Request}
 use Rattle.office_commands.specs.declared.command.Command.{Command}
 use Rattle.office_commands.specs.declared.command.Command.TheVariants.{Change, Show}
 use Rattle.office_commands.specs.declared.command.Change.{Change as Changing}
-use Rattle.office_commands.specs.declared.command.Change.TheVariants.{MakeOrder, ImportMap, RegisterDevice}
+use Rattle.office_commands.specs.declared.command.Change.TheVariants.{MakeOrder, ImportMap, RegisterDevice, PlanDevice, ReadBack}
 use Rattle.office_commands.specs.declared.command.Show.{Show as Showing}
 use Rattle.office_commands.specs.declared.command.Show.TheVariants.{Order as ShowOrder, Device as ShowDevice, Ledger as ShowLedger}
 use Rattle.office_commands.specs.declared.refusal.Refusal.{Refusal}
@@ -32,6 +32,7 @@ use Rattle.office_rules.specs.MapFaults.{map_fault}
 use Rattle.office_rules.specs.Maps.{bad_map, refusals_of_text}
 use Rattle.office_rules.specs.DeviceRules.{is_full, map_in, registered, registration_refusals}
 use Rattle.office_rules.specs.DeviceSteps.{entry_of, registration, shown_device, shown_ledger}
+use Rattle.office_rules.specs.StepRules.{Does, plan_refusals, plans, read_refusals, reads, step_refusals}
 use Rattle.office_rules.specs.declared.device_step.DeviceStep.{DeviceStep}
 use Rattle.office_rules.specs.declared.device_step.FoundDevice.{FoundDevice}
 use Rattle.office_rules.specs.declared.turn.Turn.{Turn}
@@ -115,6 +116,10 @@ own_import_refusals s text found = refusals_of_text (is_own_other text found) fo
 abbrev pub own_map_refusals : State → List ℕ → List (Bool × Refusal)
 own_map_refusals s text = bad_map (map_fault text) ++ own_import_refusals s text (map_of (sha256 text) s)
 
+-- the device of a chip, with its fuse map
+abbrev pub own_device_found : List ℕ → State → Option FoundDevice
+own_device_found chip s = option_map (λ d. record { device = d; map = own_map_named d.map s }) (device_named chip s)
+
 -- what refuses the registration of a device, by its map
 abbrev pub own_refusals_by : State → NewDevice → Option Map → List (Bool × Refusal)
 own_refusals_by s d map = registration_refusals map (order_named d.order s) (device_named d.chip s) (is_full s.devices (order_named d.order s)) d.blocks
@@ -123,6 +128,8 @@ abbrev pub own_refusals : Section → State → Changing → List (Bool × Refus
 own_refusals c s (MakeOrder o) = own_order_refusals c s (own_wanted c s o)
 own_refusals c s (ImportMap text) = own_map_refusals s text
 own_refusals c s (RegisterDevice d) = own_refusals_by s d (own_map_named d.map s)
+own_refusals c s (PlanDevice p) = step_refusals (plan_refusals p.wishes) (own_device_found p.chip s)
+own_refusals c s (ReadBack r) = step_refusals (read_refusals r.blocks) (own_device_found r.chip s)
 
 -- the digest's map is the text, if there was none
 abbrev pub own_import : State → List ℕ → Option OwnMap → State
@@ -145,11 +152,22 @@ abbrev pub own_register : List ℕ → State → NewDevice → Option Map → Li
 own_register seat s d None = ([], s)
 own_register seat s d (Some m) = (device_body (Some m) (registered m d (redacted m d.blocks)), own_step seat (registration m d (redacted m d.blocks)) s)
 
+-- what a command makes of a device with its fuse map, and of one that was looked up
+abbrev pub own_steps_with : List ℕ → State → Does → Option Map → Device → List ℕ × State
+own_steps_with seat s does None d = ([], s)
+own_steps_with seat s does (Some m) d = ((does m d).1, own_step seat (does m d).0 s)
+
+abbrev pub own_steps : List ℕ → State → Does → Option FoundDevice → List ℕ × State
+own_steps seat s does None = ([], s)
+own_steps seat s does (Some found) = own_steps_with seat s does found.map found.device
+
 -- the reply's body, and the state after the change
 abbrev pub own_change : Section → List ℕ → State → Changing → List ℕ × State
 own_change c seat s (MakeOrder o) =
     (order_body (own_wanted c s o) (own_next s (own_wanted c s o)), record s { orders = placed own_order_cmp (own_wanted c s o) s.orders })
 own_change c seat s (RegisterDevice d) = own_register seat s d (own_map_named d.map s)
+own_change c seat s (PlanDevice p) = own_steps seat s (plans p.wishes) (own_device_found p.chip s)
+own_change c seat s (ReadBack r) = own_steps seat s (reads r.blocks) (own_device_found r.chip s)
 own_change c seat s (ImportMap text) = (map_body (sha256 text), own_import s text (map_of (sha256 text) s))
 
 abbrev pub with_own_seat : SeatState → State → State
@@ -168,10 +186,6 @@ own_turn c seat r s change Next = own_judgement seat r s (own_change c seat s ch
 abbrev pub own_shown_order : State → Option Order → Answer
 own_shown_order s None = refusal UnknownOrder
 own_shown_order s (Some o) = acceptance (order_body o (own_next s o))
-
--- the device of a chip, with its fuse map
-abbrev pub own_device_found : List ℕ → State → Option FoundDevice
-own_device_found chip s = option_map (λ d. record { device = d; map = own_map_named d.map s }) (device_named chip s)
 
 abbrev pub own_shown : State → Showing → Answer
 own_shown s (ShowOrder name) = own_shown_order s (order_named name s)

@@ -3,22 +3,27 @@ ghost use Rattle.std.specs.Prelude.{◌≡◌, false, List, ℕ, Some, bytes_eq}
 ghost use Rattle.http_replies.specs.Replies.{Answer};
 ghost use Rattle.site_core.specs.Owners.{AreApart, IsSection, Owners};
 ghost use Rattle.site_core.specs.Section.{Section};
-ghost use Rattle.office_tables.specs.Tables.{Tables, no_rows};
+ghost use Rattle.office_tables.specs.Tables.{Tables, device_at, no_rows};
+ghost use Rattle.office_tables.specs.declared.rows.Device.{Device};
+ghost use Rattle.office_tables.specs.declared.rows.Owned.{Owned};
 ghost use Rattle.fusemap_core.specs.Map.{Map};
-ghost use Rattle.fuse_plan.specs.Redaction.{redacted};
+ghost use Rattle.fuse_redaction.specs.Redaction.{redacted};
 ghost use Rattle.office_commands.specs.Asked.{IsAsked};
 ghost use Rattle.office_commands.specs.declared.new_device.NewDevice.{NewDevice};
+ghost use Rattle.office_commands.specs.declared.new_plan.NewReadBack.{NewReadBack};
 ghost use Rattle.office_rules.specs.DeviceRules.{fits};
 ghost use Rattle.office_rules.specs.Devices.{map_named};
 ghost use Rattle.office_commands.specs.declared.command.Request.{Request};
-ghost use Rattle.office_rules.specs.Office.{Step, registers};
+ghost use Rattle.office_rules.specs.Office.{Step, reads_back, registers};
+ghost use Rattle.office_laws.specs.Grows.{Grows};
 ghost use Rattle.office_laws.specs.Solo.{solo};
 ghost use Rattle.office_laws.specs.View.{view};
 ghost use Rattle.office_laws.specs.Sound.{IsSound};
 
 /// A step of a customer's seat, from sound tables, acts on the customer's view as the customer's own
-/// machine does, which knows of nobody else; it leaves each other customer's view; and the tables
-/// stay sound. As the own machine is a function of the view, equal views give equal replies.
+/// machine does, which knows of nobody else; it leaves each other customer's view; the tables stay
+/// sound; and nothing that was known to be burnt is forgotten. As the own machine is a function of
+/// the view, equal views give equal replies.
 pub fn steps_are_the_customers_own()
     ensures own { (owners : Owners) (s : Section) (seat : List ℕ) (t : Tables) (r : Request) (reply : Answer) (t2 : Tables)
         → AreApart owners → IsSection owners s → owners.seat seat ≡ Some s.name → IsAsked r → IsSound owners t → Step s seat t r reply t2
@@ -29,6 +34,9 @@ pub fn steps_are_the_customers_own()
     ensures sound { (owners : Owners) (s : Section) (seat : List ℕ) (t : Tables) (r : Request) (reply : Answer) (t2 : Tables)
         → AreApart owners → IsSection owners s → owners.seat seat ≡ Some s.name → IsAsked r → IsSound owners t → Step s seat t r reply t2
         → IsSound owners t2 }
+    ensures grows { (owners : Owners) (s : Section) (seat : List ℕ) (t : Tables) (r : Request) (reply : Answer) (t2 : Tables)
+        → AreApart owners → IsSection owners s → owners.seat seat ≡ Some s.name → IsAsked r → IsSound owners t → Step s seat t r reply t2
+        → Grows t t2 }
 {}
 
 /// No rows are sound, so each store begins with sound tables.
@@ -36,16 +44,21 @@ pub fn no_rows_are_sound()
     ensures { (owners : Owners) → IsSound owners no_rows }
 {}
 
-/// From all tables every request has a step: no key of a row stands in its way.
+/// From sound tables every request has a step: no key of a row stands in its way, and each device has
+/// its fuse map.
 pub fn always_a_step()
-    ensures { (s : Section) (seat : List ℕ) (t : Tables) (r : Request) → (reply : Answer) × (t2 : Tables) × Step s seat t r reply t2 }
+    ensures { (owners : Owners) (s : Section) (seat : List ℕ) (t : Tables) (r : Request) → IsSound owners t → (reply : Answer) × (t2 : Tables) × Step s seat t r reply t2 }
 {}
 
 /// What the tables keep of a read-back is a function of what it shows and of the request's digest:
 /// registrations that differ in their words alone, of which both or none fit the device's map and
-/// show the same under it, have the same steps. A key counts by its SHA-256 alone.
+/// show the same under it, have the same steps, and so have read-backs of a device that is there. A
+/// key counts by its SHA-256 alone.
 pub fn only_the_redaction_is_kept()
-    ensures { (s : Section) (seat : List ℕ) (t : Tables) (m : Map) (number : ℕ) (digest : List ℕ) (d : NewDevice) (blocks : List (List ℕ)) (reply : Answer) (t2 : Tables)
+    ensures registration { (s : Section) (seat : List ℕ) (t : Tables) (m : Map) (number : ℕ) (digest : List ℕ) (d : NewDevice) (blocks : List (List ℕ)) (reply : Answer) (t2 : Tables)
         → map_named s.name d.map t ≡ Some m → fits m d.blocks ≡ fits m blocks → redacted m d.blocks ≡ redacted m blocks
         → Step s seat t (registers number digest d) reply t2 → Step s seat t (registers number digest (record d { blocks = blocks })) reply t2 }
+    ensures readback { (s : Section) (seat : List ℕ) (t : Tables) (d : Owned Device) (m : Map) (number : ℕ) (digest : List ℕ) (r : NewReadBack) (blocks : List (List ℕ)) (reply : Answer) (t2 : Tables)
+        → device_at s.name r.chip t ≡ Some d → map_named s.name d.row.map t ≡ Some m → fits m r.blocks ≡ fits m blocks → redacted m r.blocks ≡ redacted m blocks
+        → Step s seat t (reads_back number digest r) reply t2 → Step s seat t (reads_back number digest (record r { blocks = blocks })) reply t2 }
 {}

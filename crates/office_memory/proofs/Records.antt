@@ -15,9 +15,9 @@ use Rattle.std.proofs.lemmas.Slice.Eq.{bytes_eq-Decides}
 use Rattle.text_core.specs.Serial.{is_serial, serial_of_text}
 use Rattle.office_tables.specs.declared.rows.Owned.{Owned}
 use Rattle.office_tables.specs.declared.rows.Given.{Given}
-use Rattle.office_tables.specs.Tables.{given_cmp, has_address, is_address, is_bound, is_given, is_of_issuer, placed, text_cmp}
+use Rattle.office_tables.specs.Tables.{given_cmp, has_address, is_address, is_bound, is_given, is_of_issuer, placed, text_cmp, IsAddressFree}
 use Rattle.office_tables.proofs.Placing.{all_placed}
-use Rattle.office_memory.specs.Indexing.{has_mac, serial_of, AreIndexed, IsMacFree}
+use Rattle.office_memory.specs.Indexing.{has_mac, serial_of, AreIndexed}
 use Rattle.office_memory.specs.Unplaced.{without}
 use Rattle.office_memory.specs.declared.given.GivenIndex.{GivenIndex}
 use Rattle.office_memory.proofs.Truth.{both_true}
@@ -105,7 +105,7 @@ free_given rows o free issuer serial is =
     let parts = both_true (bytes_eq issuer o.row.issuer) (bytes_eq serial o.row.serial) is in
     rw ((bytes_eq-Decides issuer o.row.issuer).0 parts.0, (bytes_eq-Decides serial o.row.serial).0 parts.1) free
 
-free_address : (rows : List (Owned Given)) (own : Option ℕ) → IsMacFree own rows → (mac : ℕ) → is_address mac own ≡ true → find (has_address mac) rows ≡ None
+free_address : (rows : List (Owned Given)) (own : Option ℕ) → IsAddressFree own rows → (mac : ℕ) → is_address mac own ≡ true → find (has_address mac) rows ≡ None
 free_address rows None free mac is = cc
 free_address rows (Some own) free mac is = let same : mac ≡ own = eqb-true mac own is in rw same free
 
@@ -123,7 +123,7 @@ none_and false f = refl
 
 module _ (rows : List (Owned Given)) (i i2 : GivenIndex) (indexed : AreIndexed rows i) (o : Owned Given) where
   -- a new record is indexed
-  pub indexed-placed : find (is_given o.row.issuer o.row.serial) rows ≡ None → find (is_bound o.row.issuer o.row.key) rows ≡ None → IsMacFree o.row.mac rows → is_serial o.row.serial ≡ true
+  pub indexed-placed : find (is_given o.row.issuer o.row.serial) rows ≡ None → find (is_bound o.row.issuer o.row.key) rows ≡ None → IsAddressFree o.row.mac rows → is_serial o.row.serial ≡ true
       → ((issuer key : List ℕ) → serial_of issuer key i2 ≡ cond (is_bound issuer key o) (Some o.row.serial) (serial_of issuer key i))
       → ((mac : ℕ) → has_mac (Some mac) i2 ≡ (is_address mac o.row.mac || has_mac (Some mac) i))
       → AreIndexed (placed given_cmp o rows) i2
@@ -190,7 +190,7 @@ macs_taken s n own writes mac = writes mac ∙ (ap (λ b. cond b false (contains
 pub key_free : (rows : List (Owned Given)) (i : GivenIndex) → AreIndexed rows i → (issuer key : List ℕ) → find (is_bound issuer key) rows ≡ None → serial_of issuer key i ≡ None
 key_free rows i indexed issuer key free = indexed.serials issuer key ∙ ap (option_map (λ (o : Owned Given). o.row.serial)) free
 
-pub mac_free : (rows : List (Owned Given)) (i : GivenIndex) → AreIndexed rows i → (mac : Option ℕ) → IsMacFree mac rows → has_mac mac i ≡ false
+pub mac_free : (rows : List (Owned Given)) (i : GivenIndex) → AreIndexed rows i → (mac : Option ℕ) → IsAddressFree mac rows → has_mac mac i ≡ false
 mac_free rows i indexed None free = refl
 mac_free rows i indexed (Some mac) free = indexed.macs mac ∙ ap is_some free
 
@@ -210,7 +210,7 @@ mac_back true x free = sym (free refl)
 mac_back false x free = refl
 
 -- a record that was free is added to the indexes and taken out again
-pub indexed_back : (rows : List (Owned Given)) (i i1 i2 : GivenIndex) (o : Owned Given) → AreIndexed rows i → find (is_bound o.row.issuer o.row.key) rows ≡ None → IsMacFree o.row.mac rows
+pub indexed_back : (rows : List (Owned Given)) (i i1 i2 : GivenIndex) (o : Owned Given) → AreIndexed rows i → find (is_bound o.row.issuer o.row.key) rows ≡ None → IsAddressFree o.row.mac rows
     → ((issuer key : List ℕ) → serial_of issuer key i1 ≡ cond (is_bound issuer key o) (Some o.row.serial) (serial_of issuer key i)) → ((mac : ℕ) → has_mac (Some mac) i1 ≡ (is_address mac o.row.mac || has_mac (Some mac) i))
     → ((issuer key : List ℕ) → serial_of issuer key i2 ≡ cond (is_bound issuer key o) None (serial_of issuer key i1)) → ((mac : ℕ) → has_mac (Some mac) i2 ≡ (not (is_address mac o.row.mac) && has_mac (Some mac) i1))
     → AreIndexed rows i2

@@ -22,11 +22,6 @@ abbrev pub has_mac : Option ℕ → GivenIndex → Bool
 has_mac None i = false
 has_mac (Some mac) i = contains nat_cmp i.macs mac
 
--- no record has the address, if there is one
-abbrev pub IsMacFree : Option ℕ → List (Owned Given) → Type 0
-IsMacFree None rows = Unit {0}
-IsMacFree (Some mac) rows = find (has_address mac) rows ≡ None
-
 -- at most one row passes the test
 abbrev pub IsAlone : {A : Type 0} → (A → Bool) → List A → Type 0
 IsAlone test rows = length (filter test rows) ≤ 1

@@ -3,11 +3,11 @@ ghost use Rattle.std.specs.Prelude.{◌≡◌, ◌&&◌, ◌||◌, not, ℕ, Lis
 ghost use Rattle.std.specs.Option.{option_copied};
 ghost use Rattle.text_core.specs.Serial.{is_serial};
 ghost use Rattle.office_tables.specs.Keeping.{Visits};
-ghost use Rattle.office_tables.specs.Tables.{given_cmp, is_address, is_bound, is_given, is_of_issuer, placed};
-ghost use Rattle.office_memory.specs.Indexing.{has_mac, serial_of, IsMacFree};
+ghost use Rattle.office_tables.specs.Tables.{given_cmp, is_address, is_bound, is_given, is_of_issuer, placed, IsAddressFree};
+ghost use Rattle.office_memory.specs.Indexing.{has_mac, serial_of};
 ghost use Rattle.office_memory.specs.Unplaced.{without};
 
-use crate::rows::{GivenKey, Place};
+use crate::rows::{GivenKey, Point};
 use crate::table::Table;
 use id_ranges::{KeyDigest, Mac};
 use office_tables::{GivenRow, Sink, Unkept};
@@ -117,7 +117,7 @@ impl GivenRows {
     {
         let rows = &self.rows;
         let serial = Serial::parse(serial)?;
-        rows.get(&given_key(*issuer, Place::At(serial)))
+        rows.get(&given_key(*issuer, Point::At(serial)))
     }
 
     /// The record that a key has in an issuer.
@@ -125,13 +125,13 @@ impl GivenRows {
         ensures { option_copied result ≡ find (is_bound issuer.now key.now) self.now }
     {
         let serial = self.index.serial(issuer, key)?;
-        self.rows.get(&given_key(*issuer, Place::At(serial)))
+        self.rows.get(&given_key(*issuer, Point::At(serial)))
     }
 
     /// Adds a record. It is refused where its serial number or its key is taken in its issuer, or
     /// its address.
     pub(crate) fn add(&mut self, row: &GivenRow) -> Result<(), Unkept>
-        ensures free { OnOk result (IsMacFree row.now.row.mac self.old) }
+        ensures free { OnOk result (IsAddressFree row.now.row.mac self.old) }
         ensures placed { OnOk result (self.new ≡ placed given_cmp row.now self.old) }
         ensures undone { OnOk result (without (is_given row.now.row.issuer row.now.row.serial) self.new ≡ self.old) }
         ensures err { OnErr result (self.new ≡ self.old) }
@@ -153,7 +153,7 @@ impl GivenRows {
     fn is_taken(&self, row: &GivenRow) -> bool
         ensures serial { result ≡ false → find (is_given row.now.row.issuer row.now.row.serial) self.now ≡ None }
         ensures key { result ≡ false → find (is_bound row.now.row.issuer row.now.row.key) self.now ≡ None }
-        ensures address { result ≡ false → IsMacFree row.now.row.mac self.now }
+        ensures address { result ≡ false → IsAddressFree row.now.row.mac self.now }
         ensures is_serial { is_serial row.now.row.serial ≡ true }
     {
         let given = &row.row;
@@ -166,7 +166,7 @@ impl GivenRows {
     pub(crate) fn remove(&mut self, row: &GivenRow)
         ensures { self.new ≡ without (is_given row.now.row.issuer row.now.row.serial) self.old }
     {
-        let key = given_key(row.row.issuer, Place::At(row.row.serial));
+        let key = given_key(row.row.issuer, Point::At(row.row.serial));
         if let Some(removed) = self.rows.remove(&key) {
             self.index.remove(&removed);
         }
@@ -177,15 +177,15 @@ impl GivenRows {
     pub(crate) fn visit<S: Sink<GivenRow>>(&self, issuer: &Name, sink: &mut S)
         ensures { Visits S.takes sink.old (filter (is_of_issuer issuer.now) self.now) sink.new }
     {
-        let first = given_key(*issuer, Place::Start);
-        let last = given_key(*issuer, Place::End);
+        let first = given_key(*issuer, Point::Start);
+        let last = given_key(*issuer, Point::End);
         self.rows.visit(first, last, sink);
     }
 }
 
-/// The key of a place among the records of an issuer.
-fn given_key(issuer: Name, place: Place<Serial>) -> GivenKey
-    ensures { result ≡ record { issuer = issuer; place = place } }
+/// The key of a point among the records of an issuer.
+fn given_key(issuer: Name, point: Point<Serial>) -> GivenKey
+    ensures { result ≡ record { issuer = issuer; point = point } }
 {
-    GivenKey { issuer, place }
+    GivenKey { issuer, point }
 }

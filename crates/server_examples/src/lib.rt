@@ -15,6 +15,8 @@ mod orders;
 #[cfg(test)]
 mod placeholders;
 #[cfg(test)]
+mod plans;
+#[cfg(test)]
 mod streams;
 #[cfg(test)]
 mod tests;

@@ -10,6 +10,7 @@ use crate::jobs::{
 };
 use crate::maps::{MAPS, has_taken_digest};
 use crate::orders::ORDERS;
+use crate::plans::PLANS;
 use crate::streams::{
     ORDER, STEPS, STREAMS, TAKEN, ends_so, goes_on_after_interruptions,
     stops_where_the_reader_fails, stops_where_the_writer_does,
@@ -21,7 +22,7 @@ use std::fs;
 use std::test::Fail;
 
 /// The conversations, each under its name.
-const ALL: &[&[(&str, &str)]] = &[ORDERS, MAPS, DEVICES];
+const ALL: &[&[(&str, &str)]] = &[ORDERS, MAPS, DEVICES, PLANS];
 
 /// The orders in which the requests of two seats can come.
 const TURNS: &[&str] = &[

@@ -8,7 +8,7 @@ use Rattle.site_core.specs.declared.site.Caller.TheVariants.{Seat}
 use Rattle.site_core.specs.declared.site.Caller.{Caller}
 use Rattle.office_tables.specs.Tables.{Tables}
 use Rattle.office_commands.specs.declared.refusal.Refusal.{Refusal}
-use Rattle.office_commands.specs.declared.refusal.Refusal.TheVariants.{UnknownToken, UnknownPath, WrongCaller, BadJson, BadMember, WrongNumber, OtherBody, UnknownMap, UnknownOrder, UnknownDevice, QuantityReached, CodingScheme, BadReadback, Exists, BadMap, BadSerial, NumberTooWide, NoMacRoom, RangeOverlap, ForeignIssuer, MapDigestTaken, Limit, Unkept}
+use Rattle.office_commands.specs.declared.refusal.Refusal.TheVariants.{UnknownToken, UnknownPath, WrongCaller, BadJson, BadMember, WrongNumber, OtherBody, UnknownMap, UnknownOrder, UnknownDevice, WrongState, BadPlan, QuantityReached, CodingScheme, BadReadback, Exists, BadMap, BadSerial, NumberTooWide, NoMacRoom, RangeOverlap, ForeignIssuer, MapDigestTaken, Limit, Unkept}
 use Rattle.office_commands.specs.Refusals.{refusal_status}
 use Rattle.office_commands.specs.Replies.{refusal}
 use Rattle.office_rules.specs.Office.{Step, Answers}
@@ -28,6 +28,8 @@ unavailable_is_unkept (WrongNumber expected) e = cc
 unavailable_is_unkept OtherBody e = cc
 unavailable_is_unkept UnknownMap e = cc
 unavailable_is_unkept UnknownDevice e = cc
+unavailable_is_unkept WrongState e = cc
+unavailable_is_unkept (BadPlan fault) e = cc
 unavailable_is_unkept QuantityReached e = cc
 unavailable_is_unkept CodingScheme e = cc
 unavailable_is_unkept BadReadback e = cc

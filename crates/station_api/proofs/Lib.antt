@@ -3,3 +3,4 @@ mod Answering
 mod Members
 mod NameTexts
 mod Streaming
+pub mod Wishes

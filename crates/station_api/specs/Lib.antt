@@ -3,5 +3,7 @@ pub mod Digests
 pub mod Maps
 pub mod Devices
 pub mod Orders
+pub mod Plans
+pub mod ReadBacks
 pub mod Requests
 pub mod Machine

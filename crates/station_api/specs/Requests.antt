@@ -24,6 +24,8 @@ use Rattle.station_api.specs.declared.parse.Shown.TheVariants as shown
 use Rattle.station_api.specs.Devices.{register_device_of, chip_parameter}
 use Rattle.station_api.specs.Maps.{import_map_of}
 use Rattle.station_api.specs.Orders.{make_order_of, name_parameter}
+use Rattle.station_api.specs.Plans.{plan_device_of}
+use Rattle.station_api.specs.ReadBacks.{read_back_of}
 
 -- a command of a seat: its method and its path, and what they lead to
 abbrev pub Known : Type 0
@@ -35,6 +37,8 @@ commands =
     ∷ (codes "GET", codes "/v1/order", Shows shown.Order)
     ∷ (codes "POST", codes "/v1/map", Posts posted.Map)
     ∷ (codes "POST", codes "/v1/device", Posts posted.Device)
+    ∷ (codes "POST", codes "/v1/plan", Posts posted.Plan)
+    ∷ (codes "POST", codes "/v1/readback", Posts posted.ReadBack)
     ∷ (codes "GET", codes "/v1/device", Shows shown.Device)
     ∷ (codes "GET", codes "/v1/ledger", Shows shown.Ledger)
     ∷ []
@@ -48,6 +52,8 @@ abbrev pub request_of : Posted → Data → Option Request
 request_of posted.Order members = make_order_of members
 request_of posted.Map members = import_map_of members
 request_of posted.Device members = register_device_of members
+request_of posted.Plan members = plan_device_of members
+request_of posted.ReadBack members = read_back_of members
 
 -- what a body asks for: no JSON is refused before a member that isn't of its form
 abbrev pub body_read : Posted → List ℕ → Result Request Refusal

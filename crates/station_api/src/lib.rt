@@ -7,6 +7,8 @@ mod digest;
 mod map;
 mod order;
 mod parse;
+mod plan;
+mod readback;
 mod stream;
 
 pub use http_frames::buffer::{Buffer, read_request};

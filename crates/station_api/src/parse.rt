@@ -10,6 +10,8 @@ ghost use Rattle.station_api.specs.Requests.{asked, body_read, query_read, reque
 use crate::device::{DEVICE_PATH, LEDGER_PATH, chip_parameter, register_device_request};
 use crate::map::{MAP_PATH, import_map_request};
 use crate::order::{ORDER_PATH, make_order_request, order_name};
+use crate::plan::{PLAN_PATH, plan_device_request};
+use crate::readback::{READ_BACK_PATH, read_back_request};
 use http_fields::split_target;
 use http_frames::buffer::Buffer;
 use http_frames::frame::Frame;
@@ -33,6 +35,8 @@ pub enum Posted {
     Order,
     Map,
     Device,
+    Plan,
+    ReadBack,
 }
 
 /// The commands that show, each of which has a query.
@@ -73,6 +77,12 @@ fn find_route(method: &[u8], path: &[u8]) -> Option<Route>
     if is_command(method, path, "POST", DEVICE_PATH) {
         return Some(Route::Posts(Posted::Device));
     }
+    if is_command(method, path, "POST", PLAN_PATH) {
+        return Some(Route::Posts(Posted::Plan));
+    }
+    if is_command(method, path, "POST", READ_BACK_PATH) {
+        return Some(Route::Posts(Posted::ReadBack));
+    }
     if is_command(method, path, "GET", DEVICE_PATH) {
         return Some(Route::Shows(Shown::Device));
     }
@@ -101,6 +111,8 @@ fn find_request(alloc: Global, posted: Posted, value: &Value) -> Result<Option<R
         Posted::Order => make_order_request(alloc, value),
         Posted::Map => import_map_request(alloc, value),
         Posted::Device => register_device_request(alloc, value),
+        Posted::Plan => plan_device_request(alloc, value),
+        Posted::ReadBack => read_back_request(alloc, value),
     }
 }
 

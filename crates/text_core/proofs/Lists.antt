@@ -1,6 +1,6 @@
 -- What a reader gives of each item of a list.
 use Rattle.std.proofs.Common.{◌≡◌, ℕ, zero, suc, ◌+◌, ◌<◌, List, [], ◌∷◌, ◌++◌, length, get_or, take, map, Option, Some, None, option_map, option_and_then, refl, sym, ap, ◌∙◌, arith}
-use Rattle.std.proofs.lemmas.List.{take_more, map-append, length-map, get_or-map}
+use Rattle.std.proofs.lemmas.List.{take_more}
 use Rattle.text_core.specs.Options.{all_of}
 
 -- the results, with one more at the end
@@ -44,15 +44,32 @@ all_of_refused f (x ∷ xs) zero d low none = rw none refl
 all_of_refused f (x ∷ xs) (suc i) d low none =
     ap (λ rest. option_and_then (with_first rest) (f x)) (all_of_refused f xs i d (omega arith) none) ∙ none_after (f x)
 
+-- the step of a loop that reads each element
+pub all_of_next : {A B : Type 0} (f : A → Option B) (xs : List A) (i : ℕ) (x : A) (ys : List B) (y : B)
+    → i < length xs → x ≡ get_or xs i x → all_of f (take i xs) ≡ Some ys → f x ≡ Some y
+    → all_of f (take (i + 1) xs) ≡ Some (ys ++ y ∷ [])
+all_of_next f xs i x ys y low item all one =
+    rw (take_more xs i x low) (all_of_push f (take i xs) (get_or xs i x) ys y all (ap f (sym item) ∙ one))
+
+-- and its end, where an element is refused
+pub all_of_end : {A B : Type 0} (f : A → Option B) (xs : List A) (i : ℕ) (x : A)
+    → i < length xs → x ≡ get_or xs i x → f x ≡ None → all_of f xs ≡ None
+all_of_end f xs i x low item none = all_of_refused f xs i x low (ap f (sym item) ∙ none)
+
+-- of elements seen through g
+pub all_of-map : {A B C : Type 0} (f : B → Option C) (g : A → B) (xs : List A) → all_of f (map g xs) ≡ all_of (λ x. f (g x)) xs
+all_of-map f g [] = refl
+all_of-map f g (x ∷ xs) = ap (λ rest. option_and_then (with_first rest) (f (g x))) (all_of-map f g xs)
+
 -- the step of a loop that reads each element, seen through g
 pub all_of_more : {A B C : Type 0} (f : B → Option C) (g : A → B) (vs : List A) (i : ℕ) (v : A) (ys : List C) (y : C)
     → i < length vs → v ≡ get_or vs i v → all_of f (map g (take i vs)) ≡ Some ys → f (g v) ≡ Some y
     → all_of f (map g (take (i + 1) vs)) ≡ Some (ys ++ y ∷ [])
 all_of_more f g vs i v ys y low item all one =
-    rw (take_more vs i v low, map-append) (all_of_push f (map g (take i vs)) (g (get_or vs i v)) ys y all (ap (λ w. f (g w)) (sym item) ∙ one))
+    all_of-map f g (take (i + 1) vs)
+    ∙ all_of_next (λ w. f (g w)) vs i v ys y low item (sym (all_of-map f g (take i vs)) ∙ all) one
 
 -- and its end, where an element is refused
 pub all_of_stop : {A B C : Type 0} (f : B → Option C) (g : A → B) (vs : List A) (i : ℕ) (v : A)
     → i < length vs → v ≡ get_or vs i v → f (g v) ≡ None → all_of f (map g vs) ≡ None
-all_of_stop f g vs i v low item none =
-    all_of_refused f (map g vs) i (g v) (rw length-map low) (ap f (get_or-map g vs i v (g v) low) ∙ (ap (λ w. f (g w)) (sym item) ∙ none))
+all_of_stop f g vs i v low item none = all_of-map f g vs ∙ all_of_end (λ w. f (g w)) vs i v low item none

@@ -9,6 +9,7 @@ pub mod Name
 pub mod Options
 pub mod Padding
 pub mod Prefix
+pub mod Readers
 pub mod Serial
 pub mod ShortText
 pub mod ShortTextAgain

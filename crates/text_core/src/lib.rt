@@ -1,9 +1,10 @@
-//! Small texts, columns of bytes and values in place, which every crate above names.
+//! Small texts, columns of bytes, values in place and the reading of arrays, for each crate above.
 #![tactic(auto)]
 
 mod chip;
 mod column;
 mod digest;
+mod items;
 mod name;
 mod prefix;
 mod serial;
@@ -15,6 +16,7 @@ mod whole;
 pub use chip::{Chip, are_lower_hex_digits};
 pub use column::{BitsColumn, Column, KeysColumn, TodoColumn};
 pub use digest::Digest;
+pub use items::{read_all, try_read_all};
 pub use name::Name;
 pub use prefix::Prefix;
 pub use serial::Serial;

@@ -1,3 +1,2 @@
 -- What the contracts of this crate are made of.
 pub mod Documents
-pub mod Readers

@@ -2,14 +2,13 @@
 #![tactic(auto)]
 
 ghost use Rattle.std.specs.Prelude.{◌≡◌, ◌≤◌, IfOk, IfSome, Option, map, option_map};
-ghost use Rattle.std.specs.Fn.{FnReturnsAt};
 ghost use Rattle.toml.specs.Data.{Data};
 ghost use Rattle.toml.specs.View.{view};
 ghost use Rattle.text_core.specs.Answer.{GivesUnless, result_map};
 ghost use Rattle.text_core.specs.Options.{all_of};
+ghost use Rattle.text_core.specs.Readers.{Reads, ReadsOrFails};
 ghost use Rattle.toml_members.specs.Documents as documents;
 ghost use Rattle.toml_members.specs.Documents.{document_read};
-ghost use Rattle.toml_members.specs.Readers.{Reads, ReadsOrFails};
 
 use std::alloc::{AllocError, Global};
 use text_core::{Digest, Name};
@@ -153,15 +152,11 @@ pub fn read_all<T: Drop, F: Fn(&Value) -> Option<T>>(
     read: F,
 ) -> Result<Option<Vec<T>>, AllocError>
     requires { F.IsAlwaysCallable read }
-    ensures { (item_in : Data → Option T) → Reads F.Fn read item_in
+    ensures { (item_in : Data → Option T) → Reads F.Fn read (λ value. item_in (view value))
         → IfOk result (λ found. option_map (λ items. items.items) found
         ≡ all_of item_in (map view values.now)) }
 {
-    let try_read = |value: &Value|
-        requires { F.IsAlwaysCallable read }
-        ensures { IfOk result (FnReturnsAt F.Fn read value.now) }
-    { Ok(read(value)) };
-    try_read_all(alloc, values, try_read)
+    text_core::read_all(alloc, values, read)
 }
 
 /// The same of a `read` that takes memory.
@@ -171,16 +166,9 @@ pub fn try_read_all<T: Drop, F: Fn(&Value) -> Result<Option<T>, AllocError>>(
     read: F,
 ) -> Result<Option<Vec<T>>, AllocError>
     requires { F.IsAlwaysCallable read }
-    ensures { (item_in : Data → Option T) → ReadsOrFails F.Fn read item_in
+    ensures { (item_in : Data → Option T) → ReadsOrFails F.Fn read (λ value. item_in (view value))
         → IfOk result (λ found. option_map (λ items. items.items) found
         ≡ all_of item_in (map view values.now)) }
 {
-    let mut items = Vec::new(alloc);
-    for value in values {
-        let Some(item) = read(value)? else {
-            return Ok(None);
-        };
-        items.push(item)?;
-    }
-    Ok(Some(items))
+    text_core::try_read_all(alloc, values, read)
 }

@@ -1,18 +1,11 @@
 -- Why `try_read_all` meets its contract, where that has to be said.
-use Rattle.std.proofs.Common.{◌≡◌, refl, sym, ◌∙◌}
+use Rattle.std.proofs.Common.{◌∙◌, sym}
+use Rattle.std.proofs.lemmas.Result.{IfOk-weaker}
 use Rattle.toml.specs.View.{view}
-use Rattle.text_core.proofs.Lists.{all_of_more, all_of_stop}
+use Rattle.text_core.proofs.Lists.{all_of-map}
 use Rattle.toml_members.proofs.try_read_all.Goals as goal
 
-pub returns-in_default : goal.returns-in_default
-returns-in_default g c item_in reads =
-    let item : c.in_ok-item.field-0 ≡ item_in (view c.value-item.result) =
-    rw c.in_ok-item.was at (reads _ _ (record { shown = _; shows = refl; says = record { met = c.read.ensures } })) in
-    sym (all_of_stop item_in view _ _ _ c.loop-value-test.true c.value-item.is (sym item ∙ c.in_default.is))
-
-pub loop-value-preserved : goal.loop-value-preserved
-loop-value-preserved g c item_in reads =
-    let item : c.in_ok-item.field-0 ≡ item_in (view c.value-item.result) =
-    rw c.in_ok-item.was at (reads _ _ (record { shown = _; shows = refl; says = record { met = c.read.ensures } })) in
-    rw c.in_ok-push.ensures.items
-    (all_of_more item_in view _ _ _ _ _ c.loop-value-test.true c.value-item.is (c.loop-value.invariant item_in reads) (sym item ∙ c.in-Some.is))
+pub returns : goal.returns
+returns g c item_in reads =
+    IfOk-weaker c.try_read_all.result _ _ (λ found all. all ∙ sym (all_of-map item_in view c.args.values.now))
+    (c.try_read_all.ensures (λ value. item_in (view value)) reads)

@@ -10,3 +10,6 @@ returns-clause-other c = λ owners s seat t r reply t2 apart section mine asked 
 
 pub returns-clause-sound : goal.returns-clause-sound
 returns-clause-sound c = λ owners s seat t r reply t2 apart section mine asked sound step. (step_obeys sound apart s section seat r reply t2 asked mine step).sound
+
+pub returns-clause-grows : goal.returns-clause-grows
+returns-clause-grows c = λ owners s seat t r reply t2 apart section mine asked sound step. (step_obeys sound apart s section seat r reply t2 asked mine step).grows

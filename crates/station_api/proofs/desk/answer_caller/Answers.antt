@@ -17,7 +17,7 @@ returns-in-Ok g c = λ request framed.
       was_honest = c.answer.ensures.was_honest;
       answered = λ honest t stands.
           let over = c.answer.ensures.step honest t stands in
-          (over.0, answers_caller site c.args.caller request c.in-Ok.parsed t _ over.0 wanted over.1, over.3);
+          (over.0, answers_caller site c.args.caller request c.in-Ok.parsed t _ over.0 wanted over.1, over.4);
       crash = λ honest t left. or_then (c.answer.ensures.crash honest t left)
           (λ made. (made.0, made.1, step_answers site c.args.caller request c.in-Ok.parsed _ made.1 t wanted made.2));
     }

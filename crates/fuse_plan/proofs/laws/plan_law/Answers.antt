@@ -1,0 +1,6 @@
+-- Why `laws::plan_law` meets its contract, where that has to be said.
+use Rattle.fuse_plan.proofs.Pending.{plan_law}
+use Rattle.fuse_plan.proofs.laws.plan_law.Goals as goal
+
+pub returns : goal.returns
+returns c = plan_law

@@ -1,0 +1,6 @@
+-- Why `laws::rest_law` meets its contract, where that has to be said.
+use Rattle.fuse_plan.proofs.Pending.{rest_law}
+use Rattle.fuse_plan.proofs.laws.rest_law.Goals as goal
+
+pub returns : goal.returns
+returns c = rest_law

@@ -1,0 +1,6 @@
+-- Why `number::with_zeros` meets its contract, where that has to be said.
+use Rattle.fuse_plan.proofs.Digits.{put_behind}
+use Rattle.fuse_plan.proofs.number.with_zeros.Goals as goal
+
+pub returns : goal.returns
+returns c = put_behind c.args.digits.now c.copy_from_slice.new.self c.copy_from_slice.ensures.after

@@ -1,0 +1,14 @@
+-- Why `values::zeros_in` meets its contract, where that has to be said.
+use Rattle.std.proofs.Common.{ap, ap₂, ◌∙◌}
+use Rattle.std.specs.FinSet as set
+use Rattle.fusemap_core.specs.declared.pos.Pos.{Pos}
+use Rattle.fuse_image.specs.Places.{places_where}
+use Rattle.fuse_plan.specs.Wishes.{is_one_from}
+use Rattle.fuse_plan.proofs.Windows.{zeros_are}
+use Rattle.fuse_plan.proofs.values.zeros_in.Goals as goal
+
+pub returns : goal.returns
+returns c =
+    let value = c.args.value.now in
+    let ones = c.ones_from.ensures ∙ ap (λ (first : Pos). places_where (is_one_from value first)) c.first.ensures in
+    c.minus.ensures ∙ (ap₂ set.difference c.positions_of.ensures ones ∙ zeros_are c.args.field.now value)

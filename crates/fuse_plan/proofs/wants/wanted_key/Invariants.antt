@@ -1,0 +1,7 @@
+-- What the loop of `wants::wanted_key` keeps.
+use Rattle.std.proofs.Common.{◌≡◌, drop}
+use Rattle.fuse_plan.specs.Wishes.{wanted_key}
+use Rattle.fuse_plan.proofs.wants.wanted_key.Given as goal
+
+abbrev pub invariant-loop-wish : goal.invariant-loop-wish
+invariant-loop-wish l = wanted_key l.map l.block (drop l.wish-index l.wishes) ≡ wanted_key l.map l.block l.wishes

@@ -1,0 +1,43 @@
+// What holds of plans and read-backs.
+ghost use Rattle.fuse_plan.specs.Law.{MatchLaw};
+ghost use Rattle.fuse_plan.specs.Pending.{FirstRestLaw, LocksShow, PlanLaw, RestLaw, RestsLie, SecondRestLaw};
+
+/// A read-back matches exactly where it is what the chip shows when all of the batch is burnt and
+/// nothing else, for a batch that stays readable.
+#[tactic(auto, using(crate::proofs::Law::match_law))]
+pub fn match_law()
+    ensures { MatchLaw }
+{}
+
+/// What a plan is to burn isn't burnt yet, its second batch lies in the lock fields and its first
+/// outside them, and its first batch stays readable.
+pub fn plan_law()
+    ensures { PlanLaw }
+{}
+
+/// The same holds of what a read-back of the first batch leaves, unless it says that something is
+/// wrong.
+pub fn first_rest_law()
+    ensures { FirstRestLaw }
+{}
+
+/// The same holds of what a read-back of the second batch leaves.
+pub fn second_rest_law()
+    ensures { SecondRestLaw }
+{}
+
+/// No read lock hides a position of the lock fields.
+#[tactic(auto, using(crate::proofs::Shown::locks_show))]
+pub fn locks_show()
+    ensures { LocksShow }
+{}
+
+/// Where a read-back says nothing wrong, the rest that it tells is what falls short of the batch.
+pub fn rest_law()
+    ensures { RestLaw }
+{}
+
+/// What a read-back leaves to be burnt lies in the map where the plan does.
+pub fn rests_lie()
+    ensures { RestsLie }
+{}

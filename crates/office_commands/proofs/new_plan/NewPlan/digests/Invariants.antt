@@ -1,0 +1,8 @@
+-- What the loops of `new_plan::NewPlan::digests` keep.
+use Rattle.std.proofs.Common.{take}
+use Rattle.std.specs.List.{AllByRecursion}
+use Rattle.office_commands.specs.Asked.{HasDigest}
+use Rattle.office_commands.proofs.new_plan.NewPlan.digests.Given as goal
+
+abbrev pub invariant-loop-wish : goal.invariant-loop-wish
+invariant-loop-wish l = AllByRecursion (λ w. HasDigest w.want) (take l.wish-index l.wishes)

@@ -1,0 +1,14 @@
+-- Why `step_reply::outcome_body` meets its contract, where that has to be said.
+use Rattle.std.proofs.Common.{ap, ◌∙◌}
+use Rattle.std.proofs.lemmas.Result.{IfOk-weaker}
+use Rattle.serde_json.specs.Written.{compact_text, has_float}
+use Rattle.office_commands.specs.StepReplies.{outcome_body}
+use Rattle.office_commands.proofs.Floats.{in_outcome}
+use Rattle.office_commands.proofs.step_reply.outcome_body.Goals as goal
+
+pub returns : goal.returns
+unfolding outcome_body
+returns c =
+    let same = rw c.fields.ensures.same at c.in_ok-outcome_value.ensures in
+    let plain = ap has_float same ∙ in_outcome c.args.map.now.fields c.args.outcome c.args.rest.now c.args.state in
+    IfOk-weaker c.to_string.result _ _ (λ body printed. printed plain ∙ ap compact_text same) c.to_string.ensures.text

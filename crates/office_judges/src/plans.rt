@@ -1,0 +1,125 @@
+// Plans of devices.
+ghost use Rattle.std.specs.Prelude.{◌≡◌};
+ghost use Rattle.fuse_columns.specs.TodoColumns.{todo_column};
+ghost use Rattle.fuse_columns.specs.Zeros.{no_work};
+ghost use Rattle.office_rules.specs.Rules.{lowest, unless_refused};
+ghost use Rattle.office_rules.specs.StepRules as rules;
+ghost use Rattle.office_rules.specs.StepRules.{plan_refusals, work_of};
+ghost use Rattle.office_tables.specs.Reading.{Reading};
+ghost use Rattle.office_judges.specs.Judging.{IsJudged};
+
+use crate::Judgement;
+use crate::placed_device::find_placed;
+use crate::steps::accept_step;
+use fuse_columns::{Work, decode_bits, decode_keys, encode_bits, encode_keys, encode_todo};
+use fuse_image::{Bits, Image, Keys};
+use fuse_plan::{Wish, plan};
+use fusemap_core::FuseMap;
+use office_commands::{Change, NewPlan, Refusal, plan_body};
+use office_rules::DeviceStep;
+use office_tables::{Device, DeviceState, Event, Keep, Unkept};
+use site_core::Customer;
+use std::alloc::Global;
+use text_core::Name;
+
+/// What is known to be burnt of a device.
+pub(crate) fn known_of(map: &FuseMap, device: &Device) -> Image
+    ensures { result ≡ rules.known_of map.now device.now }
+{
+    Image {
+        burnt: decode_bits(map, &device.bits),
+        keys: decode_keys(map, &device.keys),
+    }
+}
+
+/// Whether a device in this state may be planned: one that is registered or settled may.
+fn may_be_planned(state: DeviceState) -> bool
+    ensures { result ≡ rules.may_be_planned state }
+{
+    match state {
+        DeviceState::Registered | DeviceState::Settled => true,
+        _ => false,
+    }
+}
+
+/// Where a device stands that has this work: an empty batch is skipped.
+pub(crate) fn state_with(work: &Work) -> DeviceState
+    ensures { result ≡ rules.state_with work.now }
+{
+    if !(work.first.is_empty() && work.keys.is_empty()) {
+        return DeviceState::AwaitingFirst;
+    }
+    if work.second.is_empty() {
+        DeviceState::Settled
+    } else {
+        DeviceState::AwaitingSecond
+    }
+}
+
+/// Nothing is to be burnt.
+pub(crate) fn no_work() -> Work
+    ensures { result ≡ no_work }
+{
+    Work {
+        first: Bits::empty(),
+        second: Bits::empty(),
+        keys: Keys::empty(),
+    }
+}
+
+/// The step that gives a device its work.
+fn with_work(map: &FuseMap, device: &Device, work: &Work) -> DeviceStep
+    ensures { result ≡ rules.without_addition map.now (record device.now {
+      state = rules.state_with work.now;
+      todo = todo_column map.now work.now;
+    }) }
+{
+    DeviceStep {
+        device: Device {
+            state: state_with(work),
+            todo: encode_todo(map, work),
+            ..*device
+        },
+        event: Event::Planned,
+        bits: encode_bits(map, &Bits::empty()),
+        keys: encode_keys(map, &Keys::empty()),
+    }
+}
+
+/// The work of some wishes, or the lowest refusal of them.
+fn judge_wishes(map: &FuseMap, device: &Device, wishes: &[Wish]) -> Result<Work, Refusal>
+    ensures { result ≡ unless_refused (lowest (plan_refusals wishes.now map.now device.now)) (work_of wishes.now map.now device.now) }
+{
+    if !may_be_planned(device.state) {
+        return Err(Refusal::WrongState);
+    }
+    match plan(map, &known_of(map, device), wishes) {
+        Ok(work) => Ok(work),
+        Err(fault) => Err(Refusal::BadPlan(fault)),
+    }
+}
+
+/// What a plan of a device comes to: the lowest refusal that holds, or the device with its work, an
+/// entry of its ledger and the body that shows the work. It reads only. An `Err` is want of memory or
+/// a failing store.
+pub(crate) fn judge_plan<K: Keep>(
+    alloc: Global,
+    keep: &mut K,
+    customer: &Customer,
+    seat: &Name,
+    plan: &NewPlan,
+) -> Result<Judgement, Unkept>
+    ensures { Reading K.Keep keep.old keep.new result (λ t judgement. IsJudged customer.now seat.now t (Change.PlanDevice plan.now) judgement) }
+{
+    let Some(found) = find_placed(alloc, keep, customer, &plan.chip)? else {
+        return Ok(Judgement::Refused(Refusal::UnknownDevice));
+    };
+    let work = match judge_wishes(&found.map, &found.device, plan.wishes.as_slice()) {
+        Ok(work) => work,
+        Err(refusal) => return Ok(Judgement::Refused(refusal)),
+    };
+    let body = plan_body(alloc, &found.map, &work, state_with(&work))?;
+    let step = with_work(&found.map, &found.device, &work);
+    let accepted = accept_step(alloc, keep, customer, seat, &step, body)?;
+    Ok(Judgement::Accepted(accepted))
+}

@@ -1,0 +1,241 @@
+// Read-backs of devices.
+ghost use Rattle.std.specs.Prelude.{◌≡◌};
+ghost use Rattle.std.specs.FinSet as set;
+ghost use Rattle.fuse_columns.specs.BitsColumns.{bits_column};
+ghost use Rattle.fuse_columns.specs.KeysColumns.{keys_column};
+ghost use Rattle.fuse_columns.specs.TodoColumns.{todo_column};
+ghost use Rattle.fuse_image.specs.Keys.{without};
+ghost use Rattle.fuse_redaction.specs.Redaction.{redacted};
+ghost use Rattle.fuse_plan.specs.Pending as pending;
+ghost use Rattle.office_tables.specs.Reading.{Reading};
+ghost use Rattle.office_rules.specs.Rules.{lowest, unless_refused};
+ghost use Rattle.office_rules.specs.StepRules as rules;
+ghost use Rattle.office_rules.specs.StepRules.{read_refusals, verdict_on};
+ghost use Rattle.office_judges.specs.Judging.{IsJudged};
+
+use crate::Judgement;
+use crate::placed_device::find_placed;
+use crate::plans::{known_of, no_work, state_with};
+use crate::steps::accept_step;
+use fuse_columns::{Work, decode_todo, encode_bits, encode_keys, encode_todo};
+use fuse_image::{Bits, BlockWords, Image, Keys};
+use fuse_plan::{ChipFault, ReadBack, Verdict, compare, fits, redact};
+use fusemap_core::FuseMap;
+use office_commands::{Change, NewReadBack, Refusal, outcome_body};
+use office_rules::DeviceStep;
+use office_tables::{Device, DeviceState, Event, Keep, Outcome, Reason, Unkept};
+use site_core::Customer;
+use std::alloc::Global;
+use text_core::Name;
+
+/// Whether a device in this state is read back: one whose batch is awaited is.
+fn is_awaited(state: DeviceState) -> bool
+    ensures { result ≡ rules.is_awaited state }
+{
+    match state {
+        DeviceState::AwaitingFirst | DeviceState::AwaitingSecond => true,
+        _ => false,
+    }
+}
+
+/// What a read-back of a device shows, or the lowest refusal of it.
+fn judge_words(map: &FuseMap, device: &Device, words: &BlockWords) -> Result<ReadBack, Refusal>
+    ensures { result ≡ unless_refused (lowest (read_refusals words.now map.now device.now)) (redacted map.now words.now) }
+{
+    if !is_awaited(device.state) {
+        return Err(Refusal::WrongState);
+    }
+    if !fits(map, words) {
+        return Err(Refusal::BadReadback);
+    }
+    Ok(redact(map, words))
+}
+
+/// The batch of a state.
+fn batch_in(state: DeviceState, work: &Work) -> Image
+    ensures { result ≡ rules.batch_in state work.now }
+{
+    match state {
+        DeviceState::AwaitingFirst => Image {
+            burnt: work.first,
+            keys: work.keys,
+        },
+        DeviceState::AwaitingSecond => Image {
+            burnt: work.second,
+            keys: Keys::empty(),
+        },
+        _ => Image {
+            burnt: Bits::empty(),
+            keys: Keys::empty(),
+        },
+    }
+}
+
+fn reason_for(fault: ChipFault) -> Reason
+    ensures { result ≡ rules.reason_for fault }
+{
+    match fault {
+        ChipFault::Lost => Reason::Lost,
+        ChipFault::Stray => Reason::Stray,
+        ChipFault::Key => Reason::Key,
+    }
+}
+
+fn outcome_for(fault: ChipFault) -> Outcome
+    ensures { result ≡ rules.outcome_for fault }
+{
+    match fault {
+        ChipFault::Lost => Outcome::Lost,
+        ChipFault::Stray => Outcome::Stray,
+        ChipFault::Key => Outcome::Key,
+    }
+}
+
+/// What a verdict is called in replies and ledgers.
+fn outcome_of(verdict: &Verdict) -> Outcome
+    ensures { result ≡ rules.outcome_of verdict.now }
+{
+    match verdict {
+        Verdict::Match => Outcome::Match,
+        Verdict::Short(_) => Outcome::Short,
+        Verdict::Fault(fault) => outcome_for(*fault),
+    }
+}
+
+/// The rest that a verdict tells, nothing unless it is short.
+fn rest_of(verdict: &Verdict) -> Image
+    ensures { result ≡ pending.rest_of verdict.now }
+{
+    match verdict {
+        Verdict::Short(rest) => *rest,
+        _ => Image {
+            burnt: Bits::empty(),
+            keys: Keys::empty(),
+        },
+    }
+}
+
+/// The work with a rest in place of the batch of the state.
+fn with_rest(state: DeviceState, rest: &Image, work: &Work) -> Work
+    ensures { result ≡ rules.with_rest state rest.now work.now }
+{
+    match state {
+        DeviceState::AwaitingFirst => Work {
+            first: rest.burnt,
+            second: work.second,
+            keys: rest.keys,
+        },
+        DeviceState::AwaitingSecond => Work {
+            first: Bits::empty(),
+            second: rest.burnt,
+            keys: Keys::empty(),
+        },
+        _ => *work,
+    }
+}
+
+/// What is pending after a read-back: nothing where something is wrong.
+fn work_after(verdict: &Verdict, state: DeviceState, work: &Work) -> Work
+    ensures { result ≡ rules.work_after verdict.now state work.now }
+{
+    match verdict {
+        Verdict::Fault(_) => no_work(),
+        _ => with_rest(state, &rest_of(verdict), work),
+    }
+}
+
+fn state_after(verdict: &Verdict, state: DeviceState, work: &Work) -> DeviceState
+    ensures { result ≡ rules.state_after verdict.now state work.now }
+{
+    match verdict {
+        Verdict::Match => state_with(&work_after(verdict, state, work)),
+        Verdict::Short(_) => state,
+        Verdict::Fault(fault) => DeviceState::Quarantined(reason_for(*fault)),
+    }
+}
+
+/// A device with what is known of it after a read-back that came to this.
+fn device_after(
+    map: &FuseMap,
+    device: &Device,
+    work: &Work,
+    verdict: &Verdict,
+    after: &Image,
+) -> Device
+    ensures { result ≡ record device.now {
+      state = rules.state_after verdict.now device.now.state work.now;
+      bits = bits_column map.now after.now.burnt;
+      keys = keys_column map.now after.now.keys;
+      todo = todo_column map.now (rules.work_after verdict.now device.now.state work.now);
+    } }
+{
+    Device {
+        state: state_after(verdict, device.state, work),
+        bits: encode_bits(map, &after.burnt),
+        keys: encode_keys(map, &after.keys),
+        todo: encode_todo(map, &work_after(verdict, device.state, work)),
+        ..*device
+    }
+}
+
+/// A step whose entry has what a read-back added to what was known.
+fn step_to(
+    map: &FuseMap,
+    device: Device,
+    verdict: &Verdict,
+    known: &Image,
+    after: &Image,
+) -> DeviceStep
+    ensures { result ≡ record {
+      device = device;
+      event = Event.Read (rules.outcome_of verdict.now);
+      bits = bits_column map.now (set.difference after.now.burnt known.now.burnt);
+      keys = keys_column map.now (without after.now.keys known.now.keys);
+    } }
+{
+    DeviceStep {
+        device,
+        event: Event::Read(outcome_of(verdict)),
+        bits: encode_bits(map, &after.burnt.minus(&known.burnt)),
+        keys: encode_keys(map, &after.keys.minus(&known.keys)),
+    }
+}
+
+/// The step of a read-back, and the verdict that it comes to.
+fn read_step(map: &FuseMap, device: &Device, readback: &ReadBack) -> (DeviceStep, Verdict)
+    ensures step { result.0 ≡ rules.read_step readback.now map.now device.now }
+    ensures verdict { result.1 ≡ verdict_on readback.now map.now device.now }
+{
+    let known = known_of(map, device);
+    let work = decode_todo(map, &device.todo);
+    let batch = batch_in(device.state, &work);
+    let (verdict, after) = compare(map, &known, &batch.burnt, &batch.keys, readback);
+    let device = device_after(map, device, &work, &verdict, &after);
+    (step_to(map, device, &verdict, &known, &after), verdict)
+}
+
+/// What a read-back of a device comes to: the lowest refusal that holds, or the device with what it
+/// shows, an entry of its ledger and the body that tells the verdict. It reads only. An `Err` is want
+/// of memory or a failing store.
+pub(crate) fn judge_read_back<K: Keep>(
+    alloc: Global,
+    keep: &mut K,
+    customer: &Customer,
+    seat: &Name,
+    read: &NewReadBack,
+) -> Result<Judgement, Unkept>
+    ensures { Reading K.Keep keep.old keep.new result (λ t judgement. IsJudged customer.now seat.now t (Change.ReadBack read.now) judgement) }
+{
+    let Some(found) = find_placed(alloc, keep, customer, &read.chip)? else {
+        return Ok(Judgement::Refused(Refusal::UnknownDevice));
+    };
+    let readback = match judge_words(&found.map, &found.device, &read.blocks) {
+        Ok(readback) => readback,
+        Err(refusal) => return Ok(Judgement::Refused(refusal)),
+    };
+    let (step, verdict) = read_step(&found.map, &found.device, &readback);
+    let (outcome, rest) = (outcome_of(&verdict), rest_of(&verdict));
+    let body = outcome_body(alloc, &found.map, outcome, &rest, step.device.state)?;
+    let accepted = accept_step(alloc, keep, customer, seat, &step, body)?;
+    Ok(Judgement::Accepted(accepted))
+}
