@@ -22,7 +22,7 @@ use std::fs;
 use std::test::Fail;
 
 /// The conversations, each under its name.
-const ALL: &[&[(&str, &str)]] = &[ORDERS, MAPS, DEVICES, PLANS];
+const ALL: &[&[(&str, &str)]] = &[ORDERS, MAPS, DEVICES];
 
 /// The orders in which the requests of two seats can come.
 const TURNS: &[&str] = &[
@@ -50,6 +50,14 @@ fn conversations_get_their_replies(rt: HostRuntime) -> Result<(), Fail> {
         let found = first_of(rt.alloc(), table)?;
         assert_eq!(rt; found.as_str(), "");
     }
+    Ok(())
+}
+
+/// Apart from the others, since the prover sets a bound to all the texts of one test.
+#[test]
+fn plans_and_read_backs_get_their_replies(rt: HostRuntime) -> Result<(), Fail> {
+    let found = first_of(rt.alloc(), PLANS)?;
+    assert_eq!(rt; found.as_str(), "");
     Ok(())
 }
 
