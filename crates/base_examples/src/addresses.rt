@@ -1,7 +1,6 @@
-//! Hardware addresses, their pools, and serial numbers.
+//! Hardware addresses and their pools.
 
-use id_ranges::{LARGEST_POOL, Mac, MacPool, RangeFault, reserve, serial_text};
-use std::alloc::Global;
+use id_ranges::{LARGEST_POOL, Mac, MacPool, RangeFault, reserve};
 
 /// Texts, and the addresses that they are.
 const ADDRESSES: &[(&str, Option<u64>)] = &[
@@ -113,16 +112,6 @@ const OTHER: Run = ("000000000000", 1);
 
 const NONE: Run = ("020000000010", 0);
 
-/// A width and a number, and the serial number of the prefix "A-".
-const SERIALS: &[(u8, u64, &str)] = &[
-    (3, 998, "A-998"),
-    (6, 42, "A-000042"),
-    (1, 0, "A-0"),
-    (2, 1000, "A-1000"),
-    (0, 0, "A-0"),
-    (20, 18446744073709551615, "A-18446744073709551615"),
-];
-
 /// The address that a text is.
 fn address_of(text: &str) -> Option<u64> {
     Some(Mac::parse(text)?.value())
@@ -150,14 +139,6 @@ fn given(row: &ReserveRow) -> Option<Option<u64>> {
     }
 }
 
-/// Whether a number is written so.
-fn is_serial(alloc: Global, width: u8, number: u64, wanted: &str) -> bool {
-    match serial_text(alloc, "A-", width, number) {
-        Ok(text) => text.as_str() == wanted,
-        Err(_) => false,
-    }
-}
-
 #[test]
 fn tells_addresses_and_pools(rt: HostRuntime) {
     for row in ADDRESSES {
@@ -174,12 +155,8 @@ fn tells_addresses_and_pools(rt: HostRuntime) {
 }
 
 #[test]
-fn gives_addresses_and_serials(rt: HostRuntime) {
-    let alloc = rt.alloc();
+fn gives_addresses(rt: HostRuntime) {
     for row in RESERVED {
         assert!(rt; given(row) == Some(row.5), "{}", row.4);
-    }
-    for row in SERIALS {
-        assert!(rt; is_serial(alloc, row.0, row.1, row.2), "{}", row.2);
     }
 }

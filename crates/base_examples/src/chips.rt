@@ -96,7 +96,7 @@ const CODING_HIDDEN: ChipRow = (0x0008_0000, 0, ZEROS, ZEROS, "", (true, false))
 
 /// The words of a chip of the sample map: those of block 0, but for five zeros in the midst, and the
 /// blocks 1 and 3. Block 2 is zeros.
-fn chip(
+pub fn chip(
     alloc: Global,
     first: u32,
     last: u32,

@@ -4,6 +4,8 @@
 #[cfg(test)]
 mod addresses;
 #[cfg(test)]
+mod bodies;
+#[cfg(test)]
 mod changes;
 #[cfg(test)]
 mod chips;
@@ -12,11 +14,15 @@ mod columns;
 #[cfg(test)]
 mod fuses;
 #[cfg(test)]
+mod imports;
+#[cfg(test)]
 mod json;
 #[cfg(test)]
 mod map_faults;
 #[cfg(test)]
 mod maps;
+#[cfg(test)]
+mod ranges;
 #[cfg(test)]
 mod replies;
 pub mod samples;

@@ -1,251 +1,409 @@
 //! Plans of wishes, and what read-backs say of them, with the sample map.
-ghost use Rattle.std.specs.Prelude.{◌<◌};
 
-use crate::chips::{COUNTED, COUNTED_DIGEST, ZEROS};
+use crate::chips::{COUNTED, COUNTED_DIGEST, ZEROS, chip};
 use crate::samples::MAP;
 use fuse_columns::Work;
-use fuse_image::{Bits, BlockWords, Image, Keys};
-use fuse_plan::{ChipFault, Number, ReadBack, Verdict, Want, Wish, compare, plan, redact};
+use fuse_image::{Bits, Image, Keys};
+use fuse_plan::{
+    ChipFault, Number, PlanFault, ReadBack, Verdict, Want, Wish, compare, plan, redact,
+};
 use fusemap_core::{FuseMap, read_map};
 use std::alloc::Global;
 use std::test::Fail;
 use text_core::{Digest, Name};
 
-/// What a chip of the sample map shows whose block 2 is zeros, as are the words of block 0 but for
-/// the first and the last.
-fn shown(
-    alloc: Global,
-    map: &FuseMap,
-    first: u32,
-    last: u32,
-    block1: [u32; 8],
-    block3: [u32; 8],
-) -> Result<ReadBack, Fail> {
-    let blocks = [
-        Vec::from_array(alloc, [first, 0, 0, 0, 0, 0, last])?,
-        Vec::from_array(alloc, block1)?,
-        Vec::from_array(alloc, [0; 8])?,
-        Vec::from_array(alloc, block3)?,
-    ];
-    let words = BlockWords::new(&blocks).ok_or("no blocks")?;
-    Ok(redact(map, &words))
+/// What is asked of a field: numbers as hexadecimal digits, and keys as their digests.
+#[derive(Clone, Copy)]
+enum Ask {
+    Bit(u64),
+    Value(&'static str),
+    Key(&'static str),
+    WriteLock,
+    ReadLock,
 }
 
-/// What a chip shows whose words are zeros but for the first and the last of block 0.
-fn shown_in_block0(alloc: Global, map: &FuseMap, first: u32, last: u32) -> Result<ReadBack, Fail> {
-    shown(alloc, map, first, last, ZEROS, ZEROS)
+/// A field, and what is asked of it.
+type WishRow = (&'static str, Ask);
+
+/// A chip: the first and the last word of block 0, and the blocks 1 and 3. The other words are zeros.
+type ChipRow = (u32, u32, [u32; 8], [u32; 8]);
+
+/// Burnt fuses: words that aren't zero, by their numbers among the 32, and the digest of the key of
+/// block 1, or an empty text for none.
+type Part = (&'static [(usize, u32)], &'static str);
+
+const NOTHING: Part = (&[], "");
+
+/// The SHA-256 digests of the messages `abc` and `hello`.
+const ABC: &str = "ba7816bf8f01cfea414140de5dae2223b00361a396177a9cb410ff61f20015ad";
+
+const HELLO: &str = "2cf24dba5fb0a30e26e83b2ac5b9e29e1b161e5c1fa7425e73043362938b9824";
+
+/// The number of the highest bit.
+const TOP: &str = "8000000000000000000000000000000000000000000000000000000000000000";
+
+const ONE: [u32; 8] = [1, 0, 0, 0, 0, 0, 0, 0];
+
+const BLANK: ChipRow = (0, 0, ZEROS, ZEROS);
+
+/// A chip whose bit is burnt and then locked.
+const BIT_LOCKED: ChipRow = (0x4000, 0x40, ZEROS, ZEROS);
+
+const KEYED: ChipRow = (0, 0, COUNTED, ZEROS);
+
+const HALF: ChipRow = (0, 0, ZEROS, ONE);
+
+const BIT: WishRow = ("JTAG_DISABLE", Ask::Bit(0));
+
+const BIT_LOCK: WishRow = ("JTAG_DISABLE", Ask::WriteLock);
+
+const NO_BIT: WishRow = ("JTAG_DISABLE", Ask::Value("0"));
+
+const UNKNOWN: WishRow = ("NONE", Ask::Bit(0));
+
+const PAST: WishRow = ("JTAG_DISABLE", Ask::Bit(1));
+
+const PLAIN_KEY: WishRow = ("JTAG_DISABLE", Ask::Key(ABC));
+
+const NO_LOCK: WishRow = ("WR_DIS", Ask::WriteLock);
+
+const KEY: WishRow = ("BLOCK1", Ask::Key(ABC));
+
+/// A registered chip, wishes, and the number of their lowest fault.
+const FAULTS: &[(ChipRow, &[WishRow], u8)] = &[
+    (BLANK, &[UNKNOWN], 1),
+    (BLANK, &[PAST], 2),
+    (BLANK, &[("JTAG_DISABLE", Ask::Value("2"))], 3),
+    (BLANK, &[("RD_DIS", Ask::Value("10"))], 3),
+    (BLANK, &[("RD_DIS", Ask::Value(TOP))], 3),
+    (BIT_LOCKED, &[NO_BIT], 4),
+    (BLANK, &[BIT, NO_BIT], 5),
+    (BLANK, &[KEY, ("BLOCK1", Ask::Key(HELLO))], 5),
+    (BLANK, &[PLAIN_KEY], 6),
+    (BLANK, &[("CODING_SCHEME", Ask::Bit(0))], 6),
+    ((0, 0, ONE, ZEROS), &[KEY], 7),
+    ((0x80, 0, ZEROS, ZEROS), &[KEY], 8),
+    ((0x4000, 0, ZEROS, ZEROS), &[BIT], 8),
+    ((0x0001_0000, 0, ZEROS, ZEROS), &[KEY], 9),
+    (BLANK, &[NO_LOCK], 10),
+    (BLANK, &[NO_LOCK, PLAIN_KEY, PAST, UNKNOWN], 1),
+    (BLANK, &[NO_LOCK, PLAIN_KEY, PAST], 2),
+    (BLANK, &[NO_LOCK, PLAIN_KEY], 6),
+    (BIT_LOCKED, &[BIT], 0),
+];
+
+/// A registered chip, wishes, and the two batches of their plan.
+type PlanRow = (ChipRow, &'static [WishRow], Part, Part);
+
+const PLANS: &[PlanRow] = &[
+    (
+        BLANK,
+        &[("CODING_SCHEME", Ask::Value("0"))],
+        NOTHING,
+        NOTHING,
+    ),
+    (
+        BLANK,
+        &[("RD_DIS", Ask::Value("5"))],
+        NOTHING,
+        (&[(0, 0x0005_0000)], ""),
+    ),
+    (
+        BLANK,
+        &[("BLOCK3", Ask::Value(TOP))],
+        (&[(31, 0x8000_0000)], ""),
+        NOTHING,
+    ),
+    (BLANK, &[BIT], FIRST_BIT, NOTHING),
+    (BLANK, &[BIT, BIT_LOCK], FIRST_BIT, LOCK),
+    (BIT_LOCKED, &[BIT, BIT_LOCK], NOTHING, NOTHING),
+    (
+        BLANK,
+        &[
+            ("BLOCK1", Ask::Key(COUNTED_DIGEST)),
+            ("BLOCK1", Ask::ReadLock),
+        ],
+        ONLY_KEY,
+        HIDE,
+    ),
+    (
+        BLANK,
+        &[("BLOCK3", Ask::Bit(0)), ("BLOCK3", Ask::Bit(1))],
+        (&[(24, 3)], ""),
+        NOTHING,
+    ),
+];
+
+const FIRST_BIT: Part = (&[(6, 0x40)], "");
+
+const LOCK: Part = (&[(0, 0x4000)], "");
+
+const ONLY_KEY: Part = (&[], COUNTED_DIGEST);
+
+const HIDE: Part = (&[(0, 0x0001_0000)], "");
+
+const HIDDEN_KEY: Part = (&[(0, 0x0001_0000)], COUNTED_DIGEST);
+
+/// What a read-back comes to, with the rest of the batch where it falls short.
+enum Told {
+    Match,
+    Short(Part),
+    Fault(ChipFault),
 }
 
-/// The image of a chip as it is registered.
-fn registered(readback: &ReadBack) -> Image {
-    Image {
-        burnt: readback.ones,
-        keys: readback.shown,
-    }
+/// A read-back: what is known to be burnt before it, the batch, the chip that is read, what the
+/// read-back comes to, and what is known to be burnt after it.
+struct StepRow {
+    name: &'static str,
+    known: Part,
+    batch: Part,
+    chip: ChipRow,
+    told: Told,
+    after: Part,
 }
 
-fn wish(field: &str, want: Want) -> Result<Wish, Fail> {
-    let field = Name::parse(field).ok_or("no name")?;
-    Ok(Wish { field, want })
-}
-
-/// The number of one word.
-fn number(word: u32) -> Number {
-    Number::new([word, 0, 0, 0, 0, 0, 0, 0])
-}
-
-/// The number of the lowest fault, or 0 where there is a plan.
-fn fault_of(map: &FuseMap, image: &Image, wishes: &[Wish]) -> u8 {
-    match plan(map, image, wishes) {
-        Ok(_) => 0,
-        Err(fault) => fault.number(),
-    }
-}
-
-fn planned(map: &FuseMap, image: &Image, wishes: &[Wish]) -> Result<Work, Fail> {
-    match plan(map, image, wishes) {
-        Ok(plan) => Ok(plan),
-        Err(_) => Err(Fail::from("no plan")),
-    }
-}
-
-/// Whether the set has the ones of one word alone, by the word's number among the 32.
-fn is_word(bits: &Bits, word: usize, value: u32) -> bool
-    requires { word < 32 }
-{
-    let mut words = [0; 32];
-    words[word] = value;
-    bits.to_words() == words
-}
-
-fn is_match(verdict: &Verdict) -> bool {
-    matches!(verdict, Verdict::Match)
-}
-
-#[test]
-fn tells_the_faults_of_wishes(rt: HostRuntime) -> Result<(), Fail> {
-    let alloc = rt.alloc();
-    let map = read_map(alloc, MAP)?;
-    let blank = Image::empty();
-    let abc = Digest::of(b"abc");
-    let unknown = wish("NONE", Want::Bit(0))?;
-    assert!(rt; fault_of(&map, &blank, &[unknown]) == 1);
-    let past = wish("JTAG_DISABLE", Want::Bit(1))?;
-    assert!(rt; fault_of(&map, &blank, &[past]) == 2);
-    let wide = wish("JTAG_DISABLE", Want::Value(number(2)))?;
-    assert!(rt; fault_of(&map, &blank, &[wide]) == 3);
-    let plain = wish("JTAG_DISABLE", Want::Key(abc))?;
-    assert!(rt; fault_of(&map, &blank, &[plain]) == 6);
-    let coding = wish("CODING_SCHEME", Want::Bit(0))?;
-    assert!(rt; fault_of(&map, &blank, &[coding]) == 6);
-    let no_lock = wish("WR_DIS", Want::WriteLock)?;
-    assert!(rt; fault_of(&map, &blank, &[no_lock]) == 10);
-    let key = wish("BLOCK1", Want::Key(abc))?;
-    let locked = registered(&shown_in_block0(alloc, &map, 0x80, 0)?);
-    assert!(rt; fault_of(&map, &locked, &[key]) == 8);
-    let hidden = registered(&shown_in_block0(alloc, &map, 0x0001_0000, 0)?);
-    assert!(rt; fault_of(&map, &hidden, &[key]) == 9);
-    let other = wish("BLOCK1", Want::Key(Digest::of(b"hello")))?;
-    assert!(rt; fault_of(&map, &blank, &[key, other]) == 5);
-    let one = [1, 0, 0, 0, 0, 0, 0, 0];
-    let keyed = registered(&shown(alloc, &map, 0, 0, one, ZEROS)?);
-    assert!(rt; fault_of(&map, &keyed, &[key]) == 7);
-    assert!(rt; fault_of(&map, &blank, &[no_lock, plain, past, unknown]) == 1);
-    assert!(rt; fault_of(&map, &blank, &[no_lock, plain, past]) == 2);
-    assert!(rt; fault_of(&map, &blank, &[no_lock, plain]) == 6);
-    Ok(())
-}
-
-#[test]
-fn plans_nothing_for_zeros(rt: HostRuntime) -> Result<(), Fail> {
-    let map = read_map(rt.alloc(), MAP)?;
-    let none = planned(
-        &map,
-        &Image::empty(),
-        &[wish("CODING_SCHEME", Want::Value(number(0)))?],
-    )?;
-    assert!(rt; none.first.is_empty() && none.second.is_empty() && none.keys.is_empty());
-    Ok(())
-}
-
-#[test]
-fn plans_the_ones_of_values(rt: HostRuntime) -> Result<(), Fail> {
-    let map = read_map(rt.alloc(), MAP)?;
-    let blank = Image::empty();
-    let low = planned(&map, &blank, &[wish("RD_DIS", Want::Value(number(5)))?])?;
-    assert!(rt; low.first.is_empty() && is_word(&low.second, 0, 0x0005_0000));
-    let top = Number::new([0, 0, 0, 0, 0, 0, 0, 0x8000_0000]);
-    let high = planned(&map, &blank, &[wish("BLOCK3", Want::Value(top))?])?;
-    assert!(rt; high.second.is_empty() && is_word(&high.first, 31, 0x8000_0000));
-    assert!(rt; fault_of(&map, &blank, &[wish("RD_DIS", Want::Value(number(16)))?]) == 3);
-    assert!(rt; fault_of(&map, &blank, &[wish("RD_DIS", Want::Value(top))?]) == 3);
-    Ok(())
-}
-
-#[test]
-fn burns_a_bit_and_then_its_lock(rt: HostRuntime) -> Result<(), Fail> {
-    let alloc = rt.alloc();
-    let map = read_map(alloc, MAP)?;
-    let blank = Image::empty();
-    let bit = wish("JTAG_DISABLE", Want::Bit(0))?;
-    let wishes = [bit, wish("JTAG_DISABLE", Want::WriteLock)?];
-    let first = planned(&map, &blank, &wishes)?;
-    assert!(rt; is_word(&first.first, 6, 0x40) && is_word(&first.second, 0, 0x4000));
-    assert!(rt; first.keys.is_empty());
-    let readback = shown_in_block0(alloc, &map, 0, 0x40)?;
-    let (verdict, image) = compare(&map, &blank, &first.first, &first.keys, &readback);
-    assert!(rt; is_match(&verdict) && is_word(&image.burnt, 6, 0x40));
-    let readback = shown_in_block0(alloc, &map, 0x4000, 0x40)?;
-    let (verdict, image) = compare(&map, &image, &first.second, &Keys::empty(), &readback);
-    assert!(rt; is_match(&verdict));
-    let again = planned(&map, &image, &wishes)?;
-    assert!(rt; again.first.is_empty() && again.second.is_empty() && again.keys.is_empty());
-    let zero = wish("JTAG_DISABLE", Want::Value(number(0)))?;
-    assert!(rt; fault_of(&map, &image, &[zero]) == 4);
-    assert!(rt; fault_of(&map, &blank, &[bit, zero]) == 5);
-    let locked = registered(&shown_in_block0(alloc, &map, 0x4000, 0)?);
-    assert!(rt; fault_of(&map, &locked, &[bit]) == 8);
-    assert!(rt; fault_of(&map, &image, &[bit]) == 0);
-    Ok(())
-}
-
-#[test]
-fn burns_a_key_and_then_hides_it(rt: HostRuntime) -> Result<(), Fail> {
-    let alloc = rt.alloc();
-    let map = read_map(alloc, MAP)?;
-    let blank = Image::empty();
-    let digest = Digest::parse(COUNTED_DIGEST).ok_or("no digest")?;
-    let wishes = [
-        wish("BLOCK1", Want::Key(digest))?,
-        wish("BLOCK1", Want::ReadLock)?,
-    ];
-    let made = planned(&map, &blank, &wishes)?;
-    assert!(rt; made.first.is_empty() && is_word(&made.second, 0, 0x0001_0000));
-    assert!(rt; made.keys.get(1) == Some(digest) && made.keys.get(2).is_none());
-    let none = shown_in_block0(alloc, &map, 0, 0)?;
-    let (verdict, image) = compare(&map, &blank, &made.first, &made.keys, &none);
-    let Verdict::Short(rest) = verdict else {
-        return Err(Fail::from("not short"));
-    };
-    assert!(rt; rest.burnt.is_empty() && rest.keys.get(1) == Some(digest) && image.is_empty());
-    let key = shown(alloc, &map, 0, 0, COUNTED, ZEROS)?;
-    let (verdict, image) = compare(&map, &blank, &made.first, &made.keys, &key);
-    assert!(rt; is_match(&verdict) && image.key_of(1) == Some(digest));
-    let (verdict, _) = compare(&map, &image, &made.second, &Keys::empty(), &none);
-    assert!(rt; matches!(verdict, Verdict::Fault(ChipFault::Key)));
-    let hidden = shown_in_block0(alloc, &map, 0x0001_0000, 0)?;
-    let (verdict, image) = compare(&map, &image, &made.second, &Keys::empty(), &hidden);
-    assert!(rt; is_match(&verdict) && image.key_of(1) == Some(digest));
-    assert!(rt; is_word(&image.burnt, 0, 0x0001_0000));
-    let (verdict, _) = compare(&map, &image, &Bits::empty(), &Keys::empty(), &key);
-    assert!(rt; matches!(verdict, Verdict::Fault(ChipFault::Lost)));
-    Ok(())
-}
-
-#[test]
-fn tells_what_was_not_asked_for(rt: HostRuntime) -> Result<(), Fail> {
-    let alloc = rt.alloc();
-    let map = read_map(alloc, MAP)?;
-    let blank = Image::empty();
-    let made = planned(&map, &blank, &[wish("JTAG_DISABLE", Want::Bit(0))?])?;
-    let readback = shown_in_block0(alloc, &map, 0, 0x44)?;
-    let (verdict, image) = compare(&map, &blank, &made.first, &made.keys, &readback);
-    assert!(rt; matches!(verdict, Verdict::Fault(ChipFault::Stray)));
-    assert!(rt; is_word(&image.burnt, 6, 0x44));
-    Ok(())
-}
-
-#[test]
-fn tells_the_rest_and_what_is_lost(rt: HostRuntime) -> Result<(), Fail> {
-    let alloc = rt.alloc();
-    let map = read_map(alloc, MAP)?;
-    let blank = Image::empty();
-    let wishes = [wish("BLOCK3", Want::Bit(0))?, wish("BLOCK3", Want::Bit(1))?];
-    let made = planned(&map, &blank, &wishes)?;
-    assert!(rt; is_word(&made.first, 24, 3) && made.second.is_empty());
-    let half = shown(alloc, &map, 0, 0, ZEROS, [1, 0, 0, 0, 0, 0, 0, 0])?;
-    let (verdict, image) = compare(&map, &blank, &made.first, &made.keys, &half);
-    let Verdict::Short(rest) = verdict else {
-        return Err(Fail::from("not short"));
-    };
-    assert!(rt; is_word(&rest.burnt, 24, 2) && rest.keys.is_empty());
-    assert!(rt; is_word(&image.burnt, 24, 1));
-    let (verdict, image) = compare(&map, &image, &rest.burnt, &rest.keys, &half);
-    assert!(rt; matches!(verdict, Verdict::Short(_)) && is_word(&image.burnt, 24, 1));
-    let none = shown_in_block0(alloc, &map, 0, 0)?;
-    let (verdict, image) = compare(&map, &image, &rest.burnt, &rest.keys, &none);
-    assert!(rt; matches!(verdict, Verdict::Fault(ChipFault::Lost)));
-    assert!(rt; is_word(&image.burnt, 24, 1));
-    Ok(())
-}
+const STEPS: &[StepRow] = &[
+    StepRow {
+        name: "a bit is burnt",
+        known: NOTHING,
+        batch: FIRST_BIT,
+        chip: (0, 0x40, ZEROS, ZEROS),
+        told: Told::Match,
+        after: FIRST_BIT,
+    },
+    StepRow {
+        name: "its lock is burnt",
+        known: FIRST_BIT,
+        batch: LOCK,
+        chip: BIT_LOCKED,
+        told: Told::Match,
+        after: (&[(0, 0x4000), (6, 0x40)], ""),
+    },
+    StepRow {
+        name: "a key isn't burnt yet",
+        known: NOTHING,
+        batch: ONLY_KEY,
+        chip: BLANK,
+        told: Told::Short(ONLY_KEY),
+        after: NOTHING,
+    },
+    StepRow {
+        name: "the key is burnt",
+        known: NOTHING,
+        batch: ONLY_KEY,
+        chip: KEYED,
+        told: Told::Match,
+        after: ONLY_KEY,
+    },
+    StepRow {
+        name: "the key is gone",
+        known: ONLY_KEY,
+        batch: HIDE,
+        chip: BLANK,
+        told: Told::Fault(ChipFault::Key),
+        after: ONLY_KEY,
+    },
+    StepRow {
+        name: "the key is hidden",
+        known: ONLY_KEY,
+        batch: HIDE,
+        chip: (0x0001_0000, 0, ZEROS, ZEROS),
+        told: Told::Match,
+        after: HIDDEN_KEY,
+    },
+    StepRow {
+        name: "the key's lock is gone",
+        known: HIDDEN_KEY,
+        batch: NOTHING,
+        chip: KEYED,
+        told: Told::Fault(ChipFault::Lost),
+        after: HIDDEN_KEY,
+    },
+    StepRow {
+        name: "a bit is burnt that wasn't asked for",
+        known: NOTHING,
+        batch: FIRST_BIT,
+        chip: (0, 0x44, ZEROS, ZEROS),
+        told: Told::Fault(ChipFault::Stray),
+        after: (&[(6, 0x44)], ""),
+    },
+    StepRow {
+        name: "one bit of two is burnt",
+        known: NOTHING,
+        batch: (&[(24, 3)], ""),
+        chip: HALF,
+        told: Told::Short((&[(24, 2)], "")),
+        after: (&[(24, 1)], ""),
+    },
+    StepRow {
+        name: "the other bit isn't burnt yet",
+        known: (&[(24, 1)], ""),
+        batch: (&[(24, 2)], ""),
+        chip: HALF,
+        told: Told::Short((&[(24, 2)], "")),
+        after: (&[(24, 1)], ""),
+    },
+    StepRow {
+        name: "the one bit is gone",
+        known: (&[(24, 1)], ""),
+        batch: (&[(24, 2)], ""),
+        chip: BLANK,
+        told: Told::Fault(ChipFault::Lost),
+        after: (&[(24, 1)], ""),
+    },
+];
 
 /// The fields that hold bits, and how many they have.
-const PLAIN: [(&str, u64); 4] = [
+const FIELDS: &[(&str, u64)] = &[
     ("WR_DIS", 16),
     ("RD_DIS", 4),
     ("JTAG_DISABLE", 1),
     ("BLOCK3", 256),
 ];
+
+/// Wishes that can be burnt in full on a blank chip.
+const WISHES: &[WishRow] = &[
+    KEY,
+    ("BLOCK2", Ask::Key(ABC)),
+    BIT_LOCK,
+    ("BLOCK1", Ask::WriteLock),
+    ("BLOCK1", Ask::ReadLock),
+    ("BLOCK2", Ask::WriteLock),
+    ("BLOCK2", Ask::ReadLock),
+    ("BLOCK3", Ask::WriteLock),
+    ("BLOCK3", Ask::ReadLock),
+    ("WR_DIS", Ask::Value("ffff")),
+    ("RD_DIS", Ask::Value("f")),
+    ("CODING_SCHEME", Ask::Value("0")),
+    ("JTAG_DISABLE", Ask::Value("1")),
+    ("BLOCK3", Ask::Value(TOP)),
+];
+
+/// Texts, and the words of the number that each is, the lowest first.
+const NUMBERS: &[(&str, Option<[u32; 8]>)] = &[
+    ("0", Some(ZEROS)),
+    ("fF", Some([255, 0, 0, 0, 0, 0, 0, 0])),
+    ("123456789", Some([0x2345_6789, 1, 0, 0, 0, 0, 0, 0])),
+    (
+        "8000000000000000000000000000000000000000000000000000000000000001",
+        Some([1, 0, 0, 0, 0, 0, 0, 0x8000_0000]),
+    ),
+    ("", None),
+    ("0x1", None),
+    ("-1", None),
+    ("g", None),
+    (
+        "00000000000000000000000000000000000000000000000000000000000000000",
+        None,
+    ),
+];
+
+/// What is asked of a field.
+fn want(ask: Ask) -> Option<Want> {
+    match ask {
+        Ask::Bit(bit) => Some(Want::Bit(bit)),
+        Ask::Value(digits) => Some(Want::Value(Number::parse(digits)?)),
+        Ask::Key(digest) => Some(Want::Key(Digest::parse(digest)?)),
+        Ask::WriteLock => Some(Want::WriteLock),
+        Ask::ReadLock => Some(Want::ReadLock),
+    }
+}
+
+fn wishes(alloc: Global, rows: &[WishRow]) -> Option<Vec<Wish>> {
+    let mut wishes = Vec::new(alloc);
+    for row in rows {
+        let field = Name::parse(row.0)?;
+        let want = want(row.1)?;
+        wishes.push(Wish { field, want }).ok()?;
+    }
+    Some(wishes)
+}
+
+/// What a chip shows.
+fn shown(alloc: Global, map: &FuseMap, row: &ChipRow) -> Option<ReadBack> {
+    Some(redact(map, &chip(alloc, row.0, row.1, row.2, row.3)?))
+}
+
+/// The plan of wishes for a chip as it is registered.
+fn planned(
+    alloc: Global,
+    map: &FuseMap,
+    chip: &ChipRow,
+    rows: &[WishRow],
+) -> Option<Result<Work, PlanFault>> {
+    let readback = shown(alloc, map, chip)?;
+    let image = Image {
+        burnt: readback.ones,
+        keys: readback.shown,
+    };
+    Some(plan(map, &image, wishes(alloc, rows)?.as_slice()))
+}
+
+/// The number of the lowest fault of wishes, or 0 where there is a plan.
+fn fault_of(alloc: Global, map: &FuseMap, chip: &ChipRow, rows: &[WishRow]) -> Option<u8> {
+    match planned(alloc, map, chip, rows)? {
+        Ok(_) => Some(0),
+        Err(fault) => Some(fault.number()),
+    }
+}
+
+/// 32 words that are zero but for these.
+fn words_of(words: &[(usize, u32)]) -> Option<[u32; 32]> {
+    let mut all = [0; 32];
+    for row in words {
+        if 32 <= row.0 {
+            return None;
+        }
+        all[row.0] = row.1;
+    }
+    Some(all)
+}
+
+fn image_of(part: &Part) -> Option<Image> {
+    Some(Image {
+        burnt: Bits::from_words(words_of(part.0)?),
+        keys: Keys::new([None, Digest::parse(part.1), None, None]),
+    })
+}
+
+/// Whether sets of positions and keys have a part and nothing else.
+fn are_part(bits: &Bits, keys: &Keys, part: &Part) -> Option<bool> {
+    let words = words_of(part.0)?;
+    Some(
+        bits.to_words() == words
+            && bits.is_empty() == part.0.is_empty()
+            && keys.get(1) == Digest::parse(part.1)
+            && keys.get(2).is_none()
+            && keys.is_empty() == part.1.is_empty(),
+    )
+}
+
+/// Whether the plan of a row's wishes has the row's batches.
+fn is_planned(alloc: Global, map: &FuseMap, row: &PlanRow) -> Option<bool> {
+    let work = planned(alloc, map, &row.0, row.1)?.ok()?;
+    Some(
+        are_part(&work.first, &work.keys, &row.2)?
+            && are_part(&work.second, &Keys::empty(), &row.3)?,
+    )
+}
+
+fn is_told(verdict: &Verdict, told: &Told) -> Option<bool> {
+    match (verdict, told) {
+        (Verdict::Match, Told::Match) => Some(true),
+        (Verdict::Short(rest), Told::Short(part)) => are_part(&rest.burnt, &rest.keys, part),
+        (Verdict::Fault(fault), Told::Fault(wanted)) => Some(fault == wanted),
+        _ => Some(false),
+    }
+}
+
+/// Whether a read-back comes to what its row says.
+fn is_step(alloc: Global, map: &FuseMap, row: &StepRow) -> Option<bool> {
+    let known = image_of(&row.known)?;
+    let batch = image_of(&row.batch)?;
+    let readback = shown(alloc, map, &row.chip)?;
+    let (verdict, after) = compare(map, &known, &batch.burnt, &batch.keys, &readback);
+    Some(is_told(&verdict, &row.told)? && are_part(&after.burnt, &after.keys, &row.after)?)
+}
 
 /// Whether a chip whose batch was burnt in full, and that shows all that its locks let it, is read
 /// back as a match.
@@ -256,13 +414,13 @@ fn is_read_back(map: &FuseMap, before: &Image, after: &Image, batch: &Bits, keys
         shown: visible.keys,
     };
     let (verdict, known) = compare(map, before, batch, keys, &readback);
-    is_match(&verdict) && known.burnt.to_words() == after.burnt.to_words()
+    matches!(verdict, Verdict::Match) && known.burnt.to_words() == after.burnt.to_words()
 }
 
 /// Whether a wish can be burnt on a blank chip, and each of its batches is read back as a match.
-fn is_burnt_in_full(map: &FuseMap, wish: Wish) -> bool {
+fn is_burnt_in_full(map: &FuseMap, field: Name, want: Want) -> bool {
     let blank = Image::empty();
-    let Ok(work) = plan(map, &blank, &[wish]) else {
+    let Ok(work) = plan(map, &blank, &[Wish { field, want }]) else {
         return false;
     };
     let first = Image {
@@ -278,70 +436,76 @@ fn is_burnt_in_full(map: &FuseMap, wish: Wish) -> bool {
 }
 
 /// Whether each bit of a field can be burnt in full.
-fn are_bits_burnt(map: &FuseMap, field: &str, count: u64) -> Result<bool, Fail> {
+fn are_bits_burnt(map: &FuseMap, field: &str, count: u64) -> Option<bool> {
+    let field = Name::parse(field)?;
     for index in 0..count {
-        if !is_burnt_in_full(map, wish(field, Want::Bit(index))?) {
-            return Ok(false);
+        if !is_burnt_in_full(map, field, Want::Bit(index)) {
+            return Some(false);
         }
     }
-    Ok(true)
+    Some(true)
+}
+
+/// Whether a wish can be burnt in full.
+fn is_wish_burnt(map: &FuseMap, row: &WishRow) -> Option<bool> {
+    Some(is_burnt_in_full(map, Name::parse(row.0)?, want(row.1)?))
+}
+
+/// Whether a text is read as the number of these words.
+fn is_number(text: &str, words: &Option<[u32; 8]>) -> bool {
+    match (Number::parse(text), words) {
+        (Some(number), Some(words)) => number == Number::new(*words),
+        (None, None) => true,
+        _ => false,
+    }
 }
 
 #[test]
-fn each_bit_is_read_back(rt: HostRuntime) -> Result<(), Fail> {
-    let map = read_map(rt.alloc(), MAP)?;
-    for (field, count) in PLAIN {
-        assert!(rt; are_bits_burnt(&map, field, count)?);
+fn plans_wishes_and_tells_their_faults(rt: HostRuntime) -> Result<(), Fail> {
+    let alloc = rt.alloc();
+    let map = read_map(alloc, MAP)?;
+    for row in FAULTS {
+        assert!(rt;
+            fault_of(alloc, &map, &row.0, row.1) == Some(row.2),
+            "{}",
+            row.2
+        );
+    }
+    for row in PLANS {
+        assert!(rt; is_planned(alloc, &map, row) == Some(true), "{:?}", row.3);
     }
     Ok(())
 }
 
 #[test]
-fn each_key_lock_and_value_is_read_back(rt: HostRuntime) -> Result<(), Fail> {
-    let map = read_map(rt.alloc(), MAP)?;
-    let abc = Digest::of(b"abc");
-    let top = Number::new([0, 0, 0, 0, 0, 0, 0, 0x8000_0000]);
-    for (field, want) in [
-        ("BLOCK1", Want::Key(abc)),
-        ("BLOCK2", Want::Key(abc)),
-        ("JTAG_DISABLE", Want::WriteLock),
-        ("BLOCK1", Want::WriteLock),
-        ("BLOCK1", Want::ReadLock),
-        ("BLOCK2", Want::WriteLock),
-        ("BLOCK2", Want::ReadLock),
-        ("BLOCK3", Want::WriteLock),
-        ("BLOCK3", Want::ReadLock),
-        ("WR_DIS", Want::Value(number(0xffff))),
-        ("RD_DIS", Want::Value(number(15))),
-        ("CODING_SCHEME", Want::Value(number(0))),
-        ("JTAG_DISABLE", Want::Value(number(1))),
-        ("BLOCK3", Want::Value(top)),
-    ] {
-        assert!(rt; is_burnt_in_full(&map, wish(field, want)?));
+fn tells_what_read_backs_come_to(rt: HostRuntime) -> Result<(), Fail> {
+    let alloc = rt.alloc();
+    let map = read_map(alloc, MAP)?;
+    for row in STEPS {
+        assert!(rt; is_step(alloc, &map, row) == Some(true), "{}", row.name);
     }
     Ok(())
 }
 
-/// Whether the text is read as the number of these words, the lowest first.
-fn is_number(text: &str, words: [u32; 8]) -> bool {
-    Number::parse(text) == Some(Number::new(words))
+#[test]
+fn reads_back_what_is_burnt(rt: HostRuntime) -> Result<(), Fail> {
+    let map = read_map(rt.alloc(), MAP)?;
+    for row in FIELDS {
+        assert!(rt;
+            are_bits_burnt(&map, row.0, row.1) == Some(true),
+            "{}",
+            row.0
+        );
+    }
+    for row in WISHES {
+        assert!(rt; is_wish_burnt(&map, row) == Some(true), "{}", row.0);
+    }
+    Ok(())
 }
 
 #[test]
-fn reads_numbers(rt: HostRuntime) -> Result<(), Fail> {
-    assert!(rt; is_number("0", [0; 8]));
-    assert!(rt; is_number("fF", [255, 0, 0, 0, 0, 0, 0, 0]));
-    assert!(rt; is_number("123456789", [0x2345_6789, 1, 0, 0, 0, 0, 0, 0]));
-    assert!(rt;
-        is_number(
-            "8000000000000000000000000000000000000000000000000000000000000001",
-            [1, 0, 0, 0, 0, 0, 0, 0x8000_0000]
-        )
-    );
-    assert!(rt; Number::parse("").is_none() && Number::parse("0x1").is_none());
-    assert!(rt; Number::parse("-1").is_none() && Number::parse("g").is_none());
-    assert!(rt;
-        Number::parse("00000000000000000000000000000000000000000000000000000000000000000").is_none()
-    );
-    Ok(())
+fn reads_numbers(rt: HostRuntime) {
+    for row in NUMBERS {
+        assert!(rt; is_number(row.0, &row.1), "{}", row.0);
+    }
 }

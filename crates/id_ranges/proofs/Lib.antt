@@ -1,5 +1,8 @@
 -- The lemmas of this crate.
 pub mod FreeBlocks
+pub mod Meeting
+pub mod NextNumbers
 pub mod Pools
 pub mod Ranges
 pub mod ReservedStart
+pub mod Texts

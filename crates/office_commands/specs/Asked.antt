@@ -5,7 +5,7 @@ use Rattle.fuse_plan.specs.declared.wish.Want.{Want}
 use Rattle.fuse_plan.specs.declared.wish.Want.TheVariants.{Bit, Value, Key, WriteLock, ReadLock}
 use Rattle.office_commands.specs.NewOrders.{IsNewOrder}
 use Rattle.office_commands.specs.declared.command.Change.{Change}
-use Rattle.office_commands.specs.declared.command.Change.TheVariants.{MakeOrder, ImportMap, RegisterDevice, PlanDevice, ReadBack}
+use Rattle.office_commands.specs.declared.command.Change.TheVariants.{MakeOrder, ImportMap, RegisterDevice, PlanDevice, ReadBack, Identify, Ship, Scrap, Import}
 use Rattle.office_commands.specs.declared.command.Command.{Command}
 use Rattle.office_commands.specs.declared.command.Command.TheVariants.{Change as Changing, Show}
 use Rattle.office_commands.specs.declared.command.Request.{Request}
@@ -24,6 +24,10 @@ IsChange (ImportMap text) = Unit {0}
 IsChange (RegisterDevice d) = Unit {0}
 IsChange (PlanDevice p) = AllByRecursion (λ w. HasDigest w.want) p.wishes
 IsChange (ReadBack r) = Unit {0}
+IsChange (Identify i) = Unit {0}
+IsChange (Ship chip) = Unit {0}
+IsChange (Scrap chip) = Unit {0}
+IsChange (Import i) = Unit {0}
 
 abbrev pub IsCommand : Command → Type 0
 IsCommand (Changing c) = IsChange c

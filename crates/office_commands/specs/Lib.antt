@@ -5,3 +5,4 @@ pub mod Refusals
 pub mod Replies
 pub mod DeviceReplies
 pub mod StepReplies
+pub mod IdentityReplies

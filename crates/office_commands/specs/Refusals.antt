@@ -5,7 +5,7 @@ use Rattle.http_replies.specs.declared.Status.TheVariants.{BadRequest, Unauthori
 use Rattle.fuse_plan.specs.declared.fault.PlanFault.{PlanFault}
 use Rattle.fuse_plan.specs.declared.fault.PlanFault.TheVariants.{UnknownField, UnmappedBit, ValueTooWide, ClearsBurnt, Contradiction, WrongKind, OtherKey, WriteProtected, Hidden, NoLock}
 use Rattle.office_commands.specs.declared.refusal.Refusal.{Refusal}
-use Rattle.office_commands.specs.declared.refusal.Refusal.TheVariants.{UnknownToken, UnknownPath, WrongCaller, BadJson, BadMember, WrongNumber, OtherBody, UnknownMap, UnknownOrder, UnknownDevice, Exists, WrongState, QuantityReached, BadPlan, BadMap, BadSerial, NumberTooWide, NoMacRoom, RangeOverlap, CodingScheme, ForeignIssuer, MapDigestTaken, Limit, BadReadback, Unkept}
+use Rattle.office_commands.specs.declared.refusal.Refusal.TheVariants.{UnknownToken, UnknownPath, WrongCaller, BadJson, BadMember, WrongNumber, OtherBody, UnknownMap, UnknownOrder, UnknownDevice, Exists, WrongState, QuantityReached, BadPlan, BadMap, BadSerial, NumberTooWide, Exhausted, NoMacRoom, RangeOverlap, KeyBound, CodingScheme, ForeignIssuer, ImportConflict, MapDigestTaken, Limit, BadReadback, Unkept}
 
 abbrev pub refusal_status : Refusal → Status
 refusal_status UnknownToken = Unauthorized
@@ -25,10 +25,13 @@ refusal_status (BadPlan fault) = Unprocessable
 refusal_status (BadMap fault) = Unprocessable
 refusal_status BadSerial = Unprocessable
 refusal_status NumberTooWide = Unprocessable
+refusal_status Exhausted = Conflict
 refusal_status NoMacRoom = Conflict
 refusal_status RangeOverlap = Conflict
+refusal_status KeyBound = Conflict
 refusal_status CodingScheme = Unprocessable
 refusal_status ForeignIssuer = Unprocessable
+refusal_status (ImportConflict serial) = Conflict
 refusal_status MapDigestTaken = Conflict
 refusal_status Limit = Conflict
 refusal_status BadReadback = Unprocessable
@@ -65,10 +68,13 @@ refusal_body (BadPlan fault) = plan_fault_body fault
 refusal_body (BadMap fault) = codes "{\"error\":\"bad_map\",\"fault\":" ++ (decimal fault ++ codes ",\"no\":29}")
 refusal_body BadSerial = codes "{\"error\":\"bad_serial\",\"no\":30}"
 refusal_body NumberTooWide = codes "{\"error\":\"number_too_wide\",\"no\":31}"
+refusal_body Exhausted = codes "{\"error\":\"exhausted\",\"no\":32}"
 refusal_body NoMacRoom = codes "{\"error\":\"no_mac_room\",\"no\":33}"
 refusal_body RangeOverlap = codes "{\"error\":\"range_overlap\",\"no\":34}"
+refusal_body KeyBound = codes "{\"error\":\"key_bound\",\"no\":35}"
 refusal_body CodingScheme = codes "{\"error\":\"coding_scheme\",\"no\":36}"
 refusal_body ForeignIssuer = codes "{\"error\":\"foreign_issuer\",\"no\":37}"
+refusal_body (ImportConflict serial) = codes "{\"error\":\"import_conflict\",\"no\":38,\"serial\":\"" ++ (serial ++ codes "\"}")
 refusal_body MapDigestTaken = codes "{\"error\":\"map_digest_taken\",\"no\":39}"
 refusal_body Limit = codes "{\"error\":\"limit\",\"no\":40}"
 refusal_body BadReadback = codes "{\"error\":\"bad_readback\",\"no\":41}"

@@ -37,15 +37,15 @@ mac_data (Some mac) = string (mac_text mac)
 -- an order with its next serial number, its members in byte order
 abbrev pub order_data : Order → Option (List ℕ) → Data
 order_data o next = object (members_of (
-    (codes "first", whole_data o.first) ∷
+    (codes "first", whole_data o.range.first) ∷
     (codes "issuer", string o.issuer) ∷
     (codes "mac", mac_data o.mac) ∷
     (codes "macs", whole_data o.macs) ∷
     (codes "name", string o.name) ∷
     (codes "next", text_data next) ∷
-    (codes "prefix", string o.prefix) ∷
-    (codes "quantity", whole_data o.quantity) ∷
-    (codes "width", whole_data o.width) ∷ []))
+    (codes "prefix", string o.range.prefix) ∷
+    (codes "quantity", whole_data o.range.quantity) ∷
+    (codes "width", whole_data o.range.width) ∷ []))
 
 -- the text of that
 unfoldable pub order_body : Order → Option (List ℕ) → List ℕ

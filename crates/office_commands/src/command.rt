@@ -1,7 +1,7 @@
 // What a seat can ask for.
 ghost use Rattle.office_commands.specs.Asked.{IsAsked};
 
-use crate::{AskedOrder, NewDevice, NewPlan, NewReadBack};
+use crate::{AskedOrder, NewDevice, NewIdentity, NewImport, NewPlan, NewReadBack};
 use text_core::{Chip, Digest, Name, Text};
 
 /// A command that writes.
@@ -17,6 +17,14 @@ pub enum Change {
     PlanDevice(NewPlan),
     /// Compares what a device shows with what was to be burnt.
     ReadBack(NewReadBack),
+    /// Gives a device its serial number.
+    Identify(NewIdentity),
+    /// Ships a device, by its chip.
+    Ship(Chip),
+    /// Scraps a device, by its chip.
+    Scrap(Chip),
+    /// Gives serial numbers that were handed out elsewhere.
+    Import(NewImport),
 }
 
 /// A command that shows something and writes nothing.

@@ -3,7 +3,9 @@
 
 mod command;
 mod device_reply;
+mod identity_reply;
 mod new_device;
+mod new_identity;
 mod new_order;
 mod new_plan;
 mod refusal;
@@ -12,7 +14,9 @@ mod step_reply;
 
 pub use command::{Change, Command, Request, Show};
 pub use device_reply::{device_body, ledger_body};
+pub use identity_reply::{identity_body, import_body, state_body};
 pub use new_device::NewDevice;
+pub use new_identity::{NewIdentity, NewImport};
 pub use new_order::{AskedOrder, NewOrder};
 pub use new_plan::{NewPlan, NewReadBack, Wishes};
 pub use refusal::Refusal;

@@ -4,11 +4,13 @@ ghost use Rattle.office_commands.specs.Refusals.{refusal_status};
 
 use fuse_plan::PlanFault;
 use http_replies::Status;
+use std::fmt;
+use text_core::Serial;
 use thiserror::Error;
 
 /// Why a request is refused, in the order of the refusals' numbers: where several hold, the first
 /// is answered.
-#[derive(Clone, Copy, Debug, PartialEq, Eq, Drop, Error)]
+#[derive(Clone, Copy, PartialEq, Eq, Drop, Error)]
 pub enum Refusal {
     /// Nobody has the token, or there is none (6).
     #[error("unknown token")]
@@ -61,18 +63,28 @@ pub enum Refusal {
     /// The last number has more digits than the width (31).
     #[error("the last number has more digits than the width")]
     NumberTooWide,
+    /// Each number of the order is given (32).
+    #[error("each number of the order is given")]
+    Exhausted,
     /// No pool has room for the addresses (33).
     #[error("no pool has room for the addresses")]
     NoMacRoom,
     /// Another order has one of the numbers (34).
     #[error("another order has one of the numbers")]
     RangeOverlap,
+    /// The key is bound to another serial number of the issuer (35).
+    #[error("the key is bound to another serial number of the issuer")]
+    KeyBound,
     /// The chip has another coding scheme than None, or hides which it has (36).
     #[error("the chip has another coding scheme than None, or hides which it has")]
     CodingScheme,
     /// The issuer isn't among the customer's (37).
     #[error("the issuer is not among the customer's")]
     ForeignIssuer,
+    /// A row of an import is at odds with what is given: its serial number has another key, or its
+    /// key another serial number (38).
+    #[error("the serial number {0} or its key is given otherwise")]
+    ImportConflict(Serial),
     /// Another text of the customer's has the digest of this one (39).
     #[error("another map of the customer's has the digest")]
     MapDigestTaken,
@@ -105,8 +117,11 @@ impl Refusal {
             | Refusal::Exists
             | Refusal::WrongState
             | Refusal::QuantityReached
+            | Refusal::Exhausted
             | Refusal::NoMacRoom
             | Refusal::RangeOverlap
+            | Refusal::KeyBound
+            | Refusal::ImportConflict(_)
             | Refusal::MapDigestTaken
             | Refusal::Limit => Status::Conflict,
             Refusal::BadPlan(_)
@@ -118,5 +133,11 @@ impl Refusal {
             | Refusal::BadReadback => Status::Unprocessable,
             Refusal::Unkept => Status::Unavailable,
         }
+    }
+}
+
+impl fmt::Debug for Refusal {
+    fn fmt<W: fmt::Write>(&self, f: &mut fmt::Formatter<W>) -> fmt::Result {
+        fmt::Display::fmt(self, f)
     }
 }

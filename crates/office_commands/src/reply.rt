@@ -106,10 +106,18 @@ fn refusal_text(alloc: Global, reason: Refusal) -> Result<Body, AllocError>
         }
         Refusal::BadSerial => "{\"error\":\"bad_serial\",\"no\":30}",
         Refusal::NumberTooWide => "{\"error\":\"number_too_wide\",\"no\":31}",
+        Refusal::Exhausted => "{\"error\":\"exhausted\",\"no\":32}",
         Refusal::NoMacRoom => "{\"error\":\"no_mac_room\",\"no\":33}",
         Refusal::RangeOverlap => "{\"error\":\"range_overlap\",\"no\":34}",
+        Refusal::KeyBound => "{\"error\":\"key_bound\",\"no\":35}",
         Refusal::CodingScheme => "{\"error\":\"coding_scheme\",\"no\":36}",
         Refusal::ForeignIssuer => "{\"error\":\"foreign_issuer\",\"no\":37}",
+        Refusal::ImportConflict(serial) => {
+            let serial = serial.as_str();
+            return Ok(Body::Json(format!(in alloc;
+                "{{\"error\":\"import_conflict\",\"no\":38,\"serial\":\"{serial}\"}}"
+            )?));
+        }
         Refusal::MapDigestTaken => "{\"error\":\"map_digest_taken\",\"no\":39}",
         Refusal::Limit => "{\"error\":\"limit\",\"no\":40}",
         Refusal::BadReadback => "{\"error\":\"bad_readback\",\"no\":41}",
@@ -117,7 +125,7 @@ fn refusal_text(alloc: Global, reason: Refusal) -> Result<Body, AllocError>
     }))
 }
 
-fn text_value(alloc: Global, text: Option<&str>) -> Result<Value, AllocError>
+pub(crate) fn text_value(alloc: Global, text: Option<&str>) -> Result<Value, AllocError>
     ensures { IfOk result (λ v. view v ≡ text_data (option_map (λ t. t.now) text.entry)) }
 {
     match text {
@@ -126,7 +134,7 @@ fn text_value(alloc: Global, text: Option<&str>) -> Result<Value, AllocError>
     }
 }
 
-fn mac_value(alloc: Global, mac: Option<Mac>) -> Result<Value, AllocError>
+pub(crate) fn mac_value(alloc: Global, mac: Option<Mac>) -> Result<Value, AllocError>
     ensures { IfOk result (λ v. view v ≡ mac_data mac) }
 {
     match mac {
@@ -141,15 +149,15 @@ fn order_value(alloc: Global, order: &Order, next: Option<&str>) -> Result<Value
     let mac = mac_value(alloc, order.mac)?;
     let next = text_value(alloc, next)?;
     json!(in alloc; {
-        "first": order.first,
+        "first": order.range.first(),
         "issuer": order.issuer.as_str(),
         "mac": mac,
         "macs": order.macs,
         "name": order.name.as_str(),
         "next": next,
-        "prefix": order.prefix.as_str(),
-        "quantity": order.quantity,
-        "width": order.width
+        "prefix": order.range.prefix().as_str(),
+        "quantity": order.range.quantity(),
+        "width": order.range.width()
     })
 }
 

@@ -10,8 +10,8 @@ ghost use Rattle.office_judges.specs.Judging.{IsJudged};
 
 use crate::Judgement;
 use crate::placed_device::find_placed;
-use crate::steps::accept_step;
-use fuse_columns::{Work, decode_bits, decode_keys, encode_bits, encode_keys, encode_todo};
+use crate::steps::{accept_step, without_addition};
+use fuse_columns::{Work, decode_bits, decode_keys, encode_todo};
 use fuse_image::{Bits, Image, Keys};
 use fuse_plan::{Wish, plan};
 use fusemap_core::FuseMap;
@@ -69,21 +69,17 @@ pub(crate) fn no_work() -> Work
 
 /// The step that gives a device its work.
 fn with_work(map: &FuseMap, device: &Device, work: &Work) -> DeviceStep
-    ensures { result ≡ rules.without_addition map.now (record device.now {
+    ensures { result ≡ rules.without_addition Event.Planned map.now (record device.now {
       state = rules.state_with work.now;
       todo = todo_column map.now work.now;
     }) }
 {
-    DeviceStep {
-        device: Device {
-            state: state_with(work),
-            todo: encode_todo(map, work),
-            ..*device
-        },
-        event: Event::Planned,
-        bits: encode_bits(map, &Bits::empty()),
-        keys: encode_keys(map, &Keys::empty()),
-    }
+    let device = Device {
+        state: state_with(work),
+        todo: encode_todo(map, work),
+        ..*device
+    };
+    without_addition(map, Event::Planned, device)
 }
 
 /// The work of some wishes, or the lowest refusal of them.

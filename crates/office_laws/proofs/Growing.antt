@@ -11,7 +11,7 @@ use Rattle.office_tables.specs.declared.rows.NewEntry.{NewEntry}
 use Rattle.office_tables.specs.declared.rows.Order.{Order}
 use Rattle.office_tables.specs.declared.rows.Owned.{Owned}
 use Rattle.office_tables.specs.declared.rows.SeatState.{SeatState}
-use Rattle.office_tables.specs.Tables.{Tables, device_at, device_cmp, is_device, link_at, map_at, placed, with_device, with_link, with_map, with_new_entry, with_order, with_seat}
+use Rattle.office_tables.specs.Tables.{Tables, device_at, device_cmp, given_at, is_device, link_at, map_at, placed, with_device, with_link, with_map, with_new_entry, with_order, with_seat}
 use Rattle.office_tables.proofs.Finding.{other_placed}
 use Rattle.office_rules.specs.Devices.{map_named}
 use Rattle.office_rules.specs.StepRules.{known_of}
@@ -42,20 +42,22 @@ pub grows_itself : (t : Tables) → Grows t t
 grows_itself t = record {
   devices = λ customer chip. device_itself (λ old. map_named customer old.row.map t) (device_at customer chip t);
   maps = λ customer digest. some_itself (map_named customer digest t);
+  given = λ issuer serial. some_itself (given_at issuer serial t);
 }
 
 -- a seat's row is neither a device nor a fuse map, and nor is an order
 pub seat_grows : (t mid : Tables) (s : Owned SeatState) → Grows t mid → Grows t (with_seat s mid)
-seat_grows t mid s grows = record { devices = grows.devices; maps = grows.maps }
+seat_grows t mid s grows = record { devices = grows.devices; maps = grows.maps; given = grows.given }
 
 pub order_grows : (t : Tables) (o : Owned Order) → Grows t (with_order o t)
-order_grows t o = record { devices = (grows_itself t).devices; maps = (grows_itself t).maps }
+order_grows t o = record { devices = (grows_itself t).devices; maps = (grows_itself t).maps; given = (grows_itself t).given }
 
 -- a link by a digest that its customer had none of, after what kept all
 pub link_grows : (t mid : Tables) (l : Owned Link) → link_at l.customer l.row.digest mid ≡ None → Grows t mid → Grows t (with_link l mid)
 link_grows t mid l none grows = record {
   devices = grows.devices;
   maps = λ customer digest. by customer digest (map_named customer digest t) (grows.maps customer digest);
+  given = grows.given;
 }
   where
     by : (customer digest : List ℕ) (found : Option Map) → IfSome found (λ m. map_named customer digest mid ≡ Some m) → IfSome found (λ m. map_named customer digest (with_link l mid) ≡ Some m)
@@ -67,6 +69,7 @@ pub map_grows : (t : Tables) (id : ℕ) (body : List ℕ) → map_at id t ≡ No
 map_grows t id body fresh linked = record {
   devices = (grows_itself t).devices;
   maps = λ customer digest. by customer digest (map_named customer digest t) refl;
+  given = (grows_itself t).given;
 }
   where
     by : (customer digest : List ℕ) (found : Option Map) → map_named customer digest t ≡ found → IfSome found (λ m. map_named customer digest (with_map (record { id = id; body = body }) t) ≡ Some m)
@@ -97,4 +100,5 @@ module _ (t : Tables) (d : Owned Device) (stays : (old : Owned Device) → devic
   device_grows e id = record {
     devices = λ customer chip. kept customer chip (device_at customer chip t) refl;
     maps = (grows_itself t).maps;
+    given = (grows_itself t).given;
   }

@@ -1,6 +1,6 @@
 -- A step acts on the customer's view as the customer's own machine does, leaves each other view, keeps the tables sound, and forgets nothing that was burnt.
 use Rattle.std.proofs.Common.{◌≡◌, ◌+◌, ℕ, arith, Bool, true, false, cond, List, [], ◌∷◌, ◌++◌, map, Option, Some, None, Equal, refl, sym, ap, ◌∙◌, subst}
-use Rattle.std.specs.Prelude.{◌||◌, MatchOption, is_some, not, if◌then◌else◌}
+use Rattle.std.specs.Prelude.{MatchOption, is_some, not, if◌then◌else◌}
 use Rattle.std.specs.List.{AllByRecursion, list_any}
 use Rattle.std.specs.Option.{option_map}
 use Rattle.std.specs.Str.{bytes_eq}
@@ -27,17 +27,21 @@ use Rattle.office_commands.specs.declared.command.Request.{Request}
 use Rattle.office_commands.specs.declared.command.Command.{Command}
 use Rattle.office_commands.specs.declared.command.Command.TheVariants.{Change as Changing, Show}
 use Rattle.office_commands.specs.declared.command.Change.{Change}
-use Rattle.office_commands.specs.declared.command.Change.TheVariants.{MakeOrder, ImportMap, RegisterDevice, PlanDevice, ReadBack}
+use Rattle.office_commands.specs.declared.command.Change.TheVariants.{MakeOrder, ImportMap, RegisterDevice, PlanDevice, ReadBack, Identify, Ship, Scrap, Import}
 use Rattle.office_commands.specs.declared.command.Show.TheVariants.{Order as ShowOrder, Device as ShowDevice, Ledger as ShowLedger}
 use Rattle.office_commands.specs.declared.refusal.Refusal.{Refusal}
 use Rattle.office_commands.specs.declared.refusal.Refusal.TheVariants.{BadReadback}
 use Rattle.office_commands.specs.Replies.{acceptance, refusal, order_body, map_body}
 use Rattle.office_rules.specs.Rules.{lowest}
-use Rattle.office_rules.specs.Orders.{next_of, shown_order, wanted_by}
+use Rattle.office_rules.specs.Orders.{body_with, next_of, shown_order, wanted_by}
 use Rattle.office_rules.specs.MapFaults.{map_fault}
 use Rattle.office_rules.specs.Maps.{Imports, Links, bad_map}
 use Rattle.office_rules.specs.Devices.{map_named, map_text, own_entry, refusals_by, RegistersBy, StepsFound, StepsWith}
 use Rattle.office_rules.specs.StepRules.{Does, is_awaited, known_of, may_be_planned, plan_refusals, plans, read_refusals, reads}
+use Rattle.office_rules.specs.EndRules.{may_be_shipped, scraps, ship_refusals, ships}
+use Rattle.office_laws.proofs.Ends.{scrap_keeps, ship_keeps}
+use Rattle.office_laws.proofs.IdentityLaws.{identity_made}
+use Rattle.office_laws.proofs.ImportLaws.{imports_made}
 use Rattle.office_laws.proofs.Planning.{missing_digests, plan_keeps, unnumbered_from}
 use Rattle.office_laws.proofs.ReadingBack.{read_keeps, unnumbered_awaited}
 use Rattle.fuse_columns.specs.Lying.{ReadBackLies}
@@ -70,7 +74,7 @@ use Rattle.office_laws.specs.SoundDevices.{IsKept}
 use Rattle.office_laws.specs.SoundRecords.{IsNumbered, IsGivenBelow, IsRecordOf}
 use Rattle.office_laws.proofs.MapRows.{map_of_text, new_map_found}
 use Rattle.office_laws.proofs.Placed.{first_equal, map_placed, same_place}
-use Rattle.office_laws.proofs.Readings.{find_holds, map_own, wanted_own, same_text, text_itself, seats_total, orders_total, order_agree, owner_is, seat_own, order_own, map_named_own, device_found_own, entries_own, next_own, order_issuer, refusals_own}
+use Rattle.office_laws.proofs.Readings.{find_holds, map_own, wanted_own, text_itself, seats_total, orders_total, order_agree, owner_is, seat_own, order_own, map_named_own, device_found_own, entries_own, issuer_owner, lowest_own, next_own, order_next_own}
 
 module _ {owners : Owners} {t : Tables} (sound : IsSound owners t) where
   order_sound : (c : List ℕ) (o : Order) → owners.issuer o.issuer ≡ Some c → IsOrder o → IsInPool owners (record { customer = c; row = o })
@@ -96,7 +100,7 @@ module _ {owners : Owners} {t : Tables} (sound : IsSound owners t) where
       records = all_map (λ g. IsRecordOf t.orders t.devices g g.row.chip) (λ g. IsRecordOf (placed order_cmp (record { customer = c; row = o }) t.orders) t.devices g g.row.chip)
           (λ g is. record_after_order t.orders t.devices g (record { customer = c; row = o }) new g.row.chip is) t.given sound.records.records;
       numbered = sound.records.numbered;
-      cursors = all_placed (IsGivenBelow t.given) order_cmp _ t.orders (λ n least below. let start : o.first ≡ o.cursor = ap (λ (x : Order). x.cursor) first in absurd (omega (arith, least, below, start))) sound.records.cursors;
+      cursors = all_placed (IsGivenBelow t.given) order_cmp _ t.orders (λ n least below. let start : o.range.first ≡ o.cursor = ap (λ (x : Order). x.cursor) first in absurd (omega (arith, least, below, start))) sound.records.cursors;
     };
     devices = referred_after_order owners (λ customer digest. map_named customer digest t) t.orders t.links t.devices t.ledger (record { customer = c; row = o }) sound.devices;
   }
@@ -206,21 +210,17 @@ module _ {owners : Owners} {t : Tables} (sound : IsSound owners t) (apart : AreA
     other = λ d _ i. view d (same i);
   }
 
-  any_owner : (i : List ℕ) (own_issuers : List (List ℕ)) → AllByRecursion (λ i. owners.issuer i ≡ Some s.name) own_issuers → list_any (bytes_eq i) own_issuers ≡ true → owners.issuer i ≡ Some s.name
-  any_owner i [] all e = cc
-  any_owner i (j ∷ js) all e =
-      elim (bytes_eq i j) as (λ b. bytes_eq i j ≡ b → (b || list_any (bytes_eq i) js) ≡ true → owners.issuer i ≡ Some s.name) [
-        | true ↦ λ same _. ap owners.issuer (same_text i j same) ∙ all.0
-        | false ↦ λ _ later. any_owner i js all.1 later
-      ] refl e
+  -- below the first number there is none
+  none_below : (o : Order) → at_first o ≡ o → IsGivenBelow t.given (record { customer = s.name; row = o })
+  none_below o first n least below = let start : o.range.first ≡ o.cursor = ap (λ (x : Order). x.cursor) first in absurd (omega (arith, least, below, start))
 
   order_made : (o : Order) (body : List ℕ) (mid : Tables) → at_first o ≡ o → owners.issuer o.issuer ≡ Some s.name → IsOrder o → IsInPool owners (record { customer = s.name; row = o })
-      → AllByRecursion (λ other. AreDisjoint o other.row) t.orders → order_at s.name o.name t ≡ None → body ≡ order_body o (next_of t o) → mid ≡ with_order (record { customer = s.name; row = o }) t
-      → Makes owners s.name t body mid (order_body o (own_next (view s.name t) o), (let v = view s.name t in record v { orders = placed own_order_cmp o v.orders }))
+      → AllByRecursion (λ other. AreDisjoint o other.row) t.orders → order_at s.name o.name t ≡ None → body ≡ body_with o (next_of t o) → mid ≡ with_order (record { customer = s.name; row = o }) t
+      → Makes owners s.name t body mid (body_with o (own_next (view s.name t) o), (let v = view s.name t in record v { orders = placed own_order_cmp o v.orders }))
   order_made o body mid first mine terms in_pool disjoint new text is = record {
     sound = subst (IsSound owners) (sym is) (order_sound sound s.name o mine terms in_pool disjoint new first);
     grows = subst (Grows t) (sym is) (order_grows t (record { customer = s.name; row = o }));
-    own = λ i. ((text ∙ ap (order_body o) (next_own sound s.name o mine)) i, (ap (view s.name) is ∙ order_view sound s.name o first) i);
+    own = λ i. ((text ∙ ap (body_with o) (next_own sound s.name o mine (none_below o first))) i, (ap (view s.name) is ∙ order_view sound s.name o first) i);
     other = λ d ne. ap (view d) is ∙ order_hidden sound s.name d o ne;
   }
 
@@ -319,8 +319,8 @@ module _ {owners : Owners} {t : Tables} (sound : IsSound owners t) (apart : AreA
   made : (seat : List ℕ) (change : Change) (body : List ℕ) (mid : Tables) → IsChange change → lowest (refusals s t change) ≡ None → Changes s seat t change body mid → Makes owners s.name t body mid (own_change s seat (view s.name t) change)
   made seat (MakeOrder o) body mid asked free change =
       let none = lowest_none (refusals s t (MakeOrder o)) free in
-      let mine : owners.issuer o.issuer ≡ Some s.name = any_owner o.issuer s.issuers section.issuers (not-false _ none.1.1.1.1.1.0) in
-      subst (λ (w : Order). Makes owners s.name t body mid (order_body w (own_next (view s.name t) w), (let v = view s.name t in record v { orders = placed own_order_cmp w v.orders }))) (wanted_own s t o)
+      let mine : owners.issuer o.issuer ≡ Some s.name = issuer_owner s section o.issuer (not-false _ none.1.1.1.1.1.0) in
+      subst (λ (w : Order). Makes owners s.name t body mid (body_with w (own_next (view s.name t) w), (let v = view s.name t in record v { orders = placed own_order_cmp w v.orders }))) (wanted_own s t o)
       (order_made (wanted_by s t o) body mid refl mine (wanted_terms s t o asked none) (wanted_in_pool owners s section t o) (wanted_apart owners apart s section t o sound.in_pools) change.0 change.1 change.2)
   made seat (RegisterDevice d) body mid asked free change =
       subst (λ (found : Option Map). Makes owners s.name t body mid (own_register seat (view s.name t) d found)) (map_named_own sound s d.map)
@@ -344,6 +344,19 @@ module _ {owners : Owners} {t : Tables} (sound : IsSound owners t) (apart : AreA
       let lies : ReadBackLies m r.blocks = read_backs_lie m r.blocks fit in
       read_keeps m (found_is_map (map_text s.name old.row.map t) m known) old.row (redacted m r.blocks) lies.ones lies.shown may
       (unnumbered_awaited old (find_holds IsNumbered (is_device s.name r.chip) t.devices old sound.records.numbered there).0 may)) change)
+  made seat (Ship chip) body mid asked free change =
+      subst (λ (found : Option FoundDevice). Makes owners s.name t body mid (own_steps seat (view s.name t) ships found)) (device_found_own sound s chip)
+      (found_made seat ships chip body mid (device_at s.name chip t) refl
+      (λ old m there known.
+      let refused : lowest (ship_refusals m old.row) ≡ None = rw (there, known) at free in
+      ship_keeps m (found_is_map (map_text s.name old.row.map t) m known) old.row (not-false _ (first_is_false (not (may_be_shipped old.row.state)) _ _ refused))) change)
+  made seat (Scrap chip) body mid asked free change =
+      subst (λ (found : Option FoundDevice). Makes owners s.name t body mid (own_steps seat (view s.name t) scraps found)) (device_found_own sound s chip)
+      (found_made seat scraps chip body mid (device_at s.name chip t) refl
+      (λ old m there known. scrap_keeps m (found_is_map (map_text s.name old.row.map t) m known) old.row) change)
+  made seat (Identify i) body mid asked free change = identity_made sound s section seat i body mid free change
+  made seat (Import i) body mid asked free change =
+      imports_made sound s section i.issuer i.rows body mid (issuer_owner s section i.issuer (not-false _ (first_is_false (not (list_any (bytes_eq i.issuer) s.issuers)) _ _ (later_is_none (not (is_some i.rows)) _ _ free)))) change
   made seat (ImportMap text) body mid asked free change =
       subst (λ (found : Option OwnMap). Makes owners s.name t body mid (map_body (sha256 text), own_import (view s.name t) text found)) (map_own sound s.name (sha256 text))
       (import_made text body mid (link_at s.name (sha256 text) t) refl (no_fault_of text (map_fault text) _ refl free) change.0 change.1)
@@ -353,7 +366,7 @@ module _ {owners : Owners} {t : Tables} (sound : IsSound owners t) (apart : AreA
       → Obeys owners s.name t reply t2 (own_judgement seat r (view s.name t) (own_change s seat (view s.name t) change) (lowest (own_refusals s (view s.name t) change)))
   judged seat r change reply t2 asked mine j =
       let own = own_change s seat (view s.name t) change in
-      subst (λ v. Obeys owners s.name t reply t2 (own_judgement seat r (view s.name t) own v)) (ap lowest (refusals_own sound s change))
+      subst (λ v. Obeys owners s.name t reply t2 (own_judgement seat r (view s.name t) own v)) (lowest_own sound s section change)
       (elim (lowest (refusals s t change)) as (λ v. lowest (refusals s t change) ≡ v → MatchOption v
       ((body : List ℕ) × (mid : Tables) × Changes s seat t change body mid × (reply ≡ acceptance body) × (t2 ≡ with_seat (settled s.name seat r body) mid))
       (λ reason. (reply ≡ refusal reason) × (t2 ≡ t)) → Obeys owners s.name t reply t2 (own_judgement seat r (view s.name t) own v)) [
@@ -381,7 +394,7 @@ module _ {owners : Owners} {t : Tables} (sound : IsSound owners t) (apart : AreA
   shown_order_own : (name : List ℕ) (found : Option (Owned Order)) → order_at s.name name t ≡ found → shown_order t found ≡ own_shown_order (view s.name t) (option_map (λ o. at_first o.row) found)
   unfolding order_body
   shown_order_own name None e = refl
-  shown_order_own name (Some o) e = ap (λ n. acceptance (order_body o.row n)) (next_own sound s.name o.row (order_issuer sound s.name name o e))
+  shown_order_own name (Some o) e = ap (λ n. acceptance (body_with o.row n)) (order_next_own sound s.name name o e)
 
   served : (seat : List ℕ) (r : Request) (command : Command) (reply : Answer) (t2 : Tables) → IsCommand command → owners.seat seat ≡ Some s.name
       → Serves s seat r t command reply t2 → Obeys owners s.name t reply t2 (own_serves s seat r (view s.name t) command)

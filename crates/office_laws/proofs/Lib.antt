@@ -2,9 +2,16 @@
 mod Additions
 mod Addresses
 mod Appended
+pub mod CursorLaws
 mod DeviceLaws
 mod DeviceRows
+pub mod Ends
+pub mod Fresh
 pub mod Growing
+pub mod GivenLaws
+pub mod IdentityLaws
+pub mod ImportLaws
+pub mod ImportSteps
 mod Kept
 mod Laws
 mod Makes
@@ -15,10 +22,12 @@ mod Placed
 mod Planning
 mod ReadingBack
 mod Readings
+pub mod RecordAddresses
 mod RecordRows
 mod Registrations
 pub mod Sounding
 mod StepLaws
 mod Steps
 mod Terms
+mod Unread
 mod Within

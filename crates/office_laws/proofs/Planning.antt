@@ -1,5 +1,5 @@
 -- A plan keeps of its device what its map asks for.
-use Rattle.std.proofs.Common.{◌≡◌, ◌++◌, ◌∙◌, ℕ, Bool, true, false, List, [], ◌∷◌, Option, Some, None, Ok, refl, sym, ap, subst}
+use Rattle.std.proofs.Common.{◌≡◌, ◌∙◌, ℕ, Bool, true, false, List, [], ◌∷◌, Option, Some, None, Ok, refl, sym, ap, subst, true≢false}
 use Rattle.std.specs.Prelude.{◌&&◌, ◌==◌, map as list_map, if◌then◌else◌, is_some, length, nat_lt, option_and_then, IfSome}
 use Rattle.std.specs.Option.{option_or}
 use Rattle.std.specs.List.{AllByRecursion}
@@ -7,17 +7,12 @@ use Rattle.std.specs.FinMap as table
 use Rattle.std.specs.FinSet as set
 use Rattle.std.proofs.lemmas.Bool.{eqb-true}
 use Rattle.fusemap_core.specs.Map.{IsMap, Map, field_named}
-use Rattle.fuse_image.specs.Image as image
 use Rattle.fuse_image.specs.Keys.{HoldsDigests, KeyTable, get-table_where, has_no_key, table_where, without}
 use Rattle.fuse_image.specs.Places.{Positions, is_empty}
 use Rattle.fuse_image.specs.declared.image.Image.{Image}
-use Rattle.fuse_columns.specs.BitsColumns.{bits_column}
-use Rattle.fuse_columns.specs.Images.{image_in}
-use Rattle.fuse_columns.specs.KeysColumns.{keys_column}
 use Rattle.fuse_columns.specs.TodoColumns.{IsWork, todo_column, work_in}
 use Rattle.fuse_columns.specs.declared.todo.Work.{Work}
-use Rattle.fuse_columns.proofs.LawProofs.{bits_come_back, image_comes_back, keys_come_back, work_comes_back}
-use Rattle.fuse_columns.proofs.Lies.{sets_stay, tables_stay}
+use Rattle.fuse_columns.proofs.LawProofs.{work_comes_back}
 use Rattle.fuse_plan.specs.Plans as plans
 use Rattle.fuse_plan.specs.Plans.{faults, plan_of}
 use Rattle.fuse_plan.specs.Wishes.{key_in, missing, wanted_key, wanted_keys, wants_of}
@@ -31,7 +26,6 @@ use Rattle.fuse_plan.proofs.Pending.{plan_law}
 use Rattle.office_tables.specs.declared.rows.Device.{Device}
 use Rattle.office_tables.specs.declared.rows.DeviceState.{DeviceState}
 use Rattle.office_tables.specs.declared.rows.DeviceState.TheVariants.{Registered, AwaitingFirst, AwaitingSecond, Settled, Identified, Shipped, Quarantined, Scrapped}
-use Rattle.office_tables.specs.declared.rows.Entry.{Entry}
 use Rattle.office_tables.specs.declared.rows.Owned.{Owned}
 use Rattle.office_commands.specs.declared.refusal.Refusal.TheVariants.{BadPlan}
 use Rattle.office_rules.specs.Rules.{lowest}
@@ -40,11 +34,9 @@ use Rattle.office_rules.proofs.Refusing.{later_is_none, none_from_test}
 use Rattle.office_commands.specs.Asked.{HasDigest}
 use Rattle.office_laws.specs.Pending.{IsAwaited, IsOfState}
 use Rattle.office_laws.specs.SoundRecords.{IsNumbered, is_identified}
-use Rattle.office_laws.specs.SoundDevices.{AreColumns}
-use Rattle.office_laws.proofs.Additions.{all_added_with}
-use Rattle.office_laws.proofs.DeviceRows.{columns_alone}
 use Rattle.office_laws.proofs.StepLaws.{Keeps}
-use Rattle.office_laws.proofs.Within.{within_itself}
+use Rattle.office_laws.proofs.Unread.{unread_keeps}
+use Rattle.office_tables.specs.declared.rows.Event.TheVariants as event
 
 -- wishes that nothing refuses have no fault
 no_fault_from : (cs : List (Bool × PlanFault)) → lowest (list_map (λ c. (c.0, BadPlan c.1)) cs) ≡ None → plans.lowest cs ≡ None
@@ -54,11 +46,6 @@ no_fault_from (c ∷ cs) free =
       | true ↦ λ free. cc
       | false ↦ λ free. no_fault_from cs free
     ] free
-
--- what holds of some entries and of one more holds of all
-pub all_with : {A : Type 0} (P : A → Type 0) (xs : List A) (x : A) → AllByRecursion P xs → P x → AllByRecursion P (xs ++ x ∷ [])
-all_with P [] x all is = (is, tt)
-all_with P (y ∷ ys) x all is = (all.0, all_with P ys x all.1 is)
 
 no_positions : (s : Positions) → is_empty s ≡ true → s ≡ set.empty
 no_positions s is = set.empty_of_len s (eqb-true (set.len s) 0 is)
@@ -77,19 +64,6 @@ of_its_state w = first (is_empty w.first) (has_no_key w.keys) (is_empty w.second
     first false k s f e g = tt
 
 module _ (m : Map) (is : IsMap m) where
-  nothing : Image
-  nothing = record { burnt = set.empty; keys = table.empty }
-
-  -- the columns of nothing
-  pub nothing_columns : AreColumns m (bits_column m set.empty) (keys_column m table.empty)
-  nothing_columns = record {
-    bits_back = ap (bits_column m) (bits_come_back m is set.empty (sets_stay m).none);
-    keys_back = ap (keys_column m) (keys_come_back m table.empty (tables_stay m).none);
-  }
-
-  pub nothing_added : image_in m (bits_column m set.empty) (keys_column m table.empty) ≡ record { burnt = set.empty; keys = table.empty }
-  nothing_added = image_comes_back m is (record { burnt = set.empty; keys = table.empty }) (sets_stay m).none (tables_stay m).none
-
   module _ (d : Device) (ws : List Wish) where
     pub plan_keeps : lowest (plan_refusals ws m d) ≡ None → HoldsDigests (missing (known_of m d) (wants_of m ws)).keys → d.serial ≡ None → Keeps m d (planned ws m d)
     plan_keeps free digests unnumbered =
@@ -100,30 +74,19 @@ module _ (m : Map) (is : IsMap m) where
         let lies : IsWork m w = plan_lies m is a ws (wants_of m ws) (missing a (wants_of m ws)) refl refl no_fault digests in
         let back : work_in m (todo_column m w) ≡ w = work_comes_back m is w lies in
         let awaited : IsAwaited m a (state_with w) w = record { by_state = of_its_state w; pending = plan_law m is a ws w is_plan } in
-        record {
-          chip = refl;
-          order = refl;
-          map = refl;
-          serial = refl;
-          burnt = within_itself a;
-          numbered = λ has. let none : is_some d.serial ≡ false = ap is_some unnumbered in cc (none, has);
-          kept = λ es e bits keys was. record {
-            columns = was.columns;
-            todo_back = ap (todo_column m) back;
-            entries_columns = all_with (λ (x : Owned Entry). AreColumns m x.row.bits x.row.keys) es e was.entries_columns (rw (bits, keys) nothing_columns);
-            added =
-                let none : image_in m e.row.bits e.row.keys ≡ record { burnt = set.empty; keys = table.empty } = rw (bits, keys) nothing_added in
-                all_added_with m es e ∙ ((λ i. image.joined (was.added i) (none i)) ∙ columns_alone m d.bits d.keys);
-            pending = subst (IsAwaited m a (state_with w)) (sym back) awaited;
-          };
-        }
+        unread_keeps m is d event.Planned (state_with w) (todo_column m w) d.serial (λ serial has. has) (λ has. absurd (true≢false (sym has ∙ ap is_some unnumbered)))
+        (λ es was. (ap (todo_column m) back, subst (IsAwaited m a (state_with w)) (sym back) awaited))
 
--- a device that may be planned has no serial number
-pub unnumbered_from : (d : Owned Device) → IsNumbered d → may_be_planned d.row.state ≡ true → d.row.serial ≡ None
-unnumbered_from d numbered may = none_from_test d.row.serial (elim (is_some d.row.serial) as (λ b. is_some d.row.serial ≡ b → b ≡ false) [
-  | true ↦ λ has. let identified = numbered has in absurd (never d.row.state may identified)
+-- a device that isn't identified has no serial number
+pub unnumbered_by : (d : Owned Device) → IsNumbered d → (is_identified d.row.state ≡ true → ⊥) → d.row.serial ≡ None
+unnumbered_by d numbered never = none_from_test d.row.serial (elim (is_some d.row.serial) as (λ b. is_some d.row.serial ≡ b → b ≡ false) [
+  | true ↦ λ has. absurd (never (numbered has))
   | false ↦ λ _. refl
 ] refl)
+
+-- nor has one that may be planned
+pub unnumbered_from : (d : Owned Device) → IsNumbered d → may_be_planned d.row.state ≡ true → d.row.serial ≡ None
+unnumbered_from d numbered may = unnumbered_by d numbered (never d.row.state may)
   where
     never : (state : DeviceState) → may_be_planned state ≡ true → is_identified state ≡ true → ⊥
     never Registered may is = cc

@@ -33,12 +33,12 @@ use Rattle.office_tables.specs.declared.rows.DeviceState.TheVariants.{Registered
 use Rattle.office_tables.specs.declared.rows.Entry.{Entry}
 use Rattle.office_tables.specs.declared.rows.Owned.{Owned}
 use Rattle.office_rules.specs.StepRules.{batch_in, is_awaited, known_of, read_step, state_after, verdict_on, work_after}
-use Rattle.office_rules.proofs.Refusing.{none_from_test}
 use Rattle.office_laws.specs.Pending.{IsAwaited}
 use Rattle.office_laws.specs.SoundRecords.{IsNumbered, is_identified}
 use Rattle.office_laws.specs.SoundDevices.{AreColumns}
 use Rattle.office_laws.proofs.Additions.{all_added_with}
-use Rattle.office_laws.proofs.Planning.{all_with, of_its_state}
+use Rattle.office_laws.proofs.Planning.{of_its_state, unnumbered_by}
+use Rattle.office_laws.proofs.Unread.{all_with}
 use Rattle.office_laws.proofs.Registrations.{nothing_pending}
 use Rattle.office_laws.proofs.StepLaws.{Keeps}
 use Rattle.office_laws.proofs.Within.{within_after}
@@ -151,7 +151,7 @@ module _ (m : Map) (is : IsMap m) (d : Device) (r : ReadBack) where
         chip = refl;
         order = refl;
         map = refl;
-        serial = refl;
+        serial = λ serial has. has;
         burnt = subst (IsWithin a) (sym back) (within_after m a r (keys_lie_in_map m d.keys));
         numbered = λ has. let none : is_some d.serial ≡ false = ap is_some unnumbered in cc (none, has);
         kept = λ es e same_bits same_keys was. record {
@@ -172,10 +172,7 @@ module _ (m : Map) (is : IsMap m) (d : Device) (r : ReadBack) where
 
 -- a device whose batch is awaited has no serial number
 pub unnumbered_awaited : (d : Owned Device) → IsNumbered d → is_awaited d.row.state ≡ true → d.row.serial ≡ None
-unnumbered_awaited d numbered may = none_from_test d.row.serial (elim (is_some d.row.serial) as (λ b. is_some d.row.serial ≡ b → b ≡ false) [
-  | true ↦ λ has. let identified = numbered has in absurd (never d.row.state may identified)
-  | false ↦ λ _. refl
-] refl)
+unnumbered_awaited d numbered may = unnumbered_by d numbered (never d.row.state may)
   where
     never : (state : DeviceState) → is_awaited state ≡ true → is_identified state ≡ true → ⊥
     never Registered may is = cc

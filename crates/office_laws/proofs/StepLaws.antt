@@ -25,12 +25,12 @@ use Rattle.office_laws.proofs.Growing.{device_grows, stays_known}
 use Rattle.office_laws.proofs.Makes.{Makes}
 use Rattle.office_laws.proofs.Readings.{find_holds, same_text}
 
--- what a step keeps of its device: chip, order, map, serial number and what is known to be burnt; and what its map asks of the device and its ledger holds of it with the step's entry
+-- what a step keeps of its device: chip, order, map, the serial number that it has and what is known to be burnt; and what its map asks of the device and its ledger holds of it with the step's entry
 pub record Keeps (m : Map) (d : Device) (step : DeviceStep) : Type 0 where
   pub chip : step.device.chip ≡ d.chip
   pub order : step.device.order ≡ d.order
   pub map : step.device.map ≡ d.map
-  pub serial : step.device.serial ≡ d.serial
+  pub serial : (serial : List ℕ) → d.serial ≡ Some serial → step.device.serial ≡ Some serial
   pub burnt : IsWithin (known_of m d) (known_of m step.device)
   pub numbered : is_some step.device.serial ≡ true → is_identified step.device.state ≡ true
   pub kept : (es : List (Owned Entry)) (e : Owned Entry) → e.row.bits ≡ step.bits → e.row.keys ≡ step.keys → IsKept m d es → IsKept m step.device (es ++ e ∷ [])
@@ -58,7 +58,7 @@ module _ {owners : Owners} {t : Tables} (sound : IsSound owners t) (s : Section)
           new_id = change.1.1;
           follows = λ other also.
               let same : old ≡ other = cc (there_still, also) in
-              record { order = subst (λ (o : Owned Device). o.row.order ≡ step.device.order) same (sym keeps.order); serial = λ serial has. keeps.serial ∙ subst (λ (o : Owned Device). o.row.serial ≡ Some serial) (sym same) has };
+              record { order = subst (λ (o : Owned Device). o.row.order ≡ step.device.order) same (sym keeps.order); serial = λ serial has. keeps.serial serial (subst (λ (o : Owned Device). o.row.serial ≡ Some serial) (sym same) has) };
           numbered = keeps.numbered;
           ledger = next_ledger sound s.name seat step id old there_still keeps.map
               (λ other also es was. let same : m ≡ other = cc (known, also) in subst (λ (x : Map). IsKept x old.row es → IsKept x step.device (es ++ entry ∷ [])) same (λ kept. keeps.kept es entry refl refl kept) was);

@@ -1,7 +1,7 @@
 -- Each request has a step.
 use Rattle.std.proofs.Common.{◌≡◌, ◌==◌, ◌+◌, ◌≤◌, ℕ, Bool, max, true, false, List, [], ◌∷◌, Option, Some, None, refl, arith}
 use Rattle.std.specs.Prelude.{bytes_eq, find, is_some, not, IsSomeAnd, MatchOption, option_and_then, option_map, Result, Ok, Err}
-use Rattle.std.proofs.lemmas.Bool.{and_parts}
+use Rattle.std.proofs.lemmas.Bool.{and_parts, not-false}
 use Rattle.fusemap_core.specs.MapText.{map_read}
 use Rattle.fusemap_core.specs.declared.fault.MapFault.{MapFault}
 use Rattle.site_core.specs.Owners.{Owners}
@@ -25,7 +25,8 @@ use Rattle.office_commands.specs.DeviceReplies.{device_body}
 use Rattle.office_rules.specs.DeviceSteps.{entry_of, registration}
 use Rattle.office_rules.specs.declared.device_step.DeviceStep.{DeviceStep}
 use Rattle.office_rules.specs.Devices.{device_found, map_named, refusals_by, RegistersBy, StepsFound, StepsWith}
-use Rattle.office_tables.specs.Tables.{Tables, device_at, is_device, is_link, map_at, has_entry_id, has_id, last_number, link_at, with_device, with_new_entry, map_with, order_at, with_link, with_new_map, with_seat, with_order}
+use Rattle.office_tables.specs.Tables.{device_at, given_by_key, has_entry_id, has_id, is_device, is_link, last_number, link_at, map_at, map_with, order_at, Tables, with_cursor, with_device, with_given, with_link, with_new_entry, with_new_map, with_order, with_seat}
+use Rattle.office_tables.specs.declared.rows.Order.{Order}
 use Rattle.office_tables.specs.declared.rows.Owned.{Owned}
 use Rattle.office_tables.specs.declared.rows.Link.{Link}
 use Rattle.office_tables.specs.declared.rows.MapRow.{MapRow}
@@ -33,11 +34,17 @@ use Rattle.office_commands.specs.declared.command.Request.{Request}
 use Rattle.office_commands.specs.declared.command.Command.{Command}
 use Rattle.office_commands.specs.declared.command.Command.TheVariants.{Change, Show}
 use Rattle.office_commands.specs.declared.command.Change.{Change as Changing}
-use Rattle.office_commands.specs.declared.command.Change.TheVariants.{MakeOrder, ImportMap, RegisterDevice, PlanDevice, ReadBack}
-use Rattle.office_commands.specs.declared.refusal.Refusal.TheVariants.{WrongNumber, OtherBody}
-use Rattle.office_commands.specs.Replies.{acceptance, refusal, order_body, map_body}
+use Rattle.office_commands.specs.declared.command.Change.TheVariants.{MakeOrder, ImportMap, RegisterDevice, PlanDevice, ReadBack, Identify, Ship, Scrap, Import}
+use Rattle.office_commands.specs.declared.refusal.Refusal.TheVariants.{WrongNumber, OtherBody, UnknownDevice}
+use Rattle.office_commands.specs.Replies.{acceptance, refusal, map_body}
+use Rattle.office_commands.specs.declared.new_identity.NewIdentity.{NewIdentity}
+use Rattle.office_rules.specs.EndRules.{identifies, identity_refusals, idevid_of, may_be_identified, row_of, scrap_refusals, scraps, ship_refusals, ships}
+use Rattle.office_rules.specs.Identities.{GivesNext, Identifies, IdentifiesFound, IdentifiesIn, refusals_of_identity}
+use Rattle.office_laws.proofs.IdentityLaws.{next_least}
+use Rattle.office_laws.proofs.ImportSteps.{imports_exist}
+use Rattle.office_laws.proofs.RecordAddresses.{address_is_free}
 use Rattle.office_rules.specs.Rules.{lowest}
-use Rattle.office_rules.specs.Orders.{next_of, wanted_by}
+use Rattle.office_rules.specs.Orders.{body_with, next_of, wanted_by}
 use Rattle.office_rules.specs.Maps.{Imports, Links}
 use Rattle.office_rules.specs.Commands.{refusals, Changes}
 use Rattle.office_rules.proofs.Refusing.{first_is_false, later_is_none, none_from_test}
@@ -139,17 +146,57 @@ step_there {owners} {t} sound s seat does against chip free = by (device_at s.na
         with_map old (map_named s.name old.row.map t) (named_there sound s.name old.row.map (rw owner found.0.map))
 
 module _ {owners : Owners} {t : Tables} (sound : IsSound owners t) (s : Section) (seat : List ℕ) where
+  -- a device with its fuse map and its order, which has a next number
+  number_exists : (key : List ℕ) (old : Owned Device) (m : Option Map) (o : Owned Order) (next : Option (ℕ × List ℕ)) → order_at s.name old.row.order t ≡ Some o → next_of t o.row ≡ next → is_some m ≡ true → is_some next ≡ true
+      → (body : List ℕ) × (t2 : Tables) × GivesNext s seat t key (record { device = old.row; map = m }) o.row next body t2
+  number_exists key old None o next in_order is_next has_map has_next = cc
+  number_exists key old (Some m) o None in_order is_next has_map has_next = cc
+  number_exists key old (Some m) o (Some next) in_order is_next has_map has_next =
+      let made = step_made s seat t (identifies (idevid_of o.row next key)) m old.row in
+      let least = next_least t o.row next is_next in (
+        made.0,
+        with_cursor (record { customer = s.name; row = record { order = o.row.name; number = next.0 + 1 } })
+            (with_given (record { customer = s.name; row = row_of (idevid_of o.row next key) (Some old.row.chip) }) made.1),
+        (made.1, made.2, address_is_free sound s.name old.row.order o next.0 in_order least.1.has least.1.unused, refl),
+      )
+
+  order_exists : (i : NewIdentity) (old : Owned Device) (o : Option (Owned Order)) → device_at s.name i.chip t ≡ Some old → order_at s.name old.row.order t ≡ o → is_some o ≡ true → is_some (map_named s.name old.row.map t) ≡ true → lowest (refusals_of_identity s t i) ≡ None
+      → (body : List ℕ) × (t2 : Tables) × IdentifiesIn s seat t i.key (record { device = old.row; map = map_named s.name old.row.map t }) (option_map (λ x. x.row) o) body t2
+  order_exists i old None there in_order has_order has_map free = cc
+  order_exists i old (Some o) there in_order has_order has_map free = by (map_named s.name old.row.map t) refl
+    where
+      by : (m : Option Map) → map_named s.name old.row.map t ≡ m → (body : List ℕ) × (t2 : Tables) × GivesNext s seat t i.key (record { device = old.row; map = map_named s.name old.row.map t }) o.row (next_of t o.row) body t2
+      by None known = cc
+      by (Some m) known =
+          let refused : lowest (identity_refusals (next_of t o.row) (given_by_key o.row.issuer i.key t) m old.row) ≡ None = rw (there, known, in_order) at free in
+          let next : is_some (next_of t o.row) ≡ true = not-false _ (first_is_false (not (is_some (next_of t o.row))) _ _ (later_is_none (not (may_be_identified old.row.state)) _ _ refused)) in
+          number_exists i.key old (map_named s.name old.row.map t) o (next_of t o.row) in_order refl has_map next
+
+  identity_exists : (i : NewIdentity) → lowest (refusals_of_identity s t i) ≡ None → (body : List ℕ) × (t2 : Tables) × Identifies s seat t i body t2
+  identity_exists i free = by (device_at s.name i.chip t) refl
+    where
+      by : (found : Option (Owned Device)) → device_at s.name i.chip t ≡ found → (body : List ℕ) × (t2 : Tables) × IdentifiesFound s seat t i.key (option_map (λ d. record { device = d.row; map = map_named s.name d.row.map t }) found) body t2
+      by None there = let none : lowest (refusals_of_identity s t i) ≡ Some UnknownDevice = rw there refl in cc
+      by (Some old) there =
+          let found = find_holds (IsReferred t.orders t.links) (is_device s.name i.chip) t.devices old sound.devices.referred there in
+          let owner : s.name ≡ old.customer = same_text s.name old.customer (and_parts (bytes_eq s.name old.customer) (bytes_eq i.chip old.row.chip) found.1).0 in
+          order_exists i old (order_at s.name old.row.order t) there refl (rw owner found.0.order) (named_there sound s.name old.row.map (rw owner found.0.map)) free
+
   -- a command that nothing refuses has a change
   change_exists : (c : Changing) → lowest (refusals s t c) ≡ None → (body : List ℕ) × (mid : Tables) × Changes s seat t c body mid
   change_exists (MakeOrder o) e =
       let w = wanted_by s t o in (
-        order_body w (next_of t w),
+        body_with w (next_of t w),
         with_order (record { customer = s.name; row = w }) t,
         (none_from_test _ (first_is_false (is_some (order_at s.name w.name t)) _ _ e), refl, refl),
       )
   change_exists (RegisterDevice d) e = registration_exists s seat t d (map_named s.name d.map t) e
   change_exists (PlanDevice p) e = step_there sound s seat (plans p.wishes) (plan_refusals p.wishes) p.chip e
   change_exists (ReadBack r) e = step_there sound s seat (reads r.blocks) (read_refusals r.blocks) r.chip e
+  change_exists (Identify i) e = identity_exists i e
+  change_exists (Ship chip) e = step_there sound s seat ships ship_refusals chip e
+  change_exists (Scrap chip) e = step_there sound s seat scraps scrap_refusals chip e
+  change_exists (Import i) e = imports_exist s i.issuer t i.rows e
   change_exists (ImportMap text) e =
       let made = import_exists s t text (link_at s.name (sha256 text) t) in (map_body (sha256 text), made.0, (refl, made.1))
 

@@ -1,4 +1,5 @@
 -- What the contracts of this crate are made of.
+pub mod Fresh
 pub mod Grows
 pub mod Pending
 pub mod Solo

@@ -14,7 +14,9 @@ ghost use Rattle.office_commands.specs.declared.new_plan.NewReadBack.{NewReadBac
 ghost use Rattle.office_rules.specs.DeviceRules.{fits};
 ghost use Rattle.office_rules.specs.Devices.{map_named};
 ghost use Rattle.office_commands.specs.declared.command.Request.{Request};
-ghost use Rattle.office_rules.specs.Office.{Step, reads_back, registers};
+ghost use Rattle.office_commands.specs.declared.new_identity.NewIdentity.{NewIdentity};
+ghost use Rattle.office_rules.specs.Office.{Step, asks_identity, reads_back, registers};
+ghost use Rattle.office_laws.specs.Fresh.{GivesAnew};
 ghost use Rattle.office_laws.specs.Grows.{Grows};
 ghost use Rattle.office_laws.specs.Solo.{solo};
 ghost use Rattle.office_laws.specs.View.{view};
@@ -22,8 +24,9 @@ ghost use Rattle.office_laws.specs.Sound.{IsSound};
 
 /// A step of a customer's seat, from sound tables, acts on the customer's view as the customer's own
 /// machine does, which knows of nobody else; it leaves each other customer's view; the tables stay
-/// sound; and nothing that was known to be burnt is forgotten. As the own machine is a function of
-/// the view, equal views give equal replies.
+/// sound; nothing that was known to be burnt is forgotten, and what is given stays; and an identity
+/// gives what was nobody's. As the own machine is a function of the view, equal views give equal
+/// replies.
 pub fn steps_are_the_customers_own()
     ensures own { (owners : Owners) (s : Section) (seat : List ℕ) (t : Tables) (r : Request) (reply : Answer) (t2 : Tables)
         → AreApart owners → IsSection owners s → owners.seat seat ≡ Some s.name → IsAsked r → IsSound owners t → Step s seat t r reply t2
@@ -37,6 +40,9 @@ pub fn steps_are_the_customers_own()
     ensures grows { (owners : Owners) (s : Section) (seat : List ℕ) (t : Tables) (r : Request) (reply : Answer) (t2 : Tables)
         → AreApart owners → IsSection owners s → owners.seat seat ≡ Some s.name → IsAsked r → IsSound owners t → Step s seat t r reply t2
         → Grows t t2 }
+    ensures anew { (owners : Owners) (s : Section) (seat : List ℕ) (t : Tables) (number : ℕ) (digest : List ℕ) (i : NewIdentity) (reply : Answer) (t2 : Tables)
+        → AreApart owners → IsSection owners s → owners.seat seat ≡ Some s.name → IsSound owners t → Step s seat t (asks_identity number digest i) reply t2
+        → GivesAnew s seat number digest i t reply t2 }
 {}
 
 /// No rows are sound, so each store begins with sound tables.

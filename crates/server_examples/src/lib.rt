@@ -5,7 +5,11 @@
 #[cfg(test)]
 mod conversation;
 #[cfg(test)]
+mod counting;
+#[cfg(test)]
 mod devices;
+#[cfg(test)]
+mod identities;
 #[cfg(test)]
 mod jobs;
 #[cfg(test)]
@@ -20,3 +24,5 @@ mod plans;
 mod streams;
 #[cfg(test)]
 mod tests;
+#[cfg(test)]
+mod visits;

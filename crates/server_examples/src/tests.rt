@@ -2,7 +2,9 @@
 use crate::conversation::{
     first_difference, first_difference_after_want, first_difference_in_turns,
 };
+use crate::counting::CountingKeep;
 use crate::devices::{ACME, BOLT, DEVICES, chips_are_visited};
+use crate::identities::IDENTITIES;
 use crate::jobs::{
     BROKEN, FILES, LINE_LENGTH, LINES, LONG_ENDS, LONG_FILES, SITE_NAMES, UNREAD, WRITE_FAILED,
     is_replayed, line_of_check, line_of_replay, outcome_of_line, tells_unread, with_samples,
@@ -15,6 +17,7 @@ use crate::streams::{
     ORDER, STEPS, STREAMS, TAKEN, ends_so, goes_on_after_interruptions,
     stops_where_the_reader_fails, stops_where_the_writer_does,
 };
+use crate::visits::{VISITS, visits_of_each_kind};
 use base_examples::samples::{MAP, SITE};
 use office_core::MemKeep;
 use std::alloc::Global;
@@ -58,6 +61,32 @@ fn conversations_get_their_replies(rt: HostRuntime) -> Result<(), Fail> {
 fn plans_and_read_backs_get_their_replies(rt: HostRuntime) -> Result<(), Fail> {
     let found = first_of(rt.alloc(), PLANS)?;
     assert_eq!(rt; found.as_str(), "");
+    Ok(())
+}
+
+#[test]
+fn identities_and_imports_get_their_replies(rt: HostRuntime) -> Result<(), Fail> {
+    let found = first_of(rt.alloc(), IDENTITIES)?;
+    assert_eq!(rt; found.as_str(), "");
+    Ok(())
+}
+
+/// One request after another over one keeper: an order, a map and a ledger are walked for, and nothing
+/// else is.
+#[test]
+fn only_orders_maps_and_ledgers_are_walked_for(rt: HostRuntime) -> Result<(), Fail> {
+    let mut keep = CountingKeep::new(rt.alloc());
+    for row in VISITS {
+        let found = first_difference(rt.alloc(), &mut keep, row.1)?;
+        assert_eq!(rt; found.as_str(), "", "{}", row.0);
+        assert_eq!(rt; keep.visits(), row.2, "{}", row.0);
+    }
+    Ok(())
+}
+
+#[test]
+fn each_kind_of_visit_counts(rt: HostRuntime) -> Result<(), Fail> {
+    assert_eq!(rt; visits_of_each_kind(rt.alloc())?, 5);
     Ok(())
 }
 

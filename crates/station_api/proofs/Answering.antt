@@ -8,7 +8,7 @@ use Rattle.site_core.specs.declared.site.Caller.TheVariants.{Seat}
 use Rattle.site_core.specs.declared.site.Caller.{Caller}
 use Rattle.office_tables.specs.Tables.{Tables}
 use Rattle.office_commands.specs.declared.refusal.Refusal.{Refusal}
-use Rattle.office_commands.specs.declared.refusal.Refusal.TheVariants.{UnknownToken, UnknownPath, WrongCaller, BadJson, BadMember, WrongNumber, OtherBody, UnknownMap, UnknownOrder, UnknownDevice, WrongState, BadPlan, QuantityReached, CodingScheme, BadReadback, Exists, BadMap, BadSerial, NumberTooWide, NoMacRoom, RangeOverlap, ForeignIssuer, MapDigestTaken, Limit, Unkept}
+use Rattle.office_commands.specs.declared.refusal.Refusal.TheVariants.{UnknownToken, UnknownPath, WrongCaller, BadJson, BadMember, WrongNumber, OtherBody, UnknownMap, UnknownOrder, UnknownDevice, WrongState, BadPlan, QuantityReached, CodingScheme, BadReadback, Exists, BadMap, BadSerial, NumberTooWide, Exhausted, NoMacRoom, RangeOverlap, KeyBound, ForeignIssuer, ImportConflict, MapDigestTaken, Limit, Unkept}
 use Rattle.office_commands.specs.Refusals.{refusal_status}
 use Rattle.office_commands.specs.Replies.{refusal}
 use Rattle.office_rules.specs.Office.{Step, Answers}
@@ -38,9 +38,12 @@ unavailable_is_unkept Exists e = cc
 unavailable_is_unkept (BadMap fault) e = cc
 unavailable_is_unkept BadSerial e = cc
 unavailable_is_unkept NumberTooWide e = cc
+unavailable_is_unkept Exhausted e = cc
 unavailable_is_unkept NoMacRoom e = cc
 unavailable_is_unkept RangeOverlap e = cc
+unavailable_is_unkept KeyBound e = cc
 unavailable_is_unkept ForeignIssuer e = cc
+unavailable_is_unkept (ImportConflict serial) e = cc
 unavailable_is_unkept MapDigestTaken e = cc
 unavailable_is_unkept Limit e = cc
 unavailable_is_unkept Unkept e = refl

@@ -1,5 +1,6 @@
 -- The lemmas of this crate.
 mod Answering
+mod Identities
 mod Members
 mod NameTexts
 mod Streaming

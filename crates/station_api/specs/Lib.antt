@@ -5,5 +5,8 @@ pub mod Devices
 pub mod Orders
 pub mod Plans
 pub mod ReadBacks
+pub mod Identities
+pub mod Ends
+pub mod Imports
 pub mod Requests
 pub mod Machine

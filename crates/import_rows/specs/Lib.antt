@@ -1,0 +1,3 @@
+-- What the contracts of this crate are made of.
+pub mod Found
+pub mod Rows

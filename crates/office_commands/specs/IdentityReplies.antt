@@ -1,0 +1,39 @@
+-- What an identity, a shipped or scrapped device and an import are answered, as JSON values (RFC 8259).
+use Rattle.std.specs.Prelude.{ℕ, List, [], ◌∷◌, codes}
+use Rattle.serde_json.specs.Data.{Data, string, object}
+use Rattle.serde_json.specs.Written.{compact_text}
+use Rattle.hex.specs.Hex.{encode_lower}
+use Rattle.id_ranges.specs.Idevid.{Idevid}
+use Rattle.office_tables.specs.declared.rows.DeviceState.{DeviceState}
+use Rattle.office_commands.specs.DeviceReplies.{state_text}
+use Rattle.office_commands.specs.Replies.{mac_data, members_of, whole_data}
+
+-- the record of a device's identity (IEEE 802.1AR), its members in byte order
+abbrev pub identity_data : List ℕ → Idevid → Data
+identity_data chip i = object (members_of (
+    (codes "chip", string chip) ∷
+    (codes "issuer", string i.issuer) ∷
+    (codes "key_sha256", string (encode_lower i.key)) ∷
+    (codes "mac", mac_data i.mac) ∷
+    (codes "not_after", string i.not_after) ∷
+    (codes "serial", string i.serial) ∷ []))
+
+-- the text of that
+unfoldable pub identity_body : List ℕ → Idevid → List ℕ
+identity_body chip i = compact_text (identity_data chip i)
+
+-- where a device stands
+abbrev pub state_data : List ℕ → DeviceState → Data
+state_data chip state = object (members_of ((codes "chip", string chip) ∷ (codes "state", string (state_text state)) ∷ []))
+
+-- the text of that
+unfoldable pub state_body : List ℕ → DeviceState → List ℕ
+state_body chip state = compact_text (state_data chip state)
+
+-- how many serial numbers an import gave, and how many were given already
+abbrev pub import_data : ℕ → ℕ → Data
+import_data added present = object (members_of ((codes "added", whole_data added) ∷ (codes "present", whole_data present) ∷ []))
+
+-- the text of that
+unfoldable pub import_body : ℕ → ℕ → List ℕ
+import_body added present = compact_text (import_data added present)

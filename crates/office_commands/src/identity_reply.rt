@@ -1,0 +1,70 @@
+// What answers an identity, a shipped or scrapped device and an import.
+ghost use Rattle.std.specs.Prelude.{◌≡◌, IfOk, string_bytes};
+ghost use Rattle.serde_json.specs.View.{view};
+ghost use Rattle.office_commands.specs.IdentityReplies as replies;
+ghost use Rattle.office_commands.specs.IdentityReplies.{identity_data, import_data, state_data};
+
+use crate::device_reply::state_text;
+use crate::reply::mac_value;
+use id_ranges::IdevidRecord;
+use office_tables::DeviceState;
+use serde_json::{Value, json};
+use std::alloc::{AllocError, Global};
+use text_core::Chip;
+
+fn identity_value(alloc: Global, chip: &Chip, idevid: &IdevidRecord) -> Result<Value, AllocError>
+    ensures { IfOk result (λ v. view v ≡ identity_data chip.now idevid.now) }
+{
+    let mac = mac_value(alloc, idevid.mac())?;
+    let key = idevid.key().to_string(alloc)?;
+    json!(in alloc; {
+        "chip": chip.as_str(),
+        "issuer": idevid.issuer().as_str(),
+        "key_sha256": key.as_str(),
+        "mac": mac,
+        "not_after": idevid.not_after().as_str(),
+        "serial": idevid.serial().as_str()
+    })
+}
+
+/// The body that answers an identity: the record of the device (IEEE 802.1AR). It fails where there
+/// is no memory.
+#[tactic(auto, unfolding(crate::specs::IdentityReplies::identity_body))]
+pub fn identity_body(
+    alloc: Global,
+    chip: &Chip,
+    idevid: &IdevidRecord,
+) -> Result<String, AllocError>
+    ensures { IfOk result (λ body. string_bytes body ≡ replies.identity_body chip.now idevid.now) }
+{
+    identity_value(alloc, chip, idevid)?.to_string(alloc)
+}
+
+fn state_value(alloc: Global, chip: &Chip, state: DeviceState) -> Result<Value, AllocError>
+    ensures { IfOk result (λ v. view v ≡ state_data chip.now state) }
+{
+    json!(in alloc; { "chip": chip.as_str(), "state": state_text(state) })
+}
+
+/// The body that tells where a device stands. It fails where there is no memory.
+#[tactic(auto, unfolding(crate::specs::IdentityReplies::state_body))]
+pub fn state_body(alloc: Global, chip: &Chip, state: DeviceState) -> Result<String, AllocError>
+    ensures { IfOk result (λ body. string_bytes body ≡ replies.state_body chip.now state) }
+{
+    state_value(alloc, chip, state)?.to_string(alloc)
+}
+
+fn import_value(alloc: Global, added: u64, present: u64) -> Result<Value, AllocError>
+    ensures { IfOk result (λ v. view v ≡ import_data added present) }
+{
+    json!(in alloc; { "added": added, "present": present })
+}
+
+/// The body that answers an import: how many serial numbers it gave, and how many were given
+/// already. It fails where there is no memory.
+#[tactic(auto, unfolding(crate::specs::IdentityReplies::import_body))]
+pub fn import_body(alloc: Global, added: u64, present: u64) -> Result<String, AllocError>
+    ensures { IfOk result (λ body. string_bytes body ≡ replies.import_body added present) }
+{
+    import_value(alloc, added, present)?.to_string(alloc)
+}
