@@ -5,7 +5,7 @@ use Rattle.serde_json.specs.Written.{compact_text}
 use Rattle.hex.specs.Hex.{encode_lower}
 use Rattle.id_ranges.specs.Idevid.{Idevid}
 use Rattle.office_tables.specs.declared.rows.DeviceState.{DeviceState}
-use Rattle.office_commands.specs.DeviceReplies.{state_text}
+use Rattle.office_tables.specs.Texts.{state_text}
 use Rattle.office_commands.specs.Replies.{mac_data, members_of, whole_data}
 
 -- the record of a device's identity (IEEE 802.1AR), its members in byte order

@@ -9,7 +9,8 @@ use Rattle.fuse_image.specs.declared.image.Image.{Image}
 use Rattle.fuse_columns.specs.declared.todo.Work.{Work}
 use Rattle.office_tables.specs.declared.rows.DeviceState.{DeviceState}
 use Rattle.office_tables.specs.declared.rows.Outcome.{Outcome}
-use Rattle.office_commands.specs.DeviceReplies.{outcome_text, state_text, work_data}
+use Rattle.office_tables.specs.Texts.{outcome_text, state_text}
+use Rattle.office_commands.specs.DeviceReplies.{work_data}
 use Rattle.office_commands.specs.Replies.{members_of}
 
 -- what a plan is: both batches, the keys of the first, and where the device stands after it

@@ -4,7 +4,6 @@ ghost use Rattle.serde_json.specs.View.{view};
 ghost use Rattle.office_commands.specs.IdentityReplies as replies;
 ghost use Rattle.office_commands.specs.IdentityReplies.{identity_data, import_data, state_data};
 
-use crate::device_reply::state_text;
 use crate::reply::mac_value;
 use id_ranges::IdevidRecord;
 use office_tables::DeviceState;
@@ -43,7 +42,7 @@ pub fn identity_body(
 fn state_value(alloc: Global, chip: &Chip, state: DeviceState) -> Result<Value, AllocError>
     ensures { IfOk result (λ v. view v ≡ state_data chip.now state) }
 {
-    json!(in alloc; { "chip": chip.as_str(), "state": state_text(state) })
+    json!(in alloc; { "chip": chip.as_str(), "state": state.text() })
 }
 
 /// The body that tells where a device stands. It fails where there is no memory.

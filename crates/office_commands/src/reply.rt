@@ -48,7 +48,7 @@ pub fn unknown_token() -> Reply
     }
 }
 
-/// The reply to a refused request. Only those that name a number take memory.
+/// The reply to a refused request. Only those that name a number or a serial number take memory.
 pub fn refused(alloc: Global, reason: Refusal) -> Result<Reply, AllocError>
     ensures { IfOk result (λ reply. answer_of reply ≡ refusal reason) }
 {

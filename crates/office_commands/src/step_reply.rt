@@ -5,7 +5,7 @@ ghost use Rattle.fusemap_core.specs.Map.{IsSmall};
 ghost use Rattle.office_commands.specs.StepReplies as replies;
 ghost use Rattle.office_commands.specs.StepReplies.{outcome_data, plan_data};
 
-use crate::device_reply::{outcome_text, state_text, work_value};
+use crate::device_reply::work_value;
 use fuse_columns::Work;
 use fuse_image::{Image, Keys};
 use fusemap_core::{Field, FuseMap};
@@ -24,7 +24,7 @@ fn plan_value(
 {
     let first = work_value(alloc, fields, &work.first, &work.keys)?;
     let second = work_value(alloc, fields, &work.second, &Keys::empty())?;
-    json!(in alloc; { "batch1": first, "batch2": second, "state": state_text(state) })
+    json!(in alloc; { "batch1": first, "batch2": second, "state": state.text() })
 }
 
 /// The body that answers a plan: what is to be burnt in each batch, by the fuse map of the device,
@@ -51,7 +51,7 @@ fn outcome_value(
     ensures { IfOk result (λ v. view v ≡ outcome_data fields.now outcome rest.now state) }
 {
     let rest = work_value(alloc, fields, &rest.burnt, &rest.keys)?;
-    json!(in alloc; { "outcome": outcome_text(outcome), "rest": rest, "state": state_text(state) })
+    json!(in alloc; { "outcome": outcome.text(), "rest": rest, "state": state.text() })
 }
 
 /// The body that answers a read-back: what it came to, what of its batch is still to be burnt, by

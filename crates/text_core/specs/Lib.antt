@@ -12,5 +12,4 @@ pub mod Prefix
 pub mod Readers
 pub mod Serial
 pub mod ShortText
-pub mod ShortTextAgain
 pub mod Time

@@ -10,7 +10,7 @@ use std::marker::Model;
 /// The identity that a chip is made with, as text: twelve lowercase hexadecimal digits. It lies in
 /// place, and is compared by its bytes.
 #[derive(Clone, Copy, PartialEq, Eq, PartialOrd, Ord)]
-pub struct Chip(ShortText);
+pub struct Chip(ShortText<12>);
 
 impl Model for Chip {
     ghost use Rattle.std.specs.Prelude.{List, ℕ, ◌≡◌, true};

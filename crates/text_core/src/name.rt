@@ -10,7 +10,7 @@ use std::marker::Model;
 /// A name of a customer, an issuer, a seat or an order: 1 to 32 letters, digits, dots, underscores
 /// and hyphens of ASCII. It lies in place, and is compared by its bytes.
 #[derive(Clone, Copy, PartialEq, Eq, PartialOrd, Ord)]
-pub struct Name(ShortText);
+pub struct Name(ShortText<32>);
 
 impl Model for Name {
     ghost use Rattle.std.specs.Prelude.{List, ℕ, ◌≡◌, true};

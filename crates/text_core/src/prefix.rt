@@ -11,7 +11,7 @@ use std::marker::Model;
 /// are characters of PrintableString (RFC 5280, appendix A). It lies in place, and is compared by
 /// its bytes.
 #[derive(Clone, Copy, PartialEq, Eq)]
-pub struct Prefix(ShortText);
+pub struct Prefix(ShortText<32>);
 
 impl Model for Prefix {
     ghost use Rattle.std.specs.Prelude.{List, ℕ, ◌≡◌, true};

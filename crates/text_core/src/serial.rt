@@ -11,7 +11,7 @@ use std::marker::Model;
 /// digits and hyphens, which are characters of PrintableString (RFC 5280, appendix A). It lies in
 /// place, and is compared by its bytes.
 #[derive(Clone, Copy, PartialEq, Eq, PartialOrd, Ord)]
-pub struct Serial(ShortText);
+pub struct Serial(ShortText<64>);
 
 impl Model for Serial {
     ghost use Rattle.std.specs.Prelude.{List, ℕ, ◌≡◌, true};

@@ -8,38 +8,38 @@ use std::cmp::Ordering;
 use std::marker::Model;
 use std::{fmt, str};
 
-/// A text of at most 64 bytes that lies in place and takes no memory. The bytes after it are zeros.
+/// A text of at most `N` bytes that lies in place and takes no memory. The bytes after it are zeros.
 /// It is compared by its bytes.
 #[derive(Clone, Copy)]
-pub(crate) struct ShortText {
-    bytes: [u8; 64],
+pub(crate) struct ShortText<const N: usize> {
+    bytes: [u8; N],
     len: usize,
 }
 
-impl Model for ShortText {
+impl<const N: usize> Model for ShortText<N> {
     ghost use Rattle.std.specs.Prelude.{List, ℕ, take, length, ◌++◌, ◌-◌, replicate};
     ghost use Rattle.text_core.specs.ShortText.{IsShortText};
 
     ghost Value = { List ℕ };
 
-    ghost use Rattle.text_core.specs.ShortTextAgain.{padded-take};
+    ghost use Rattle.text_core.specs.InFront.{array_again, length_again};
 
     ghost view = { λ t. take t.len t.bytes };
 
-    ghost invariant = { λ t. IsShortText t.bytes t.len };
+    ghost invariant = { λ t. IsShortText N t.bytes t.len };
 
-    ghost inverse = { λ text. record { bytes = text ++ replicate (64 - length text) 0; len = length text } };
+    ghost inverse = { λ text. record { bytes = text ++ replicate (N - length text) 0; len = length text } };
 
-    ghost inverse_ok = { λ a h. padded-take a.bytes a.len h };
+    ghost inverse_ok = { λ a h i. record { bytes = array_again N 0 a.bytes a.len h.front i; len = length_again N 0 a.bytes a.len h.front i } };
 }
 
-impl ShortText {
-    pub(crate) fn copy_of(text: &str) -> ShortText
-        requires { length text.now ≤ 64 }
+impl<const N: usize> ShortText<N> {
+    pub(crate) fn copy_of(text: &str) -> ShortText<N>
+        requires { length text.now ≤ N }
         ensures { result ≡ text.now }
     {
         let len = text.len();
-        let mut bytes = [0u8; 64];
+        let mut bytes = [0u8; N];
         bytes[..len].copy_from_slice(text.as_bytes());
         ShortText { bytes, len }
     }
@@ -57,31 +57,31 @@ impl ShortText {
     }
 }
 
-impl PartialEq for ShortText {
+impl<const N: usize> PartialEq for ShortText<N> {
     ghost eq = { pointwise nat_eq };
 
     ghost laws = { partial_equiv_from_equiv nat_list_eq_equiv };
 
-    fn eq(&self, other: &ShortText) -> bool {
+    fn eq(&self, other: &ShortText<N>) -> bool {
         self.as_bytes() == other.as_bytes()
     }
 }
 
-impl Eq for ShortText {
+impl<const N: usize> Eq for ShortText<N> {
     ghost laws = { nat_list_eq_equiv };
 }
 
-impl PartialOrd for ShortText {
+impl<const N: usize> PartialOrd for ShortText<N> {
     ghost partial_cmp = { λ a b. Some (slice_cmp nat_cmp a b) };
 
     ghost laws = { texts_po };
 
-    fn partial_cmp(&self, other: &ShortText) -> Option<Ordering> {
+    fn partial_cmp(&self, other: &ShortText<N>) -> Option<Ordering> {
         Some(self.cmp(other))
     }
 }
 
-impl Ord for ShortText {
+impl<const N: usize> Ord for ShortText<N> {
     ghost cmp = { slice_cmp nat_cmp };
 
     ghost total = { nat_list_cmp_total };
@@ -90,12 +90,12 @@ impl Ord for ShortText {
 
     ghost matches_eq = { texts_ties };
 
-    fn cmp(&self, other: &ShortText) -> Ordering {
+    fn cmp(&self, other: &ShortText<N>) -> Ordering {
         self.as_bytes().cmp(other.as_bytes())
     }
 }
 
-impl fmt::Debug for ShortText {
+impl<const N: usize> fmt::Debug for ShortText<N> {
     fn fmt<W: fmt::Write>(&self, f: &mut fmt::Formatter<W>) -> fmt::Result {
         fmt::Debug::fmt(self.as_str(), f)
     }

@@ -11,7 +11,7 @@ use std::marker::Model;
 /// year, month, day, hour, minute and second, and a `Z`. Whether there is such a day isn't looked
 /// at. It lies in place.
 #[derive(Clone, Copy)]
-pub struct Time(ShortText);
+pub struct Time(ShortText<15>);
 
 impl Model for Time {
     ghost use Rattle.std.specs.Prelude.{List, ℕ, ◌≡◌, true};

@@ -10,5 +10,5 @@ IsOk-from_cases (Ok x) P Q h none = refl
 IsOk-from_cases (Err e) P Q h none = absurd (none e h)
 
 pub unwrap-requires : goal.unwrap-requires
-unwrap-requires c =
+unwrap-requires g c =
     IsOk-from_cases _ _ _ c.from_utf8.ensures.cases (λ e q. q.0 (IsUtf8-from_is_utf8 _ c.self.invariant.is_text))
