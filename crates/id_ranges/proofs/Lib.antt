@@ -1,5 +1,6 @@
 -- The lemmas of this crate.
 pub mod FreeBlocks
+pub mod MacTexts
 pub mod Meeting
 pub mod NextNumbers
 pub mod Pools

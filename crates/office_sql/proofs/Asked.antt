@@ -1,0 +1,65 @@
+-- What follows from a query of the office.
+use Rattle.std.proofs.Common.{◌≡◌, ℕ, List, [], false, sym, ap, subst, ◌∙◌, arith, IsTrue, inl, inr, Result, Ok, Err, IfOk, IfErr}
+use Rattle.sqlite.specs.declared.types.Value.TheVariants.{Null}
+use Rattle.sqlite_value.specs.declared.keys.Key.{Key}
+use Rattle.sqlite.specs.Order.{Row}
+use Rattle.sqlite.specs.Term.{Term}
+use Rattle.sqlite.specs.Program.{overlay}
+use Rattle.sqlite.specs.Command.TheVariants.{Select}
+use Rattle.sqlite.specs.Listing.{understood, reads_listing}
+use Rattle.sqlite.specs.Clock.{timed}
+use Rattle.sqlite.specs.State.{State, HasCleanDisk, Survives, Shown, ShowsRows, IsUnchanged, IsRolledBack, IsNotRun, FailsToQuery, FailsToShow}
+use Rattle.sqlite.proofs.Callers.{IsPlain, command_of, reads_as}
+use Rattle.office_sql.specs.Schema.{office_schema}
+use Rattle.office_sql.proofs.Bare.{IsBare, bare_understood}
+use Rattle.std.specs.Prelude.{Vec}
+use Rattle.std.specs.declared.alloc.Global.{Global}
+use Rattle.sqlite.specs.declared.error.Error.{Error}
+use Rattle.office_sql.specs.Change.{Rests}
+use Rattle.office_sql.specs.Scan.{scan}
+use Rattle.office_sql.proofs.Scan.{Scanned, scanned}
+
+pub was_clean : (old new : State) (P : _) → Survives old new P → HasCleanDisk new → HasCleanDisk old
+was_clean old new P s clean = omega (arith, s.clean)
+
+module _ (sql : List ℕ) (params : Row) (old new : State) (plain : IsPlain (understood office_schema sql)) where
+  pub leaves : old.now.schema ≡ office_schema → (rows : List Row) → Shown sql params old new rows → IsUnchanged old new
+  unfolding Shown
+  leaves has rows h =
+      let none = (subst IsPlain (sym (ap (λ o. understood o sql) has) ∙ h.1.is) plain).0 in
+      (subst (ShowsRows old new sql h.0 (timed params h.0.formats h.1.now) rows) none h.2).3
+
+  module _ (tree : ℕ) (tests shown : List Term) (order : List (Term × Key)) (names : List (List ℕ))
+      (is : command_of (understood office_schema sql) ≡ Select (record { lets = []; body = scan tree tests shown order }) names) (unlisted : reads_listing office_schema sql ≡ false) where
+    pub reads_scan : old.now.schema ≡ office_schema → (rows : List Row) → Shown sql params old new rows → Scanned tests shown order params (overlay old.now.trees [] tree) rows
+    reads_scan has rows h =
+        scanned (overlay old.now.trees []) params tree tests shown order rows
+        ((reads_as sql params old new office_schema has (Select (record { lets = []; body = scan tree tests shown order }) names) is plain unlisted rows h).answer Null)
+
+-- a query that was answered found the store open
+pub shown_open : (sql : List ℕ) (params : Row) (old new : State) (rows : List Row) → IsBare sql → Shown sql params old new rows → IsTrue old.is_open
+unfolding Shown
+shown_open sql params old new rows is h =
+    (subst (ShowsRows old new sql h.0 (timed params h.0.formats h.1.now) rows) (bare_understood sql is old.now.schema h.0 h.1.is) h.2).3.0.was_open
+
+unchanged_rests : (old new : State) → IsUnchanged old new → Rests old new
+unchanged_rests old new h = record { was_open = λ _. h.0.was_open; now = λ _. inl h.0.now_is; committed = λ _. h.0.committed_is }
+
+undone_rests : (old new : State) → IsRolledBack old new → Rests old new
+undone_rests old new h = record { was_open = h.was_open; now = λ up. inr (h.undone up).0; committed = λ up. (h.undone up).1 }
+
+pub shown_rests : (sql : List ℕ) (params : Row) (old new : State) (rows : List Row) → IsBare sql → Shown sql params old new rows → Rests old new
+unfolding Shown
+shown_rests sql params old new rows is h =
+    unchanged_rests old new (subst (ShowsRows old new sql h.0 (timed params h.0.formats h.1.now) rows) (bare_understood sql is old.now.schema h.0 h.1.is) h.2).3
+
+pub failed_rests : (sql : List ℕ) (params : Row) (old new : State) (e : Error) → IsBare sql → FailsToQuery sql params old new e → Rests old new
+unfolding FailsToQuery IsNotRun
+failed_rests sql params old new e is (inl (inl h)) = unchanged_rests old new h.1
+failed_rests sql params old new e is (inl (inr h)) = undone_rests old new h.3
+failed_rests sql params old new e is (inr h) =
+    unchanged_rests old new (subst (FailsToShow old new sql h.0 (timed params h.0.formats h.1.now) e) (bare_understood sql is old.now.schema h.0 h.1.is) h.2).3
+
+pub query_rests : {X : Type 0} (sql : List ℕ) (params : Row) (old new : State) (r : Result (Vec X Global) Error) (rows : Vec X Global → List Row) → IsBare sql → IfOk r (λ v. Shown sql params old new (rows v)) → IfErr r (FailsToQuery sql params old new) → Rests old new
+query_rests sql params old new (Ok v) rows is ok err = shown_rests sql params old new (rows v) is ok
+query_rests sql params old new (Err e) rows is ok err = failed_rests sql params old new e is err

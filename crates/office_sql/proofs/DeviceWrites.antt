@@ -1,0 +1,169 @@
+-- What the texts that write devices mean, and make of the tables.
+use Rattle.std.proofs.Common.{◌≡◌, inl, inr, ℕ, ℤ, true, ◌&&◌, List, [], ◌∷◌, codes, map, find, Option, Some, None, Ok, refl, sym, ap, ap₂, subst, ◌∙◌, arith, Ordering, Less, Equal, Greater, is_eq}
+use Rattle.std.specs.Prelude.{option_map, unwrap_or}
+use Rattle.std.specs.List.{AllByRecursion}
+use Rattle.std.specs.Ordering.{nat_cmp, ordering_then}
+use Rattle.std.specs.Cmp.Lexicographic.{slice_cmp}
+use Rattle.std.proofs.lemmas.Cmp.{tied_itself}
+use Rattle.std.proofs.lemmas.Map.Text.{is_eq-slice_cmp}
+use Rattle.sqlite.specs.declared.types.Value.{Value}
+use Rattle.sqlite.specs.declared.types.Value.TheVariants.{Null, Int, Text as Words, Blob as Bytes}
+use Rattle.sqlite.specs.Order.{Row, column, bytes}
+use Rattle.sqlite.specs.Term.{Term, lit, col, eval_all}
+use Rattle.sqlite.specs.Effect.{Database}
+use Rattle.sqlite.specs.Cast.{cast}
+use Rattle.sqlite.specs.Kind.TheVariants.{Text as TextKind}
+use Rattle.sqlite.specs.Listing.{understood}
+use Rattle.sqlite.specs.State.{State, Executes}
+use Rattle.sqlite_rules.specs.Cast.{cast_row}
+use Rattle.sqlite_rules.specs.Edit.{next_rowid}
+use Rattle.sqlite_tied.specs.Compute.{everything}
+use Rattle.sqlite_keyed.specs.Lists.{sort_by}
+use Rattle.sqlite_trees.proofs.ListLemmas.{all_weaker}
+use Rattle.office_tables.specs.declared.rows.Owned.{Owned}
+use Rattle.office_tables.specs.declared.rows.Device.{Device}
+use Rattle.office_tables.specs.declared.rows.DeviceState.{DeviceState}
+use Rattle.office_tables.specs.declared.rows.DeviceState.TheVariants.{Registered, AwaitingFirst, AwaitingSecond, Settled, Identified, Shipped, Quarantined, Scrapped}
+use Rattle.office_tables.specs.declared.rows.Reason.TheVariants as reason
+use Rattle.office_tables.specs.declared.rows.Write.TheVariants.{AddDevice, PutDevice}
+use Rattle.office_tables.specs.Quarantine.{reason_of}
+use Rattle.office_tables.specs.Texts.{state_text, reason_text, state_of_texts}
+use Rattle.office_tables.specs.Tables.{device_cmp, is_device, placed, IsFree}
+use Rattle.office_sql.specs.Change.{Adds, Wrote}
+use Rattle.office_sql.specs.Rows.{device_in, device_columns}
+use Rattle.office_sql.specs.Schema.{device_table}
+use Rattle.office_sql.specs.Scan.{is_given}
+use Rattle.office_sql.specs.Tables.{IsOffice, IsDeviceRow, tables_in, AreRows}
+use Rattle.office_sql.specs.Values.{state_in, text_if, text_value}
+use Rattle.office_sql.proofs.DeviceReads.{device_total, passes_device}
+use Rattle.office_sql.proofs.Finding.{both_true, same_text, texts_tied, unkeyed}
+use Rattle.office_sql.proofs.Inserting.{IsInsert}
+use Rattle.office_sql.proofs.Keyed.{Apart}
+use Rattle.office_sql.proofs.Offices.{devices_changed}
+use Rattle.office_sql.proofs.Replacing.{IsUpdate, IsSet, sets}
+use Rattle.office_sql.proofs.Stepping.{cast_null, cast_int}
+use Rattle.office_sql.proofs.TableRows.{row_added}
+
+abbrev pub add_text : List ℕ
+add_text = codes "INSERT INTO device (customer, chip, ord, map, state, reason, bits, keys, todo, serial) VALUES (?1, ?2, ?3, ?4, ?5, ?6, ?7, ?8, ?9, ?10)"
+
+abbrev pub add_terms : List Term
+add_terms = lit Null ∷ col 0 0 ∷ col 0 1 ∷ col 0 2 ∷ col 0 3 ∷ col 0 4 ∷ col 0 5 ∷ col 0 6 ∷ col 0 7 ∷ col 0 8 ∷ col 0 9 ∷ []
+
+pub add_insert : IsInsert add_text 5 device_table add_terms 11
+unfolding understood everything
+add_insert = record { is = refl; plain = (refl, refl); there = refl; uncounted = refl; unstamped = refl; one = λ params. refl }
+
+abbrev pub put_text : List ℕ
+put_text = codes "UPDATE device SET ord = ?3, map = ?4, state = ?5, reason = ?6, bits = ?7, keys = ?8, todo = ?9, serial = ?10 WHERE customer = ?1 AND chip = ?2"
+
+abbrev pub put_shown : List Term
+put_shown = col 1 0 ∷ col 1 0 ∷ col 1 1 ∷ col 1 2 ∷ col 0 2 ∷ col 0 3 ∷ col 0 4 ∷ col 0 5 ∷ col 0 6 ∷ col 0 7 ∷ col 0 8 ∷ col 0 9 ∷ []
+
+abbrev pub put_tests : List Term
+put_tests = is_given 1 0 ∷ is_given 2 1 ∷ []
+
+pub put_update : IsUpdate put_text 5 device_table put_tests put_shown
+unfolding understood everything
+put_update = record { is = refl; plain = (refl, refl); there = refl; same = λ db. refl }
+
+-- ---- what a row is read back as
+
+pub text_back : (t : Option (List ℕ)) → text_if (text_value t) ≡ t
+text_back None = refl
+text_back (Some t) = refl
+
+-- the texts of a state are those of no other
+pub state_read_back : (s : DeviceState) → state_of_texts (state_text s) (option_map reason_text (reason_of s)) ≡ Some s
+state_read_back Registered = refl
+state_read_back AwaitingFirst = refl
+state_read_back AwaitingSecond = refl
+state_read_back Settled = refl
+state_read_back Identified = refl
+state_read_back Shipped = refl
+state_read_back (Quarantined reason.Lost) = refl
+state_read_back (Quarantined reason.Stray) = refl
+state_read_back (Quarantined reason.Key) = refl
+state_read_back Scrapped = refl
+
+state_back : (s : DeviceState) → state_in (state_text s) (text_if (text_value (option_map reason_text (reason_of s)))) ≡ s
+state_back s = ap (state_in (state_text s)) (text_back (option_map reason_text (reason_of s))) ∙ ap (λ found. unwrap_or found Scrapped) (state_read_back s)
+
+pub device_back : (id : ℤ) (d : Owned Device) → device_in (Int id ∷ device_columns d) ≡ d
+device_back id d = ap₂ (λ s t. record d { row = record d.row { state = s; serial = t } }) (state_back d.row.state) (text_back d.row.serial)
+
+-- ---- what the columns make of the values
+
+cast_text : (t : Option (List ℕ)) → cast TextKind (text_value t) ≡ text_value t
+cast_text None = refl
+cast_text (Some t) = refl
+
+cast_words : (v : Value) → v ≡ Words (bytes v) → cast TextKind v ≡ v
+cast_words v e = ap (cast TextKind) e ∙ sym e
+
+pub add_casts : (d : Owned Device) → cast_row device_table (eval_all add_terms (device_columns d ∷ [])) ≡ Null ∷ device_columns d
+add_casts d = rw (cast_null, cast_text (option_map reason_text (reason_of d.row.state)), cast_text d.row.serial) refl
+
+-- ---- keys
+
+tied_both : (a b : Ordering) → (is_eq a && is_eq b) ≡ is_eq (ordering_then a b)
+tied_both Less b = refl
+tied_both Equal b = refl
+tied_both Greater b = refl
+
+device_tied : (x y : Owned Device) → is_eq (device_cmp x y) ≡ is_device x.customer x.row.chip y
+device_tied x y =
+    sym (tied_both (slice_cmp nat_cmp x.customer y.customer) (slice_cmp nat_cmp x.row.chip y.row.chip)) ∙ ap₂ ◌&&◌ (is_eq-slice_cmp x.customer y.customer) (is_eq-slice_cmp x.row.chip y.row.chip)
+
+-- a key that isn't found is apart from each
+device_free : (x : Owned Device) (rows : List Row) → find (is_device x.customer x.row.chip) (sort_by device_cmp (map device_in rows)) ≡ None → AllByRecursion (Apart device_cmp device_total x) (map device_in rows)
+device_free x rows none = all_weaker _ (Apart device_cmp device_total x) (λ y other. device_tied x y ∙ other) _ (unkeyed device_cmp device_total (is_device x.customer x.row.chip) (map device_in rows) none)
+
+-- ---- what is written
+
+pub device_added : (d : Owned Device) (old new : Database) → IsOffice old → IsFree (AddDevice d) (tables_in old.trees) → Adds 9 (device_columns d) old new → Wrote (AddDevice d) old new
+device_added d old new office free adds =
+    let rows = old.trees 9 in
+    let id = next_rowid rows in
+    let is = device_back id d in
+    let it = row_added IsDeviceRow device_cmp device_total device_in (device_columns d) rows office.devices (refl, refl, refl)
+    (subst (λ x. AllByRecursion (Apart device_cmp device_total x) (map device_in rows)) (sym is) (device_free d rows free.0)) in
+    let changed = devices_changed old new office adds.schema adds.others (subst (AreRows IsDeviceRow device_cmp device_in) (sym adds.row) it.0) (placed device_cmp d (sort_by device_cmp (map device_in rows)))
+    (ap (λ l. sort_by device_cmp (map device_in l)) adds.row ∙ it.1 ∙ ap (λ x. placed device_cmp x (sort_by device_cmp (map device_in rows))) is) in
+    record { office = changed.0; made = changed.1 }
+
+-- the columns of the row that takes the place of another
+abbrev put_columns : Owned Device → Row → Row
+put_columns d r = column r 1 ∷ column r 2 ∷ Words d.row.order ∷ Bytes d.row.map ∷ Words (state_text d.row.state) ∷ text_value (option_map reason_text (reason_of d.row.state)) ∷ Bytes d.row.bits ∷ Bytes d.row.keys ∷ Bytes d.row.todo ∷ text_value d.row.serial ∷ []
+
+-- devices of one key tie
+device_ties : (c n : List ℕ) (a b : Owned Device) → is_device c n a ≡ true → is_device c n b ≡ true → device_cmp a b ≡ Equal
+device_ties c n a b p q =
+    let s = both_true _ _ p in
+    let t = both_true _ _ q in
+    rw (texts_tied c _ _ s.0 t.0, texts_tied n _ _ s.1 t.1) refl
+
+put_set : (d : Owned Device) → IsSet IsDeviceRow device_cmp device_in (is_device d.customer d.row.chip) device_table put_tests put_shown (device_columns d) (put_columns d)
+put_set d = record {
+  tested = passes_device d.customer d.row.chip;
+  evals = λ r. refl;
+  casts = λ id r typed. rw (cast_int id, cast_words (column r 1) typed.0, cast_words (column r 2) typed.1, cast_text (option_map reason_text (reason_of d.row.state)), cast_text d.row.serial) refl;
+  typed = λ id r typed. (typed.0, typed.1, refl);
+  tied = λ id r typed passed. tied_itself device_total (device_in r);
+}
+
+put_back : (d : Owned Device) (id : ℤ) (r : Row) → is_device d.customer d.row.chip (device_in r) ≡ true → device_in (Int id ∷ put_columns d r) ≡ d
+put_back d id r passed =
+    let same = both_true _ _ passed in
+    let back : Owned Device = device_in (Int id ∷ device_columns d) in
+    ap₂ (λ c n. record { customer = c; row = record back.row { chip = n } }) (sym (same_text d.customer (bytes (column r 1)) same.0)) (sym (same_text d.row.chip (bytes (column r 2)) same.1)) ∙ device_back id d
+
+pub device_put : (d : Owned Device) (old new : State) (count : ℕ) → IsOffice old.now → Executes put_text (device_columns d) old new (Ok count) → count ≡ 1 → Wrote (PutDevice d) old.now new.now
+device_put d old new count office ran one =
+    elim (sets IsDeviceRow device_cmp device_total device_in (is_device d.customer d.row.chip) (device_ties d.customer d.row.chip) put_text 5 device_table put_tests put_shown put_update (device_columns d) (put_columns d) (put_set d) old new count office.schema office.devices ran) [
+      | inl it ↦ absurd (omega (arith, it.counted))
+      | inr it ↦ (
+          let changed = devices_changed old.now new.now office it.schema it.others it.rows (placed device_cmp d (sort_by device_cmp (map device_in (old.now.trees 9))))
+          (it.placed_is ∙ ap (λ x. placed device_cmp x (sort_by device_cmp (map device_in (old.now.trees 9)))) (put_back d it.id it.was it.one.passed)) in
+          record { office = changed.0; made = changed.1 })
+    ]

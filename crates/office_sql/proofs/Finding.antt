@@ -1,0 +1,62 @@
+-- What is found among rows in order, and rows with one key.
+use Rattle.std.proofs.Common.{◌≡◌, map, ℕ, Bool, true, false, cond, ◌&&◌, List, [], ◌∷◌, filter, find, slice_get, IsPermutation, Some, None, refl, ap, subst, sym, ◌∙◌, Ordering, Less, Equal, Greater, is_eq, true≢false}
+use Rattle.std.specs.List.{AllByRecursion}
+use Rattle.std.specs.Str.{bytes_eq}
+use Rattle.std.specs.Ordering.{nat_cmp}
+use Rattle.std.specs.Cmp.{IsTotalOrder}
+use Rattle.std.specs.Cmp.Lexicographic.{slice_cmp}
+use Rattle.std.proofs.lemmas.Cmp.{nat_list_eq_equiv}
+use Rattle.std.proofs.lemmas.Map.Text.{is_eq-slice_cmp}
+use Rattle.std.proofs.lemmas.Slice.Eq.{bytes_eq-Decides}
+use Rattle.sqlite_keyed.specs.Lists.{sort_by}
+use Rattle.sqlite_keyed.proofs.SortLemmas.{IsPermutation-sort_by}
+use Rattle.sqlite_trees.proofs.ListLemmas.{all-permutation}
+use Rattle.sqlite_trees.proofs.ListLemmas.{filter-map}
+use Rattle.sqlite_keyed.proofs.ListLemmas.{slice_get-filter}
+use Rattle.sqlite_exec.proofs.PartitionLemmas.{sorted_from_ascending}
+use Rattle.std.proofs.lemmas.List.Sorted.{IsPermutation-refl}
+use Rattle.sqlite.specs.Order.{Row}
+use Rattle.office_sql.specs.Tables.{AreKeyed}
+use Rattle.office_sql.proofs.Keyed.{all_sorted, kept_in_order}
+
+pub find_none : {A : Type 0} (p : A → Bool) (xs : List A) → find p xs ≡ None → AllByRecursion (λ x. p x ≡ false) xs
+find_none p [] e = tt
+find_none p (x ∷ xs) e = elim (p x) as (λ b. p x ≡ b → cond b (Some x) (find p xs) ≡ None → (p x ≡ false) × AllByRecursion (λ x. p x ≡ false) xs)
+    [ true ↦ λ _ h. absurd (let f = h in cc) | false ↦ λ fails h. (fails, find_none p xs h) ] refl e
+
+pub none_found : {A : Type 0} (p : A → Bool) (xs : List A) → AllByRecursion (λ x. p x ≡ false) xs → find p xs ≡ None
+none_found p [] all = refl
+none_found p (x ∷ xs) all = rw all.0 (none_found p xs all.1)
+
+module _ {A : Type 0} (cmp : A → A → Ordering) (total : IsTotalOrder cmp) (p : A → Bool) (xs : List A) where
+  -- a key that isn't found is no row's
+  pub unkeyed : find p (sort_by cmp xs) ≡ None → AllByRecursion (λ x. p x ≡ false) xs
+  unkeyed none = all-permutation (λ x. p x ≡ false) _ _ (IsPermutation-sort_by cmp total xs) (find_none p _ none)
+
+  -- a key that is no row's isn't found
+  pub unfound : AllByRecursion (λ x. p x ≡ false) xs → find p (sort_by cmp xs) ≡ None
+  unfound all = none_found p _ (all_sorted cmp total (λ x. p x ≡ false) xs all)
+
+pub same_text : (a b : List ℕ) → bytes_eq a b ≡ true → a ≡ b
+same_text a b e = (bytes_eq-Decides a b).0 e
+
+pub both_true : (a b : Bool) → (a && b) ≡ true → (a ≡ true) × (b ≡ true)
+both_true true b h = (refl, h)
+both_true false b h = absurd (true≢false (sym h))
+
+alike : (o : Ordering) → is_eq o ≡ true → o ≡ Equal
+alike Less h = absurd (true≢false (sym h))
+alike Equal h = refl
+alike Greater h = absurd (true≢false (sym h))
+
+-- texts that a third equals are equal
+pub texts_tied : (c a b : List ℕ) → bytes_eq c a ≡ true → bytes_eq c b ≡ true → slice_cmp nat_cmp a b ≡ Equal
+texts_tied c a b p q = alike _ (is_eq-slice_cmp a b ∙ sym (nat_list_eq_equiv.congr c a b p) ∙ q)
+
+module _ {A : Type 0} (cmp : A → A → Ordering) (total : IsTotalOrder cmp) (value : Row → A) (p : A → Bool) where
+  -- the one row that passes is found
+  pub only_found : (rows : List Row) (r : Row) → AreKeyed cmp (map value rows) → filter (λ x. p (value x)) rows ≡ r ∷ [] → find p (sort_by cmp (map value rows)) ≡ Some (value r)
+  only_found rows r keyed one =
+      let kept : filter p (map value rows) ≡ value r ∷ [] = filter-map p value rows ∙ ap (map value) one in
+      sym (slice_get-filter p (sort_by cmp (map value rows)))
+      ∙ ap (λ l. slice_get l 0) (kept_in_order cmp total p (map value rows) (value r ∷ []) keyed (subst (λ l. IsPermutation l (value r ∷ [])) (sym kept) (IsPermutation-refl _)) (sorted_from_ascending cmp total (value r ∷ []) (tt, tt)))

@@ -1,0 +1,75 @@
+-- What the texts that read links mean, and show.
+use Rattle.std.proofs.Common.{◌≡◌, ℕ, ◌&&◌, List, [], ◌∷◌, codes, refl, ap₂, ◌∙◌, map, filter, Ordering}
+use Rattle.std.specs.Ordering.{on, ordering_then}
+use Rattle.std.specs.Cmp.{IsTotalOrder}
+use Rattle.std.proofs.lemmas.Cmp.{on_total, then_total, nat_list_cmp_total}
+use Rattle.sqlite.specs.declared.types.Value.TheVariants.{Null, Text as Words, Blob as Bytes}
+use Rattle.sqlite.specs.Order.{Row, column}
+use Rattle.sqlite.specs.Term.{Term, col}
+use Rattle.sqlite.specs.Query.{key_cmp}
+use Rattle.sqlite_sql.proofs.QueryLemmas.{key_cmp_total}
+use Rattle.sqlite.specs.Listing.{understood}
+use Rattle.sqlite.specs.Collation.TheVariants.{Binary}
+use Rattle.sqlite_tied.specs.Compute.{everything}
+use Rattle.sqlite_value.specs.declared.keys.Key.{Key}
+use Rattle.sqlite_value.specs.Keys.{ascending}
+use Rattle.sqlite_value.proofs.OrderLemmas.{then-Equal}
+use Rattle.sqlite_keyed.specs.Lists.{sort_by}
+use Rattle.office_tables.specs.Tables.{link_cmp, is_link, is_of}
+use Rattle.office_sql.specs.Rows.{link_in}
+use Rattle.office_sql.specs.Scan.{is_given, passes}
+use Rattle.office_sql.specs.Tables.{AreRows, IsLinkRow}
+use Rattle.office_sql.proofs.Kept.{shows_kept}
+use Rattle.office_sql.proofs.Reading.{IsRead}
+use Rattle.office_sql.proofs.Scan.{Scanned}
+use Rattle.office_sql.proofs.Values.{text_is, blob_is, texts_cmp, blobs_cmp, and_true}
+
+abbrev pub one_text : List ℕ
+one_text = codes "SELECT customer, digest, map FROM link WHERE customer = ?1 AND digest = ?2 ORDER BY customer, digest"
+
+abbrev pub own_text : List ℕ
+own_text = codes "SELECT customer, digest, map FROM link WHERE customer = ?1 ORDER BY customer, digest"
+
+abbrev pub shown : List Term
+shown = col 1 1 ∷ col 1 2 ∷ col 1 3 ∷ []
+
+abbrev pub by_key : List (Term × Key)
+by_key = (col 1 1, ascending Binary) ∷ (col 1 2, ascending Binary) ∷ []
+
+pub one_read : IsRead one_text 5 (is_given 1 0 ∷ is_given 2 1 ∷ []) shown by_key
+unfolding understood everything
+one_read = record { names = codes "customer" ∷ codes "digest" ∷ codes "map" ∷ []; is = refl; plain = (refl, refl); unlisted = refl; bare = λ schema base. refl; there = λ db. refl }
+
+pub own_read : IsRead own_text 5 (is_given 1 0 ∷ []) shown by_key
+unfolding understood everything
+own_read = record { names = codes "customer" ∷ codes "digest" ∷ codes "map" ∷ []; is = refl; plain = (refl, refl); unlisted = refl; bare = λ schema base. refl; there = λ db. refl }
+
+pub link_total : IsTotalOrder link_cmp
+link_total = then_total (on_total (λ l. l.customer) nat_list_cmp_total) (on_total (λ l. l.row.digest) nat_list_cmp_total)
+
+abbrev pub by_place : Row → Row → Ordering
+by_place = on (λ r. column r 1 ∷ column r 2 ∷ []) (key_cmp 0 (ascending Binary ∷ ascending Binary ∷ []))
+
+pub by_place_total : IsTotalOrder by_place
+by_place_total = on_total (λ r. column r 1 ∷ column r 2 ∷ []) (key_cmp_total (ascending Binary ∷ ascending Binary ∷ []) 0)
+
+ordered : (a b : Row) → IsLinkRow a → IsLinkRow b → by_place a b ≡ link_cmp (link_in a) (link_in b)
+ordered a b e f = ap₂ ordering_then (texts_cmp (column a 1) (column b 1) e.0 f.0) (then-Equal _ ∙ blobs_cmp (column a 2) (column b 2) e.1 f.1)
+
+pub passes_link : (c d : List ℕ) (r : Row) → IsLinkRow r → passes (is_given 1 0 ∷ is_given 2 1 ∷ []) (Words c ∷ Bytes d ∷ []) r ≡ is_link c d (link_in r)
+passes_link c d r e = ap₂ ◌&&◌ (text_is (column r 1) c e.0) (and_true _ ∙ blob_is (column r 2) d e.1)
+
+pub passes_customer : (c : List ℕ) (r : Row) → IsLinkRow r → passes (is_given 1 0 ∷ []) (Words c ∷ []) r ≡ is_of c (link_in r)
+passes_customer c r e = and_true _ ∙ text_is (column r 1) c e.0
+
+pub one_shown : (c d : List ℕ) (all rows : List Row) → AreRows IsLinkRow link_cmp link_in all → Scanned (is_given 1 0 ∷ is_given 2 1 ∷ []) shown by_key (Words c ∷ Bytes d ∷ []) all rows
+    → map (λ r. link_in (Null ∷ r)) rows ≡ filter (is_link c d) (sort_by link_cmp (map link_in all))
+one_shown c d all rows are s =
+    shows_kept IsLinkRow link_cmp link_total link_in by_place by_place_total ordered (is_link c d) (is_given 1 0 ∷ is_given 2 1 ∷ []) (Words c ∷ Bytes d ∷ []) (passes_link c d)
+    shown by_key (λ r. link_in (Null ∷ r)) (λ r. refl) (λ a b. refl) all rows are s
+
+pub own_shown : (c : List ℕ) (all rows : List Row) → AreRows IsLinkRow link_cmp link_in all → Scanned (is_given 1 0 ∷ []) shown by_key (Words c ∷ []) all rows
+    → map (λ r. link_in (Null ∷ r)) rows ≡ filter (is_of c) (sort_by link_cmp (map link_in all))
+own_shown c all rows are s =
+    shows_kept IsLinkRow link_cmp link_total link_in by_place by_place_total ordered (is_of c) (is_given 1 0 ∷ []) (Words c ∷ []) (passes_customer c)
+    shown by_key (λ r. link_in (Null ∷ r)) (λ r. refl) (λ a b. refl) all rows are s

@@ -1,0 +1,56 @@
+-- From what `query_all` promises in a transaction to what the functions of this crate do.
+use Rattle.std.proofs.Common.{◌≡◌, ℕ, List, inl, inr, subst₂, ◌⊎◌, Result, Ok, Err, IfOk, IfErr}
+use Rattle.std.specs.Prelude.{Vec}
+use Rattle.std.specs.declared.alloc.Global.{Global}
+use Rattle.std.proofs.lemmas.Result.{IfOk-weaker}
+use Rattle.sqlite_value.specs.declared.keys.Key.{Key}
+use Rattle.sqlite.specs.Order.{Row}
+use Rattle.sqlite.specs.Term.{Term}
+use Rattle.sqlite.specs.declared.error.Error.{Error}
+use Rattle.sqlite.specs.Store.{Ghosts}
+use Rattle.sqlite.specs.Held.{Held, state}
+use Rattle.sqlite.specs.State.{State, HasCleanDisk, Survives, Shown, IsUnchanged, FailsToQuery, IsTooLate, KeepsCommit}
+use Rattle.office_tables.specs.Tables.{Tables}
+use Rattle.office_sql.specs.Asking.{HasOffice}
+use Rattle.office_sql.specs.Change.{Rests}
+use Rattle.office_sql.specs.Looking.{Looks, Stands}
+use Rattle.office_sql.specs.Tables.{IsOffice, tables_in}
+use Rattle.office_sql.proofs.Asked.{leaves, reads_scan, shown_open, shown_rests, failed_rests}
+use Rattle.office_sql.proofs.Reading.{IsRead}
+use Rattle.office_sql.proofs.Scan.{Scanned}
+
+rests_keeps : (old new : State) → Rests old new → KeepsCommit old new
+rests_keeps old new h = record { was_open = h.was_open; committed = h.committed }
+
+module _ {S : Type 0} (g : Ghosts S) (text : List ℕ) (tree : ℕ) (tests shown : List Term) (order : List (Term × Key)) (read : IsRead text tree tests shown order) (params values : Row) (bound : params ≡ values) (old new : Held S) where
+  -- a call of `query_all` in a transaction on the office's tables asks what its text means
+  pub looked : (r : Result (Vec Row Global) Error) (Says : Tables → Vec Row Global → Type 0)
+      → HasOffice (state g old)
+      → ((rows : Vec Row Global) → IsOffice (state g old).now → Scanned tests shown order values ((state g old).now.trees tree) rows.items → Says (tables_in (state g old).now.trees) rows)
+      → (HasCleanDisk (state g new) → IfOk r (λ v. Shown text params (state g old) (state g new) v.items))
+      → (HasCleanDisk (state g new) → IfErr r (λ e. FailsToQuery text params (state g old) (state g new) e ⊎ IsTooLate text params (state g old) (state g new) e))
+      → Survives (state g old) (state g new) (λ _. ⊥) → Looks g old new r Says
+  looked r Says has says ok err survives = record {
+    says = λ clean. IfOk-weaker r _ _ (λ rows h.
+        let office = has (shown_open text params (state g old) (state g new) rows.items read.bare h) in
+        says rows office (subst₂ (λ p l. Scanned tests shown order p l rows.items) bound (read.there (state g old).now.trees) (reads_scan text params (state g old) (state g new) read.plain tree tests shown order read.names read.is read.unlisted office.schema rows.items h))) (ok clean);
+    stands = λ clean. IfOk-weaker r _ _ (λ rows h.
+        let office = has (shown_open text params (state g old) (state g new) rows.items read.bare h) in
+        stands (leaves text params (state g old) (state g new) read.plain office.schema rows.items h)) (ok clean);
+    kept = λ clean. keeps r (ok clean) (err clean);
+    crash = survives;
+  }
+    where
+      stands : IsUnchanged (state g old) (state g new) → Stands (state g old) (state g new)
+      stands h = record { was_open = λ _. h.0.was_open; now = h.0.now_is; committed = h.0.committed_is; mode = h.0.mode }
+
+      keeps : (r : Result (Vec Row Global) Error) → IfOk r (λ v. Shown text params (state g old) (state g new) v.items)
+          → IfErr r (λ e. FailsToQuery text params (state g old) (state g new) e ⊎ IsTooLate text params (state g old) (state g new) e) → KeepsCommit (state g old) (state g new)
+      keeps (Ok v) shown failed = rests_keeps (state g old) (state g new) (shown_rests text params (state g old) (state g new) v.items read.bare shown)
+      keeps (Err e) shown (inl failed) = rests_keeps (state g old) (state g new) (failed_rests text params (state g old) (state g new) e read.bare failed)
+      keeps (Err e) shown (inr late) = record { was_open = λ _. late.5.0.was_open; committed = λ _. late.5.0.committed_is }
+
+-- an answer that is made of another's
+pub looks_more : {S A B E : Type 0} (g : Ghosts S) (old new : Held S) (a : A) (b : B) (P : Tables → A → Type 0) (Q : Tables → B → Type 0)
+    → Looks {E = E} g old new (Ok a) P → ((t : Tables) → P t a → Q t b) → Looks {E = E} g old new (Ok b) Q
+looks_more g old new a b P Q it says = record { says = λ clean. says _ (it.says clean); stands = it.stands; kept = it.kept; crash = it.crash }

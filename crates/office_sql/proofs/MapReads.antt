@@ -1,0 +1,87 @@
+-- What the texts that read maps mean, and show.
+use Rattle.std.proofs.Common.{◌≡◌, ℕ, pos, List, [], ◌∷◌, codes, refl, ◌∙◌, map, filter, Ordering, Option, Some, None}
+use Rattle.std.specs.Ordering.{on}
+use Rattle.std.specs.Cmp.{IsTotalOrder}
+use Rattle.std.proofs.lemmas.Cmp.{on_total, nat_cmp_total}
+use Rattle.sqlite.specs.declared.types.Value.TheVariants.{Int, Text as Words}
+use Rattle.sqlite.specs.Order.{Row, column}
+use Rattle.sqlite.specs.Term.{Term, col}
+use Rattle.sqlite.specs.Query.{key_cmp}
+use Rattle.sqlite_sql.proofs.QueryLemmas.{key_cmp_total}
+use Rattle.sqlite.specs.Listing.{understood}
+use Rattle.sqlite.specs.Collation.TheVariants.{Binary}
+use Rattle.sqlite_tied.specs.Compute.{everything}
+use Rattle.sqlite_value.specs.declared.keys.Key.{Key}
+use Rattle.sqlite_value.specs.Keys.{ascending}
+use Rattle.sqlite_value.proofs.OrderLemmas.{then-Equal}
+use Rattle.sqlite_keyed.specs.Lists.{sort_by}
+use Rattle.office_tables.specs.declared.rows.MapRow.{MapRow}
+use Rattle.office_tables.specs.Tables.{map_cmp, has_id, has_body}
+use Rattle.std.specs.Option.{option_map}
+use Rattle.office_sql.specs.Values.{number_in}
+use Rattle.office_sql.specs.Rows.{map_in}
+use Rattle.office_sql.specs.Scan.{is_given, passes}
+use Rattle.office_sql.specs.Tables.{AreRows, IsMapRow}
+use Rattle.office_sql.proofs.Kept.{shows_kept}
+use Rattle.office_sql.proofs.Reading.{IsRead}
+use Rattle.office_sql.proofs.Scan.{Scanned}
+use Rattle.office_sql.proofs.Values.{text_is, and_true}
+use Rattle.office_sql.proofs.MapValues.{whole_is, wholes_cmp}
+
+abbrev pub one_text : List ℕ
+one_text = codes "SELECT id, body FROM map WHERE id = ?1 ORDER BY id"
+
+abbrev pub body_text : List ℕ
+body_text = codes "SELECT id, body FROM map WHERE body = ?1 ORDER BY id"
+
+abbrev pub shown : List Term
+shown = col 1 0 ∷ col 1 2 ∷ []
+
+abbrev pub by_key : List (Term × Key)
+by_key = (col 1 0, ascending Binary) ∷ []
+
+pub one_read : IsRead one_text 3 (is_given 0 0 ∷ []) shown by_key
+unfolding understood everything
+one_read = record { names = codes "id" ∷ codes "body" ∷ []; is = refl; plain = (refl, refl); unlisted = refl; bare = λ schema base. refl; there = λ db. refl }
+
+pub body_read : IsRead body_text 3 (is_given 2 0 ∷ []) shown by_key
+unfolding understood everything
+body_read = record { names = codes "id" ∷ codes "body" ∷ []; is = refl; plain = (refl, refl); unlisted = refl; bare = λ schema base. refl; there = λ db. refl }
+
+-- a row that a query shows
+abbrev pub shown_map : Row → MapRow
+shown_map r = map_in (column r 0 ∷ r)
+
+pub map_total : IsTotalOrder map_cmp
+map_total = on_total (λ m. m.id) nat_cmp_total
+
+abbrev pub by_id : Row → Row → Ordering
+by_id = on (λ r. column r 0 ∷ []) (key_cmp 0 (ascending Binary ∷ []))
+
+pub by_id_total : IsTotalOrder by_id
+by_id_total = on_total (λ r. column r 0 ∷ []) (key_cmp_total (ascending Binary ∷ []) 0)
+
+ordered : (a b : Row) → IsMapRow a → IsMapRow b → by_id a b ≡ map_cmp (map_in a) (map_in b)
+ordered a b e f = then-Equal _ ∙ wholes_cmp (column a 0) (column b 0) e.0 f.0
+
+pub passes_id : (id : ℕ) (r : Row) → IsMapRow r → passes (is_given 0 0 ∷ []) (Int (pos id) ∷ []) r ≡ has_id id (map_in r)
+passes_id id r e = and_true _ ∙ whole_is (column r 0) id e.0
+
+pub passes_body : (body : List ℕ) (r : Row) → IsMapRow r → passes (is_given 2 0 ∷ []) (Words body ∷ []) r ≡ has_body body (map_in r)
+passes_body body r e = and_true _ ∙ text_is (column r 2) body e.1
+
+pub one_shown : (id : ℕ) (all rows : List Row) → AreRows IsMapRow map_cmp map_in all → Scanned (is_given 0 0 ∷ []) shown by_key (Int (pos id) ∷ []) all rows
+    → map shown_map rows ≡ filter (has_id id) (sort_by map_cmp (map map_in all))
+one_shown id all rows are s =
+    shows_kept IsMapRow map_cmp map_total map_in by_id by_id_total ordered (has_id id) (is_given 0 0 ∷ []) (Int (pos id) ∷ []) (passes_id id)
+    shown by_key shown_map (λ r. refl) (λ a b. refl) all rows are s
+
+pub body_shown : (body : List ℕ) (all rows : List Row) → AreRows IsMapRow map_cmp map_in all → Scanned (is_given 2 0 ∷ []) shown by_key (Words body ∷ []) all rows
+    → map shown_map rows ≡ filter (has_body body) (sort_by map_cmp (map map_in all))
+body_shown body all rows are s =
+    shows_kept IsMapRow map_cmp map_total map_in by_id by_id_total ordered (has_body body) (is_given 2 0 ∷ []) (Words body ∷ []) (passes_body body)
+    shown by_key shown_map (λ r. refl) (λ a b. refl) all rows are s
+
+pub id_shown : (row : Option Row) → option_map (λ r. number_in (column r 0)) row ≡ option_map (λ m. m.id) (option_map shown_map row)
+id_shown None = refl
+id_shown (Some r) = refl

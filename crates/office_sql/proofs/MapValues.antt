@@ -1,0 +1,35 @@
+-- The tests of SQL on columns of whole numbers, and their order.
+use Rattle.std.proofs.Common.{◌≡◌, ℕ, pos, ◌==◌, Bool, true, false, refl, ap, ap₂, ◌∙◌, is_eq, Some, nat_cmp, int_cmp, arith}
+use Rattle.std.proofs.lemmas.Bool.Decides.{nat_tests}
+use Rattle.std.proofs.lemmas.Int.{ints}
+use Rattle.sqlite.specs.declared.types.Value.{Value}
+use Rattle.sqlite.specs.declared.types.Value.TheVariants.{Int}
+use Rattle.sqlite.specs.Order.{value_cmp}
+use Rattle.sqlite.specs.Ops.{binary, is_true, from_truth}
+use Rattle.sqlite_sql.specs.declared.ops.CompareOp.TheVariants.{Eq}
+use Rattle.sqlite_sql.specs.declared.ops.BinaryOp.TheVariants.{Compare}
+use Rattle.sqlite.specs.Collation.TheVariants.{Binary}
+use Rattle.sqlite_value.proofs.OrderLemmas.{value_cmp-Int}
+use Rattle.office_sql.specs.Values.{number_in}
+
+told : (b : Bool) → is_true (from_truth (Some b)) ≡ b
+told true = refl
+told false = refl
+
+pub naturals_cmp : (m n : ℕ) → int_cmp (pos m) (pos n) ≡ nat_cmp m n
+naturals_cmp m n = grind (arith, ints, nat_tests)
+
+tied : (m n : ℕ) → is_eq (nat_cmp m n) ≡ (n == m)
+tied m n = grind (arith, nat_tests)
+
+numbers_are : (m n : ℕ) → is_true (binary (Compare Eq Binary) (Int (pos m)) (Int (pos n))) ≡ (n == m)
+unfolding binary
+numbers_are m n = told _ ∙ ap is_eq (value_cmp-Int (pos m) (pos n) ∙ naturals_cmp m n) ∙ tied m n
+
+-- a column that is a whole number equals a number where it is that
+pub whole_is : (v : Value) (n : ℕ) → v ≡ Int (pos (number_in v)) → is_true (binary (Compare Eq Binary) v (Int (pos n))) ≡ (n == number_in v)
+whole_is v n e = ap (λ w. is_true (binary (Compare Eq Binary) w (Int (pos n)))) e ∙ numbers_are (number_in v) n
+
+-- columns of whole numbers are in the order of the numbers
+pub wholes_cmp : (v w : Value) → v ≡ Int (pos (number_in v)) → w ≡ Int (pos (number_in w)) → value_cmp v w ≡ nat_cmp (number_in v) (number_in w)
+wholes_cmp v w e f = ap₂ value_cmp e f ∙ value_cmp-Int _ _ ∙ naturals_cmp (number_in v) (number_in w)

@@ -1,0 +1,282 @@
+-- What an UPDATE of the row with a key does. No reference acts on an update here, so a table that others refer to is as any other.
+use Rattle.std.proofs.Common.{◌≡◌, ◌≢◌, ◌⊎◌, ℕ, ℤ, Bool, true, false, not, cond, List, [], ◌∷◌, map, filter, length, slice_get, Option, Some, None, Ok, refl, sym, ap, Ordering, Less, Equal, is_eq, is_lt, true≢false, subst, ◌∙◌, inl, inr, arith}
+use Rattle.std.specs.List.{AllByRecursion, filter_map, flat_map}
+use Rattle.std.specs.List.Sorted.{IsPermutation}
+use Rattle.std.proofs.lemmas.List.Sorted.{length_permutation}
+use Rattle.sqlite.specs.declared.types.Value.TheVariants.{Null, Int}
+use Rattle.sqlite.specs.Order.{Row}
+use Rattle.sqlite.specs.Term.{Term, eval_all}
+use Rattle.sqlite.specs.Program.{overlay}
+use Rattle.sqlite.specs.Command.TheVariants.{Update}
+use Rattle.sqlite.specs.Edit.{edit_of, edited}
+use Rattle.sqlite.specs.Rowids.TheVariants.{Given}
+use Rattle.sqlite.specs.Does.{Tally, Does, AtPlace, OnRows}
+use Rattle.sqlite.specs.Rows.{Edited, Written}
+use Rattle.sqlite.specs.Table.{Table}
+use Rattle.sqlite.specs.Tree.{Trees, put_row, without_rowid}
+use Rattle.sqlite.specs.Listing.{understood}
+use Rattle.sqlite.specs.Effect.{Database}
+use Rattle.sqlite.specs.State.{State, mode_of, Executes}
+use Rattle.sqlite.proofs.Callers.{IsPlain, command_of, statement_of, runs_as, one_step, one_permutation}
+use Rattle.sqlite_schema.specs.declared.schema.Keys.TheVariants.{Enforced}
+use Rattle.sqlite_rules.specs.Cast.{cast_row}
+use Rattle.sqlite_rules.specs.Calls.{ids_of}
+use Rattle.sqlite_rules.specs.Action.{works, work_by, pairs, deed_for}
+use Rattle.sqlite_rules.specs.Edit.{taken_by}
+use Rattle.sqlite_schema.specs.Rules.{parent_key}
+use Rattle.std.specs.Prelude.{◌==◌, unwrap_or}
+use Rattle.std.specs.Cmp.{IsTotalOrder}
+use Rattle.std.proofs.lemmas.Bool.{cases_eq}
+use Rattle.std.proofs.lemmas.Cmp.{tied_itself}
+use Rattle.std.proofs.lemmas.List.Sorted.{IsPermutation-refl, IsPermutation-trans, IsPermutation-cons, IsPermutation-middle}
+use Rattle.sqlite.specs.Order.{value_cmp}
+use Rattle.sqlite.specs.Tree.{IsTable, rowid, has_rowid}
+use Rattle.sqlite_rules.specs.Edit.{id_in}
+use Rattle.sqlite_rules.specs.Lists.{Has}
+use Rattle.sqlite_rules.proofs.ListLemmas.{all_has, has_filtered}
+use Rattle.sqlite_rules.proofs.TableLemmas.{int_is}
+use Rattle.sqlite_trees.proofs.ListLemmas.{all_weaker, all-map, filter_all, filter_same, filter-map, ascending-filter}
+use Rattle.sqlite_trees.proofs.TreeLemmas.{later_rowids}
+use Rattle.sqlite_value.proofs.OrderLemmas.{value_cmp_total}
+use Rattle.office_sql.specs.Scan.{passes}
+use Rattle.office_sql.specs.Tables.{AreRows, AreKeyed, IsOffice, IsSeatRow, IsMapRow, IsLinkRow, IsOrderRow, IsDeviceRow, IsGivenRow, IsEntryRow, tables_in}
+use Rattle.office_sql.specs.Schema.{office_schema}
+use Rattle.office_sql.specs.Scan.{scan, env, passing}
+use Rattle.office_sql.specs.Change.{Replaces, Stays, SameBut}
+use Rattle.office_sql.proofs.Inserting.{enforced, task_on}
+use Rattle.sqlite.specs.Command.{Command}
+use Rattle.office_sql.proofs.Scan.{scanned}
+use Rattle.office_sql.proofs.TableRows.{row_replaced}
+use Rattle.sqlite_keyed.specs.Lists.{sort_by}
+use Rattle.office_tables.specs.Tables.{placed, seat_cmp, order_cmp, map_cmp, link_cmp, device_cmp, given_cmp, entry_cmp}
+use Rattle.office_sql.specs.Rows.{seat_in, map_in, link_in, order_in, device_in, given_in, entry_in}
+use Rattle.office_sql.proofs.Stepping.{went, same_value}
+
+-- the references of the office act on nothing
+calm : (tree : ℕ) (olds news : List Row) → works office_schema Enforced 0 tree olds news ≡ []
+calm tree olds news =
+    elim (length news == 0) as (λ b. flat_map (λ child. filter_map (λ ref. work_by 0 tree (pairs olds news) child ref (deed_for Enforced b ref) (parent_key office_schema.tables ref)) child.references) office_schema.tables ≡ [])
+    [ true ↦ refl | false ↦ refl ]
+
+nothing : {X : Type 0} (xs : List X) → length xs ≡ 0 → xs ≡ []
+nothing [] e = refl
+nothing (x ∷ xs) e = absurd (omega arith)
+
+-- what the text of an UPDATE means
+pub record IsUpdate (text : List ℕ) (at : ℕ) (table : Table) (tests shown : List Term) : Type 0 where
+  pub is : command_of (understood office_schema text) ≡ Update at (record { lets = []; body = scan table.tree tests shown [] })
+  pub plain : IsPlain (understood office_schema text)
+  pub there : slice_get office_schema.tables at ≡ Some table
+  pub same : (db : Trees) → overlay db [] table.tree ≡ db table.tree
+
+module _ (text : List ℕ) (at : ℕ) (table : Table) (tests shown : List Term) (update : IsUpdate text at table tests shown) (params : Row) where
+  abbrev command : Command
+  command = Update at (record { lets = []; body = scan table.tree tests shown [] })
+
+  abbrev news : Trees → List Row → List Row
+  news db sources = (edit_of db table (ids_of sources) Given 1 sources).news
+
+  abbrev rows_after : Trees → List Row → List Row
+  rows_after db sources = edited db (edit_of db table (ids_of sources) Given 1 sources)
+
+  -- the rows of the table are those that the edit leaves
+  record Updates (sources : List Row) (old new : Database) (tally : Tally) : Type 0 where
+    schema : new.schema ≡ office_schema
+    row : new.trees table.tree ≡ rows_after old.trees sources
+    others : SameBut table.tree old.trees new.trees
+    counted : unwrap_or tally.rows 0 ≡ length (news old.trees sources)
+
+  puts : (limit : Option ℕ) (old : Database) (out : Tally × Database) (kept : List Row) → passing tests params (old.trees table.tree) ≡ kept → ((l : List Row) → IsPermutation kept l → l ≡ kept)
+      → OnRows (task_on limit params table) enforced None command old.trees (Ok out) → Updates (map (λ r. eval_all shown (env params r)) kept) old out.1 out.0
+  puts limit old out kept passed alone does =
+      let db = old.trees in
+      let done = went does in
+      let end = went (went done.2).2 in
+      let given = went done.1 in
+      let written = went given.2 in
+      let s = scanned (overlay db []) params table.tree tests shown [] given.0 (given.1.answer Null) in
+      let same : s.kept ≡ kept = alone s.kept (subst (λ k. IsPermutation k s.kept) (ap (passing tests params) (update.same db) ∙ passed) s.same) in
+      let sources = map (λ r. eval_all shown (env params r)) kept in
+      let rows : given.0 ≡ sources = s.shows ∙ ap (map (λ r. eval_all shown (env params r))) same in
+      let edit = edit_of db table (ids_of sources) Given 1 sources in
+      let wrote = subst (λ all. Edited office_schema Enforced db (edit_of db table (ids_of all) Given 1 all) (Ok written.0)) rows written.1 in
+      let trees : done.0.trees ≡ written.0 = ap (λ (it : Written). it.trees) (same_value written.2) in
+      let step = one_step office_schema Enforced db written.0 edit (calm table.tree (taken_by db edit) edit.news) wrote in
+      let now = ap (λ (p : Tally × Database). p.1) (same_value end.2) in
+      record {
+        schema = ap (λ (d : Database). d.schema) now;
+        row = ap (λ (d : Database). d.trees table.tree) now ∙ ap (λ (t : Trees). t table.tree) trees ∙ step.rows;
+        others = subst (λ (t : Trees). SameBut table.tree db t) (sym (ap (λ (d : Database). d.trees) now ∙ trees)) step.tables;
+        counted = ap (λ (p : Tally × Database). unwrap_or p.0.rows 0) (same_value end.2) ∙ ap (λ (it : Written). length it.rows) (same_value written.2) ∙ ap (λ all. length (news db all)) rows;
+      }
+
+module _ (text : List ℕ) (at : ℕ) (table : Table) (tests shown : List Term) (update : IsUpdate text at table tests shown) (params : Row) (old new : State) (count : ℕ)
+    (has : old.now.schema ≡ office_schema) (ran : Executes text params old new (Ok count)) where
+  abbrev after : List Row → List Row
+  after = rows_after text at table tests shown update params old.now.trees
+
+  updates : (kept : List Row) → passing tests params (old.now.trees table.tree) ≡ kept → ((l : List Row) → IsPermutation kept l → l ≡ kept)
+      → (tally : Tally) × Updates text at table tests shown update params (map (λ r. eval_all shown (env params r)) kept) old.now new.now tally × (count ≡ unwrap_or tally.rows 0)
+  updates kept passed alone =
+      let it = command text at table tests shown update params in
+      let w = runs_as text params old new office_schema has it update.is update.plain count ran in
+      let words = statement_of text (understood office_schema text) in
+      let does = subst (λ s. Does old.step_limit (mode_of old) params (record old.now { schema = s }) words None it (Ok (w.tally, new.now))) has w.changed in (
+        w.tally,
+        puts text at table tests shown update params old.step_limit old.now (w.tally, new.now) kept passed alone
+            (subst (λ o. AtPlace (λ t. OnRows (task_on old.step_limit params t) enforced None it old.now.trees) o (Ok (w.tally, new.now))) update.there does),
+        w.counted,
+      )
+
+  -- where one row passes, it is replaced
+  pub replaces : (r source columns : Row) (id : ℤ) → passing tests params (old.now.trees table.tree) ≡ r ∷ [] → eval_all shown (env params r) ≡ Int id ∷ source → cast_row table source ≡ Int id ∷ columns
+      → Replaces table.tree id columns old.now new.now × (count ≡ 1)
+  replaces r source columns id one evals casts =
+      let it = updates (r ∷ []) one (one_permutation r) in
+      let shows : after (eval_all shown (env params r) ∷ []) ≡ put_row (Int id ∷ columns) (without_rowid id (old.now.trees table.tree)) =
+      ap (λ e. after (e ∷ [])) evals ∙ ap (λ c. put_row c (without_rowid id (old.now.trees table.tree))) casts in
+      (record { schema = it.1.schema; row = it.1.row ∙ shows; others = it.1.others }, it.2 ∙ it.1.counted)
+
+  -- where none passes, nothing changes
+  pub stays : passing tests params (old.now.trees table.tree) ≡ [] → Stays old.now new.now × (count ≡ 0)
+  stays none =
+      let it = updates [] none (λ l same. nothing l (length_permutation [] l same)) in (
+        record {
+          schema = it.1.schema;
+          tables = all_weaker (λ (t : Table). t.tree ≢ table.tree → new.now.trees t.tree ≡ old.now.trees t.tree) (λ t. new.now.trees t.tree ≡ old.now.trees t.tree)
+              (λ t other. elim (cases_eq t.tree table.tree) [ inl e ↦ subst (λ n. new.now.trees n ≡ old.now.trees n) (sym e) it.1.row | inr ne ↦ other ne ]) office_schema.tables it.1.others;
+        },
+        it.2 ∙ it.1.counted,
+      )
+
+-- ---- the row with a key
+
+none_passes : {A : Type 0} (p : A → Bool) (xs : List A) → filter p xs ≡ [] → AllByRecursion (λ x. p x ≡ false) xs
+none_passes p [] e = tt
+none_passes p (x ∷ xs) e = elim (p x) as (λ b. p x ≡ b → cond b (x ∷ filter p xs) (filter p xs) ≡ [] → (p x ≡ false) × AllByRecursion (λ x. p x ≡ false) xs)
+    [ true ↦ λ _ h. absurd (let f = h in cc) | false ↦ λ fails h. (fails, none_passes p xs h) ] refl e
+
+-- a row and the rest
+pub without_one : (rows : List Row) (r : Row) (id : ℤ) → IsTable rows → Has rows r → rowid r ≡ Int id → IsPermutation rows (r ∷ without_rowid id rows)
+without_one [] r id up has e = absurd has
+without_one (x ∷ rows) r id up (inl same) e =
+    let here : has_rowid id x ≡ true = ap (λ v. is_eq (value_cmp v (Int id))) (ap rowid (sym same) ∙ e) ∙ ap is_eq (tied_itself value_cmp_total (Int id)) in
+    let low : is_lt (value_cmp (rowid x) (Int id)) ≡ false = ap (λ v. is_lt (value_cmp v (Int id))) (ap rowid (sym same) ∙ e) ∙ ap is_lt (tied_itself value_cmp_total (Int id)) in
+    let rest : without_rowid id rows ≡ rows = filter_all _ rows (all_weaker _ (λ y. not (has_rowid id y) ≡ true) (λ y k. ap not k) rows (later_rowids (Int id) x rows low up.0)) in
+    rw (here, rest, same) (IsPermutation-refl _)
+without_one (x ∷ rows) r id up (inr later) e =
+    let below : value_cmp (rowid x) (Int id) ≡ Less = subst (λ v. value_cmp (rowid x) v ≡ Less) e (all_has _ rows r up.0 later) in
+    rw below (IsPermutation-trans _ _ _ (IsPermutation-cons x _ _ (without_one rows r id up.1 later e)) (IsPermutation-middle (x ∷ []) r (without_rowid id rows)))
+
+-- the row of a table that passes a test, and its rowid
+pub record IsTheRow {A : Type 0} (Typed : Row → Type 0) (value : Row → A) (p : A → Bool) (rows : List Row) (r : Row) (id : ℤ) : Type 0 where
+  pub numbered : rowid r ≡ Int id
+  pub typed : Typed r
+  pub passed : p (value r) ≡ true
+  pub alone : filter (λ x. p (value x)) rows ≡ r ∷ []
+  pub split : IsPermutation rows (r ∷ without_rowid id rows)
+
+module _ {A : Type 0} (Typed : Row → Type 0) (cmp : A → A → Ordering) (total : IsTotalOrder cmp) (value : Row → A) (p : A → Bool) (ties : (a b : A) → p a ≡ true → p b ≡ true → cmp a b ≡ Equal) where
+  -- no two rows have one key
+  twice : (rows : List Row) (a b : Row) (more : List Row) → AreRows Typed cmp value rows → filter (λ r. p (value r)) rows ≡ a ∷ b ∷ more → ⊥
+  twice rows a b more are e =
+      let two = subst (AreKeyed cmp) (filter-map p value rows ∙ ap (map value) e) (ascending-filter _ p (map value rows) are.keyed) in
+      let pa = (has_filtered (λ r. p (value r)) rows a (subst (λ l. Has l a) (sym e) (inl refl))).1 in
+      let pb = (has_filtered (λ r. p (value r)) rows b (subst (λ l. Has l b) (sym e) (inr (inl refl)))).1 in
+      true≢false (ap is_eq (sym (ties (value a) (value b) pa pb)) ∙ two.0.0)
+
+  -- no row of a table passes, or one
+  pub one_or_none : (tests : List Term) (params : Row) → ((r : Row) → Typed r → passes tests params r ≡ p (value r)) → (rows : List Row) → AreRows Typed cmp value rows
+      → ((passing tests params rows ≡ []) × AllByRecursion (λ x. p x ≡ false) (map value rows)) ⊎ ((r : Row) × (id : ℤ) × (passing tests params rows ≡ r ∷ []) × IsTheRow Typed value p rows r id)
+  one_or_none tests params is rows are = go (filter (λ r. p (value r)) rows) refl
+    where
+      same : passing tests params rows ≡ filter (λ r. p (value r)) rows
+      same = filter_same (passes tests params) (λ r. p (value r)) rows (all_weaker _ (λ r. passes tests params r ≡ p (value r)) is rows are.typed)
+
+      go : (l : List Row) → filter (λ r. p (value r)) rows ≡ l
+          → ((passing tests params rows ≡ []) × AllByRecursion (λ x. p x ≡ false) (map value rows)) ⊎ ((r : Row) × (id : ℤ) × (passing tests params rows ≡ r ∷ []) × IsTheRow Typed value p rows r id)
+      go [] e = inl (same ∙ e, all-map (λ x. p x ≡ false) value rows (none_passes (λ r. p (value r)) rows e))
+      go (r ∷ []) e =
+          let has = has_filtered (λ r. p (value r)) rows r (subst (λ l. Has l r) (sym e) (inl refl)) in
+          let numbered = int_is (rowid r) (all_has _ rows r are.numbered has.0) in
+          inr (r, id_in (rowid r), same ∙ e, record { numbered = numbered; typed = all_has _ rows r are.typed has.0; passed = has.1; alone = e; split = without_one rows r (id_in (rowid r)) are.rising has.0 numbered })
+      go (a ∷ b ∷ more) e = absurd (twice rows a b more are e)
+
+-- what an UPDATE of the row with a key leaves: no row has the key, and nothing changed, or the row with the key is replaced
+pub record SetsNone {A : Type 0} (value : Row → A) (p : A → Bool) (tree : ℕ) (old new : Database) (count : ℕ) : Type 0 where
+  pub stays : Stays old new
+  pub none : AllByRecursion (λ x. p x ≡ false) (map value (old.trees tree))
+  pub counted : count ≡ 0
+
+pub record SetsOne {A : Type 0} (Typed : Row → Type 0) (cmp : A → A → Ordering) (value : Row → A) (p : A → Bool) (tree : ℕ) (columns : Row → Row) (old new : Database) (count : ℕ) : Type 0 where
+  pub was : Row
+  pub id : ℤ
+  pub one : IsTheRow Typed value p (old.trees tree) was id
+  pub schema : new.schema ≡ office_schema
+  pub others : SameBut tree old.trees new.trees
+  pub rows : AreRows Typed cmp value (new.trees tree)
+  pub placed_is : sort_by cmp (map value (new.trees tree)) ≡ placed cmp (value (Int id ∷ columns was)) (sort_by cmp (map value (old.trees tree)))
+  pub counted : count ≡ 1
+
+-- the columns of the new row, made of the old one
+pub record IsSet {A : Type 0} (Typed : Row → Type 0) (cmp : A → A → Ordering) (value : Row → A) (p : A → Bool) (table : Table) (tests shown : List Term) (params : Row) (columns : Row → Row) : Type 0 where
+  pub tested : (r : Row) → Typed r → passes tests params r ≡ p (value r)
+  pub evals : (r : Row) → eval_all shown (env params r) ≡ rowid r ∷ rowid r ∷ columns r
+  pub casts : (id : ℤ) (r : Row) → Typed r → cast_row table (Int id ∷ columns r) ≡ Int id ∷ columns r
+  pub typed : (id : ℤ) (r : Row) → Typed r → Typed (Int id ∷ columns r)
+  pub tied : (id : ℤ) (r : Row) → Typed r → p (value r) ≡ true → cmp (value (Int id ∷ columns r)) (value r) ≡ Equal
+
+module _ {A : Type 0} (Typed : Row → Type 0) (cmp : A → A → Ordering) (total : IsTotalOrder cmp) (value : Row → A) (p : A → Bool) (ties : (a b : A) → p a ≡ true → p b ≡ true → cmp a b ≡ Equal)
+    (text : List ℕ) (at : ℕ) (table : Table) (tests shown : List Term) (update : IsUpdate text at table tests shown) (params : Row) (columns : Row → Row) (set : IsSet Typed cmp value p table tests shown params columns) where
+  pub sets : (old new : State) (count : ℕ) → old.now.schema ≡ office_schema → AreRows Typed cmp value (old.now.trees table.tree) → Executes text params old new (Ok count)
+      → SetsNone value p table.tree old.now new.now count ⊎ SetsOne Typed cmp value p table.tree columns old.now new.now count
+  sets old new count has are ran = elim (one_or_none Typed cmp total value p ties tests params set.tested (old.now.trees table.tree) are) [
+    | inl none ↦ (let it = stays text at table tests shown update params old new count has ran none.0 in inl (record { stays = it.0; none = none.1; counted = it.1 }))
+    | inr one ↦ (let r = one.0 in
+        let id = one.1 in
+        let the = one.3 in
+        let it = replaces text at table tests shown update params old new count has ran r (Int id ∷ columns r) (columns r) id one.2
+        (set.evals r ∙ ap (λ v. v ∷ v ∷ columns r) the.numbered) (set.casts id r the.typed) in
+        let made = row_replaced Typed cmp total value id r (columns r) (old.now.trees table.tree) are the.split (set.typed id r the.typed) (set.tied id r the.typed the.passed) in
+        inr (record {
+          was = r;
+          id = id;
+          one = the;
+          schema = it.0.schema;
+          others = it.0.others;
+          rows = subst (AreRows Typed cmp value) (sym it.0.row) made.0;
+          placed_is = ap (λ l. sort_by cmp (map value l)) it.0.row ∙ made.1;
+          counted = it.1;
+        }))
+  ]
+
+-- where no table changes, the office is as it was
+pub office_stays : (old new : Database) → IsOffice old → Stays old new → IsOffice new × (tables_in new.trees ≡ tables_in old.trees)
+office_stays old new office h =
+    let seats = h.tables.1.0 in
+    let maps = h.tables.1.1.0 in
+    let links = h.tables.1.1.1.0 in
+    let orders = h.tables.1.1.1.1.0 in
+    let devices = h.tables.1.1.1.1.1.0 in
+    let given = h.tables.1.1.1.1.1.1.0 in
+    let ledger = h.tables.1.1.1.1.1.1.1.0 in (
+      record {
+        schema = h.schema;
+        seats = subst (AreRows IsSeatRow seat_cmp seat_in) (sym seats) office.seats;
+        maps = subst (AreRows IsMapRow map_cmp map_in) (sym maps) office.maps;
+        links = subst (AreRows IsLinkRow link_cmp link_in) (sym links) office.links;
+        orders = subst (AreRows IsOrderRow order_cmp order_in) (sym orders) office.orders;
+        devices = subst (AreRows IsDeviceRow device_cmp device_in) (sym devices) office.devices;
+        given = subst (AreRows IsGivenRow given_cmp given_in) (sym given) office.given;
+        ledger = subst (AreRows IsEntryRow entry_cmp entry_in) (sym ledger) office.ledger;
+      },
+      λ i. record {
+        seats = sort_by seat_cmp (map seat_in (seats i));
+        orders = sort_by order_cmp (map order_in (orders i));
+        devices = sort_by device_cmp (map device_in (devices i));
+        given = sort_by given_cmp (map given_in (given i));
+        maps = sort_by map_cmp (map map_in (maps i));
+        links = sort_by link_cmp (map link_in (links i));
+        ledger = sort_by entry_cmp (map entry_in (ledger i));
+      },
+    )

@@ -1,0 +1,27 @@
+-- What a read leaves of a connection that was ready.
+use Rattle.std.proofs.Common.{◌≡◌, inl, inr, [], sym, ap, subst, ◌∙◌, IsTrue}
+use Rattle.sqlite.specs.Effect.{Database}
+use Rattle.sqlite.specs.State.{State, IsUnchanged}
+use Rattle.office_sql.specs.Change.{IsMade, IsUndone, Rests}
+use Rattle.office_sql.specs.Keeping.{IsReady}
+use Rattle.office_sql.specs.Tables.{IsOffice, tables_in}
+
+pub same_now : (old new : State) → IsReady old → Rests old new → IsTrue new.is_open → new.now ≡ old.now
+same_now old new rest r up = elim (r.now up) [ inl e ↦ e | inr e ↦ e ∙ sym (rest.settled (r.was_open up)) ]
+
+-- no write is made by a read
+pub none_made : (old new : State) → IsReady old → IsUnchanged old new → IsMade [] old new
+none_made old new ready same = record {
+  was_open = same.0.was_open;
+  is_open = same.0.is_open;
+  office = subst IsOffice (sym same.0.now_is) (ready.office same.0.was_open);
+  tables = ap (λ (d : Database). tables_in d.trees) same.0.now_is;
+  committed = same.0.committed_is ∙ sym (ready.settled same.0.was_open) ∙ sym same.0.now_is;
+}
+
+pub rest_undone : (old new : State) → IsReady old → Rests old new → IsUndone old new
+rest_undone old new ready r = record {
+  was_open = r.was_open;
+  now = λ up. same_now old new ready r up ∙ ready.settled (r.was_open up);
+  committed = r.committed;
+}

@@ -1,0 +1,100 @@
+-- What the texts that write a seat mean, and do.
+use Rattle.std.proofs.Common.{◌≡◌, inl, inr, ℕ, pos, ◌==◌, List, [], ◌∷◌, codes, map, refl, sym, ap, subst, ◌∙◌, Ok, None}
+use Rattle.std.specs.Prelude.{MatchBool}
+use Rattle.std.proofs.lemmas.Cmp.{tied_itself, nat_list_cmp_total}
+use Rattle.std.proofs.lemmas.Map.Text.{is_eq-slice_cmp}
+use Rattle.sqlite.specs.declared.types.Value.TheVariants.{Null, Int, Text as Words, Blob as Bytes}
+use Rattle.sqlite.specs.Order.{Row, column, bytes}
+use Rattle.sqlite.specs.Term.{Term, lit, col}
+use Rattle.sqlite.specs.Kind.TheVariants.{Text}
+use Rattle.sqlite.specs.Cast.{cast, cast_row}
+use Rattle.sqlite.specs.Effect.{Database}
+use Rattle.sqlite.specs.Listing.{understood}
+use Rattle.sqlite.specs.State.{State, Executes}
+use Rattle.sqlite_keyed.specs.Lists.{sort_by}
+use Rattle.sqlite_trees.proofs.ListLemmas.{all_weaker}
+use Rattle.sqlite_tied.specs.Compute.{everything}
+use Rattle.office_tables.specs.declared.rows.Owned.{Owned}
+use Rattle.office_tables.specs.declared.rows.SeatState.{SeatState}
+use Rattle.office_tables.specs.declared.rows.Write.TheVariants.{PutSeat}
+use Rattle.office_tables.specs.Tables.{is_seat, seat_at, seat_cmp, placed}
+use Rattle.office_sql.specs.Schema.{seat_table}
+use Rattle.office_sql.specs.Scan.{is_given}
+use Rattle.office_sql.specs.Values.{whole_value}
+use Rattle.office_sql.specs.Rows.{seat_in, seat_columns}
+use Rattle.office_sql.specs.Tables.{AreRows, IsOffice, IsSeatRow, tables_in}
+use Rattle.office_sql.specs.Change.{Adds, Wrote}
+use Rattle.office_sql.specs.Seats.{LacksSeat}
+use Rattle.office_sql.proofs.Finding.{unkeyed, unfound, same_text, texts_tied}
+use Rattle.office_sql.proofs.Inserting.{IsInsert}
+use Rattle.office_sql.proofs.Keyed.{Apart}
+use Rattle.office_sql.proofs.Offices.{seats_changed}
+use Rattle.office_sql.proofs.Replacing.{IsUpdate, IsSet, SetsNone, SetsOne, sets, office_stays}
+use Rattle.office_sql.proofs.SeatReads.{seat_total, passes_seat}
+use Rattle.office_sql.proofs.Stepping.{cast_null, cast_int}
+use Rattle.office_sql.proofs.TableRows.{row_added}
+
+abbrev pub add_text : List ℕ
+add_text = codes "INSERT INTO seat (name, customer, last, digest, reply) VALUES (?1, ?2, ?3, ?4, ?5)"
+
+abbrev pub add_terms : List Term
+add_terms = lit Null ∷ col 0 0 ∷ col 0 1 ∷ col 0 2 ∷ col 0 3 ∷ col 0 4 ∷ []
+
+pub add_insert : IsInsert add_text 1 seat_table add_terms 6
+unfolding understood everything
+add_insert = record { is = refl; plain = (refl, refl); there = refl; uncounted = refl; unstamped = refl; one = λ params. refl }
+
+pub add_casts : (s : Owned SeatState) → cast_row seat_table (Null ∷ seat_columns s) ≡ Null ∷ seat_columns s
+add_casts s = rw (cast_null, cast_int (pos s.row.last)) refl
+
+abbrev pub set_text : List ℕ
+set_text = codes "UPDATE seat SET customer = ?2, last = ?3, digest = ?4, reply = ?5 WHERE name = ?1"
+
+abbrev pub set_shown : List Term
+set_shown = col 1 0 ∷ col 1 0 ∷ col 1 1 ∷ col 0 1 ∷ col 0 2 ∷ col 0 3 ∷ col 0 4 ∷ []
+
+pub set_update : IsUpdate set_text 1 seat_table (is_given 1 0 ∷ []) set_shown
+unfolding understood everything
+set_update = record { is = refl; plain = (refl, refl); there = refl; same = λ db. refl }
+
+module _ (s : Owned SeatState) where
+  abbrev set_columns : Row → Row
+  set_columns r = column r 1 ∷ Words s.customer ∷ whole_value s.row.last ∷ Bytes s.row.digest ∷ Words s.row.reply ∷ []
+
+  name_cast : (r : Row) → IsSeatRow r → cast Text (column r 1) ≡ column r 1
+  name_cast r t = ap (cast Text) t ∙ sym t
+
+  is_set : IsSet IsSeatRow seat_cmp seat_in (is_seat s.row.name) seat_table (is_given 1 0 ∷ []) set_shown (seat_columns s) set_columns
+  is_set = record {
+    tested = passes_seat s.row.name;
+    evals = λ r. refl;
+    casts = λ id r t. rw (cast_int id, cast_int (pos s.row.last), name_cast r t) refl;
+    typed = λ id r t. t;
+    tied = λ id r t is. tied_itself nat_list_cmp_total (bytes (column r 1));
+  }
+
+  -- the setting of a seat's row finds none, or one that it replaces
+  pub seat_set : (old new : State) (count : ℕ) → IsOffice old.now → Executes set_text (seat_columns s) old new (Ok count) → MatchBool (count == 0) (LacksSeat s.row.name old.now new.now) (Wrote (PutSeat s) old.now new.now)
+  seat_set old new count office ran =
+      elim (sets IsSeatRow seat_cmp seat_total seat_in (is_seat s.row.name) (λ a b e f. texts_tied s.row.name a.row.name b.row.name e f) set_text 1 seat_table (is_given 1 0 ∷ []) set_shown set_update (seat_columns s) set_columns is_set
+      old new count office.schema office.seats ran) [ inl none ↦ rw none.counted (lacks none) | inr one ↦ rw one.counted (wrote one) ]
+    where
+      lacks : SetsNone seat_in (is_seat s.row.name) 1 old.now new.now count → LacksSeat s.row.name old.now new.now
+      lacks none = let it = office_stays old.now new.now office none.stays in
+          record { office = it.0; same = it.1; lacks = ap (seat_at s.row.name) it.1 ∙ unfound seat_cmp seat_total (is_seat s.row.name) (map seat_in (old.now.trees 1)) none.none }
+
+      wrote : SetsOne IsSeatRow seat_cmp seat_in (is_seat s.row.name) 1 set_columns old.now new.now count → Wrote (PutSeat s) old.now new.now
+      wrote one =
+          let name : bytes (column one.was 1) ≡ s.row.name = sym (same_text s.row.name (bytes (column one.was 1)) one.one.passed) in
+          let is : seat_in (Int one.id ∷ set_columns one.was) ≡ s = ap (λ n. record s { row = record s.row { name = n } }) name in
+          let it = seats_changed old.now new.now office one.schema one.others one.rows _ (one.placed_is ∙ ap (λ x. placed seat_cmp x (sort_by seat_cmp (map seat_in (old.now.trees 1)))) is) in
+          record { office = it.0; made = it.1 }
+
+  -- a seat that had no row has one
+  pub seat_added : (old new : Database) → IsOffice old → seat_at s.row.name (tables_in old.trees) ≡ None → Adds 1 (seat_columns s) old new → Wrote (PutSeat s) old new
+  seat_added old new office none adds =
+      let rows = old.trees 1 in
+      let apart = all_weaker _ (Apart seat_cmp seat_total s) (λ y e. is_eq-slice_cmp s.row.name y.row.name ∙ e) (map seat_in rows) (unkeyed seat_cmp seat_total (is_seat s.row.name) (map seat_in rows) none) in
+      let made = row_added IsSeatRow seat_cmp seat_total seat_in (seat_columns s) rows office.seats refl apart in
+      let it = seats_changed old new office adds.schema adds.others (subst (AreRows IsSeatRow seat_cmp seat_in) (sym adds.row) made.0) _ (ap (λ l. sort_by seat_cmp (map seat_in l)) adds.row ∙ made.1) in
+      record { office = it.0; made = it.1 }

@@ -1,0 +1,45 @@
+-- The tests of SQL on columns of one kind, and their order.
+use Rattle.std.proofs.Common.{◌≡◌, ℕ, Bool, true, false, ◌&&◌, List, refl, ap, ap₂, ◌∙◌, is_eq, Some}
+use Rattle.std.specs.Str.{bytes_eq}
+use Rattle.std.specs.Ordering.{nat_cmp}
+use Rattle.std.specs.Cmp.Lexicographic.{slice_cmp}
+use Rattle.std.proofs.lemmas.Cmp.{nat_list_eq_equiv}
+use Rattle.std.proofs.lemmas.Map.Text.{is_eq-slice_cmp}
+use Rattle.sqlite.specs.declared.types.Value.{Value}
+use Rattle.sqlite.specs.declared.types.Value.TheVariants.{Text as Words, Blob as Bytes}
+use Rattle.sqlite.specs.Order.{bytes, value_cmp}
+use Rattle.sqlite.specs.Ops.{binary, is_true, from_truth}
+use Rattle.sqlite_sql.specs.declared.ops.CompareOp.TheVariants.{Eq}
+use Rattle.sqlite_sql.specs.declared.ops.BinaryOp.TheVariants.{Compare}
+use Rattle.sqlite.specs.Collation.TheVariants.{Binary}
+use Rattle.sqlite_value.proofs.OrderLemmas.{value_cmp-Text, value_cmp-Blob}
+
+told : (b : Bool) → is_true (from_truth (Some b)) ≡ b
+told true = refl
+told false = refl
+
+words_are : (s t : List ℕ) → is_true (binary (Compare Eq Binary) (Words s) (Words t)) ≡ bytes_eq t s
+unfolding binary
+words_are s t = told _ ∙ ap is_eq (value_cmp-Text s t) ∙ is_eq-slice_cmp s t ∙ nat_list_eq_equiv.symm s t
+
+blobs_are : (s t : List ℕ) → is_true (binary (Compare Eq Binary) (Bytes s) (Bytes t)) ≡ bytes_eq t s
+unfolding binary
+blobs_are s t = told _ ∙ ap is_eq (value_cmp-Blob s t) ∙ is_eq-slice_cmp s t ∙ nat_list_eq_equiv.symm s t
+
+-- a column that is a text equals a text where its bytes do
+pub text_is : (v : Value) (t : List ℕ) → v ≡ Words (bytes v) → is_true (binary (Compare Eq Binary) v (Words t)) ≡ bytes_eq t (bytes v)
+text_is v t e = ap (λ w. is_true (binary (Compare Eq Binary) w (Words t))) e ∙ words_are (bytes v) t
+
+pub blob_is : (v : Value) (t : List ℕ) → v ≡ Bytes (bytes v) → is_true (binary (Compare Eq Binary) v (Bytes t)) ≡ bytes_eq t (bytes v)
+blob_is v t e = ap (λ w. is_true (binary (Compare Eq Binary) w (Bytes t))) e ∙ blobs_are (bytes v) t
+
+pub and_true : (b : Bool) → (b && true) ≡ b
+and_true true = refl
+and_true false = refl
+
+-- columns of one kind are in the order of what they stand for
+pub texts_cmp : (v w : Value) → v ≡ Words (bytes v) → w ≡ Words (bytes w) → value_cmp v w ≡ slice_cmp nat_cmp (bytes v) (bytes w)
+texts_cmp v w e f = ap₂ value_cmp e f ∙ value_cmp-Text _ _
+
+pub blobs_cmp : (v w : Value) → v ≡ Bytes (bytes v) → w ≡ Bytes (bytes w) → value_cmp v w ≡ slice_cmp nat_cmp (bytes v) (bytes w)
+blobs_cmp v w e f = ap₂ value_cmp e f ∙ value_cmp-Blob _ _

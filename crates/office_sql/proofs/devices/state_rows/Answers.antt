@@ -1,0 +1,17 @@
+-- What the query of an order's states shows are those states.
+use Rattle.std.proofs.Common.{refl, [], ◌∷◌}
+use Rattle.sqlite.specs.declared.types.Value.TheVariants.{Text}
+use Rattle.sqlite.specs.Held.{state}
+use Rattle.office_sql.specs.Scan.{is_given}
+use Rattle.office_sql.proofs.Reading.{asked}
+use Rattle.office_sql.proofs.DeviceReads.{states_text, states_shown, by_key, states_read, states_shown_are}
+use Rattle.office_sql.proofs.devices.state_rows.Goals as goal
+
+pub returns : goal.returns
+returns g c =
+    let customer = c.args.customer.now in
+    let order = c.args.order.now in
+    asked g.S.Store states_text 9 (is_given 1 0 ∷ is_given 3 1 ∷ []) states_shown by_key states_read _ (Text customer ∷ Text order ∷ [])
+    (rw (c.params-to_sql.ensures, c.params-to_sql-2.ensures, c.as_str.ensures.same, c.as_str-2.ensures.same) refl) c.args.conn.now c.query_all.new.self c.query_all.result _ c.requires
+    (λ rows office s. states_shown_are customer order ((state g.S.Store c.args.conn.now).now.trees 9) rows.items office.devices s)
+    c.query_all.ensures.ok c.query_all.ensures.err c.query_all.ensures.mode c.query_all.ensures.survives

@@ -1,0 +1,14 @@
+use Rattle.std.proofs.Common.{rules, [], ◌∷◌}
+use Rattle.sqlite.specs.declared.types.Value.TheVariants.{Text}
+use Rattle.sqlite.specs.Held.{state}
+use Rattle.office_sql.specs.Scan.{is_given}
+use Rattle.office_sql.proofs.Reading.{asked}
+use Rattle.office_sql.proofs.LinkReads.{own_text, shown, by_key, own_read, own_shown}
+use Rattle.office_sql.proofs.links.own_rows.Goals as goal
+
+pub returns : goal.returns
+returns g c =
+    let customer = c.args.customer.now in
+    asked g.S.Store own_text 5 (is_given 1 0 ∷ []) shown by_key own_read _ (Text customer ∷ []) (search rules) c.args.conn.now c.query_all.new.self c.query_all.result _ c.requires
+    (λ rows office s. own_shown customer ((state g.S.Store c.args.conn.now).now.trees 5) rows.items office.links s)
+    c.query_all.ensures.ok c.query_all.ensures.err c.query_all.ensures.mode c.query_all.ensures.survives

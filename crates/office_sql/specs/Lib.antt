@@ -1,0 +1,13 @@
+-- What the contracts of this crate are made of.
+pub mod Schema
+pub mod Scan
+pub mod Values
+pub mod Rows
+pub mod Tables
+pub mod Change
+pub mod Asking
+pub mod Keeping
+pub mod Ledger
+pub mod Maps
+pub mod Looking
+pub mod Seats

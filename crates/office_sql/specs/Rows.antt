@@ -1,0 +1,116 @@
+-- What the rows of the tables in SQL stand for, whatever stands in their columns, and the columns of each row. A row's rowid has place 0.
+use Rattle.std.specs.Prelude.{[], ◌∷◌, option_map}
+use Rattle.sqlite.specs.declared.types.Value.TheVariants.{Text as Words, Blob as Bytes}
+use Rattle.sqlite.specs.Order.{Row, column, bytes}
+use Rattle.office_tables.specs.declared.rows.Owned.{Owned}
+use Rattle.office_tables.specs.declared.rows.SeatState.{SeatState}
+use Rattle.office_tables.specs.declared.rows.Order.{Order}
+use Rattle.office_tables.specs.declared.rows.Given.{Given}
+use Rattle.office_tables.specs.declared.rows.MapRow.{MapRow}
+use Rattle.office_tables.specs.declared.rows.Link.{Link}
+use Rattle.office_tables.specs.declared.rows.NewMap.{NewMap}
+use Rattle.office_tables.specs.declared.rows.Device.{Device}
+use Rattle.office_tables.specs.declared.rows.Entry.{Entry}
+use Rattle.office_tables.specs.declared.rows.NewEntry.{NewEntry}
+use Rattle.office_tables.specs.Quarantine.{reason_of}
+use Rattle.office_tables.specs.Texts.{state_text, reason_text, event_text, note_text}
+use Rattle.office_sql.specs.Values.{number_in, text_if, mac_if, state_in, event_in, text_value, mac_value, whole_value}
+
+-- seat: name, customer, last, digest, reply
+abbrev pub seat_in : Row → Owned SeatState
+seat_in r = record {
+  customer = bytes (column r 2);
+  row = record { name = bytes (column r 1); last = number_in (column r 3); digest = bytes (column r 4); reply = bytes (column r 5) };
+}
+
+abbrev pub seat_columns : Owned SeatState → Row
+seat_columns s = Words s.row.name ∷ Words s.customer ∷ whole_value s.row.last ∷ Bytes s.row.digest ∷ Words s.row.reply ∷ []
+
+-- map: id, body, digest. The id is the rowid
+abbrev pub map_in : Row → MapRow
+map_in r = record { id = number_in (column r 0); body = bytes (column r 2) }
+
+-- but for the id, in whose own column NULL stands
+abbrev pub map_columns : Owned NewMap → Row
+map_columns m = Words m.row.body ∷ Bytes m.row.digest ∷ []
+
+-- link: customer, digest, map
+abbrev pub link_in : Row → Owned Link
+link_in r = record { customer = bytes (column r 1); row = record { digest = bytes (column r 2); map = number_in (column r 3) } }
+
+abbrev pub link_columns : Owned Link → Row
+link_columns l = Words l.customer ∷ Bytes l.row.digest ∷ whole_value l.row.map ∷ []
+
+-- orders: customer, name, issuer, prefix, width, first, quantity, macs, mac, cursor
+abbrev pub order_in : Row → Owned Order
+order_in r = record {
+  customer = bytes (column r 1);
+  row = record {
+    name = bytes (column r 2);
+    issuer = bytes (column r 3);
+    range = record { prefix = bytes (column r 4); width = number_in (column r 5); first = number_in (column r 6); quantity = number_in (column r 7) };
+    macs = number_in (column r 8);
+    mac = mac_if (column r 9);
+    cursor = number_in (column r 10);
+  };
+}
+
+abbrev pub order_columns : Owned Order → Row
+order_columns o = Words o.customer ∷ Words o.row.name ∷ Words o.row.issuer ∷ Words o.row.range.prefix ∷ whole_value o.row.range.width ∷ whole_value o.row.range.first
+    ∷ whole_value o.row.range.quantity ∷ whole_value o.row.macs ∷ mac_value o.row.mac ∷ whole_value o.row.cursor ∷ []
+
+-- device: customer, chip, ord, map, state, reason, bits, keys, todo, serial
+abbrev pub device_in : Row → Owned Device
+device_in r = record {
+  customer = bytes (column r 1);
+  row = record {
+    chip = bytes (column r 2);
+    order = bytes (column r 3);
+    map = bytes (column r 4);
+    state = state_in (bytes (column r 5)) (text_if (column r 6));
+    bits = bytes (column r 7);
+    keys = bytes (column r 8);
+    todo = bytes (column r 9);
+    serial = text_if (column r 10);
+  };
+}
+
+abbrev pub device_columns : Owned Device → Row
+device_columns d = Words d.customer ∷ Words d.row.chip ∷ Words d.row.order ∷ Bytes d.row.map ∷ Words (state_text d.row.state)
+    ∷ text_value (option_map reason_text (reason_of d.row.state)) ∷ Bytes d.row.bits ∷ Bytes d.row.keys ∷ Bytes d.row.todo ∷ text_value d.row.serial ∷ []
+
+-- given: issuer, serial, customer, key, chip, mac, not_after
+abbrev pub given_in : Row → Owned Given
+given_in r = record {
+  customer = bytes (column r 3);
+  row = record {
+    issuer = bytes (column r 1);
+    serial = bytes (column r 2);
+    key = bytes (column r 4);
+    chip = text_if (column r 5);
+    mac = mac_if (column r 6);
+    not_after = bytes (column r 7);
+  };
+}
+
+abbrev pub given_columns : Owned Given → Row
+given_columns g = Words g.row.issuer ∷ Words g.row.serial ∷ Words g.customer ∷ Bytes g.row.key ∷ text_value g.row.chip ∷ mac_value g.row.mac ∷ Words g.row.not_after ∷ []
+
+-- ledger: id, customer, chip, n, event, note, seat, bits, keys. The id is the rowid
+abbrev pub entry_in : Row → Owned Entry
+entry_in r = record {
+  customer = bytes (column r 2);
+  row = record {
+    id = number_in (column r 0);
+    chip = bytes (column r 3);
+    number = number_in (column r 4);
+    event = event_in (bytes (column r 5)) (bytes (column r 6));
+    seat = bytes (column r 7);
+    bits = bytes (column r 8);
+    keys = bytes (column r 9);
+  };
+}
+
+-- but for the id, in whose own column NULL stands
+abbrev pub entry_columns : Owned NewEntry → Row
+entry_columns e = Words e.customer ∷ Words e.row.chip ∷ whole_value e.row.number ∷ Words (event_text e.row.event) ∷ Words (note_text e.row.event) ∷ Words e.row.seat ∷ Bytes e.row.bits ∷ Bytes e.row.keys ∷ []

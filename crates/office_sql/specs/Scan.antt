@@ -1,0 +1,38 @@
+-- A query over one table.
+use Rattle.std.specs.Prelude.{ℕ, pos, negsuc, Bool, false, List, [], ◌∷◌, filter, None}
+use Rattle.std.specs.List.{list_all}
+use Rattle.sqlite.specs.declared.types.Value.TheVariants.{Int}
+use Rattle.sqlite_value.specs.declared.keys.Key.{Key}
+use Rattle.sqlite.specs.Collation.TheVariants.{Binary}
+use Rattle.sqlite.specs.Order.{Row}
+use Rattle.sqlite_sql.specs.declared.ops.CompareOp.TheVariants.{Eq}
+use Rattle.sqlite_sql.specs.declared.ops.BinaryOp.TheVariants.{Compare}
+use Rattle.sqlite.specs.Term.{Term, Env, lit, col, op2, holds}
+use Rattle.sqlite.specs.Query.{Query, inner, end}
+
+-- the rows of a tree that pass each test, in an order
+abbrev pub scan : ℕ → List Term → List Term → List (Term × Key) → Query
+scan tree tests shown order = record {
+  from = inner tree end;
+  filter = tests;
+  group = None;
+  project = shown;
+  distinct = false;
+  collations = [];
+  order = order;
+  limit = lit (Int (negsuc 0));
+  offset = lit (Int (pos 0));
+}
+
+-- the column is the parameter
+abbrev pub is_given : ℕ → ℕ → Term
+is_given place param = op2 (Compare Eq Binary) (col 1 place) (col 0 param)
+
+abbrev pub env : Row → Row → Env
+env params r = params ∷ r ∷ []
+
+abbrev pub passes : List Term → Row → Row → Bool
+passes tests params r = list_all (holds (env params r)) tests
+
+abbrev pub passing : List Term → Row → List Row → List Row
+passing tests params rows = filter (passes tests params) rows

@@ -1,0 +1,86 @@
+-- The tables of the office, as SQL understands them.
+use Rattle.std.specs.Prelude.{ℕ, Bool, true, false, List, [], ◌∷◌, codes, Option, Some, None, map}
+use Rattle.sqlite.specs.Collation.TheVariants.{Binary}
+use Rattle.sqlite.specs.declared.types.Value.TheVariants.{Null}
+use Rattle.sqlite.specs.Table.{Table}
+use Rattle.sqlite.specs.Schema.{Schema}
+use Rattle.sqlite.specs.Kind.{Kind}
+use Rattle.sqlite.specs.Kind.TheVariants.{Integer, Text, Blob}
+use Rattle.sqlite_schema.specs.declared.schema.Column.{Column}
+use Rattle.sqlite_schema.specs.declared.schema.Index.{Index}
+use Rattle.sqlite_schema.specs.declared.schema.Reference.{Reference}
+use Rattle.sqlite_schema.specs.declared.schema.Action.TheVariants.{NoAction}
+use Rattle.sqlite_value.specs.Keys.{plain}
+
+abbrev pub column : List ℕ → Kind → Bool → Column
+column name kind required = record { name = name; kind = kind; is_strict = true; not_null = required; default = Null; collation = Binary }
+
+abbrev pub text : List ℕ → Column
+text name = column name Text true
+
+abbrev pub blob : List ℕ → Column
+blob name = column name Blob true
+
+abbrev pub whole : List ℕ → Column
+whole name = column name Integer true
+
+abbrev pub to : List ℕ → List ℕ → List (List ℕ) → Reference
+to columns parent names = record { columns = columns; parent = parent; parent_columns = names; on_delete = NoAction; on_update = NoAction; is_deferred = false }
+
+-- a table in this tree; each of its keys is a list of places, where a row's rowid has place 0
+abbrev pub table_at : ℕ → List ℕ → List Column → Option ℕ → List ℕ → List (List ℕ) → List Reference → Table
+table_at tree name columns key primary uniques references = record {
+  name = name;
+  tree = tree;
+  columns = columns;
+  key = key;
+  primary = primary;
+  uniques = uniques;
+  orders = map (λ _. plain) uniques;
+  checks = [];
+  references = references;
+  computed = [];
+  stamps = record { places = []; terms = []; formats = [] };
+  is_counted = false;
+}
+
+abbrev pub index_at : ℕ → List ℕ → ℕ → List ℕ → Index
+index_at tree name table columns = record { name = name; tree = tree; table = table; columns = columns; order = plain; is_unique = true }
+
+abbrev pub meta_table : Table
+meta_table = table_at 0 (codes "meta") (column (codes "id") Integer false ∷ whole (codes "schema") ∷ blob (codes "site") ∷ []) (Some 0) (0 ∷ []) ([]) ([])
+
+abbrev pub seat_table : Table
+seat_table = table_at 1 (codes "seat") (text (codes "name") ∷ text (codes "customer") ∷ whole (codes "last") ∷ blob (codes "digest") ∷ text (codes "reply") ∷ []) None (1 ∷ []) ((1 ∷ []) ∷ []) ([])
+
+abbrev pub map_table : Table
+map_table = table_at 3 (codes "map") (column (codes "id") Integer false ∷ text (codes "body") ∷ blob (codes "digest") ∷ []) (Some 0) (0 ∷ []) ((2 ∷ []) ∷ []) ([])
+
+abbrev pub link_table : Table
+link_table = table_at 5 (codes "link") (text (codes "customer") ∷ blob (codes "digest") ∷ whole (codes "map") ∷ []) None (1 ∷ 2 ∷ []) ((1 ∷ 2 ∷ []) ∷ []) (to (3 ∷ []) (codes "map") (codes "id" ∷ []) ∷ [])
+
+abbrev pub orders_table : Table
+orders_table = table_at 7 (codes "orders") (text (codes "customer") ∷ text (codes "name") ∷ text (codes "issuer") ∷ text (codes "prefix") ∷ whole (codes "width") ∷ whole (codes "first") ∷ whole (codes "quantity") ∷ whole (codes "macs") ∷ column (codes "mac") Text false ∷ whole (codes "cursor") ∷ []) None (1 ∷ 2 ∷ []) ((1 ∷ 2 ∷ []) ∷ []) ([])
+
+abbrev pub device_table : Table
+device_table = table_at 9 (codes "device") (text (codes "customer") ∷ text (codes "chip") ∷ text (codes "ord") ∷ blob (codes "map") ∷ text (codes "state") ∷ column (codes "reason") Text false ∷ blob (codes "bits") ∷ blob (codes "keys") ∷ blob (codes "todo") ∷ column (codes "serial") Text false ∷ []) None (1 ∷ 2 ∷ []) ((1 ∷ 2 ∷ []) ∷ []) (to (1 ∷ 3 ∷ []) (codes "orders") (codes "customer" ∷ codes "name" ∷ []) ∷ to (1 ∷ 4 ∷ []) (codes "link") (codes "customer" ∷ codes "digest" ∷ []) ∷ [])
+
+abbrev pub given_table : Table
+given_table = table_at 11 (codes "given") (text (codes "issuer") ∷ text (codes "serial") ∷ text (codes "customer") ∷ blob (codes "key") ∷ column (codes "chip") Text false ∷ column (codes "mac") Text false ∷ text (codes "not_after") ∷ []) None (1 ∷ 2 ∷ []) ((1 ∷ 2 ∷ []) ∷ (1 ∷ 4 ∷ []) ∷ (6 ∷ []) ∷ []) ([])
+
+abbrev pub ledger_table : Table
+ledger_table = table_at 15 (codes "ledger") (column (codes "id") Integer false ∷ text (codes "customer") ∷ text (codes "chip") ∷ whole (codes "n") ∷ text (codes "event") ∷ text (codes "note") ∷ text (codes "seat") ∷ blob (codes "bits") ∷ blob (codes "keys") ∷ []) (Some 0) (0 ∷ []) ((2 ∷ 3 ∷ 4 ∷ []) ∷ []) (to (2 ∷ 3 ∷ []) (codes "device") (codes "customer" ∷ codes "chip" ∷ []) ∷ [])
+
+abbrev pub office_schema : Schema
+office_schema = record {
+  tables = meta_table ∷ seat_table ∷ map_table ∷ link_table ∷ orders_table ∷ device_table ∷ given_table ∷ ledger_table ∷ [];
+  indexes = index_at 2 (codes "sqlite_autoindex_seat_1") 1 (1 ∷ []) ∷ index_at 4 (codes "sqlite_autoindex_map_1") 3 (2 ∷ []) ∷ index_at 6 (codes "sqlite_autoindex_link_1") 5 (1 ∷ 2 ∷ []) ∷ index_at 8 (codes "sqlite_autoindex_orders_1") 7 (1 ∷ 2 ∷ []) ∷ index_at 10 (codes "sqlite_autoindex_device_1") 9 (1 ∷ 2 ∷ []) ∷ index_at 12 (codes "sqlite_autoindex_given_1") 11 (1 ∷ 2 ∷ []) ∷ index_at 13 (codes "sqlite_autoindex_given_2") 11 (1 ∷ 4 ∷ []) ∷ index_at 14 (codes "sqlite_autoindex_given_3") 11 (6 ∷ []) ∷ index_at 16 (codes "sqlite_autoindex_ledger_1") 15 (2 ∷ 3 ∷ 4 ∷ []) ∷ [];
+  views = [];
+}
+
+abbrev pub no_schema : Schema
+no_schema = record { tables = []; indexes = []; views = [] }
+
+-- a store that has the table meta alone
+abbrev pub with_meta : Schema
+with_meta = record { tables = meta_table ∷ []; indexes = []; views = [] }

@@ -1,0 +1,87 @@
+-- The tables of all customers that a database of the office holds.
+use Rattle.std.specs.Prelude.{◌≡◌, ℕ, pos, true, false, List, drop, map, None, IsTrue}
+use Rattle.sqlite_schema.specs.Rules.{are_typed}
+use Rattle.std.specs.List.{AllByRecursion}
+use Rattle.std.specs.Ordering.{is_eq}
+use Rattle.std.specs.declared.cmp.Ordering.{Ordering}
+use Rattle.sqlite.specs.declared.types.Value.TheVariants.{Int, Text as Words, Blob as Bytes}
+use Rattle.sqlite.specs.Order.{Row, column, bytes}
+use Rattle.sqlite.specs.Tree.{Trees, IsTable, IsAscending, rowid}
+use Rattle.sqlite.specs.View.{is_int}
+use Rattle.sqlite.specs.Effect.{Database}
+use Rattle.sqlite_keyed.specs.Lists.{sort_by}
+use Rattle.office_tables.specs.Tables.{Tables, seat_cmp, order_cmp, map_cmp, link_cmp, device_cmp, given_cmp, entry_cmp}
+use Rattle.office_sql.specs.Schema.{office_schema, orders_table}
+use Rattle.office_sql.specs.Values.{number_in, text_if, text_value}
+use Rattle.office_sql.specs.Rows.{seat_in, map_in, link_in, order_in, device_in, given_in, entry_in}
+
+-- the rows of each tree in the order of their keys; the trees are numbered as their tables and indexes are made
+abbrev pub tables_in : Trees → Tables
+tables_in db = record {
+  seats = sort_by seat_cmp (map seat_in (db 1));
+  orders = sort_by order_cmp (map order_in (db 7));
+  devices = sort_by device_cmp (map device_in (db 9));
+  given = sort_by given_cmp (map given_in (db 11));
+  maps = sort_by map_cmp (map map_in (db 3));
+  links = sort_by link_cmp (map link_in (db 5));
+  ledger = sort_by entry_cmp (map entry_in (db 15));
+}
+
+-- a column is a text, bytes, or a number that isn't below zero
+abbrev pub IsText : ℕ → Row → Type 0
+IsText place r = column r place ≡ Words (bytes (column r place))
+
+abbrev pub IsBlob : ℕ → Row → Type 0
+IsBlob place r = column r place ≡ Bytes (bytes (column r place))
+
+abbrev pub IsWhole : ℕ → Row → Type 0
+IsWhole place r = column r place ≡ Int (pos (number_in (column r place)))
+
+-- or a text that may be missing
+abbrev pub IsTextIf : ℕ → Row → Type 0
+IsTextIf place r = column r place ≡ text_value (text_if (column r place))
+
+-- no key comes twice
+abbrev pub AreKeyed : {A : Type 0} → (A → A → Ordering) → List A → Type 0
+AreKeyed cmp = IsAscending (λ a b. is_eq (cmp a b) ≡ false)
+
+-- the rowids are numbers that rise, the keys are of their kinds, and none comes twice
+pub record AreRows {A : Type 0} (Typed : Row → Type 0) (cmp : A → A → Ordering) (value : Row → A) (rows : List Row) : Type 0 where
+  pub rising : IsTable rows
+  pub numbered : AllByRecursion (λ r. IsTrue (is_int (rowid r))) rows
+  pub typed : AllByRecursion Typed rows
+  pub keyed : AreKeyed cmp (map value rows)
+
+-- the columns that statements look at
+abbrev pub IsSeatRow : Row → Type 0
+IsSeatRow r = IsText 1 r
+
+abbrev pub IsMapRow : Row → Type 0
+IsMapRow r = IsWhole 0 r × IsText 2 r
+
+abbrev pub IsLinkRow : Row → Type 0
+IsLinkRow r = IsText 1 r × IsBlob 2 r
+
+-- a new cursor writes the other columns anew, so that each is to be of its kind
+abbrev pub IsOrderRow : Row → Type 0
+IsOrderRow r = IsText 1 r × IsText 2 r × (are_typed None 0 orders_table.columns (drop 1 r) ≡ true)
+
+abbrev pub IsDeviceRow : Row → Type 0
+IsDeviceRow r = IsText 1 r × IsText 2 r × IsText 3 r
+
+abbrev pub IsGivenRow : Row → Type 0
+IsGivenRow r = IsText 1 r × IsText 2 r × IsBlob 4 r × IsTextIf 6 r
+
+abbrev pub IsEntryRow : Row → Type 0
+IsEntryRow r = IsWhole 0 r × IsText 2 r × IsText 3 r × IsWhole 4 r
+
+-- a database of the office
+pub record IsOffice (db : Database) : Type 0 where
+  pub schema : db.schema ≡ office_schema
+  pub seats : AreRows IsSeatRow seat_cmp seat_in (db.trees 1)
+  pub maps : AreRows IsMapRow map_cmp map_in (db.trees 3)
+  pub links : AreRows IsLinkRow link_cmp link_in (db.trees 5)
+  pub orders : AreRows IsOrderRow order_cmp order_in (db.trees 7)
+  pub devices : AreRows IsDeviceRow device_cmp device_in (db.trees 9)
+  pub given : AreRows IsGivenRow given_cmp given_in (db.trees 11)
+  pub ledger : AreRows IsEntryRow entry_cmp entry_in (db.trees 15)

@@ -1,0 +1,252 @@
+// The table of devices.
+ghost use Rattle.std.specs.Prelude.{◌≡◌, ◌∷◌, ◌&&◌, not, length, IsTrue, IfOk, map, filter, option_map, slice_get};
+ghost use Rattle.std.specs.Str.{bytes_eq};
+ghost use Rattle.sqlite.specs.declared.types.Value.TheVariants.{Null};
+ghost use Rattle.sqlite.specs.Held.{state};
+ghost use Rattle.sqlite.specs.Order.{column, bytes};
+ghost use Rattle.sqlite.specs.Values.{bound};
+ghost use Rattle.office_tables.specs.declared.rows.Write.TheVariants.{AddDevice as TheNewDevice, PutDevice as TheDevice};
+ghost use Rattle.office_tables.specs.OrderPlaces.{is_given_up, places_taken};
+ghost use Rattle.office_tables.specs.Quarantine.{reason_of};
+ghost use Rattle.office_tables.specs.Tables.{is_of, is_device, device_at, own, IsFree};
+ghost use Rattle.office_tables.specs.Texts.{reason_text};
+ghost use Rattle.office_sql.specs.Asking.{Asks, Changes, HasOffice};
+ghost use Rattle.office_sql.specs.Change.{Wrote};
+ghost use Rattle.office_sql.specs.Rows.{device_in, device_columns};
+ghost use Rattle.office_sql.specs.Tables.{tables_in};
+ghost use Rattle.office_sql.specs.Values.{state_in, text_if};
+
+use crate::read::{
+    DAMAGED, chip_at, column_at, digest_at, name_at, serial_if_at, text_at, text_if_at,
+};
+use office_tables::{Device, DeviceRow, DeviceState, Owned};
+use sqlite::types::{ToSql, ValueRef};
+use sqlite::{Alter, Connection, Error, Row, Transaction, params};
+use std::alloc::Global;
+use text_core::{Chip, Name, Serial};
+
+fn device_rows<S: Alter>(
+    conn: &mut Connection<S>,
+    customer: &Name,
+    chip: &Chip,
+) -> Result<Vec<Row>, Error>
+    requires { HasOffice (state S.Store conn.old) }
+    ensures { Asks S.Store conn.old conn.new result (λ t rows. map (λ r. device_in (Null ∷ r)) rows.items ≡ filter (is_device customer.now chip.now) t.devices) }
+{
+    conn.query_all(
+        "SELECT customer, chip, ord, map, state, reason, bits, keys, todo, serial FROM device WHERE customer = ?1 AND chip = ?2 ORDER BY customer, chip",
+        params![customer.as_str(), chip.as_str()],
+    )
+}
+
+fn own_device_rows<S: Alter>(conn: &mut Connection<S>, customer: &Name) -> Result<Vec<Row>, Error>
+    requires { HasOffice (state S.Store conn.old) }
+    ensures { Asks S.Store conn.old conn.new result (λ t rows. map (λ r. device_in (Null ∷ r)) rows.items ≡ filter (is_of customer.now) t.devices) }
+{
+    conn.query_all(
+        "SELECT customer, chip, ord, map, state, reason, bits, keys, todo, serial FROM device WHERE customer = ?1 ORDER BY customer, chip",
+        params![customer.as_str()],
+    )
+}
+
+fn state_rows<S: Alter>(
+    conn: &mut Connection<S>,
+    customer: &Name,
+    order: &Name,
+) -> Result<Vec<Row>, Error>
+    requires { HasOffice (state S.Store conn.old) }
+    ensures { Asks S.Store conn.old conn.new result (λ t rows. map (λ r. state_in (bytes (column r 0)) (text_if (column r 1))) rows.items ≡ map (λ d. d.row.state) (filter (λ d. is_of customer.now d && bytes_eq order.now d.row.order) t.devices)) }
+{
+    conn.query_all(
+        "SELECT state, reason FROM device WHERE customer = ?1 AND ord = ?2 ORDER BY customer, chip",
+        params![customer.as_str(), order.as_str()],
+    )
+}
+
+fn state_at(row: &Row, text: usize, reason: usize) -> Result<DeviceState, Error>
+    ensures { IfOk result (λ state. state ≡ state_in (bytes (column row.now text)) (text_if (column row.now reason))) }
+{
+    DeviceState::parse(text_at(row, text)?, text_if_at(row, reason)?).ok_or(DAMAGED)
+}
+
+/// The device of a row, whose serial number the caller reads: the proof of a function that makes a
+/// list of devices needs a value of the number's type in that function.
+fn read_device(row: &Row, serial: Option<Serial>) -> Result<DeviceRow, Error>
+    ensures { IfOk result (λ device. serial ≡ text_if (column row.now 9) → device ≡ device_in (Null ∷ row.now)) }
+{
+    Ok(Owned {
+        customer: name_at(row, 0)?,
+        row: Device {
+            chip: chip_at(row, 1)?,
+            order: name_at(row, 2)?,
+            map: digest_at(row, 3)?,
+            state: state_at(row, 4, 5)?,
+            bits: column_at(row, 6)?,
+            keys: column_at(row, 7)?,
+            todo: column_at(row, 8)?,
+            serial,
+        },
+    })
+}
+
+fn first_device(rows: &[Row]) -> Result<Option<DeviceRow>, Error>
+    ensures { IfOk result (λ device. device ≡ option_map (λ r. device_in (Null ∷ r)) (slice_get rows.now 0)) }
+{
+    match rows.first() {
+        Some(row) => {
+            let serial = serial_if_at(row, 9)?;
+            Ok(Some(read_device(row, serial)?))
+        }
+        None => Ok(None),
+    }
+}
+
+fn read_devices(alloc: Global, rows: &[Row]) -> Result<Vec<DeviceRow>, Error>
+    ensures { IfOk result (λ devices. devices.items ≡ map (λ r. device_in (Null ∷ r)) rows.now) }
+{
+    let mut devices = Vec::new(alloc);
+    for row in rows {
+        let serial = serial_if_at(row, 9)?;
+        devices.push(read_device(row, serial)?)?;
+    }
+    Ok(devices)
+}
+
+/// In how many of the rows a device takes a place of its order.
+fn count_places(rows: &[Row]) -> Result<u64, Error>
+    ensures { IfOk result (λ count. count ≡ length (filter (λ s. not (is_given_up s)) (map (λ r. state_in (bytes (column r 0)) (text_if (column r 1))) rows.now))) }
+{
+    let mut count = 0;
+    for row in rows {
+        if !state_at(row, 0, 1)?.is_given_up() {
+            count += 1;
+        }
+    }
+    Ok(count)
+}
+
+/// The row of a device.
+pub fn device_row<S: Alter>(
+    conn: &mut Connection<S>,
+    customer: &Name,
+    chip: &Chip,
+) -> Result<Option<DeviceRow>, Error>
+    requires { HasOffice (state S.Store conn.old) }
+    ensures { Asks S.Store conn.old conn.new result (λ t row. row ≡ device_at customer.now chip.now t) }
+{
+    let rows = device_rows(conn, customer, chip)?;
+    first_device(rows.as_slice())
+}
+
+/// The rows of a customer's devices, by chip.
+pub fn own_devices<S: Alter>(
+    alloc: Global,
+    conn: &mut Connection<S>,
+    customer: &Name,
+) -> Result<Vec<DeviceRow>, Error>
+    requires { HasOffice (state S.Store conn.old) }
+    ensures { Asks S.Store conn.old conn.new result (λ t rows. rows.items ≡ filter (is_of customer.now) t.devices) }
+{
+    let rows = own_device_rows(conn, customer)?;
+    read_devices(alloc, rows.as_slice())
+}
+
+/// How many places of a customer's order are taken.
+pub fn places_taken<S: Alter>(
+    conn: &mut Connection<S>,
+    customer: &Name,
+    order: &Name,
+) -> Result<u64, Error>
+    requires { HasOffice (state S.Store conn.old) }
+    ensures { Asks S.Store conn.old conn.new result (λ t count. count ≡ places_taken order.now (own customer.now t.devices)) }
+{
+    let rows = state_rows(conn, customer, order)?;
+    count_places(rows.as_slice())
+}
+
+fn reason_text_of(state: DeviceState) -> Option<&'static str>
+    ensures { option_map (λ t. t.now) result ≡ option_map reason_text (reason_of state) }
+{
+    match state.reason() {
+        Some(reason) => Some(reason.text()),
+        None => None,
+    }
+}
+
+fn serial_text_of(device: &Device) -> Option<&str>
+    ensures { option_map (λ t. t.now) result ≡ device.now.serial }
+{
+    match &device.serial {
+        Some(serial) => Some(serial.as_str()),
+        None => None,
+    }
+}
+
+fn values_of(device: &DeviceRow) -> [ValueRef<'_>; 10]
+    ensures { bound result ≡ device_columns device.now }
+{
+    let row = &device.row;
+    [
+        device.customer.as_str().to_sql(),
+        row.chip.as_str().to_sql(),
+        row.order.as_str().to_sql(),
+        row.map.as_bytes().as_slice().to_sql(),
+        row.state.text().to_sql(),
+        reason_text_of(row.state).to_sql(),
+        row.bits.as_bytes().to_sql(),
+        row.keys.as_bytes().to_sql(),
+        row.todo.as_bytes().to_sql(),
+        serial_text_of(row).to_sql(),
+    ]
+}
+
+fn insert_device<S: Alter>(tx: &mut Transaction<'_, S>, device: &DeviceRow) -> Result<usize, Error>
+    requires office { HasOffice (state S.Store tx.old.conn.now) }
+    requires free { IsTrue (state S.Store tx.old.conn.now).is_open → IsFree (TheNewDevice device.now) (tables_in (state S.Store tx.old.conn.now).now.trees) }
+    ensures same_reference { tx.new.conn.ghost_name ≡ tx.old.conn.ghost_name }
+    ensures changes { Changes S.Store tx.old.conn.now tx.new.conn.now result (λ old new _. Wrote (TheNewDevice device.now) old new) }
+{
+    tx.execute(
+        "INSERT INTO device (customer, chip, ord, map, state, reason, bits, keys, todo, serial) VALUES (?1, ?2, ?3, ?4, ?5, ?6, ?7, ?8, ?9, ?10)",
+        &values_of(device),
+    )
+}
+
+fn update_device<S: Alter>(tx: &mut Transaction<'_, S>, device: &DeviceRow) -> Result<usize, Error>
+    requires { HasOffice (state S.Store tx.old.conn.now) }
+    ensures same_reference { tx.new.conn.ghost_name ≡ tx.old.conn.ghost_name }
+    ensures changes { Changes S.Store tx.old.conn.now tx.new.conn.now result (λ old new count. count ≡ 1 → Wrote (TheDevice device.now) old new) }
+{
+    tx.execute(
+        "UPDATE device SET ord = ?3, map = ?4, state = ?5, reason = ?6, bits = ?7, keys = ?8, todo = ?9, serial = ?10 WHERE customer = ?1 AND chip = ?2",
+        &values_of(device),
+    )
+}
+
+/// Adds a device.
+pub(crate) fn add_device<S: Alter>(
+    tx: &mut Transaction<'_, S>,
+    device: &DeviceRow,
+) -> Result<(), Error>
+    requires office { HasOffice (state S.Store tx.old.conn.now) }
+    requires free { IsTrue (state S.Store tx.old.conn.now).is_open → IsFree (TheNewDevice device.now) (tables_in (state S.Store tx.old.conn.now).now.trees) }
+    ensures same_reference { tx.new.conn.ghost_name ≡ tx.old.conn.ghost_name }
+    ensures changes { Changes S.Store tx.old.conn.now tx.new.conn.now result (λ old new _. Wrote (TheNewDevice device.now) old new) }
+{
+    insert_device(tx, device)?;
+    Ok(())
+}
+
+/// Puts a device in place of the one with its chip.
+pub(crate) fn put_device<S: Alter>(
+    tx: &mut Transaction<'_, S>,
+    device: &DeviceRow,
+) -> Result<(), Error>
+    requires office { HasOffice (state S.Store tx.old.conn.now) }
+    requires free { IsTrue (state S.Store tx.old.conn.now).is_open → IsFree (TheDevice device.now) (tables_in (state S.Store tx.old.conn.now).now.trees) }
+    ensures same_reference { tx.new.conn.ghost_name ≡ tx.old.conn.ghost_name }
+    ensures changes { Changes S.Store tx.old.conn.now tx.new.conn.now result (λ old new _. Wrote (TheDevice device.now) old new) }
+{
+    let count = update_device(tx, device)?;
+    if count == 1 { Ok(()) } else { Err(DAMAGED) }
+}

@@ -1,0 +1,239 @@
+// The table of given serial numbers.
+ghost use Rattle.std.specs.Prelude.{◌≡◌, ◌∷◌, ℕ, Some, IfOk, IsTrue, map, filter, option_map, option_and_then, slice_get, string_bytes};
+ghost use Rattle.sqlite.specs.Held.{state};
+ghost use Rattle.sqlite.specs.declared.types.Value.TheVariants.{Null};
+ghost use Rattle.office_tables.specs.Tables.{IsAddressFree, IsFree, is_given, is_bound, is_of_issuer, has_address, given_at, given_by_key};
+ghost use Rattle.office_tables.specs.declared.rows.Write.TheVariants.{AddGiven as TheGiven};
+ghost use Rattle.id_ranges.specs.Mac as spec;
+ghost use Rattle.id_ranges.specs.Mac.{mac_of_text};
+ghost use Rattle.office_sql.specs.Looking.{Looks};
+ghost use Rattle.sqlite.specs.Order.{column};
+ghost use Rattle.office_sql.specs.Values.{text_if, mac_if};
+ghost use Rattle.office_sql.specs.Rows.{given_in};
+ghost use Rattle.office_sql.specs.Tables.{tables_in};
+ghost use Rattle.office_sql.specs.Change.{Wrote};
+ghost use Rattle.office_sql.specs.Asking.{Asks, Changes, HasOffice};
+
+use crate::address::address_text;
+use crate::read::{DAMAGED, chip_if_at, key_at, mac_if_at, name_at, serial_at, time_at};
+use id_ranges::{KeyDigest, Mac};
+use office_tables::{Given, GivenRow, Owned};
+use sqlite::{Alter, Connection, Error, Row, Transaction, params};
+use std::alloc::Global;
+use text_core::{Chip, Name};
+
+fn rows_at<S: Alter>(
+    conn: &mut Connection<S>,
+    issuer: &Name,
+    serial: &str,
+) -> Result<Vec<Row>, Error>
+    requires { HasOffice (state S.Store conn.old) }
+    ensures { Asks S.Store conn.old conn.new result (λ t rows. map (λ r. given_in (Null ∷ r)) rows.items ≡ filter (is_given issuer.now serial.now) t.given) }
+{
+    conn.query_all(
+        "SELECT issuer, serial, customer, key, chip, mac, not_after FROM given WHERE issuer = ?1 AND serial = ?2 ORDER BY issuer, serial",
+        params![issuer.as_str(), serial],
+    )
+}
+
+fn rows_by_key<S: Alter>(
+    conn: &mut Connection<S>,
+    issuer: &Name,
+    key: &KeyDigest,
+) -> Result<Vec<Row>, Error>
+    requires { HasOffice (state S.Store conn.old) }
+    ensures { Asks S.Store conn.old conn.new result (λ t rows. map (λ r. given_in (Null ∷ r)) rows.items ≡ filter (is_bound issuer.now key.now) t.given) }
+{
+    conn.query_all(
+        "SELECT issuer, serial, customer, key, chip, mac, not_after FROM given WHERE issuer = ?1 AND key = ?2 ORDER BY issuer, serial",
+        params![issuer.as_str(), key.as_bytes().as_slice()],
+    )
+}
+
+fn rows_of<S: Alter>(conn: &mut Connection<S>, issuer: &Name) -> Result<Vec<Row>, Error>
+    requires { HasOffice (state S.Store conn.old) }
+    ensures { Asks S.Store conn.old conn.new result (λ t rows. map (λ r. given_in (Null ∷ r)) rows.items ≡ filter (is_of_issuer issuer.now) t.given) }
+{
+    conn.query_all(
+        "SELECT issuer, serial, customer, key, chip, mac, not_after FROM given WHERE issuer = ?1 ORDER BY issuer, serial",
+        params![issuer.as_str()],
+    )
+}
+
+fn device_at(row: &Row) -> Result<(Option<Chip>, Option<Mac>), Error>
+    ensures { IfOk result (λ device. (device.0 ≡ text_if (column row.now 4)) × (device.1 ≡ mac_if (column row.now 5))) }
+{
+    Ok((chip_if_at(row, 4)?, mac_if_at(row, 5)?))
+}
+
+// With what `device_at` answers for the row.
+fn read_given(row: &Row, chip: Option<Chip>, mac: Option<Mac>) -> Result<GivenRow, Error>
+    requires chip { chip ≡ text_if (column row.now 4) }
+    requires mac { mac ≡ mac_if (column row.now 5) }
+    ensures { IfOk result (λ given. given ≡ given_in (Null ∷ row.now)) }
+{
+    Ok(Owned {
+        customer: name_at(row, 2)?,
+        row: Given {
+            issuer: name_at(row, 0)?,
+            serial: serial_at(row, 1)?,
+            key: key_at(row, 3)?,
+            chip,
+            mac,
+            not_after: time_at(row, 6)?,
+        },
+    })
+}
+
+fn first_given(rows: &[Row]) -> Result<Option<GivenRow>, Error>
+    ensures { IfOk result (λ given. given ≡ option_map (λ r. given_in (Null ∷ r)) (slice_get rows.now 0)) }
+{
+    match rows.first() {
+        Some(row) => {
+            let (chip, mac) = device_at(row)?;
+            Ok(Some(read_given(row, chip, mac)?))
+        }
+        None => Ok(None),
+    }
+}
+
+fn read_all(alloc: Global, rows: &[Row]) -> Result<Vec<GivenRow>, Error>
+    ensures { IfOk result (λ given. given.items ≡ map (λ r. given_in (Null ∷ r)) rows.now) }
+{
+    let mut all = Vec::new(alloc);
+    for row in rows {
+        let (chip, mac) = device_at(row)?;
+        all.push(read_given(row, chip, mac)?)?;
+    }
+    Ok(all)
+}
+
+/// The record of a serial number of an issuer.
+pub fn given_row<S: Alter>(
+    conn: &mut Connection<S>,
+    issuer: &Name,
+    serial: &str,
+) -> Result<Option<GivenRow>, Error>
+    requires { HasOffice (state S.Store conn.old) }
+    ensures { Asks S.Store conn.old conn.new result (λ t row. row ≡ given_at issuer.now serial.now t) }
+{
+    let rows = rows_at(conn, issuer, serial)?;
+    first_given(rows.as_slice())
+}
+
+/// The record of a key in an issuer.
+pub fn given_by_key<S: Alter>(
+    conn: &mut Connection<S>,
+    issuer: &Name,
+    key: &KeyDigest,
+) -> Result<Option<GivenRow>, Error>
+    requires { HasOffice (state S.Store conn.old) }
+    ensures { Asks S.Store conn.old conn.new result (λ t row. row ≡ given_by_key issuer.now key.now t) }
+{
+    let rows = rows_by_key(conn, issuer, key)?;
+    first_given(rows.as_slice())
+}
+
+/// The records of an issuer, in the order of their serial numbers.
+pub fn given_of<S: Alter>(
+    alloc: Global,
+    conn: &mut Connection<S>,
+    issuer: &Name,
+) -> Result<Vec<GivenRow>, Error>
+    requires { HasOffice (state S.Store conn.old) }
+    ensures { Asks S.Store conn.old conn.new result (λ t rows. rows.items ≡ filter (is_of_issuer issuer.now) t.given) }
+{
+    let rows = rows_of(conn, issuer)?;
+    read_all(alloc, rows.as_slice())
+}
+
+fn rows_with_address<S: Alter>(tx: &mut Transaction<'_, S>, text: &str) -> Result<Vec<Row>, Error>
+    requires { HasOffice (state S.Store tx.old.conn.now) }
+    ensures same_reference { tx.new.conn.ghost_name ≡ tx.old.conn.ghost_name }
+    ensures looks { Looks S.Store tx.old.conn.now tx.new.conn.now result (λ t rows. (mac : ℕ) → mac_of_text text.now ≡ Some mac → map (λ r. given_in (Null ∷ r)) rows.items ≡ filter (has_address mac) t.given) }
+{
+    tx.query_all(
+        "SELECT issuer, serial, customer, key, chip, mac, not_after FROM given WHERE mac = ?1 ORDER BY issuer, serial",
+        params![text],
+    )
+}
+
+fn find_text_free<S: Alter>(tx: &mut Transaction<'_, S>, text: &str) -> Result<(), Error>
+    requires { HasOffice (state S.Store tx.old.conn.now) }
+    ensures same_reference { tx.new.conn.ghost_name ≡ tx.old.conn.ghost_name }
+    ensures looks { Looks S.Store tx.old.conn.now tx.new.conn.now result (λ t _. IsAddressFree (mac_of_text text.now) t.given) }
+{
+    let rows = rows_with_address(tx, text)?;
+    if rows.is_empty() {
+        Ok(())
+    } else {
+        Err(DAMAGED)
+    }
+}
+
+fn find_address_free<S: Alter>(
+    tx: &mut Transaction<'_, S>,
+    address: &Option<String>,
+) -> Result<(), Error>
+    requires { HasOffice (state S.Store tx.old.conn.now) }
+    ensures same_reference { tx.new.conn.ghost_name ≡ tx.old.conn.ghost_name }
+    ensures looks { Looks S.Store tx.old.conn.now tx.new.conn.now result (λ t _. IsAddressFree (option_and_then mac_of_text (option_map (λ s. string_bytes s) address.now)) t.given) }
+{
+    match address {
+        Some(text) => find_text_free(tx, text.as_str()),
+        None => Ok(()),
+    }
+}
+
+fn chip_text(chip: &Option<Chip>) -> Option<&str>
+    ensures { option_map (λ text. text.now) result ≡ chip.now }
+{
+    match chip {
+        Some(chip) => Some(chip.as_str()),
+        None => None,
+    }
+}
+
+fn insert_given<S: Alter>(
+    tx: &mut Transaction<'_, S>,
+    given: &GivenRow,
+    address: &Option<String>,
+) -> Result<usize, Error>
+    requires office { HasOffice (state S.Store tx.old.conn.now) }
+    requires free { IsTrue (state S.Store tx.old.conn.now).is_open → IsFree (TheGiven given.now) (tables_in (state S.Store tx.old.conn.now).now.trees) }
+    requires address_is { option_map (λ t. string_bytes t) address.now ≡ option_map spec.mac_text given.now.row.mac }
+    requires address_back { option_and_then mac_of_text (option_map (λ t. string_bytes t) address.now) ≡ given.now.row.mac }
+    requires address_free { IsTrue (state S.Store tx.old.conn.now).is_open → IsAddressFree given.now.row.mac (tables_in (state S.Store tx.old.conn.now).now.trees).given }
+    ensures same_reference { tx.new.conn.ghost_name ≡ tx.old.conn.ghost_name }
+    ensures changes { Changes S.Store tx.old.conn.now tx.new.conn.now result (λ old new _. Wrote (TheGiven given.now) old new) }
+{
+    tx.execute(
+        "INSERT INTO given (issuer, serial, customer, key, chip, mac, not_after) VALUES (?1, ?2, ?3, ?4, ?5, ?6, ?7)",
+        params![
+            given.row.issuer.as_str(),
+            given.row.serial.as_str(),
+            given.customer.as_str(),
+            given.row.key.as_bytes().as_slice(),
+            chip_text(&given.row.chip),
+            address,
+            given.row.not_after.as_str()
+        ],
+    )
+}
+
+/// Adds the record of a serial number, unless another record has its address.
+pub(crate) fn add_given<S: Alter>(
+    alloc: Global,
+    tx: &mut Transaction<'_, S>,
+    given: &GivenRow,
+) -> Result<(), Error>
+    requires office { HasOffice (state S.Store tx.old.conn.now) }
+    requires free { IsTrue (state S.Store tx.old.conn.now).is_open → IsFree (TheGiven given.now) (tables_in (state S.Store tx.old.conn.now).now.trees) }
+    ensures same_reference { tx.new.conn.ghost_name ≡ tx.old.conn.ghost_name }
+    ensures changes { Changes S.Store tx.old.conn.now tx.new.conn.now result (λ old new _. Wrote (TheGiven given.now) old new) }
+{
+    let address = address_text(alloc, given.row.mac)?;
+    find_address_free(tx, &address)?;
+    insert_given(tx, given, &address)?;
+    Ok(())
+}

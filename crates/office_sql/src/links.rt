@@ -1,0 +1,117 @@
+// The table of links.
+ghost use Rattle.std.specs.Prelude.{◌≡◌, ◌∷◌, IfOk, IsTrue, map, filter, option_map, slice_get};
+ghost use Rattle.sqlite.specs.Held.{state};
+ghost use Rattle.sqlite.specs.declared.types.Value.TheVariants.{Null};
+ghost use Rattle.office_tables.specs.declared.rows.Write.TheVariants.{AddLink as TheLink};
+ghost use Rattle.office_tables.specs.Tables.{is_link, is_of, link_at, IsFree};
+ghost use Rattle.office_sql.specs.Rows.{link_in};
+ghost use Rattle.office_sql.specs.Tables.{tables_in};
+ghost use Rattle.office_sql.specs.Change.{Wrote};
+ghost use Rattle.office_sql.specs.Asking.{Asks, Changes, HasOffice};
+
+use crate::number::whole;
+use crate::read::{digest_at, name_at, whole_at};
+use office_tables::{Link, LinkRow, Owned};
+use sqlite::{Alter, Connection, Error, Row, Transaction, params};
+use std::alloc::Global;
+use text_core::{Digest, Name};
+
+fn link_rows<S: Alter>(
+    conn: &mut Connection<S>,
+    customer: &Name,
+    digest: &Digest,
+) -> Result<Vec<Row>, Error>
+    requires { HasOffice (state S.Store conn.old) }
+    ensures { Asks S.Store conn.old conn.new result (λ t rows. map (λ r. link_in (Null ∷ r)) rows.items ≡ filter (is_link customer.now digest.now) t.links) }
+{
+    conn.query_all(
+        "SELECT customer, digest, map FROM link WHERE customer = ?1 AND digest = ?2 ORDER BY customer, digest",
+        params![customer.as_str(), digest.as_bytes().as_slice()],
+    )
+}
+
+fn own_rows<S: Alter>(conn: &mut Connection<S>, customer: &Name) -> Result<Vec<Row>, Error>
+    requires { HasOffice (state S.Store conn.old) }
+    ensures { Asks S.Store conn.old conn.new result (λ t rows. map (λ r. link_in (Null ∷ r)) rows.items ≡ filter (is_of customer.now) t.links) }
+{
+    conn.query_all(
+        "SELECT customer, digest, map FROM link WHERE customer = ?1 ORDER BY customer, digest",
+        params![customer.as_str()],
+    )
+}
+
+fn read_link(row: &Row) -> Result<LinkRow, Error>
+    ensures { IfOk result (λ link. link ≡ link_in (Null ∷ row.now)) }
+{
+    Ok(Owned {
+        customer: name_at(row, 0)?,
+        row: Link {
+            digest: digest_at(row, 1)?,
+            map: whole_at(row, 2)?,
+        },
+    })
+}
+
+fn first_link(rows: &[Row]) -> Result<Option<LinkRow>, Error>
+    ensures { IfOk result (λ link. link ≡ option_map (λ r. link_in (Null ∷ r)) (slice_get rows.now 0)) }
+{
+    match rows.first() {
+        Some(row) => Ok(Some(read_link(row)?)),
+        None => Ok(None),
+    }
+}
+
+fn read_links(alloc: Global, rows: &[Row]) -> Result<Vec<LinkRow>, Error>
+    ensures { IfOk result (λ links. links.items ≡ map (λ r. link_in (Null ∷ r)) rows.now) }
+{
+    let mut links = Vec::new(alloc);
+    for row in rows {
+        links.push(read_link(row)?)?;
+    }
+    Ok(links)
+}
+
+/// A customer's link to a map, by the digest of the map's text.
+pub fn link_row<S: Alter>(
+    conn: &mut Connection<S>,
+    customer: &Name,
+    digest: &Digest,
+) -> Result<Option<LinkRow>, Error>
+    requires { HasOffice (state S.Store conn.old) }
+    ensures { Asks S.Store conn.old conn.new result (λ t row. row ≡ link_at customer.now digest.now t) }
+{
+    let rows = link_rows(conn, customer, digest)?;
+    first_link(rows.as_slice())
+}
+
+/// A customer's links, by digest.
+pub fn own_links<S: Alter>(
+    alloc: Global,
+    conn: &mut Connection<S>,
+    customer: &Name,
+) -> Result<Vec<LinkRow>, Error>
+    requires { HasOffice (state S.Store conn.old) }
+    ensures { Asks S.Store conn.old conn.new result (λ t rows. rows.items ≡ filter (is_of customer.now) t.links) }
+{
+    let rows = own_rows(conn, customer)?;
+    read_links(alloc, rows.as_slice())
+}
+
+/// Adds a customer's link to a map that is there.
+pub(crate) fn add_link<S: Alter>(tx: &mut Transaction<'_, S>, link: &LinkRow) -> Result<(), Error>
+    requires office { HasOffice (state S.Store tx.old.conn.now) }
+    requires free { IsTrue (state S.Store tx.old.conn.now).is_open → IsFree (TheLink link.now) (tables_in (state S.Store tx.old.conn.now).now.trees) }
+    ensures same_reference { tx.new.conn.ghost_name ≡ tx.old.conn.ghost_name }
+    ensures changes { Changes S.Store tx.old.conn.now tx.new.conn.now result (λ old new _. Wrote (TheLink link.now) old new) }
+{
+    let map = whole(link.row.map)?;
+    tx.execute(
+        "INSERT INTO link (customer, digest, map) VALUES (?1, ?2, ?3)",
+        params![
+            link.customer.as_str(),
+            link.row.digest.as_bytes().as_slice(),
+            map
+        ],
+    )?;
+    Ok(())
+}

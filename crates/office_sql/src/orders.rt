@@ -1,0 +1,237 @@
+// The table of orders.
+ghost use Rattle.std.specs.Prelude.{◌≡◌, ◌∷◌, pos, IfOk, IsTrue, Some, map, filter, option_and_then, option_map, slice_get, string_bytes};
+ghost use Rattle.id_ranges.specs.Mac as spec;
+ghost use Rattle.id_ranges.specs.Mac.{mac_of_text};
+ghost use Rattle.sqlite.specs.Held.{state};
+ghost use Rattle.sqlite.specs.Order.{column};
+ghost use Rattle.sqlite.specs.declared.types.Value.TheVariants.{Null};
+ghost use Rattle.office_tables.specs.Tables.{is_of, is_order, order_at, IsFree};
+ghost use Rattle.office_tables.specs.declared.rows.Write.TheVariants.{AddOrder as TheOrder, SetCursor as TheCursor};
+ghost use Rattle.office_sql.specs.Asking.{Asks, Changes, HasOffice};
+ghost use Rattle.office_sql.specs.Change.{Wrote};
+ghost use Rattle.office_sql.specs.Tables.{tables_in};
+ghost use Rattle.office_sql.specs.Rows.{order_in};
+ghost use Rattle.office_sql.specs.Values.{mac_if, number_in};
+
+use crate::address::address_text;
+use crate::number::whole;
+use crate::read::{DAMAGED, mac_if_at, name_at, text_at, whole_at};
+use id_ranges::{Mac, SerialRange};
+use office_tables::{Cursor, Order, OrderRow, Owned};
+use sqlite::{Alter, Connection, Error, Row, Transaction, params};
+use std::alloc::Global;
+use text_core::{LARGEST_WHOLE, Name};
+
+/// How many devices an order is for at most. A row with more is damaged.
+const LARGEST_QUANTITY: u64 = 10_000;
+
+/// How many addresses a device of an order has at most. A row with more is damaged.
+const LARGEST_MACS: u8 = 4;
+
+fn order_rows<S: Alter>(
+    conn: &mut Connection<S>,
+    customer: &Name,
+    name: &Name,
+) -> Result<Vec<Row>, Error>
+    requires { HasOffice (state S.Store conn.old) }
+    ensures { Asks S.Store conn.old conn.new result (λ t rows. map (λ r. order_in (Null ∷ r)) rows.items ≡ filter (is_order customer.now name.now) t.orders) }
+{
+    conn.query_all(
+        "SELECT customer, name, issuer, prefix, width, first, quantity, macs, mac, cursor FROM orders WHERE customer = ?1 AND name = ?2 ORDER BY customer, name",
+        params![customer.as_str(), name.as_str()],
+    )
+}
+
+fn own_rows<S: Alter>(conn: &mut Connection<S>, customer: &Name) -> Result<Vec<Row>, Error>
+    requires { HasOffice (state S.Store conn.old) }
+    ensures { Asks S.Store conn.old conn.new result (λ t rows. map (λ r. order_in (Null ∷ r)) rows.items ≡ filter (is_of customer.now) t.orders) }
+{
+    conn.query_all(
+        "SELECT customer, name, issuer, prefix, width, first, quantity, macs, mac, cursor FROM orders WHERE customer = ?1 ORDER BY customer, name",
+        params![customer.as_str()],
+    )
+}
+
+fn small_at(row: &Row, at: usize) -> Result<u8, Error>
+    ensures { IfOk result (λ number. number ≡ number_in (column row.now at)) }
+{
+    u8::try_from(whole_at(row, at)?).map_err(|_| DAMAGED)
+}
+
+fn macs_at(row: &Row, at: usize) -> Result<u8, Error>
+    ensures { IfOk result (λ number. number ≡ number_in (column row.now at)) }
+{
+    let macs = small_at(row, at)?;
+    if macs <= LARGEST_MACS {
+        Ok(macs)
+    } else {
+        Err(DAMAGED)
+    }
+}
+
+fn range(prefix: &str, width: u8, first: u64, quantity: u64) -> Result<SerialRange, Error>
+    ensures { IfOk result (λ range. range ≡ record { prefix = prefix.now; width = width; first = first; quantity = quantity }) }
+{
+    let has_width = 1 <= width && width <= 9;
+    let has_quantity = 1 <= quantity && quantity <= LARGEST_QUANTITY;
+    if !has_width || !has_quantity || LARGEST_WHOLE < first {
+        return Err(DAMAGED);
+    }
+    SerialRange::new(prefix, width, first, quantity).map_err(|_| DAMAGED)
+}
+
+// With the address that stands in the row.
+fn read_order(row: &Row, mac: Option<Mac>) -> Result<OrderRow, Error>
+    requires { mac ≡ mac_if (column row.now 8) }
+    ensures { IfOk result (λ order. order ≡ order_in (Null ∷ row.now)) }
+{
+    Ok(Owned {
+        customer: name_at(row, 0)?,
+        row: Order {
+            name: name_at(row, 1)?,
+            issuer: name_at(row, 2)?,
+            range: range(
+                text_at(row, 3)?,
+                small_at(row, 4)?,
+                whole_at(row, 5)?,
+                whole_at(row, 6)?,
+            )?,
+            macs: macs_at(row, 7)?,
+            mac,
+            cursor: whole_at(row, 9)?,
+        },
+    })
+}
+
+fn first_order(rows: &[Row]) -> Result<Option<OrderRow>, Error>
+    ensures { IfOk result (λ order. order ≡ option_map (λ r. order_in (Null ∷ r)) (slice_get rows.now 0)) }
+{
+    match rows.first() {
+        Some(row) => {
+            let mac = mac_if_at(row, 8)?;
+            Ok(Some(read_order(row, mac)?))
+        }
+        None => Ok(None),
+    }
+}
+
+fn read_orders(alloc: Global, rows: &[Row]) -> Result<Vec<OrderRow>, Error>
+    ensures { IfOk result (λ orders. orders.items ≡ map (λ r. order_in (Null ∷ r)) rows.now) }
+{
+    let mut orders = Vec::new(alloc);
+    for row in rows {
+        let mac = mac_if_at(row, 8)?;
+        orders.push(read_order(row, mac)?)?;
+    }
+    Ok(orders)
+}
+
+/// The row of an order.
+pub fn order_row<S: Alter>(
+    conn: &mut Connection<S>,
+    customer: &Name,
+    name: &Name,
+) -> Result<Option<OrderRow>, Error>
+    requires { HasOffice (state S.Store conn.old) }
+    ensures { Asks S.Store conn.old conn.new result (λ t row. row ≡ order_at customer.now name.now t) }
+{
+    let rows = order_rows(conn, customer, name)?;
+    first_order(rows.as_slice())
+}
+
+/// The rows of a customer's orders, by name.
+pub fn own_orders<S: Alter>(
+    alloc: Global,
+    conn: &mut Connection<S>,
+    customer: &Name,
+) -> Result<Vec<OrderRow>, Error>
+    requires { HasOffice (state S.Store conn.old) }
+    ensures { Asks S.Store conn.old conn.new result (λ t rows. rows.items ≡ filter (is_of customer.now) t.orders) }
+{
+    let rows = own_rows(conn, customer)?;
+    read_orders(alloc, rows.as_slice())
+}
+
+// With the text of its address.
+fn insert_order<S: Alter>(
+    tx: &mut Transaction<'_, S>,
+    order: &OrderRow,
+    address: &Option<String>,
+) -> Result<usize, Error>
+    requires office { HasOffice (state S.Store tx.old.conn.now) }
+    requires free { IsTrue (state S.Store tx.old.conn.now).is_open → IsFree (TheOrder order.now) (tables_in (state S.Store tx.old.conn.now).now.trees) }
+    requires address_is { option_map (λ t. string_bytes t) address.now ≡ option_map spec.mac_text order.now.row.mac }
+    requires address_back { option_and_then mac_of_text (option_map (λ t. string_bytes t) address.now) ≡ order.now.row.mac }
+    ensures same_reference { tx.new.conn.ghost_name ≡ tx.old.conn.ghost_name }
+    ensures changes { Changes S.Store tx.old.conn.now tx.new.conn.now result (λ old new _. Wrote (TheOrder order.now) old new) }
+{
+    let range = order.row.range;
+    let prefix = range.prefix();
+    let first = whole(range.first())?;
+    let quantity = whole(range.quantity())?;
+    let cursor = whole(order.row.cursor)?;
+    tx.execute(
+        "INSERT INTO orders (customer, name, issuer, prefix, width, first, quantity, macs, mac, cursor) VALUES (?1, ?2, ?3, ?4, ?5, ?6, ?7, ?8, ?9, ?10)",
+        params![
+            order.customer.as_str(),
+            order.row.name.as_str(),
+            order.row.issuer.as_str(),
+            prefix.as_str(),
+            u32::from(range.width()),
+            first,
+            quantity,
+            u32::from(order.row.macs),
+            address,
+            cursor
+        ],
+    )
+}
+
+/// Adds an order.
+pub(crate) fn add_order<S: Alter>(
+    alloc: Global,
+    tx: &mut Transaction<'_, S>,
+    order: &OrderRow,
+) -> Result<(), Error>
+    requires office { HasOffice (state S.Store tx.old.conn.now) }
+    requires free { IsTrue (state S.Store tx.old.conn.now).is_open → IsFree (TheOrder order.now) (tables_in (state S.Store tx.old.conn.now).now.trees) }
+    ensures same_reference { tx.new.conn.ghost_name ≡ tx.old.conn.ghost_name }
+    ensures changes { Changes S.Store tx.old.conn.now tx.new.conn.now result (λ old new _. Wrote (TheOrder order.now) old new) }
+{
+    let address = address_text(alloc, order.row.mac)?;
+    insert_order(tx, order, &address)?;
+    Ok(())
+}
+
+// Sets the cursor of an order, and answers of how many.
+fn update_cursor<S: Alter>(
+    tx: &mut Transaction<'_, S>,
+    cursor: &Owned<Cursor>,
+    number: i64,
+) -> Result<usize, Error>
+    requires office { HasOffice (state S.Store tx.old.conn.now) }
+    requires number { number ≡ pos cursor.now.row.number }
+    ensures same_reference { tx.new.conn.ghost_name ≡ tx.old.conn.ghost_name }
+    ensures changes { Changes S.Store tx.old.conn.now tx.new.conn.now result (λ old new count. count ≡ 1 → Wrote (TheCursor cursor.now) old new) }
+{
+    tx.execute(
+        "UPDATE orders SET cursor = ?3 WHERE customer = ?1 AND name = ?2",
+        params![cursor.customer.as_str(), cursor.row.order.as_str(), number],
+    )
+}
+
+/// Sets the cursor of an order that is there.
+pub(crate) fn set_cursor<S: Alter>(
+    tx: &mut Transaction<'_, S>,
+    cursor: &Owned<Cursor>,
+) -> Result<(), Error>
+    requires office { HasOffice (state S.Store tx.old.conn.now) }
+    ensures same_reference { tx.new.conn.ghost_name ≡ tx.old.conn.ghost_name }
+    ensures changes { Changes S.Store tx.old.conn.now tx.new.conn.now result (λ old new _. Wrote (TheCursor cursor.now) old new) }
+{
+    let number = whole(cursor.row.number)?;
+    if update_cursor(tx, cursor, number)? != 1 {
+        return Err(DAMAGED);
+    }
+    Ok(())
+}

@@ -1,0 +1,145 @@
+// The columns of a row that a query shows, as what the tables keep. A column that isn't of its form
+// is the fault of a damaged database.
+ghost use Rattle.std.specs.Prelude.{◌≡◌, IfOk, option_map};
+ghost use Rattle.sqlite.specs.Order.{column, bytes};
+ghost use Rattle.office_sql.specs.Values.{number_in, text_if, mac_if};
+
+use id_ranges::{KeyDigest, Mac};
+use sqlite::types::ValueRef;
+use sqlite::{Error, ErrorCode, Row};
+use std::alloc::Global;
+use std::str;
+use text_core::{Chip, Column, Digest, Name, Serial, Text, Time};
+
+/// The fault of a column that isn't of its form.
+pub const DAMAGED: Error = Error::SqliteFailure(ErrorCode::DatabaseCorrupt);
+
+pub(crate) fn text_at(row: &Row, at: usize) -> Result<&str, Error>
+    ensures { IfOk result (λ text. text.now ≡ bytes (column row.now at)) }
+{
+    match row.get_ref(at)? {
+        ValueRef::Text(text) => str::from_utf8(text).map_err(|_| DAMAGED),
+        _ => Err(DAMAGED),
+    }
+}
+
+pub(crate) fn text_if_at(row: &Row, at: usize) -> Result<Option<&str>, Error>
+    ensures { IfOk result (λ text. option_map (λ t. t.now) text ≡ text_if (column row.now at)) }
+{
+    match row.get_ref(at)? {
+        ValueRef::Null => Ok(None),
+        ValueRef::Text(text) => match str::from_utf8(text) {
+            Ok(text) => Ok(Some(text)),
+            Err(_) => Err(DAMAGED),
+        },
+        _ => Err(DAMAGED),
+    }
+}
+
+fn blob_at(row: &Row, at: usize) -> Result<&[u8], Error>
+    ensures { IfOk result (λ blob. blob.now ≡ bytes (column row.now at)) }
+{
+    match row.get_ref(at)? {
+        ValueRef::Blob(blob) => Ok(blob),
+        _ => Err(DAMAGED),
+    }
+}
+
+/// A whole number that isn't below zero.
+pub fn whole_at(row: &Row, at: usize) -> Result<u64, Error>
+    ensures { IfOk result (λ number. number ≡ number_in (column row.now at)) }
+{
+    row.get(at)
+}
+
+pub(crate) fn owned_text_at(alloc: Global, row: &Row, at: usize) -> Result<Text, Error>
+    ensures { IfOk result (λ text. text ≡ bytes (column row.now at)) }
+{
+    let text = text_at(row, at)?;
+    Text::copy_of(alloc, text).map_err(|_| Error::SqliteFailure(ErrorCode::OutOfMemory))
+}
+
+pub(crate) fn name_at(row: &Row, at: usize) -> Result<Name, Error>
+    ensures { IfOk result (λ name. name ≡ bytes (column row.now at)) }
+{
+    Name::parse(text_at(row, at)?).ok_or(DAMAGED)
+}
+
+pub(crate) fn chip_at(row: &Row, at: usize) -> Result<Chip, Error>
+    ensures { IfOk result (λ chip. chip ≡ bytes (column row.now at)) }
+{
+    Chip::parse(text_at(row, at)?).ok_or(DAMAGED)
+}
+
+pub(crate) fn serial_at(row: &Row, at: usize) -> Result<Serial, Error>
+    ensures { IfOk result (λ serial. serial ≡ bytes (column row.now at)) }
+{
+    Serial::parse(text_at(row, at)?).ok_or(DAMAGED)
+}
+
+pub(crate) fn time_at(row: &Row, at: usize) -> Result<Time, Error>
+    ensures { IfOk result (λ time. time ≡ bytes (column row.now at)) }
+{
+    Time::parse(text_at(row, at)?).ok_or(DAMAGED)
+}
+
+fn bytes_at(row: &Row, at: usize) -> Result<[u8; 32], Error>
+    ensures { IfOk result (λ array. array ≡ bytes (column row.now at)) }
+{
+    <[u8; 32]>::try_from(blob_at(row, at)?).map_err(|_| DAMAGED)
+}
+
+/// A digest.
+pub fn digest_at(row: &Row, at: usize) -> Result<Digest, Error>
+    ensures { IfOk result (λ digest. digest ≡ bytes (column row.now at)) }
+{
+    Ok(Digest::from_bytes(bytes_at(row, at)?))
+}
+
+pub(crate) fn key_at(row: &Row, at: usize) -> Result<KeyDigest, Error>
+    ensures { IfOk result (λ key. key ≡ bytes (column row.now at)) }
+{
+    Ok(KeyDigest::from_bytes(bytes_at(row, at)?))
+}
+
+pub(crate) fn column_at<const N: usize>(row: &Row, at: usize) -> Result<Column<N>, Error>
+    ensures { IfOk result (λ list. list ≡ bytes (column row.now at)) }
+{
+    Column::from_bytes(blob_at(row, at)?).ok_or(DAMAGED)
+}
+
+pub(crate) fn chip_if_at(row: &Row, at: usize) -> Result<Option<Chip>, Error>
+    ensures { IfOk result (λ chip. chip ≡ text_if (column row.now at)) }
+{
+    match text_if_at(row, at)? {
+        Some(text) => match Chip::parse(text) {
+            Some(chip) => Ok(Some(chip)),
+            None => Err(DAMAGED),
+        },
+        None => Ok(None),
+    }
+}
+
+pub(crate) fn serial_if_at(row: &Row, at: usize) -> Result<Option<Serial>, Error>
+    ensures { IfOk result (λ serial. serial ≡ text_if (column row.now at)) }
+{
+    match text_if_at(row, at)? {
+        Some(text) => match Serial::parse(text) {
+            Some(serial) => Ok(Some(serial)),
+            None => Err(DAMAGED),
+        },
+        None => Ok(None),
+    }
+}
+
+pub(crate) fn mac_if_at(row: &Row, at: usize) -> Result<Option<Mac>, Error>
+    ensures { IfOk result (λ mac. mac ≡ mac_if (column row.now at)) }
+{
+    match text_if_at(row, at)? {
+        Some(text) => match Mac::parse(text) {
+            Some(mac) => Ok(Some(mac)),
+            None => Err(DAMAGED),
+        },
+        None => Ok(None),
+    }
+}

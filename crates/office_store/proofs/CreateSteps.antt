@@ -1,0 +1,45 @@
+-- What follows from one CREATE TABLE after another.
+use Rattle.std.proofs.Common.{◌≡◌, ℕ, List, [], false, Ok, Result, OnOk, IfOk, subst, ◌∙◌, Err}
+use Rattle.std.specs.List.{AllByRecursion}
+use Rattle.sqlite.specs.Table.{Table}
+use Rattle.sqlite.specs.Schema.{Schema}
+use Rattle.sqlite.specs.Command.TheVariants.{CreateTable}
+use Rattle.sqlite.specs.Compile.{table_defined_by}
+use Rattle.sqlite.specs.Change.{created}
+use Rattle.sqlite.specs.Does.{lacks_sequence}
+use Rattle.sqlite.specs.Effect.{Database}
+use Rattle.sqlite.specs.Listing.{understood}
+use Rattle.sqlite.specs.Store.{Ghosts}
+use Rattle.sqlite.specs.Held.{Held, state}
+use Rattle.sqlite.specs.State.{HasCleanDisk}
+use Rattle.sqlite.proofs.Callers.{IsPlain, command_of, statement_of}
+use Rattle.sqlite_trees.proofs.ListLemmas.{all-append, all_both}
+use Rattle.office_sql.specs.Asking.{Changes}
+use Rattle.office_sql.specs.Change.{Makes}
+use Rattle.office_store.specs.Meta.{HasRun, IsNew}
+use Rattle.office_store.proofs.Creates.{makes}
+
+-- what the text of a CREATE TABLE means, and the schema after it
+pub record IsCreate (text : List ℕ) (schema : Schema) (table : Table) (next : Schema) : Type 0 where
+  pub command : command_of (understood schema text) ≡ CreateTable
+  pub statement : statement_of text (understood schema text) ≡ text
+  pub plain : IsPlain (understood schema text)
+  pub defined : table_defined_by text ≡ Ok (record table { tree = 0 })
+  pub uncounted : lacks_sequence (created schema (record table { tree = 0 })) ≡ false
+  pub is : created schema (record table { tree = 0 }) ≡ next
+
+-- a table more, with no row
+grown : (schema next : Schema) (table : Table) (old new : Database) → created schema table ≡ next → Makes schema table old new → IsNew schema old → IsNew next new
+grown schema next table old new is made h = record {
+  is = made.is ∙ is;
+  empty = subst (λ s. AllByRecursion (λ t. new.trees t.tree ≡ []) s.tables) is
+      (all-append (λ t. new.trees t.tree ≡ []) schema.tables _ (all_both (λ t. new.trees t.tree ≡ old.trees t.tree) (λ t. old.trees t.tree ≡ []) (λ t. new.trees t.tree ≡ []) (λ t e f. e ∙ f) schema.tables made.others h.empty) (made.empty, tt));
+}
+
+pub creates : {S A E : Type 0} (g : Ghosts S) (text : List ℕ) (schema next : Schema) (table : Table) → IsCreate text schema table next → (old new : Held S) (r : Result A E) (P : Database → Database → A → Type 0)
+    → Changes g old new r P → (HasCleanDisk (state g new) → OnOk r (HasRun text (state g old) (state g new))) → Changes g old new r (λ x y _. IsNew schema x → IsNew next y)
+creates {S} {A} {E} g text schema next table it old new r P ch runs = record { says = λ clean. said r (runs clean); inside = ch.inside; kept = ch.kept; crash = ch.crash }
+  where
+    said : (r : Result A E) → OnOk r (HasRun text (state g old) (state g new)) → IfOk r (λ _. IsNew schema (state g old).now → IsNew next (state g new).now)
+    said (Ok a) h = λ was. grown schema next _ _ _ it.is (makes text (state g old) (state g new) schema table h.0 was.is it.command it.statement it.plain it.defined it.uncounted h.1) was
+    said (Err e) h = tt

@@ -1,0 +1,14 @@
+mod Texts
+mod Creates
+mod Answers
+mod FoundRows
+mod FoundOffice
+mod FoundResults
+mod FoundReads
+mod FoundAsked
+mod CreateSteps
+mod CreateTexts
+mod CreateInsert
+mod CreateRow
+mod MetaShows
+mod Schemas

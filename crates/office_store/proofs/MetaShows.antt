@@ -1,0 +1,57 @@
+-- What the text that reads the row of meta means, and shows.
+use Rattle.std.proofs.Common.{◌≡◌, ℕ, true, Option, List, [], ◌∷◌, codes, map, refl, sym, ap, subst, ◌∙◌, IsPermutation, slice_get, arith}
+use Rattle.std.specs.Option.{option_map}
+use Rattle.std.proofs.lemmas.List.Sorted.{IsPermutation-map, length_permutation}
+use Rattle.sqlite.specs.declared.types.Value.TheVariants.{Null}
+use Rattle.sqlite.specs.Order.{Row}
+use Rattle.sqlite.specs.Term.{Term, col, eval_all}
+use Rattle.sqlite.specs.Collation.TheVariants.{Binary}
+use Rattle.sqlite.specs.Listing.{understood}
+use Rattle.sqlite.proofs.Callers.{one_permutation}
+use Rattle.sqlite_tied.specs.Compute.{everything}
+use Rattle.sqlite_value.specs.declared.keys.Key.{Key}
+use Rattle.sqlite_value.specs.Keys.{ascending}
+use Rattle.sqlite_trees.proofs.ListLemmas.{all_of, filter_all, map-map}
+use Rattle.office_sql.specs.Scan.{env, passes}
+use Rattle.office_store.specs.Meta.{meta_in, IsMeta}
+use Rattle.office_store.specs.declared.meta.Meta.{Meta}
+use Rattle.office_sql.proofs.Reading.{IsRead}
+use Rattle.office_sql.proofs.Scan.{Scanned}
+
+abbrev pub row_text : List ℕ
+row_text = codes "SELECT id, schema, site FROM meta ORDER BY id"
+
+abbrev pub row_shown : List Term
+row_shown = col 1 0 ∷ col 1 2 ∷ col 1 3 ∷ []
+
+abbrev pub row_order : List (Term × Key)
+row_order = (col 1 0, ascending Binary) ∷ []
+
+pub row_read : IsRead row_text 0 [] row_shown row_order
+unfolding understood everything
+row_read = record { names = codes "id" ∷ codes "schema" ∷ codes "site" ∷ []; is = refl; plain = (refl, refl); unlisted = refl; bare = λ schema base. refl; there = λ db. refl }
+
+pub shows_metas : (all rows : List Row) → Scanned [] row_shown row_order [] all rows → IsPermutation (map meta_in all) (map (λ r. meta_in (Null ∷ r)) rows)
+shows_metas all rows s =
+    let every = filter_all (passes [] []) all (all_of (λ r. passes [] [] r ≡ true) (λ r. refl) all) in
+    let same = subst (λ l. IsPermutation l s.kept) every s.same in
+    let read : map (λ r. meta_in (Null ∷ r)) rows ≡ map meta_in s.kept = ap (map (λ r. meta_in (Null ∷ r))) s.shows ∙ map-map (λ r. meta_in (Null ∷ r)) (λ r. eval_all row_shown (env [] r)) s.kept in
+    subst (IsPermutation (map meta_in all)) (sym read) (IsPermutation-map meta_in _ _ same)
+
+first : {A : Type 0} (read : Row → A) (rows : List Row) → option_map read (slice_get rows 0) ≡ slice_get (map read rows) 0
+first read [] = refl
+first read (r ∷ rows) = refl
+
+no_permutation : (ys : List Meta) → IsPermutation [] ys → ys ≡ []
+no_permutation [] h = refl
+no_permutation (y ∷ ys) h = absurd (let e = length_permutation [] (y ∷ ys) h in omega (arith, e))
+
+-- the first row that is shown is the row of meta
+pub first_is : (metas : List Meta) (rows : List Row) (row : Option Meta) → IsPermutation metas (map (λ r. meta_in (Null ∷ r)) rows) → row ≡ option_map (λ r. meta_in (Null ∷ r)) (slice_get rows 0) → IsMeta metas row
+first_is metas rows row same is =
+    let shown = map (λ r. meta_in (Null ∷ r)) rows in
+    let it : row ≡ slice_get shown 0 = is ∙ first (λ r. meta_in (Null ∷ r)) rows in
+    record {
+      one = λ m e. it ∙ ap (λ l. slice_get l 0) (one_permutation m shown (subst (λ l. IsPermutation l shown) e same));
+      none = λ e. it ∙ ap (λ l. slice_get l 0) (no_permutation shown (subst (λ l. IsPermutation l shown) e same));
+    }

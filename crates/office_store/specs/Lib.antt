@@ -1,0 +1,7 @@
+-- What the contracts of this crate are made of.
+pub mod Keeping
+pub mod Faults
+pub mod Adopting
+pub mod Found
+pub mod Meta
+pub mod Described

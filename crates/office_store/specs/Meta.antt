@@ -1,0 +1,63 @@
+-- What the table meta tells of a store, and a store whose tables are new.
+use Rattle.std.specs.Prelude.{◌≡◌, ℕ, take, List, [], ◌∷◌, Option, Some, None, map, IsTrue, Ok}
+use Rattle.std.specs.List.{AllByRecursion}
+use Rattle.sqlite.specs.Order.{Row, column, bytes}
+use Rattle.sqlite.specs.Tree.{Trees}
+use Rattle.sqlite.specs.Schema.{Schema}
+use Rattle.sqlite.specs.Effect.{Database}
+use Rattle.sqlite.specs.State.{State, Executes}
+use Rattle.office_tables.specs.Tables.{no_rows}
+use Rattle.office_store.specs.declared.meta.Meta.{Meta}
+use Rattle.office_sql.specs.Schema.{office_schema}
+use Rattle.office_sql.specs.Values.{number_in}
+use Rattle.office_sql.specs.Tables.{IsOffice, tables_in}
+
+-- meta: id, schema, site. The id is the rowid
+abbrev pub meta_in : Row → Meta
+meta_in r = record { schema = number_in (column r 2); site = bytes (column r 3) }
+
+abbrev pub metas_in : Trees → List Meta
+metas_in db = map meta_in (db 0)
+
+-- what a read of the table meta answers, where it has one row or none
+pub record IsMeta (metas : List Meta) (row : Option Meta) : Type 0 where
+  pub one : (m : Meta) → metas ≡ m ∷ [] → row ≡ Some m
+  pub none : metas ≡ [] → row ≡ None
+
+-- the row that a new store has
+abbrev pub new_meta : List ℕ → Meta
+new_meta site = record { schema = 1; site = site }
+
+-- the first tables of the office with their indexes
+abbrev pub first_tables : ℕ → ℕ → Schema
+first_tables tables indexes = record { tables = take tables office_schema.tables; indexes = take indexes office_schema.indexes; views = [] }
+
+-- meta, seat, map and link
+abbrev pub half_schema : Schema
+half_schema = first_tables 4 3
+
+-- a database with these tables, and no row
+pub record IsNew (schema : Schema) (db : Database) : Type 0 where
+  pub is : db.schema ≡ schema
+  pub empty : AllByRecursion (λ t. db.trees t.tree ≡ []) schema.tables
+
+-- the statement was run
+abbrev pub HasRun : List ℕ → State → State → Type 0
+HasRun sql old new = (count : ℕ) × Executes sql [] old new (Ok count)
+
+-- the tables have no row but that of meta
+pub record IsFresh (site : List ℕ) (db : Trees) : Type 0 where
+  pub tables : tables_in db ≡ no_rows
+  pub meta : metas_in db ≡ new_meta site ∷ []
+
+-- a database of the office with no row but that of meta
+pub record IsBegun (site : List ℕ) (db : Database) : Type 0 where
+  pub office : IsOffice db
+  pub fresh : IsFresh site db.trees
+
+-- the tables are made and committed
+pub record IsCreated (site : List ℕ) (old new : State) : Type 0 where
+  pub was_open : IsTrue old.is_open
+  pub is_open : IsTrue new.is_open
+  pub begun : IsBegun site new.now
+  pub committed : new.committed ≡ new.now

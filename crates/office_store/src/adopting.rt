@@ -1,0 +1,142 @@
+// How a connection becomes a keeper.
+ghost use Rattle.std.specs.Prelude.{◌≡◌, ◌≢◌, ◌⊎◌, false, Some, IsTrue, IfOk, IfErr, IfSome, OnOk};
+ghost use Rattle.sqlite.specs.State.{HasCleanDisk, Survives};
+ghost use Rattle.sqlite.specs.Tree.{Trees};
+ghost use Rattle.sqlite.specs.Held.{state};
+ghost use Rattle.office_tables.specs.Tables.{no_rows};
+ghost use Rattle.office_sql.specs.Schema.{no_schema, office_schema};
+ghost use Rattle.office_sql.specs.Keeping.{IsReady};
+ghost use Rattle.office_sql.specs.Tables.{tables_in};
+ghost use Rattle.office_store.specs.Adopting.{CanSettle, IsOurs, Settles};
+ghost use Rattle.office_store.specs.Meta.{new_meta};
+ghost use Rattle.office_store.specs.declared.fault.OpenFault.TheVariants.{OtherSite as TheSite};
+
+use crate::create::make_tables;
+use crate::fault::{OpenFault, fault_of};
+use crate::found::{has_whole_numbers, reread};
+use crate::keep::SqlKeep;
+use crate::meta::{Meta, meta_row};
+use crate::schema::{is_empty_schema, is_office};
+use sqlite::{Alter, Connection};
+use std::alloc::Global;
+use text_core::Digest;
+
+/// The number of the tables' schema.
+const SCHEMA: u64 = 1;
+
+/// What is handed back with a fault.
+#[derive(Drop)]
+pub enum Handed<S: Alter> {
+    /// A connection to the store.
+    Connection(Connection<S>),
+    /// The store, to which no connection could be had.
+    Store(S),
+}
+
+/// Whether what a store tells of itself is this schema and this site.
+fn judge_meta(meta: Option<Meta>, site: &Digest) -> Result<(), OpenFault>
+    ensures ours { OnOk result (meta ≡ Some (new_meta site.now)) }
+    ensures others { IfErr result (λ fault. fault ≡ TheSite → IfSome meta (λ m. m.site ≢ site.now)) }
+{
+    match meta {
+        Some(meta) => {
+            if meta.schema != SCHEMA {
+                return Err(OpenFault::OtherTables);
+            }
+            if meta.site != *site {
+                return Err(OpenFault::OtherSite);
+            }
+            Ok(())
+        }
+        None => Err(OpenFault::OtherTables),
+    }
+}
+
+/// Makes the tables of a store that has none.
+fn make<S: Alter>(conn: &mut Connection<S>, site: &Digest) -> Result<(), OpenFault>
+    requires can { CanSettle (state S.Store conn.old) }
+    requires bare { (state S.Store conn.old).now.schema ≡ no_schema }
+    ensures { Settles S.Store site.now conn.old conn.new result }
+{
+    match make_tables(conn, site) {
+        Ok(()) => Ok(()),
+        Err(error) => Err(fault_of(error)),
+    }
+}
+
+/// Tests the numbers of a store that has the tables.
+fn test_numbers<S: Alter>(conn: &mut Connection<S>) -> Result<(), OpenFault>
+    requires can { CanSettle (state S.Store conn.old) }
+    requires has { (state S.Store conn.old).now.schema ≡ office_schema }
+    ensures mode { conn.new.in_transaction ≡ false }
+    ensures ready { HasCleanDisk (state S.Store conn.new) → OnOk result (IsTrue (state S.Store conn.new).is_open × IsReady (state S.Store conn.new)) }
+    ensures crash { Survives (state S.Store conn.old) (state S.Store conn.new) (λ _. ⊥) }
+{
+    match has_whole_numbers(conn) {
+        Ok(true) => Ok(()),
+        Ok(false) => Err(OpenFault::OtherTables),
+        Err(error) => Err(fault_of(error)),
+    }
+}
+
+/// Tests whose site a store that is ready is of.
+fn test_site<S: Alter>(conn: &mut Connection<S>, site: &Digest) -> Result<(), OpenFault>
+    requires ready { IsReady (state S.Store conn.old) }
+    ensures { Settles S.Store site.now conn.old conn.new result }
+{
+    match meta_row(conn) {
+        Ok(meta) => judge_meta(meta, site),
+        Err(error) => Err(fault_of(error)),
+    }
+}
+
+/// Makes the tables of a store that has none, or tests those that are there.
+fn settle<S: Alter>(conn: &mut Connection<S>, site: &Digest) -> Result<(), OpenFault>
+    requires { CanSettle (state S.Store conn.old) }
+    ensures { Settles S.Store site.now conn.old conn.new result }
+{
+    if is_empty_schema(conn.schema()) {
+        return make(conn, site);
+    }
+    if !is_office(conn.schema()) {
+        return Err(OpenFault::OtherTables);
+    }
+    find(conn, site)
+}
+
+/// Tests a store that has the tables.
+fn find<S: Alter>(conn: &mut Connection<S>, site: &Digest) -> Result<(), OpenFault>
+    requires can { CanSettle (state S.Store conn.old) }
+    requires has { (state S.Store conn.old).now.schema ≡ office_schema }
+    ensures { Settles S.Store site.now conn.old conn.new result }
+{
+    test_numbers(conn)?;
+    test_site(conn, site)
+}
+
+/// Makes a keeper of a connection to the store of a site, which the SHA-256 of its text names: it
+/// makes the tables of an empty store, in one transaction, and tests those of another. What isn't
+/// committed is lost.
+///
+/// # Errors
+///
+/// The fault, with the connection or its store.
+pub fn adopt<S: Alter + Drop>(
+    alloc: Global,
+    conn: Connection<S>,
+    site: &Digest,
+) -> Result<SqlKeep<S>, (OpenFault, Handed<S>)>
+    ensures open { IfOk result (λ keep. HasCleanDisk (state S.Store keep) → IsTrue (state S.Store keep).is_open) }
+    ensures ours { IfOk result (λ keep. HasCleanDisk (state S.Store keep) → IsOurs site.now (state S.Store keep).now.trees) }
+    ensures clean { IfOk result (λ keep. HasCleanDisk (state S.Store keep) → HasCleanDisk (state S.Store conn)) }
+    ensures crash { IfOk result (λ keep. HasCleanDisk (state S.Store keep) → (db : Trees) → (state S.Store keep).may_leave db → (state S.Store conn).may_leave db ⊎ (tables_in db ≡ no_rows)) }
+{
+    let mut conn = match reread(alloc, conn) {
+        Ok(conn) => conn,
+        Err((_, store)) => return Err((OpenFault::Failed, Handed::Store(store))),
+    };
+    match settle(&mut conn, site) {
+        Ok(()) => Ok(SqlKeep::over(alloc, conn)),
+        Err(fault) => Err((fault, Handed::Connection(conn))),
+    }
+}

@@ -1,0 +1,48 @@
+// Why a store isn't opened.
+ghost use Rattle.std.specs.Prelude.{◌≡◌};
+ghost use Rattle.office_store.specs.Faults.{fault_number, fault_of};
+
+use sqlite::{Error, ErrorCode};
+use thiserror::Error as Faulty;
+
+/// Why a store isn't opened.
+#[derive(Clone, Copy, Debug, PartialEq, Eq, Drop, Faulty)]
+pub enum OpenFault {
+    /// The store is of another site.
+    #[error("the store is of another site")]
+    OtherSite,
+    /// The store has other tables than this schema's, or tells of another schema.
+    #[error("the store has other tables")]
+    OtherTables,
+    /// The store failed, or there is no memory.
+    #[error("the store failed, or there is no memory")]
+    Failed,
+}
+
+impl OpenFault {
+    /// The number of the fault, 1 to 3, as the program's line tells it.
+    pub fn number(self) -> u8
+        ensures { result ≡ fault_number self }
+    {
+        match self {
+            OpenFault::OtherSite => 1,
+            OpenFault::OtherTables => 2,
+            OpenFault::Failed => 3,
+        }
+    }
+}
+
+/// What an error says of a store: a constraint or a text that SQL refuses is met by other tables
+/// alone, everything else is the store's or memory's.
+pub(crate) fn fault_of(error: Error) -> OpenFault
+    ensures { result ≡ fault_of error }
+{
+    match error {
+        Error::SqliteFailure(ErrorCode::ConstraintViolation(_))
+        | Error::SqliteFailure(ErrorCode::NameTaken)
+        | Error::SqlInputError(_)
+        | Error::InvalidColumnType(_, _)
+        | Error::IntegralValueOutOfRange(_) => OpenFault::OtherTables,
+        _ => OpenFault::Failed,
+    }
+}

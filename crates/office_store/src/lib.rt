@@ -1,0 +1,14 @@
+//! The keeper of the tables over SQL.
+#![tactic(auto)]
+
+mod adopting;
+mod create;
+mod fault;
+mod found;
+mod keep;
+mod meta;
+mod schema;
+
+pub use adopting::{Handed, adopt};
+pub use fault::OpenFault;
+pub use keep::SqlKeep;

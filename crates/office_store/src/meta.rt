@@ -1,0 +1,51 @@
+// The table that tells of the store itself.
+ghost use Rattle.std.specs.Prelude.{◌≡◌, ◌∷◌, IfOk, map, option_map, slice_get, IsPermutation};
+ghost use Rattle.sqlite.specs.Held.{state};
+ghost use Rattle.sqlite.specs.declared.types.Value.TheVariants.{Null};
+ghost use Rattle.office_sql.specs.Asking.{Asks, HasOffice};
+ghost use Rattle.office_store.specs.Meta.{meta_in, metas_in, IsMeta};
+
+use office_sql::{digest_at, whole_at};
+use sqlite::{Alter, Connection, Error, Row};
+use text_core::Digest;
+
+/// What a store tells of itself: the number of its schema, and whose site it is of.
+#[derive(Clone, Copy, Drop)]
+pub struct Meta {
+    pub schema: u64,
+    pub site: Digest,
+}
+
+fn meta_rows<S: Alter>(conn: &mut Connection<S>) -> Result<Vec<Row>, Error>
+    requires { HasOffice (state S.Store conn.old) }
+    ensures { Asks S.Store conn.old conn.new result (λ _ rows. IsPermutation (metas_in (state S.Store conn.old).now.trees) (map (λ r. meta_in (Null ∷ r)) rows.items)) }
+{
+    conn.query_all("SELECT id, schema, site FROM meta ORDER BY id", &[])
+}
+
+fn read_meta(row: &Row) -> Result<Meta, Error>
+    ensures { IfOk result (λ meta. meta ≡ meta_in (Null ∷ row.now)) }
+{
+    Ok(Meta {
+        schema: whole_at(row, 1)?,
+        site: digest_at(row, 2)?,
+    })
+}
+
+fn first_meta(rows: &[Row]) -> Result<Option<Meta>, Error>
+    ensures { IfOk result (λ meta. meta ≡ option_map (λ r. meta_in (Null ∷ r)) (slice_get rows.now 0)) }
+{
+    match rows.first() {
+        Some(row) => Ok(Some(read_meta(row)?)),
+        None => Ok(None),
+    }
+}
+
+/// What the store tells of itself.
+pub fn meta_row<S: Alter>(conn: &mut Connection<S>) -> Result<Option<Meta>, Error>
+    requires { HasOffice (state S.Store conn.old) }
+    ensures { Asks S.Store conn.old conn.new result (λ _ row. IsMeta (metas_in (state S.Store conn.old).now.trees) row) }
+{
+    let rows = meta_rows(conn)?;
+    first_meta(rows.as_slice())
+}
