@@ -13,12 +13,13 @@ use Rattle.office_tables.specs.declared.rows.Device.{Device}
 use Rattle.office_tables.specs.Tables.{Tables, is_device, is_of, is_order, order_at, order_cmp, own, placed, with_cursor, with_cursor_of, with_order, IsInOrder}
 use Rattle.office_tables.proofs.Placing.{all_map, all_placed, placed_in_order}
 use Rattle.office_rules.specs.Devices.{own_entry}
+use Rattle.office_rules.proofs.Refusing.{is_some_map}
 use Rattle.office_laws.specs.Grows.{Grows}
 use Rattle.office_laws.specs.Sound.{AreDisjoint, EachApart, IsInPool, IsOrder, IsSound}
 use Rattle.office_laws.specs.SoundDevices.{IsReferred}
 use Rattle.office_laws.specs.SoundRecords.{AreSoundRecords, IsGivenBelow, IsOfDevice, IsOfOrder, IsRecordOf}
 use Rattle.office_laws.specs.View.{at_first, own_map, view}
-use Rattle.office_laws.proofs.Readings.{find_holds, find_map, is_some_map, orders_total}
+use Rattle.office_laws.proofs.Readings.{find_holds, find_map, orders_total}
 
 -- an order's row without its cursor
 abbrev row_at_first : Owned Order → Owned Order

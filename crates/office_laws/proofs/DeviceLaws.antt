@@ -18,6 +18,7 @@ use Rattle.office_tables.proofs.Placing.{all_map, all_placed, placed_in_order, p
 use Rattle.office_rules.specs.DeviceSteps.{entry_of}
 use Rattle.office_rules.specs.declared.device_step.DeviceStep.{DeviceStep}
 use Rattle.office_rules.specs.Devices.{map_named, own_entry}
+use Rattle.office_rules.proofs.Ties.{first_equal, same_place, same_text, second_equal, text_itself}
 use Rattle.office_laws.specs.Solo.{own_device_cmp, own_entry_cmp, own_last, own_step}
 use Rattle.office_laws.specs.View.{at_first, own_map, view}
 use Rattle.office_laws.specs.SoundDevices.{AreNumbered, AreSoundDevices, HasLedger, IsKept, IsReferred, Named}
@@ -25,8 +26,8 @@ use Rattle.office_laws.specs.SoundRecords.{IsNumbered, IsRecordOf}
 use Rattle.office_laws.specs.Sound.{IsSound}
 use Rattle.office_laws.proofs.Appended.{all_below, appended, last_of_numbered, numbered_appended}
 use Rattle.office_laws.proofs.DeviceRows.{ids_apart_placed}
-use Rattle.office_laws.proofs.Placed.{all_placed_apart, first_equal, map_placed, same_place, second_equal}
-use Rattle.office_laws.proofs.Readings.{entries_own, find_holds, same_text, text_itself}
+use Rattle.office_laws.proofs.Placed.{all_placed_apart, map_placed}
+use Rattle.office_laws.proofs.Readings.{entries_own, find_holds}
 use Rattle.office_laws.proofs.RecordRows.{Follows, each_device, own_device, record_after_device, tied_device}
 
 devices_total : IsTotalOrder device_cmp

@@ -1,12 +1,12 @@
 -- A new record of a serial number acts on the customer's view as on the customer's own machine, leaves each other view, keeps the tables sound, and forgets nothing.
 use Rattle.std.proofs.Common.{◌≡◌, ◌==◌, ℕ, arith, true, false, List, [], ◌∷◌, map, Option, Some, None, Less, Equal, Greater, refl, sym, ◌∙◌, subst}
-use Rattle.std.specs.Prelude.{bytes_eq, IfSome}
+use Rattle.std.specs.Prelude.{bytes_eq, find, IfSome}
 use Rattle.std.specs.List.{AllByRecursion}
 use Rattle.std.specs.Ordering.{match_ordering}
 use Rattle.std.specs.Cmp.{IsTotalOrder}
 use Rattle.std.proofs.lemmas.Bool.{and_parts, and_from}
 use Rattle.std.proofs.lemmas.Bool.Decides.{nat_tests}
-use Rattle.std.proofs.lemmas.Cmp.{on_total, then_total, nat_list_cmp_total}
+use Rattle.std.proofs.lemmas.Cmp.{on_total, then_total, nat_list_cmp_total, tied_itself}
 use Rattle.site_core.specs.Owners.{Owners}
 use Rattle.id_ranges.specs.Range.{text_of}
 use Rattle.office_tables.specs.declared.rows.Owned.{Owned}
@@ -16,13 +16,14 @@ use Rattle.office_tables.specs.Tables.{Tables, IsAddressFree, given_at, given_by
 use Rattle.office_tables.proofs.Finding.{none_passes, other_placed, still_there}
 use Rattle.office_tables.proofs.Placing.{all_map, all_placed, placed_in_order, placed_other, placed_own}
 use Rattle.office_rules.specs.Devices.{own_entry}
+use Rattle.office_rules.proofs.Ties.{first_equal, same_place, same_text, second_equal, text_itself}
 use Rattle.office_laws.specs.Grows.{Grows}
 use Rattle.office_laws.specs.Solo.{own_given_cmp, with_own_given}
 use Rattle.office_laws.specs.Sound.{IsSound}
 use Rattle.office_laws.specs.SoundRecords.{AreAddressesApart, AreKeysApart, HasOther, IsGivenBelow, IsRecordOf}
 use Rattle.office_laws.specs.View.{at_first, own_map, view}
-use Rattle.office_laws.proofs.Placed.{first_equal, others_fail, same_place, second_equal}
-use Rattle.office_laws.proofs.Readings.{owner_is, same_text, text_itself}
+use Rattle.office_laws.proofs.Placed.{found_replaced, others_fail}
+use Rattle.office_laws.proofs.Readings.{owner_is}
 
 given_total : IsTotalOrder given_cmp
 given_total = then_total (on_total (λ o. o.row.issuer) nat_list_cmp_total) (on_total (λ o. o.row.serial) nat_list_cmp_total)
@@ -37,6 +38,21 @@ same_given issuer serial x y same passes =
 pub each_given : (issuer serial : List ℕ) (x : Owned Given) (rows : List (Owned Given)) → AllByRecursion (λ y. given_cmp x y ≡ Equal → is_given issuer serial y ≡ true → is_given issuer serial x ≡ true) rows
 each_given issuer serial x [] = tt
 each_given issuer serial x (y ∷ ys) = (same_given issuer serial x y, each_given issuer serial x ys)
+
+-- the record that was added is found
+pub given_found : (g : Owned Given) (rows : List (Owned Given)) → find (is_given g.row.issuer g.row.serial) (placed given_cmp g rows) ≡ Some g
+given_found g rows = found_replaced given_cmp g (is_given g.row.issuer g.row.serial) rows (and_from _ _ (text_itself g.row.issuer g.row.issuer refl) (text_itself g.row.serial g.row.serial refl)) (tied rows)
+  where
+    tied : (rows : List (Owned Given)) → AllByRecursion (λ y. is_given g.row.issuer g.row.serial y ≡ true → given_cmp g y ≡ Equal) rows
+    tied [] = tt
+    tied (y ∷ ys) = (
+      λ its.
+          let parts = and_parts (bytes_eq g.row.issuer y.row.issuer) (bytes_eq g.row.serial y.row.serial) its in
+          let issuer : g.row.issuer ≡ y.row.issuer = same_text g.row.issuer y.row.issuer parts.0 in
+          let serial : g.row.serial ≡ y.row.serial = same_text g.row.serial y.row.serial parts.1 in
+          rw (← issuer, ← serial, tied_itself nat_list_cmp_total g.row.issuer, tied_itself nat_list_cmp_total g.row.serial) refl,
+      tied ys,
+    )
 
 -- a record that isn't bound to a key of another: the other isn't bound to its key
 bound_turned : (g y : Owned Given) → is_bound g.row.issuer g.row.key y ≡ false → is_bound y.row.issuer y.row.key g ≡ false

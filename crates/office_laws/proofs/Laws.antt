@@ -39,6 +39,7 @@ use Rattle.office_rules.specs.Maps.{Imports, Links, bad_map}
 use Rattle.office_rules.specs.Devices.{map_named, map_text, own_entry, refusals_by, RegistersBy, StepsFound, StepsWith}
 use Rattle.office_rules.specs.StepRules.{Does, is_awaited, known_of, may_be_planned, plan_refusals, plans, read_refusals, reads}
 use Rattle.office_rules.specs.EndRules.{may_be_shipped, scraps, ship_refusals, ships}
+use Rattle.office_rules.proofs.Ties.{first_equal, same_place, text_itself}
 use Rattle.office_laws.proofs.Ends.{scrap_keeps, ship_keeps}
 use Rattle.office_laws.proofs.IdentityLaws.{identity_made}
 use Rattle.office_laws.proofs.ImportLaws.{imports_made}
@@ -73,8 +74,8 @@ use Rattle.office_laws.proofs.Registrations.{found_is_map, registered_kept}
 use Rattle.office_laws.specs.SoundDevices.{IsKept}
 use Rattle.office_laws.specs.SoundRecords.{IsNumbered, IsGivenBelow, IsRecordOf}
 use Rattle.office_laws.proofs.MapRows.{map_of_text, new_map_found}
-use Rattle.office_laws.proofs.Placed.{first_equal, map_placed, same_place}
-use Rattle.office_laws.proofs.Readings.{find_holds, map_own, wanted_own, text_itself, seats_total, orders_total, order_agree, owner_is, seat_own, order_own, map_named_own, device_found_own, entries_own, issuer_owner, lowest_own, next_own, order_next_own}
+use Rattle.office_laws.proofs.Placed.{map_placed}
+use Rattle.office_laws.proofs.Readings.{find_holds, map_own, wanted_own, seats_total, orders_total, order_agree, owner_is, seat_own, order_own, map_named_own, device_found_own, entries_own, issuer_owner, lowest_own, next_own, order_next_own}
 
 module _ {owners : Owners} {t : Tables} (sound : IsSound owners t) where
   order_sound : (c : List ℕ) (o : Order) → owners.issuer o.issuer ≡ Some c → IsOrder o → IsInPool owners (record { customer = c; row = o })

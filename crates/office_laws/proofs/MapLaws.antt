@@ -11,14 +11,14 @@ use Rattle.office_tables.specs.declared.rows.Link.{Link}
 use Rattle.office_tables.specs.Tables.{Tables, is_of, link_at, link_cmp, map_at, map_cmp, map_with, own, placed, text_cmp, with_link, with_map}
 use Rattle.office_tables.proofs.Placing.{all_map, all_placed, placed_in_order, placed_other, placed_own}
 use Rattle.office_rules.specs.Devices.{map_named, own_entry}
+use Rattle.office_rules.proofs.Ties.{first_equal, same_place, same_text, text_itself}
 use Rattle.office_laws.specs.Solo.{own_map_cmp}
 use Rattle.office_laws.specs.View.{at_first, own_map, view}
 use Rattle.office_laws.specs.Sound.{IsLinked, IsSound}
 use Rattle.office_laws.proofs.MapRows.{body_is_new, linked_after, maps_total, own_maps_after, texts_apart_placed}
 use Rattle.office_laws.proofs.NamedMaps.{named_after_link, named_after_map}
 use Rattle.office_laws.proofs.DeviceRows.{referred_after_link, referred_after_map}
-use Rattle.office_laws.proofs.Placed.{first_equal, map_placed, same_place}
-use Rattle.office_laws.proofs.Readings.{same_text, text_itself}
+use Rattle.office_laws.proofs.Placed.{map_placed}
 
 links_total : IsTotalOrder link_cmp
 links_total = then_total (on_total (λ o. o.customer) nat_list_cmp_total) (on_total (λ o. o.row.digest) nat_list_cmp_total)

@@ -10,10 +10,11 @@ use Rattle.office_tables.specs.Tables.{Tables, is_link, link_at, link_cmp, map_a
 use Rattle.office_tables.proofs.Finding.{other_placed}
 use Rattle.office_rules.specs.DeviceRules.{map_in}
 use Rattle.office_rules.specs.Devices.{map_named}
+use Rattle.office_rules.proofs.Ties.{same_text}
 use Rattle.office_laws.specs.Sound.{IsLinked}
 use Rattle.office_laws.proofs.DeviceRows.{same_link}
 use Rattle.office_laws.proofs.MapRows.{old_map_found}
-use Rattle.office_laws.proofs.Readings.{find_holds, same_text}
+use Rattle.office_laws.proofs.Readings.{find_holds}
 
 -- the fuse map that a link names
 abbrev map_of : Tables → Option (Owned Link) → Option MapRow

@@ -8,7 +8,6 @@ use Rattle.std.specs.Str.{bytes_eq}
 use Rattle.std.specs.Cmp.{IsTotalOrder}
 use Rattle.std.proofs.lemmas.Bool.{and_parts}
 use Rattle.std.proofs.lemmas.List.{length-map}
-use Rattle.std.proofs.lemmas.Slice.Eq.{bytes_eq-Decides}
 use Rattle.std.proofs.lemmas.Bool.Decides.{nat_tests}
 use Rattle.std.proofs.lemmas.Cmp.{on_total, then_total, nat_list_cmp_total, tied_itself}
 use Rattle.sha2.specs.Sha256.{sha256}
@@ -47,16 +46,12 @@ use Rattle.office_rules.specs.MapFaults.{map_fault}
 use Rattle.office_rules.specs.Maps.{bad_map, import_refusals, map_limit, text_is}
 use Rattle.office_rules.specs.Commands.{refusals}
 use Rattle.office_rules.specs.StepRules.{plan_refusals, read_refusals, step_refusals}
+use Rattle.office_rules.proofs.Refusing.{is_some_map}
+use Rattle.office_rules.proofs.Ties.{same_text, text_itself}
 use Rattle.office_laws.specs.Solo.{own_order_cmp, map_of, own_import_refusals, seat_named, order_named, given_bound, given_named, has_given, own_given_in, own_next, own_refusals_in, own_wanted, own_order_refusals, own_refusals, own_map_named, device_named, own_device_found}
 use Rattle.office_laws.specs.View.{at_first, own_map, text_in, view}
 use Rattle.office_laws.specs.Sound.{IsLinked, IsSound}
 use Rattle.office_laws.specs.SoundRecords.{IsGivenBelow}
-
-pub same_text : (a b : List ℕ) → bytes_eq a b ≡ true → a ≡ b
-same_text a b e = (bytes_eq-Decides a b).0 e
-
-pub text_itself : (a b : List ℕ) → a ≡ b → bytes_eq a b ≡ true
-text_itself a b e = (bytes_eq-Decides a b).1 e
 
 pub seats_total : IsTotalOrder seat_cmp
 seats_total = on_total (λ o. o.row.name) nat_list_cmp_total
@@ -77,10 +72,6 @@ owner_is f x y c d p q e = let s = ap f (same_text x y e) in cc
 pub find_map : {R A : Type 0} (f : R → A) (p : A → Bool) (xs : List R) → find p (map f xs) ≡ option_map f (find (λ x. p (f x)) xs)
 find_map f p [] = refl
 find_map f p (x ∷ xs) = grind (arith, nat_tests, find_map f p xs)
-
-pub is_some_map : {A B : Type 0} (f : A → B) (o : Option A) → is_some (option_map f o) ≡ is_some o
-is_some_map f None = refl
-is_some_map f (Some x) = refl
 
 pub map_map : {A B C : Type 0} (f : A → B) (h : B → C) (o : Option A) → option_map h (option_map f o) ≡ option_map (λ x. h (f x)) o
 map_map f h None = refl

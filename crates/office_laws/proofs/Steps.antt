@@ -10,9 +10,10 @@ use Rattle.office_rules.specs.DeviceRules.{map_in, map_or_none}
 use Rattle.office_rules.specs.MapFaults.{fault_in, map_fault}
 use Rattle.office_rules.specs.StepRules.{Does, plan_refusals, plans, read_refusals, reads, step_refusals}
 use Rattle.office_commands.specs.declared.refusal.Refusal.{Refusal}
+use Rattle.office_rules.proofs.Ties.{same_text}
 use Rattle.office_laws.specs.Sound.{IsLinked, IsSound}
 use Rattle.office_laws.specs.SoundDevices.{IsReferred}
-use Rattle.office_laws.proofs.Readings.{find_holds, same_text}
+use Rattle.office_laws.proofs.Readings.{find_holds}
 use Rattle.std.proofs.lemmas.Bool.Decides.{nat_tests}
 use Rattle.sha2.specs.Sha256.{sha256}
 use Rattle.http_replies.specs.Replies.{Answer}
