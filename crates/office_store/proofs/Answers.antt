@@ -18,7 +18,8 @@ use Rattle.office_sql.specs.Keeping.{IsReady}
 use Rattle.office_sql.specs.Tables.{IsOffice, tables_in}
 use Rattle.office_store.specs.Keeping.{Hands, tables_of, is_open_at, is_honest_at, may_leave_at}
 
-same_now : (old new : State) → IsReady old → Rests old new → IsTrue new.is_open → new.now ≡ old.now
+-- a connection that is ready shows after a read what it showed before
+pub same_now : (old new : State) → IsReady old → Rests old new → IsTrue new.is_open → new.now ≡ old.now
 same_now old new rest r up = elim (r.now up) [ inl e ↦ e | inr e ↦ e ∙ sym (rest.settled (r.was_open up)) ]
 
 -- a connection that was ready is ready after a read

@@ -3,6 +3,7 @@ mod Creates
 mod Answers
 mod FoundRows
 mod FoundOffice
+mod FoundNothing
 mod FoundResults
 mod FoundReads
 mod FoundAsked
@@ -12,3 +13,4 @@ mod CreateInsert
 mod CreateRow
 mod MetaShows
 mod Schemas
+mod Refusals

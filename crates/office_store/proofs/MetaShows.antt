@@ -1,6 +1,5 @@
 -- What the text that reads the row of meta means, and shows.
-use Rattle.std.proofs.Common.{◌≡◌, ℕ, true, Option, List, [], ◌∷◌, codes, map, refl, sym, ap, subst, ◌∙◌, IsPermutation, slice_get, arith}
-use Rattle.std.specs.Option.{option_map}
+use Rattle.std.proofs.Common.{◌≡◌, ℕ, true, Option, Some, List, [], ◌∷◌, codes, map, refl, sym, ap, subst, ◌∙◌, IsPermutation, arith}
 use Rattle.std.proofs.lemmas.List.Sorted.{IsPermutation-map, length_permutation}
 use Rattle.sqlite.specs.declared.types.Value.TheVariants.{Null}
 use Rattle.sqlite.specs.Order.{Row}
@@ -13,7 +12,7 @@ use Rattle.sqlite_value.specs.declared.keys.Key.{Key}
 use Rattle.sqlite_value.specs.Keys.{ascending}
 use Rattle.sqlite_trees.proofs.ListLemmas.{all_of, filter_all, map-map}
 use Rattle.office_sql.specs.Scan.{env, passes}
-use Rattle.office_store.specs.Meta.{meta_in, IsMeta}
+use Rattle.office_store.specs.Meta.{meta_in, only}
 use Rattle.office_store.specs.declared.meta.Meta.{Meta}
 use Rattle.office_sql.proofs.Reading.{IsRead}
 use Rattle.office_sql.proofs.Scan.{Scanned}
@@ -38,20 +37,24 @@ shows_metas all rows s =
     let read : map (λ r. meta_in (Null ∷ r)) rows ≡ map meta_in s.kept = ap (map (λ r. meta_in (Null ∷ r))) s.shows ∙ map-map (λ r. meta_in (Null ∷ r)) (λ r. eval_all row_shown (env [] r)) s.kept in
     subst (IsPermutation (map meta_in all)) (sym read) (IsPermutation-map meta_in _ _ same)
 
-first : {A : Type 0} (read : Row → A) (rows : List Row) → option_map read (slice_get rows 0) ≡ slice_get (map read rows) 0
-first read [] = refl
-first read (r ∷ rows) = refl
-
 no_permutation : (ys : List Meta) → IsPermutation [] ys → ys ≡ []
 no_permutation [] h = refl
 no_permutation (y ∷ ys) h = absurd (let e = length_permutation [] (y ∷ ys) h in omega (arith, e))
 
--- the first row that is shown is the row of meta
-pub first_is : (metas : List Meta) (rows : List Row) (row : Option Meta) → IsPermutation metas (map (λ r. meta_in (Null ∷ r)) rows) → row ≡ option_map (λ r. meta_in (Null ∷ r)) (slice_get rows 0) → IsMeta metas row
-first_is metas rows row same is =
-    let shown = map (λ r. meta_in (Null ∷ r)) rows in
-    let it : row ≡ slice_get shown 0 = is ∙ first (λ r. meta_in (Null ∷ r)) rows in
-    record {
-      one = λ m e. it ∙ ap (λ l. slice_get l 0) (one_permutation m shown (subst (λ l. IsPermutation l shown) e same));
-      none = λ e. it ∙ ap (λ l. slice_get l 0) (no_permutation shown (subst (λ l. IsPermutation l shown) e same));
-    }
+-- the order of a list doesn't matter to its only element
+only_permutation : (xs ys : List Meta) → IsPermutation xs ys → only ys ≡ only xs
+only_permutation [] ys h = ap only (no_permutation ys h)
+only_permutation (x ∷ []) ys h = ap only (one_permutation x ys h)
+only_permutation (x ∷ y ∷ xs) [] h = absurd (let e = length_permutation (x ∷ y ∷ xs) [] h in omega (arith, e))
+only_permutation (x ∷ y ∷ xs) (a ∷ []) h = absurd (let e = length_permutation (x ∷ y ∷ xs) (a ∷ []) h in omega (arith, e))
+only_permutation (x ∷ y ∷ xs) (a ∷ b ∷ ys) h = refl
+
+-- a list whose only element is this one has no other
+pub only_is : (xs : List Meta) (m : Meta) → only xs ≡ Some m → xs ≡ m ∷ []
+only_is [] m e = absurd (let f = e in cc)
+only_is (x ∷ []) m e = let same : x ≡ m = cc in ap (λ y. y ∷ []) same
+only_is (x ∷ y ∷ xs) m e = absurd (let f = e in cc)
+
+-- the only row that is shown is the only row of meta
+pub only_shown : (metas : List Meta) (rows : List Row) (row : Option Meta) → IsPermutation metas (map (λ r. meta_in (Null ∷ r)) rows) → row ≡ only (map (λ r. meta_in (Null ∷ r)) rows) → row ≡ only metas
+only_shown metas rows row same is = is ∙ only_permutation metas (map (λ r. meta_in (Null ∷ r)) rows) same

@@ -1,30 +1,61 @@
 -- How a connection comes to have the tables of the office.
-use Rattle.std.specs.Prelude.{◌≡◌, [], ◌∷◌, false, ℕ, List, IsTrue, Result, OnOk}
+use Rattle.std.specs.Prelude.{◌≡◌, ◌≢◌, ◌⊎◌, [], ◌∷◌, false, ℕ, List, IsTrue, Result, OnOk, IfErr}
 use Rattle.sqlite.specs.Tree.{Trees}
 use Rattle.sqlite.specs.Store.{Ghosts}
 use Rattle.sqlite.specs.Held.{Held, state}
 use Rattle.sqlite.specs.State.{State, HasCleanDisk, Survives}
 use Rattle.office_tables.specs.Tables.{no_rows}
 use Rattle.office_sql.specs.Keeping.{IsReady}
-use Rattle.office_sql.specs.Schema.{office_schema}
+use Rattle.office_sql.specs.Schema.{no_schema, office_schema}
 use Rattle.office_sql.specs.Tables.{tables_in}
+use Rattle.office_store.specs.declared.adopting.Handed.{Handed}
+use Rattle.office_store.specs.declared.adopting.Handed.TheVariants as handed
+use Rattle.office_store.specs.declared.fault.OpenFault.{OpenFault}
+use Rattle.office_store.specs.declared.fault.OpenFault.TheVariants.{OtherSite, OtherTables, Failed}
 use Rattle.office_store.specs.declared.meta.Meta.{Meta}
 use Rattle.office_store.specs.Found.{HasWhole}
 use Rattle.office_store.specs.Meta.{metas_in, new_meta}
 
--- no transaction is under way, what was committed is shown, and the connection is ready if its schema and its numbers are the office's
+-- no transaction is under way, what was committed is shown, the connection is ready if its schema and its numbers are the office's, and with no schema it has no row
 pub record CanSettle (s : State) : Type 0 where
   pub mode : s.in_transaction ≡ false
   pub settled : HasCleanDisk s → s.now ≡ s.committed
   pub found : HasCleanDisk s → s.now.schema ≡ office_schema → HasWhole s.now.trees → IsReady s
+  pub bare : HasCleanDisk s → s.now.schema ≡ no_schema → tables_in s.now.trees ≡ no_rows
 
--- the store tells of this schema and this site, if it tells of one
+-- the store has one row of meta, of this schema and this site
 abbrev pub IsOurs : List ℕ → Trees → Type 0
-IsOurs site db = (m : Meta) → metas_in db ≡ m ∷ [] → m ≡ new_meta site
+IsOurs site db = metas_in db ≡ new_meta site ∷ []
 
--- an answer leaves the connection open and ready, and a crash leaves what it left before, or tables without a row
-pub record Settles {S E : Type 0} (g : Ghosts S) (site : List ℕ) (old new : Held S) (result : Result (Unit {0}) E) : Type 0 where
+-- the store has one row of meta, of this schema and another site
+abbrev pub IsOfOtherSite : List ℕ → Trees → Type 0
+IsOfOtherSite site db = (m : Meta) × (metas_in db ≡ m ∷ []) × (m.schema ≡ 1) × (m.site ≢ site)
+
+-- what a refused connection shows: the fault of another site comes with such a row of meta alone, and a schema that is neither none nor the office's is refused for its tables
+pub record IsRefusedFor (site : List ℕ) (s : State) (fault : OpenFault) : Type 0 where
+  pub other_site : HasCleanDisk s → fault ≡ OtherSite → IsOfOtherSite site s.now.trees
+  pub other_schema : IsTrue s.is_open → s.now.schema ≢ no_schema → s.now.schema ≢ office_schema → fault ≡ OtherTables
+
+-- an answer leaves the connection open and ready, with the tables that it had, and a crash leaves what it left before, or tables without a row
+pub record Settles {S : Type 0} (g : Ghosts S) (site : List ℕ) (old new : Held S) (result : Result (Unit {0}) OpenFault) : Type 0 where
   pub mode : new.in_transaction ≡ false
   pub ready : HasCleanDisk (state g new) → OnOk result (IsTrue (state g new).is_open × IsReady (state g new))
   pub ours : HasCleanDisk (state g new) → OnOk result (IsOurs site (state g new).now.trees)
+  pub kept : HasCleanDisk (state g new) → OnOk result (tables_in (state g new).now.trees ≡ tables_in (state g old).now.trees)
+  pub refused : IfErr result (IsRefusedFor site (state g new))
   pub crash : Survives (state g old) (state g new) (λ db. tables_in db ≡ no_rows)
+
+-- a crash leaves what it left before, or tables without a row
+abbrev pub LeavesAtMost : (Trees → Type 0) → (Trees → Type 0) → Type 0
+LeavesAtMost before after = (db : Trees) → after db → before db ⊎ (tables_in db ≡ no_rows)
+
+module _ {S : Type 0} (g : Ghosts S) where
+  -- the same of a connection that is handed back; a store that is handed back leaves what was left before
+  abbrev pub HandedLeaves : (Trees → Type 0) → Handed S → Type 0
+  HandedLeaves before (handed.Connection c) = HasCleanDisk (state g c) → LeavesAtMost before (state g c).may_leave
+  HandedLeaves before (handed.Store store) = (db : Trees) → g.recovers store db → before db
+
+  -- a connection is handed back for what it shows, and a store because it failed
+  abbrev pub IsHandedFor : List ℕ → OpenFault → Handed S → Type 0
+  IsHandedFor site fault (handed.Connection c) = IsRefusedFor site (state g c) fault
+  IsHandedFor site fault (handed.Store store) = fault ≡ Failed

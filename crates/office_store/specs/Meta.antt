@@ -19,10 +19,11 @@ meta_in r = record { schema = number_in (column r 2); site = bytes (column r 3) 
 abbrev pub metas_in : Trees → List Meta
 metas_in db = map meta_in (db 0)
 
--- what a read of the table meta answers, where it has one row or none
-pub record IsMeta (metas : List Meta) (row : Option Meta) : Type 0 where
-  pub one : (m : Meta) → metas ≡ m ∷ [] → row ≡ Some m
-  pub none : metas ≡ [] → row ≡ None
+-- the element of a list that has no other
+abbrev pub only : {A : Type 0} → List A → Option A
+only [] = None
+only (x ∷ []) = Some x
+only (x ∷ y ∷ more) = None
 
 -- the row that a new store has
 abbrev pub new_meta : List ℕ → Meta

@@ -1,13 +1,12 @@
 // How a connection becomes a keeper.
-ghost use Rattle.std.specs.Prelude.{◌≡◌, ◌≢◌, ◌⊎◌, false, Some, IsTrue, IfOk, IfErr, IfSome, OnOk};
+ghost use Rattle.std.specs.Prelude.{◌≡◌, ◌≢◌, false, Some, IsTrue, IfOk, IfErr, OnOk};
 ghost use Rattle.sqlite.specs.State.{HasCleanDisk, Survives};
-ghost use Rattle.sqlite.specs.Tree.{Trees};
 ghost use Rattle.sqlite.specs.Held.{state};
-ghost use Rattle.office_tables.specs.Tables.{no_rows};
 ghost use Rattle.office_sql.specs.Schema.{no_schema, office_schema};
 ghost use Rattle.office_sql.specs.Keeping.{IsReady};
 ghost use Rattle.office_sql.specs.Tables.{tables_in};
-ghost use Rattle.office_store.specs.Adopting.{CanSettle, IsOurs, Settles};
+ghost use Rattle.office_store.specs.Adopting.{CanSettle, HandedLeaves, IsHandedFor, IsOurs, LeavesAtMost, Settles};
+ghost use Rattle.office_store.specs.declared.meta.Meta.{Meta as Told};
 ghost use Rattle.office_store.specs.Meta.{new_meta};
 ghost use Rattle.office_store.specs.declared.fault.OpenFault.TheVariants.{OtherSite as TheSite};
 
@@ -36,7 +35,7 @@ pub enum Handed<S: Alter> {
 /// Whether what a store tells of itself is this schema and this site.
 fn judge_meta(meta: Option<Meta>, site: &Digest) -> Result<(), OpenFault>
     ensures ours { OnOk result (meta ≡ Some (new_meta site.now)) }
-    ensures others { IfErr result (λ fault. fault ≡ TheSite → IfSome meta (λ m. m.site ≢ site.now)) }
+    ensures others { IfErr result (λ fault. fault ≡ TheSite → (m : Told) × (meta ≡ Some m) × (m.schema ≡ 1) × (m.site ≢ site.now)) }
 {
     match meta {
         Some(meta) => {
@@ -70,6 +69,9 @@ fn test_numbers<S: Alter>(conn: &mut Connection<S>) -> Result<(), OpenFault>
     requires has { (state S.Store conn.old).now.schema ≡ office_schema }
     ensures mode { conn.new.in_transaction ≡ false }
     ensures ready { HasCleanDisk (state S.Store conn.new) → OnOk result (IsTrue (state S.Store conn.new).is_open × IsReady (state S.Store conn.new)) }
+    ensures kept { HasCleanDisk (state S.Store conn.new) → OnOk result (tables_in (state S.Store conn.new).now.trees ≡ tables_in (state S.Store conn.old).now.trees) }
+    ensures schema { IsTrue (state S.Store conn.new).is_open → (state S.Store conn.new).now.schema ≡ office_schema }
+    ensures never { IfErr result (λ fault. fault ≢ TheSite) }
     ensures crash { Survives (state S.Store conn.old) (state S.Store conn.new) (λ _. ⊥) }
 {
     match has_whole_numbers(conn) {
@@ -129,7 +131,10 @@ pub fn adopt<S: Alter + Drop>(
     ensures open { IfOk result (λ keep. HasCleanDisk (state S.Store keep) → IsTrue (state S.Store keep).is_open) }
     ensures ours { IfOk result (λ keep. HasCleanDisk (state S.Store keep) → IsOurs site.now (state S.Store keep).now.trees) }
     ensures clean { IfOk result (λ keep. HasCleanDisk (state S.Store keep) → HasCleanDisk (state S.Store conn)) }
-    ensures crash { IfOk result (λ keep. HasCleanDisk (state S.Store keep) → (db : Trees) → (state S.Store keep).may_leave db → (state S.Store conn).may_leave db ⊎ (tables_in db ≡ no_rows)) }
+    ensures kept { IfOk result (λ keep. HasCleanDisk (state S.Store keep) → tables_in (state S.Store keep).now.trees ≡ tables_in (state S.Store conn).committed.trees) }
+    ensures crash { IfOk result (λ keep. HasCleanDisk (state S.Store keep) → LeavesAtMost (state S.Store conn).may_leave (state S.Store keep).may_leave) }
+    ensures refused { IfErr result (λ e. IsHandedFor S.Store site.now e.0 e.1) }
+    ensures crash_left { IfErr result (λ e. HandedLeaves S.Store (state S.Store conn).may_leave e.1) }
 {
     let mut conn = match reread(alloc, conn) {
         Ok(conn) => conn,

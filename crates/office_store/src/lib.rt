@@ -7,8 +7,10 @@ mod fault;
 mod found;
 mod keep;
 mod meta;
+mod opening;
 mod schema;
 
 pub use adopting::{Handed, adopt};
 pub use fault::OpenFault;
 pub use keep::SqlKeep;
+pub use opening::open;

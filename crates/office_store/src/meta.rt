@@ -1,13 +1,17 @@
 // The table that tells of the store itself.
-ghost use Rattle.std.specs.Prelude.{◌≡◌, ◌∷◌, IfOk, map, option_map, slice_get, IsPermutation};
+ghost use Rattle.std.specs.Prelude.{◌≡◌, ◌∷◌, IfOk, map, IsPermutation};
 ghost use Rattle.sqlite.specs.Held.{state};
 ghost use Rattle.sqlite.specs.declared.types.Value.TheVariants.{Null};
 ghost use Rattle.office_sql.specs.Asking.{Asks, HasOffice};
-ghost use Rattle.office_store.specs.Meta.{meta_in, metas_in, IsMeta};
+ghost use Rattle.office_store.specs.Meta.{meta_in, metas_in, only};
 
 use office_sql::{digest_at, whole_at};
+use sqlite::types::Type;
 use sqlite::{Alter, Connection, Error, Row};
 use text_core::Digest;
+
+/// The error of a row of `meta` that no store of this product has.
+const OTHER_FORM: Error = Error::InvalidColumnType(2, Type::Blob);
 
 /// What a store tells of itself: the number of its schema, and whose site it is of.
 #[derive(Clone, Copy, Drop)]
@@ -32,20 +36,23 @@ fn read_meta(row: &Row) -> Result<Meta, Error>
     })
 }
 
-fn first_meta(rows: &[Row]) -> Result<Option<Meta>, Error>
-    ensures { IfOk result (λ meta. meta ≡ option_map (λ r. meta_in (Null ∷ r)) (slice_get rows.now 0)) }
+fn only_meta(rows: &[Row]) -> Result<Option<Meta>, Error>
+    ensures { IfOk result (λ meta. meta ≡ only (map (λ r. meta_in (Null ∷ r)) rows.now)) }
 {
-    match rows.first() {
-        Some(row) => Ok(Some(read_meta(row)?)),
-        None => Ok(None),
+    match rows {
+        [row] => match read_meta(row) {
+            Ok(meta) => Ok(Some(meta)),
+            Err(_) => Err(OTHER_FORM),
+        },
+        _ => Ok(None),
     }
 }
 
-/// What the store tells of itself.
+/// What the store tells of itself, where `meta` has one row.
 pub fn meta_row<S: Alter>(conn: &mut Connection<S>) -> Result<Option<Meta>, Error>
     requires { HasOffice (state S.Store conn.old) }
-    ensures { Asks S.Store conn.old conn.new result (λ _ row. IsMeta (metas_in (state S.Store conn.old).now.trees) row) }
+    ensures { Asks S.Store conn.old conn.new result (λ _ row. row ≡ only (metas_in (state S.Store conn.old).now.trees)) }
 {
     let rows = meta_rows(conn)?;
-    first_meta(rows.as_slice())
+    only_meta(rows.as_slice())
 }
