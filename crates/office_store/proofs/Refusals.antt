@@ -25,6 +25,7 @@ use Rattle.office_store.specs.Adopting.{CanSettle, IsRefusedFor, Settles}
 use Rattle.office_store.specs.Meta.{metas_in, new_meta, only, IsCreated, IsFresh}
 use Rattle.office_sql.proofs.Asked.{was_clean}
 use Rattle.office_store.proofs.Answers.{same_now, ready_after}
+use Rattle.office_store.proofs.MetaShows.{only_is}
 
 site_of_code : (code : ErrorCode) → fault_of_code code ≢ OtherSite
 site_of_code (ConstraintViolation constraint) = λ e. cc
@@ -56,12 +57,6 @@ refusal site s error fault is has = record {
   other_site = λ clean told. absurd (site_of_error error (sym is ∙ told));
   other_schema = λ up none other. absurd (has up none other);
 }
-
--- the one element of a list that has one
-is_only : {A : Type 0} (xs : List A) (x : A) → Some x ≡ only xs → xs ≡ x ∷ []
-is_only [] x e = absurd (let f = e in cc)
-is_only (y ∷ []) x e = let f : x ≡ y = (let h = e in cc) in ap (λ z. z ∷ []) (sym f)
-is_only (y ∷ z ∷ more) x e = absurd (let f = e in cc)
 
 module _ {S : Type 0} (g : Ghosts S) (site : List ℕ) (old new : Held S) (calm : IsTrue (state g new).is_open → HasCleanDisk (state g new)) where
   -- the tables were made
@@ -119,7 +114,7 @@ module _ {S : Type 0} (g : Ghosts S) (site : List ℕ) (old new : Held S) (calm 
     judged meta asks (Ok _) ours others = record {
       mode = asks.mode ready.mode;
       ready = λ clean. ((asks.same clean).0.is_open, ready_after g old new ready calm _ _ asks);
-      ours = λ clean. subst (λ (d : Database). metas_in d.trees ≡ new_meta site ∷ []) (sym (now clean)) (is_only _ _ (sym ours ∙ asks.says clean));
+      ours = λ clean. subst (λ (d : Database). metas_in d.trees ≡ new_meta site ∷ []) (sym (now clean)) (only_is _ _ (sym (asks.says clean) ∙ ours));
       kept = λ clean. ap (λ (d : Database). tables_in d.trees) (now clean);
       refused = tt;
       crash = survives_weaker _ _ _ _ (λ clean db none. absurd none) asks.crash;
@@ -134,7 +129,7 @@ module _ {S : Type 0} (g : Ghosts S) (site : List ℕ) (old new : Held S) (calm 
       kept = λ clean. tt;
       refused = record {
         other_site = λ clean told. let it = others told in
-            (it.0, subst (λ (d : Database). metas_in d.trees ≡ it.0 ∷ []) (sym (now clean)) (is_only _ _ (sym it.1 ∙ asks.says clean)), it.2, it.3);
+            (it.0, subst (λ (d : Database). metas_in d.trees ≡ it.0 ∷ []) (sym (now clean)) (only_is _ _ (sym (asks.says clean) ∙ it.1)), it.2, it.3);
         other_schema = λ up none other. absurd (other (office_still _ _ asks up));
       };
       crash = survives_weaker _ _ _ _ (λ clean db none. absurd none) asks.crash;
