@@ -1,4 +1,5 @@
-//! Examples of what the low crates do, and the sample texts that they share with the crates above.
+//! Examples of what the low crates do, and the sample texts and conversations that the examples of the
+//! crates above share.
 #![tactic(auto)]
 
 #[cfg(test)]
@@ -11,6 +12,7 @@ mod changes;
 mod chips;
 #[cfg(test)]
 mod columns;
+pub mod conversations;
 #[cfg(test)]
 mod fuses;
 #[cfg(test)]

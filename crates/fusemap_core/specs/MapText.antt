@@ -1,5 +1,5 @@
 -- The fuse map that a text is.
-use Rattle.std.specs.Prelude.{◌≡◌, ℕ, ◌≤◌, ◌&&◌, nat_le, nat_lt, List, length, codes, Option, Some, None, option_and_then, Result, Err, if◌then◌else◌}
+use Rattle.std.specs.Prelude.{◌≡◌, ℕ, ◌≤◌, ◌&&◌, nat_le, nat_lt, List, length, codes, Option, Some, None, option_and_then, Result, Ok, Err, if◌then◌else◌}
 use Rattle.std.specs.Option.{ok_or}
 use Rattle.toml.specs.Data.{Data, get}
 use Rattle.text_core.specs.Answer.{result_and_then}
@@ -65,3 +65,12 @@ abbrev pub map_read : List ℕ → Result Map MapFault
 map_read text =
     if nat_lt TEXT_LIMIT (length text) then Err BadMember
     else result_and_then (λ d. result_and_then judged (ok_or (map_of d) BadMember)) (ok_or (document_of text) NotToml)
+
+-- the map that was read, if there is one
+abbrev pub map_or_none : Result Map MapFault → Option Map
+map_or_none (Ok m) = Some m
+map_or_none (Err fault) = None
+
+-- the fuse map that a text describes, if it describes one
+unfoldable pub map_in : List ℕ → Option Map
+map_in text = map_or_none (map_read text)

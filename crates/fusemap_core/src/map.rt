@@ -1,5 +1,5 @@
 // Fuse maps, and what they tell of their fields.
-ghost use Rattle.std.specs.Prelude.{◌≡◌, ◌≤◌, All, IfSome, find, length};
+ghost use Rattle.std.specs.Prelude.{◌≡◌, ◌≤◌, All, IfOk, IfSome, find, length};
 ghost use Rattle.std.specs.Option.{option_and_then};
 ghost use Rattle.fusemap_core.specs.Map as map;
 ghost use Rattle.fusemap_core.specs.Map.{IsFieldOf, IsInBlock, IsMap, IsPosition, IsSmall, IsSmallPosition, field_named, field_of, holds, id_of, is_named};
@@ -7,6 +7,7 @@ ghost use Rattle.fusemap_core.specs.Map.{IsFieldOf, IsInBlock, IsMap, IsPosition
 use crate::field::Field;
 use crate::locks;
 use crate::pos::Pos;
+use std::alloc::AllocError;
 use std::marker::Model;
 use text_core::Name;
 
@@ -84,6 +85,20 @@ impl FuseMap {
             rd,
             coding,
         }
+    }
+
+    /// The map in memory of its own.
+    pub fn copy(&self) -> Result<FuseMap, AllocError>
+        ensures { IfOk result (λ copy. copy ≡ self.now) }
+    {
+        Ok(FuseMap {
+            name: self.name,
+            blocks: self.blocks.clone()?,
+            fields: self.fields.clone()?,
+            wr: self.wr,
+            rd: self.rd,
+            coding: self.coding,
+        })
     }
 
     /// The name of the map.

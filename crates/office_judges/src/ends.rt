@@ -88,7 +88,7 @@ pub(crate) fn judge_ship<K: Keep>(
 ) -> Result<Judgement, Unkept>
     ensures { Reading K.Keep keep.old keep.new result (λ t judgement. IsJudged customer.now seat.now t (Change.Ship chip.now) judgement) }
 {
-    let Some(found) = find_placed(alloc, keep, customer, chip)? else {
+    let Some(found) = find_placed(keep, customer, chip)? else {
         return Ok(Judgement::Refused(Refusal::UnknownDevice));
     };
     if !may_be_shipped(found.device.state) {
@@ -111,7 +111,7 @@ pub(crate) fn judge_scrap<K: Keep>(
 ) -> Result<Judgement, Unkept>
     ensures { Reading K.Keep keep.old keep.new result (λ t judgement. IsJudged customer.now seat.now t (Change.Scrap chip.now) judgement) }
 {
-    let Some(found) = find_placed(alloc, keep, customer, chip)? else {
+    let Some(found) = find_placed(keep, customer, chip)? else {
         return Ok(Judgement::Refused(Refusal::UnknownDevice));
     };
     if !may_be_scrapped(found.device.state) {

@@ -107,7 +107,7 @@ pub(crate) fn judge_plan<K: Keep>(
 ) -> Result<Judgement, Unkept>
     ensures { Reading K.Keep keep.old keep.new result (λ t judgement. IsJudged customer.now seat.now t (Change.PlanDevice plan.now) judgement) }
 {
-    let Some(found) = find_placed(alloc, keep, customer, &plan.chip)? else {
+    let Some(found) = find_placed(keep, customer, &plan.chip)? else {
         return Ok(Judgement::Refused(Refusal::UnknownDevice));
     };
     let work = match judge_wishes(&found.map, &found.device, plan.wishes.as_slice()) {

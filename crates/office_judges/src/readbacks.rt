@@ -226,7 +226,7 @@ pub(crate) fn judge_read_back<K: Keep>(
 ) -> Result<Judgement, Unkept>
     ensures { Reading K.Keep keep.old keep.new result (λ t judgement. IsJudged customer.now seat.now t (Change.ReadBack read.now) judgement) }
 {
-    let Some(found) = find_placed(alloc, keep, customer, &read.chip)? else {
+    let Some(found) = find_placed(keep, customer, &read.chip)? else {
         return Ok(Judgement::Refused(Refusal::UnknownDevice));
     };
     let readback = match judge_words(&found.map, &found.device, &read.blocks) {

@@ -4,7 +4,7 @@ use Rattle.std.specs.Str.{bytes_eq}
 use Rattle.std.specs.Ordering.{on, ordering_then}
 use Rattle.std.specs.Cmp.{IsTotalOrder}
 use Rattle.std.proofs.lemmas.List.{take_more, map-append}
-use Rattle.std.proofs.lemmas.Cmp.{on_total, then_total, nat_list_cmp_total}
+use Rattle.std.proofs.lemmas.Cmp.{on_total, then_total}
 use Rattle.sqlite.specs.declared.types.Value.TheVariants.{Null, Text as Words}
 use Rattle.sqlite.specs.Order.{Row, column, bytes}
 use Rattle.sqlite.specs.Term.{Term, col, eval_all}
@@ -21,6 +21,7 @@ use Rattle.office_tables.specs.declared.rows.Owned.{Owned}
 use Rattle.office_tables.specs.declared.rows.Device.{Device}
 use Rattle.office_tables.specs.OrderPlaces.{is_given_up, takes_place, places_taken}
 use Rattle.office_tables.specs.Tables.{device_cmp, is_device, is_of, own}
+pub use Rattle.office_tables.proofs.Places.{device_total}
 use Rattle.office_sql.specs.Rows.{device_in}
 use Rattle.office_sql.specs.Scan.{scan, is_given, env, passes}
 use Rattle.office_sql.specs.Values.{state_in, text_if}
@@ -63,9 +64,6 @@ own_read = record { names = names; is = refl; plain = (refl, refl); unlisted = r
 pub states_read : IsRead states_text 9 (is_given 1 0 ∷ is_given 3 1 ∷ []) states_shown by_key
 unfolding understood everything
 states_read = record { names = codes "state" ∷ codes "reason" ∷ []; is = refl; plain = (refl, refl); unlisted = refl; bare = λ schema base. refl; there = λ db. refl }
-
-pub device_total : IsTotalOrder device_cmp
-device_total = then_total (on_total (λ o. o.customer) nat_list_cmp_total) (on_total (λ o. o.row.chip) nat_list_cmp_total)
 
 level_total : IsTotalOrder (λ (a b : Row). Equal)
 level_total = record { antisymm = λ _ _. refl; trans = λ x y z p q. p; congr = λ x y z p. refl }

@@ -1,5 +1,5 @@
 -- A database without tables has no rows.
-use Rattle.std.proofs.Common.{◌≡◌, ℕ, ◌≢◌, List, [], map, subst, inl, inr}
+use Rattle.std.proofs.Common.{◌≡◌, ℕ, ◌≢◌, [], map, subst, inl, inr}
 use Rattle.sqlite.specs.Tree.{Trees}
 use Rattle.sqlite.specs.View.{View, IsShaped, IsOrdered}
 use Rattle.sqlite_trees.specs.Objects.{catalog_tree, version_tree, IsListed}

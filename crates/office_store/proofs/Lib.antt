@@ -1,6 +1,10 @@
 mod Texts
 mod Creates
 mod Answers
+mod MadeAnswers
+mod Numbers
+mod DevicesPut
+mod Committed
 mod FoundRows
 mod FoundOffice
 mod FoundNothing

@@ -1,5 +1,5 @@
 -- What a connection that is refused shows.
-use Rattle.std.proofs.Common.{◌≡◌, ◌≢◌, inl, inr, ℕ, List, [], ◌∷◌, false, Option, Some, None, Result, Ok, Err, IfOk, OnOk, IfErr, IsTrue, refl, sym, ap, subst, ◌∙◌}
+use Rattle.std.proofs.Common.{◌≡◌, ◌≢◌, inl, inr, ℕ, List, [], ◌∷◌, false, Option, Some, Result, Ok, Err, OnOk, IfErr, IsTrue, sym, ap, subst, ◌∙◌}
 use Rattle.sqlite.specs.Effect.{Database}
 use Rattle.sqlite.specs.Held.{Held, state}
 use Rattle.sqlite.specs.Schema.{Schema}
@@ -24,7 +24,7 @@ use Rattle.office_store.specs.declared.meta.Meta.{Meta}
 use Rattle.office_store.specs.Adopting.{CanSettle, IsRefusedFor, Settles}
 use Rattle.office_store.specs.Meta.{metas_in, new_meta, only, IsCreated, IsFresh}
 use Rattle.office_sql.proofs.Asked.{was_clean}
-use Rattle.office_store.proofs.Answers.{same_now, ready_after}
+use Rattle.office_store.proofs.Answers.{same_now, still_ready}
 use Rattle.office_store.proofs.MetaShows.{only_is}
 
 site_of_code : (code : ErrorCode) → fault_of_code code ≢ OtherSite
@@ -58,6 +58,13 @@ refusal site s error fault is has = record {
   other_schema = λ up none other. absurd (has up none other);
 }
 
+-- what making tables may leave has the rows that were committed: none
+leaves_none : (site : List ℕ) (old new : State) → CanSettle old → old.now.schema ≡ no_schema → Survives old new (λ trees. IsTrue old.is_open × IsFresh site trees)
+    → Survives old new (λ db. tables_in db ≡ tables_in old.committed.trees)
+leaves_none site old new can bare survives = survives_weaker _ _ _ _ (λ clean db fresh.
+    let calm = was_clean _ _ _ survives clean in
+    fresh.1.tables ∙ sym (can.bare calm bare) ∙ ap (λ (d : Database). tables_in d.trees) (can.settled calm)) survives
+
 module _ {S : Type 0} (g : Ghosts S) (site : List ℕ) (old new : Held S) (calm : IsTrue (state g new).is_open → HasCleanDisk (state g new)) where
   -- the tables were made
   pub made : CanSettle (state g old) → (state g old).now.schema ≡ no_schema → new.in_transaction ≡ false
@@ -70,7 +77,7 @@ module _ {S : Type 0} (g : Ghosts S) (site : List ℕ) (old new : Held S) (calm 
     ours = λ clean. (created clean).begun.fresh.meta;
     kept = λ clean. (created clean).begun.fresh.tables ∙ sym (can.bare (was_clean _ _ _ survives clean) bare);
     refused = tt;
-    crash = survives_weaker _ _ _ _ (λ clean db fresh. fresh.1.tables) survives;
+    crash = leaves_none site (state g old) (state g new) can bare survives;
   }
 
   -- the tables weren't made
@@ -86,7 +93,7 @@ module _ {S : Type 0} (g : Ghosts S) (site : List ℕ) (old new : Held S) (calm 
     refused = refusal site (state g new) error fault is (λ up none other.
         let clean = calm up in
         none (ap (λ (d : Database). d.schema) ((undone clean).now up ∙ sym (can.settled (was_clean _ _ _ survives clean))) ∙ bare));
-    crash = survives_weaker _ _ _ _ (λ clean db fresh. fresh.1.tables) survives;
+    crash = leaves_none site (state g old) (state g new) can bare survives;
   }
 
   module _ (ready : IsReady (state g old)) where
@@ -113,7 +120,7 @@ module _ {S : Type 0} (g : Ghosts S) (site : List ℕ) (old new : Held S) (calm 
         → Settles g site old new result
     judged meta asks (Ok _) ours others = record {
       mode = asks.mode ready.mode;
-      ready = λ clean. ((asks.same clean).0.is_open, ready_after g old new ready calm _ _ asks);
+      ready = λ clean. ((asks.same clean).0.is_open, still_ready g old new ready calm _ _ asks);
       ours = λ clean. subst (λ (d : Database). metas_in d.trees ≡ new_meta site ∷ []) (sym (now clean)) (only_is _ _ (sym (asks.says clean) ∙ ours));
       kept = λ clean. ap (λ (d : Database). tables_in d.trees) (now clean);
       refused = tt;

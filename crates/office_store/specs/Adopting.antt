@@ -36,24 +36,24 @@ pub record IsRefusedFor (site : List ℕ) (s : State) (fault : OpenFault) : Type
   pub other_site : HasCleanDisk s → fault ≡ OtherSite → IsOfOtherSite site s.now.trees
   pub other_schema : IsTrue s.is_open → s.now.schema ≢ no_schema → s.now.schema ≢ office_schema → fault ≡ OtherTables
 
--- an answer leaves the connection open and ready, with the tables that it had, and a crash leaves what it left before, or tables without a row
+-- an answer leaves the connection open and ready, with the tables that it had, and a crash leaves what it left before, or the tables that were committed before
 pub record Settles {S : Type 0} (g : Ghosts S) (site : List ℕ) (old new : Held S) (result : Result (Unit {0}) OpenFault) : Type 0 where
   pub mode : new.in_transaction ≡ false
   pub ready : HasCleanDisk (state g new) → OnOk result (IsTrue (state g new).is_open × IsReady (state g new))
   pub ours : HasCleanDisk (state g new) → OnOk result (IsOurs site (state g new).now.trees)
   pub kept : HasCleanDisk (state g new) → OnOk result (tables_in (state g new).now.trees ≡ tables_in (state g old).now.trees)
   pub refused : IfErr result (IsRefusedFor site (state g new))
-  pub crash : Survives (state g old) (state g new) (λ db. tables_in db ≡ no_rows)
+  pub crash : Survives (state g old) (state g new) (λ db. tables_in db ≡ tables_in (state g old).committed.trees)
 
--- a crash leaves what it left before, or tables without a row
-abbrev pub LeavesAtMost : (Trees → Type 0) → (Trees → Type 0) → Type 0
-LeavesAtMost before after = (db : Trees) → after db → before db ⊎ (tables_in db ≡ no_rows)
+-- a crash after leaves what one before left, or the tables that were committed before
+abbrev pub LeavesAtMost : State → State → Type 0
+LeavesAtMost before after = (db : Trees) → after.may_leave db → before.may_leave db ⊎ (tables_in db ≡ tables_in before.committed.trees)
 
 module _ {S : Type 0} (g : Ghosts S) where
   -- the same of a connection that is handed back; a store that is handed back leaves what was left before
-  abbrev pub HandedLeaves : (Trees → Type 0) → Handed S → Type 0
-  HandedLeaves before (handed.Connection c) = HasCleanDisk (state g c) → LeavesAtMost before (state g c).may_leave
-  HandedLeaves before (handed.Store store) = (db : Trees) → g.recovers store db → before db
+  abbrev pub HandedLeaves : State → Handed S → Type 0
+  HandedLeaves before (handed.Connection c) = HasCleanDisk (state g c) → LeavesAtMost before (state g c)
+  HandedLeaves before (handed.Store store) = (db : Trees) → g.recovers store db → before.may_leave db
 
   -- a connection is handed back for what it shows, and a store because it failed
   abbrev pub IsHandedFor : List ℕ → OpenFault → Handed S → Type 0

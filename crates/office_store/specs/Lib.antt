@@ -1,7 +1,10 @@
 -- What the contracts of this crate are made of.
 pub mod Keeping
+pub mod Counting
+pub mod Written
 pub mod Faults
 pub mod Adopting
 pub mod Found
 pub mod Meta
 pub mod Described
+pub mod Opening

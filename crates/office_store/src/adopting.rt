@@ -122,7 +122,7 @@ fn find<S: Alter>(conn: &mut Connection<S>, site: &Digest) -> Result<(), OpenFau
 ///
 /// # Errors
 ///
-/// The fault, with the connection or its store.
+/// The fault, with the connection or its store. No row that was committed is changed then.
 pub fn adopt<S: Alter + Drop>(
     alloc: Global,
     conn: Connection<S>,
@@ -132,9 +132,9 @@ pub fn adopt<S: Alter + Drop>(
     ensures ours { IfOk result (λ keep. HasCleanDisk (state S.Store keep) → IsOurs site.now (state S.Store keep).now.trees) }
     ensures clean { IfOk result (λ keep. HasCleanDisk (state S.Store keep) → HasCleanDisk (state S.Store conn)) }
     ensures kept { IfOk result (λ keep. HasCleanDisk (state S.Store keep) → tables_in (state S.Store keep).now.trees ≡ tables_in (state S.Store conn).committed.trees) }
-    ensures crash { IfOk result (λ keep. HasCleanDisk (state S.Store keep) → LeavesAtMost (state S.Store conn).may_leave (state S.Store keep).may_leave) }
+    ensures crash { IfOk result (λ keep. HasCleanDisk (state S.Store keep) → LeavesAtMost (state S.Store conn) (state S.Store keep)) }
     ensures refused { IfErr result (λ e. IsHandedFor S.Store site.now e.0 e.1) }
-    ensures crash_left { IfErr result (λ e. HandedLeaves S.Store (state S.Store conn).may_leave e.1) }
+    ensures crash_left { IfErr result (λ e. HandedLeaves S.Store (state S.Store conn) e.1) }
 {
     let mut conn = match reread(alloc, conn) {
         Ok(conn) => conn,

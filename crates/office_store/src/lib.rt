@@ -8,7 +8,9 @@ mod found;
 mod keep;
 mod meta;
 mod opening;
+mod places;
 mod schema;
+mod written;
 
 pub use adopting::{Handed, adopt};
 pub use fault::OpenFault;

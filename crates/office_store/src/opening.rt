@@ -1,4 +1,13 @@
 // A store in files.
+ghost use Rattle.std.specs.Prelude.{◌≡◌, codes, IsTrue, IfOk};
+ghost use Rattle.sqlite.specs.Files.{file_state};
+ghost use Rattle.sqlite.specs.Held.{state};
+ghost use Rattle.sqlite.specs.State.{HasCleanDisk};
+ghost use Rattle.sqlite.specs.WalFiles.{image_at};
+ghost use Rattle.office_sql.specs.Tables.{tables_in};
+ghost use Rattle.office_store.specs.Adopting.{IsOurs};
+ghost use Rattle.office_store.specs.Opening.{HasTablesOf};
+
 use crate::adopting::adopt;
 use crate::fault::OpenFault;
 use crate::keep::SqlKeep;
@@ -12,27 +21,44 @@ fn adopt_or_close<S: Alter + Drop>(
     alloc: Global,
     conn: Connection<S>,
     site: &Digest,
-) -> Result<SqlKeep<S>, OpenFault> {
+) -> Result<SqlKeep<S>, OpenFault>
+    ensures open { IfOk result (λ keep. HasCleanDisk (state S.Store keep) → IsTrue (state S.Store keep).is_open) }
+    ensures ours { IfOk result (λ keep. HasCleanDisk (state S.Store keep) → IsOurs site.now (state S.Store keep).now.trees) }
+    ensures clean { IfOk result (λ keep. HasCleanDisk (state S.Store keep) → HasCleanDisk (state S.Store conn)) }
+    ensures kept { IfOk result (λ keep. HasCleanDisk (state S.Store keep) → tables_in (state S.Store keep).now.trees ≡ tables_in (state S.Store conn).committed.trees) }
+{
     match adopt(alloc, conn, site) {
         Ok(keep) => Ok(keep),
         Err((fault, _)) => Err(fault),
     }
 }
 
-/// Opens the store of a site, which the SHA-256 of its text names, in the file with this name and
-/// the log beside it, and makes the files where there are none. `start` says what the files may hold.
+/// Opens the store of a site, which the SHA-256 of its text names: the database in the file at this
+/// path, with the log beside it in `<path>-wal`. Where there are no such files it makes them. An
+/// empty database gets the tables of the office, and one that has them must be of this site.
+/// `start` stands for what the files held before, of which the clauses speak, and says how a crash
+/// is read: a program passes `Unknown`, which supposes that a torn write leaves each byte old or
+/// new, or `Wary`, which supposes less.
 ///
 /// # Errors
 ///
-/// The fault; the files are closed then.
+/// `OtherSite` where the database is another site's, `OtherTables` where its tables aren't the
+/// office's, and `Failed` where a file can't be opened, read or written, where the path is
+/// `:memory:` or begins with `file:`, and where there is no memory. The files are closed then.
 pub fn open<S: Start>(
     rt: &HostRuntime,
+    alloc: Global,
     path: &str,
     start: S,
     site: &Digest,
-) -> Result<SqlKeep<FileStore<FileFrom<S>>>, OpenFault> {
+) -> Result<SqlKeep<FileStore<FileFrom<S>>>, OpenFault>
+    ensures open { IfOk result (λ keep. HasCleanDisk (file_state keep) → IsTrue (file_state keep).is_open) }
+    ensures ours { IfOk result (λ keep. HasCleanDisk (file_state keep) → IsOurs site.now (file_state keep).now.trees) }
+    ensures tables { IfOk result (λ keep. HasCleanDisk (file_state keep) → HasTablesOf (image_at S.Start) (tables_in (file_state keep).now.trees)) }
+    ensures memory { path.now ≡ codes ":memory:" → result ≡ Err OpenFault.Failed }
+{
     match Connection::open_from(rt, path, true, start) {
-        Ok(conn) => adopt_or_close(rt.alloc(), conn, site),
+        Ok(conn) => adopt_or_close(alloc, conn, site),
         Err(_) => Err(OpenFault::Failed),
     }
 }

@@ -1,6 +1,7 @@
 //! A keeper that counts the visits, so that an example can tell which requests walk over rows.
 ghost use Rattle.std.specs.Prelude.{◌≡◌, ◌+◌, ◌-◌, ◌^◌, min};
 
+use fusemap_core::FuseMap;
 use id_ranges::KeyDigest;
 use office_core::{
     DeviceRow, EntryRow, GivenRow, Keep, LinkRow, MapRow, MemKeep, OrderRow, SeatRow, Sink, Unkept,
@@ -66,6 +67,10 @@ impl Keep for CountingKeep {
 
     fn map(&mut self, id: u64) -> Result<Option<MapRow>, Unkept> {
         self.keep.map(id)
+    }
+
+    fn fuse_map(&mut self, id: u64) -> Result<Option<FuseMap>, Unkept> {
+        self.keep.fuse_map(id)
     }
 
     fn map_with(&mut self, body: &str) -> Result<Option<u64>, Unkept> {

@@ -3,12 +3,11 @@ use base_examples::samples::{MAP, SITE};
 use station_jobs::{Job, WordsFault, read_job, run};
 use std::alloc::{AllocError, Global};
 use std::io::{Read, Write};
-use std::rt::Files;
 use std::test::Fail;
 use std::{fs, io};
 use text_core::Text;
 
-/// Lines of words, and what becomes of each: the job and the name that it has, help, or a refusal.
+/// Lines of words, and what becomes of each: the job and the names that it has, help, or a refusal.
 pub const LINES: &[(&str, &str)] = &[
     ("station replay --site site.toml", "replay site.toml"),
     (
@@ -16,12 +15,27 @@ pub const LINES: &[(&str, &str)] = &[
         "replay ../a/site.toml",
     ),
     ("station replay --site=--site", "replay --site"),
+    ("station replay --site a --db x", "replay a x"),
+    ("station replay --db x --site a", "replay a x"),
+    ("station replay --site=a --db=../x/y", "replay a ../x/y"),
+    ("station replay --site a --db=--db", "replay a --db"),
+    (
+        "station serve --site a --db x --port 80 --connections 1",
+        "serve a x",
+    ),
+    (
+        "station serve --connections=1000000 --port=65535 --db=x --site=a",
+        "serve a x",
+    ),
     ("station check-map map.toml", "check-map map.toml"),
     ("station check-map ../a/map.toml", "check-map ../a/map.toml"),
     ("station check-map -- --help", "check-map --help"),
     ("station --help", "help"),
     ("station replay --help", "help"),
     ("station replay --site site.toml --help", "help"),
+    ("station replay --db x --help", "help"),
+    ("station serve --help", "help"),
+    ("station help serve", "help"),
     ("station help", "help"),
     ("station help replay", "help"),
     ("station check-map --help", "help"),
@@ -37,8 +51,13 @@ pub const LINES: &[(&str, &str)] = &[
     ("station replay --site", "refused"),
     ("station replay --site a --site b", "refused"),
     ("station replay --site a b", "refused"),
-    ("station replay --site a --db x", "refused"),
+    ("station replay --db x", "refused"),
+    ("station replay --site a --db", "refused"),
+    ("station replay --db --site a", "refused"),
+    ("station replay --site a --db x --db y", "refused"),
+    ("station replay --site a --db x y", "refused"),
     ("station --site a replay", "refused"),
+    ("station --db x replay --site a", "refused"),
     ("check-map map.toml", "refused"),
     ("station check-map", "refused"),
     ("station check-map --", "refused"),
@@ -46,7 +65,36 @@ pub const LINES: &[(&str, &str)] = &[
     ("station check-map --map a", "refused"),
     ("station check-map --site a", "refused"),
     ("station check-map a --site b", "refused"),
+    ("station check-map a --db b", "refused"),
+    ("station check-map --db b", "refused"),
     ("station replay check-map a", "refused"),
+    (
+        "station serve --site a --db x --port 0 --connections 1",
+        "refused",
+    ),
+    (
+        "station serve --site a --db x --port 65536 --connections 1",
+        "refused",
+    ),
+    (
+        "station serve --site a --db x --port http --connections 1",
+        "refused",
+    ),
+    (
+        "station serve --site a --db x --port 80 --connections 0",
+        "refused",
+    ),
+    (
+        "station serve --site a --db x --port 80 --connections 1000001",
+        "refused",
+    ),
+    (
+        "station serve --site a --port 80 --connections 1",
+        "refused",
+    ),
+    ("station serve --db x --port 80 --connections 1", "refused"),
+    ("station serve --site a --db x --connections 1", "refused"),
+    ("station serve --site a --db x --port 80", "refused"),
 ];
 
 /// Names of files that are one word of a line.
@@ -55,14 +103,18 @@ pub const SITE_NAMES: &[&str] = &["a site.toml", " ", "\u{e4}\n"];
 /// What becomes of words.
 fn outcome(alloc: Global, words: &[&str]) -> Result<String, AllocError> {
     let found = read_job(alloc, words);
-    let (outcome, name) = match &found {
-        Ok(Job::Replay { site }) => ("replay ", site.as_str()),
-        Ok(Job::CheckMap { map }) => ("check-map ", map.as_str()),
-        Err(WordsFault::Help(_)) => ("help", ""),
-        Err(WordsFault::Refused(_)) => ("refused", ""),
-        Err(WordsFault::NoMemory) => ("no memory", ""),
+    let (outcome, name, store) = match &found {
+        Ok(Job::Replay { site, db }) => ("replay ", site.as_str(), db.as_ref()),
+        Ok(Job::CheckMap { map }) => ("check-map ", map.as_str(), None),
+        Ok(Job::Serve { site, db, .. }) => ("serve ", site.as_str(), Some(db)),
+        Err(WordsFault::Help(_)) => ("help", "", None),
+        Err(WordsFault::Refused(_)) => ("refused", "", None),
+        Err(WordsFault::NoMemory) => ("no memory", "", None),
     };
-    format!(in alloc; "{outcome}{name}")
+    match store {
+        Some(store) => format!(in alloc; "{outcome}{name} {}", store.as_str()),
+        None => format!(in alloc; "{outcome}{name}"),
+    }
 }
 
 /// Whether the site with a name is replayed.
@@ -203,15 +255,18 @@ pub fn with_samples(alloc: Global, text: &str) -> Result<String, Fail> {
 fn job(alloc: Global, kind: &str, name: &str) -> Result<Job, Fail> {
     let name = Text::copy_of(alloc, name)?;
     if kind == "replay" {
-        return Ok(Job::Replay { site: name });
+        return Ok(Job::Replay {
+            site: name,
+            db: None,
+        });
     }
     Ok(Job::CheckMap { map: name })
 }
 
 /// Does a job of one kind for the file with a name over an input: what was written on standard output
 /// and then on standard error, where the status is 1 exactly where something is on standard error.
-pub fn written<R: Files>(
-    rt: &R,
+pub fn written(
+    rt: &HostRuntime,
     alloc: Global,
     kind: &str,
     name: &str,
@@ -260,8 +315,8 @@ impl Write for Short {
 }
 
 /// Does a job to a writer that may fail: the line on standard error.
-fn line_of_failure<R: Files>(
-    rt: &R,
+fn line_of_failure(
+    rt: &HostRuntime,
     alloc: Global,
     job: &Job,
     input: impl Read + Drop,
@@ -277,8 +332,8 @@ fn line_of_failure<R: Files>(
 
 /// Checks the sample map's file to a writer that takes so many bytes, and may fail to flush: the line
 /// on standard error.
-pub fn line_of_check<R: Files>(
-    rt: &R,
+pub fn line_of_check(
+    rt: &HostRuntime,
     alloc: Global,
     room: usize,
     flushes: bool,
@@ -289,8 +344,8 @@ pub fn line_of_check<R: Files>(
 
 /// Replays an input for the sample site's file to a writer that takes nothing: the line on standard
 /// error.
-pub fn line_of_replay<R: Files>(
-    rt: &R,
+pub fn line_of_replay(
+    rt: &HostRuntime,
     alloc: Global,
     input: impl Read + Drop,
 ) -> Result<String, Fail> {
@@ -308,8 +363,8 @@ pub fn tells_unread(line: &str, name: &str) -> bool {
 
 /// Makes the file `long.toml` of a text, with as many spaces behind it as make so many bytes, and then
 /// these.
-pub fn write_long_file<R: Files>(
-    rt: &R,
+pub fn write_long_file(
+    rt: &HostRuntime,
     alloc: Global,
     (start, size): (&str, usize),
     end: &[u8],

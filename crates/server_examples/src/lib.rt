@@ -3,23 +3,19 @@
 #![tactic(auto)]
 
 #[cfg(test)]
+mod chips;
+#[cfg(test)]
 mod conversation;
 #[cfg(test)]
 mod counting;
 #[cfg(test)]
-mod devices;
-#[cfg(test)]
-mod identities;
+mod digests;
 #[cfg(test)]
 mod jobs;
 #[cfg(test)]
-mod maps;
+mod keepers;
 #[cfg(test)]
-mod orders;
-#[cfg(test)]
-mod placeholders;
-#[cfg(test)]
-mod plans;
+mod stores;
 #[cfg(test)]
 mod streams;
 #[cfg(test)]

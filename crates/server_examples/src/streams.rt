@@ -3,7 +3,7 @@
 ghost use Rattle.std.specs.Prelude.{◌<◌};
 
 use crate::conversation::serve;
-use crate::placeholders::filled;
+use base_examples::conversations::filled;
 use base_examples::samples::SITE;
 use http_frames::memory::{Failing, Interrupted, Pieces, Written};
 use office_core::Keep;

@@ -1,30 +1,38 @@
-//! The examples over the keeper in memory, and those of the program.
+//! The examples over both keepers, and those of the program.
+use crate::chips::chips_are_visited;
 use crate::conversation::{
     first_difference, first_difference_after_want, first_difference_in_turns,
 };
 use crate::counting::CountingKeep;
-use crate::devices::{ACME, BOLT, DEVICES, chips_are_visited};
-use crate::identities::IDENTITIES;
+use crate::digests::has_taken_digest;
 use crate::jobs::{
     BROKEN, FILES, LINE_LENGTH, LINES, LONG_ENDS, LONG_FILES, SITE_NAMES, UNREAD, WRITE_FAILED,
     is_replayed, line_of_check, line_of_replay, outcome_of_line, tells_unread, with_samples,
     write_long_file, written,
 };
-use crate::maps::{MAPS, has_taken_digest};
-use crate::orders::ORDERS;
-use crate::plans::PLANS;
+use crate::keepers::{Fresh, SqlMemory};
+use crate::stores::{
+    CHANGED, FOREIGN, columns_of_device, fault_after, fault_of_foreign,
+    first_difference_adopted_anew, settled_columns,
+};
 use crate::streams::{
     ORDER, STEPS, STREAMS, TAKEN, ends_so, goes_on_after_interruptions,
     stops_where_the_reader_fails, stops_where_the_writer_does,
 };
 use crate::visits::{VISITS, visits_of_each_kind};
+use base_examples::conversations::devices::{ACME, BOLT, DEVICES};
+use base_examples::conversations::identities::IDENTITIES;
+use base_examples::conversations::maps::MAPS;
+use base_examples::conversations::orders::ORDERS;
+use base_examples::conversations::plans::PLANS;
 use base_examples::samples::{MAP, SITE};
 use office_core::MemKeep;
+use station_api::Served;
 use std::alloc::Global;
 use std::fs;
 use std::test::Fail;
 
-/// The conversations, each under its name.
+/// The conversations, each under its name, but for those of tests of their own.
 const ALL: &[&[(&str, &str)]] = &[ORDERS, MAPS, DEVICES];
 
 /// The orders in which the requests of two seats can come.
@@ -34,11 +42,11 @@ const TURNS: &[&str] = &[
     "bababaab", "babbaaab", "bbaaabab", "bbaabaab", "bbabaaab", "bbbaaaab",
 ];
 
-/// Holds conversations, each over a store without rows: what differs first, behind the name of its
+/// Holds conversations, each over a keeper without rows: what differs first, behind the name of its
 /// conversation.
-fn first_of(alloc: Global, table: &[(&str, &str)]) -> Result<String, Fail> {
+fn first_of<K: Fresh>(alloc: Global, table: &[(&str, &str)]) -> Result<String, Fail> {
     for row in table {
-        let mut keep = MemKeep::new(alloc);
+        let mut keep = K::fresh(alloc)?;
         let found = first_difference(alloc, &mut keep, row.1)?;
         if !found.is_empty() {
             return Ok(format!(in alloc; "{}: {found}", row.0)?);
@@ -47,10 +55,19 @@ fn first_of(alloc: Global, table: &[(&str, &str)]) -> Result<String, Fail> {
     Ok(String::new(alloc))
 }
 
+/// Holds conversations over each keeper: what differs first.
+fn first_of_each(alloc: Global, table: &[(&str, &str)]) -> Result<String, Fail> {
+    let found = first_of::<MemKeep>(alloc, table)?;
+    if !found.is_empty() {
+        return Ok(found);
+    }
+    first_of::<SqlMemory>(alloc, table)
+}
+
 #[test]
 fn conversations_get_their_replies(rt: HostRuntime) -> Result<(), Fail> {
     for table in ALL {
-        let found = first_of(rt.alloc(), table)?;
+        let found = first_of_each(rt.alloc(), table)?;
         assert_eq!(rt; found.as_str(), "");
     }
     Ok(())
@@ -59,14 +76,14 @@ fn conversations_get_their_replies(rt: HostRuntime) -> Result<(), Fail> {
 /// Apart from the others, since the prover sets a bound to all the texts of one test.
 #[test]
 fn plans_and_read_backs_get_their_replies(rt: HostRuntime) -> Result<(), Fail> {
-    let found = first_of(rt.alloc(), PLANS)?;
+    let found = first_of_each(rt.alloc(), PLANS)?;
     assert_eq!(rt; found.as_str(), "");
     Ok(())
 }
 
 #[test]
 fn identities_and_imports_get_their_replies(rt: HostRuntime) -> Result<(), Fail> {
-    let found = first_of(rt.alloc(), IDENTITIES)?;
+    let found = first_of_each(rt.alloc(), IDENTITIES)?;
     assert_eq!(rt; found.as_str(), "");
     Ok(())
 }
@@ -90,50 +107,91 @@ fn each_kind_of_visit_counts(rt: HostRuntime) -> Result<(), Fail> {
     Ok(())
 }
 
+/// Holds the two seats' conversations in turns.
+fn first_of_turns<K: Fresh>(alloc: Global, turns: &str) -> Result<String, Fail> {
+    let mut keep = K::fresh(alloc)?;
+    first_difference_in_turns(alloc, &mut keep, ACME, BOLT, turns)
+}
+
 /// Three requests of each of two seats in each of the twenty orders in which they can come, and then
 /// both ledgers: each seat gets the replies that it gets alone.
 #[test]
 fn seats_are_served_as_if_alone(rt: HostRuntime) -> Result<(), Fail> {
     for turns in TURNS {
-        let mut keep = MemKeep::new(rt.alloc());
-        let found = first_difference_in_turns(rt.alloc(), &mut keep, ACME, BOLT, turns)?;
+        let found = first_of_turns::<MemKeep>(rt.alloc(), turns)?;
         assert_eq!(rt; found.as_str(), "", "{turns}");
+        let found = first_of_turns::<SqlMemory>(rt.alloc(), turns)?;
+        assert_eq!(rt; found.as_str(), "", "{turns} over SQL");
     }
     Ok(())
+}
+
+/// Holds a seat's conversation in which an allocation may be refused.
+fn first_after_want<K: Fresh>(alloc: Global) -> Result<String, Fail> {
+    let mut keep = K::fresh(alloc)?;
+    first_difference_after_want(alloc, &mut keep, ACME)
 }
 
 /// Made to hold where the server is refused an allocation; where the example is, it ends with that
 /// error.
 #[test]
 fn want_of_memory_changes_nothing(rt: HostRuntime) -> Result<(), Fail> {
-    let alloc = rt.alloc();
-    let found = first_difference_after_want(alloc, &mut MemKeep::new(alloc), ACME)?;
-    assert_eq!(rt; found.as_str(), "");
+    assert_eq!(rt; first_after_want::<MemKeep>(rt.alloc())?.as_str(), "");
     Ok(())
+}
+
+/// The same over SQL.
+#[test]
+fn want_of_memory_changes_no_database(rt: HostRuntime) -> Result<(), Fail> {
+    assert_eq!(rt; first_after_want::<SqlMemory>(rt.alloc())?.as_str(), "");
+    Ok(())
+}
+
+/// Whether a stream ends as it must, in pieces of each length.
+fn always_ends_so<K: Fresh>(alloc: Global, row: &(&str, &str, Served)) -> Result<bool, Fail> {
+    for step in STEPS {
+        let mut keep = K::fresh(alloc)?;
+        if !ends_so(alloc, &mut keep, row, *step)? {
+            return Ok(false);
+        }
+    }
+    Ok(true)
 }
 
 #[test]
 fn streams_end_as_they_must(rt: HostRuntime) -> Result<(), Fail> {
     for row in STREAMS {
-        for step in STEPS {
-            let mut keep = MemKeep::new(rt.alloc());
-            let is_so = ends_so(rt.alloc(), &mut keep, row, *step)?;
-            assert!(rt; is_so, "{} by {step}", row.0);
-        }
+        assert!(rt; always_ends_so::<MemKeep>(rt.alloc(), row)?, "{}", row.0);
+        assert!(rt;
+            always_ends_so::<SqlMemory>(rt.alloc(), row)?,
+            "{} over SQL",
+            row.0
+        );
     }
     Ok(())
+}
+
+/// Whether failures of readers and writers are met as they must be.
+fn meets_failures<K: Fresh>(alloc: Global) -> Result<bool, Fail> {
+    let goes_on = goes_on_after_interruptions(alloc, &mut K::fresh(alloc)?)?;
+    Ok(goes_on && stops_where_the_reader_fails(alloc, &mut K::fresh(alloc)?)?)
+}
+
+/// Whether a writer that fails after so many bytes stops the stream.
+fn stops_with_the_writer<K: Fresh>(alloc: Global, taken: u32) -> Result<bool, Fail> {
+    stops_where_the_writer_does(alloc, &mut K::fresh(alloc)?, taken)
 }
 
 #[test]
 fn readers_and_writers_may_fail(rt: HostRuntime) -> Result<(), Fail> {
     let alloc = rt.alloc();
-    let goes_on = goes_on_after_interruptions(alloc, &mut MemKeep::new(alloc))?;
-    let stops = stops_where_the_reader_fails(alloc, &mut MemKeep::new(alloc))?;
-    assert!(rt; goes_on && stops);
+    assert!(rt; meets_failures::<MemKeep>(alloc)? && meets_failures::<SqlMemory>(alloc)?);
     for taken in TAKEN {
-        let mut keep = MemKeep::new(alloc);
-        let stops = stops_where_the_writer_does(alloc, &mut keep, *taken)?;
-        assert!(rt; stops, "{taken}");
+        assert!(rt; stops_with_the_writer::<MemKeep>(alloc, *taken)?, "{taken}");
+        assert!(rt;
+            stops_with_the_writer::<SqlMemory>(alloc, *taken)?,
+            "{taken} over SQL"
+        );
     }
     Ok(())
 }
@@ -147,10 +205,42 @@ fn a_taken_digest_is_told(rt: HostRuntime) -> Result<(), Fail> {
     Ok(())
 }
 
+/// Whether a visit of a new keeper's devices gives them in the order of their chips.
+fn visits_by_chips<K: Fresh>(alloc: Global) -> Result<bool, Fail> {
+    chips_are_visited(alloc, &mut K::fresh(alloc)?)
+}
+
 #[test]
 fn devices_are_visited_by_their_chips(rt: HostRuntime) -> Result<(), Fail> {
-    let mut keep = MemKeep::new(rt.alloc());
-    assert!(rt; chips_are_visited(rt.alloc(), &mut keep)?);
+    assert!(rt; visits_by_chips::<MemKeep>(rt.alloc())?);
+    assert!(rt; visits_by_chips::<SqlMemory>(rt.alloc())?);
+    Ok(())
+}
+
+#[test]
+fn stores_are_adopted_anew_between_requests(rt: HostRuntime) -> Result<(), Fail> {
+    for row in PLANS {
+        let found = first_difference_adopted_anew(rt.alloc(), row.1)?;
+        assert_eq!(rt; found.as_str(), "", "{}", row.0);
+    }
+    Ok(())
+}
+
+#[test]
+fn stores_of_others_are_refused(rt: HostRuntime) -> Result<(), Fail> {
+    for row in CHANGED {
+        assert_eq!(rt; fault_after(rt.alloc(), row.0, row.1)?, row.2, "{}", row.0);
+    }
+    for sql in FOREIGN {
+        assert_eq!(rt; fault_of_foreign(rt.alloc(), sql)?, 2, "{sql}");
+    }
+    Ok(())
+}
+
+#[test]
+fn columns_of_a_device_are_its_bytes(rt: HostRuntime) -> Result<(), Fail> {
+    let alloc = rt.alloc();
+    assert!(rt; columns_of_device(alloc)? == settled_columns(alloc)?);
     Ok(())
 }
 

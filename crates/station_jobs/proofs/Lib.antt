@@ -1,3 +1,5 @@
 -- The lemmas of this crate.
 pub mod FileTexts
+pub mod Leading
+pub mod NumberTexts
 pub mod Options

@@ -1,11 +1,14 @@
 -- The command line, and the job of its words.
-use Rattle.std.specs.Prelude.{◌≡◌, ◌≢◌, List, [], ◌∷◌, codes, map, true, Option, Some, None, option_and_then, option_map, string_bytes, bytes_eq, if◌then◌else◌}
+use Rattle.std.specs.Prelude.{◌≡◌, ◌≢◌, ℕ, List, [], ◌∷◌, codes, map, true, Option, Some, None, option_and_then, option_map, string_bytes, bytes_eq, if◌then◌else◌}
 use Rattle.std.specs.Borrow.{Bor}
 use Rattle.clap.specs.Words.{App, IsAmong, Kinds, Row, Rule, Text, fault_of, first_of, new_app, new_rule, subcommand_of, with_rule, with_subcommand}
+use Rattle.std.specs.Str.Parse.{digits_value, without_leading_plus}
+use Rattle.clap.specs.ValueTests.{is_unsigned_in}
+use Rattle.clap.specs.declared.builder.value_parser.ValueParser.TheVariants.{Unsigned}
 use Rattle.clap.specs.declared.error.kind.ErrorKind.{ErrorKind}
 use Rattle.clap.specs.declared.error.kind.ErrorKind.TheVariants.{DisplayHelp, OutOfMemory}
 use Rattle.station_jobs.specs.declared.job.Job.{Job}
-use Rattle.station_jobs.specs.declared.job.Job.TheVariants.{CheckMap, Replay}
+use Rattle.station_jobs.specs.declared.job.Job.TheVariants.{CheckMap, Replay, Serve}
 use Rattle.station_jobs.specs.declared.job.WordsFault.{WordsFault}
 use Rattle.station_jobs.specs.declared.job.WordsFault.TheVariants.{Help, Refused, NoMemory}
 
@@ -17,9 +20,39 @@ texts words = map (λ word. word.now) words.now
 abbrev pub site_rule : Rule
 site_rule = record (new_rule (codes "site")) { long = Some (codes "site"); value_names = 1; required = true }
 
--- `replay --site F`
+-- `--db F`, which may be there
+abbrev pub db_rule : Rule
+db_rule = record (new_rule (codes "db")) { long = Some (codes "db"); value_names = 1 }
+
+-- `--db F`, which has to be there
+abbrev pub required_db_rule : Rule
+required_db_rule = record db_rule { required = true }
+
+-- `--port N`, a number from 1 to 65535, which has to be there
+abbrev pub port_rule : Rule
+port_rule = record (new_rule (codes "port")) {
+  long = Some (codes "port");
+  value_names = 1;
+  parser = Some (Unsigned 1 65535);
+  required = true;
+}
+
+-- `--connections K`, a number from 1 to 1000000, which has to be there
+abbrev pub connections_rule : Rule
+connections_rule = record (new_rule (codes "connections")) {
+  long = Some (codes "connections");
+  value_names = 1;
+  parser = Some (Unsigned 1 1000000);
+  required = true;
+}
+
+-- `serve --site F --db F --port N --connections K`
+abbrev pub serve_app : App
+serve_app = with_rule (with_rule (with_rule (with_rule (new_app (codes "serve")) site_rule) required_db_rule) port_rule) connections_rule
+
+-- `replay --site F [--db F]`
 abbrev pub replay_app : App
-replay_app = with_rule (new_app (codes "replay")) site_rule
+replay_app = with_rule (with_rule (new_app (codes "replay")) site_rule) db_rule
 
 -- `F`, which has to be there
 abbrev pub map_rule : Rule
@@ -33,13 +66,31 @@ check_map_app = with_rule (new_app (codes "check-map")) map_rule
 abbrev pub top_app : App
 top_app = let app = new_app (codes "station") in record app { top = record app.top { subcommand_required = true } }
 
--- `station replay --site F` and `station check-map F`
+-- `station serve --site F --db F --port N --connections K`, `station replay --site F [--db F]` and `station check-map F`
 abbrev pub station_app : App
-station_app = with_subcommand (with_subcommand top_app replay_app.top) check_map_app.top
+station_app = with_subcommand (with_subcommand (with_subcommand top_app serve_app.top) replay_app.top) check_map_app.top
+
+-- the number that a text stands for in decimal digits, behind one `+` or none, if it is one from `least` to `most`
+abbrev pub number_in : ℕ → ℕ → Text → Option ℕ
+number_in least most text =
+    if is_unsigned_in least most text then Some (digits_value 10 (without_leading_plus text)) else None
+
+-- the number that an option was given, if it is one from `least` to `most`
+abbrev pub number_of : Text → ℕ → ℕ → List Row → Option ℕ
+number_of id least most options = option_and_then (number_in least most) (first_of id options)
+
+-- the job of `serve`, by its options
+abbrev pub serve_of : List Row → Option Job
+serve_of options =
+    option_and_then (λ site. option_and_then (λ db. option_and_then (λ port. option_map (Serve site db port)
+    (number_of (codes "connections") 1 1000000 options))
+    (number_of (codes "port") 1 65535 options))
+    (first_of (codes "db") options))
+    (first_of (codes "site") options)
 
 -- the job of `replay`, by its options
 abbrev pub replay_of : List Row → Option Job
-replay_of options = option_map Replay (first_of (codes "site") options)
+replay_of options = option_map (λ site. Replay site (first_of (codes "db") options)) (first_of (codes "site") options)
 
 -- the job of `check-map`, by its options
 abbrev pub check_map_of : List Row → Option Job
@@ -48,7 +99,8 @@ check_map_of options = option_map CheckMap (first_of (codes "map") options)
 -- the job of a subcommand, by its name and its options
 abbrev pub job_by : Text × List Row → Option Job
 job_by entered =
-    if bytes_eq entered.0 (codes "replay") then replay_of entered.1
+    if bytes_eq entered.0 (codes "serve") then serve_of entered.1
+    else if bytes_eq entered.0 (codes "replay") then replay_of entered.1
     else if bytes_eq entered.0 (codes "check-map") then check_map_of entered.1
     else None
 

@@ -1,6 +1,7 @@
 -- What the contracts of this crate are made of.
 pub mod CommandLine
 pub mod FileText
+pub mod Listening
 pub mod MapFile
 pub mod SiteFile
 pub mod Statuses

@@ -3,7 +3,7 @@ use Rattle.std.specs.Prelude.{ℕ, ◌≡◌, ◌≤◌, ◌++◌, List, codes, 
 use Rattle.http_serving.specs.declared.Served.{Served}
 use Rattle.http_serving.specs.declared.Served.TheVariants.{Ended, Closed, Cut, ReadFault, WriteFault}
 use Rattle.station_jobs.specs.declared.failure.Failure.{Failure}
-use Rattle.station_jobs.specs.declared.failure.Failure.TheVariants.{CannotRead, SiteFault, MapFault, ReadFailed, WriteFailed, TurnLimit}
+use Rattle.station_jobs.specs.declared.failure.Failure.TheVariants.{CannotRead, SiteFault, StoreFault, MapFault, ListenFailed, AcceptFailed, ReadFailed, WriteFailed, TurnLimit}
 use Rattle.station_jobs.specs.declared.job.WordsFault.{WordsFault}
 use Rattle.station_jobs.specs.declared.job.WordsFault.TheVariants.{Help, Refused}
 
@@ -17,7 +17,10 @@ HasStatus WordsFault.NoMemory status = status ≡ 1
 abbrev pub line_of : Failure → List ℕ
 line_of (CannotRead name) = codes "station: cannot read " ++ name.now
 line_of (SiteFault number) = codes "station: site fault " ++ decimal number
+line_of (StoreFault number) = codes "station: store fault " ++ decimal number
 line_of (MapFault number) = codes "station: map fault " ++ decimal number
+line_of ListenFailed = codes "station: listen failed"
+line_of AcceptFailed = codes "station: accept failed"
 line_of ReadFailed = codes "station: read failed"
 line_of WriteFailed = codes "station: write failed"
 line_of TurnLimit = codes "station: turn limit"

@@ -11,8 +11,14 @@ pub enum Failure<'a> {
     CannotRead(&'a str),
     /// The text of the site has the fault with this number, 1 to 6.
     SiteFault(u8),
+    /// The store isn't opened, with the number of the fault, 1 to 3.
+    StoreFault(u8),
     /// The text of the fuse map has the fault with this number, 1 to 8.
     MapFault(u8),
+    /// The port can't be listened on.
+    ListenFailed,
+    /// Waiting for a connection failed.
+    AcceptFailed,
     /// Reading the stream failed.
     ReadFailed,
     /// Writing the output failed.
@@ -30,7 +36,10 @@ impl fmt::Display for Failure<'_> {
         match self {
             Failure::CannotRead(name) => write!(f, "station: cannot read {name}"),
             Failure::SiteFault(number) => write!(f, "station: site fault {number}"),
+            Failure::StoreFault(number) => write!(f, "station: store fault {number}"),
             Failure::MapFault(number) => write!(f, "station: map fault {number}"),
+            Failure::ListenFailed => f.write_str("station: listen failed"),
+            Failure::AcceptFailed => f.write_str("station: accept failed"),
             Failure::ReadFailed => f.write_str("station: read failed"),
             Failure::WriteFailed => f.write_str("station: write failed"),
             Failure::TurnLimit => f.write_str("station: turn limit"),

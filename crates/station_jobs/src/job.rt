@@ -1,10 +1,11 @@
 //! The job that the words of a command line ask for.
-ghost use Rattle.std.specs.Prelude.{◌≡◌, ◌⊎◌, false, Some, None, IfOk, IfErr, option_and_then};
-ghost use Rattle.clap.specs.Words.{app_of, fault_of, first_of, found_of, kind_of, rows_of, subcommand_rows_of};
+ghost use Rattle.std.specs.Prelude.{◌≡◌, ◌⊎◌, false, Some, None, ◌≤◌, IfOk, IfErr, IfSome, option_and_then};
+ghost use Rattle.clap.specs.Words.{app_of, fault_of, first_of, found_of, kind_of, rows_of, rule_of, subcommand_rows_of};
 ghost use Rattle.clap.specs.declared.builder.command.Command.TheViews.{out-Command as fields_of};
-ghost use Rattle.station_jobs.specs.CommandLine.{CanGive, GivenBy, RefusesWith, check_map_app, check_map_of, job_by, job_read, replay_app, replay_of, station_app, texts};
+ghost use Rattle.station_jobs.specs.CommandLine.{CanGive, GivenBy, RefusesWith, check_map_app, check_map_of, connections_rule, db_rule, job_by, job_read, number_in, number_of, port_rule, replay_app, replay_of, required_db_rule, serve_app, serve_of, site_rule, station_app, texts, top_app};
 ghost use Rattle.station_jobs.specs.declared.job.WordsFault.TheVariants.{NoMemory};
 
+use clap::builder::ValueParser;
 use clap::error::ErrorKind;
 use clap::{Arg, ArgMatches, Command, Error};
 use std::alloc::{AllocError, Global};
@@ -18,13 +19,33 @@ const NOT_UTF8: &str = "error: a word of the command line is not UTF-8\n";
 /// Why words that `clap` takes are refused, should it ever enter a subcommand that names no job.
 const NO_JOB: &str = "error: the words name no job\n";
 
+/// The greatest number of a port.
+const PORT_LIMIT: u64 = 65535;
+
+/// The most connections that one run serves.
+const CONNECTION_LIMIT: u64 = 1_000_000;
+
 /// What the program is to do.
 #[derive(Drop)]
 pub enum Job {
+    /// Serves connections of a port one after another, over the store in a file.
+    Serve {
+        /// The name of the site's file, as it was given.
+        site: Text,
+        /// The name of the store's file, as it was given.
+        db: Text,
+        /// The port of this machine that is listened on, which isn't 0.
+        port: u16,
+        /// How many connections are served, 1 to 1,000,000.
+        connections: u32,
+    },
     /// Serves one stream of requests, from standard input to standard output.
     Replay {
         /// The name of the site's file, as it was given.
         site: Text,
+        /// The name of the store's file, as it was given. Without one the tables are in memory, and
+        /// end with the job.
+        db: Option<Text>,
     },
     /// Reads one fuse map, and tells its name and its size, or its fault.
     CheckMap {
@@ -125,28 +146,106 @@ pub fn read_job<'a>(alloc: Global, words: &'a [&'a str]) -> Result<Job, WordsFau
 fn station_command<'a>(alloc: Global) -> Result<Command<'a>, AllocError>
     ensures { IfOk result (λ command. app_of command ≡ station_app) }
 {
+    let serve = serve_command(alloc)?;
     let replay = replay_command(alloc)?;
     let check_map = check_map_command(alloc)?;
-    Command::new(alloc, "station")
-        .about("Serves programming stations")
-        .subcommand_required(true)
+    top_command(alloc)
+        .subcommand(serve)?
         .subcommand(replay)?
         .subcommand(check_map)
 }
 
-/// The subcommand `replay --site F`.
+/// The program's command line without its subcommands.
+fn top_command<'a>(alloc: Global) -> Command<'a>
+    ensures { app_of result ≡ top_app }
+{
+    Command::new(alloc, "station")
+        .about("Serves programming stations")
+        .subcommand_required(true)
+}
+
+/// The option `--site F`.
+fn site_option<'a>(alloc: Global) -> Arg<'a>
+    ensures rule { rule_of result ≡ site_rule }
+    ensures local { result.global ≡ false }
+{
+    Arg::new(alloc, "site")
+        .long("site")
+        .required(true)
+        .value_name("F")
+        .help("The file of the site: its customers, their seats, and the manager")
+}
+
+/// The option `--db F`.
+fn store_option<'a>(alloc: Global) -> Arg<'a>
+    ensures rule { rule_of result ≡ db_rule }
+    ensures local { result.global ≡ false }
+{
+    Arg::new(alloc, "db").long("db").value_name("F").help(
+        "The file of the store, made where there is none; without one, memory alone",
+    )
+}
+
+/// The option `--db F`, which has to be there.
+fn required_store_option<'a>(alloc: Global) -> Arg<'a>
+    ensures rule { rule_of result ≡ required_db_rule }
+    ensures local { result.global ≡ false }
+{
+    Arg::new(alloc, "db")
+        .long("db")
+        .required(true)
+        .value_name("F")
+        .help("The file of the store, made where there is none")
+}
+
+/// The option `--port N`.
+fn port_option<'a>(alloc: Global) -> Arg<'a>
+    ensures rule { rule_of result ≡ port_rule }
+    ensures local { result.global ≡ false }
+{
+    Arg::new(alloc, "port")
+        .long("port")
+        .required(true)
+        .value_parser(ValueParser::unsigned(1, PORT_LIMIT))
+        .value_name("N")
+        .help("The port of this machine to listen on, 1 to 65535")
+}
+
+/// The option `--connections K`.
+fn connections_option<'a>(alloc: Global) -> Arg<'a>
+    ensures rule { rule_of result ≡ connections_rule }
+    ensures local { result.global ≡ false }
+{
+    Arg::new(alloc, "connections")
+        .long("connections")
+        .required(true)
+        .value_parser(ValueParser::unsigned(1, CONNECTION_LIMIT))
+        .value_name("K")
+        .help("How many connections to serve before it ends, 1 to 1000000")
+}
+
+/// The subcommand `serve --site F --db F --port N --connections K`.
+fn serve_command<'a>(alloc: Global) -> Result<Command<'a>, AllocError>
+    ensures shape { IfOk result (λ command. app_of command ≡ serve_app) }
+    ensures local { IfOk result (λ command. (fields_of command).has_globals ≡ false) }
+{
+    Command::new(alloc, "serve")
+        .about("Serves connections of a port, one after another, over the store in a file")
+        .arg(site_option(alloc))?
+        .arg(required_store_option(alloc))?
+        .arg(port_option(alloc))?
+        .arg(connections_option(alloc))
+}
+
+/// The subcommand `replay --site F [--db F]`.
 fn replay_command<'a>(alloc: Global) -> Result<Command<'a>, AllocError>
     ensures shape { IfOk result (λ command. app_of command ≡ replay_app) }
     ensures local { IfOk result (λ command. (fields_of command).has_globals ≡ false) }
 {
-    let site = Arg::new(alloc, "site")
-        .long("site")
-        .required(true)
-        .value_name("F")
-        .help("The file of the site: its customers, their seats, and the manager");
     Command::new(alloc, "replay")
         .about("Serves one stream of requests, from standard input to standard output")
-        .arg(site)
+        .arg(site_option(alloc))?
+        .arg(store_option(alloc))
 }
 
 /// The subcommand `check-map F`.
@@ -196,10 +295,35 @@ fn job_by(alloc: Global, name: &str, options: &ArgMatches<'_>) -> Result<Option<
     ensures { IfOk result (λ job. job ≡ job_by (name.now, rows_of (found_of options.now))) }
 {
     match name {
+        "serve" => serve_job(alloc, options),
         "replay" => replay_job(alloc, options),
         "check-map" => check_map_job(alloc, options),
         _ => Ok(None),
     }
+}
+
+/// The job of `serve` with these options.
+fn serve_job(alloc: Global, options: &ArgMatches<'_>) -> Result<Option<Job>, AllocError>
+    ensures { IfOk result (λ job. job ≡ serve_of (rows_of (found_of options.now))) }
+{
+    let Some(site) = option_text(alloc, options, "site")? else {
+        return Ok(None);
+    };
+    let Some(db) = option_text(alloc, options, "db")? else {
+        return Ok(None);
+    };
+    let Some(port) = option_number(options, "port", 1, PORT_LIMIT) else {
+        return Ok(None);
+    };
+    let Some(connections) = option_number(options, "connections", 1, CONNECTION_LIMIT) else {
+        return Ok(None);
+    };
+    Ok(Some(Job::Serve {
+        site,
+        db,
+        port: port as u16,
+        connections: connections as u32,
+    }))
 }
 
 /// The job of `replay` with these options.
@@ -207,7 +331,10 @@ fn replay_job(alloc: Global, options: &ArgMatches<'_>) -> Result<Option<Job>, Al
     ensures { IfOk result (λ job. job ≡ replay_of (rows_of (found_of options.now))) }
 {
     match option_text(alloc, options, "site")? {
-        Some(site) => Ok(Some(Job::Replay { site })),
+        Some(site) => {
+            let db = option_text(alloc, options, "db")?;
+            Ok(Some(Job::Replay { site, db }))
+        }
         None => Ok(None),
     }
 }
@@ -234,5 +361,27 @@ fn option_text(
     match options.get_str(id) {
         Some(text) => Ok(Some(Text::copy_of(alloc, text)?)),
         None => Ok(None),
+    }
+}
+
+/// The number that an option was given, the first if there are several, where it is one of these.
+fn option_number(options: &ArgMatches<'_>, id: &str, least: u64, most: u64) -> Option<u64>
+    ensures number { result ≡ number_of id.now least most (rows_of (found_of options.now)) }
+    ensures within { IfSome result (λ number. (least ≤ number) × (number ≤ most)) }
+{
+    match options.get_str(id) {
+        Some(text) => number_in(text, least, most),
+        None => None,
+    }
+}
+
+/// The number that a text stands for, where it is one of these.
+fn number_in(text: &str, least: u64, most: u64) -> Option<u64>
+    ensures number { result ≡ number_in least most text.now }
+    ensures within { IfSome result (λ number. (least ≤ number) × (number ≤ most)) }
+{
+    match text.parse::<u64>() {
+        Ok(number) if least <= number && number <= most => Some(number),
+        _ => None,
     }
 }

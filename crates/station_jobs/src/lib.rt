@@ -8,9 +8,12 @@ mod job;
 mod map_file;
 mod reporting;
 mod running;
+mod serving;
 mod site_file;
+mod stored;
 
 pub use failure::Failure;
 pub use job::{Job, WordsFault, job_from_env, read_job};
 pub use reporting::report;
 pub use running::run;
+pub use serving::{STALL_SECONDS, serve_connections};

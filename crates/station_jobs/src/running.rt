@@ -9,18 +9,20 @@ ghost use Rattle.station_jobs.specs.Statuses.{end_of, line_of, status_of};
 use crate::failure::Failure;
 use crate::job::Job;
 use crate::map_file::{map_of_file, read_map_file, write_map_line};
-use crate::site_file::{read_site_file, site_of_file};
-use office_core::MemKeep;
+use crate::serving::{Door, serve_site};
+use crate::site_file::{bytes_of_file, read_site_file, site_of_bytes};
+use crate::stored::replay_stored;
+use office_core::{Keep, MemKeep};
+use site_core::Site;
 use station_api::{Counted, Served, serve_stream};
 use std::alloc::Global;
 use std::io;
 use std::io::{Read, Write};
-use std::rt::Files;
 
 /// Does a job: reads the file that it names, then its input, writes its output, and writes one line
 /// on `err` where it fails. Answers the status that the program ends with: 0, or 1 where it failed.
 pub fn run(
-    rt: &impl Files,
+    rt: &HostRuntime,
     alloc: Global,
     job: &Job,
     input: impl Read + Drop,
@@ -30,10 +32,27 @@ pub fn run(
     ensures { result ≤ 1 }
 {
     let done = match job {
-        Job::Replay { site } => {
+        Job::Serve {
+            site,
+            db,
+            port,
+            connections,
+        } => {
             let name = site.as_str();
             let file = read_site_file(rt, alloc, name);
-            replay(alloc, name, file, input, output)
+            let door = Door {
+                port: *port,
+                connections: *connections,
+            };
+            serve_site(rt, alloc, name, file, db.as_str(), door, &mut output)
+        }
+        Job::Replay { site, db } => {
+            let name = site.as_str();
+            let file = read_site_file(rt, alloc, name);
+            match db {
+                Some(db) => replay_stored(rt, alloc, name, file, db.as_str(), input, output),
+                None => replay(alloc, name, file, input, output),
+            }
         }
         Job::CheckMap { map } => {
             let name = map.as_str();
@@ -59,11 +78,23 @@ fn replay<'a>(
     ensures no_site { IfOk file (λ bytes. IfErr (site_in name.entry bytes.items) (λ failure.
         (result ≡ Err failure) ⊎ (result ≡ Err Failure.NoMemory))) }
 {
-    let site = site_of_file(alloc, name, file)?;
+    let bytes = bytes_of_file(name, file)?;
+    let site = site_of_bytes(alloc, name, bytes.as_slice())?;
     let mut keep = MemKeep::new(alloc);
+    serve(alloc, &mut keep, &site, input, output)
+}
+
+/// Serves one stream over a keeper.
+pub fn serve<K: Keep>(
+    alloc: Global,
+    keep: &mut K,
+    site: &Site,
+    input: impl Read + Drop,
+    output: impl Write + Drop,
+) -> Result<(), Failure<'static>> {
     let mut reader = Counted::new(input);
     let mut writer = Counted::new(output);
-    end_of(serve_stream(alloc, &mut keep, &site, &mut reader, &mut writer))
+    end_of(serve_stream(alloc, keep, site, &mut reader, &mut writer))
 }
 
 /// Writes the line of the fuse map that a file describes, by what reading the file with this name

@@ -1,5 +1,5 @@
 //! The file of a site, and the site that it describes.
-ghost use Rattle.std.specs.Prelude.{◌≡◌, IfOk, IfErr, IsErrAnd};
+ghost use Rattle.std.specs.Prelude.{◌≡◌, Ok, IfOk, IfErr, IsErrAnd};
 ghost use Rattle.text_core.specs.Answer.{GivesUnless};
 ghost use Rattle.station_jobs.specs.FileText.{IsUnread};
 ghost use Rattle.station_jobs.specs.SiteFile.{site_failure, site_in};
@@ -21,30 +21,28 @@ pub fn read_site_file(rt: &impl Files, alloc: Global, name: &str) -> io::Result<
     read_file(rt, alloc, name, TEXT_LIMIT as u64 + 1)
 }
 
-/// The site that a file describes, by what reading the file with this name gave.
+/// The bytes of a file, by what reading the file with this name gave.
 ///
 /// # Errors
 ///
-/// `CannotRead` where the file wasn't read or is no UTF-8; `SiteFault` with the number of its text's
-/// fault; `NoMemory`. A file over the limit of a site's text has that fault and no other, whatever
-/// its bytes are.
-pub fn site_of_file<'a>(
-    alloc: Global,
-    name: &'a str,
-    file: io::Result<Vec<u8>>,
-) -> Result<Site, Failure<'a>>
+/// `CannotRead` where the file wasn't read, or `NoMemory`.
+pub fn bytes_of_file<'a>(name: &'a str, file: io::Result<Vec<u8>>) -> Result<Vec<u8>, Failure<'a>>
     ensures unread { IfErr file (λ error. IsErrAnd result (IsUnread name.entry error)) }
-    ensures read { IfOk file (λ bytes.
-        GivesUnless Failure.NoMemory result (site_in name.entry bytes.items)) }
+    ensures read { IfOk file (λ bytes. result ≡ Ok bytes) }
 {
     match file {
-        Ok(bytes) => site_from(alloc, name, bytes.as_slice()),
+        Ok(bytes) => Ok(bytes),
         Err(error) => Err(unread(name, &error)),
     }
 }
 
 /// The site that the bytes of the file with this name describe.
-fn site_from<'a>(alloc: Global, name: &'a str, bytes: &[u8]) -> Result<Site, Failure<'a>>
+///
+/// # Errors
+///
+/// `CannotRead` where the bytes are no UTF-8; `SiteFault` with the number of their text's fault;
+/// `NoMemory`. Bytes over the limit of a site's text have that fault and no other, whatever they are.
+pub fn site_of_bytes<'a>(alloc: Global, name: &'a str, bytes: &[u8]) -> Result<Site, Failure<'a>>
     ensures { GivesUnless Failure.NoMemory result (site_in name.entry bytes.now) }
 {
     let too_long = site_failure(SiteFault::OverLimit);

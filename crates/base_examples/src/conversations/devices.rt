@@ -1,9 +1,4 @@
 //! Conversations about devices: their registration, what it is refused for, and what is shown of them.
-use crate::conversation::first_difference;
-use office_core::{DeviceRow, Keep, Sink};
-use std::alloc::Global;
-use std::test::Fail;
-use text_core::{Chip, Name};
 
 /// The conversations, each under its name.
 pub const DEVICES: &[(&str, &str)] = &[
@@ -40,7 +35,7 @@ b1 GET /v1/ledger?chip=00000000000a
 
 /// Read-backs that no chip of the map can give, or whose coding scheme is another, and then chips up
 /// to the order's quantity: no refusal took a number. The digest is that of a byte 1 and 31 zeros.
-const READ_BACKS: &str = r#"
+pub const READ_BACKS: &str = r#"
 a1 POST /v1/order {"nr":1,"name":"o1","issuer":"acme-ca","prefix":"A","width":3,"first":998,"quantity":2,"macs":0}
 200 {"first":998,"issuer":"acme-ca","mac":null,"macs":0,"name":"o1","next":"A998","prefix":"A","quantity":2,"width":3}
 a1 POST /v1/map {"nr":2,"text":"$MAP"}
@@ -166,32 +161,3 @@ a1 GET /v1/device?chip=00000000000a
 a1 GET /v1/ledger?chip=00000000000a
 404 {"error":"unknown_device","no":15}
 "#;
-
-/// Takes the chips of devices.
-#[derive(Drop)]
-struct Chips {
-    found: Vec<Chip>,
-}
-
-impl Sink<DeviceRow> for Chips {
-    ghost takes = { λ _ _ _ _. Unit {0} };
-
-    fn take(&mut self, device: &DeviceRow) -> bool {
-        self.found.push(device.row.chip).is_ok()
-    }
-}
-
-/// Whether a visit of a customer's devices after the conversation about read-backs gives both chips.
-pub fn chips_are_visited<K: Keep>(alloc: Global, keep: &mut K) -> Result<bool, Fail> {
-    if !first_difference(alloc, keep, READ_BACKS)?.is_empty() {
-        return Ok(false);
-    }
-    let mut chips = Chips {
-        found: Vec::new(alloc),
-    };
-    keep.visit_devices(&Name::parse("acme").ok_or("no name")?, &mut chips)?;
-    let [first, second] = chips.found.as_slice() else {
-        return Ok(false);
-    };
-    Ok(Some(*first) == Chip::parse("00000000000a") && Some(*second) == Chip::parse("00000000000b"))
-}

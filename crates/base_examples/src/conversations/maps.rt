@@ -1,10 +1,4 @@
 //! Conversations about fuse maps: their import, and what they are refused for.
-use crate::conversation::first_difference;
-use base_examples::samples::MAP;
-use office_core::{Keep, NewMap, Owned, Write};
-use std::alloc::Global;
-use std::test::Fail;
-use text_core::{Digest, Name, Text};
 
 /// The conversations, each under its name.
 pub const MAPS: &[(&str, &str)] = &[
@@ -106,32 +100,4 @@ b1 POST /v1/map {"nr":1,"text":"$MAP"}
 200 {"map":"$DIGEST"}
 a1 POST /v1/map {"nr":17,"text":"$MAP# 1\n"}
 200 {"map":"879f9ff4d0d5ed12618006d01a09d8782a5fc5073820b672d2a086dcead2e502"}
-"#;
-
-/// Makes tables in which `acme` has the digest of the sample for another map's text, and says how
-/// what `acme` and `bolt` get for the sample differs from a refusal and the usual reply.
-pub fn has_taken_digest<K: Keep>(alloc: Global, keep: &mut K) -> Result<String, Fail> {
-    let other = format!(in alloc; "{MAP}# another\n")?;
-    let map = Owned {
-        customer: Name::parse("acme").ok_or("no name")?,
-        row: NewMap {
-            digest: Digest::of(MAP.as_bytes()),
-            body: Text::from_string(other),
-        },
-    };
-    let is_free = keep.map_with(map.row.body.as_str())?.is_none()
-        && keep.link(&map.customer, &map.row.digest)?.is_none();
-    if !is_free {
-        return Err(Fail::from("the tables have rows"));
-    }
-    keep.commit(&[Write::AddMap(map)])?;
-    first_difference(alloc, keep, TAKEN)
-}
-
-/// What each customer gets then.
-const TAKEN: &str = r#"
-a1 POST /v1/map {"nr":1,"text":"$MAP"}
-409 {"error":"map_digest_taken","no":39}
-b1 POST /v1/map {"nr":1,"text":"$MAP"}
-200 {"map":"$DIGEST"}
 "#;

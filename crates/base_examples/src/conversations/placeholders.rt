@@ -8,7 +8,7 @@
 //! - `$SPACES(n)`: so many spaces;
 //! - `<0.6=00000040 3.7=80000000>`: the blocks of a read-back, zeros but for these words, each after its
 //!   block and its place in it.
-use base_examples::samples::MAP;
+use crate::samples::MAP;
 use std::alloc::{AllocError, Global};
 use std::test::Fail;
 

@@ -10,7 +10,7 @@ pub const PLANS: &[(&str, &str)] = &[
 ];
 
 /// A bit of a chip and then its lock, each read back, and the same wishes once both are burnt.
-const A_BIT_AND_ITS_LOCK: &str = r#"
+pub const A_BIT_AND_ITS_LOCK: &str = r#"
 a1 POST /v1/order {"nr":1,"name":"o1","issuer":"acme-ca","prefix":"A","width":3,"first":998,"quantity":2,"macs":0}
 200 {"first":998,"issuer":"acme-ca","mac":null,"macs":0,"name":"o1","next":"A998","prefix":"A","quantity":2,"width":3}
 a1 POST /v1/map {"nr":2,"text":"$MAP"}

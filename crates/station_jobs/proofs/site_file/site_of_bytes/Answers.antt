@@ -1,10 +1,10 @@
--- Why `site_file::site_from` meets its contract, where that has to be said.
+-- Why `site_file::site_of_bytes` meets its contract, where that has to be said.
 use Rattle.std.proofs.Common.{refl}
 use Rattle.site_core.specs.SiteText.{site_read}
 use Rattle.site_core.specs.declared.fault.SiteFault.TheVariants.{OutOfMemory}
 use Rattle.station_jobs.proofs.FileTexts.{given_of_text}
 use Rattle.station_jobs.specs.SiteFile.{site_failure}
-use Rattle.station_jobs.proofs.site_file.site_from.Goals as goal
+use Rattle.station_jobs.proofs.site_file.site_of_bytes.Goals as goal
 
 pub returns : goal.returns
 returns c =

@@ -1,0 +1,42 @@
+//! The keepers over which each example is run.
+use base_examples::samples::SITE;
+use office_core::{Keep, MemKeep};
+use office_store::{OpenFault, SqlKeep, adopt};
+use sqlite::{Connection, MemStore};
+use std::alloc::Global;
+use std::test::Fail;
+use text_core::Digest;
+
+/// The keeper over a database in memory.
+pub type SqlMemory = SqlKeep<MemStore>;
+
+/// A keeper that an example can begin with.
+pub trait Fresh: Keep + Drop {
+    /// A keeper of no rows.
+    fn fresh(alloc: Global) -> Result<Self, Fail>;
+}
+
+impl Fresh for MemKeep {
+    fn fresh(alloc: Global) -> Result<MemKeep, Fail> {
+        Ok(MemKeep::new(alloc))
+    }
+}
+
+impl Fresh for SqlMemory {
+    fn fresh(alloc: Global) -> Result<SqlMemory, Fail> {
+        let conn = Connection::open_in_memory(alloc)?;
+        Ok(adopted(alloc, conn, SITE)?)
+    }
+}
+
+/// The keeper over a database for the site of a text.
+pub fn adopted(
+    alloc: Global,
+    conn: Connection<MemStore>,
+    site: &str,
+) -> Result<SqlMemory, OpenFault> {
+    match adopt(alloc, conn, &Digest::of(site.as_bytes())) {
+        Ok(keep) => Ok(keep),
+        Err((fault, _)) => Err(fault),
+    }
+}

@@ -1,0 +1,109 @@
+//! What a store is when it is adopted, and what stands in its columns.
+use crate::conversation::{exchange, first_difference};
+use crate::keepers::{Fresh, SqlMemory, adopted};
+use base_examples::conversations::exchanges;
+use base_examples::conversations::plans::A_BIT_AND_ITS_LOCK;
+use base_examples::samples::SITE;
+use sqlite::{Connection, MemStore};
+use std::alloc::Global;
+use std::test::Fail;
+
+/// The text of a site that isn't the sample.
+const OTHER_SITE: &str = "customer = []\n";
+
+/// Changes of a store that was adopted for the sample site, by SQL, the text of the site for which it
+/// is adopted then, and the number of the fault, 0 where there is none.
+pub const CHANGED: &[(&str, &str, u8)] = &[
+    ("", SITE, 0),
+    ("", OTHER_SITE, 1),
+    ("", "", 1),
+    // A space more is another text.
+    ("", "customer = [] \n", 1),
+    ("UPDATE meta SET schema = 7", SITE, 2),
+    ("UPDATE meta SET schema = 7", OTHER_SITE, 2),
+    ("UPDATE meta SET schema = -1", SITE, 2),
+    ("UPDATE meta SET site = X'00'", SITE, 2),
+    ("DELETE FROM meta", SITE, 2),
+    (
+        "INSERT INTO meta (id, schema, site) VALUES (2, 1, X'00')",
+        SITE,
+        2,
+    ),
+    ("DROP TABLE ledger", SITE, 2),
+    ("CREATE TABLE other (x INTEGER) STRICT", SITE, 2),
+    ("CREATE INDEX other ON ledger (seat)", SITE, 2),
+    (
+        "INSERT INTO map (id, body, digest) VALUES (-1, '', X'00')",
+        SITE,
+        2,
+    ),
+];
+
+/// Stores that no keeper made, by the SQL that makes them: each is of other tables.
+pub const FOREIGN: &[&str] = &[
+    "CREATE TABLE meta (x INTEGER) STRICT",
+    "CREATE TABLE meta (id INTEGER PRIMARY KEY, schema INTEGER NOT NULL, site BLOB NOT NULL) STRICT",
+    "CREATE VIEW meta AS SELECT 1 AS id, 1 AS schema, X'00' AS site",
+    "CREATE TABLE other (x)",
+];
+
+/// The number of the fault with which a connection is adopted for the site of a text, or 0.
+pub fn fault_of_adopting(alloc: Global, conn: Connection<MemStore>, site: &str) -> u8 {
+    match adopted(alloc, conn, site) {
+        Ok(_) => 0,
+        Err(fault) => fault.number(),
+    }
+}
+
+/// The number of the fault where the store of the sample site is changed by SQL and then adopted, or 0.
+pub fn fault_after(alloc: Global, sql: &str, site: &str) -> Result<u8, Fail> {
+    let mut conn = SqlMemory::fresh(alloc)?.into_connection();
+    conn.execute_batch(sql)?;
+    Ok(fault_of_adopting(alloc, conn, site))
+}
+
+/// The number of the fault where an empty store is changed by SQL and then adopted, or 0.
+pub fn fault_of_foreign(alloc: Global, sql: &str) -> Result<u8, Fail> {
+    let mut conn = Connection::open_in_memory(alloc)?;
+    conn.execute_batch(sql)?;
+    Ok(fault_of_adopting(alloc, conn, SITE))
+}
+
+/// Holds a conversation over a store that is adopted anew after each request: the first request that
+/// doesn't get its reply, and what it got.
+pub fn first_difference_adopted_anew(alloc: Global, conversation: &str) -> Result<String, Fail> {
+    let mut keep = SqlMemory::fresh(alloc)?;
+    for (asked, wanted) in exchanges(alloc, conversation)? {
+        let found = exchange(alloc, &mut keep, asked, wanted)?;
+        if !found.is_empty() {
+            return Ok(found);
+        }
+        keep = adopted(alloc, keep.into_connection(), SITE)?;
+    }
+    Ok(String::new(alloc))
+}
+
+/// The bytes that stand for a settled device, whose chip has bit 6 of block 0's word 6 and bit 14 of
+/// its word 0 burnt, as the columns `bits`, `keys` and `todo`: 31 words, the lowest byte first, two
+/// keys that aren't there, and work in which there is none.
+pub fn settled_columns(alloc: Global) -> Result<(Vec<u8>, Vec<u8>, Vec<u8>), Fail> {
+    let mut bits = [0u8; 124];
+    bits[1] = 0x40;
+    bits[24] = 0x40;
+    Ok((
+        bits.to_vec(alloc)?,
+        [0u8; 66].to_vec(alloc)?,
+        [0u8; 314].to_vec(alloc)?,
+    ))
+}
+
+/// What stands in these columns after the conversation in which the bit and its lock are burnt.
+pub fn columns_of_device(alloc: Global) -> Result<(Vec<u8>, Vec<u8>, Vec<u8>), Fail> {
+    let mut keep = SqlMemory::fresh(alloc)?;
+    if !first_difference(alloc, &mut keep, A_BIT_AND_ITS_LOCK)?.is_empty() {
+        return Err(Fail::from("another reply"));
+    }
+    let mut conn = keep.into_connection();
+    let row = conn.query_row("SELECT bits, keys, todo FROM device", &[])?;
+    Ok((row.get(0)?, row.get(1)?, row.get(2)?))
+}
