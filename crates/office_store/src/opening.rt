@@ -57,7 +57,7 @@ pub fn open<S: Start>(
     ensures tables { IfOk result (λ keep. HasCleanDisk (file_state keep) → HasTablesOf (image_at S.Start) (tables_in (file_state keep).now.trees)) }
     ensures memory { path.now ≡ codes ":memory:" → result ≡ Err OpenFault.Failed }
 {
-    match Connection::open_from(rt, path, true, start) {
+    match Connection::open_from(rt, path, false, start) {
         Ok(conn) => adopt_or_close(alloc, conn, site),
         Err(_) => Err(OpenFault::Failed),
     }
