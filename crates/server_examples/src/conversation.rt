@@ -59,6 +59,11 @@ pub fn first_difference<K: Keep>(
     Ok(String::new(alloc))
 }
 
+/// Whether an exchange ended with 503 or without a reply.
+pub fn is_unanswered(found: &str) -> bool {
+    found.ends_with("-> ") || found.contains("-> HTTP/1.1 503 ")
+}
+
 /// Holds a conversation in which an allocation may be refused: a request that is answered with 503,
 /// or by the stream's end, is sent again and gets its reply then.
 pub fn first_difference_after_want<K: Keep>(
@@ -68,7 +73,7 @@ pub fn first_difference_after_want<K: Keep>(
 ) -> Result<String, Fail> {
     for (asked, wanted) in exchanges(alloc, conversation)? {
         let mut found = exchange(alloc, keep, asked, wanted)?;
-        if found.as_str().ends_with("-> ") || found.as_str().contains("-> HTTP/1.1 503 ") {
+        if is_unanswered(found.as_str()) {
             found = exchange(alloc, keep, asked, wanted)?;
         }
         if !found.is_empty() {

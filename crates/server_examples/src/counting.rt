@@ -1,4 +1,5 @@
-//! A keeper that counts the visits, so that an example can tell which requests walk over rows.
+//! A keeper that counts its visits and commits, so that an example can tell which requests walk over
+//! rows, and which have changed them.
 ghost use Rattle.std.specs.Prelude.{◌≡◌, ◌+◌, ◌-◌, ◌^◌, min};
 
 use fusemap_core::FuseMap;
@@ -10,21 +11,24 @@ use office_core::{
 use std::alloc::Global;
 use text_core::{Chip, Digest, Name};
 
-/// A keeper in memory that counts the visits that are made of it.
+/// A keeper in memory that counts the visits and the commits that are made of it.
 #[derive(Drop)]
 pub struct CountingKeep {
     keep: MemKeep,
     visits: u64,
+    commits: u64,
 }
 
 impl CountingKeep {
-    /// A keeper of no rows, of which no visit was made.
+    /// A keeper of no rows, of which no visit was made and no commit.
     pub fn new(alloc: Global) -> CountingKeep
-        ensures { result.visits ≡ 0 }
+        ensures visits { result.visits ≡ 0 }
+        ensures commits { result.commits ≡ 0 }
     {
         CountingKeep {
             keep: MemKeep::new(alloc),
             visits: 0,
+            commits: 0,
         }
     }
 
@@ -35,9 +39,17 @@ impl CountingKeep {
         self.visits
     }
 
+    /// How many commits were made.
+    pub fn commits(&self) -> u64
+        ensures { result ≡ self.now.commits }
+    {
+        self.commits
+    }
+
     /// Counts a visit, and stays at the largest number.
     fn count(&mut self)
         ensures keep { self.new.keep ≡ self.old.keep }
+        ensures commits { self.new.commits ≡ self.old.commits }
         ensures visits { self.new.visits ≡ min (self.old.visits + 1) (2 ^ 64 - 1) }
     {
         self.visits = self.visits.saturating_add(1);
@@ -144,7 +156,9 @@ impl Keep for CountingKeep {
     }
 
     fn commit(&mut self, writes: &[Write]) -> Result<(), Unkept> {
-        self.keep.commit(writes)
+        self.keep.commit(writes)?;
+        self.commits = self.commits.saturating_add(1);
+        Ok(())
     }
 
     ghost settled = { λ _ _ _ left. left };

@@ -19,7 +19,7 @@ use crate::streams::{
     ORDER, STEPS, STREAMS, TAKEN, ends_so, goes_on_after_interruptions,
     stops_where_the_reader_fails, stops_where_the_writer_does,
 };
-use crate::visits::{VISITS, visits_of_each_kind};
+use crate::visits::{VISITS, first_unanswered_commit, visits_of_each_kind};
 use base_examples::conversations::devices::{ACME, BOLT, DEVICES};
 use base_examples::conversations::identities::IDENTITIES;
 use base_examples::conversations::maps::MAPS;
@@ -144,6 +144,18 @@ fn want_of_memory_changes_nothing(rt: HostRuntime) -> Result<(), Fail> {
 #[test]
 fn want_of_memory_changes_no_database(rt: HostRuntime) -> Result<(), Fail> {
     assert_eq!(rt; first_after_want::<SqlMemory>(rt.alloc())?.as_str(), "");
+    Ok(())
+}
+
+/// Made to hold where the server is refused an allocation: none is asked for between a commit and its
+/// reply, so a request that is answered 503 has committed nothing.
+#[test]
+fn what_is_committed_is_answered(rt: HostRuntime) -> Result<(), Fail> {
+    let mut keep = CountingKeep::new(rt.alloc());
+    for row in VISITS {
+        let found = first_unanswered_commit(rt.alloc(), &mut keep, row.1)?;
+        assert_eq!(rt; found.as_str(), "", "{}", row.0);
+    }
     Ok(())
 }
 

@@ -1,6 +1,8 @@
 //! Which requests walk over rows: a conversation in parts, each with the visits that were made up to
 //! its end. What a part doesn't visit it reads by keys.
+use crate::conversation::{exchange, is_unanswered};
 use crate::counting::CountingKeep;
+use base_examples::conversations::exchanges;
 use office_core::{Keep, Sink};
 use std::alloc::Global;
 use std::test::Fail;
@@ -56,6 +58,27 @@ const LEDGER: &str = r#"
 a1 GET /v1/ledger?chip=00000000000b
 200 {"chip":"00000000000b","entries":[{"bits":[],"event":"registered","keys":{},"n":1,"note":"","seat":"a1"},{"bits":[],"event":"scrapped","keys":{},"n":2,"note":"","seat":"a1"}]}
 "#;
+
+/// Holds a conversation in which an allocation may be refused: the first request that is answered
+/// with 503, or by the stream's end, though something was committed, or that doesn't get its reply
+/// when it is sent again.
+pub fn first_unanswered_commit(
+    alloc: Global,
+    keep: &mut CountingKeep,
+    conversation: &str,
+) -> Result<String, Fail> {
+    for (asked, wanted) in exchanges(alloc, conversation)? {
+        let commits = keep.commits();
+        let mut found = exchange(alloc, keep, asked, wanted)?;
+        if is_unanswered(found.as_str()) && keep.commits() == commits {
+            found = exchange(alloc, keep, asked, wanted)?;
+        }
+        if !found.is_empty() {
+            return Ok(found);
+        }
+    }
+    Ok(String::new(alloc))
+}
 
 /// Wants any row, and does nothing with it.
 #[derive(Drop)]
