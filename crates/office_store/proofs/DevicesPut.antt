@@ -1,5 +1,5 @@
 -- What a list of writes makes of the devices, and of the places that they take.
-use Rattle.std.proofs.Common.{◌≡◌, ◌+◌, ◌-◌, ◌∙◌, ◌<◌, ℕ, Bor, arith, List, [], ◌∷◌, length, Option, Some, None, refl, sym, ap}
+use Rattle.std.proofs.Common.{◌≡◌, ◌+◌, ◌-◌, ◌∙◌, ◌<◌, ℕ, arith, List, [], ◌∷◌, length, Option, Some, None, refl, sym, ap}
 use Rattle.std.specs.Prelude.{filter_map, find}
 use Rattle.std.specs.List.{cons_option}
 use Rattle.std.specs.Ordering.{is_eq}
@@ -14,7 +14,7 @@ use Rattle.office_tables.proofs.Places.{device_total, find_device, places, place
 use Rattle.office_store.specs.declared.written.WrittenDevices.{WrittenDevices}
 use Rattle.office_store.specs.declared.written.WrittenDevices.TheVariants.{Nothing, One, Several}
 use Rattle.office_store.specs.Counting.{AreCounts, AreRight}
-use Rattle.office_store.specs.Written.{device_in, ArePut, AreTold, IsReplaced}
+use Rattle.office_store.specs.Written.{device_in, ArePut, AreTold}
 use Rattle.office_store.specs.declared.places.PlaceCounts.{PlaceCounts}
 
 -- a device is put, if there is one

@@ -88,7 +88,7 @@ module _ (v : View) (sound : IsSound office_schema v.trees) (listed : IsListed (
         blob_at office_schema v.trees given_table r d n 3 (refl, refl, refl) (refl, refl),
         text_if_at office_schema v.trees given_table r d 5 (refl, refl, refl),
       )) rows (sound.obeys.rules Datatype).1.1.1.1.1.1.0 (sound.obeys.rules NotNull).1.1.1.1.1.1.0)
-      (all_weaker _ (λ r. clashes plain (1 ∷ 2 ∷ []) rows r ≡ false) (λ r h. not_true _ (both_true _ _ h).0) rows (sound.obeys.rules Unique).1.1.1.1.1.1.0)
+      (all_weaker _ (λ r. clashes plain (1 ∷ 2 ∷ []) rows r ≡ false) (λ r h. not_true _ (both_true _ _ (both_true _ _ h).1).0) rows (sound.obeys.rules Unique).1.1.1.1.1.1.0)
 
   module _ (whole : HasWhole v.trees) where
     maps_found : AreRows IsMapRow map_cmp map_in (v.trees 3)
