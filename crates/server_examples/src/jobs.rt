@@ -263,8 +263,7 @@ fn job(alloc: Global, kind: &str, name: &str) -> Result<Job, Fail> {
     Ok(Job::CheckMap { map: name })
 }
 
-/// Does a job of one kind for the file with a name over an input: what was written on standard output
-/// and then on standard error, where the status is 1 exactly where something is on standard error.
+/// Does a job of one kind for the file with a name over an input: what was written.
 pub fn written(
     rt: &HostRuntime,
     alloc: Global,
@@ -272,10 +271,20 @@ pub fn written(
     name: &str,
     input: &[u8],
 ) -> Result<String, Fail> {
-    let job = job(alloc, kind, name)?;
+    written_by(rt, alloc, &job(alloc, kind, name)?, input)
+}
+
+/// Does a job over an input: what was written on standard output and then on standard error, where the
+/// status is 1 exactly where something is on standard error.
+pub fn written_by(
+    rt: &HostRuntime,
+    alloc: Global,
+    job: &Job,
+    input: &[u8],
+) -> Result<String, Fail> {
     let mut out = Vec::new(alloc);
     let mut err = Vec::new(alloc);
-    let status = run(rt, alloc, &job, input, &mut out, &mut err);
+    let status = run(rt, alloc, job, input, &mut out, &mut err);
     if (status == 1) == err.is_empty() {
         return Err(Fail::from("another status"));
     }

@@ -2,7 +2,7 @@
 use base_examples::samples::SITE;
 use office_core::{Keep, MemKeep};
 use office_store::{OpenFault, SqlKeep, adopt};
-use sqlite::{Connection, MemStore};
+use sqlite::{Alter, Connection, MemStore};
 use std::alloc::Global;
 use std::test::Fail;
 use text_core::Digest;
@@ -30,11 +30,11 @@ impl Fresh for SqlMemory {
 }
 
 /// The keeper over a database for the site of a text.
-pub fn adopted(
+pub fn adopted<S: Alter + Drop>(
     alloc: Global,
-    conn: Connection<MemStore>,
+    conn: Connection<S>,
     site: &str,
-) -> Result<SqlMemory, OpenFault> {
+) -> Result<SqlKeep<S>, OpenFault> {
     match adopt(alloc, conn, &Digest::of(site.as_bytes())) {
         Ok(keep) => Ok(keep),
         Err((fault, _)) => Err(fault),

@@ -5,11 +5,19 @@
 #[cfg(test)]
 mod chips;
 #[cfg(test)]
+mod connections;
+#[cfg(test)]
 mod conversation;
 #[cfg(test)]
 mod counting;
 #[cfg(test)]
+mod damage;
+#[cfg(test)]
 mod digests;
+#[cfg(test)]
+mod disks;
+#[cfg(test)]
+mod faults;
 #[cfg(test)]
 mod jobs;
 #[cfg(test)]

@@ -1,14 +1,15 @@
 //! Streams: where they end, what they are refused for, in what pieces they come, and readers and
 //! writers that are interrupted or fail.
-ghost use Rattle.std.specs.Prelude.{◌<◌};
+ghost use Rattle.std.specs.Prelude.{◌<◌, None};
 
-use crate::conversation::serve;
+use crate::conversation::{exchange, serve};
+use crate::keepers::Fresh;
 use base_examples::conversations::filled;
 use base_examples::samples::SITE;
 use http_frames::memory::{Failing, Interrupted, Pieces, Written};
 use office_core::Keep;
 use site_core::read_site;
-use station_api::{Served, serve_stream};
+use station_api::{Counted, Served, Source, Transfer, serve_stream};
 use std::alloc::Global;
 use std::test::Fail;
 
@@ -124,4 +125,71 @@ pub fn stops_where_the_writer_does<K: Keep>(
     let is_front = ORDERED.as_bytes().starts_with(bytes) && bytes.len() == taken as usize;
     let is_there = ends_so(alloc, keep, &ONE_ORDER, 4096)?;
     Ok(served == Served::WriteFault && is_front && is_there)
+}
+
+/// A reader that is interrupted at each call.
+#[derive(Drop)]
+struct Disturbed {
+    calls: u64,
+}
+
+impl Source for Disturbed {
+    ghost left = { λ s. None };
+
+    ghost calls = { λ s. s.calls };
+
+    ghost failures = { λ s. 0 };
+
+    fn read(&mut self, _room: &mut [u8]) -> Transfer {
+        self.calls += 1;
+        Transfer::Interrupted
+    }
+}
+
+/// Whether a stream ends after so many calls as one may make, where its reader is interrupted at each.
+pub fn ends_at_the_limit<K: Keep>(alloc: Global, keep: &mut K) -> Result<bool, Fail> {
+    let site = read_site(alloc, SITE)?;
+    let mut reader = Disturbed { calls: 0 };
+    let mut writer = Written::new(Vec::new(alloc), 4096);
+    let served = serve_stream(alloc, keep, &site, &mut reader, &mut writer);
+    Ok(served == Served::TurnLimit && reader.calls == CALLS && writer.bytes().is_empty())
+}
+
+/// How many calls a stream may make.
+const CALLS: u64 = 16_777_216;
+
+/// Whether a writer that takes ten bytes and then none, with no error, has the first of the reply.
+pub fn stops_at_a_full_writer<K: Keep>(alloc: Global, keep: &mut K) -> Result<bool, Fail> {
+    let site = read_site(alloc, SITE)?;
+    let mut room = [0u8; 10];
+    let mut reader = Pieces::new(ORDER.as_bytes(), 4096);
+    let mut writer = Counted::new(room.as_mut_slice());
+    let served = serve_stream(alloc, keep, &site, &mut reader, &mut writer);
+    Ok(served == Served::WriteFault && ORDERED.as_bytes().starts_with(room.as_slice()))
+}
+
+/// The reply to a head that is longer than a head may be.
+pub const BAD_HEAD: &str =
+    "HTTP/1.1 400 Bad Request\r\nContent-Type: application/json\r\nContent-Length: 27\r\nConnection: close\r\n\r\n{\"error\":\"bad_head\",\"no\":1}";
+
+/// How many bytes there are of a head that is none.
+pub const LONG_HEAD: usize = 8192;
+
+/// Whether the order without its end, of which so many bytes are there, gets nothing over a new
+/// keeper, and there is no order then.
+pub fn is_cut_after<K: Fresh>(alloc: Global, count: usize) -> Result<bool, Fail> {
+    let mut keep = K::fresh(alloc)?;
+    let front = ORDER.get(..count).ok_or("no such front")?;
+    let (served, writer) = serve(alloc, &mut keep, front, 4096)?;
+    let asked = "a1 GET /v1/order?name=o1";
+    let wanted = r#"404 {"error":"unknown_order","no":14}"#;
+    let found = exchange(alloc, &mut keep, asked, wanted)?;
+    Ok(served == Served::Cut && writer.bytes().is_empty() && found.is_empty())
+}
+
+/// Whether a head that doesn't end is refused over a new keeper, and the stream with it.
+pub fn refuses_a_long_head<K: Fresh>(alloc: Global) -> Result<bool, Fail> {
+    let stream = "a".repeat(alloc, LONG_HEAD)?;
+    let row = (stream.as_str(), BAD_HEAD, Served::Closed);
+    ends_so(alloc, &mut K::fresh(alloc)?, &row, 4096)
 }

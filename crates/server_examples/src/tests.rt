@@ -1,10 +1,14 @@
 //! The examples over both keepers, and those of the program.
 use crate::chips::chips_are_visited;
+use crate::connections::{ORDERED_LAST, replies_in_turn};
 use crate::conversation::{
     first_difference, first_difference_after_want, first_difference_in_turns,
 };
 use crate::counting::CountingKeep;
+use crate::damage::{DAMAGES, first_lost_of};
 use crate::digests::has_taken_digest;
+use crate::disks::{SqlFiles, first_difference_opened_anew};
+use crate::faults::{STORE_FAULTS, make_folder, make_store_faults, written_over};
 use crate::jobs::{
     BROKEN, FILES, LINE_LENGTH, LINES, LONG_ENDS, LONG_FILES, SITE_NAMES, UNREAD, WRITE_FAILED,
     is_replayed, line_of_check, line_of_replay, outcome_of_line, tells_unread, with_samples,
@@ -16,7 +20,8 @@ use crate::stores::{
     first_difference_adopted_anew, settled_columns,
 };
 use crate::streams::{
-    ORDER, STEPS, STREAMS, TAKEN, ends_so, goes_on_after_interruptions,
+    BAD_HEAD, ORDER, STEPS, STREAMS, TAKEN, ends_at_the_limit, ends_so,
+    goes_on_after_interruptions, is_cut_after, refuses_a_long_head, stops_at_a_full_writer,
     stops_where_the_reader_fails, stops_where_the_writer_does,
 };
 use crate::visits::{VISITS, first_unanswered_commit, visits_of_each_kind};
@@ -183,10 +188,35 @@ fn streams_end_as_they_must(rt: HostRuntime) -> Result<(), Fail> {
     Ok(())
 }
 
+/// Wherever the order ends before its end; over SQL at every 16th place. And a head that doesn't end.
+#[test]
+fn requests_without_their_ends_are_cut_or_refused(rt: HostRuntime) -> Result<(), Fail> {
+    let alloc = rt.alloc();
+    for count in 1..ORDER.len() {
+        assert!(rt; is_cut_after::<MemKeep>(alloc, count)?, "{count}");
+        if count % 16 == 0 {
+            assert!(rt;
+                is_cut_after::<SqlMemory>(alloc, count)?,
+                "{count} over SQL"
+            );
+        }
+    }
+    assert!(rt; refuses_a_long_head::<MemKeep>(alloc)? && refuses_a_long_head::<SqlMemory>(alloc)?);
+    Ok(())
+}
+
 /// Whether failures of readers and writers are met as they must be.
 fn meets_failures<K: Fresh>(alloc: Global) -> Result<bool, Fail> {
     let goes_on = goes_on_after_interruptions(alloc, &mut K::fresh(alloc)?)?;
-    Ok(goes_on && stops_where_the_reader_fails(alloc, &mut K::fresh(alloc)?)?)
+    let stops = stops_where_the_reader_fails(alloc, &mut K::fresh(alloc)?)?;
+    Ok(goes_on && stops && stops_at_a_full_writer(alloc, &mut K::fresh(alloc)?)?)
+}
+
+#[test]
+fn readers_that_never_read_end_at_the_limit(rt: HostRuntime) -> Result<(), Fail> {
+    let mut keep = MemKeep::new(rt.alloc());
+    assert!(rt; ends_at_the_limit(rt.alloc(), &mut keep)?);
+    Ok(())
 }
 
 /// Whether a writer that fails after so many bytes stops the stream.
@@ -238,6 +268,25 @@ fn stores_are_adopted_anew_between_requests(rt: HostRuntime) -> Result<(), Fail>
     Ok(())
 }
 
+/// The same, where the store is in files, which are closed after each request and opened again.
+#[test]
+fn stores_are_opened_anew_between_requests(rt: HostRuntime) -> Result<(), Fail> {
+    for row in PLANS {
+        let found = first_difference_opened_anew::<SqlFiles>(rt.alloc(), row.1)?;
+        assert_eq!(rt; found.as_str(), "", "{}", row.0);
+    }
+    Ok(())
+}
+
+/// Whatever a store's files hold, it is refused or each request gets a reply.
+#[test]
+fn damaged_stores_are_refused_or_served(rt: HostRuntime) -> Result<(), Fail> {
+    for row in DAMAGES {
+        assert_eq!(rt; first_lost_of::<SqlFiles>(rt.alloc(), row)?, row.2);
+    }
+    Ok(())
+}
+
 #[test]
 fn stores_of_others_are_refused(rt: HostRuntime) -> Result<(), Fail> {
     for row in CHANGED {
@@ -281,7 +330,7 @@ fn files_of_maps_and_sites_are_judged(rt: HostRuntime) -> Result<(), Fail> {
 
 #[test]
 fn files_that_cannot_be_read_are_told(rt: HostRuntime) -> Result<(), Fail> {
-    fs::create_dir(&rt, "folder")?;
+    make_folder(&rt, "folder")?;
     for row in UNREAD {
         fs::write(&rt, "latin.toml", row.2)?;
         let told = written(&rt, rt.alloc(), row.0, row.1, ORDER.as_bytes())?;
@@ -318,5 +367,23 @@ fn failed_reads_and_writes_are_told(rt: HostRuntime) -> Result<(), Fail> {
     assert_eq!(rt; told.as_str(), "station: read failed\n");
     let told = line_of_replay(&rt, rt.alloc(), ORDER.as_bytes())?;
     assert_eq!(rt; told.as_str(), WRITE_FAILED);
+    Ok(())
+}
+
+#[test]
+fn store_faults_are_told(rt: HostRuntime) -> Result<(), Fail> {
+    make_store_faults(&rt)?;
+    for row in STORE_FAULTS {
+        let told = written_over(&rt, rt.alloc(), row.0, row.1)?;
+        assert_eq!(rt; told.as_str(), row.2, "{} {}", row.0, row.1);
+    }
+    Ok(())
+}
+
+#[test]
+fn connections_are_served_in_turn(rt: HostRuntime) -> Result<(), Fail> {
+    let (first, second) = replies_in_turn(&rt, rt.alloc())?;
+    assert_eq!(rt; first.as_str(), BAD_HEAD);
+    assert_eq!(rt; second.as_str(), ORDERED_LAST);
     Ok(())
 }
