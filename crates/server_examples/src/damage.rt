@@ -39,7 +39,7 @@ pub enum Damage {
     FileEnd,
     /// A byte of the log changes.
     LogByte,
-    /// The log ends where it did not.
+    /// The log loses its end.
     LogEnd,
 }
 
@@ -192,8 +192,8 @@ fn first_lost<K: InFiles>(
     Ok(count)
 }
 
-/// Makes a store and does the damage of a row to it: the number of the first place that the store
-/// doesn't stand, or that of all places.
+/// Makes a store and does the damage of a row to it: the number of the first place where the store is
+/// neither refused nor served, or that of all places.
 pub fn first_lost_of<K: InFiles>(
     alloc: Global,
     row: &(Damage, bool, usize),
