@@ -204,3 +204,10 @@ pub fn first_lost_of<K: InFiles>(
     }
     first_lost::<K>(alloc, &store, row.0, row.2)
 }
+
+/// Whether a store is refused whose file's first byte is another.
+pub fn refuses_another_head<K: InFiles>(alloc: Global) -> Result<bool, Fail> {
+    let mut store = made_store::<K>(alloc, true)?;
+    change_byte(&mut store.file, 0, 1);
+    Ok(written_over::<K>(alloc, &store)?.is_none())
+}

@@ -5,7 +5,7 @@ use crate::conversation::{
     first_difference, first_difference_after_want, first_difference_in_turns,
 };
 use crate::counting::CountingKeep;
-use crate::damage::{DAMAGES, first_lost_of};
+use crate::damage::{DAMAGES, first_lost_of, refuses_another_head};
 use crate::digests::has_taken_digest;
 use crate::disks::{SqlFiles, first_difference_opened_anew};
 use crate::faults::{STORE_FAULTS, make_folder, make_store_faults, written_over};
@@ -281,6 +281,7 @@ fn stores_are_opened_anew_between_requests(rt: HostRuntime) -> Result<(), Fail> 
 /// Whatever a store's files hold, it is refused or each request gets a reply.
 #[test]
 fn damaged_stores_are_refused_or_served(rt: HostRuntime) -> Result<(), Fail> {
+    assert!(rt; refuses_another_head::<SqlFiles>(rt.alloc())?);
     for row in DAMAGES {
         assert_eq!(rt; first_lost_of::<SqlFiles>(rt.alloc(), row)?, row.2);
     }
