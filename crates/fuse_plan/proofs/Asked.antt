@@ -1,7 +1,7 @@
 -- Sets of positions by tests, and what wishes ask for, one wish after another.
-use Rattle.std.proofs.Common.{◌≡◌, ℕ, suc, ◌+◌, ◌-◌, ◌<◌, Bool, true, false, ◌&&◌, ◌||◌, not, List, [], length, get_or, take, refl, sym, ap, ap₂, ◌∙◌, arith}
+use Rattle.std.proofs.Common.{◌≡◌, ℕ, ◌+◌, ◌<◌, Bool, true, false, ◌&&◌, ◌||◌, not, List, [], length, get_or, take, refl, sym, ap, ap₂, ◌∙◌, arith}
 use Rattle.std.specs.Prelude.{◌==◌, nat_le, nat_lt, Option, Some, None, option_and_then}
-use Rattle.std.specs.List.{list_any, range_with_len}
+use Rattle.std.specs.List.{list_any}
 use Rattle.std.specs.Option.{option_map_or}
 use Rattle.std.specs.FinSet as set
 use Rattle.std.proofs.lemmas.Bool.{and_right, eqb-true, eq-eqb, lt-ltb, le-leb, leb-true, ltb-true, and_parts, and_from}
@@ -92,9 +92,3 @@ run-one q = same_test _ (is_lock (Some q)) (λ p. ap (λ (b : Bool). q.block == 
 
 pub only_one : (q : Pos) → set.union set.empty (run q 1) ≡ places_where (is_lock (Some q))
 only_one q = union-empty (run q 1) ∙ run-one q
-
--- the first of the numbers up to 255, and the others
-pub from_next : (test : ℕ → Bool) (b : ℕ) → b < 256 → list_any test (range_with_len b (256 - b)) ≡ (test b || list_any test (range_with_len (b + 1) (256 - (b + 1))))
-from_next test b low =
-    let count : 256 - b ≡ suc (256 - (b + 1)) = omega (arith, low) in
-    ap (λ n. list_any test (range_with_len b n)) count

@@ -2,6 +2,7 @@
 pub mod Compared
 pub mod Law
 pub mod Asked
+pub mod Past
 pub mod Windows
 pub mod Digits
 pub mod Shown

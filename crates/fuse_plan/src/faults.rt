@@ -1,5 +1,5 @@
 // The faults of wishes, each by its own test.
-ghost use Rattle.std.specs.Prelude.{◌≡◌, ◌-◌, not, false, bytes_eq};
+ghost use Rattle.std.specs.Prelude.{◌≡◌, ◌≤◌, ◌-◌, not, false, bytes_eq};
 ghost use Rattle.std.specs.List.{list_any, range_with_len};
 ghost use Rattle.std.specs.Option.{option_map_or};
 ghost use Rattle.fusemap_core.specs.Map.{IsSmall};
@@ -11,13 +11,14 @@ ghost use Rattle.fuse_plan.specs.Numbers.{has_one};
 use crate::fault::PlanFault;
 use crate::fields::{coding_positions, field_named};
 use crate::number::Number;
+use crate::values::ones_from;
 use crate::wants::Wants;
 use crate::wish::{Want, Wish};
 use fuse_image::{
     Bits, Image, Keys, hidden_positions, is_hidden_key, is_write_protected_key,
     write_protected_positions,
 };
-use fusemap_core::{Field, FuseMap};
+use fusemap_core::{Field, FuseMap, Pos};
 use text_core::Digest;
 
 /// The lowest fault of the wishes, by what they ask for and what of it is missing.
@@ -146,16 +147,18 @@ fn is_wide(want: &Want, field: &Field) -> bool
     }
 }
 
-/// Whether the number has a 1 at a bit from `start` on.
+/// Whether the number has a 1 at a bit from `start` on: as it stands in a block, it meets the
+/// positions from there to the block's end.
 fn has_one_from(value: &Number, start: u16) -> bool
+    requires { start ≤ 256 }
     ensures { result ≡ list_any (has_one value.now) (range_with_len start (256 - start)) }
 {
-    for bit in start..256 {
-        if value.has_one(bit) {
-            return true;
-        }
-    }
-    false
+    let ones = ones_from(value, Pos { block: 0, bit: 0 });
+    let past = Pos {
+        block: 0,
+        bit: start,
+    };
+    ones.meets(&Bits::empty().with_run(past, 256 - start))
 }
 
 /// Whether two wishes for keys name one field with two digests.

@@ -30,7 +30,7 @@ pub(crate) fn zeros_in(field: &Field, value: &Number) -> Bits
 }
 
 /// The positions at which a number that begins at `first` has a 1, up to the end of the block.
-fn ones_from(value: &Number, first: Pos) -> Bits
+pub(crate) fn ones_from(value: &Number, first: Pos) -> Bits
     ensures { result ≡ places_where (is_one_from value.now first) }
 {
     Bits::from_words(words_from(value, first))

@@ -1,11 +1,12 @@
 -- A map in which no fault is found keeps the rules, and the other way round.
-use Rattle.std.proofs.Common.{◌≡◌, ◌≢◌, Bool, true, false, not, Option, Some, None, Ok, All, AllPairs, Decides, refl, ap}
+use Rattle.std.proofs.Common.{◌≡◌, ◌≢◌, ◌<◌, ℕ, Bool, true, false, not, Option, Some, None, Ok, Err, All, AllPairs, Decides, refl, ap, arith}
 use Rattle.std.specs.Prelude.{if◌then◌else◌}
 use Rattle.std.specs.List.{list_all}
+use Rattle.std.proofs.lemmas.Bool.{false≢true}
 use Rattle.fusemap_core.specs.declared.fault.MapFault.{MapFault}
-use Rattle.fusemap_core.specs.declared.fault.MapFault.TheVariants.{NameTwice, OutOfBlock, FieldsOverlap, BadLockField, BadLockIndex, BadKeyField}
+use Rattle.fusemap_core.specs.declared.fault.MapFault.TheVariants.{NotToml, BadMember, NameTwice, OutOfBlock, FieldsOverlap, BadLockField, BadLockIndex, BadKeyField, OutOfMemory}
 use Rattle.fusemap_core.specs.Map.{Map, IsMap, IsInRange, IsInBlock, AreApart, HasItsLocks, IsKeyField}
-use Rattle.fusemap_core.specs.MapFaults.{all_pairs, have_other_names, is_in_block, are_apart, has_lock_fields, has_its_locks, is_plain_or_key, lowest_fault, unless_faulty, judged}
+use Rattle.fusemap_core.specs.MapFaults.{all_pairs, have_other_names, is_in_block, are_apart, has_lock_fields, has_its_locks, is_plain_or_key, fault_number, lowest_fault, unless_faulty, judged, KeepsRule, IsLowestBroken}
 use Rattle.fusemap_core.proofs.Pairs.{Decides-all_pairs, Decides-list_all}
 use Rattle.fusemap_core.proofs.Rules.{Decides-have_other_names, Decides-is_in_block, Decides-are_apart, Decides-has_lock_fields, Decides-has_its_locks, Decides-is_plain_or_key}
 
@@ -75,3 +76,58 @@ IsMap-from_judged m found ranges e =
 
 pub judged-from_IsMap : (m : Map) → IsMap m → judged m ≡ Ok m
 judged-from_IsMap m is = ap (λ fault. unless_faulty fault m) (no_fault-from_IsMap m is)
+
+-- the rules of all faults below a number, by the rules of those that have one
+rules_below : (m : Map) (n : ℕ) → (3 < n → KeepsRule NameTwice m) → (4 < n → KeepsRule OutOfBlock m) → (5 < n → KeepsRule FieldsOverlap m) → (6 < n → KeepsRule BadLockField m)
+    → (7 < n → KeepsRule BadLockIndex m) → (8 < n → KeepsRule BadKeyField m) → (other : MapFault) → fault_number other < n → KeepsRule other m
+rules_below m n names inside apart locks bits keys NotToml low = tt
+rules_below m n names inside apart locks bits keys BadMember low = tt
+rules_below m n names inside apart locks bits keys NameTwice low = names low
+rules_below m n names inside apart locks bits keys OutOfBlock low = inside low
+rules_below m n names inside apart locks bits keys FieldsOverlap low = apart low
+rules_below m n names inside apart locks bits keys BadLockField low = locks low
+rules_below m n names inside apart locks bits keys BadLockIndex low = bits low
+rules_below m n names inside apart locks bits keys BadKeyField low = keys low
+rules_below m n names inside apart locks bits keys OutOfMemory low = tt
+
+-- a test that fails decides that its rule is broken
+broken_by : {P : Type 0} → Decides false P → P → ⊥
+broken_by d holds = false≢true (d.1 holds)
+
+-- the fault that six tests tell is that of the first that fails, and what they decide tells which rules are kept
+lowest_of_tests : (m : Map) (fault : MapFault) (names inside apart locks bits keys : Bool)
+    → Decides names (KeepsRule NameTwice m) → Decides inside (KeepsRule OutOfBlock m) → Decides apart (KeepsRule FieldsOverlap m) → Decides locks (KeepsRule BadLockField m) → Decides bits (KeepsRule BadLockIndex m) → Decides keys (KeepsRule BadKeyField m)
+    → (if not names then Some NameTwice else if not inside then Some OutOfBlock else if not apart then Some FieldsOverlap else if not locks then Some BadLockField else if not bits then Some BadLockIndex else if not keys then Some BadKeyField else None) ≡ Some fault
+    → IsLowestBroken fault m
+lowest_of_tests m fault false inside apart locks bits keys d3 d4 d5 d6 d7 d8 e =
+    let same : NameTwice ≡ fault = cc in
+    rw (← same) (record { broken = broken_by d3; lower = rules_below m 3 (λ l. absurd (omega (arith, l))) (λ l. absurd (omega (arith, l))) (λ l. absurd (omega (arith, l))) (λ l. absurd (omega (arith, l))) (λ l. absurd (omega (arith, l))) (λ l. absurd (omega (arith, l))) })
+lowest_of_tests m fault true false apart locks bits keys d3 d4 d5 d6 d7 d8 e =
+    let same : OutOfBlock ≡ fault = cc in
+    rw (← same) (record { broken = broken_by d4; lower = rules_below m 4 (λ _. d3.0 refl) (λ l. absurd (omega (arith, l))) (λ l. absurd (omega (arith, l))) (λ l. absurd (omega (arith, l))) (λ l. absurd (omega (arith, l))) (λ l. absurd (omega (arith, l))) })
+lowest_of_tests m fault true true false locks bits keys d3 d4 d5 d6 d7 d8 e =
+    let same : FieldsOverlap ≡ fault = cc in
+    rw (← same) (record { broken = broken_by d5; lower = rules_below m 5 (λ _. d3.0 refl) (λ _. d4.0 refl) (λ l. absurd (omega (arith, l))) (λ l. absurd (omega (arith, l))) (λ l. absurd (omega (arith, l))) (λ l. absurd (omega (arith, l))) })
+lowest_of_tests m fault true true true false bits keys d3 d4 d5 d6 d7 d8 e =
+    let same : BadLockField ≡ fault = cc in
+    rw (← same) (record { broken = broken_by d6; lower = rules_below m 6 (λ _. d3.0 refl) (λ _. d4.0 refl) (λ _. d5.0 refl) (λ l. absurd (omega (arith, l))) (λ l. absurd (omega (arith, l))) (λ l. absurd (omega (arith, l))) })
+lowest_of_tests m fault true true true true false keys d3 d4 d5 d6 d7 d8 e =
+    let same : BadLockIndex ≡ fault = cc in
+    rw (← same) (record { broken = broken_by d7; lower = rules_below m 7 (λ _. d3.0 refl) (λ _. d4.0 refl) (λ _. d5.0 refl) (λ _. d6.0 refl) (λ l. absurd (omega (arith, l))) (λ l. absurd (omega (arith, l))) })
+lowest_of_tests m fault true true true true true false d3 d4 d5 d6 d7 d8 e =
+    let same : BadKeyField ≡ fault = cc in
+    rw (← same) (record { broken = broken_by d8; lower = rules_below m 8 (λ _. d3.0 refl) (λ _. d4.0 refl) (λ _. d5.0 refl) (λ _. d6.0 refl) (λ _. d7.0 refl) (λ l. absurd (omega (arith, l))) })
+lowest_of_tests m fault true true true true true true d3 d4 d5 d6 d7 d8 e = cc
+
+-- the lowest fault of a map is that of a broken rule, and no lower rule is broken
+IsLowestBroken-from_lowest : (m : Map) (fault : MapFault) → lowest_fault m ≡ Some fault → IsLowestBroken fault m
+IsLowestBroken-from_lowest m fault e =
+    lowest_of_tests m fault _ _ _ _ _ _ (names_decided m) (blocks_decided m) (apart_decided m) (Decides-has_lock_fields m) (locks_decided m) (keys_decided m) e
+
+-- a fault that a judgement gives is the one that was found
+found_fault : (found : Option MapFault) (m : Map) (fault : MapFault) → unless_faulty found m ≡ Err fault → found ≡ Some fault
+found_fault (Some found) m fault e = cc
+found_fault None m fault e = cc
+
+pub IsLowestBroken-from_judged : (m : Map) (fault : MapFault) → judged m ≡ Err fault → IsLowestBroken fault m
+IsLowestBroken-from_judged m fault e = IsLowestBroken-from_lowest m fault (found_fault (lowest_fault m) m fault e)

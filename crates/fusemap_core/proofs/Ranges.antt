@@ -7,10 +7,8 @@ use Rattle.toml.specs.Data.{Data, get, as_integer}
 use Rattle.toml_members.specs.Documents.{within, whole_within, whole_member, optional_whole, flag_member, name_member, items_member}
 use Rattle.text_core.specs.Options.{all_of}
 use Rattle.fusemap_core.specs.declared.field.Field.{Field}
-use Rattle.fusemap_core.specs.declared.map.TheConstants.{BLOCK_LIMIT, FIELD_LIMIT, WORD_LIMIT}
-use Rattle.fusemap_core.specs.declared.text.TheConstants.{LARGEST_INTEGER}
 use Rattle.fusemap_core.specs.Map.{Map, IsInRange}
-use Rattle.fusemap_core.specs.MapText.{optional_name, of_length, list_member, words_in, field_in, map_of}
+use Rattle.fusemap_core.specs.MapText.{largest_integer, optional_name, of_length, list_member, words_in, field_in, map_of}
 
 -- a number in a range
 in_bounds : (least greatest n found : ℕ) → (if nat_le least n && nat_le n greatest then Some n else None) ≡ Some found → (least ≤ found) × (found ≤ greatest)
@@ -74,23 +72,23 @@ count_of_field : (d : Data) (f : Field) → field_in d ≡ Some f → 1 ≤ f.co
 unfolding field_in
 count_of_field d f e =
     option_and_then_some _ (name_member (codes "name") d) f e (λ name is_name e1.
-    option_and_then_some _ (whole_member (codes "block") 0 LARGEST_INTEGER d) f e1 (λ block is_block e2.
-    option_and_then_some _ (whole_member (codes "bit") 0 LARGEST_INTEGER d) f e2 (λ bit is_bit e3.
-    option_and_then_some _ (whole_member (codes "count") 1 LARGEST_INTEGER d) f e3 (λ count is_count e4.
-    option_and_then_some _ (optional_whole (codes "write") 0 LARGEST_INTEGER d) f e4 (λ write is_write e5.
-    option_and_then_some _ (optional_whole (codes "read") 0 LARGEST_INTEGER d) f e5 (λ read is_read e6.
+    option_and_then_some _ (whole_member (codes "block") 0 largest_integer d) f e1 (λ block is_block e2.
+    option_and_then_some _ (whole_member (codes "bit") 0 largest_integer d) f e2 (λ bit is_bit e3.
+    option_and_then_some _ (whole_member (codes "count") 1 largest_integer d) f e3 (λ count is_count e4.
+    option_and_then_some _ (optional_whole (codes "write") 0 largest_integer d) f e4 (λ write is_write e5.
+    option_and_then_some _ (optional_whole (codes "read") 0 largest_integer d) f e5 (λ read is_read e6.
     option_and_then_some _ (flag_member (codes "key") d) f e6 (λ key is_key e7.
     let same : ◌≡◌ {A = Field} (record { name = name; block = block; bit = bit; count = count; write = write; read = read; key = key }) f = cc in
-    rw (← same) (whole_member_bounds (codes "count") 1 LARGEST_INTEGER d count is_count).0)))))))
+    rw (← same) (whole_member_bounds (codes "count") 1 largest_integer d count is_count).0)))))))
 
 -- the numbers of a map that a document gives are in range
 pub IsInRange-from_map_of : (d : Data) (m : Map) → map_of d ≡ Some m → IsInRange m
 unfolding map_of
 IsInRange-from_map_of d m e =
     option_and_then_some _ (name_member (codes "name") d) m e (λ name is_name e1.
-    option_and_then_some _ (list_member (codes "block") 1 BLOCK_LIMIT d) m e1 (λ block_items is_blocks e2.
+    option_and_then_some _ (list_member (codes "block") 1 4 d) m e1 (λ block_items is_blocks e2.
     option_and_then_some _ (all_of words_in block_items) m e2 (λ blocks are_blocks e3.
-    option_and_then_some _ (list_member (codes "field") 1 FIELD_LIMIT d) m e3 (λ field_items is_fields e4.
+    option_and_then_some _ (list_member (codes "field") 1 128 d) m e3 (λ field_items is_fields e4.
     option_and_then_some _ (all_of field_in field_items) m e4 (λ fields are_fields e5.
     option_and_then_some _ (name_member (codes "wr") d) m e5 (λ wr is_wr e6.
     option_and_then_some _ (name_member (codes "rd") d) m e6 (λ rd is_rd e7.
@@ -98,13 +96,13 @@ IsInRange-from_map_of d m e =
     let same : ◌≡◌ {A = Map} (record { name = name; blocks = blocks; fields = fields; wr = wr; rd = rd; coding = coding }) m = cc in
     let block_count = length-all_of words_in block_items blocks are_blocks in
     let field_count = length-all_of field_in field_items fields are_fields in
-    let block_bounds = list_member_bounds (codes "block") 1 BLOCK_LIMIT d block_items is_blocks in
-    let field_bounds = list_member_bounds (codes "field") 1 FIELD_LIMIT d field_items is_fields in
+    let block_bounds = list_member_bounds (codes "block") 1 4 d block_items is_blocks in
+    let field_bounds = list_member_bounds (codes "field") 1 128 d field_items is_fields in
     rw (← same)
     (record {
       least_blocks = rw (← block_count) block_bounds.0;
       most_blocks = rw (← block_count) block_bounds.1;
-      words = All-all_of words_in (λ words. (1 ≤ words) × (words ≤ WORD_LIMIT)) (whole_member_bounds (codes "words") 1 WORD_LIMIT) block_items blocks are_blocks;
+      words = All-all_of words_in (λ words. (1 ≤ words) × (words ≤ 8)) (whole_member_bounds (codes "words") 1 8) block_items blocks are_blocks;
       least_fields = rw (← field_count) field_bounds.0;
       most_fields = rw (← field_count) field_bounds.1;
       counts = All-all_of field_in (λ f. 1 ≤ f.count) count_of_field field_items fields are_fields;

@@ -1,5 +1,5 @@
 -- The map that a text is, by its definition and by its relation.
-use Rattle.std.proofs.Common.{◌≡◌, ◌≢◌, ℕ, Bool, true, false, nat_lt, List, length, Option, Some, None, Result, Ok, Err, IfOk, IfErr, inl, inr, refl, sym, arith}
+use Rattle.std.proofs.Common.{◌≡◌, ◌≢◌, ℕ, Bool, true, false, nat_lt, List, length, Option, Some, None, Result, Ok, Err, IfOk, IfErr, inl, inr, refl, sym, ◌∙◌, arith}
 use Rattle.std.specs.Prelude.{if◌then◌else◌}
 use Rattle.std.specs.Option.{ok_or}
 use Rattle.std.proofs.lemmas.Bool.{ltb-false}
@@ -10,11 +10,10 @@ use Rattle.toml_members.specs.Documents.{document_of}
 use Rattle.text_core.specs.Options.{◌>>=◌}
 use Rattle.fusemap_core.specs.declared.fault.MapFault.{MapFault}
 use Rattle.fusemap_core.specs.declared.fault.MapFault.TheVariants.{NotToml, BadMember, OutOfMemory}
-use Rattle.fusemap_core.specs.declared.text.TheConstants.{TEXT_LIMIT}
 use Rattle.fusemap_core.specs.Map.{Map, IsMap, IsInRange}
-use Rattle.fusemap_core.specs.MapFaults.{judged}
-use Rattle.fusemap_core.specs.MapText.{IsMapText, map_of, map_read}
-use Rattle.fusemap_core.proofs.Judged.{IsMap-from_judged, same-from_judged, judged-from_IsMap}
+use Rattle.fusemap_core.specs.MapFaults.{judged, IsLowestBroken}
+use Rattle.fusemap_core.specs.MapText.{HasMembers, IsMapText, map_of, map_read}
+use Rattle.fusemap_core.proofs.Judged.{IsMap-from_judged, same-from_judged, judged-from_IsMap, IsLowestBroken-from_judged}
 use Rattle.fusemap_core.proofs.Ranges.{IsInRange-from_map_of}
 
 -- what a document's parts are judged to be
@@ -44,14 +43,14 @@ read-from_limit false read m e = (refl, e)
 -- what is read is the text's map
 pub IsMapText-from_read : (text : List ℕ) (m : Map) → map_read text ≡ Ok m → IsMapText text m
 IsMapText-from_read text m e =
-    let parts = read-from_limit (nat_lt TEXT_LIMIT (length text)) (document_judged (document_of text)) m e in
+    let parts = read-from_limit (nat_lt 32768 (length text)) (document_judged (document_of text)) m e in
     let known = document-from_judged (document_of text) m parts.1 in
     record { within = ltb-false _ _ parts.0; members = known.0; is_map = known.1 }
 
 -- the text's map is read
 pub read-from_IsMapText : (text : List ℕ) (m : Map) → IsMapText text m → map_read text ≡ Ok m
 read-from_IsMapText text m is =
-    let under : nat_lt TEXT_LIMIT (length text) ≡ false = grind (arith, nat_tests, is.within) in
+    let under : nat_lt 32768 (length text) ≡ false = grind (arith, nat_tests, is.within) in
     rw under (judged-from_document (document_of text) m is.members is.is_map)
 
 -- an answer is the text's map
@@ -65,3 +64,19 @@ pub refused_from_exact : (text : List ℕ) (answer : Result Map MapFault) → Gi
 refused_from_exact text (Ok m) exact = tt
 refused_from_exact text (Err fault) (inl e) = λ other m is. let read = read-from_IsMapText text m is in cc
 refused_from_exact text (Err fault) (inr e) = λ other m is. other cc
+
+-- a document with all members of a map is judged as that map
+judged_of_members : (document : Option Data) (m : Map) → (document >>= map_of) ≡ Some m → document_judged document ≡ judged m
+judged_of_members None m e = cc
+judged_of_members (Some d) m e = rw e refl
+
+read_of_members : (text : List ℕ) (m : Map) → HasMembers text m → map_read text ≡ judged m
+read_of_members text m has =
+    let under : nat_lt 32768 (length text) ≡ false = grind (arith, nat_tests, has.within) in
+    rw under (judged_of_members (document_of text) m has.members)
+
+-- a fault that is answered is that of a broken rule, and no lower rule is broken
+pub lowest_from_exact : (text : List ℕ) (answer : Result Map MapFault) → GivesUnless OutOfMemory answer (map_read text) → IfErr answer (λ fault. fault ≢ OutOfMemory → (m : Map) → HasMembers text m → IsLowestBroken fault m)
+lowest_from_exact text (Ok m) exact = tt
+lowest_from_exact text (Err fault) (inl e) = λ other m has. IsLowestBroken-from_judged m fault (sym (read_of_members text m has) ∙ sym e)
+lowest_from_exact text (Err fault) (inr e) = λ other m has. absurd (other cc)

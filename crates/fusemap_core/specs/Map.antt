@@ -3,7 +3,6 @@ use Rattle.std.specs.Prelude.{◌≡◌, ◌≢◌, ℕ, ◌+◌, ◌*◌, ◌<�
 use Rattle.std.specs.List.{list_any}
 use Rattle.fusemap_core.specs.declared.field.Field.{Field}
 use Rattle.fusemap_core.specs.declared.map.FieldId.{FieldId}
-use Rattle.fusemap_core.specs.declared.map.TheConstants.{BLOCK_LIMIT, FIELD_LIMIT, WORD_LIMIT}
 use Rattle.fusemap_core.specs.declared.pos.Pos.{Pos}
 
 -- its name, the words of each block, the fields in the text's order, and the names of the write lock field, of the read lock field and of the coding field
@@ -79,10 +78,10 @@ id_of test m = option_map id_at (position test m.fields)
 -- the map has 1 to 4 blocks of 1 to 8 words, and 1 to 128 fields of 1 or more bits
 pub record IsInRange (m : Map) : Type 0 where
   pub least_blocks : 1 ≤ length m.blocks
-  pub most_blocks : length m.blocks ≤ BLOCK_LIMIT
-  pub words : All (λ words. (1 ≤ words) × (words ≤ WORD_LIMIT)) m.blocks
+  pub most_blocks : length m.blocks ≤ 4
+  pub words : All (λ words. (1 ≤ words) × (words ≤ 8)) m.blocks
   pub least_fields : 1 ≤ length m.fields
-  pub most_fields : length m.fields ≤ FIELD_LIMIT
+  pub most_fields : length m.fields ≤ 128
   pub counts : All (λ f. 1 ≤ f.count) m.fields
 
 -- the field lies in one of the blocks, and ends there

@@ -1,5 +1,5 @@
 -- The faults of a map's text, and the tests of a map's rules.
-use Rattle.std.specs.Prelude.{ℕ, ◌+◌, ◌*◌, Bool, true, false, not, ◌&&◌, ◌||◌, ◌==◌, nat_le, nat_lt, min, max, List, [], ◌∷◌, length, Option, Some, None, is_some, is_none, Result, Ok, Err, bytes_eq, if◌then◌else◌}
+use Rattle.std.specs.Prelude.{◌≡◌, ◌≢◌, ℕ, ◌+◌, ◌*◌, ◌<◌, All, AllPairs, Bool, true, false, not, ◌&&◌, ◌||◌, ◌==◌, nat_le, nat_lt, min, max, List, [], ◌∷◌, length, Option, Some, None, is_some, is_none, Result, Ok, Err, bytes_eq, if◌then◌else◌}
 use Rattle.std.specs.List.{list_all}
 use Rattle.std.specs.Option.{option_map_or}
 use Rattle.toml_members.specs.declared.DocumentFault.{DocumentFault}
@@ -7,7 +7,7 @@ use Rattle.toml_members.specs.declared.DocumentFault.TheVariants as document
 use Rattle.fusemap_core.specs.declared.fault.MapFault.{MapFault}
 use Rattle.fusemap_core.specs.declared.fault.MapFault.TheVariants.{NotToml, BadMember, NameTwice, OutOfBlock, FieldsOverlap, BadLockField, BadLockIndex, BadKeyField, OutOfMemory}
 use Rattle.fusemap_core.specs.declared.field.Field.{Field}
-use Rattle.fusemap_core.specs.Map.{Map, words_of, field_named}
+use Rattle.fusemap_core.specs.Map.{Map, words_of, field_named, IsInBlock, AreApart, HasLockFields, HasItsLocks, IsKeyField}
 
 -- the number of a fault
 abbrev pub fault_number : MapFault → ℕ
@@ -87,6 +87,23 @@ lowest_fault m =
     else if not (list_all (has_its_locks m.fields m.wr m.rd) m.fields) then Some BadLockIndex
     else if not (list_all (is_plain_or_key m.blocks) m.fields) then Some BadKeyField
     else None
+
+-- the rule that a fault is of: names differ, fields lie in blocks, no two share a position, the lock fields can be it, locks are their bits, key fields can be it
+abbrev pub KeepsRule : MapFault → Map → Type 0
+KeepsRule NotToml m = Unit {0}
+KeepsRule BadMember m = Unit {0}
+KeepsRule NameTwice m = AllPairs (λ f g. f.name ≢ g.name) m.fields
+KeepsRule OutOfBlock m = All (IsInBlock m.blocks) m.fields
+KeepsRule FieldsOverlap m = AllPairs AreApart m.fields
+KeepsRule BadLockField m = HasLockFields m
+KeepsRule BadLockIndex m = All (HasItsLocks m) m.fields
+KeepsRule BadKeyField m = All (λ f. f.key ≡ true → IsKeyField m.blocks f) m.fields
+KeepsRule OutOfMemory m = Unit {0}
+
+-- the map breaks the rule of this fault, and keeps that of each fault with a lower number
+pub record IsLowestBroken (fault : MapFault) (m : Map) : Type 0 where
+  pub broken : ¬ KeepsRule fault m
+  pub lower : (other : MapFault) → fault_number other < fault_number fault → KeepsRule other m
 
 -- the map, unless it has a fault
 abbrev pub unless_faulty : Option MapFault → Map → Result Map MapFault

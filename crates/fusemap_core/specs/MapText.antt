@@ -8,10 +8,12 @@ use Rattle.text_core.specs.Options.{◌>>=◌, all_of}
 use Rattle.fusemap_core.specs.declared.fault.MapFault.{MapFault}
 use Rattle.fusemap_core.specs.declared.fault.MapFault.TheVariants.{NotToml, BadMember}
 use Rattle.fusemap_core.specs.declared.field.Field.{Field}
-use Rattle.fusemap_core.specs.declared.map.TheConstants.{BLOCK_LIMIT, FIELD_LIMIT, WORD_LIMIT}
-use Rattle.fusemap_core.specs.declared.text.TheConstants.{TEXT_LIMIT, LARGEST_INTEGER}
 use Rattle.fusemap_core.specs.Map.{Map, IsMap}
 use Rattle.fusemap_core.specs.MapFaults.{judged}
+
+-- the greatest whole number of TOML, 2^63 - 1
+abbrev pub largest_integer : ℕ
+largest_integer = 9223372036854775807
 
 -- a member that is a name, or nothing where there is no such member
 abbrev pub optional_name : List ℕ → Data → Option (Option (List ℕ))
@@ -27,17 +29,17 @@ list_member name least greatest d = option_and_then (of_length least greatest) (
 
 -- the words of a block
 abbrev pub words_in : Data → Option ℕ
-words_in d = whole_member (codes "words") 1 WORD_LIMIT d
+words_in d = whole_member (codes "words") 1 8 d
 
 -- a field
 unfoldable pub field_in : Data → Option Field
 field_in d = do
   name ← name_member (codes "name") d
-  block ← whole_member (codes "block") 0 LARGEST_INTEGER d
-  bit ← whole_member (codes "bit") 0 LARGEST_INTEGER d
-  count ← whole_member (codes "count") 1 LARGEST_INTEGER d
-  write ← optional_whole (codes "write") 0 LARGEST_INTEGER d
-  read ← optional_whole (codes "read") 0 LARGEST_INTEGER d
+  block ← whole_member (codes "block") 0 largest_integer d
+  bit ← whole_member (codes "bit") 0 largest_integer d
+  count ← whole_member (codes "count") 1 largest_integer d
+  write ← optional_whole (codes "write") 0 largest_integer d
+  read ← optional_whole (codes "read") 0 largest_integer d
   key ← flag_member (codes "key") d
   Some (record { name = name; block = block; bit = bit; count = count; write = write; read = read; key = key })
 
@@ -45,25 +47,30 @@ field_in d = do
 unfoldable pub map_of : Data → Option Map
 map_of d = do
   name ← name_member (codes "name") d
-  block_items ← list_member (codes "block") 1 BLOCK_LIMIT d
+  block_items ← list_member (codes "block") 1 4 d
   blocks ← all_of words_in block_items
-  field_items ← list_member (codes "field") 1 FIELD_LIMIT d
+  field_items ← list_member (codes "field") 1 128 d
   fields ← all_of field_in field_items
   wr ← name_member (codes "wr") d
   rd ← name_member (codes "rd") d
   coding ← optional_name (codes "coding") d
   Some (record { name = name; blocks = blocks; fields = fields; wr = wr; rd = rd; coding = coding })
 
--- the text is a TOML document of at most so many bytes whose named members are the map's, and the map is one
+-- the text is a TOML document of at most 32,768 bytes whose named members are the map's
+pub record HasMembers (text : List ℕ) (m : Map) : Type 0 where
+  pub within : length text ≤ 32768
+  pub members : (document_of text >>= map_of) ≡ Some m
+
+-- the text is such a document, and the map is one
 pub record IsMapText (text : List ℕ) (m : Map) : Type 0 where
-  pub within : length text ≤ TEXT_LIMIT
+  pub within : length text ≤ 32768
   pub members : (document_of text >>= map_of) ≡ Some m
   pub is_map : IsMap m
 
 -- the map that a text is, or its lowest fault
 abbrev pub map_read : List ℕ → Result Map MapFault
 map_read text =
-    if nat_lt TEXT_LIMIT (length text) then Err BadMember
+    if nat_lt 32768 (length text) then Err BadMember
     else result_and_then (λ d. result_and_then judged (ok_or (map_of d) BadMember)) (ok_or (document_of text) NotToml)
 
 -- the map that was read, if there is one

@@ -111,7 +111,7 @@ impl FuseMap {
     /// The words of each block, in the order of their numbers: 1 to 4 blocks of 1 to 8 words.
     pub fn blocks(&self) -> &[u8]
         ensures same { result.now ≡ self.now.blocks }
-        ensures few { (1 ≤ length result.now) × (length result.now ≤ BLOCK_LIMIT) }
+        ensures few { (1 ≤ length result.now) × (length result.now ≤ 4) }
         ensures map { IsMap self.now }
     {
         self.blocks.as_slice()

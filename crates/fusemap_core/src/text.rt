@@ -3,8 +3,9 @@ ghost use Rattle.std.specs.Prelude.{◌≡◌, ◌≢◌, ◌<◌, IfErr, IfOk, 
 ghost use Rattle.toml.specs.View.{view};
 ghost use Rattle.text_core.specs.Answer.{GivesUnless};
 ghost use Rattle.fusemap_core.specs.Map.{Map};
+ghost use Rattle.fusemap_core.specs.MapFaults.{IsLowestBroken};
 ghost use Rattle.fusemap_core.specs.MapText as map_text;
-ghost use Rattle.fusemap_core.specs.MapText.{IsMapText, field_in, map_of, map_read, words_in};
+ghost use Rattle.fusemap_core.specs.MapText.{HasMembers, IsMapText, field_in, map_of, map_read, words_in};
 
 use crate::draft::{FieldDraft, MapDraft};
 use crate::fault::MapFault;
@@ -35,12 +36,16 @@ pub fn read_map(alloc: Global, text: &str) -> Result<FuseMap, MapFault>
     ensures exact { GivesUnless MapFault.OutOfMemory result (map_read text.now) }
     ensures valid { IfOk result (IsMapText text.now) }
 
+    // Of a text with all its members the fault is that of a broken rule, and no lower rule is broken.
+    ensures lowest { IfErr result (λ fault. fault ≢ MapFault.OutOfMemory
+        → (map : Map) → HasMembers text.now map → IsLowestBroken fault map) }
+
     // No map is the text's where a fault other than want of memory is told.
     ensures refused { IfErr result (λ fault. fault ≢ MapFault.OutOfMemory
         → (map : Map) → ¬ IsMapText text.now map) }
 
     // A text over its limit is told its fault, and never want of memory.
-    ensures too_long { TEXT_LIMIT < length text.now → result ≡ Err MapFault.BadMember }
+    ensures too_long { 32768 < length text.now → result ≡ Err MapFault.BadMember }
 {
     if TEXT_LIMIT < text.len() {
         return Err(MapFault::BadMember);

@@ -1,7 +1,6 @@
 -- Pools of hardware addresses.
 use Rattle.std.specs.Prelude.{◌≡◌, ◌==◌, ℕ, ◌+◌, ◌/◌, ◌%◌, ◌^◌, ◌<◌, ◌≤◌, Bool, true, ◌&&◌, nat_le, Option, Some, None, if◌then◌else◌}
 use Rattle.std.specs.List.{list_all, range_with_len}
-use Rattle.id_ranges.specs.declared.pool.TheConstants.{LARGEST_POOL}
 
 -- consecutive addresses: the first one, and how many there are
 pub record Pool : Type 0 where
@@ -12,10 +11,10 @@ pub record Pool : Type 0 where
 abbrev pub is_individual : ℕ → Bool
 is_individual mac = mac / 2 ^ 40 % 2 == 0
 
--- 1 to 2^24 addresses below 2^48, each of them individual
+-- 1 to 16,777,216 addresses (2^24, an organizationally unique identifier's) below 2^48, each of them individual
 abbrev pub is_pool : ℕ → ℕ → Bool
 is_pool first count =
-    nat_le 1 count && nat_le count LARGEST_POOL && nat_le (first + count) (2 ^ 48) && list_all is_individual (range_with_len first count)
+    nat_le 1 count && nat_le count 16777216 && nat_le (first + count) (2 ^ 48) && list_all is_individual (range_with_len first count)
 
 -- so many addresses from this one on, if they make a pool
 abbrev pub pool_of : ℕ → ℕ → Option Pool
@@ -24,6 +23,6 @@ pool_of first count = if is_pool first count then Some (record { first = first; 
 -- what holds of each pool
 pub record IsPool (p : Pool) : Type 0 where
   pub least : 1 ≤ p.count
-  pub largest : p.count ≤ LARGEST_POOL
+  pub largest : p.count ≤ 16777216
   pub within : p.first + p.count ≤ 2 ^ 48
   pub individual : (mac : ℕ) → p.first ≤ mac → mac < p.first + p.count → is_individual mac ≡ true

@@ -1,9 +1,7 @@
 // The faults of ranges.
 ghost use Rattle.std.specs.Prelude.{◌≡◌};
 ghost use Rattle.id_ranges.specs.RangeFaults.{fault_number};
-ghost use Rattle.id_ranges.specs.declared.fault.RangeFault.TheVariants.{OutOfMemory};
 
-use std::alloc::AllocError;
 use thiserror::Error;
 
 /// Why a range, a number, an address or a key isn't taken, in the order of the faults' numbers:
@@ -30,7 +28,7 @@ pub enum RangeFault {
     /// it.
     #[error("the key is bound already")]
     KeyBound,
-    /// Memory ran out (7).
+    /// Memory ran out (7). Nothing in this crate takes memory, so none of its calls tells it.
     #[error("out of memory")]
     OutOfMemory,
     /// Whether a serial number is given was looked up, and there was no answer (8).
@@ -53,13 +51,5 @@ impl RangeFault {
             RangeFault::OutOfMemory => 7,
             RangeFault::Unread => 8,
         }
-    }
-}
-
-impl From<AllocError> for RangeFault {
-    ghost from_gives = { λ _ fault. fault ≡ OutOfMemory };
-
-    fn from(_error: AllocError) -> Self {
-        Self::OutOfMemory
     }
 }

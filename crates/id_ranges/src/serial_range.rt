@@ -1,7 +1,6 @@
 // Ranges of serial numbers.
 ghost use Rattle.std.specs.Prelude.{◌≡◌, ◌≤◌, ◌↔◌, IsTrue, true};
 ghost use Rattle.text_core.specs.Serial.{is_serial};
-ghost use Rattle.text_core.specs.declared.whole.TheConstants.{LARGEST_WHOLE};
 ghost use Rattle.id_ranges.specs.Range.{Has, IsRange, Meets, SharesANumber, is_too_wide, meets, range_of, text_of};
 
 use crate::fault::RangeFault;
@@ -44,7 +43,7 @@ impl SerialRange {
     ) -> Result<SerialRange, RangeFault>
         requires width { (1 ≤ width) × (width ≤ 9) }
         requires some { 1 ≤ quantity }
-        requires whole { (first ≤ LARGEST_WHOLE) × (quantity ≤ LARGEST_WHOLE) }
+        requires whole { (first ≤ 9007199254740991) × (quantity ≤ 9007199254740991) }
         ensures { result ≡ range_of prefix.now width first quantity }
     {
         let Some(prefix) = Prefix::parse(prefix) else {

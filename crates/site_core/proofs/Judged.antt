@@ -16,7 +16,6 @@ use Rattle.site_core.specs.Site.{IsSite, pools_meet, is_over_limit, is_section_o
 use Rattle.site_core.specs.SiteFaults.{has_pair, has_repeat, is_bad_pool, has_bad_pool, judged}
 use Rattle.site_core.specs.declared.fault.SiteFault.{SiteFault}
 use Rattle.site_core.specs.declared.fault.SiteFault.TheVariants.{Repeated, PoolsMeet, BadPool, OverLimit, OutOfMemory}
-use Rattle.site_core.specs.declared.site.TheConstants.{CUSTOMER_LIMIT}
 use Rattle.site_core.proofs.Pairs.{IsDistinct-from_has_pair, has_pair-from_IsDistinct}
 
 -- a pool that isn't bad
@@ -40,7 +39,7 @@ good-from_ArePools [] are = refl
 good-from_ArePools (p ∷ ps) are = or_from (is_bad_pool p) (list_any is_bad_pool ps) (good-from_IsPool p are.0) (good-from_ArePools ps are.1)
 
 -- none of four
-none_of : (a b c d : Bool) → (a || b || c || d) ≡ false → (a ≡ false) × (b ≡ false) × (c ≡ false) × (d ≡ false)
+pub none_of : (a b c d : Bool) → (a || b || c || d) ≡ false → (a ≡ false) × (b ≡ false) × (c ≡ false) × (d ≡ false)
 none_of a b c d none =
     let all = or_parts (a || b || c) d none in
     let three = or_parts (a || b) c all.0 in
@@ -120,7 +119,7 @@ judged-from_IsSite site is =
 
 -- a site whose parts passed the tests, where its customers were made of those that were read
 pub IsSite-from_tests : (draft : SiteValue) (read made : List Section) (manager : Option (List ℕ)) → record { customers = read; manager = manager } ≡ draft → GivesUnless {T = List Section} OutOfMemory (Ok made) (if has_bad_pool read then Err BadPool else Ok read)
-    → has_repeat draft ≡ false → has_pair pools_meet (flat_map (λ s. s.pools) read) ≡ false → (nat_lt CUSTOMER_LIMIT (length made) || list_any is_section_over made) ≡ false → IsSite (record { customers = made; manager = manager })
+    → has_repeat draft ≡ false → has_pair pools_meet (flat_map (λ s. s.pools) read) ≡ false → (nat_lt 64 (length made) || list_any is_section_over made) ≡ false → IsSite (record { customers = made; manager = manager })
 IsSite-from_tests draft read made manager is answer once apart within =
     let known = made_are_good (has_bad_pool read) made read answer in
     let site_with : List Section → SiteValue = λ customers. record { customers = customers; manager = manager } in

@@ -1,4 +1,5 @@
 -- The lemmas of this crate.
+pub mod Broken
 pub mod Callers
 pub mod Judged
 pub mod Owners

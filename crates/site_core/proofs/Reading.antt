@@ -1,5 +1,5 @@
 -- The site that a text is, by its definition and by its relation.
-use Rattle.std.proofs.Common.{◌≡◌, ◌≢◌, ℕ, Bool, true, false, nat_lt, List, length, Option, Some, None, Result, Ok, Err, IfOk, IfErr, inl, inr, refl, sym, arith}
+use Rattle.std.proofs.Common.{◌≡◌, ◌≢◌, ℕ, Bool, true, false, nat_lt, List, length, Option, Some, None, Result, Ok, Err, IfOk, IfErr, inl, inr, refl, sym, ◌∙◌, arith}
 use Rattle.std.specs.Prelude.{if◌then◌else◌}
 use Rattle.std.specs.Option.{ok_or}
 use Rattle.std.proofs.lemmas.Bool.{ltb-false}
@@ -10,12 +10,12 @@ use Rattle.toml_members.specs.Documents.{document_of}
 use Rattle.text_core.specs.Options.{◌>>=◌}
 use Rattle.site_core.specs.Section.{SiteValue}
 use Rattle.site_core.specs.Site.{IsSite}
-use Rattle.site_core.specs.SiteFaults.{judged}
-use Rattle.site_core.specs.SiteText.{IsSiteText, site_of, site_read}
+use Rattle.site_core.specs.SiteFaults.{judged, IsLowestBroken}
+use Rattle.site_core.specs.SiteText.{HasMembers, IsSiteText, site_of, site_read}
 use Rattle.site_core.specs.declared.fault.SiteFault.{SiteFault}
 use Rattle.site_core.specs.declared.fault.SiteFault.TheVariants.{NotToml, BadMember, OverLimit, OutOfMemory}
-use Rattle.site_core.specs.declared.text.TheConstants.{TEXT_LIMIT}
 use Rattle.site_core.proofs.Judged.{IsSite-from_judged, same-from_judged, judged-from_IsSite}
+use Rattle.site_core.proofs.Broken.{IsLowestBroken-from_judged}
 
 -- what a document's parts are judged to be
 abbrev draft_read : Option SiteValue → Result SiteValue SiteFault
@@ -44,14 +44,14 @@ read-from_limit false read site e = (refl, e)
 -- what is read is the text's site
 pub IsSiteText-from_read : (text : List ℕ) (site : SiteValue) → site_read text ≡ Ok site → IsSiteText text site
 IsSiteText-from_read text site e =
-    let parts = read-from_limit (nat_lt TEXT_LIMIT (length text)) (document_judged (document_of text)) site e in
+    let parts = read-from_limit (nat_lt 1048576 (length text)) (document_judged (document_of text)) site e in
     let known = document-from_judged (document_of text) site parts.1 in
     record { within = ltb-false _ _ parts.0; members = known.0; is_site = known.1 }
 
 -- the text's site is read
 pub read-from_IsSiteText : (text : List ℕ) (site : SiteValue) → IsSiteText text site → site_read text ≡ Ok site
 read-from_IsSiteText text site is =
-    let under : nat_lt TEXT_LIMIT (length text) ≡ false = grind (arith, nat_tests, is.within) in
+    let under : nat_lt 1048576 (length text) ≡ false = grind (arith, nat_tests, is.within) in
     rw under (judged-from_document (document_of text) site is.members is.is_site)
 
 -- an answer is the text's site
@@ -65,3 +65,19 @@ pub refused_from_exact : (text : List ℕ) (answer : Result SiteValue SiteFault)
 refused_from_exact text (Ok site) exact = tt
 refused_from_exact text (Err fault) (inl e) = λ other site is. let read = read-from_IsSiteText text site is in cc
 refused_from_exact text (Err fault) (inr e) = λ other site is. other cc
+
+-- a document with all members of a site is judged as that site
+judged_of_members : (document : Option Data) (site : SiteValue) → (document >>= site_of) ≡ Some site → document_judged document ≡ judged site
+judged_of_members None site e = cc
+judged_of_members (Some d) site e = rw e refl
+
+read_of_members : (text : List ℕ) (site : SiteValue) → HasMembers text site → site_read text ≡ judged site
+read_of_members text site has =
+    let under : nat_lt 1048576 (length text) ≡ false = grind (arith, nat_tests, has.within) in
+    rw under (judged_of_members (document_of text) site has.members)
+
+-- a fault that is answered is that of a broken rule, and no lower rule is broken
+pub lowest_from_exact : (text : List ℕ) (answer : Result SiteValue SiteFault) → GivesUnless OutOfMemory answer (site_read text) → IfErr answer (λ fault. fault ≢ OutOfMemory → (site : SiteValue) → HasMembers text site → IsLowestBroken fault site)
+lowest_from_exact text (Ok site) exact = tt
+lowest_from_exact text (Err fault) (inl e) = λ other site has. IsLowestBroken-from_judged site fault (sym (read_of_members text site has) ∙ sym e)
+lowest_from_exact text (Err fault) (inr e) = λ other site has. absurd (other cc)

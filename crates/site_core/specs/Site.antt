@@ -4,20 +4,18 @@ use Rattle.std.specs.List.{IsDistinct, list_any, AllByRecursion}
 use Rattle.id_ranges.specs.Pool.{Pool, IsPool}
 use Rattle.id_ranges.specs.Blocks.{meets}
 use Rattle.site_core.specs.Section.{Section, SiteValue, names_of, issuers_of, pools_of, seat_names_of, tokens_of}
-use Rattle.site_core.specs.declared.site.TheConstants.{CUSTOMER_LIMIT}
-use Rattle.site_core.specs.declared.customer.TheConstants.{SEAT_LIMIT, ISSUER_LIMIT, POOL_LIMIT}
 
 -- two pools have an address in common
 abbrev pub pools_meet : Pool → Pool → Bool
 pools_meet a b = meets (a.first, a.count) (b.first, b.count)
 
--- a customer has more seats, issuers or pools than can be
+-- a customer has more than 64 seats, 8 issuers or 16 pools
 abbrev pub is_section_over : Section → Bool
-is_section_over s = nat_lt SEAT_LIMIT (length s.seats) || nat_lt ISSUER_LIMIT (length s.issuers) || nat_lt POOL_LIMIT (length s.pools)
+is_section_over s = nat_lt 64 (length s.seats) || nat_lt 8 (length s.issuers) || nat_lt 16 (length s.pools)
 
--- the site has more of something than can be
+-- the site has more than 64 customers, or a customer has more of something than can be
 abbrev pub is_over_limit : SiteValue → Bool
-is_over_limit site = nat_lt CUSTOMER_LIMIT (length site.customers) || list_any is_section_over site.customers
+is_over_limit site = nat_lt 64 (length site.customers) || list_any is_section_over site.customers
 
 -- over the whole site no customer, issuer, seat or token comes twice, and no address lies in two pools
 pub record IsSite (site : SiteValue) : Type 0 where

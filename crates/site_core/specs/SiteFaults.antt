@@ -1,7 +1,8 @@
 -- The faults of a site's text.
-use Rattle.std.specs.Prelude.{ℕ, Bool, false, not, ◌||◌, List, [], ◌∷◌, Result, Ok, Err, bytes_eq, if◌then◌else◌}
-use Rattle.std.specs.List.{flat_map, list_any}
-use Rattle.id_ranges.specs.Pool.{Pool, is_pool}
+use Rattle.std.specs.Prelude.{◌≡◌, ◌<◌, ℕ, AllPairs, Bool, false, not, ◌||◌, List, [], ◌∷◌, Result, Ok, Err, bytes_eq, if◌then◌else◌}
+use Rattle.std.specs.List.{IsDistinct, AllByRecursion, flat_map, list_any}
+use Rattle.id_ranges.specs.Blocks.{IsApart}
+use Rattle.id_ranges.specs.Pool.{Pool, IsPool, is_pool}
 use Rattle.toml_members.specs.declared.DocumentFault.{DocumentFault}
 use Rattle.toml_members.specs.declared.DocumentFault.TheVariants as document
 use Rattle.site_core.specs.Section.{Section, SiteValue, names_of, issuers_of, pools_of, seat_names_of, tokens_of}
@@ -41,6 +42,32 @@ is_bad_pool p = not (is_pool p.first p.count)
 -- a customer has such a pool
 abbrev pub has_bad_pool : List Section → Bool
 has_bad_pool customers = list_any is_bad_pool (flat_map (λ s. s.pools) customers)
+
+-- no customer, issuer, seat or token comes twice over the whole site
+pub record HasNoRepeat (site : SiteValue) : Type 0 where
+  pub customers : IsDistinct bytes_eq (names_of site)
+  pub issuers : IsDistinct bytes_eq (issuers_of site)
+  pub seats : IsDistinct bytes_eq (seat_names_of site)
+  pub tokens : IsDistinct bytes_eq (tokens_of site)
+
+-- no address lies in both pools
+abbrev pub ArePoolsApart : Pool → Pool → Type 0
+ArePoolsApart p q = IsApart (p.first, p.count) (q.first, q.count)
+
+-- the rule that a fault is of: nothing comes twice, no address lies in two pools, each pool can be one, the limits are kept
+abbrev pub KeepsRule : SiteFault → SiteValue → Type 0
+KeepsRule NotToml site = Unit {0}
+KeepsRule BadMember site = Unit {0}
+KeepsRule Repeated site = HasNoRepeat site
+KeepsRule PoolsMeet site = AllPairs ArePoolsApart (pools_of site)
+KeepsRule BadPool site = AllByRecursion IsPool (pools_of site)
+KeepsRule OverLimit site = is_over_limit site ≡ false
+KeepsRule OutOfMemory site = Unit {0}
+
+-- the site breaks the rule of this fault, and keeps that of each fault with a lower number
+pub record IsLowestBroken (fault : SiteFault) (site : SiteValue) : Type 0 where
+  pub broken : ¬ KeepsRule fault site
+  pub lower : (other : SiteFault) → fault_number other < fault_number fault → KeepsRule other site
 
 -- the site, or the lowest fault of how its parts fit together
 abbrev pub judged : SiteValue → Result SiteValue SiteFault

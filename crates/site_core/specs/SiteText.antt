@@ -4,7 +4,6 @@ use Rattle.std.specs.Option.{ok_or}
 use Rattle.toml.specs.Data.{Data, get}
 use Rattle.id_ranges.specs.Mac.{mac_of_text}
 use Rattle.id_ranges.specs.Pool.{Pool}
-use Rattle.id_ranges.specs.declared.pool.TheConstants.{LARGEST_POOL}
 use Rattle.text_core.specs.Answer.{result_and_then}
 use Rattle.toml_members.specs.Documents.{document_of, whole_member, text_member, name_in, name_member, digest_member, items_member, optional_items}
 use Rattle.text_core.specs.Options.{◌>>=◌, all_of}
@@ -13,7 +12,6 @@ use Rattle.site_core.specs.Site.{IsSite}
 use Rattle.site_core.specs.SiteFaults.{judged}
 use Rattle.site_core.specs.declared.fault.SiteFault.{SiteFault}
 use Rattle.site_core.specs.declared.fault.SiteFault.TheVariants.{NotToml, BadMember, OverLimit}
-use Rattle.site_core.specs.declared.text.TheConstants.{TEXT_LIMIT}
 
 -- a member that is a hardware address
 abbrev pub mac_member : List ℕ → Data → Option ℕ
@@ -23,7 +21,7 @@ mac_member name d = option_and_then mac_of_text (text_member name d)
 unfoldable pub pool_in : Data → Option Pool
 pool_in d = do
   first ← mac_member (codes "first") d
-  count ← whole_member (codes "count") 1 LARGEST_POOL d
+  count ← whole_member (codes "count") 1 16777216 d
   Some (record { first = first; count = count })
 
 -- a seat
@@ -62,14 +60,19 @@ site_of d = do
   manager ← manager_in d
   Some (record { customers = customers; manager = manager })
 
--- the text is a TOML document of at most so many bytes whose named members are the site's, and the site is one
+-- the text is a TOML document of at most 1,048,576 bytes (2^20) whose named members are the site's
+pub record HasMembers (text : List ℕ) (site : SiteValue) : Type 0 where
+  pub within : length text ≤ 1048576
+  pub members : (document_of text >>= site_of) ≡ Some site
+
+-- the text is such a document, and the site is one
 pub record IsSiteText (text : List ℕ) (site : SiteValue) : Type 0 where
-  pub within : length text ≤ TEXT_LIMIT
+  pub within : length text ≤ 1048576
   pub members : (document_of text >>= site_of) ≡ Some site
   pub is_site : IsSite site
 
 -- the site that a text is, or its lowest fault
 abbrev pub site_read : List ℕ → Result SiteValue SiteFault
 site_read text =
-    if nat_lt TEXT_LIMIT (length text) then Err OverLimit
+    if nat_lt 1048576 (length text) then Err OverLimit
     else result_and_then (λ d. result_and_then judged (ok_or (site_of d) BadMember)) (ok_or (document_of text) NotToml)

@@ -15,13 +15,12 @@ pub(crate) struct PoolDraft {
 impl Model for PoolDraft {
     ghost use Rattle.std.specs.Prelude.{◌≤◌};
     ghost use Rattle.id_ranges.specs.Pool.{Pool};
-    ghost use Rattle.id_ranges.specs.declared.pool.TheConstants.{LARGEST_POOL};
 
     ghost Value = { Pool };
 
     ghost view = { λ p. record { first = p.first; count = p.count } };
 
-    ghost invariant = { λ p. (1 ≤ p.count) × (p.count ≤ LARGEST_POOL) };
+    ghost invariant = { λ p. (1 ≤ p.count) × (p.count ≤ 16777216) };
 
     ghost inverse = { λ p. record { first = p.first; count = p.count } };
 }

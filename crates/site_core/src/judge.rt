@@ -201,7 +201,7 @@ fn make_pools(alloc: Global, drafts: &[PoolDraft]) -> Result<Vec<MacPool>, SiteF
 }
 
 fn is_over_limit(customers: &[Customer]) -> bool
-    ensures { result ≡ (nat_lt CUSTOMER_LIMIT (length customers.now)
+    ensures { result ≡ (nat_lt 64 (length customers.now)
         || list_any is_section_over customers.now) }
 {
     CUSTOMER_LIMIT < customers.len() || some_is_over(customers)

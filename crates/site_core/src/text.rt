@@ -3,8 +3,9 @@ ghost use Rattle.std.specs.Prelude.{◌≡◌, ◌≢◌, ◌<◌, IfErr, IfOk, 
 ghost use Rattle.toml.specs.View.{view};
 ghost use Rattle.text_core.specs.Answer.{GivesUnless};
 ghost use Rattle.site_core.specs.Section.{SiteValue};
+ghost use Rattle.site_core.specs.SiteFaults.{IsLowestBroken};
 ghost use Rattle.site_core.specs.SiteText as site_text;
-ghost use Rattle.site_core.specs.SiteText.{IsSiteText, customer_in, manager_in, pool_in, seat_in, site_of, site_read};
+ghost use Rattle.site_core.specs.SiteText.{HasMembers, IsSiteText, customer_in, manager_in, pool_in, seat_in, site_of, site_read};
 
 use crate::customer::Seat;
 use crate::draft::{CustomerDraft, PoolDraft, SiteDraft};
@@ -33,12 +34,16 @@ pub fn read_site(alloc: Global, text: &str) -> Result<Site, SiteFault>
     ensures exact { GivesUnless SiteFault.OutOfMemory result (site_read text.now) }
     ensures valid { IfOk result (IsSiteText text.now) }
 
+    // Of a text with all its members the fault is that of a broken rule, and no lower rule is broken.
+    ensures lowest { IfErr result (λ fault. fault ≢ SiteFault.OutOfMemory
+        → (site : SiteValue) → HasMembers text.now site → IsLowestBroken fault site) }
+
     // No site is the text's where a fault other than want of memory is told.
     ensures refused { IfErr result (λ fault. fault ≢ SiteFault.OutOfMemory
         → (site : SiteValue) → ¬ IsSiteText text.now site) }
 
     // A text over its limit is told its fault, and never want of memory.
-    ensures too_long { TEXT_LIMIT < length text.now → result ≡ Err SiteFault.OverLimit }
+    ensures too_long { 1048576 < length text.now → result ≡ Err SiteFault.OverLimit }
 {
     if TEXT_LIMIT < text.len() {
         return Err(SiteFault::OverLimit);

@@ -1,13 +1,14 @@
 -- Why `faults::has_one_from` meets its contract, where that has to be said.
-use Rattle.std.proofs.Common.{◌+◌, ◌-◌, ◌||◌, Bool, sym, ap, ◌∙◌}
-use Rattle.std.specs.List.{list_any, range_with_len}
-use Rattle.fuse_plan.specs.Numbers.{has_one}
-use Rattle.fuse_plan.proofs.Asked.{from_next}
+use Rattle.std.proofs.Common.{◌-◌, ap, ap₂, ◌∙◌}
+use Rattle.std.specs.FinSet as set
+use Rattle.fuse_image.specs.Places.{Positions, meets, run}
+use Rattle.fuse_image.proofs.Sets.{union-empty}
+use Rattle.fuse_plan.proofs.Past.{meets-from}
 use Rattle.fuse_plan.proofs.faults.has_one_from.Goals as goal
 
-pub loop-bit-preserved : goal.loop-bit-preserved
-loop-bit-preserved c =
-    let test = has_one c.args.value.now in
-    let none = sym c.has_one.ensures ∙ c.if-has_one.false in
-    sym (from_next test c.loop-bit.bit c.loop-bit-test.true ∙ ap (λ (b : Bool). b || list_any test (range_with_len (c.loop-bit.bit + 1) (256 - (c.loop-bit.bit + 1)))) none)
-    ∙ c.loop-bit.invariant
+pub returns : goal.returns
+returns c =
+    let past : Positions = run (record { block = 0; bit = c.args.start }) (256 - c.args.start) in
+    c.meets.ensures
+    ∙ (ap₂ (λ (s t : Positions). meets s t) c.ones_from-ones.ensures (c.with_run.ensures ∙ (ap (λ (s : Positions). set.union s past) c.empty.ensures ∙ union-empty past))
+    ∙ meets-from c.args.value.now c.args.start c.requires)
