@@ -11,7 +11,14 @@ use Rattle.httparse.specs.Spans.{header_bytes}
 use Rattle.http_fields.specs.declared.Occurrence.{Occurrence}
 use Rattle.http_fields.specs.declared.Occurrence.TheVariants.{Absent, Once, Repeated}
 use Rattle.http_fields.specs.declared.FrameRefusal.{FrameRefusal}
-use Rattle.http_fields.specs.declared.FrameRefusal.TheVariants.{BadLength, TooLarge, Chunked}
+use Rattle.http_fields.specs.declared.FrameRefusal.TheVariants.{BadHead, BadLength, TooLarge, Chunked}
+
+-- the number of a refusal
+abbrev pub refusal_number : FrameRefusal → ℕ
+refusal_number BadHead = 1
+refusal_number BadLength = 2
+refusal_number TooLarge = 3
+refusal_number Chunked = 4
 
 -- a field's name, and its value without the white space around it
 abbrev pub Header : Type 0

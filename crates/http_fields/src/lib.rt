@@ -5,7 +5,7 @@ ghost use Rattle.std.specs.Prelude.{◌≡◌, ◌≤◌, ℕ, List, length, map
 ghost use Rattle.std.specs.List.{list_any};
 ghost use Rattle.httparse.specs.Grammar.{skip_ows, trim_ows};
 ghost use Rattle.httparse.specs.Spans.{IsHeaderWithin};
-ghost use Rattle.http_fields.specs.Fields.{same_ignoring_case, values_named, has_field, size_of_value, body_size, has_close, asks_close, skip_spaces, bearer_token, token_of, IsOccurrence, headers_at, path_of, query_of, parameters_named, before_byte, after_byte, body_limit, piece_values, IsCut};
+ghost use Rattle.http_fields.specs.Fields.{refusal_number, same_ignoring_case, values_named, has_field, size_of_value, body_size, has_close, asks_close, skip_spaces, bearer_token, token_of, IsOccurrence, headers_at, path_of, query_of, parameters_named, before_byte, after_byte, body_limit, piece_values, IsCut};
 
 use httparse::is_space_or_tab;
 use httparse::spans::HeaderSpan;
@@ -17,18 +17,32 @@ pub const BODY_LIMIT: u32 = 65_536;
 /// Why a request cannot be cut from its stream (RFC 9112, section 6.3). The stream ends after the reply that says so.
 #[derive(Clone, Copy, Debug, PartialEq, Eq, Error)]
 pub enum FrameRefusal {
-    /// The bytes are no head, or no head of at most 8,192 bytes with at most 64 fields.
+    /// The bytes are no head, or no head of at most 8,192 bytes with at most 64 fields (1).
     #[error("the bytes are no head of a request")]
     BadHead,
-    /// There is more than one `Content-Length` field, or its value isn't decimal digits alone.
+    /// There is more than one `Content-Length` field, or its value isn't decimal digits alone (2).
     #[error("Content-Length is repeated or no number")]
     BadLength,
-    /// `Content-Length` is above [`BODY_LIMIT`].
+    /// `Content-Length` is above [`BODY_LIMIT`] (3).
     #[error("the body is too large")]
     TooLarge,
-    /// There is a `Transfer-Encoding` field, whatever its value.
+    /// There is a `Transfer-Encoding` field, whatever its value (4).
     #[error("transfer codings are not supported")]
     Chunked,
+}
+
+impl FrameRefusal {
+    /// The number of the refusal, 1 to 4.
+    pub fn number(self) -> u8
+        ensures { result ≡ refusal_number self }
+    {
+        match self {
+            FrameRefusal::BadHead => 1,
+            FrameRefusal::BadLength => 2,
+            FrameRefusal::TooLarge => 3,
+            FrameRefusal::Chunked => 4,
+        }
+    }
 }
 
 /// How often a field or a parameter with some name occurs, with its value where that is just once.

@@ -1,2 +1,3 @@
 -- The lemmas of this crate.
 pub mod Floats
+pub mod Numbers

@@ -1,4 +1,4 @@
--- What a seat can ask for: the numbers of an order are within their ranges.
+-- What a seat can ask for: the numbers of an order are within their ranges, and the digests of keys have 32 bytes.
 use Rattle.std.specs.Prelude.{◌≡◌, length}
 use Rattle.std.specs.List.{AllByRecursion}
 use Rattle.fuse_plan.specs.declared.wish.Want.{Want}

@@ -5,4 +5,5 @@ pub mod Refusals
 pub mod Replies
 pub mod DeviceReplies
 pub mod StepReplies
+pub mod Wholes
 pub mod IdentityReplies

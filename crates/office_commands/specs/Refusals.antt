@@ -1,11 +1,51 @@
 -- What a refused request is answered: a status (RFC 9110, section 15) and a body with the refusal's name and number.
-use Rattle.std.specs.Prelude.{ℕ, List, ◌++◌, codes, decimal}
+use Rattle.std.specs.Prelude.{◌≡◌, ◌⊎◌, ◌+◌, ℕ, List, ◌++◌, ◌∷◌, codes, decimal}
 use Rattle.http_replies.specs.declared.Status.{Status}
 use Rattle.http_replies.specs.declared.Status.TheVariants.{BadRequest, Unauthorized, Forbidden, NotFound, Conflict, Unprocessable, Unavailable}
+use Rattle.fuse_plan.specs.Plans.{fault_number}
 use Rattle.fuse_plan.specs.declared.fault.PlanFault.{PlanFault}
 use Rattle.fuse_plan.specs.declared.fault.PlanFault.TheVariants.{UnknownField, UnmappedBit, ValueTooWide, ClearsBurnt, Contradiction, WrongKind, OtherKey, WriteProtected, Hidden, NoLock}
 use Rattle.office_commands.specs.declared.refusal.Refusal.{Refusal}
 use Rattle.office_commands.specs.declared.refusal.Refusal.TheVariants.{UnknownToken, UnknownPath, WrongCaller, BadJson, BadMember, WrongNumber, OtherBody, UnknownMap, UnknownOrder, UnknownDevice, Exists, WrongState, QuantityReached, BadPlan, BadMap, BadSerial, NumberTooWide, Exhausted, NoMacRoom, RangeOverlap, KeyBound, CodingScheme, ForeignIssuer, ImportConflict, MapDigestTaken, Limit, BadReadback, Unkept}
+
+-- the number of a refusal: the faults of wishes have the numbers from 19 on
+abbrev pub refusal_number : Refusal → ℕ
+refusal_number UnknownToken = 6
+refusal_number UnknownPath = 7
+refusal_number WrongCaller = 8
+refusal_number BadJson = 9
+refusal_number BadMember = 10
+refusal_number (WrongNumber expected) = 11
+refusal_number OtherBody = 12
+refusal_number UnknownMap = 13
+refusal_number UnknownOrder = 14
+refusal_number UnknownDevice = 15
+refusal_number Exists = 16
+refusal_number WrongState = 17
+refusal_number QuantityReached = 18
+refusal_number (BadPlan fault) = 18 + fault_number fault
+refusal_number (BadMap fault) = 29
+refusal_number BadSerial = 30
+refusal_number NumberTooWide = 31
+refusal_number Exhausted = 32
+refusal_number NoMacRoom = 33
+refusal_number RangeOverlap = 34
+refusal_number KeyBound = 35
+refusal_number CodingScheme = 36
+refusal_number ForeignIssuer = 37
+refusal_number (ImportConflict serial) = 38
+refusal_number MapDigestTaken = 39
+refusal_number Limit = 40
+refusal_number BadReadback = 41
+refusal_number Unkept = 50
+
+-- the body has the number as its member `no`, which a comma or the closing brace follows
+pub record TellsNumber (body : List ℕ) (number : ℕ) : Type 0 where
+  pub front : List ℕ
+  pub next : ℕ
+  pub rest : List ℕ
+  pub told : body ≡ front ++ (codes "\"no\":" ++ (decimal number ++ next ∷ rest))
+  pub ends : (next ≡ 44) ⊎ (next ≡ 125)
 
 abbrev pub refusal_status : Refusal → Status
 refusal_status UnknownToken = Unauthorized

@@ -1,7 +1,8 @@
 // What a seat can ask for.
 ghost use Rattle.office_commands.specs.Asked.{IsAsked};
+ghost use Rattle.office_commands.specs.Wholes.{IsRequestNumber};
 
-use crate::{AskedOrder, NewDevice, NewIdentity, NewImport, NewPlan, NewReadBack};
+use crate::{AskedOrder, NewDevice, NewIdentity, NewImport, NewPlan, NewReadBack, RequestNumber};
 use text_core::{Chip, Digest, Name, Text};
 
 /// A command that writes.
@@ -48,18 +49,21 @@ pub enum Command {
 /// What a seat asks. To a command that shows, the number and the digest mean nothing.
 #[derive(Drop)]
 pub struct Request {
-    /// The number of the request: 1 to 9007199254740991.
-    pub number: u64,
+    /// Where the request stands among those of its seat that write.
+    pub number: RequestNumber,
     /// What a repeated request is known by.
     pub digest: Digest,
     pub command: Command,
 }
 
 impl Request {
-    /// The numbers of what is asked for are within their ranges.
+    /// The numbers of what is asked for are within their ranges. Nothing happens: it is what is known
+    /// of each request by its types.
     pub fn ranges(&self)
-        ensures { IsAsked self.now }
+        ensures asked { IsAsked self.now }
+        ensures number { IsRequestNumber self.now.number }
     {
+        let _number = self.number.value();
         match &self.command {
             Command::Change(Change::MakeOrder(order)) => {
                 let _order = order.order();

@@ -10,6 +10,7 @@ mod new_order;
 mod new_plan;
 mod refusal;
 mod reply;
+mod request_number;
 mod step_reply;
 
 pub use command::{Change, Command, Request, Show};
@@ -19,6 +20,7 @@ pub use new_device::NewDevice;
 pub use new_identity::{NewIdentity, NewImport};
 pub use new_order::{AskedOrder, NewOrder};
 pub use new_plan::{NewPlan, NewReadBack, Wishes};
-pub use refusal::Refusal;
+pub use refusal::{Refusal, refusals_tell_their_numbers};
 pub use reply::{accepted, map_body, order_body, refused, unavailable, unknown_token};
+pub use request_number::RequestNumber;
 pub use step_reply::{outcome_body, plan_body};

@@ -1,6 +1,6 @@
 // Why a request is refused.
 ghost use Rattle.std.specs.Prelude.{◌≡◌};
-ghost use Rattle.office_commands.specs.Refusals.{refusal_status};
+ghost use Rattle.office_commands.specs.Refusals.{TellsNumber, refusal_body, refusal_number, refusal_status};
 
 use fuse_plan::PlanFault;
 use http_replies::Status;
@@ -100,6 +100,42 @@ pub enum Refusal {
 }
 
 impl Refusal {
+    /// The number of the refusal, 6 to 50.
+    pub fn number(self) -> u8
+        ensures { result ≡ refusal_number self }
+    {
+        match self {
+            Refusal::UnknownToken => 6,
+            Refusal::UnknownPath => 7,
+            Refusal::WrongCaller => 8,
+            Refusal::BadJson => 9,
+            Refusal::BadMember => 10,
+            Refusal::WrongNumber(_) => 11,
+            Refusal::OtherBody => 12,
+            Refusal::UnknownMap => 13,
+            Refusal::UnknownOrder => 14,
+            Refusal::UnknownDevice => 15,
+            Refusal::Exists => 16,
+            Refusal::WrongState => 17,
+            Refusal::QuantityReached => 18,
+            Refusal::BadPlan(fault) => 18 + fault.number(),
+            Refusal::BadMap(_) => 29,
+            Refusal::BadSerial => 30,
+            Refusal::NumberTooWide => 31,
+            Refusal::Exhausted => 32,
+            Refusal::NoMacRoom => 33,
+            Refusal::RangeOverlap => 34,
+            Refusal::KeyBound => 35,
+            Refusal::CodingScheme => 36,
+            Refusal::ForeignIssuer => 37,
+            Refusal::ImportConflict(_) => 38,
+            Refusal::MapDigestTaken => 39,
+            Refusal::Limit => 40,
+            Refusal::BadReadback => 41,
+            Refusal::Unkept => 50,
+        }
+    }
+
     /// The status of the reply (RFC 9110, section 15).
     pub fn status(self) -> Status
         ensures { result ≡ refusal_status self }
@@ -135,6 +171,11 @@ impl Refusal {
         }
     }
 }
+
+/// The body of each refusal tells its number.
+pub fn refusals_tell_their_numbers()
+    ensures { (r : Refusal) → TellsNumber (refusal_body r) (refusal_number r) }
+{}
 
 impl fmt::Debug for Refusal {
     fn fmt<W: fmt::Write>(&self, f: &mut fmt::Formatter<W>) -> fmt::Result {

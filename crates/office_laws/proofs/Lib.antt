@@ -14,6 +14,7 @@ pub mod ImportLaws
 pub mod ImportSteps
 mod Kept
 mod Laws
+pub mod Lowest
 mod Makes
 mod MapLaws
 mod MapRows

@@ -3,7 +3,9 @@
 #![tactic(auto)]
 
 mod isolation;
+mod refusals;
 
 pub use isolation::{
     always_a_step, no_rows_are_sound, only_the_redaction_is_kept, steps_are_the_customers_own,
 };
+pub use refusals::lowest_number_is_answered;

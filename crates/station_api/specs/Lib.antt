@@ -1,6 +1,7 @@
 -- What the contracts of this crate are made of.
 pub mod Digests
 pub mod Maps
+pub mod Numbers
 pub mod Devices
 pub mod Orders
 pub mod Plans

@@ -1,0 +1,112 @@
+-- The refusals of each command stand in the order of their numbers, so the first that holds has the lowest.
+use Rattle.std.proofs.Common.{◌≡◌, ◌<◌, ◌≤◌, ◌++◌, ℕ, Bool, true, false, List, [], ◌∷◌, length, Option, Some, None, Result, Ok, Err, arith}
+use Rattle.std.specs.Prelude.{if◌then◌else◌}
+use Rattle.std.specs.List.{AllByRecursion}
+use Rattle.std.proofs.lemmas.Bool.{false≢true}
+use Rattle.sha2.specs.Sha256.{sha256}
+use Rattle.fusemap_core.specs.Map.{Map}
+use Rattle.site_core.specs.Section.{Section}
+use Rattle.office_tables.specs.Tables.{Tables, link_at, own}
+use Rattle.office_tables.specs.declared.rows.Device.{Device}
+use Rattle.office_tables.specs.declared.rows.Order.{Order}
+use Rattle.office_commands.specs.Refusals.{refusal_number}
+use Rattle.office_commands.specs.declared.command.Change.{Change}
+use Rattle.office_commands.specs.declared.command.Change.TheVariants.{MakeOrder, ImportMap, RegisterDevice, PlanDevice, ReadBack, Identify, Ship, Scrap, Import}
+use Rattle.office_commands.specs.declared.refusal.Refusal.{Refusal}
+use Rattle.import_rows.specs.declared.rows.ImportRow.{ImportRow}
+use Rattle.office_rules.specs.Commands.{refusals}
+use Rattle.office_rules.specs.DeviceRules.{fits, readback_refusals}
+use Rattle.office_rules.specs.Devices.{device_found, map_named}
+use Rattle.office_rules.specs.EndRules.{ship_refusals, scrap_refusals}
+use Rattle.office_rules.specs.Identities.{refusals_in, order_of}
+use Rattle.office_rules.specs.ImportRules.{Imported, GivenIn, conflict_in, conflicts, imported}
+use Rattle.office_rules.specs.Maps.{bad_map, is_other_text, refusals_of_text}
+use Rattle.office_rules.specs.MapFaults.{map_fault}
+use Rattle.office_rules.specs.Rules.{lowest}
+use Rattle.office_rules.specs.StepRules.{plan_refusals, read_refusals, refusals_with, step_refusals}
+use Rattle.office_rules.specs.declared.device_step.FoundDevice.{FoundDevice}
+
+-- each number is above the one before it, and the first above n
+abbrev AscendFrom : ℕ → List (Bool × Refusal) → Type 0
+AscendFrom n [] = Unit {0}
+AscendFrom n (c ∷ cs) = (n < refusal_number c.1) × AscendFrom (refusal_number c.1) cs
+
+-- then all are above n
+pub above : (n : ℕ) (cs : List (Bool × Refusal)) → AscendFrom n cs → AllByRecursion (λ c. n < refusal_number c.1) cs
+above n [] up = tt
+above n (c ∷ cs) up = (up.0, all_above n (refusal_number c.1) cs up.0 (above (refusal_number c.1) cs up.1))
+  where
+    all_above : (n m : ℕ) (cs : List (Bool × Refusal)) → n < m → AllByRecursion (λ c. m < refusal_number c.1) cs → AllByRecursion (λ c. n < refusal_number c.1) cs
+    all_above n m [] less up = tt
+    all_above n m (c ∷ cs) less up = (omega (arith, less, up.0), all_above n m cs less up.1)
+
+-- none that holds has a lower number than the first that holds
+abbrev NoneBelow : Refusal → List (Bool × Refusal) → Type 0
+NoneBelow r cs = AllByRecursion (λ c. c.0 ≡ true → refusal_number r ≤ refusal_number c.1) cs
+
+none_below : (r : Refusal) (cs : List (Bool × Refusal)) → AllByRecursion (λ c. refusal_number r < refusal_number c.1) cs → NoneBelow r cs
+none_below r [] up = tt
+none_below r (c ∷ cs) up = (λ _. omega (arith, up.0), none_below r cs up.1)
+
+first_is_lowest : (holds : Bool) (first r : Refusal) (cs : List (Bool × Refusal)) → AscendFrom (refusal_number first) cs
+    → (lowest cs ≡ Some r → NoneBelow r cs) → (if holds then Some first else lowest cs) ≡ Some r
+    → (holds ≡ true → refusal_number r ≤ refusal_number first) × NoneBelow r cs
+first_is_lowest true first r cs up later e =
+    let same : first ≡ r = cc in
+    rw (← same) (λ _. omega arith, none_below first cs (above (refusal_number first) cs up))
+first_is_lowest false first r cs up later e = (λ h. absurd (false≢true h), later e)
+
+pub lowest_of_ascending : (n : ℕ) (cs : List (Bool × Refusal)) (r : Refusal) → AscendFrom n cs → lowest cs ≡ Some r → NoneBelow r cs
+lowest_of_ascending n [] r up e = cc
+lowest_of_ascending n (c ∷ cs) r up e = first_is_lowest c.0 c.1 r cs up.1 (lowest_of_ascending (refusal_number c.1) cs r up.1) e
+
+-- the refusals of a map's text
+map_ascends : {A : Type 0} (fault : Option ℕ) (other : Bool) (found : Option A) (count : ℕ) → AscendFrom 12 (bad_map fault ++ refusals_of_text other found count)
+map_ascends None other found count = (omega arith, (omega arith, tt))
+map_ascends (Some fault) other found count = (omega arith, (omega arith, (omega arith, tt)))
+
+-- those of a registration
+shown_ascends : (fit : Bool) (coding hidden : Bool × Refusal) (bad : Refusal) → 18 < refusal_number coding.1 → refusal_number coding.1 < refusal_number hidden.1 → 18 < refusal_number bad
+    → AscendFrom 18 (if fit then coding ∷ hidden ∷ [] else (true, bad) ∷ [])
+shown_ascends true coding hidden bad first second other = (first, (second, tt))
+shown_ascends false coding hidden bad first second other = (other, tt)
+
+readback_ascends : (map : Option Map) (words : List (List ℕ)) → AscendFrom 18 (readback_refusals map words)
+readback_ascends None words = tt
+readback_ascends (Some m) words = shown_ascends (fits m words) _ _ _ (omega arith) (omega arith) (omega arith)
+
+-- those of a step of a device that was looked up
+step_ascends : (against : Map → Device → List (Bool × Refusal)) → ((m : Map) (d : Device) → AscendFrom 12 (against m d)) → (found : Option FoundDevice) → AscendFrom 12 (step_refusals against found)
+step_ascends against each None = (omega arith, tt)
+step_ascends against each (Some found) = with_map found.map found.device
+  where
+    with_map : (map : Option Map) (d : Device) → AscendFrom 12 (refusals_with against map d)
+    with_map None d = tt
+    with_map (Some m) d = each m d
+
+identity_ascends : (t : Tables) (key : List ℕ) (order : Option Order) (m : Map) (d : Device) → AscendFrom 12 (refusals_in t key order m d)
+identity_ascends t key None m d = tt
+identity_ascends t key (Some o) m d = (omega arith, (omega arith, (omega arith, tt)))
+
+-- those of an import
+conflict_ascends : (found : Result Imported (List ℕ)) → AscendFrom 37 (conflict_in found)
+conflict_ascends (Ok i) = tt
+conflict_ascends (Err serial) = (omega arith, tt)
+
+conflicts_ascend : (g : GivenIn) (rows : Option (List ImportRow)) → AscendFrom 37 (conflicts g rows)
+conflicts_ascend g None = tt
+conflicts_ascend g (Some rows) = conflict_ascends (imported g rows)
+
+-- those of each command stand in the order of their numbers, after those of the retry rule
+pub refusals_ascend : (s : Section) (t : Tables) (c : Change) → AscendFrom 12 (refusals s t c)
+refusals_ascend s t (MakeOrder o) = (omega arith, (omega arith, (omega arith, (omega arith, (omega arith, (omega arith, (omega arith, tt)))))))
+refusals_ascend s t (ImportMap text) =
+    map_ascends (map_fault text) (is_other_text t text (link_at s.name (sha256 text) t)) (link_at s.name (sha256 text) t) (length (own s.name t.links))
+refusals_ascend s t (RegisterDevice d) = (omega arith, (omega arith, (omega arith, (omega arith, readback_ascends (map_named s.name d.map t) d.blocks))))
+refusals_ascend s t (PlanDevice p) =
+    step_ascends (plan_refusals p.wishes) (λ m d. (omega arith, (omega arith, (omega arith, (omega arith, (omega arith, (omega arith, (omega arith, (omega arith, (omega arith, (omega arith, (omega arith, tt)))))))))))) (device_found s p.chip t)
+refusals_ascend s t (ReadBack r) = step_ascends (read_refusals r.blocks) (λ m d. (omega arith, (omega arith, tt))) (device_found s r.chip t)
+refusals_ascend s t (Identify i) = step_ascends _ (λ m d. identity_ascends t i.key (order_of s t d) m d) (device_found s i.chip t)
+refusals_ascend s t (Ship chip) = step_ascends ship_refusals (λ m d. (omega arith, tt)) (device_found s chip t)
+refusals_ascend s t (Scrap chip) = step_ascends scrap_refusals (λ m d. (omega arith, tt)) (device_found s chip t)
+refusals_ascend s t (Import i) = (omega arith, (omega arith, conflicts_ascend _ i.rows))
