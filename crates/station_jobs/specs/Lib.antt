@@ -3,5 +3,6 @@ pub mod CommandLine
 pub mod FileText
 pub mod Listening
 pub mod MapFile
+pub mod Replaying
 pub mod SiteFile
 pub mod Statuses

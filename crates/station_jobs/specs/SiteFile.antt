@@ -7,7 +7,6 @@ use Rattle.site_core.specs.SiteFaults.{fault_number}
 use Rattle.site_core.specs.SiteText.{site_read}
 use Rattle.site_core.specs.declared.fault.SiteFault.{SiteFault}
 use Rattle.site_core.specs.declared.fault.SiteFault.TheVariants.{OverLimit}
-use Rattle.site_core.specs.declared.text.TheConstants.{TEXT_LIMIT}
 use Rattle.station_jobs.specs.FileText.{or_failure, text_in}
 use Rattle.station_jobs.specs.declared.failure.Failure.{Failure}
 use Rattle.station_jobs.specs.declared.failure.Failure.TheVariants.{NoMemory}
@@ -20,4 +19,4 @@ site_failure fault = Failure.SiteFault (fault_number fault)
 -- the site in the bytes of a file, or the failure that its text's fault is. Bytes over the limit have the fault of that
 abbrev pub site_in : Bor (List ℕ) → List ℕ → Result SiteValue Failure
 site_in name bytes =
-    result_and_then (λ text. or_failure site_failure (site_read text)) (text_in name bytes TEXT_LIMIT (site_failure OverLimit))
+    result_and_then (λ text. or_failure site_failure (site_read text)) (text_in name bytes 1048576 (site_failure OverLimit))

@@ -1,8 +1,12 @@
 //! Does the jobs of the command line.
-ghost use Rattle.std.specs.Prelude.{◌≡◌, ◌≢◌, ◌≤◌, ◌⊎◌, ◌++◌, ◌∷◌, [], IfOk, IfErr, IsErrAnd, MatchResult, OnOk};
+ghost use Rattle.std.specs.Prelude.{◌≡◌, ◌≢◌, ◌+◌, ◌<◌, ◌≤◌, ◌^◌, ◌⊎◌, ◌++◌, ◌∷◌, [], IfOk, IfErr, IsErrAnd, MatchResult, OnOk};
 ghost use Rattle.std.specs.Io.KnownBytes.{Appends, Keeps};
+ghost use Rattle.http_serving.specs.declared.Served.{Served};
+ghost use Rattle.office_tables.specs.Tables.{no_rows};
 ghost use Rattle.station_jobs.specs.FileText.{IsUnread};
+ghost use Rattle.station_jobs.specs.Listening.{LeadsOn};
 ghost use Rattle.station_jobs.specs.MapFile.{map_in, map_line};
+ghost use Rattle.station_jobs.specs.Replaying.{IsOfStream, Replays, ServesOn, failed_reads, failed_writes};
 ghost use Rattle.station_jobs.specs.SiteFile.{site_in};
 ghost use Rattle.station_jobs.specs.Statuses.{end_of, line_of, status_of};
 
@@ -14,22 +18,23 @@ use crate::site_file::{bytes_of_file, read_site_file, site_of_bytes};
 use crate::stored::replay_stored;
 use office_core::{Keep, MemKeep};
 use site_core::Site;
-use station_api::{Counted, Served, serve_stream};
+use station_api::{Counted, Drain, Served, Source, serve_stream};
 use std::alloc::Global;
 use std::io;
 use std::io::{Read, Write};
 
 /// Does a job: reads the file that it names, then its input, writes its output, and writes one line
 /// on `err` where it fails. Answers the status that the program ends with: 0, or 1 where it failed.
-pub fn run(
+pub fn run<E: Write>(
     rt: &HostRuntime,
     alloc: Global,
     job: &Job,
     input: impl Read + Drop,
     mut output: impl Write + Drop,
-    err: &mut impl Write,
+    err: &mut E,
 ) -> u8
-    ensures { result ≤ 1 }
+    ensures status { result ≤ 1 }
+    ensures silent { result ≡ 0 → Keeps (E.contents err.old) (E.contents err.new) }
 {
     let done = match job {
         Job::Serve {
@@ -49,9 +54,19 @@ pub fn run(
         Job::Replay { site, db } => {
             let name = site.as_str();
             let file = read_site_file(rt, alloc, name);
+            let mut reader = Counted::new(input);
+            let mut writer = Counted::new(output);
             match db {
-                Some(db) => replay_stored(rt, alloc, name, file, db.as_str(), input, output),
-                None => replay(alloc, name, file, input, output),
+                Some(db) => replay_stored(
+                    rt,
+                    alloc,
+                    name,
+                    file,
+                    db.as_str(),
+                    &mut reader,
+                    &mut writer,
+                ),
+                None => replay(alloc, name, file, &mut reader, &mut writer),
             }
         }
         Job::CheckMap { map } => {
@@ -65,36 +80,78 @@ pub fn run(
 
 /// Serves one stream over a keeper in memory that has no rows, for the site that a file describes,
 /// by what reading the file with this name gave.
-fn replay<'a>(
+fn replay<'a, R: Source, W: Drain>(
     alloc: Global,
     name: &'a str,
     file: io::Result<Vec<u8>>,
-    input: impl Read + Drop,
-    output: impl Write + Drop,
+    reader: &mut R,
+    writer: &mut W,
 ) -> Result<(), Failure<'a>>
+    requires reader { R.calls reader.old + 2 ^ 25 < 2 ^ 64 }
+    requires writer { W.calls writer.old + 2 ^ 25 < 2 ^ 64 }
     ensures unread { IfErr file (λ error. IsErrAnd result (IsUnread name.entry error)) }
 
     // A file that describes no site is the failure, whatever the stream.
     ensures no_site { IfOk file (λ bytes. IfErr (site_in name.entry bytes.items) (λ failure.
         (result ≡ Err failure) ⊎ (result ≡ Err Failure.NoMemory))) }
+
+    // The stream is served from no rows on, where the reader and the writer tell their bytes.
+    ensures served { IfOk file (λ bytes. IfOk (site_in name.entry bytes.items) (λ site.
+        Replays site no_rows (R.left reader.old) (R.left reader.new)
+        (W.written writer.old) (W.written writer.new) result)) }
+
+    // Nothing is read or written before the site is known.
+    ensures silent { IfErr result (λ failure. IsOfStream failure
+        ⊎ ((reader.new ≡ reader.old) × (writer.new ≡ writer.old))) }
+    ensures calls { R.calls reader.new + W.calls writer.new
+        ≤ R.calls reader.old + W.calls writer.old + 16777216 }
+    ensures limit { result ≡ Err Failure.TurnLimit → R.calls reader.new + W.calls writer.new
+        ≡ R.calls reader.old + W.calls writer.old + 16777216 }
+    ensures read_faults { R.failures reader.new ≡ R.failures reader.old + failed_reads result }
+    ensures write_faults { W.failures writer.new ≡ W.failures writer.old + failed_writes result }
+    ensures no_memory { result ≡ Err Failure.NoMemory →
+        (R.calls reader.new ≡ R.calls reader.old) × (W.calls writer.new ≡ W.calls writer.old) }
 {
     let bytes = bytes_of_file(name, file)?;
     let site = site_of_bytes(alloc, name, bytes.as_slice())?;
     let mut keep = MemKeep::new(alloc);
-    serve(alloc, &mut keep, &site, input, output)
+    serve(alloc, &mut keep, &site, reader, writer)
 }
 
 /// Serves one stream over a keeper.
-pub fn serve<K: Keep>(
+///
+/// # Errors
+///
+/// What the end of the stream says: `ReadFailed`, `WriteFailed`, `TurnLimit` or `NoMemory`. That a
+/// stream ends inside a request is no failure, nor that its last reply ends it.
+pub fn serve<K: Keep, R: Source, W: Drain>(
     alloc: Global,
     keep: &mut K,
     site: &Site,
-    input: impl Read + Drop,
-    output: impl Write + Drop,
-) -> Result<(), Failure<'static>> {
-    let mut reader = Counted::new(input);
-    let mut writer = Counted::new(output);
-    end_of(serve_stream(alloc, keep, site, &mut reader, &mut writer))
+    reader: &mut R,
+    writer: &mut W,
+) -> Result<(), Failure<'static>>
+    requires reader { R.calls reader.old + 2 ^ 25 < 2 ^ 64 }
+    requires writer { W.calls writer.old + 2 ^ 25 < 2 ^ 64 }
+    ensures was_honest { K.is_honest keep.new → K.is_honest keep.old }
+    ensures reaches { K.is_honest keep.new → LeadsOn site.now K.is_open K.tables keep.old keep.new }
+
+    // The result is what an end of the stream says. Where the reader and the writer tell their
+    // bytes and the disk is honest, the stream came to that end, over this keeper.
+    ensures served { (served : Served) × (result ≡ end_of served) × (K.is_honest keep.new
+        → ServesOn site.now K.is_open K.tables keep.old keep.new (R.left reader.old)
+        (R.left reader.new) (W.written writer.old) (W.written writer.new) served) }
+    ensures calls { R.calls reader.new + W.calls writer.new
+        ≤ R.calls reader.old + W.calls writer.old + 16777216 }
+    ensures limit { result ≡ Err Failure.TurnLimit → R.calls reader.new + W.calls writer.new
+        ≡ R.calls reader.old + W.calls writer.old + 16777216 }
+    ensures read_faults { R.failures reader.new ≡ R.failures reader.old + failed_reads result }
+    ensures write_faults { W.failures writer.new ≡ W.failures writer.old + failed_writes result }
+    ensures no_memory { result ≡ Err Failure.NoMemory →
+        (R.calls reader.new ≡ R.calls reader.old) × (W.calls writer.new ≡ W.calls writer.old) }
+    ensures unserved { result ≡ Err Failure.NoMemory → keep.new ≡ keep.old }
+{
+    end_of(serve_stream(alloc, keep, site, reader, writer))
 }
 
 /// Writes the line of the fuse map that a file describes, by what reading the file with this name

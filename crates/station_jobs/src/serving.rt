@@ -5,7 +5,8 @@ ghost use Rattle.std.specs.IoError.{error_kind};
 ghost use Rattle.std.specs.Net.Addr.{ipv4_octets};
 ghost use Rattle.std.specs.Net.Socket.{v4_ip, v4_port};
 ghost use Rattle.station_jobs.specs.FileText.{IsUnread};
-ghost use Rattle.station_jobs.specs.Listening.{LeadsOn, listening_line};
+ghost use Rattle.station_jobs.specs.Listening.{IsOfPort, LeadsOn, listening_line};
+ghost use Rattle.station_jobs.specs.Replaying.{IsOfStore};
 ghost use Rattle.station_jobs.specs.SiteFile.{site_in};
 
 use crate::failure::Failure;
@@ -61,6 +62,11 @@ pub fn serve_site<'a, W: Write>(
     // A file that describes no site is the failure, whatever the store and the port.
     ensures no_site { IfOk file (λ bytes. IfErr (site_in name.entry bytes.items) (λ failure.
         (result ≡ Err failure) ⊎ (result ≡ Err Failure.NoMemory))) }
+
+    // With a site, what fails is memory, the store or the port.
+    ensures failed { IfOk file (λ bytes. IfOk (site_in name.entry bytes.items) (λ _.
+        IfErr result (λ failure. (failure ≡ Failure.NoMemory) ⊎ IsOfStore failure
+        ⊎ IsOfPort failure))) }
     ensures told { OnOk result (Appends (W.contents output.old) (W.contents output.new)
         (listening_line door.port ++ 10 ∷ [])) }
 
@@ -84,6 +90,7 @@ fn serve_store<W: Write>(
     door: Door,
     output: &mut W,
 ) -> Result<(), Failure<'static>>
+    ensures failed { IfErr result (λ failure. IsOfStore failure ⊎ IsOfPort failure) }
     ensures told { OnOk result (Appends (W.contents output.old) (W.contents output.new)
         (listening_line door.port ++ 10 ∷ [])) }
     ensures silent { IfErr result (λ failure. failure ≢ Failure.WriteFailed → failure ≢ Failure.AcceptFailed
@@ -108,6 +115,7 @@ fn serve_port<K: Keep, W: Write>(
 ) -> Result<(), Failure<'static>>
     ensures was_honest { K.is_honest keep.new → K.is_honest keep.old }
     ensures reaches { K.is_honest keep.new → LeadsOn site.now K.is_open K.tables keep.old keep.new }
+    ensures failed { IfErr result IsOfPort }
     ensures told { OnOk result (Appends (W.contents output.old) (W.contents output.new)
         (listening_line door.port ++ 10 ∷ [])) }
     ensures silent { IfErr result (λ failure. failure ≢ Failure.WriteFailed → failure ≢ Failure.AcceptFailed

@@ -1,0 +1,129 @@
+-- What the result of a stream says of its end.
+use Rattle.std.proofs.Common.{◌≡◌, ◌⊎◌, ℕ, List, [], Option, Some, None, Result, Ok, Err, inl, inr, refl, sym, subst}
+use Rattle.std.specs.Prelude.{IfErr, IfOk}
+use Rattle.http_serving.specs.Streams.{Machine, read_faults, write_faults}
+use Rattle.http_serving.specs.declared.Served.{Served}
+use Rattle.http_serving.specs.declared.Served.TheVariants.{Ended, Closed, Cut, ReadFault, WriteFault, TurnLimit, NoMemory}
+use Rattle.office_tables.specs.Tables.{Tables}
+use Rattle.site_core.specs.Section.{SiteValue}
+use Rattle.station_api.specs.Machine.{ServesTables, StationAnswers}
+use Rattle.text_core.specs.Answer.{GivesUnless}
+use Rattle.station_jobs.specs.Replaying.{IsOfStream, Replays, failed_reads, failed_writes}
+use Rattle.station_jobs.specs.Statuses.{end_of}
+use Rattle.station_jobs.specs.declared.failure.Failure.{Failure}
+
+-- the limit is told of a stream that met it alone
+pub limit_end : (served : Served) → end_of served ≡ Err Failure.TurnLimit → served ≡ TurnLimit
+limit_end Ended is = cc
+limit_end Closed is = cc
+limit_end Cut is = cc
+limit_end ReadFault is = cc
+limit_end WriteFault is = cc
+limit_end TurnLimit is = refl
+limit_end NoMemory is = cc
+
+-- and want of memory of one that had none
+pub no_memory_end : (served : Served) → end_of served ≡ Err Failure.NoMemory → served ≡ NoMemory
+no_memory_end Ended is = cc
+no_memory_end Closed is = cc
+no_memory_end Cut is = cc
+no_memory_end ReadFault is = cc
+no_memory_end WriteFault is = cc
+no_memory_end TurnLimit is = cc
+no_memory_end NoMemory is = refl
+
+-- the failures of the reader
+pub failed_reads_end : (served : Served) → failed_reads (end_of served) ≡ read_faults (Some served)
+failed_reads_end Ended = refl
+failed_reads_end Closed = refl
+failed_reads_end Cut = refl
+failed_reads_end ReadFault = refl
+failed_reads_end WriteFault = refl
+failed_reads_end TurnLimit = refl
+failed_reads_end NoMemory = refl
+
+-- and of the writer
+pub failed_writes_end : (served : Served) → failed_writes (end_of served) ≡ write_faults (Some served)
+failed_writes_end Ended = refl
+failed_writes_end Closed = refl
+failed_writes_end Cut = refl
+failed_writes_end ReadFault = refl
+failed_writes_end WriteFault = refl
+failed_writes_end TurnLimit = refl
+failed_writes_end NoMemory = refl
+
+-- what an end says is a failure of the stream
+end_failure : (served : Served) → IfErr (end_of served) IsOfStream
+end_failure Ended = tt
+end_failure Closed = tt
+end_failure Cut = tt
+end_failure ReadFault = inl refl
+end_failure WriteFault = inr (inl refl)
+end_failure TurnLimit = inr (inr (inl refl))
+end_failure NoMemory = inr (inr (inr refl))
+
+of_stream : (result : Result Unit Failure) (served : Served) → result ≡ end_of served → IfErr result IsOfStream
+of_stream result served is = subst (λ r. IfErr r IsOfStream) (sym is) (end_failure served)
+
+-- what holds of each failure of this kind
+pub failing : (result : Result Unit Failure) (P Q : Failure → Type 0) → ((failure : Failure) → P failure → Q failure) → IfErr result P → IfErr result Q
+failing (Ok done) P Q all holds = tt
+failing (Err failure) P Q all holds = all failure holds
+
+-- with another kind before it or behind it
+pub fails_before : (P : Failure → Type 0) (result : Result Unit Failure) (served : Served) → result ≡ end_of served
+    → IfErr result (λ failure. IsOfStream failure ⊎ P failure)
+fails_before P result served is = failing result IsOfStream (λ failure. IsOfStream failure ⊎ P failure) (λ failure h. inl h) (of_stream result served is)
+
+pub fails_behind : (P : Failure → Type 0) (result : Result Unit Failure) (served : Served) → result ≡ end_of served
+    → IfErr result (λ failure. P failure ⊎ IsOfStream failure)
+fails_behind P result served is = failing result IsOfStream (λ failure. P failure ⊎ IsOfStream failure) (λ failure h. inr h) (of_stream result served is)
+
+-- a stream that was served, whatever stands then
+served_any : (step : Machine Tables) (Standing : Tables → Type 0) (t : Tables)
+    (left_old left_new written_old written_new : Option (List ℕ)) (served : Served)
+    → ServesTables step Standing t left_old left_new written_old written_new served
+    → ServesTables step (λ _. Unit {0}) t left_old left_new written_old written_new served
+served_any step Standing t None left_new written_old written_new served made = tt
+served_any step Standing t (Some stream) left_new None written_new served made = tt
+served_any step Standing t (Some stream) None (Some before) written_new served made = made
+served_any step Standing t (Some stream) (Some left) (Some before) None served made = made
+served_any step Standing t (Some stream) (Some left) (Some before) (Some written) served made = (made.0, made.1, tt)
+
+-- a stream that was served over a keeper of these tables, for the site that the bytes describe
+pub replays_site : (wanted : Result SiteValue Failure) (site : SiteValue) (Standing : Tables → Type 0) (t : Tables)
+    (left_old left_new written_old written_new : Option (List ℕ)) (served : Served) (result : Result Unit Failure)
+    → GivesUnless Failure.NoMemory (Ok site) wanted → result ≡ end_of served
+    → ServesTables (StationAnswers site) Standing t left_old left_new written_old written_new served
+    → IfOk wanted (λ described. Replays described t left_old left_new written_old written_new result)
+replays_site (Ok described) site Standing t left_old left_new written_old written_new served result given is made = elim given [
+  | inl same ↦
+      let found : site ≡ described = cc in
+      subst (λ s. Replays s t left_old left_new written_old written_new result) found
+      (served, is, served_any (StationAnswers site) Standing t left_old left_new written_old written_new served made)
+  | inr none ↦ cc
+]
+replays_site (Err failure) site Standing t left_old left_new written_old written_new served result given is made = tt
+
+-- a stream of which nothing was read, for want of memory
+replays_nothing : (site : SiteValue) (t : Tables) (left written : Option (List ℕ)) → Replays site t left left written written (Err Failure.NoMemory)
+replays_nothing site t None written = (NoMemory, refl, tt)
+replays_nothing site t (Some stream) None = (NoMemory, refl, tt)
+replays_nothing site t (Some stream) (Some before) = (NoMemory, refl, (t, ([], stream, (refl, refl), (refl, refl)), tt))
+
+-- the site that the bytes describe wasn't read
+pub replays_no_site : (wanted : Result SiteValue Failure) (failure : Failure) (t : Tables) (left written : Option (List ℕ)) (result : Result Unit Failure)
+    → GivesUnless Failure.NoMemory (Err failure) wanted → result ≡ Err failure
+    → IfOk wanted (λ described. Replays described t left left written written result)
+replays_no_site (Ok described) failure t left written result given is = elim given [
+  | inl same ↦ cc
+  | inr none ↦
+      let memory : Err Failure.NoMemory ≡ result = cc in
+      subst (λ r. Replays described t left left written written r) memory (replays_nothing described t left written)
+]
+replays_no_site (Err other) failure t left written result given is = tt
+
+-- what holds of the bytes that were read
+pub of_bytes : {B E : Type 0} (file : Result B E) (bytes : B) (P : B → Type 0) → IfOk file (λ b. ◌≡◌ {A = Result B Failure} (Ok bytes) (Ok b)) → P bytes → IfOk file P
+of_bytes (Ok b) bytes P read holds = let same : bytes ≡ b = cc in subst P same holds
+of_bytes (Err error) bytes P read holds = tt

@@ -1,0 +1,10 @@
+-- Why `serving::serve_store` meets its contract, where that has to be said.
+use Rattle.std.proofs.Common.{◌⊎◌, inr}
+use Rattle.station_jobs.specs.Listening.{IsOfPort}
+use Rattle.station_jobs.specs.Replaying.{IsOfStore}
+use Rattle.station_jobs.proofs.Ending.{failing}
+use Rattle.station_jobs.proofs.serving.serve_store.Goals as goal
+
+pub returns-clause-failed : goal.returns-clause-failed
+returns-clause-failed g c =
+    failing c.serve_port-served.result IsOfPort (λ failure. IsOfStore failure ⊎ IsOfPort failure) (λ failure h. inr h) c.serve_port-served.ensures.failed

@@ -1,0 +1,45 @@
+-- What a stream leads to, and what its result tells.
+use Rattle.std.specs.Prelude.{◌≡◌, ◌⊎◌, ℕ, List, Option, Result, Ok, Err}
+use Rattle.http_serving.specs.declared.Served.{Served}
+use Rattle.office_store.specs.Faults.{fault_number}
+use Rattle.office_store.specs.declared.fault.OpenFault.{OpenFault}
+use Rattle.office_tables.specs.Keeping.{Stands}
+use Rattle.office_tables.specs.Tables.{Tables}
+use Rattle.site_core.specs.Section.{SiteValue}
+use Rattle.station_api.specs.Machine.{ServesTables, StationAnswers}
+use Rattle.station_jobs.specs.Statuses.{end_of}
+use Rattle.station_jobs.specs.declared.failure.Failure.{Failure}
+use Rattle.station_jobs.specs.declared.failure.Failure.TheVariants.{StoreFault, ReadFailed, WriteFailed, TurnLimit, NoMemory}
+
+-- the tables that stood are served the stream and lead to those that stand, and the stream came to this end
+abbrev pub ServesOn : {K : Type 0} → SiteValue → (K → Type 0) → (K → Tables) → K → K
+    → Option (List ℕ) → Option (List ℕ) → Option (List ℕ) → Option (List ℕ) → Served → Type 0
+ServesOn site is_open tables old new left_old left_new written_old written_new served =
+    (t : Tables) → Stands is_open tables old t
+    → ServesTables (StationAnswers site) (Stands is_open tables new) t left_old left_new written_old written_new served
+
+-- the stream was served from these tables on, and the result is what its end says
+abbrev pub Replays : SiteValue → Tables → Option (List ℕ) → Option (List ℕ) → Option (List ℕ) → Option (List ℕ) → Result Unit Failure → Type 0
+Replays site t left_old left_new written_old written_new result =
+    (served : Served) × (result ≡ end_of served)
+    × ServesTables (StationAnswers site) (λ _. Unit {0}) t left_old left_new written_old written_new served
+
+-- a failure that the end of a stream says
+abbrev pub IsOfStream : Failure → Type 0
+IsOfStream failure = (failure ≡ ReadFailed) ⊎ (failure ≡ WriteFailed) ⊎ (failure ≡ TurnLimit) ⊎ (failure ≡ NoMemory)
+
+-- a fault of the store
+abbrev pub IsOfStore : Failure → Type 0
+IsOfStore failure = (fault : OpenFault) × (failure ≡ StoreFault (fault_number fault))
+
+-- the failures of the reader that the result tells
+abbrev pub failed_reads : Result Unit Failure → ℕ
+failed_reads (Ok done) = 0
+failed_reads (Err ReadFailed) = 1
+failed_reads (Err failure) = 0
+
+-- and of the writer
+abbrev pub failed_writes : Result Unit Failure → ℕ
+failed_writes (Ok done) = 0
+failed_writes (Err WriteFailed) = 1
+failed_writes (Err failure) = 0
