@@ -1,6 +1,6 @@
 //! Hardware addresses and their pools.
 
-use id_ranges::{LARGEST_POOL, Mac, MacPool, RangeFault, reserve};
+use id_ranges::{Mac, MacPool, RangeFault, reserve};
 
 /// Texts, and the addresses that they are.
 const ADDRESSES: &[(&str, Option<u64>)] = &[
@@ -20,11 +20,11 @@ const ADDRESSES: &[(&str, Option<u64>)] = &[
 const POOLS: &[(&str, u64, bool)] = &[
     ("000000000000", 1, true),
     ("020000000010", 4, true),
-    ("020000000000", LARGEST_POOL, true),
+    ("020000000000", 16777216, true),
     ("02fffffffffe", 2, true),
     ("feffffffffff", 1, true),
     ("020000000010", 0, false),
-    ("020000000000", LARGEST_POOL + 1, false),
+    ("020000000000", 16777217, false),
     ("02ffffffffff", 2, false),
     ("00ffffffffff", 2, false),
     ("010000000000", 2, false),

@@ -10,6 +10,7 @@ mod placeholders;
 pub mod plans;
 
 pub use placeholders::filled;
+use placeholders::filled_bytes;
 use std::alloc::{AllocError, Global};
 use std::str;
 use std::test::Fail;
@@ -45,16 +46,19 @@ fn listed(table: &'static [(&'static str, &'static str)], name: &str) -> Option<
 /// # Errors
 ///
 /// The line isn't of a request, or memory runs out.
-pub fn request(alloc: Global, line: &str) -> Result<String, Fail> {
+pub fn request(alloc: Global, line: &str) -> Result<Vec<u8>, Fail> {
     let (caller, rest) = line.split_once(" ").ok_or("no caller")?;
     let (method, rest) = rest.split_once(" ").ok_or("no method")?;
     let (target, body) = rest.split_once(" ").unwrap_or((rest, ""));
     let token = listed(TOKENS, caller).unwrap_or(NO_TOKEN);
-    let body = filled(alloc, body)?;
+    let body = filled_bytes(alloc, body)?;
     let size = body.len();
-    Ok(format!(in alloc;
-        "{method} {target} HTTP/1.1\r\nAuthorization: Bearer {token}\r\nContent-Length: {size}\r\n\r\n{body}"
-    )?)
+    let head = format!(in alloc;
+        "{method} {target} HTTP/1.1\r\nAuthorization: Bearer {token}\r\nContent-Length: {size}\r\n\r\n"
+    )?;
+    let mut bytes = head.as_bytes().to_vec(alloc)?;
+    bytes.extend_from_slice(body.as_slice())?;
+    Ok(bytes)
 }
 
 /// The bytes of the reply of a line.

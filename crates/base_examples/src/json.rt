@@ -2,7 +2,9 @@
 
 use json_members::{JsonFault, read_json, whole_member};
 use std::alloc::Global;
-use text_core::LARGEST_WHOLE;
+
+/// The greatest whole number that a request may have.
+const LARGEST_WHOLE: u64 = 9_007_199_254_740_991;
 
 /// Bodies, the least and the greatest number that is wanted, and whether they are JSON, with the member
 /// `n` where it is a whole number within these.

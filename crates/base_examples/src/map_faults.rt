@@ -2,7 +2,7 @@
 
 use crate::changes::{changed, numbered, padded};
 use crate::samples::MAP;
-use fusemap_core::{TEXT_LIMIT, read_map};
+use fusemap_core::read_map;
 use std::alloc::Global;
 
 /// A part of the sample, what stands there in its place, and the fault. The last rows are whole texts.
@@ -219,11 +219,11 @@ const OUTSIDE: &str = "block = 0\nbit = 215\ncount = 10\nkey = true\nwrite = 16"
 
 /// What stands behind the sample, how long the text is then with spaces behind it, and the fault.
 const LENGTHS: &[(&str, usize, u8)] = &[
-    ("", TEXT_LIMIT, 0),
+    ("", 32768, 0),
     ("", 32769, 2),
-    ("#", TEXT_LIMIT, 0),
+    ("#", 32768, 0),
     ("#", 32769, 2),
-    ("no TOML", TEXT_LIMIT, 1),
+    ("no TOML", 32768, 1),
     ("no TOML", 32769, 2),
 ];
 

@@ -30,7 +30,10 @@ const NO_RANGES: &[(Numbers, RangeFault)] = &[
     (("A", 3, 998, 3), RangeFault::TooWide),
     (("A-", 2, 1000, 1), RangeFault::TooWide),
     (("A", 9, 1000000000, 1), RangeFault::TooWide),
-    (("A", 9, LARGEST_WHOLE, LARGEST_WHOLE), RangeFault::TooWide),
+    (
+        ("A", 9, 9007199254740991, 9007199254740991),
+        RangeFault::TooWide,
+    ),
     (("a", 3, 998, 2), RangeFault::BadText),
     (("", 3, 998, 2), RangeFault::BadText),
     ((TOO_LONG, 3, 998, 2), RangeFault::BadText),

@@ -2,7 +2,7 @@
 
 use crate::changes::{changed, numbered, padded};
 use crate::samples::SITE;
-use site_core::{Caller, Site, SiteFault, TEXT_LIMIT, read_site};
+use site_core::{Caller, Site, SiteFault, read_site};
 use std::alloc::Global;
 
 const OF_ABC: &str = "ba7816bf8f01cfea414140de5dae2223b00361a396177a9cb410ff61f20015ad";
@@ -154,9 +154,9 @@ token = "000000000000000000000000000000000000000000000000000000000000#"
 
 /// What a text begins with, how long it is with spaces behind that, and the fault.
 const LENGTHS: &[(&str, usize, u8)] = &[
-    ("customer = []\n#", TEXT_LIMIT, 0),
+    ("customer = []\n#", 1048576, 0),
     ("customer = []\n#", 1048577, 6),
-    ("no TOML", TEXT_LIMIT, 1),
+    ("no TOML", 1048576, 1),
     ("no TOML", 1048577, 6),
 ];
 

@@ -15,13 +15,13 @@ use std::test::Fail;
 pub fn serve<K: Keep>(
     alloc: Global,
     keep: &mut K,
-    stream: &str,
+    stream: &[u8],
     step: usize,
 ) -> Result<(Served, Written), Fail>
     requires { 0 < step }
 {
     let site = read_site(alloc, SITE)?;
-    let mut reader = Pieces::new(stream.as_bytes(), step);
+    let mut reader = Pieces::new(stream, step);
     let mut writer = Written::new(Vec::new(alloc), 4096);
     let served = serve_stream(alloc, keep, &site, &mut reader, &mut writer);
     Ok((served, writer))
@@ -36,7 +36,7 @@ pub fn exchange<K: Keep>(
     wanted: &str,
 ) -> Result<String, Fail> {
     let stream = request(alloc, asked)?;
-    let (served, writer) = serve(alloc, keep, stream.as_str(), 4096)?;
+    let (served, writer) = serve(alloc, keep, stream.as_slice(), 4096)?;
     let found = difference(alloc, asked, wanted, writer.bytes())?;
     if served != Served::Ended && found.is_empty() {
         return Ok(format!(in alloc; "{asked} -> another end")?);

@@ -55,10 +55,10 @@ pub const DAMAGES: &[(Damage, bool, usize)] = &[
 ];
 
 /// The stream of the requests of lines.
-fn stream_of(alloc: Global, lines: &[&str]) -> Result<String, Fail> {
-    let mut stream = String::new(alloc);
+fn stream_of(alloc: Global, lines: &[&str]) -> Result<Vec<u8>, Fail> {
+    let mut stream = Vec::new(alloc);
     for line in lines {
-        stream.push_str(request(alloc, line)?.as_str())?;
+        stream.extend_from_slice(request(alloc, line)?.as_slice())?;
     }
     Ok(stream)
 }
@@ -67,7 +67,7 @@ fn stream_of(alloc: Global, lines: &[&str]) -> Result<String, Fail> {
 fn made_store<K: InFiles>(alloc: Global, is_closed: bool) -> Result<Store, Fail> {
     let stream = stream_of(alloc, MADE_BY)?;
     let mut keep = K::opened(alloc, &Store::new(alloc))??;
-    let served = serve(alloc, &mut keep, stream.as_str(), 4096);
+    let served = serve(alloc, &mut keep, stream.as_slice(), 4096);
     let left = if is_closed {
         keep.closed(alloc)
     } else {
@@ -82,7 +82,7 @@ fn written_over<K: InFiles>(alloc: Global, store: &Store) -> Result<Option<Vec<u
     let stream = stream_of(alloc, ASKED)?;
     match K::opened(alloc, store)? {
         Ok(mut keep) => {
-            let served = serve(alloc, &mut keep, stream.as_str(), 4096);
+            let served = serve(alloc, &mut keep, stream.as_slice(), 4096);
             let _ = keep.closed(alloc);
             let (_, writer) = served?;
             Ok(Some(writer.bytes().to_vec(alloc)?))

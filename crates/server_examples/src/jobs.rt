@@ -7,7 +7,8 @@ use std::test::Fail;
 use std::{fs, io};
 use text_core::Text;
 
-/// Lines of words, and what becomes of each: the job and the names that it has, help, or a refusal.
+/// Lines of words, and what becomes of each: the job and the names that it has, help, whose text says
+/// how the program is used, or a refusal, whose text names an error.
 pub const LINES: &[(&str, &str)] = &[
     ("station replay --site site.toml", "replay site.toml"),
     (
@@ -100,6 +101,11 @@ pub const LINES: &[(&str, &str)] = &[
 /// Names of files that are one word of a line.
 pub const SITE_NAMES: &[&str] = &["a site.toml", " ", "\u{e4}\n"];
 
+/// The word for a text that has a part, or else the text.
+fn word_for<'a>(text: &'a str, part: &str, word: &'a str) -> &'a str {
+    if text.contains(part) { word } else { text }
+}
+
 /// What becomes of words.
 fn outcome(alloc: Global, words: &[&str]) -> Result<String, AllocError> {
     let found = read_job(alloc, words);
@@ -107,8 +113,12 @@ fn outcome(alloc: Global, words: &[&str]) -> Result<String, AllocError> {
         Ok(Job::Replay { site, db }) => ("replay ", site.as_str(), db.as_ref()),
         Ok(Job::CheckMap { map }) => ("check-map ", map.as_str(), None),
         Ok(Job::Serve { site, db, .. }) => ("serve ", site.as_str(), Some(db)),
-        Err(WordsFault::Help(_)) => ("help", "", None),
-        Err(WordsFault::Refused(_)) => ("refused", "", None),
+        Err(WordsFault::Help(text)) => (
+            word_for(text.as_str(), "Usage: station", "help"),
+            "",
+            None,
+        ),
+        Err(WordsFault::Refused(text)) => (word_for(text.as_str(), "error: ", "refused"), "", None),
         Err(WordsFault::NoMemory) => ("no memory", "", None),
     };
     match store {

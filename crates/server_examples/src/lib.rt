@@ -17,11 +17,13 @@ mod digests;
 #[cfg(test)]
 mod disks;
 #[cfg(test)]
-mod faults;
-#[cfg(test)]
 mod jobs;
 #[cfg(test)]
 mod keepers;
+#[cfg(test)]
+mod replays;
+#[cfg(test)]
+mod seats;
 #[cfg(test)]
 mod stores;
 #[cfg(test)]

@@ -2,7 +2,7 @@
 //! writers that are interrupted or fail.
 ghost use Rattle.std.specs.Prelude.{◌<◌, None};
 
-use crate::conversation::{exchange, serve};
+use crate::conversation::{exchange, first_difference, serve};
 use crate::keepers::Fresh;
 use base_examples::conversations::filled;
 use base_examples::samples::SITE;
@@ -21,20 +21,26 @@ pub const ORDER: &str =
 pub const ORDERED: &str =
     "HTTP/1.1 200 OK\r\nContent-Type: application/json\r\nContent-Length: 114\r\n\r\n{\"first\":998,\"issuer\":\"acme-ca\",\"mac\":null,\"macs\":0,\"name\":\"o1\",\"next\":\"A998\",\"prefix\":\"A\",\"quantity\":2,\"width\":3}";
 
+/// The request without its last byte.
+pub const CUT_ORDER: &str =
+    "POST /v1/order HTTP/1.1\r\nAuthorization: Bearer abc\r\nContent-Length: 96\r\n\r\n{\"nr\":1,\"name\":\"o1\",\"issuer\":\"acme-ca\",\"prefix\":\"A\",\"width\":3,\"first\":998,\"quantity\":2,\"macs\":0";
+
+/// The head of a request whose body comes in chunks.
+pub const IN_CHUNKS: &str = "POST /v1/order HTTP/1.1\r\nTransfer-Encoding: chunked\r\n\r\n";
+
+/// The reply to it.
+pub const CHUNKS_REFUSED: &str =
+    "HTTP/1.1 501 Not Implemented\r\nContent-Type: application/json\r\nContent-Length: 26\r\nConnection: close\r\n\r\n{\"error\":\"chunked\",\"no\":4}";
+
 /// Streams over an empty store, in which `$ORDER` stands for the order and `$ORDERED` for its reply:
 /// what is written, and how the stream ends.
 pub const STREAMS: &[(&str, &str, Served)] = &[
     ("", "", Served::Ended),
     ("$ORDER$ORDER", "$ORDERED$ORDERED", Served::Ended),
-    // The body lacks its last byte.
-    (
-        "POST /v1/order HTTP/1.1\r\nAuthorization: Bearer abc\r\nContent-Length: 96\r\n\r\n{\"nr\":1,\"name\":\"o1\",\"issuer\":\"acme-ca\",\"prefix\":\"A\",\"width\":3,\"first\":998,\"quantity\":2,\"macs\":0",
-        "",
-        Served::Cut,
-    ),
+    (CUT_ORDER, "", Served::Cut),
     // 65,536 bytes.
     (
-        "POST /v1/order HTTP/1.1\r\nAuthorization: Bearer abc\r\nContent-Length: 65536\r\n\r\n{\"nr\":1,\"name\":\"o1\",\"issuer\":\"acme-ca\",\"prefix\":\"A\",\"width\":3,\"first\":998,\"quantity\":2,\"macs\":0}$SPACES(65440)",
+        "POST /v1/order HTTP/1.1\r\nAuthorization: Bearer abc\r\nContent-Length: 65536\r\n\r\n{\"nr\":1,\"name\":\"o1\",\"issuer\":\"acme-ca\",\"prefix\":\"A\",\"width\":3,\"first\":998,\"quantity\":2,\"macs\":0}$TIMES~65440~ ~",
         "$ORDERED",
         Served::Ended,
     ),
@@ -43,11 +49,7 @@ pub const STREAMS: &[(&str, &str, Served)] = &[
         "HTTP/1.1 413 Payload Too Large\r\nContent-Type: application/json\r\nContent-Length: 28\r\nConnection: close\r\n\r\n{\"error\":\"too_large\",\"no\":3}",
         Served::Closed,
     ),
-    (
-        "POST /v1/order HTTP/1.1\r\nTransfer-Encoding: chunked\r\n\r\n",
-        "HTTP/1.1 501 Not Implemented\r\nContent-Type: application/json\r\nContent-Length: 26\r\nConnection: close\r\n\r\n{\"error\":\"chunked\",\"no\":4}",
-        Served::Closed,
-    ),
+    (IN_CHUNKS, CHUNKS_REFUSED, Served::Closed),
     (
         "POST /v1/order HTTP/1.1\r\nContent-Length: 96\r\nContent-Length: 96\r\n\r\n",
         "HTTP/1.1 400 Bad Request\r\nContent-Type: application/json\r\nContent-Length: 29\r\nConnection: close\r\n\r\n{\"error\":\"bad_length\",\"no\":2}",
@@ -63,17 +65,25 @@ pub const STREAMS: &[(&str, &str, Served)] = &[
     ("$ORDER\r\n", "$ORDERED", Served::Cut),
 ];
 
-/// The stream of one order.
-const ONE_ORDER: (&str, &str, Served) = ("$ORDER", "$ORDERED", Served::Ended);
-
 /// The lengths of the pieces in which streams come.
 pub const STEPS: &[usize] = &[1, 7, 97, 65_536];
 
 /// How many bytes of a reply a writer takes before it fails.
 pub const TAKEN: &[u32] = &[0, 10, 72, 100];
 
-/// The bytes of a stream or of what is written.
-fn with_orders(alloc: Global, text: &str) -> Result<String, Fail> {
+/// What is found where the order stands: it is shown, its request comes again, and another with its
+/// number is refused.
+const STANDING: &str = r#"
+a1 GET /v1/order?name=o1
+200 {"first":998,"issuer":"acme-ca","mac":null,"macs":0,"name":"o1","next":"A998","prefix":"A","quantity":2,"width":3}
+a1 POST /v1/order {"nr":1,"name":"o1","issuer":"acme-ca","prefix":"A","width":3,"first":998,"quantity":1,"macs":0}
+409 {"error":"other_body","no":12}
+a1 POST /v1/order {"nr":1,"name":"o1","issuer":"acme-ca","prefix":"A","width":3,"first":998,"quantity":2,"macs":0}
+200 {"first":998,"issuer":"acme-ca","mac":null,"macs":0,"name":"o1","next":"A998","prefix":"A","quantity":2,"width":3}
+"#;
+
+/// The text of a stream or of what is written.
+pub fn with_orders(alloc: Global, text: &str) -> Result<String, Fail> {
     let text = text.replace(alloc, "$ORDERED", ORDERED)?;
     let text = text.as_str().replace(alloc, "$ORDER", ORDER)?;
     filled(alloc, text.as_str())
@@ -88,7 +98,7 @@ pub fn ends_so<K: Keep>(
 ) -> Result<bool, Fail> {
     let stream = with_orders(alloc, row.0)?;
     let wanted = with_orders(alloc, row.1)?;
-    let (served, writer) = serve(alloc, keep, stream.as_str(), step.max(1))?;
+    let (served, writer) = serve(alloc, keep, stream.as_bytes(), step.max(1))?;
     Ok(served == row.2 && writer.bytes() == wanted.as_bytes())
 }
 
@@ -110,8 +120,8 @@ pub fn stops_where_the_reader_fails<K: Keep>(alloc: Global, keep: &mut K) -> Res
     Ok(served == Served::ReadFault && writer.bytes().is_empty())
 }
 
-/// Whether a writer that takes so many bytes and then none has these of the reply, and the same
-/// request on a new stream gets the reply.
+/// Whether a writer that takes so many bytes and then none has these of the reply, and the order
+/// stands then.
 pub fn stops_where_the_writer_does<K: Keep>(
     alloc: Global,
     keep: &mut K,
@@ -123,7 +133,7 @@ pub fn stops_where_the_writer_does<K: Keep>(
     let served = serve_stream(alloc, keep, &site, &mut reader, &mut writer);
     let bytes = writer.inner().bytes();
     let is_front = ORDERED.as_bytes().starts_with(bytes) && bytes.len() == taken as usize;
-    let is_there = ends_so(alloc, keep, &ONE_ORDER, 4096)?;
+    let is_there = first_difference(alloc, keep, STANDING)?.is_empty();
     Ok(served == Served::WriteFault && is_front && is_there)
 }
 
@@ -180,7 +190,7 @@ pub const LONG_HEAD: usize = 8192;
 pub fn is_cut_after<K: Fresh>(alloc: Global, count: usize) -> Result<bool, Fail> {
     let mut keep = K::fresh(alloc)?;
     let front = ORDER.get(..count).ok_or("no such front")?;
-    let (served, writer) = serve(alloc, &mut keep, front, 4096)?;
+    let (served, writer) = serve(alloc, &mut keep, front.as_bytes(), 4096)?;
     let asked = "a1 GET /v1/order?name=o1";
     let wanted = r#"404 {"error":"unknown_order","no":14}"#;
     let found = exchange(alloc, &mut keep, asked, wanted)?;

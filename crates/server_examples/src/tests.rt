@@ -8,13 +8,14 @@ use crate::counting::CountingKeep;
 use crate::damage::{DAMAGES, first_lost_of, refuses_another_head};
 use crate::digests::has_taken_digest;
 use crate::disks::{SqlFiles, first_difference_opened_anew};
-use crate::faults::{STORE_FAULTS, make_folder, make_store_faults, written_over};
 use crate::jobs::{
     BROKEN, FILES, LINE_LENGTH, LINES, LONG_ENDS, LONG_FILES, SITE_NAMES, UNREAD, WRITE_FAILED,
     is_replayed, line_of_check, line_of_replay, outcome_of_line, tells_unread, with_samples,
     write_long_file, written,
 };
 use crate::keepers::{Fresh, SqlMemory};
+use crate::replays::{RUNS, is_written, make_files_of_runs, make_folder};
+use crate::seats::{LAST_REQUESTS, digest_after, first_after_greatest};
 use crate::stores::{
     CHANGED, FOREIGN, columns_of_device, fault_after, fault_of_foreign,
     first_difference_adopted_anew, settled_columns,
@@ -238,12 +239,32 @@ fn readers_and_writers_may_fail(rt: HostRuntime) -> Result<(), Fail> {
     Ok(())
 }
 
-/// Tables that no server makes, in which `acme` has the digest of the sample for another map's text:
-/// `acme` is refused, and `bolt` gets the usual reply.
+/// What differs first of what stands in the rows of seats, or of what rows that were put there lead to,
+/// each over a keeper without rows.
+fn first_of_rows<K: Fresh>(alloc: Global) -> Result<String, Fail> {
+    for row in LAST_REQUESTS {
+        let mut keep = K::fresh(alloc)?;
+        let digest = digest_after(alloc, &mut keep, row.0)?;
+        if digest.as_str() != row.1 {
+            return Ok(digest);
+        }
+    }
+    let mut keep = K::fresh(alloc)?;
+    let found = has_taken_digest(alloc, &mut keep)?;
+    if !found.is_empty() {
+        return Ok(found);
+    }
+    let mut keep = K::fresh(alloc)?;
+    first_after_greatest(alloc, &mut keep)
+}
+
+/// Digests of requests as they are kept. And tables that no server makes: those in which `acme` has the
+/// digest of the sample for another map's text, where `acme` is refused and `bolt` gets the usual
+/// reply, and those in which a seat's next number is the greatest.
 #[test]
-fn a_taken_digest_is_told(rt: HostRuntime) -> Result<(), Fail> {
-    let mut keep = MemKeep::new(rt.alloc());
-    assert_eq!(rt; has_taken_digest(rt.alloc(), &mut keep)?.as_str(), "");
+fn rows_are_kept_and_found_as_they_must(rt: HostRuntime) -> Result<(), Fail> {
+    assert_eq!(rt; first_of_rows::<MemKeep>(rt.alloc())?.as_str(), "");
+    assert_eq!(rt; first_of_rows::<SqlMemory>(rt.alloc())?.as_str(), "");
     Ok(())
 }
 
@@ -372,11 +393,16 @@ fn failed_reads_and_writes_are_told(rt: HostRuntime) -> Result<(), Fail> {
 }
 
 #[test]
-fn store_faults_are_told(rt: HostRuntime) -> Result<(), Fail> {
-    make_store_faults(&rt)?;
-    for row in STORE_FAULTS {
-        let told = written_over(&rt, rt.alloc(), row.0, row.1)?;
-        assert_eq!(rt; told.as_str(), row.2, "{} {}", row.0, row.1);
+fn runs_write_what_they_must(rt: HostRuntime) -> Result<(), Fail> {
+    make_files_of_runs(&rt)?;
+    for row in RUNS {
+        assert!(rt;
+            is_written(&rt, rt.alloc(), row)?,
+            "{} {:?} {}",
+            row.0,
+            row.1,
+            row.2
+        );
     }
     Ok(())
 }

@@ -9,9 +9,11 @@ pub const IDENTITIES: &[(&str, &str)] = &[
     ("bodies of identities, shipments and imports", BODIES),
     ("an import before the serial numbers", BEFORE),
     ("the rows of an import", ROWS),
+    ("as many rows as an import may have", FULL),
 ];
 
-/// A device gets its serial number and is shipped; its key is no other device's.
+/// A device gets its serial number and is shipped; its key is no other device's. The other's is as long
+/// as a key may be.
 const AN_IDENTITY: &str = r#"
 a1 POST /v1/order {"nr":1,"name":"o1","issuer":"acme-ca","prefix":"A","width":3,"first":998,"quantity":2,"macs":0}
 200 {"first":998,"issuer":"acme-ca","mac":null,"macs":0,"name":"o1","next":"A998","prefix":"A","quantity":2,"width":3}
@@ -56,8 +58,11 @@ a1 POST /v1/ship {"nr":9,"chip":"00000000000a"}
 409 {"error":"wrong_state","no":17}
 a1 POST /v1/scrap {"nr":9,"chip":"00000000000a"}
 409 {"error":"wrong_state","no":17}
-a1 POST /v1/identity {"nr":9,"chip":"00000000000b","public_key":"00"}
-200 {"chip":"00000000000b","issuer":"acme-ca","key_sha256":"6e340b9cffb37a989ca544e6bb780a2c78901d3fb33738768511a30617afa01d","mac":null,"not_after":"99991231235959Z","serial":"A999"}
+# 1,025 bytes, and 1,024
+a1 POST /v1/identity {"nr":9,"chip":"00000000000b","public_key":"$TIMES~1025~ab~"}
+400 {"error":"bad_member","no":10}
+a1 POST /v1/identity {"nr":9,"chip":"00000000000b","public_key":"$TIMES~1024~ab~"}
+200 {"chip":"00000000000b","issuer":"acme-ca","key_sha256":"4555555dc68d872c2270ba89ecc5f6f094812f65372b37e50071fe5168031c49","mac":null,"not_after":"99991231235959Z","serial":"A999"}
 a1 GET /v1/ledger?chip=00000000000a
 200 {"chip":"00000000000a","entries":[{"bits":[],"event":"registered","keys":{},"n":1,"note":"","seat":"a1"},{"bits":[],"event":"planned","keys":{},"n":2,"note":"","seat":"a1"},{"bits":[],"event":"identified","keys":{},"n":3,"note":"A998","seat":"a1"},{"bits":[],"event":"shipped","keys":{},"n":4,"note":"","seat":"a1"}]}
 "#;
@@ -284,4 +289,17 @@ b1 POST /v1/import {"nr":1,"issuer":"bolt-ca","csv":"serial,key_sha256\nZ1,2cf24
 200 {"added":1,"present":0}
 b1 POST /v1/import {"nr":2,"issuer":"bolt-ca","csv":"serial,key_sha256\nZ1,ba7816bf8f01cfea414140de5dae2223b00361a396177a9cb410ff61f20015ad\n"}
 409 {"error":"import_conflict","no":38,"serial":"Z1"}
+"#;
+
+/// As many rows as an import may have, and before that one more. They are all there then.
+const FULL: &str = r#"
+a1 POST /v1/import {"nr":1,"issuer":"acme-ca","csv":"serial,key_sha256\n$TIMES~501~Z#,0000000000000000000000000000000000000000000000000000000000000#\n~"}
+400 {"error":"bad_member","no":10}
+a1 POST /v1/import {"nr":1,"issuer":"acme-ca","csv":"serial,key_sha256\n$TIMES~500~Z#,0000000000000000000000000000000000000000000000000000000000000#\n~"}
+200 {"added":500,"present":0}
+a1 POST /v1/import {"nr":2,"issuer":"acme-ca","csv":"serial,key_sha256\n$TIMES~500~Z#,0000000000000000000000000000000000000000000000000000000000000#\n~"}
+200 {"added":0,"present":500}
+# the last of them
+a1 POST /v1/import {"nr":3,"issuer":"acme-ca","csv":"serial,key_sha256\nZ599,ba7816bf8f01cfea414140de5dae2223b00361a396177a9cb410ff61f20015ad\n"}
+409 {"error":"import_conflict","no":38,"serial":"Z599"}
 "#;

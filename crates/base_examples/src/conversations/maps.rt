@@ -27,8 +27,8 @@ a1 POST /v1/map {"nr":3,"text":"$MAP~bit = 192\ncount = 2\n~bit = 192\ncount = 2
 200 {"map":"$LOCKED"}
 "#;
 
-/// Texts that are no map's, each with the number of its lowest fault, and then one that is: no
-/// refusal took a number.
+/// Texts that are no map's, each with the number of its lowest fault, and then the longest that is
+/// one: no refusal took a number. Another customer who has it, too, is known by it.
 const REFUSED: &str = r#"
 a1 POST /v1/map {"nr":1,"text":"$MAP~[[field]]\nname = \"JTAG_DISABLE\"\nblock = 0\nbit = 198\ncount = 1\nwrite = 14\n~[[field]]\nname = \"JTAG_DISABLE\"\nblock = 0\nbit = 198\ncount = 1\nwrite = 14\n[[field]]\nname = \"JTAG_DISABLE\"\nblock = 0\nbit = 198\ncount = 1\nwrite = 14\n~"}
 422 {"error":"bad_map","fault":3,"no":29}
@@ -40,11 +40,13 @@ a1 POST /v1/map {"nr":1,"text":"$MAP~write = 7\nread = 0\n~write = 7\n~"}
 422 {"error":"bad_map","fault":8,"no":29}
 a1 POST /v1/map {"nr":1,"text":"$MAP~[[block]]\nwords = 7\n~[[block]\n~"}
 422 {"error":"bad_map","fault":1,"no":29}
-# 32,769 bytes
-a1 POST /v1/map {"nr":1,"text":"$MAP$SPACES(32121)"}
+# 32,769 bytes, and 32,768
+a1 POST /v1/map {"nr":1,"text":"$MAP$TIMES~32121~ ~"}
 422 {"error":"bad_map","fault":2,"no":29}
-a1 POST /v1/map {"nr":1,"text":"$MAP"}
-200 {"map":"$DIGEST"}
+a1 POST /v1/map {"nr":1,"text":"$MAP$TIMES~32120~ ~"}
+200 {"map":"cb44f8ec61fd4334ed16fb0362d213954fd49c312325aeea4538d133b123c54a"}
+b1 POST /v1/map {"nr":1,"text":"$MAP$TIMES~32120~ ~"}
+200 {"map":"cb44f8ec61fd4334ed16fb0362d213954fd49c312325aeea4538d133b123c54a"}
 "#;
 
 /// Requests that are refused before their text is read.

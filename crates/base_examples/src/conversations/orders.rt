@@ -6,6 +6,7 @@ pub const ORDERS: &[(&str, &str)] = &[
     ("an order and its repeat", REPEAT),
     ("numbers of requests", NUMBERS),
     ("refused orders", REFUSED),
+    ("requests that are refused unread", UNREAD),
     ("orders are shown", SHOWN),
     ("hardware addresses", ADDRESSES),
     ("serial numbers of any width", WIDTHS),
@@ -39,7 +40,7 @@ a1 POST /v1/order {"x":0, "nr":2,"name":"o9","name":"o\u0032","issuer":"acme-ca"
 "#;
 
 /// Orders that are refused, each with the lowest refusal that holds, and then one that is next to
-/// the first: no refusal took a number.
+/// the first: no refusal took a number. And one of the greatest quantity.
 const REFUSED: &str = r#"
 a1 POST /v1/order {"nr":1,"name":"o1","issuer":"acme-ca","prefix":"A","width":3,"first":998,"quantity":2,"macs":0}
 200 {"first":998,"issuer":"acme-ca","mac":null,"macs":0,"name":"o1","next":"A998","prefix":"A","quantity":2,"width":3}
@@ -66,6 +67,28 @@ a1 POST /v1/order []
 400 {"error":"bad_member","no":10}
 a1 POST /v1/order {"nr":2,"name":"o2","issuer":"acme-ca","prefix":"A","width":3,"first":997,"quantity":1,"macs":0}
 200 {"first":997,"issuer":"acme-ca","mac":null,"macs":0,"name":"o2","next":"A997","prefix":"A","quantity":1,"width":3}
+a1 POST /v1/order {"nr":3,"name":"o3","issuer":"acme-ca","prefix":"A","width":9,"first":0,"quantity":10000,"macs":0}
+200 {"first":0,"issuer":"acme-ca","mac":null,"macs":0,"name":"o3","next":"A000000000","prefix":"A","quantity":10000,"width":9}
+"#;
+
+/// Bodies that are no JSON, for what they have or for how deep they are, and numbers that aren't whole
+/// or are too large: none of them is taken. Then an order whose body is as deep as one may be.
+const UNREAD: &str = r#"
+a1 POST /v1/order $TIMES~200~[~
+400 {"error":"bad_json","no":9}
+a1 POST /v1/order $FF
+400 {"error":"bad_json","no":9}
+# 128 deep
+a1 POST /v1/order {"nr":1,"name":"o1","issuer":"acme-ca","prefix":"A","width":3,"first":998,"quantity":2,"macs":0,"x":$TIMES~127~[~$TIMES~127~]~}
+400 {"error":"bad_json","no":9}
+a1 POST /v1/order {"nr":9007199254740992,"name":"o1","issuer":"acme-ca","prefix":"A","width":3,"first":998,"quantity":2,"macs":0}
+400 {"error":"bad_member","no":10}
+a1 POST /v1/order {"nr":1.0,"name":"o1","issuer":"acme-ca","prefix":"A","width":3,"first":998,"quantity":2,"macs":0}
+400 {"error":"bad_member","no":10}
+a1 POST /v1/order {"nr":"1","name":"o1","issuer":"acme-ca","prefix":"A","width":3,"first":998,"quantity":2,"macs":0}
+400 {"error":"bad_member","no":10}
+a1 POST /v1/order {"nr":1,"name":"o1","issuer":"acme-ca","prefix":"A","width":3,"first":998,"quantity":2,"macs":0,"x":$TIMES~126~[~$TIMES~126~]~}
+200 {"first":998,"issuer":"acme-ca","mac":null,"macs":0,"name":"o1","next":"A998","prefix":"A","quantity":2,"width":3}
 "#;
 
 /// An order is shown as its reply was, and one that isn't there is refused.

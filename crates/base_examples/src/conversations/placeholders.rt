@@ -5,7 +5,8 @@
 //! - `$NONE`: work in which there is none;
 //! - `$MAP`: the sample map's text as JSON has it, without its quotation marks, and `$MAP~old~new~` the
 //!   same with another part in place of one;
-//! - `$SPACES(n)`: so many spaces;
+//! - `$TIMES~n~text~`: the text so often, each time with another number in place of `#`, from 100 on;
+//! - `$FF` in a request: the byte 255, which is in no text;
 //! - `<0.6=00000040 3.7=80000000>`: the blocks of a read-back, zeros but for these words, each after its
 //!   block and its place in it.
 use crate::samples::MAP;
@@ -27,8 +28,20 @@ pub fn filled(alloc: Global, text: &str) -> Result<String, Fail> {
     let text = text.as_str().replace(alloc, "$LOCKED", LOCKED_DIGEST)?;
     let text = text.as_str().replace(alloc, "$NONE", NO_WORK)?;
     let text = with_blocks(alloc, text.as_str())?;
-    let text = with_spaces(alloc, text.as_str())?;
+    let text = with_repeated(alloc, text.as_str())?;
     with_map(alloc, text.as_str())
+}
+
+/// The bytes of the text with what each placeholder stands for in its place.
+pub fn filled_bytes(alloc: Global, text: &str) -> Result<Vec<u8>, Fail> {
+    let text = filled(alloc, text)?;
+    let Some((before, after)) = text.as_str().split_once("$FF") else {
+        return Ok(text.as_bytes().to_vec(alloc)?);
+    };
+    let mut bytes = before.as_bytes().to_vec(alloc)?;
+    bytes.push(0xff)?;
+    bytes.extend_from_slice(after.as_bytes())?;
+    Ok(bytes)
 }
 
 /// The text with the sample map in place of its placeholder.
@@ -41,26 +54,46 @@ fn with_map(alloc: Global, text: &str) -> Result<String, Fail> {
     let Some(change) = after.strip_prefix("~") else {
         return Ok(format!(in alloc; "{before}{map}{after}")?);
     };
-    let (old, new, after) = change_of(change).ok_or("no change of the map")?;
+    let (old, new, after) = two_parts(change).ok_or("no change of the map")?;
     let map = map.as_str().replace(alloc, old, new)?;
     Ok(format!(in alloc; "{before}{map}{after}")?)
 }
 
-/// The old part, the new part and what is behind them.
-fn change_of(change: &str) -> Option<(&str, &str, &str)> {
-    let (old, rest) = change.split_once("~")?;
-    let (new, after) = rest.split_once("~")?;
-    Some((old, new, after))
+/// Two parts, each with its end, and what is behind them.
+fn two_parts(text: &str) -> Option<(&str, &str, &str)> {
+    let (first, rest) = text.split_once("~")?;
+    let (second, after) = rest.split_once("~")?;
+    Some((first, second, after))
 }
 
-/// The text with spaces in place of their placeholder.
-fn with_spaces(alloc: Global, text: &str) -> Result<String, Fail> {
-    let Some((before, rest)) = text.split_once("$SPACES(") else {
+/// The text with what is repeated in place of its placeholders.
+fn with_repeated(alloc: Global, text: &str) -> Result<String, Fail> {
+    let Some((before, rest)) = text.split_once("$TIMES~") else {
         return Ok(String::from_str(alloc, text)?);
     };
-    let (number, after) = rest.split_once(")").ok_or("no end of the spaces")?;
-    let spaces: usize = number.parse().map_err(|_| "no number of spaces")?;
-    Ok(format!(in alloc; "{before}{:spaces$}{after}", "")?)
+    let mut filled = String::from_str(alloc, before)?;
+    for part in rest.split("$TIMES~") {
+        let (count, repeated, after) = two_parts(part).ok_or("no end of what is repeated")?;
+        let count: u64 = count.parse().map_err(|_| "no number of times")?;
+        push_numbered(alloc, &mut filled, repeated, count)?;
+        filled.push_str(after)?;
+    }
+    Ok(filled)
+}
+
+/// Puts a text behind another so often, each time with its number.
+fn push_numbered(
+    alloc: Global,
+    filled: &mut String,
+    repeated: &str,
+    count: u64,
+) -> Result<(), AllocError> {
+    for number in 100..count.saturating_add(100) {
+        let number = format!(in alloc; "{number}")?;
+        let text = repeated.replace(alloc, "#", number.as_str())?;
+        filled.push_str(text.as_str())?;
+    }
+    Ok(())
 }
 
 /// The text with the blocks of a read-back in place of their placeholder.

@@ -176,7 +176,8 @@ a1 POST /v1/plan {"nr":17,"chip":"00000000000d","wishes":[{"kind":"bit","field":
 422 {"error":"contradiction","no":23}
 "#;
 
-/// Wishes that are none, refused before the number is looked at; and what repeats are known by.
+/// Wishes that are none, refused before the number is looked at; what repeats are known by; and as many
+/// wishes as there may be.
 const BODIES: &str = r#"
 a1 POST /v1/order {"nr":1,"name":"o1","issuer":"acme-ca","prefix":"A","width":3,"first":998,"quantity":2,"macs":0}
 200 {"first":998,"issuer":"acme-ca","mac":null,"macs":0,"name":"o1","next":"A998","prefix":"A","quantity":2,"width":3}
@@ -221,4 +222,9 @@ a1 POST /v1/readback {"nr":5,"chip":"00000000000a","blocks":<3.0=000000ac>}
 409 {"error":"other_body","no":12}
 a1 POST /v1/readback {"nr":6,"chip":"00000000000a","blocks":[]}
 400 {"error":"bad_member","no":10}
+# 65 wishes, and 64: the bits 100 to 163
+a1 POST /v1/plan {"nr":6,"chip":"00000000000a","wishes":[$TIMES~64~{"kind":"bit","field":"BLOCK3","index":#},~{"kind":"wlock","field":"BLOCK3"}]}
+400 {"error":"bad_member","no":10}
+a1 POST /v1/plan {"nr":6,"chip":"00000000000a","wishes":[$TIMES~63~{"kind":"bit","field":"BLOCK3","index":#},~{"kind":"bit","field":"BLOCK3","index":163}]}
+200 {"batch1":{"bits":[{"block":3,"mask":"fffffff0","word":3},{"block":3,"mask":"ffffffff","word":4},{"block":3,"mask":"0000000f","word":5}],"keys":{}},"batch2":$NONE,"state":"awaiting1"}
 "#;

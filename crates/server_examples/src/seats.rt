@@ -1,0 +1,80 @@
+//! What stands in the rows of seats: numbers up to the greatest that a request may have, and the
+//! digests by which repeats are known.
+use crate::conversation::first_difference;
+use base_examples::conversations::devices::ACME;
+use office_core::{Keep, Owned, SeatState, Write};
+use std::alloc::Global;
+use std::test::Fail;
+use text_core::{Digest, Name, Text};
+
+/// Conversations of the seat `a1`, each with the digest of the last request in it that writes: the
+/// SHA-256, by Python's hashlib, of the path, a line feed and the compact JSON of the named members,
+/// with the digests of the blocks' bytes in place of the blocks.
+pub const LAST_REQUESTS: &[(&str, &str)] = &[
+    (
+        ORDERED,
+        "3eac0b093a1ae65ba8ac3214046041aa5dab6af419af989d8f198e1e1635826f",
+    ),
+    (
+        ACME,
+        "90a60a1b85be03b1cb00ae1743784486aa4373a6ee6e03d8a6c08c64216e3c72",
+    ),
+];
+
+/// An order.
+const ORDERED: &str = r#"
+a1 POST /v1/order {"nr":1,"name":"o1","issuer":"acme-ca","prefix":"A","width":3,"first":998,"quantity":2,"macs":0}
+200 {"first":998,"issuer":"acme-ca","mac":null,"macs":0,"name":"o1","next":"A998","prefix":"A","quantity":2,"width":3}
+"#;
+
+/// The number before the greatest.
+const NEXT_TO_GREATEST: u64 = 9_007_199_254_740_990;
+
+/// The greatest number, after which no other is accepted.
+const GREATEST: &str = r#"
+a1 POST /v1/order {"nr":1,"name":"o1","issuer":"acme-ca","prefix":"A","width":3,"first":998,"quantity":2,"macs":0}
+409 {"error":"wrong_number","expected":9007199254740991,"no":11}
+a1 POST /v1/order {"nr":9007199254740991,"name":"o1","issuer":"acme-ca","prefix":"A","width":3,"first":998,"quantity":2,"macs":0}
+200 {"first":998,"issuer":"acme-ca","mac":null,"macs":0,"name":"o1","next":"A998","prefix":"A","quantity":2,"width":3}
+a1 POST /v1/order {"nr":9007199254740992,"name":"o2","issuer":"acme-ca","prefix":"B","width":3,"first":998,"quantity":2,"macs":0}
+400 {"error":"bad_member","no":10}
+a1 POST /v1/order {"nr":9007199254740990,"name":"o2","issuer":"acme-ca","prefix":"B","width":3,"first":998,"quantity":2,"macs":0}
+409 {"error":"wrong_number","expected":9007199254740992,"no":11}
+a1 POST /v1/order {"nr":1,"name":"o2","issuer":"acme-ca","prefix":"B","width":3,"first":998,"quantity":2,"macs":0}
+409 {"error":"wrong_number","expected":9007199254740992,"no":11}
+a1 POST /v1/order {"nr":9007199254740991,"name":"o2","issuer":"acme-ca","prefix":"B","width":3,"first":998,"quantity":2,"macs":0}
+409 {"error":"other_body","no":12}
+a1 POST /v1/order {"nr":9007199254740991,"name":"o1","issuer":"acme-ca","prefix":"A","width":3,"first":998,"quantity":2,"macs":0}
+200 {"first":998,"issuer":"acme-ca","mac":null,"macs":0,"name":"o1","next":"A998","prefix":"A","quantity":2,"width":3}
+"#;
+
+/// Holds a conversation: what differs first, or the digest in the row of the seat `a1` at its end.
+pub fn digest_after<K: Keep>(
+    alloc: Global,
+    keep: &mut K,
+    conversation: &str,
+) -> Result<String, Fail> {
+    let found = first_difference(alloc, keep, conversation)?;
+    if !found.is_empty() {
+        return Ok(found);
+    }
+    let name = Name::parse("a1").ok_or("no name")?;
+    let row = keep.seat(&name)?.ok_or("no row")?;
+    Ok(row.row.digest.to_string(alloc)?)
+}
+
+/// Holds the conversation about the greatest number over tables in which it is the seat's next: what
+/// differs first.
+pub fn first_after_greatest<K: Keep>(alloc: Global, keep: &mut K) -> Result<String, Fail> {
+    let seat = Owned {
+        customer: Name::parse("acme").ok_or("no name")?,
+        row: SeatState {
+            name: Name::parse("a1").ok_or("no name")?,
+            last: NEXT_TO_GREATEST,
+            digest: Digest::of(b"none"),
+            reply: Text::copy_of(alloc, "{}")?,
+        },
+    };
+    keep.commit(&[Write::PutSeat(seat)])?;
+    first_difference(alloc, keep, GREATEST)
+}
