@@ -1,4 +1,4 @@
--- What stands at the place of a text.
+-- What stands at the place of the first that passes a test.
 use Rattle.std.proofs.Common.{◌≡◌, ℕ, nat_lt, Bool, true, false, cond, List, length, get_or, Some, None, refl, sym, ap, ◌∙◌}
 use Rattle.std.specs.Prelude.{bytes_eq, position}
 use Rattle.std.specs.List.{position_or_len}
@@ -6,17 +6,21 @@ use Rattle.std.proofs.lemmas.Bool.{ltb-true}
 use Rattle.std.proofs.lemmas.List.Sums.{passes_at_first}
 use Rattle.std.proofs.lemmas.Slice.Eq.{bytes_eq-Decides}
 
-text_at_first : (text : List ℕ) (texts : List (List ℕ)) (first place : ℕ) (d : List ℕ) (is_low : Bool) → first ≡ position_or_len (bytes_eq text) texts → nat_lt first (length texts) ≡ is_low
-    → cond is_low (Some first) None ≡ Some place → get_or texts place d ≡ text
-text_at_first text texts first place d true is low same =
-    let at_first : nat_lt (position_or_len (bytes_eq text) texts) (length texts) ≡ true = ap (λ i. nat_lt i (length texts)) (sym is) ∙ low in
-    let passes = passes_at_first (bytes_eq text) texts d (ltb-true (position_or_len (bytes_eq text) texts) (length texts) at_first) in
-    let place_is : place ≡ position_or_len (bytes_eq text) texts = cc in
-    ap (λ i. get_or texts i d) place_is ∙ sym ((bytes_eq-Decides text (get_or texts (position_or_len (bytes_eq text) texts) d)).0 passes)
-text_at_first text texts first place d false is low same = cc
+at_first : {X : Type 0} (p : X → Bool) (xs : List X) (first place : ℕ) (d : X) (is_low : Bool) → first ≡ position_or_len p xs → nat_lt first (length xs) ≡ is_low → cond is_low (Some first) None ≡ Some place
+    → p (get_or xs place d) ≡ true
+at_first p xs first place d true is low same =
+    let at_first : nat_lt (position_or_len p xs) (length xs) ≡ true = ap (λ i. nat_lt i (length xs)) (sym is) ∙ low in
+    let passes = passes_at_first p xs d (ltb-true (position_or_len p xs) (length xs) at_first) in
+    let place_is : place ≡ position_or_len p xs = cc in
+    ap (λ i. p (get_or xs i d)) place_is ∙ passes
+at_first p xs first place d false is low same = cc
 
--- the text itself
+-- it passes
+pub passes_at_place : {X : Type 0} (p : X → Bool) (xs : List X) (place : ℕ) (d : X) → position p xs ≡ Some place → p (get_or xs place d) ≡ true
+passes_at_place p xs place d found =
+    let first = position_or_len p xs in
+    at_first p xs first place d (nat_lt first (length xs)) refl refl found
+
+-- of a text, it is the text itself
 pub text_at_place : (text : List ℕ) (texts : List (List ℕ)) (place : ℕ) (d : List ℕ) → position (bytes_eq text) texts ≡ Some place → get_or texts place d ≡ text
-text_at_place text texts place d found =
-    let first = position_or_len (bytes_eq text) texts in
-    text_at_first text texts first place d (nat_lt first (length texts)) refl refl found
+text_at_place text texts place d found = sym ((bytes_eq-Decides text (get_or texts place d)).0 (passes_at_place (bytes_eq text) texts place d found))

@@ -1,8 +1,10 @@
-//! The fuse maps whose texts were asked for last, so that a text is parsed once and not for each
-//! request.
+//! The fuse maps that were asked for last, by their texts or by numbers of their texts, so that a text
+//! is parsed once and not for each request.
 #![tactic(auto)]
 
 mod kept_map;
+mod numbered;
 mod shelf;
 
-pub use shelf::MapShelf;
+pub use numbered::NumberShelf;
+pub use shelf::{MapShelf, map_of_text};

@@ -9,7 +9,7 @@ use std::marker::Model;
 use text_core::Text;
 
 /// The most maps that are kept.
-const KEPT_LIMIT: usize = 16;
+pub(crate) const KEPT_LIMIT: usize = 16;
 
 /// The fuse maps of the last 16 texts that were asked for, each with its whole text. Clauses see
 /// nothing of what is kept, since no answer depends on it.
@@ -48,7 +48,7 @@ impl MapShelf {
             self.put_first(kept);
             return Ok(Some(map?));
         }
-        let Some(map) = read(alloc, text)? else {
+        let Some(map) = map_of_text(alloc, text)? else {
             return Ok(None);
         };
         if let Ok(kept) = KeptMap::copy_of(text, &map) {
@@ -80,9 +80,9 @@ fn place_of(kept: &[KeptMap], text: &Text) -> Option<usize>
     kept.iter().position(|one| text == one.text())
 }
 
-/// The fuse map of a text, if it is one.
+/// The fuse map that a text describes, if it describes one. `AllocError` where memory ran out for it.
 #[tactic(auto, unfolding(fusemap_core::specs::MapText::map_in))]
-fn read(alloc: Global, text: &Text) -> Result<Option<FuseMap>, AllocError>
+pub fn map_of_text(alloc: Global, text: &Text) -> Result<Option<FuseMap>, AllocError>
     ensures { IfOk result (λ map. map ≡ map_in text.now) }
 {
     match read_map(alloc, text.as_str()) {
