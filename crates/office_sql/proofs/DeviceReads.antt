@@ -1,12 +1,11 @@
 -- What the texts that read devices mean, and show.
-use Rattle.std.proofs.Common.{◌≡◌, ℕ, suc, ◌<◌, ◌+◌, ◌++◌, take, get_or, Bool, true, false, ◌&&◌, not, cond, List, [], ◌∷◌, codes, refl, sym, ap, ap₂, ◌∙◌, map, filter, length, Ordering, Equal}
-use Rattle.std.specs.Str.{bytes_eq}
+use Rattle.std.proofs.Common.{◌≡◌, ℕ, ◌<◌, ◌+◌, ◌++◌, take, get_or, ◌&&◌, List, [], ◌∷◌, codes, refl, sym, ap, ap₂, ◌∙◌, map, filter, length, Ordering, Equal}
 use Rattle.std.specs.Ordering.{on, ordering_then}
 use Rattle.std.specs.Cmp.{IsTotalOrder}
 use Rattle.std.proofs.lemmas.List.{take_more, map-append}
 use Rattle.std.proofs.lemmas.Cmp.{on_total, then_total}
 use Rattle.sqlite.specs.declared.types.Value.TheVariants.{Null, Text as Words}
-use Rattle.sqlite.specs.Order.{Row, column, bytes}
+use Rattle.sqlite.specs.Order.{Row, column}
 use Rattle.sqlite.specs.Term.{Term, col, eval_all}
 use Rattle.sqlite.specs.Query.{key_cmp, output, output_cmp}
 use Rattle.sqlite.specs.Listing.{understood}
@@ -19,12 +18,11 @@ use Rattle.sqlite_keyed.specs.Lists.{sort_by}
 use Rattle.sqlite_trees.proofs.ListLemmas.{map-map}
 use Rattle.office_tables.specs.declared.rows.Owned.{Owned}
 use Rattle.office_tables.specs.declared.rows.Device.{Device}
-use Rattle.office_tables.specs.OrderPlaces.{is_given_up, takes_place, places_taken}
-use Rattle.office_tables.specs.Tables.{device_cmp, is_device, is_of, own}
+use Rattle.office_tables.specs.Tables.{device_cmp, is_device, is_of}
 pub use Rattle.office_tables.proofs.Places.{device_total}
 use Rattle.office_sql.specs.Rows.{device_in}
 use Rattle.office_sql.specs.Scan.{scan, is_given, env, passes}
-use Rattle.office_sql.specs.Values.{state_in, text_if}
+use Rattle.office_sql.specs.OrderStates.{order_state, order_state_in}
 use Rattle.office_sql.specs.Tables.{AreRows, IsDeviceRow}
 use Rattle.office_sql.proofs.Kept.{shows_kept, kept_is}
 use Rattle.office_sql.proofs.Lists.{sorted_kept}
@@ -39,13 +37,13 @@ abbrev pub own_text : List ℕ
 own_text = codes "SELECT customer, chip, ord, map, state, reason, bits, keys, todo, serial FROM device WHERE customer = ?1 ORDER BY customer, chip"
 
 abbrev pub states_text : List ℕ
-states_text = codes "SELECT state, reason FROM device WHERE customer = ?1 AND ord = ?2 ORDER BY customer, chip"
+states_text = codes "SELECT ord, state, reason FROM device WHERE customer = ?1 ORDER BY customer, chip"
 
 abbrev pub shown : List Term
 shown = col 1 1 ∷ col 1 2 ∷ col 1 3 ∷ col 1 4 ∷ col 1 5 ∷ col 1 6 ∷ col 1 7 ∷ col 1 8 ∷ col 1 9 ∷ col 1 10 ∷ []
 
 abbrev pub states_shown : List Term
-states_shown = col 1 5 ∷ col 1 6 ∷ []
+states_shown = col 1 3 ∷ col 1 5 ∷ col 1 6 ∷ []
 
 abbrev pub by_key : List (Term × Key)
 by_key = (col 1 1, ascending Binary) ∷ (col 1 2, ascending Binary) ∷ []
@@ -61,9 +59,9 @@ pub own_read : IsRead own_text 9 (is_given 1 0 ∷ []) shown by_key
 unfolding understood everything
 own_read = record { names = names; is = refl; plain = (refl, refl); unlisted = refl; bare = λ schema base. refl; there = λ db. refl }
 
-pub states_read : IsRead states_text 9 (is_given 1 0 ∷ is_given 3 1 ∷ []) states_shown by_key
+pub states_read : IsRead states_text 9 (is_given 1 0 ∷ []) states_shown by_key
 unfolding understood everything
-states_read = record { names = codes "state" ∷ codes "reason" ∷ []; is = refl; plain = (refl, refl); unlisted = refl; bare = λ schema base. refl; there = λ db. refl }
+states_read = record { names = codes "ord" ∷ codes "state" ∷ codes "reason" ∷ []; is = refl; plain = (refl, refl); unlisted = refl; bare = λ schema base. refl; there = λ db. refl }
 
 level_total : IsTotalOrder (λ (a b : Row). Equal)
 level_total = record { antisymm = λ _ _. refl; trans = λ x y z p q. p; congr = λ x y z p. refl }
@@ -83,12 +81,6 @@ passes_device c n r e = ap₂ ◌&&◌ (text_is (column r 1) c e.0) (and_true _ 
 pub passes_own : (c : List ℕ) (r : Row) → IsDeviceRow r → passes (is_given 1 0 ∷ []) (Words c ∷ []) r ≡ is_of c (device_in r)
 passes_own c r e = and_true _ ∙ text_is (column r 1) c e.0
 
-abbrev pub is_in_order : List ℕ → List ℕ → Owned Device → Bool
-is_in_order c n d = is_of c d && bytes_eq n d.row.order
-
-pub passes_order : (c n : List ℕ) (r : Row) → IsDeviceRow r → passes (is_given 1 0 ∷ is_given 3 1 ∷ []) (Words c ∷ Words n ∷ []) r ≡ is_in_order c n (device_in r)
-passes_order c n r e = ap₂ ◌&&◌ (text_is (column r 1) c e.0) (and_true _ ∙ text_is (column r 3) n e.2)
-
 pub one_shown : (c n : List ℕ) (all rows : List Row) → AreRows IsDeviceRow device_cmp device_in all → Scanned (is_given 1 0 ∷ is_given 2 1 ∷ []) shown by_key (Words c ∷ Words n ∷ []) all rows
     → map (λ r. device_in (Null ∷ r)) rows ≡ filter (is_device c n) (sort_by device_cmp (map device_in all))
 one_shown c n all rows are s =
@@ -101,32 +93,15 @@ own_shown c all rows are s =
     shows_kept IsDeviceRow device_cmp device_total device_in by_chip by_chip_total chips_order (is_of c) (is_given 1 0 ∷ []) (Words c ∷ []) (passes_own c)
     shown by_key (λ r. device_in (Null ∷ r)) (λ r. refl) (λ a b. refl) all rows are s
 
-pub states_shown_are : (c n : List ℕ) (all rows : List Row) → AreRows IsDeviceRow device_cmp device_in all → Scanned (is_given 1 0 ∷ is_given 3 1 ∷ []) states_shown by_key (Words c ∷ Words n ∷ []) all rows
-    → map (λ r. state_in (bytes (column r 0)) (text_if (column r 1))) rows ≡ map (λ d. d.row.state) (filter (is_in_order c n) (sort_by device_cmp (map device_in all)))
-states_shown_are c n all rows are s =
-    let tests = is_given 1 0 ∷ is_given 3 1 ∷ [] in
-    let params : Row = Words c ∷ Words n ∷ [] in
+pub states_shown_are : (c : List ℕ) (all rows : List Row) → AreRows IsDeviceRow device_cmp device_in all → Scanned (is_given 1 0 ∷ []) states_shown by_key (Words c ∷ []) all rows
+    → map order_state_in rows ≡ map order_state (filter (is_of c) (sort_by device_cmp (map device_in all)))
+states_shown_are c all rows are s =
+    let tests = is_given 1 0 ∷ [] in
+    let params : Row = Words c ∷ [] in
     let q = scan 0 tests states_shown by_key in
     let sorted = sorted_kept (λ r. output q (env params r)) (output_cmp q) s.kept s.sorted in
-    let is = kept_is IsDeviceRow device_cmp device_total device_in by_chip by_chip_total chips_order (is_in_order c n) tests params (passes_order c n) all s.kept are s.same sorted in
-    ap (map (λ r. state_in (bytes (column r 0)) (text_if (column r 1)))) s.shows ∙ map-map (λ r. state_in (bytes (column r 0)) (text_if (column r 1))) (λ r. eval_all states_shown (env params r)) s.kept
-    ∙ sym (map-map (λ (d : Owned Device). d.row.state) device_in s.kept) ∙ ap (map (λ (d : Owned Device). d.row.state)) (sym is)
-
-longer : {A B : Type 0} (b : Bool) (x : A) (xs : List A) (y : B) (ys : List B) → length xs ≡ length ys → length (cond b (x ∷ xs) xs) ≡ length (cond b (y ∷ ys) ys)
-longer true x xs y ys h = ap suc h
-longer false x xs y ys h = h
-
--- the states of an order's devices tell how many of its places are taken
-pub places_of_states : (c n : List ℕ) (l : List (Owned Device)) → length (filter (λ s. not (is_given_up s)) (map (λ d. d.row.state) (filter (is_in_order c n) l))) ≡ places_taken n (own c l)
-places_of_states c n [] = refl
-places_of_states c n (d ∷ l) = go (is_of c d) (bytes_eq n d.row.order) refl (places_of_states c n l)
-  where
-    go : (a b : Bool) → bytes_eq n d.row.order ≡ b → length (filter (λ s. not (is_given_up s)) (map (λ d. d.row.state) (filter (is_in_order c n) l))) ≡ places_taken n (own c l)
-        → length (filter (λ s. not (is_given_up s)) (map (λ d. d.row.state) (cond (a && b) (d ∷ filter (is_in_order c n) l) (filter (is_in_order c n) l))))
-        ≡ length (filter (takes_place n) (map (λ d. d.row) (cond a (d ∷ filter (is_of c) l) (filter (is_of c) l))))
-    go false b e h = h
-    go true true e h = rw e (longer (not (is_given_up d.row.state)) _ _ _ _ h)
-    go true false e h = rw e h
+    let is = kept_is IsDeviceRow device_cmp device_total device_in by_chip by_chip_total chips_order (is_of c) tests params (passes_own c) all s.kept are s.same sorted in
+    ap (map order_state_in) s.shows ∙ map-map order_state_in (λ r. eval_all states_shown (env params r)) s.kept ∙ sym (map-map order_state device_in s.kept) ∙ ap (map order_state) (sym is)
 
 -- what is made of one row more
 pub one_more : {A B : Type 0} (f : A → B) (xs : List A) (i : ℕ) (x : A) (ys : List B) (y : B) → i < length xs → x ≡ get_or xs i x → ys ≡ map f (take i xs) → y ≡ f x → ys ++ y ∷ [] ≡ map f (take (i + 1) xs)

@@ -40,7 +40,7 @@ use Rattle.office_sql.proofs.Finding.{both_true, same_text, texts_tied, unkeyed}
 use Rattle.office_sql.proofs.Inserting.{IsInsert}
 use Rattle.office_sql.proofs.Keyed.{Apart}
 use Rattle.office_sql.proofs.Offices.{devices_changed}
-use Rattle.office_sql.proofs.Replacing.{IsUpdate, IsSet, sets}
+use Rattle.office_sql.proofs.Replacing.{IsUpdate, IsSet, remade, sets}
 use Rattle.office_sql.proofs.Stepping.{cast_null, cast_int}
 use Rattle.office_sql.proofs.TableRows.{row_added}
 
@@ -128,9 +128,9 @@ device_added d old new office free adds =
     let is = device_back id d in
     let it = row_added IsDeviceRow device_cmp device_total device_in (device_columns d) rows office.devices (refl, refl, refl)
     (subst (λ x. AllByRecursion (Apart device_cmp device_total x) (map device_in rows)) (sym is) (device_free d rows free.0)) in
-    let changed = devices_changed old new office adds.schema adds.others (subst (AreRows IsDeviceRow device_cmp device_in) (sym adds.row) it.0) (placed device_cmp d (sort_by device_cmp (map device_in rows)))
+    let changed = devices_changed old new office adds.schema adds.sound adds.others (subst (AreRows IsDeviceRow device_cmp device_in) (sym adds.row) it.0) (placed device_cmp d (sort_by device_cmp (map device_in rows)))
     (ap (λ l. sort_by device_cmp (map device_in l)) adds.row ∙ it.1 ∙ ap (λ x. placed device_cmp x (sort_by device_cmp (map device_in rows))) is) in
-    record { office = changed.0; made = changed.1 }
+    record { office = changed.0; made = changed.1; rows = adds; meta = adds.others.0 (λ e. cc) }
 
 -- the columns of the row that takes the place of another
 abbrev put_columns : Owned Device → Row → Row
@@ -158,12 +158,25 @@ put_back d id r passed =
     let back : Owned Device = device_in (Int id ∷ device_columns d) in
     ap₂ (λ c n. record { customer = c; row = record back.row { chip = n } }) (sym (same_text d.customer (bytes (column r 1)) same.0)) (sym (same_text d.row.chip (bytes (column r 2)) same.1)) ∙ device_back id d
 
+-- its key is the device's, so that they are the device's columns
+put_same : (d : Owned Device) (r : Row) → IsDeviceRow r → is_device d.customer d.row.chip (device_in r) ≡ true → put_columns d r ≡ device_columns d
+put_same d r typed passed =
+    let same = both_true _ _ passed in
+    let customer : column r 1 ≡ Words d.customer = typed.0 ∙ ap Words (sym (same_text d.customer (bytes (column r 1)) same.0)) in
+    let chip : column r 2 ≡ Words d.row.chip = typed.1 ∙ ap Words (sym (same_text d.row.chip (bytes (column r 2)) same.1)) in
+    rw (customer, chip) refl
+
 pub device_put : (d : Owned Device) (old new : State) (count : ℕ) → IsOffice old.now → Executes put_text (device_columns d) old new (Ok count) → count ≡ 1 → Wrote (PutDevice d) old.now new.now
 device_put d old new count office ran one =
     elim (sets IsDeviceRow device_cmp device_total device_in (is_device d.customer d.row.chip) (device_ties d.customer d.row.chip) put_text 5 device_table put_tests put_shown put_update (device_columns d) (put_columns d) (put_set d) old new count office.schema office.devices ran) [
       | inl it ↦ absurd (omega (arith, it.counted))
       | inr it ↦ (
-          let changed = devices_changed old.now new.now office it.schema it.others it.rows (placed device_cmp d (sort_by device_cmp (map device_in (old.now.trees 9))))
+          let changed = devices_changed old.now new.now office it.replaced.schema it.replaced.sound it.replaced.others it.rows (placed device_cmp d (sort_by device_cmp (map device_in (old.now.trees 9))))
           (it.placed_is ∙ ap (λ x. placed device_cmp x (sort_by device_cmp (map device_in (old.now.trees 9)))) (put_back d it.id it.was it.one.passed)) in
-          record { office = changed.0; made = changed.1 })
+          record {
+            office = changed.0;
+            made = changed.1;
+            rows = remade IsDeviceRow device_cmp device_in (is_device d.customer d.row.chip) 9 (put_columns d) (λ _. device_columns d) old.now new.now count it (put_same d it.was it.one.typed it.one.passed);
+            meta = it.replaced.others.0 (λ e. cc);
+          })
     ]

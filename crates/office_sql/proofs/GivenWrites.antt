@@ -151,6 +151,6 @@ module _ (g : Owned Given) (address : option_and_then mac_of_text (option_map ma
       let apart = all_weaker _ (Apart given_cmp given_total g) (λ y e. given_tied g y ∙ e) (map given_in rows) others in
       let made = row_added IsGivenRow given_cmp given_total given_in (given_columns g) rows office.given (refl, refl, refl, sym (ap text_value (text_back (option_map mac_text g.row.mac))))
       (subst (λ x. AllByRecursion (Apart given_cmp given_total x) (map given_in rows)) (sym is) apart) in
-      let it = given_changed old new office adds.schema adds.others (subst (AreRows IsGivenRow given_cmp given_in) (sym adds.row) made.0) _
+      let it = given_changed old new office adds.schema adds.sound adds.others (subst (AreRows IsGivenRow given_cmp given_in) (sym adds.row) made.0) _
       (ap (λ l. sort_by given_cmp (map given_in l)) adds.row ∙ made.1 ∙ ap (λ x. placed given_cmp x (sort_by given_cmp (map given_in rows))) is) in
-      record { office = it.0; made = (alone, it.1) }
+      record { office = it.0; made = (alone, it.1); rows = adds; meta = adds.others.0 (λ e. cc) }

@@ -14,7 +14,7 @@ use Rattle.sqlite.specs.Rows.{Task, Counts, CountsIn, Gives, Edited, Written, co
 use Rattle.sqlite.specs.Table.{Table}
 use Rattle.sqlite.specs.Tree.{Trees, put_row}
 use Rattle.sqlite.specs.Listing.{understood}
-use Rattle.sqlite.specs.Effect.{Database, value_rows}
+use Rattle.sqlite.specs.Effect.{Database, IsDatabase, value_rows}
 use Rattle.sqlite.specs.State.{State, mode_of, Executes, ExecutesInside, HasCleanDisk, Survives}
 use Rattle.sqlite.proofs.Callers.{IsPlain, command_of, statement_of, runs_as, one_step}
 use Rattle.sqlite_rules.specs.Cast.{cast_row}
@@ -56,8 +56,8 @@ task_on limit params table = record { limit = limit; keys = Enforced; schema = o
 
 module _ (text : List ℕ) (at : ℕ) (table : Table) (terms : List Term) (width : ℕ) (insert : IsInsert text at table terms width) (params columns : Row)
     (casts : cast_row table (eval_all terms (params ∷ [])) ≡ Null ∷ columns) where
-  puts : (limit : Option ℕ) (old : Database) (out : Tally × Database) → OnRows (task_on limit params table) enforced None (Insert at (Values terms width)) old.trees (Ok out) → Adds table.tree columns old out.1
-  puts limit old out does =
+  puts : (limit : Option ℕ) (old : Database) (out : Tally × Database) → IsDatabase out.1 → OnRows (task_on limit params table) enforced None (Insert at (Values terms width)) old.trees (Ok out) → Adds table.tree columns old out.1
+  puts limit old out sound does =
       let db = old.trees in
       let done = went does in
       let now = ap (λ (p : Tally × Database). p.1) (same_value (went (went done.2).2).2) in
@@ -79,6 +79,7 @@ module _ (text : List ℕ) (at : ℕ) (table : Table) (terms : List Term) (width
       ap (λ all. edited db (edit_of db table [] Chosen 0 all)) sources ∙ ap (λ r. edited db (record { table = table; gone = []; news = numbered Chosen (db table.tree) (r ∷ []) })) casts in
       record {
         schema = ap (λ (d : Database). d.schema) now;
+        sound = sound;
         row = ap (λ (d : Database). d.trees table.tree) now ∙ ap (λ (t : Trees). t table.tree) trees ∙ step.rows ∙ row;
         others = subst (λ (t : Trees). SameBut table.tree db t) (sym (ap (λ (d : Database). d.trees) now ∙ trees)) step.tables;
       }
@@ -90,7 +91,7 @@ module _ (text : List ℕ) (at : ℕ) (table : Table) (terms : List Term) (width
       let w = runs_as text params old new office_schema has command insert.is insert.plain count h in
       let words = statement_of text (understood office_schema text) in
       let does = subst (λ s. Does old.step_limit (mode_of old) params (record old.now { schema = s }) words None command (Ok (w.tally, new.now))) has w.changed in
-      puts old.step_limit old.now (w.tally, new.now) (subst (λ o. AtPlace (λ t. OnRows (task_on old.step_limit params t) enforced None command old.now.trees) o (Ok (w.tally, new.now))) insert.there does)
+      puts old.step_limit old.now (w.tally, new.now) w.sound (subst (λ o. AtPlace (λ t. OnRows (task_on old.step_limit params t) enforced None command old.now.trees) o (Ok (w.tally, new.now))) insert.there does)
 
 -- a call in a transaction that has ended changes nothing
 ended_on : {A : Type 0} (X : A → Type 0) (mode : Bool) (r : Result A Error) (e : Error) → (mode ≡ false → r ≡ Err e) → (IsTrue mode → IfOk r X) → IfOk r X
@@ -98,11 +99,11 @@ ended_on X true r e ended runs = runs refl
 ended_on X false r e ended runs = subst (λ r. IfOk r X) (sym (ended refl)) tt
 
 module _ {S : Type 0} (g : Ghosts S) (text : List ℕ) (params values : Row) (bound : params ≡ values) (old new : Held S) (r : Result ℕ Error) (Says : Database → Database → ℕ → Type 0) where
-  -- a call of `execute` in a transaction on the office's tables changes what its text does
-  pub changes : HasOffice (state g old) → ((count : ℕ) → IsTrue (state g old).is_open → IsOffice (state g old).now → Executes text values (state g old) (state g new) (Ok count) → Says (state g old).now (state g new).now count)
+  -- a call of `execute` in a transaction changes what its text does
+  pub changed : ((count : ℕ) → IsTrue (state g old).is_open → Executes text values (state g old) (state g new) (Ok count) → Says (state g old).now (state g new).now count)
       → (old.in_transaction ≡ false → (r ≡ Err (SqliteFailure TransactionState)) × (new ≡ old)) → (HasCleanDisk (state g new) → IsTrue old.in_transaction → ExecutesInside 0 text params (state g old) (state g new) r)
       → Survives (state g old) (state g new) (λ _. ⊥) → Changes g old new r Says
-  changes has says ended runs survives = record {
+  changed says ended runs survives = record {
     says = λ clean. ended_on (Says (state g old).now (state g new).now) old.in_transaction r _ (λ e. (ended e).0) (λ began. said r (runs clean began));
     inside = λ clean. ended_on (λ _. IsInside (state g old) (state g new)) old.in_transaction r _ (λ e. (ended e).0) (λ began. inside r began (runs clean began));
     kept = λ clean. kept g old new text params r _ ended (runs clean);
@@ -110,12 +111,18 @@ module _ {S : Type 0} (g : Ghosts S) (text : List ℕ) (params values : Row) (bo
   }
     where
       said : (r : Result ℕ Error) → ExecutesInside 0 text params (state g old) (state g new) r → IfOk r (Says (state g old).now (state g new).now)
-      said (Ok count) h = says count h.1.was_open (has h.1.was_open) (subst (λ p. Executes text p (state g old) (state g new) (Ok count)) bound h.0)
+      said (Ok count) h = says count h.1.was_open (subst (λ p. Executes text p (state g old) (state g new) (Ok count)) bound h.0)
       said (Err e) h = tt
 
       inside : (r : Result ℕ Error) → IsTrue old.in_transaction → ExecutesInside 0 text params (state g old) (state g new) r → IfOk r (λ _. IsInside (state g old) (state g new))
       inside (Ok count) began h = record { was_open = h.1.was_open; is_open = h.1.is_open; committed = h.1.committed_is; began = began; goes_on = h.1.mode }
       inside (Err e) began h = tt
+
+  -- on the office's tables
+  pub changes : HasOffice (state g old) → ((count : ℕ) → IsTrue (state g old).is_open → IsOffice (state g old).now → Executes text values (state g old) (state g new) (Ok count) → Says (state g old).now (state g new).now count)
+      → (old.in_transaction ≡ false → (r ≡ Err (SqliteFailure TransactionState)) × (new ≡ old)) → (HasCleanDisk (state g new) → IsTrue old.in_transaction → ExecutesInside 0 text params (state g old) (state g new) r)
+      → Survives (state g old) (state g new) (λ _. ⊥) → Changes g old new r Says
+  changes has says = changed (λ count up ran. says count up (has up) ran)
 
 -- a call of `execute` with the text of an INSERT, on the office's tables in a transaction, changes what the row that it adds means
 pub inserts : {S : Type 0} (g : Ghosts S) (text : List ℕ) (at : ℕ) (table : Table) (terms : List Term) (width : ℕ) (insert : IsInsert text at table terms width)

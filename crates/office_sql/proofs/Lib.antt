@@ -8,17 +8,17 @@ pub mod Keyed
 mod TableRows
 pub mod Kept
 pub mod Reading
+mod Visiting
 pub mod Values
 mod Offices
 mod Making
-mod MetaReads
 pub mod Resting
 mod SeatReads
 pub mod Inserting
 mod Replacing
 mod Finding
 mod EntryReads
-mod LedgerAsked
+pub mod LedgerAsked
 mod EntryLast
 mod EntryWrites
 mod LinkReads

@@ -63,5 +63,5 @@ pub link_wrote : (l : Owned Link) (old new : Database) → IsOffice old → IsFr
 link_wrote l old new office free adds =
     let rows = old.trees 5 in
     let it = row_added IsLinkRow link_cmp link_total link_in (link_columns l) rows office.links (refl, refl) (free_apart l rows free.0) in
-    let now = links_changed old new office adds.schema adds.others (subst (AreRows IsLinkRow link_cmp link_in) (sym adds.row) it.0) _ (ap (λ l. sort_by link_cmp (map link_in l)) adds.row ∙ it.1) in
-    record { office = now.0; made = now.1 }
+    let now = links_changed old new office adds.schema adds.sound adds.others (subst (AreRows IsLinkRow link_cmp link_in) (sym adds.row) it.0) _ (ap (λ l. sort_by link_cmp (map link_in l)) adds.row ∙ it.1) in
+    record { office = now.0; made = now.1; rows = adds; meta = adds.others.0 (λ e. cc) }

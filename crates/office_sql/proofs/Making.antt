@@ -3,7 +3,8 @@ use Rattle.std.proofs.Common.{◌≡◌, ℕ, zero, suc, ◌<◌, get_or, take, 
 use Rattle.sqlite.specs.State.{State}
 use Rattle.office_tables.specs.declared.rows.Write.{Write}
 use Rattle.office_tables.specs.Tables.{Tables, CanWrite, IsFree, Writes, Written}
-use Rattle.office_sql.specs.Change.{HasMade, IsInside, Wrote}
+use Rattle.sqlite.specs.Effect.{Database}
+use Rattle.office_sql.specs.Change.{HasMade, IsInside, WritesAllRows, WritesRows, Wrote}
 use Rattle.office_sql.specs.Tables.{tables_in}
 
 -- the write at an index finds its key free
@@ -16,10 +17,18 @@ pub written_push : (ws : List Write) (w : Write) (t mid new : Tables) → Writte
 written_push [] w t mid new h step = (new, subst (λ m. Writes w m new) h step, refl)
 written_push (v ∷ ws) w t mid new h step = (h.0, h.1, written_push ws w h.0 mid new h.2 step)
 
+rows_push : (ws : List Write) (w : Write) (old mid new : Database) → WritesAllRows ws old mid → WritesRows w mid new → WritesAllRows (ws ++ w ∷ []) old new
+rows_push [] w old mid new h step = (new, subst (λ m. WritesRows w m new) h step, refl)
+rows_push (v ∷ ws) w old mid new h step = (h.0, h.1, rows_push ws w h.0 mid new h.2 step)
+
 pub made_more : (done : List Write) (w : Write) (old mid new : State) → HasMade done old mid → Wrote w mid.now new.now → IsInside mid new → HasMade (done ++ w ∷ []) old new
 made_more done w old mid new h step inside = record {
   office = λ _. step.office;
-  tables = written_push done w (tables_in old.now.trees) (tables_in mid.now.trees) (tables_in new.now.trees) h.tables step.made;
+  written = record {
+    tables = written_push done w (tables_in old.now.trees) (tables_in mid.now.trees) (tables_in new.now.trees) h.written.tables step.made;
+    rows = rows_push done w old.now mid.now new.now h.written.rows step.rows;
+    meta = step.meta ∙ h.written.meta;
+  };
   committed = inside.committed ∙ h.committed;
   was_open = λ _. h.was_open inside.was_open;
   is_open = λ _. inside.is_open;

@@ -75,7 +75,7 @@ next_apart id body rows are is =
     rows others are.typed)
 
 pub map_gained : (m : Owned NewMap) (id : ℕ) (old new : Database) → IsOffice old → next_rowid (old.trees 3) ≡ pos id → Adds 3 (Null ∷ map_columns m) old new
-    → GainsMap (record { id = id; body = m.row.body }) old new
+    → GainsMap m id old new
 map_gained m id old new office is adds =
     let rows = old.trees 3 in
     let row : MapRow = record { id = id; body = m.row.body } in
@@ -83,19 +83,21 @@ map_gained m id old new office is adds =
     let same : map_in (Int (next_rowid rows) ∷ Null ∷ map_columns m) ≡ row = ap (λ n. map_in (Int n ∷ Null ∷ map_columns m)) is in
     let it = row_added IsMapRow map_cmp map_total map_in (Null ∷ map_columns m) rows office.maps (ap Int is ∙ ap (λ n. Int (pos (number_in (Int n)))) (sym is), refl)
     (subst (λ x. AllByRecursion (Apart map_cmp map_total x) (map map_in rows)) (sym same) apart) in
-    let now = maps_changed old new office adds.schema adds.others (subst (AreRows IsMapRow map_cmp map_in) (sym adds.row) it.0) _ (ap (λ l. sort_by map_cmp (map map_in l)) adds.row ∙ it.1) in
+    let now = maps_changed old new office adds.schema adds.sound adds.others (subst (AreRows IsMapRow map_cmp map_in) (sym adds.row) it.0) _ (ap (λ l. sort_by map_cmp (map map_in l)) adds.row ∙ it.1) in
     let none = all_weaker (Apart map_cmp map_total row) (λ y. has_id id y ≡ false) (λ y e. sym (tied id y.id) ∙ e) (map map_in rows) apart in
     record {
       office = now.0;
       free = find_none (has_id id) _ (all_sorted map_cmp map_total (λ y. has_id id y ≡ false) (map map_in rows) none);
       made = now.1 ∙ ap (λ x. with_map x (tables_in old.trees)) same;
+      number = is;
+      row = adds;
     }
 
 same : (n : ℕ) → (n == n) ≡ true
 same n = grind (arith, nat_tests)
 
 -- the customer's link to the new map can be added
-pub link_free : (m : Owned NewMap) (id : ℕ) (old mid : Database) → IsFree (AddMap m) (tables_in old.trees) → GainsMap (record { id = id; body = m.row.body }) old mid
+pub link_free : (m : Owned NewMap) (id : ℕ) (old mid : Database) → IsFree (AddMap m) (tables_in old.trees) → GainsMap m id old mid
     → IsFree (AddLink (record { customer = m.customer; row = record { digest = m.row.digest; map = id } })) (tables_in mid.trees)
 link_free m id old mid free gains =
     let row : MapRow = record { id = id; body = m.row.body } in (
@@ -103,8 +105,13 @@ link_free m id old mid free gains =
       ap (λ t. is_some (map_at id t)) gains.made ∙ some_placed (has_id id) map_cmp row (tables_in old.trees).maps (same id),
     )
 
-pub map_wrote : (m : Owned NewMap) (id : ℕ) (old mid new : Database) → GainsMap (record { id = id; body = m.row.body }) old mid
+pub map_wrote : (m : Owned NewMap) (id : ℕ) (old mid new : Database) → GainsMap m id old mid
     → Wrote (AddLink (record { customer = m.customer; row = record { digest = m.row.digest; map = id } })) mid new → Wrote (AddMap m) old new
 map_wrote m id old mid new gains wrote =
     let link : Owned Link = record { customer = m.customer; row = record { digest = m.row.digest; map = id } } in
-    record { office = wrote.office; made = (id, gains.free, wrote.made ∙ ap (with_link link) gains.made) }
+    record {
+      office = wrote.office;
+      made = (id, gains.free, wrote.made ∙ ap (with_link link) gains.made);
+      rows = (mid, id, gains.number, gains.row, wrote.rows);
+      meta = wrote.meta ∙ gains.row.others.0 (λ e. cc);
+    }

@@ -1,6 +1,6 @@
 -- A database of the office in which one table was changed.
 use Rattle.std.proofs.Common.{◌≡◌, List, map, sym, subst}
-use Rattle.sqlite.specs.Effect.{Database}
+use Rattle.sqlite.specs.Effect.{Database, IsDatabase}
 use Rattle.sqlite_keyed.specs.Lists.{sort_by}
 use Rattle.office_tables.specs.declared.rows.Owned.{Owned}
 use Rattle.office_tables.specs.declared.rows.SeatState.{SeatState}
@@ -16,12 +16,13 @@ use Rattle.office_sql.specs.Change.{SameBut}
 use Rattle.office_sql.specs.Rows.{seat_in, map_in, link_in, order_in, device_in, given_in, entry_in}
 use Rattle.office_sql.specs.Tables.{AreRows, IsOffice, IsSeatRow, IsMapRow, IsLinkRow, IsOrderRow, IsDeviceRow, IsGivenRow, IsEntryRow, tables_in}
 
-module _ (old new : Database) (office : IsOffice old) (schema : new.schema ≡ office_schema) where
+module _ (old new : Database) (office : IsOffice old) (schema : new.schema ≡ office_schema) (sound : IsDatabase new) where
   pub seats_changed : SameBut 1 old.trees new.trees → AreRows IsSeatRow seat_cmp seat_in (new.trees 1) → (l : List (Owned SeatState)) → sort_by seat_cmp (map seat_in (new.trees 1)) ≡ l
       → IsOffice new × (tables_in new.trees ≡ record (tables_in old.trees) { seats = l })
   seats_changed others are l is = (
     record {
       schema = schema;
+      sound = sound;
       seats = are;
       maps = subst (AreRows IsMapRow map_cmp map_in) (sym (others.1.1.0 (λ e. cc))) office.maps;
       links = subst (AreRows IsLinkRow link_cmp link_in) (sym (others.1.1.1.0 (λ e. cc))) office.links;
@@ -46,6 +47,7 @@ module _ (old new : Database) (office : IsOffice old) (schema : new.schema ≡ o
   maps_changed others are l is = (
     record {
       schema = schema;
+      sound = sound;
       seats = subst (AreRows IsSeatRow seat_cmp seat_in) (sym (others.1.0 (λ e. cc))) office.seats;
       maps = are;
       links = subst (AreRows IsLinkRow link_cmp link_in) (sym (others.1.1.1.0 (λ e. cc))) office.links;
@@ -70,6 +72,7 @@ module _ (old new : Database) (office : IsOffice old) (schema : new.schema ≡ o
   links_changed others are l is = (
     record {
       schema = schema;
+      sound = sound;
       seats = subst (AreRows IsSeatRow seat_cmp seat_in) (sym (others.1.0 (λ e. cc))) office.seats;
       maps = subst (AreRows IsMapRow map_cmp map_in) (sym (others.1.1.0 (λ e. cc))) office.maps;
       links = are;
@@ -94,6 +97,7 @@ module _ (old new : Database) (office : IsOffice old) (schema : new.schema ≡ o
   orders_changed others are l is = (
     record {
       schema = schema;
+      sound = sound;
       seats = subst (AreRows IsSeatRow seat_cmp seat_in) (sym (others.1.0 (λ e. cc))) office.seats;
       maps = subst (AreRows IsMapRow map_cmp map_in) (sym (others.1.1.0 (λ e. cc))) office.maps;
       links = subst (AreRows IsLinkRow link_cmp link_in) (sym (others.1.1.1.0 (λ e. cc))) office.links;
@@ -118,6 +122,7 @@ module _ (old new : Database) (office : IsOffice old) (schema : new.schema ≡ o
   devices_changed others are l is = (
     record {
       schema = schema;
+      sound = sound;
       seats = subst (AreRows IsSeatRow seat_cmp seat_in) (sym (others.1.0 (λ e. cc))) office.seats;
       maps = subst (AreRows IsMapRow map_cmp map_in) (sym (others.1.1.0 (λ e. cc))) office.maps;
       links = subst (AreRows IsLinkRow link_cmp link_in) (sym (others.1.1.1.0 (λ e. cc))) office.links;
@@ -142,6 +147,7 @@ module _ (old new : Database) (office : IsOffice old) (schema : new.schema ≡ o
   given_changed others are l is = (
     record {
       schema = schema;
+      sound = sound;
       seats = subst (AreRows IsSeatRow seat_cmp seat_in) (sym (others.1.0 (λ e. cc))) office.seats;
       maps = subst (AreRows IsMapRow map_cmp map_in) (sym (others.1.1.0 (λ e. cc))) office.maps;
       links = subst (AreRows IsLinkRow link_cmp link_in) (sym (others.1.1.1.0 (λ e. cc))) office.links;
@@ -166,6 +172,7 @@ module _ (old new : Database) (office : IsOffice old) (schema : new.schema ≡ o
   ledger_changed others are l is = (
     record {
       schema = schema;
+      sound = sound;
       seats = subst (AreRows IsSeatRow seat_cmp seat_in) (sym (others.1.0 (λ e. cc))) office.seats;
       maps = subst (AreRows IsMapRow map_cmp map_in) (sym (others.1.1.0 (λ e. cc))) office.maps;
       links = subst (AreRows IsLinkRow link_cmp link_in) (sym (others.1.1.1.0 (λ e. cc))) office.links;

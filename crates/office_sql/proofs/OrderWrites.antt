@@ -28,7 +28,7 @@ use Rattle.office_tables.specs.Tables.{is_order, order_at, order_cmp, placed, wi
 use Rattle.office_sql.specs.Schema.{orders_table}
 use Rattle.office_sql.specs.Scan.{is_given}
 use Rattle.office_sql.specs.Values.{text_if, mac_if, text_value, mac_value, whole_value}
-use Rattle.office_sql.specs.Rows.{order_in, order_columns}
+use Rattle.office_sql.specs.Rows.{columns_with_cursor, order_in, order_columns}
 use Rattle.office_sql.specs.Tables.{AreRows, IsOffice, IsOrderRow, tables_in}
 use Rattle.office_sql.specs.Change.{Adds, Wrote}
 use Rattle.office_sql.proofs.Finding.{unkeyed, only_found, both_true, texts_tied}
@@ -37,7 +37,7 @@ use Rattle.office_sql.proofs.Keyed.{Apart}
 use Rattle.office_sql.proofs.ColumnKinds.{AreOf, are_of, text_stays, number_stays}
 use Rattle.office_sql.proofs.Offices.{orders_changed}
 use Rattle.office_sql.proofs.OrderReads.{order_total, passes_order}
-use Rattle.office_sql.proofs.Replacing.{IsUpdate, IsSet, SetsOne, sets}
+use Rattle.office_sql.proofs.Replacing.{IsUpdate, IsSet, SetsOne, remade, sets}
 use Rattle.office_sql.proofs.Stepping.{cast_null, cast_int}
 use Rattle.office_sql.proofs.TableRows.{row_added}
 
@@ -90,9 +90,9 @@ order_added o back old new office none adds =
     let id = next_rowid rows in
     let made = row_added IsOrderRow order_cmp order_total order_in (order_columns o) rows office.orders (refl, refl, rw (text_typed (option_map mac_text o.row.mac)) refl)
     (subst (λ x. AllByRecursion (Apart order_cmp order_total x) (map order_in rows)) (sym (is id)) apart) in
-    let it = orders_changed old new office adds.schema adds.others (subst (AreRows IsOrderRow order_cmp order_in) (sym adds.row) made.0) _
+    let it = orders_changed old new office adds.schema adds.sound adds.others (subst (AreRows IsOrderRow order_cmp order_in) (sym adds.row) made.0) _
     (ap (λ l. sort_by order_cmp (map order_in l)) adds.row ∙ made.1 ∙ ap (λ x. placed order_cmp x (sort_by order_cmp (map order_in rows))) (is id)) in
-    record { office = it.0; made = it.1 }
+    record { office = it.0; made = it.1; rows = adds; meta = adds.others.0 (λ e. cc) }
 
 -- ---- a new cursor
 
@@ -108,8 +108,7 @@ set_update = record { is = refl; plain = (refl, refl); there = refl; same = λ d
 
 module _ (c : Owned Cursor) where
   abbrev set_columns : Row → Row
-  set_columns r =
-      column r 1 ∷ column r 2 ∷ column r 3 ∷ column r 4 ∷ column r 5 ∷ column r 6 ∷ column r 7 ∷ column r 8 ∷ column r 9 ∷ whole_value c.row.number ∷ []
+  set_columns = columns_with_cursor c.row.number
 
   abbrev pub set_values : Row
   set_values = Words c.customer ∷ Words c.row.order ∷ whole_value c.row.number ∷ []
@@ -166,5 +165,10 @@ module _ (c : Owned Cursor) where
       wrote : SetsOne IsOrderRow order_cmp order_in is_its 7 set_columns old.now new.now count → Wrote (SetCursor c) old.now new.now
       wrote one =
           let found = only_found order_cmp order_total order_in is_its (old.now.trees 7) one.was office.orders.keyed one.one.alone in
-          let it = orders_changed old.now new.now office one.schema one.others one.rows _ one.placed_is in
-          record { office = it.0; made = it.1 ∙ sym (ap (λ o. with_cursor_of o c.row.number (tables_in old.now.trees)) found) }
+          let it = orders_changed old.now new.now office one.replaced.schema one.replaced.sound one.replaced.others one.rows _ one.placed_is in
+          record {
+            office = it.0;
+            made = it.1 ∙ sym (ap (λ o. with_cursor_of o c.row.number (tables_in old.now.trees)) found);
+            rows = remade IsOrderRow order_cmp order_in is_its 7 set_columns set_columns old.now new.now count one refl;
+            meta = one.replaced.others.0 (λ e. cc);
+          }

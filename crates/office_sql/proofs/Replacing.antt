@@ -15,7 +15,7 @@ use Rattle.sqlite.specs.Rows.{Edited, Written}
 use Rattle.sqlite.specs.Table.{Table}
 use Rattle.sqlite.specs.Tree.{Trees, put_row, without_rowid}
 use Rattle.sqlite.specs.Listing.{understood}
-use Rattle.sqlite.specs.Effect.{Database}
+use Rattle.sqlite.specs.Effect.{Database, IsDatabase}
 use Rattle.sqlite.specs.State.{State, mode_of, Executes}
 use Rattle.sqlite.proofs.Callers.{IsPlain, command_of, statement_of, runs_as, one_step, one_permutation}
 use Rattle.sqlite_schema.specs.declared.schema.Keys.TheVariants.{Enforced}
@@ -42,7 +42,7 @@ use Rattle.office_sql.specs.Scan.{passes}
 use Rattle.office_sql.specs.Tables.{AreRows, AreKeyed, IsOffice, IsSeatRow, IsMapRow, IsLinkRow, IsOrderRow, IsDeviceRow, IsGivenRow, IsEntryRow, tables_in}
 use Rattle.office_sql.specs.Schema.{office_schema}
 use Rattle.office_sql.specs.Scan.{scan, env, passing}
-use Rattle.office_sql.specs.Change.{Replaces, Stays, SameBut}
+use Rattle.office_sql.specs.Change.{Remakes, Replaces, Stays, SameBut}
 use Rattle.office_sql.proofs.Inserting.{enforced, task_on}
 use Rattle.sqlite.specs.Command.{Command}
 use Rattle.office_sql.proofs.Scan.{scanned}
@@ -82,13 +82,14 @@ module _ (text : List ℕ) (at : ℕ) (table : Table) (tests shown : List Term) 
   -- the rows of the table are those that the edit leaves
   record Updates (sources : List Row) (old new : Database) (tally : Tally) : Type 0 where
     schema : new.schema ≡ office_schema
+    sound : IsDatabase new
     row : new.trees table.tree ≡ rows_after old.trees sources
     others : SameBut table.tree old.trees new.trees
     counted : unwrap_or tally.rows 0 ≡ length (news old.trees sources)
 
-  puts : (limit : Option ℕ) (old : Database) (out : Tally × Database) (kept : List Row) → passing tests params (old.trees table.tree) ≡ kept → ((l : List Row) → IsPermutation kept l → l ≡ kept)
+  puts : (limit : Option ℕ) (old : Database) (out : Tally × Database) → IsDatabase out.1 → (kept : List Row) → passing tests params (old.trees table.tree) ≡ kept → ((l : List Row) → IsPermutation kept l → l ≡ kept)
       → OnRows (task_on limit params table) enforced None command old.trees (Ok out) → Updates (map (λ r. eval_all shown (env params r)) kept) old out.1 out.0
-  puts limit old out kept passed alone does =
+  puts limit old out sound kept passed alone does =
       let db = old.trees in
       let done = went does in
       let end = went (went done.2).2 in
@@ -105,6 +106,7 @@ module _ (text : List ℕ) (at : ℕ) (table : Table) (tests shown : List Term) 
       let now = ap (λ (p : Tally × Database). p.1) (same_value end.2) in
       record {
         schema = ap (λ (d : Database). d.schema) now;
+        sound = sound;
         row = ap (λ (d : Database). d.trees table.tree) now ∙ ap (λ (t : Trees). t table.tree) trees ∙ step.rows;
         others = subst (λ (t : Trees). SameBut table.tree db t) (sym (ap (λ (d : Database). d.trees) now ∙ trees)) step.tables;
         counted = ap (λ (p : Tally × Database). unwrap_or p.0.rows 0) (same_value end.2) ∙ ap (λ (it : Written). length it.rows) (same_value written.2) ∙ ap (λ all. length (news db all)) rows;
@@ -123,7 +125,7 @@ module _ (text : List ℕ) (at : ℕ) (table : Table) (tests shown : List Term) 
       let words = statement_of text (understood office_schema text) in
       let does = subst (λ s. Does old.step_limit (mode_of old) params (record old.now { schema = s }) words None it (Ok (w.tally, new.now))) has w.changed in (
         w.tally,
-        puts text at table tests shown update params old.step_limit old.now (w.tally, new.now) kept passed alone
+        puts text at table tests shown update params old.step_limit old.now (w.tally, new.now) w.sound kept passed alone
             (subst (λ o. AtPlace (λ t. OnRows (task_on old.step_limit params t) enforced None it old.now.trees) o (Ok (w.tally, new.now))) update.there does),
         w.counted,
       )
@@ -135,7 +137,7 @@ module _ (text : List ℕ) (at : ℕ) (table : Table) (tests shown : List Term) 
       let it = updates (r ∷ []) one (one_permutation r) in
       let shows : after (eval_all shown (env params r) ∷ []) ≡ put_row (Int id ∷ columns) (without_rowid id (old.now.trees table.tree)) =
       ap (λ e. after (e ∷ [])) evals ∙ ap (λ c. put_row c (without_rowid id (old.now.trees table.tree))) casts in
-      (record { schema = it.1.schema; row = it.1.row ∙ shows; others = it.1.others }, it.2 ∙ it.1.counted)
+      (record { schema = it.1.schema; sound = it.1.sound; row = it.1.row ∙ shows; others = it.1.others }, it.2 ∙ it.1.counted)
 
   -- where none passes, nothing changes
   pub stays : passing tests params (old.now.trees table.tree) ≡ [] → Stays old.now new.now × (count ≡ 0)
@@ -143,6 +145,7 @@ module _ (text : List ℕ) (at : ℕ) (table : Table) (tests shown : List Term) 
       let it = updates [] none (λ l same. nothing l (length_permutation [] l same)) in (
         record {
           schema = it.1.schema;
+          sound = it.1.sound;
           tables = all_weaker (λ (t : Table). t.tree ≢ table.tree → new.now.trees t.tree ≡ old.now.trees t.tree) (λ t. new.now.trees t.tree ≡ old.now.trees t.tree)
               (λ t other. elim (cases_eq t.tree table.tree) [ inl e ↦ subst (λ n. new.now.trees n ≡ old.now.trees n) (sym e) it.1.row | inr ne ↦ other ne ]) office_schema.tables it.1.others;
         },
@@ -212,11 +215,15 @@ pub record SetsOne {A : Type 0} (Typed : Row → Type 0) (cmp : A → A → Orde
   pub was : Row
   pub id : ℤ
   pub one : IsTheRow Typed value p (old.trees tree) was id
-  pub schema : new.schema ≡ office_schema
-  pub others : SameBut tree old.trees new.trees
+  pub replaced : Replaces tree id (columns was) old new
   pub rows : AreRows Typed cmp value (new.trees tree)
   pub placed_is : sort_by cmp (map value (new.trees tree)) ≡ placed cmp (value (Int id ∷ columns was)) (sort_by cmp (map value (old.trees tree)))
   pub counted : count ≡ 1
+
+-- it is remade, where its new columns are those of another rule
+pub remade : {A : Type 0} (Typed : Row → Type 0) (cmp : A → A → Ordering) (value : Row → A) (p : A → Bool) (tree : ℕ) (columns others : Row → Row) (old new : Database) (count : ℕ)
+    → (one : SetsOne Typed cmp value p tree columns old new count) → columns one.was ≡ others one.was → Remakes tree (λ r. p (value r)) others old new
+remade Typed cmp value p tree columns others old new count one same = (one.was, one.id, one.one.alone, one.one.numbered, subst (λ (c : Row). Replaces tree one.id c old new) same one.replaced)
 
 -- the columns of the new row, made of the old one
 pub record IsSet {A : Type 0} (Typed : Row → Type 0) (cmp : A → A → Ordering) (value : Row → A) (p : A → Bool) (table : Table) (tests shown : List Term) (params : Row) (columns : Row → Row) : Type 0 where
@@ -242,8 +249,7 @@ module _ {A : Type 0} (Typed : Row → Type 0) (cmp : A → A → Ordering) (tot
           was = r;
           id = id;
           one = the;
-          schema = it.0.schema;
-          others = it.0.others;
+          replaced = it.0;
           rows = subst (AreRows Typed cmp value) (sym it.0.row) made.0;
           placed_is = ap (λ l. sort_by cmp (map value l)) it.0.row ∙ made.1;
           counted = it.1;
@@ -262,6 +268,7 @@ office_stays old new office h =
     let ledger = h.tables.1.1.1.1.1.1.1.0 in (
       record {
         schema = h.schema;
+        sound = h.sound;
         seats = subst (AreRows IsSeatRow seat_cmp seat_in) (sym seats) office.seats;
         maps = subst (AreRows IsMapRow map_cmp map_in) (sym maps) office.maps;
         links = subst (AreRows IsLinkRow link_cmp link_in) (sym links) office.links;

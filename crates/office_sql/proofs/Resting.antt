@@ -15,7 +15,7 @@ none_made old new ready same = record {
   was_open = same.0.was_open;
   is_open = same.0.is_open;
   office = subst IsOffice (sym same.0.now_is) (ready.office same.0.was_open);
-  tables = ap (λ (d : Database). tables_in d.trees) same.0.now_is;
+  written = record { tables = ap (λ (d : Database). tables_in d.trees) same.0.now_is; rows = same.0.now_is; meta = ap (λ (d : Database). d.trees 0) same.0.now_is };
   committed = same.0.committed_is ∙ sym (ready.settled same.0.was_open) ∙ sym same.0.now_is;
 }
 

@@ -1,35 +1,38 @@
 -- What the texts that write a seat mean, and do.
-use Rattle.std.proofs.Common.{◌≡◌, inl, inr, ℕ, pos, ◌==◌, List, [], ◌∷◌, codes, map, refl, sym, ap, subst, ◌∙◌, Ok, None}
+use Rattle.std.proofs.Common.{◌≡◌, ◌≢◌, filter, inl, inr, ℕ, pos, ◌==◌, List, [], ◌∷◌, codes, map, refl, sym, ap, subst, ◌∙◌, Ok, None}
 use Rattle.std.specs.Prelude.{MatchBool}
 use Rattle.std.proofs.lemmas.Cmp.{tied_itself, nat_list_cmp_total}
 use Rattle.std.proofs.lemmas.Map.Text.{is_eq-slice_cmp}
 use Rattle.sqlite.specs.declared.types.Value.TheVariants.{Null, Int, Text as Words, Blob as Bytes}
 use Rattle.sqlite.specs.Order.{Row, column, bytes}
 use Rattle.sqlite.specs.Term.{Term, lit, col}
+use Rattle.sqlite.specs.Tree.{put_row, without_rowid}
+use Rattle.sqlite.specs.Table.{Table}
+use Rattle.sqlite_rules.specs.Edit.{next_rowid}
 use Rattle.sqlite.specs.Kind.TheVariants.{Text}
 use Rattle.sqlite.specs.Cast.{cast, cast_row}
 use Rattle.sqlite.specs.Effect.{Database}
 use Rattle.sqlite.specs.Listing.{understood}
 use Rattle.sqlite.specs.State.{State, Executes}
 use Rattle.sqlite_keyed.specs.Lists.{sort_by}
-use Rattle.sqlite_trees.proofs.ListLemmas.{all_weaker}
+use Rattle.sqlite_trees.proofs.ListLemmas.{all_both, all_weaker}
 use Rattle.sqlite_tied.specs.Compute.{everything}
 use Rattle.office_tables.specs.declared.rows.Owned.{Owned}
 use Rattle.office_tables.specs.declared.rows.SeatState.{SeatState}
 use Rattle.office_tables.specs.declared.rows.Write.TheVariants.{PutSeat}
-use Rattle.office_tables.specs.Tables.{is_seat, seat_at, seat_cmp, placed}
-use Rattle.office_sql.specs.Schema.{seat_table}
+use Rattle.office_tables.specs.Tables.{Writes, is_seat, seat_at, seat_cmp, placed}
+use Rattle.office_sql.specs.Schema.{office_schema, seat_table}
 use Rattle.office_sql.specs.Scan.{is_given}
 use Rattle.office_sql.specs.Values.{whole_value}
 use Rattle.office_sql.specs.Rows.{seat_in, seat_columns}
 use Rattle.office_sql.specs.Tables.{AreRows, IsOffice, IsSeatRow, tables_in}
-use Rattle.office_sql.specs.Change.{Adds, Wrote}
+use Rattle.office_sql.specs.Change.{Adds, SameBut, Stays, WritesRows, Wrote}
 use Rattle.office_sql.specs.Seats.{LacksSeat}
 use Rattle.office_sql.proofs.Finding.{unkeyed, unfound, same_text, texts_tied}
 use Rattle.office_sql.proofs.Inserting.{IsInsert}
 use Rattle.office_sql.proofs.Keyed.{Apart}
 use Rattle.office_sql.proofs.Offices.{seats_changed}
-use Rattle.office_sql.proofs.Replacing.{IsUpdate, IsSet, SetsNone, SetsOne, sets, office_stays}
+use Rattle.office_sql.proofs.Replacing.{IsUpdate, IsSet, SetsNone, SetsOne, remade, sets, office_stays}
 use Rattle.office_sql.proofs.SeatReads.{seat_total, passes_seat}
 use Rattle.office_sql.proofs.Stepping.{cast_null, cast_int}
 use Rattle.office_sql.proofs.TableRows.{row_added}
@@ -81,14 +84,20 @@ module _ (s : Owned SeatState) where
     where
       lacks : SetsNone seat_in (is_seat s.row.name) 1 old.now new.now count → LacksSeat s.row.name old.now new.now
       lacks none = let it = office_stays old.now new.now office none.stays in
-          record { office = it.0; same = it.1; lacks = ap (seat_at s.row.name) it.1 ∙ unfound seat_cmp seat_total (is_seat s.row.name) (map seat_in (old.now.trees 1)) none.none }
+          record { office = it.0; stays = none.stays; same = it.1; lacks = ap (seat_at s.row.name) it.1 ∙ unfound seat_cmp seat_total (is_seat s.row.name) (map seat_in (old.now.trees 1)) none.none }
 
       wrote : SetsOne IsSeatRow seat_cmp seat_in (is_seat s.row.name) 1 set_columns old.now new.now count → Wrote (PutSeat s) old.now new.now
       wrote one =
           let name : bytes (column one.was 1) ≡ s.row.name = sym (same_text s.row.name (bytes (column one.was 1)) one.one.passed) in
           let is : seat_in (Int one.id ∷ set_columns one.was) ≡ s = ap (λ n. record s { row = record s.row { name = n } }) name in
-          let it = seats_changed old.now new.now office one.schema one.others one.rows _ (one.placed_is ∙ ap (λ x. placed seat_cmp x (sort_by seat_cmp (map seat_in (old.now.trees 1)))) is) in
-          record { office = it.0; made = it.1 }
+          let it = seats_changed old.now new.now office one.replaced.schema one.replaced.sound one.replaced.others one.rows _ (one.placed_is ∙ ap (λ x. placed seat_cmp x (sort_by seat_cmp (map seat_in (old.now.trees 1)))) is) in
+          let columns : set_columns one.was ≡ seat_columns s = ap (λ v. v ∷ Words s.customer ∷ whole_value s.row.last ∷ Bytes s.row.digest ∷ Words s.row.reply ∷ []) (one.one.typed ∙ ap Words name) in
+          record {
+            office = it.0;
+            made = it.1;
+            rows = inr (remade IsSeatRow seat_cmp seat_in (is_seat s.row.name) 1 set_columns (λ _. seat_columns s) old.now new.now count one columns);
+            meta = one.replaced.others.0 (λ e. cc);
+          }
 
   -- a seat that had no row has one
   pub seat_added : (old new : Database) → IsOffice old → seat_at s.row.name (tables_in old.trees) ≡ None → Adds 1 (seat_columns s) old new → Wrote (PutSeat s) old new
@@ -96,5 +105,39 @@ module _ (s : Owned SeatState) where
       let rows = old.trees 1 in
       let apart = all_weaker _ (Apart seat_cmp seat_total s) (λ y e. is_eq-slice_cmp s.row.name y.row.name ∙ e) (map seat_in rows) (unkeyed seat_cmp seat_total (is_seat s.row.name) (map seat_in rows) none) in
       let made = row_added IsSeatRow seat_cmp seat_total seat_in (seat_columns s) rows office.seats refl apart in
-      let it = seats_changed old new office adds.schema adds.others (subst (AreRows IsSeatRow seat_cmp seat_in) (sym adds.row) made.0) _ (ap (λ l. sort_by seat_cmp (map seat_in l)) adds.row ∙ made.1) in
-      record { office = it.0; made = it.1 }
+      let it = seats_changed old new office adds.schema adds.sound adds.others (subst (AreRows IsSeatRow seat_cmp seat_in) (sym adds.row) made.0) _ (ap (λ l. sort_by seat_cmp (map seat_in l)) adds.row ∙ made.1) in
+      record { office = it.0; made = it.1; rows = inl adds; meta = adds.others.0 (λ e. cc) }
+
+  same_others : (old mid new : Database) → Stays old mid → SameBut 1 mid.trees new.trees → SameBut 1 old.trees new.trees
+  same_others old mid new stays others =
+      all_both (λ (t : Table). t.tree ≢ 1 → new.trees t.tree ≡ mid.trees t.tree) (λ t. mid.trees t.tree ≡ old.trees t.tree) (λ t. t.tree ≢ 1 → new.trees t.tree ≡ old.trees t.tree)
+      (λ t f e other. f other ∙ e) office_schema.tables others stays.tables
+
+  same_rows : (old mid new : Database) → Stays old mid → WritesRows (PutSeat s) mid new → WritesRows (PutSeat s) old new
+  same_rows old mid new stays (inl adds) = inl (record {
+    schema = adds.schema;
+    sound = adds.sound;
+    row = subst (λ rows. new.trees 1 ≡ put_row (Int (next_rowid rows) ∷ seat_columns s) rows) stays.tables.1.0 adds.row;
+    others = same_others old mid new stays adds.others;
+  })
+  same_rows old mid new stays (inr (r, id, alone, numbered, replaces)) = inr (
+    r,
+    id,
+    subst (λ rows. filter (λ x. is_seat s.row.name (seat_in x)) rows ≡ r ∷ []) stays.tables.1.0 alone,
+    numbered,
+    record {
+      schema = replaces.schema;
+      sound = replaces.sound;
+      row = subst (λ rows. new.trees 1 ≡ put_row (Int id ∷ seat_columns s) (without_rowid id rows)) stays.tables.1.0 replaces.row;
+      others = same_others old mid new stays replaces.others;
+    },
+  )
+
+  -- what is put where the setting found none is put
+  pub seat_put : (old mid new : Database) → LacksSeat s.row.name old mid → Wrote (PutSeat s) mid new → Wrote (PutSeat s) old new
+  seat_put old mid new lacks wrote = record {
+    office = wrote.office;
+    made = subst (λ t. Writes (PutSeat s) t (tables_in new.trees)) lacks.same wrote.made;
+    rows = same_rows old mid new lacks.stays wrote.rows;
+    meta = wrote.meta ∙ lacks.stays.tables.0;
+  }

@@ -1,19 +1,21 @@
 -- What a statement changes, and what a transaction has made.
-use Rattle.std.specs.Prelude.{◌≡◌, ◌≢◌, ◌⊎◌, ◌<◌, length, ℕ, ℤ, List, [], ◌∷◌, IsTrue}
+use Rattle.std.specs.Prelude.{◌≡◌, ◌≢◌, ◌⊎◌, ◌<◌, length, ℕ, ℤ, pos, Bool, List, [], ◌∷◌, filter, IsTrue}
 use Rattle.std.specs.List.{AllByRecursion}
-use Rattle.sqlite.specs.declared.types.Value.TheVariants.{Int}
+use Rattle.sqlite.specs.declared.types.Value.TheVariants.{Int, Null}
 use Rattle.sqlite.specs.Order.{Row}
-use Rattle.sqlite.specs.Tree.{Trees, put_row, without_rowid}
+use Rattle.sqlite.specs.Tree.{Trees, put_row, rowid, without_rowid}
 use Rattle.sqlite_rules.specs.Edit.{next_rowid}
 use Rattle.sqlite.specs.Change.{created, next_tree, KeepsRows}
 use Rattle.sqlite.specs.Table.{Table}
 use Rattle.sqlite.specs.Schema.{Schema}
 use Rattle.sqlite.specs.State.{State}
-use Rattle.sqlite.specs.Effect.{Database}
+use Rattle.sqlite.specs.Effect.{Database, IsDatabase}
 use Rattle.office_tables.specs.declared.rows.Write.{Write}
-use Rattle.office_tables.specs.Tables.{Writes, Written}
+use Rattle.office_tables.specs.declared.rows.Write.TheVariants.{PutSeat, AddOrder, SetCursor, AddMap, AddLink, AddDevice, PutDevice, AddGiven, AddEntry}
+use Rattle.office_tables.specs.Tables.{Writes, Written, is_seat, is_order, is_device}
 use Rattle.office_sql.specs.Schema.{office_schema}
-use Rattle.office_sql.specs.Tables.{IsOffice, tables_in}
+use Rattle.office_sql.specs.Rows.{seat_in, order_in, device_in, seat_columns, map_columns, link_columns, order_columns, columns_with_cursor, device_columns, given_columns, entry_columns}
+use Rattle.office_sql.specs.Tables.{IsOffice, office_over, tables_in}
 
 -- no other table changes
 abbrev pub SameBut : ℕ → Trees → Trees → Type 0
@@ -22,18 +24,21 @@ SameBut tree old new = AllByRecursion (λ t. t.tree ≢ tree → new t.tree ≡ 
 -- the table has one row more, whose columns are these, and no other table changes
 pub record Adds (tree : ℕ) (columns : Row) (old new : Database) : Type 0 where
   pub schema : new.schema ≡ office_schema
+  pub sound : IsDatabase new
   pub row : new.trees tree ≡ put_row (Int (next_rowid (old.trees tree)) ∷ columns) (old.trees tree)
   pub others : SameBut tree old.trees new.trees
 
 -- the row with this rowid has these columns now, and no other table changes
 pub record Replaces (tree : ℕ) (id : ℤ) (columns : Row) (old new : Database) : Type 0 where
   pub schema : new.schema ≡ office_schema
+  pub sound : IsDatabase new
   pub row : new.trees tree ≡ put_row (Int id ∷ columns) (without_rowid id (old.trees tree))
   pub others : SameBut tree old.trees new.trees
 
 -- no table changes
 pub record Stays (old new : Database) : Type 0 where
   pub schema : new.schema ≡ office_schema
+  pub sound : IsDatabase new
   pub tables : AllByRecursion (λ t. new.trees t.tree ≡ old.trees t.tree) office_schema.tables
 
 -- the table is made, with no row, and each other table stays
@@ -42,10 +47,45 @@ pub record Makes (schema : Schema) (table : Table) (old new : Database) : Type 0
   pub empty : new.trees (next_tree schema) ≡ []
   pub others : KeepsRows schema.tables old.trees new.trees
 
+-- the one row that passes a test has these columns now, made of those that it had
+abbrev pub Remakes : ℕ → (Row → Bool) → (Row → Row) → Database → Database → Type 0
+Remakes tree test columns old new =
+    (r : Row) × (id : ℤ) × (filter test (old.trees tree) ≡ r ∷ []) × (rowid r ≡ Int id) × Replaces tree id (columns r) old new
+
+-- what becomes of the rows by a write: their columns, to the byte
+abbrev pub WritesRows : Write → Database → Database → Type 0
+WritesRows (PutSeat s) old new =
+    Adds 1 (seat_columns s) old new ⊎ Remakes 1 (λ r. is_seat s.row.name (seat_in r)) (λ _. seat_columns s) old new
+WritesRows (AddOrder o) old new = Adds 7 (order_columns o) old new
+WritesRows (SetCursor c) old new =
+    Remakes 7 (λ r. is_order c.customer c.row.order (order_in r)) (columns_with_cursor c.row.number) old new
+WritesRows (AddMap m) old new =
+    (mid : Database) × (id : ℕ) × (next_rowid (old.trees 3) ≡ pos id) × Adds 3 (Null ∷ map_columns m) old mid
+    × Adds 5 (link_columns (record { customer = m.customer; row = record { digest = m.row.digest; map = id } })) mid new
+WritesRows (AddLink l) old new = Adds 5 (link_columns l) old new
+WritesRows (AddDevice d) old new = Adds 9 (device_columns d) old new
+WritesRows (PutDevice d) old new =
+    Remakes 9 (λ r. is_device d.customer d.row.chip (device_in r)) (λ _. device_columns d) old new
+WritesRows (AddGiven g) old new = Adds 11 (given_columns g) old new
+WritesRows (AddEntry e) old new = Adds 15 (Null ∷ entry_columns e) old new
+
+-- by a list of writes, one after another
+abbrev pub WritesAllRows : List Write → Database → Database → Type 0
+WritesAllRows [] old new = new ≡ old
+WritesAllRows (w ∷ ws) old new = (mid : Database) × WritesRows w old mid × WritesAllRows ws mid new
+
 -- the write is made, and nothing else
 pub record Wrote (w : Write) (old new : Database) : Type 0 where
   pub office : IsOffice new
   pub made : Writes w (tables_in old.trees) (tables_in new.trees)
+  pub rows : WritesRows w old new
+  pub meta : new.trees 0 ≡ old.trees 0
+
+-- the writes are made, one after another, and nothing else
+pub record HasWritten (ws : List Write) (old new : Database) : Type 0 where
+  pub tables : Written ws (tables_in old.trees) (tables_in new.trees)
+  pub rows : WritesAllRows ws old new
+  pub meta : new.trees 0 ≡ old.trees 0
 
 -- the transaction goes on, and the last commit stands
 pub record IsInside (old new : State) : Type 0 where
@@ -72,13 +112,17 @@ pub record IsMade (ws : List Write) (old new : State) : Type 0 where
   pub was_open : IsTrue old.is_open
   pub is_open : IsTrue new.is_open
   pub office : IsOffice new.now
-  pub tables : Written ws (tables_in old.now.trees) (tables_in new.now.trees)
+  pub written : HasWritten ws old.now new.now
   pub committed : new.committed ≡ new.now
+
+-- what a crash leaves of a commit that it cut off, if not what was left before: a database of the office in which the writes are made
+abbrev pub LeavesMade : List Write → State → Trees → Type 0
+LeavesMade ws old trees = IsTrue old.is_open × IsOffice (office_over trees) × HasWritten ws old.now (office_over trees)
 
 -- so far the transaction has made these
 pub record HasMade (ws : List Write) (old now : State) : Type 0 where
   pub office : IsTrue now.is_open → IsOffice now.now
-  pub tables : Written ws (tables_in old.now.trees) (tables_in now.now.trees)
+  pub written : HasWritten ws old.now now.now
   pub committed : now.committed ≡ old.committed
   pub was_open : IsTrue now.is_open → IsTrue old.is_open
   pub is_open : 0 < length ws → IsTrue now.is_open

@@ -3,6 +3,7 @@ pub mod Schema
 pub mod Scan
 pub mod Values
 pub mod Rows
+pub mod OrderStates
 pub mod Tables
 pub mod Change
 pub mod Asking
@@ -11,3 +12,4 @@ pub mod Ledger
 pub mod Maps
 pub mod Looking
 pub mod Seats
+pub mod Visiting

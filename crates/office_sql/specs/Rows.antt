@@ -1,5 +1,5 @@
 -- What the rows of the tables in SQL stand for, whatever stands in their columns, and the columns of each row. A row's rowid has place 0.
-use Rattle.std.specs.Prelude.{[], ◌∷◌, option_map}
+use Rattle.std.specs.Prelude.{ℕ, [], ◌∷◌, option_map}
 use Rattle.sqlite.specs.declared.types.Value.TheVariants.{Text as Words, Blob as Bytes}
 use Rattle.sqlite.specs.Order.{Row, column, bytes}
 use Rattle.office_tables.specs.declared.rows.Owned.{Owned}
@@ -58,6 +58,11 @@ order_in r = record {
 abbrev pub order_columns : Owned Order → Row
 order_columns o = Words o.customer ∷ Words o.row.name ∷ Words o.row.issuer ∷ Words o.row.range.prefix ∷ whole_value o.row.range.width ∷ whole_value o.row.range.first
     ∷ whole_value o.row.range.quantity ∷ whole_value o.row.macs ∷ mac_value o.row.mac ∷ whole_value o.row.cursor ∷ []
+
+-- with another cursor, and the other columns as they stand
+abbrev pub columns_with_cursor : ℕ → Row → Row
+columns_with_cursor cursor r =
+    column r 1 ∷ column r 2 ∷ column r 3 ∷ column r 4 ∷ column r 5 ∷ column r 6 ∷ column r 7 ∷ column r 8 ∷ column r 9 ∷ whole_value cursor ∷ []
 
 -- device: customer, chip, ord, map, state, reason, bits, keys, todo, serial
 abbrev pub device_in : Row → Owned Device

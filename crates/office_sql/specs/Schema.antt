@@ -66,7 +66,7 @@ abbrev pub device_table : Table
 device_table = table_at 9 (codes "device") (text (codes "customer") ∷ text (codes "chip") ∷ text (codes "ord") ∷ blob (codes "map") ∷ text (codes "state") ∷ column (codes "reason") Text false ∷ blob (codes "bits") ∷ blob (codes "keys") ∷ blob (codes "todo") ∷ column (codes "serial") Text false ∷ []) None (1 ∷ 2 ∷ []) ((1 ∷ 2 ∷ []) ∷ []) (to (1 ∷ 3 ∷ []) (codes "orders") (codes "customer" ∷ codes "name" ∷ []) ∷ to (1 ∷ 4 ∷ []) (codes "link") (codes "customer" ∷ codes "digest" ∷ []) ∷ [])
 
 abbrev pub given_table : Table
-given_table = table_at 11 (codes "given") (text (codes "issuer") ∷ text (codes "serial") ∷ text (codes "customer") ∷ blob (codes "key") ∷ column (codes "chip") Text false ∷ column (codes "mac") Text false ∷ text (codes "not_after") ∷ []) None (1 ∷ 2 ∷ []) ((6 ∷ []) ∷ (1 ∷ 2 ∷ []) ∷ (1 ∷ 4 ∷ []) ∷ []) ([])
+given_table = table_at 11 (codes "given") (text (codes "issuer") ∷ text (codes "serial") ∷ text (codes "customer") ∷ blob (codes "key") ∷ column (codes "chip") Text false ∷ column (codes "mac") Text false ∷ text (codes "not_after") ∷ []) None (1 ∷ 2 ∷ []) ((1 ∷ 2 ∷ []) ∷ (1 ∷ 4 ∷ []) ∷ (6 ∷ 1 ∷ 2 ∷ []) ∷ []) ([])
 
 abbrev pub ledger_table : Table
 ledger_table = table_at 15 (codes "ledger") (column (codes "id") Integer false ∷ text (codes "customer") ∷ text (codes "chip") ∷ whole (codes "n") ∷ text (codes "event") ∷ text (codes "note") ∷ text (codes "seat") ∷ blob (codes "bits") ∷ blob (codes "keys") ∷ []) (Some 0) (0 ∷ []) ((2 ∷ 3 ∷ 4 ∷ []) ∷ []) (to (2 ∷ 3 ∷ []) (codes "device") (codes "customer" ∷ codes "chip" ∷ []) ∷ [])
@@ -74,7 +74,7 @@ ledger_table = table_at 15 (codes "ledger") (column (codes "id") Integer false �
 abbrev pub office_schema : Schema
 office_schema = record {
   tables = meta_table ∷ seat_table ∷ map_table ∷ link_table ∷ orders_table ∷ device_table ∷ given_table ∷ ledger_table ∷ [];
-  indexes = index_at 2 (codes "sqlite_autoindex_seat_1") 1 (1 ∷ []) ∷ index_at 4 (codes "sqlite_autoindex_map_1") 3 (2 ∷ []) ∷ index_at 6 (codes "sqlite_autoindex_link_1") 5 (1 ∷ 2 ∷ []) ∷ index_at 8 (codes "sqlite_autoindex_orders_1") 7 (1 ∷ 2 ∷ []) ∷ index_at 10 (codes "sqlite_autoindex_device_1") 9 (1 ∷ 2 ∷ []) ∷ index_at 12 (codes "sqlite_autoindex_given_1") 11 (6 ∷ []) ∷ index_at 13 (codes "sqlite_autoindex_given_2") 11 (1 ∷ 2 ∷ []) ∷ index_at 14 (codes "sqlite_autoindex_given_3") 11 (1 ∷ 4 ∷ []) ∷ index_at 16 (codes "sqlite_autoindex_ledger_1") 15 (2 ∷ 3 ∷ 4 ∷ []) ∷ [];
+  indexes = index_at 2 (codes "sqlite_autoindex_seat_1") 1 (1 ∷ []) ∷ index_at 4 (codes "sqlite_autoindex_map_1") 3 (2 ∷ []) ∷ index_at 6 (codes "sqlite_autoindex_link_1") 5 (1 ∷ 2 ∷ []) ∷ index_at 8 (codes "sqlite_autoindex_orders_1") 7 (1 ∷ 2 ∷ []) ∷ index_at 10 (codes "sqlite_autoindex_device_1") 9 (1 ∷ 2 ∷ []) ∷ index_at 12 (codes "sqlite_autoindex_given_1") 11 (1 ∷ 2 ∷ []) ∷ index_at 13 (codes "sqlite_autoindex_given_2") 11 (1 ∷ 4 ∷ []) ∷ index_at 14 (codes "sqlite_autoindex_given_3") 11 (6 ∷ 1 ∷ 2 ∷ []) ∷ index_at 16 (codes "sqlite_autoindex_ledger_1") 15 (2 ∷ 3 ∷ 4 ∷ []) ∷ [];
   views = [];
 }
 

@@ -8,7 +8,7 @@ use Rattle.sqlite.specs.declared.types.Value.TheVariants.{Int, Text as Words, Bl
 use Rattle.sqlite.specs.Order.{Row, column, bytes}
 use Rattle.sqlite.specs.Tree.{Trees, IsTable, IsAscending, rowid}
 use Rattle.sqlite.specs.View.{is_int}
-use Rattle.sqlite.specs.Effect.{Database}
+use Rattle.sqlite.specs.Effect.{Database, IsDatabase}
 use Rattle.sqlite_keyed.specs.Lists.{sort_by}
 use Rattle.office_tables.specs.Tables.{Tables, seat_cmp, order_cmp, map_cmp, link_cmp, device_cmp, given_cmp, entry_cmp}
 use Rattle.office_sql.specs.Schema.{office_schema, orders_table}
@@ -52,6 +52,10 @@ pub record AreRows {A : Type 0} (Typed : Row → Type 0) (cmp : A → A → Orde
   pub typed : AllByRecursion Typed rows
   pub keyed : AreKeyed cmp (map value rows)
 
+-- a database with the office's schema
+abbrev pub office_over : Trees → Database
+office_over trees = record { schema = office_schema; trees = trees }
+
 -- the columns that statements look at
 abbrev pub IsSeatRow : Row → Type 0
 IsSeatRow r = IsText 1 r
@@ -75,9 +79,10 @@ IsGivenRow r = IsText 1 r × IsText 2 r × IsBlob 4 r × IsTextIf 6 r
 abbrev pub IsEntryRow : Row → Type 0
 IsEntryRow r = IsWhole 0 r × IsText 2 r × IsText 3 r × IsWhole 4 r
 
--- a database of the office
+-- a database of the office: it lists its schema, and obeys it
 pub record IsOffice (db : Database) : Type 0 where
   pub schema : db.schema ≡ office_schema
+  pub sound : IsDatabase db
   pub seats : AreRows IsSeatRow seat_cmp seat_in (db.trees 1)
   pub maps : AreRows IsMapRow map_cmp map_in (db.trees 3)
   pub links : AreRows IsLinkRow link_cmp link_in (db.trees 5)

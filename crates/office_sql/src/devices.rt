@@ -1,17 +1,17 @@
 // The table of devices.
-ghost use Rattle.std.specs.Prelude.{◌≡◌, ◌∷◌, ◌&&◌, not, length, IsTrue, IfOk, map, filter, option_map, slice_get};
-ghost use Rattle.std.specs.Str.{bytes_eq};
+ghost use Rattle.std.specs.Prelude.{◌≡◌, ◌∷◌, IsTrue, IfOk, map, filter, option_map, slice_get};
 ghost use Rattle.sqlite.specs.declared.types.Value.TheVariants.{Null};
 ghost use Rattle.sqlite.specs.Held.{state};
 ghost use Rattle.sqlite.specs.Order.{column, bytes};
 ghost use Rattle.sqlite.specs.Values.{bound};
 ghost use Rattle.office_tables.specs.declared.rows.Write.TheVariants.{AddDevice as TheNewDevice, PutDevice as TheDevice};
-ghost use Rattle.office_tables.specs.OrderPlaces.{is_given_up, places_taken};
 ghost use Rattle.office_tables.specs.Quarantine.{reason_of};
-ghost use Rattle.office_tables.specs.Tables.{is_of, is_device, device_at, own, IsFree};
+ghost use Rattle.office_tables.specs.Keeping.{Visits};
+ghost use Rattle.office_tables.specs.Tables.{is_of, is_device, device_at, IsFree};
 ghost use Rattle.office_tables.specs.Texts.{reason_text};
 ghost use Rattle.office_sql.specs.Asking.{Asks, Changes, HasOffice};
 ghost use Rattle.office_sql.specs.Change.{Wrote};
+ghost use Rattle.office_sql.specs.OrderStates.{order_state, order_state_in};
 ghost use Rattle.office_sql.specs.Rows.{device_in, device_columns};
 ghost use Rattle.office_sql.specs.Tables.{tables_in};
 ghost use Rattle.office_sql.specs.Values.{state_in, text_if};
@@ -19,11 +19,20 @@ ghost use Rattle.office_sql.specs.Values.{state_in, text_if};
 use crate::read::{
     DAMAGED, chip_at, column_at, digest_at, name_at, serial_if_at, text_at, text_if_at,
 };
-use office_tables::{Device, DeviceRow, DeviceState, Owned};
+use crate::visit::{ReadRow, visit_rows};
+use office_tables::{Device, DeviceRow, DeviceState, Owned, Sink};
 use sqlite::types::{ToSql, ValueRef};
 use sqlite::{Alter, Connection, Error, Row, Transaction, params};
 use std::alloc::Global;
 use text_core::{Chip, Name, Serial};
+
+/// The order of a device, and where the device stands on its way through the line.
+#[derive(Clone, Copy, Drop)]
+pub struct OrderState {
+    /// The name of the order.
+    pub order: Name,
+    pub state: DeviceState,
+}
 
 fn device_rows<S: Alter>(
     conn: &mut Connection<S>,
@@ -39,27 +48,13 @@ fn device_rows<S: Alter>(
     )
 }
 
-fn own_device_rows<S: Alter>(conn: &mut Connection<S>, customer: &Name) -> Result<Vec<Row>, Error>
+fn state_rows<S: Alter>(conn: &mut Connection<S>, customer: &Name) -> Result<Vec<Row>, Error>
     requires { HasOffice (state S.Store conn.old) }
-    ensures { Asks S.Store conn.old conn.new result (λ t rows. map (λ r. device_in (Null ∷ r)) rows.items ≡ filter (is_of customer.now) t.devices) }
+    ensures { Asks S.Store conn.old conn.new result (λ t rows. map order_state_in rows.items ≡ map order_state (filter (is_of customer.now) t.devices)) }
 {
     conn.query_all(
-        "SELECT customer, chip, ord, map, state, reason, bits, keys, todo, serial FROM device WHERE customer = ?1 ORDER BY customer, chip",
+        "SELECT ord, state, reason FROM device WHERE customer = ?1 ORDER BY customer, chip",
         params![customer.as_str()],
-    )
-}
-
-fn state_rows<S: Alter>(
-    conn: &mut Connection<S>,
-    customer: &Name,
-    order: &Name,
-) -> Result<Vec<Row>, Error>
-    requires { HasOffice (state S.Store conn.old) }
-    ensures { Asks S.Store conn.old conn.new result (λ t rows. map (λ r. state_in (bytes (column r 0)) (text_if (column r 1))) rows.items ≡ map (λ d. d.row.state) (filter (λ d. is_of customer.now d && bytes_eq order.now d.row.order) t.devices)) }
-{
-    conn.query_all(
-        "SELECT state, reason FROM device WHERE customer = ?1 AND ord = ?2 ORDER BY customer, chip",
-        params![customer.as_str(), order.as_str()],
     )
 }
 
@@ -93,36 +88,28 @@ fn first_device(rows: &[Row]) -> Result<Option<DeviceRow>, Error>
     ensures { IfOk result (λ device. device ≡ option_map (λ r. device_in (Null ∷ r)) (slice_get rows.now 0)) }
 {
     match rows.first() {
-        Some(row) => {
-            let serial = serial_if_at(row, 9)?;
-            Ok(Some(read_device(row, serial)?))
-        }
+        Some(row) => Ok(Some(DeviceRow::read_row(row)?)),
         None => Ok(None),
     }
 }
 
-fn read_devices(alloc: Global, rows: &[Row]) -> Result<Vec<DeviceRow>, Error>
-    ensures { IfOk result (λ devices. devices.items ≡ map (λ r. device_in (Null ∷ r)) rows.now) }
+fn read_state(row: &Row) -> Result<OrderState, Error>
+    ensures { IfOk result (λ state. state ≡ order_state_in row.now) }
 {
-    let mut devices = Vec::new(alloc);
-    for row in rows {
-        let serial = serial_if_at(row, 9)?;
-        devices.push(read_device(row, serial)?)?;
-    }
-    Ok(devices)
+    Ok(OrderState {
+        order: name_at(row, 0)?,
+        state: state_at(row, 1, 2)?,
+    })
 }
 
-/// In how many of the rows a device takes a place of its order.
-fn count_places(rows: &[Row]) -> Result<u64, Error>
-    ensures { IfOk result (λ count. count ≡ length (filter (λ s. not (is_given_up s)) (map (λ r. state_in (bytes (column r 0)) (text_if (column r 1))) rows.now))) }
+fn read_states(alloc: Global, rows: &[Row]) -> Result<Vec<OrderState>, Error>
+    ensures { IfOk result (λ states. states.items ≡ map order_state_in rows.now) }
 {
-    let mut count = 0;
+    let mut states = Vec::new(alloc);
     for row in rows {
-        if !state_at(row, 0, 1)?.is_given_up() {
-            count += 1;
-        }
+        states.push(read_state(row)?)?;
     }
-    Ok(count)
+    Ok(states)
 }
 
 /// The row of a device.
@@ -138,30 +125,43 @@ pub fn device_row<S: Alter>(
     first_device(rows.as_slice())
 }
 
-/// The rows of a customer's devices, by chip.
-pub fn own_devices<S: Alter>(
+impl ReadRow for DeviceRow {
+    ghost reads = { λ r. device_in (Null ∷ r) };
+
+    fn read_row(row: &Row) -> Result<DeviceRow, Error> {
+        let serial = serial_if_at(row, 9)?;
+        read_device(row, serial)
+    }
+}
+
+/// Hands a customer's devices to the sink, by chip, while it goes on.
+pub fn visit_devices<S: Alter, K: Sink<DeviceRow>>(
+    conn: &mut Connection<S>,
+    customer: &Name,
+    sink: &mut K,
+) -> Result<(), Error>
+    requires { HasOffice (state S.Store conn.old) }
+    ensures { Asks S.Store conn.old conn.new result (λ t _. Visits K.takes sink.old (filter (is_of customer.now) t.devices) sink.new) }
+{
+    visit_rows::<S, DeviceRow, K>(
+        conn,
+        "SELECT customer, chip, ord, map, state, reason, bits, keys, todo, serial FROM device WHERE customer = ?1 ORDER BY customer, chip",
+        params![customer.as_str()],
+        sink,
+    )
+}
+
+/// The orders and states of a customer's devices, by chip.
+pub fn order_states<S: Alter>(
     alloc: Global,
     conn: &mut Connection<S>,
     customer: &Name,
-) -> Result<Vec<DeviceRow>, Error>
+) -> Result<Vec<OrderState>, Error>
     requires { HasOffice (state S.Store conn.old) }
-    ensures { Asks S.Store conn.old conn.new result (λ t rows. rows.items ≡ filter (is_of customer.now) t.devices) }
+    ensures { Asks S.Store conn.old conn.new result (λ t states. states.items ≡ map order_state (filter (is_of customer.now) t.devices)) }
 {
-    let rows = own_device_rows(conn, customer)?;
-    read_devices(alloc, rows.as_slice())
-}
-
-/// How many places of a customer's order are taken.
-pub fn places_taken<S: Alter>(
-    conn: &mut Connection<S>,
-    customer: &Name,
-    order: &Name,
-) -> Result<u64, Error>
-    requires { HasOffice (state S.Store conn.old) }
-    ensures { Asks S.Store conn.old conn.new result (λ t count. count ≡ places_taken order.now (own customer.now t.devices)) }
-{
-    let rows = state_rows(conn, customer, order)?;
-    count_places(rows.as_slice())
+    let rows = state_rows(conn, customer)?;
+    read_states(alloc, rows.as_slice())
 }
 
 fn reason_text_of(state: DeviceState) -> Option<&'static str>

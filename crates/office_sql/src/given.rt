@@ -2,6 +2,7 @@
 ghost use Rattle.std.specs.Prelude.{◌≡◌, ◌∷◌, ℕ, Some, IfOk, IsTrue, map, filter, option_map, option_and_then, slice_get, string_bytes};
 ghost use Rattle.sqlite.specs.Held.{state};
 ghost use Rattle.sqlite.specs.declared.types.Value.TheVariants.{Null};
+ghost use Rattle.office_tables.specs.Keeping.{Visits};
 ghost use Rattle.office_tables.specs.Tables.{IsAddressFree, IsFree, is_given, is_bound, is_of_issuer, has_address, given_at, given_by_key};
 ghost use Rattle.office_tables.specs.declared.rows.Write.TheVariants.{AddGiven as TheGiven};
 ghost use Rattle.id_ranges.specs.Mac as spec;
@@ -16,8 +17,9 @@ ghost use Rattle.office_sql.specs.Asking.{Asks, Changes, HasOffice};
 
 use crate::address::address_text;
 use crate::read::{DAMAGED, chip_if_at, key_at, mac_if_at, name_at, serial_at, time_at};
+use crate::visit::{ReadRow, visit_rows};
 use id_ranges::{KeyDigest, Mac};
-use office_tables::{Given, GivenRow, Owned};
+use office_tables::{Given, GivenRow, Owned, Sink};
 use sqlite::{Alter, Connection, Error, Row, Transaction, params};
 use std::alloc::Global;
 use text_core::{Chip, Name};
@@ -50,16 +52,6 @@ fn rows_by_key<S: Alter>(
     )
 }
 
-fn rows_of<S: Alter>(conn: &mut Connection<S>, issuer: &Name) -> Result<Vec<Row>, Error>
-    requires { HasOffice (state S.Store conn.old) }
-    ensures { Asks S.Store conn.old conn.new result (λ t rows. map (λ r. given_in (Null ∷ r)) rows.items ≡ filter (is_of_issuer issuer.now) t.given) }
-{
-    conn.query_all(
-        "SELECT issuer, serial, customer, key, chip, mac, not_after FROM given WHERE issuer = ?1 ORDER BY issuer, serial",
-        params![issuer.as_str()],
-    )
-}
-
 fn device_at(row: &Row) -> Result<(Option<Chip>, Option<Mac>), Error>
     ensures { IfOk result (λ device. (device.0 ≡ text_if (column row.now 4)) × (device.1 ≡ mac_if (column row.now 5))) }
 {
@@ -89,23 +81,9 @@ fn first_given(rows: &[Row]) -> Result<Option<GivenRow>, Error>
     ensures { IfOk result (λ given. given ≡ option_map (λ r. given_in (Null ∷ r)) (slice_get rows.now 0)) }
 {
     match rows.first() {
-        Some(row) => {
-            let (chip, mac) = device_at(row)?;
-            Ok(Some(read_given(row, chip, mac)?))
-        }
+        Some(row) => Ok(Some(GivenRow::read_row(row)?)),
         None => Ok(None),
     }
-}
-
-fn read_all(alloc: Global, rows: &[Row]) -> Result<Vec<GivenRow>, Error>
-    ensures { IfOk result (λ given. given.items ≡ map (λ r. given_in (Null ∷ r)) rows.now) }
-{
-    let mut all = Vec::new(alloc);
-    for row in rows {
-        let (chip, mac) = device_at(row)?;
-        all.push(read_given(row, chip, mac)?)?;
-    }
-    Ok(all)
 }
 
 /// The record of a serial number of an issuer.
@@ -134,17 +112,30 @@ pub fn given_by_key<S: Alter>(
     first_given(rows.as_slice())
 }
 
-/// The records of an issuer, in the order of their serial numbers.
-pub fn given_of<S: Alter>(
-    alloc: Global,
+impl ReadRow for GivenRow {
+    ghost reads = { λ r. given_in (Null ∷ r) };
+
+    fn read_row(row: &Row) -> Result<GivenRow, Error> {
+        let (chip, mac) = device_at(row)?;
+        read_given(row, chip, mac)
+    }
+}
+
+/// Hands the records of an issuer to the sink, by serial number, while it goes on.
+pub fn visit_given<S: Alter, K: Sink<GivenRow>>(
     conn: &mut Connection<S>,
     issuer: &Name,
-) -> Result<Vec<GivenRow>, Error>
+    sink: &mut K,
+) -> Result<(), Error>
     requires { HasOffice (state S.Store conn.old) }
-    ensures { Asks S.Store conn.old conn.new result (λ t rows. rows.items ≡ filter (is_of_issuer issuer.now) t.given) }
+    ensures { Asks S.Store conn.old conn.new result (λ t _. Visits K.takes sink.old (filter (is_of_issuer issuer.now) t.given) sink.new) }
 {
-    let rows = rows_of(conn, issuer)?;
-    read_all(alloc, rows.as_slice())
+    visit_rows::<S, GivenRow, K>(
+        conn,
+        "SELECT issuer, serial, customer, key, chip, mac, not_after FROM given WHERE issuer = ?1 ORDER BY issuer, serial",
+        params![issuer.as_str()],
+        sink,
+    )
 }
 
 fn rows_with_address<S: Alter>(tx: &mut Transaction<'_, S>, text: &str) -> Result<Vec<Row>, Error>

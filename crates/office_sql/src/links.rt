@@ -3,6 +3,7 @@ ghost use Rattle.std.specs.Prelude.{◌≡◌, ◌∷◌, IfOk, IsTrue, map, fil
 ghost use Rattle.sqlite.specs.Held.{state};
 ghost use Rattle.sqlite.specs.declared.types.Value.TheVariants.{Null};
 ghost use Rattle.office_tables.specs.declared.rows.Write.TheVariants.{AddLink as TheLink};
+ghost use Rattle.office_tables.specs.Keeping.{Visits};
 ghost use Rattle.office_tables.specs.Tables.{is_link, is_of, link_at, IsFree};
 ghost use Rattle.office_sql.specs.Rows.{link_in};
 ghost use Rattle.office_sql.specs.Tables.{tables_in};
@@ -11,7 +12,8 @@ ghost use Rattle.office_sql.specs.Asking.{Asks, Changes, HasOffice};
 
 use crate::number::whole;
 use crate::read::{digest_at, name_at, whole_at};
-use office_tables::{Link, LinkRow, Owned};
+use crate::visit::{ReadRow, visit_rows};
+use office_tables::{Link, LinkRow, Owned, Sink};
 use sqlite::{Alter, Connection, Error, Row, Transaction, params};
 use std::alloc::Global;
 use text_core::{Digest, Name};
@@ -27,16 +29,6 @@ fn link_rows<S: Alter>(
     conn.query_all(
         "SELECT customer, digest, map FROM link WHERE customer = ?1 AND digest = ?2 ORDER BY customer, digest",
         params![customer.as_str(), digest.as_bytes().as_slice()],
-    )
-}
-
-fn own_rows<S: Alter>(conn: &mut Connection<S>, customer: &Name) -> Result<Vec<Row>, Error>
-    requires { HasOffice (state S.Store conn.old) }
-    ensures { Asks S.Store conn.old conn.new result (λ t rows. map (λ r. link_in (Null ∷ r)) rows.items ≡ filter (is_of customer.now) t.links) }
-{
-    conn.query_all(
-        "SELECT customer, digest, map FROM link WHERE customer = ?1 ORDER BY customer, digest",
-        params![customer.as_str()],
     )
 }
 
@@ -61,16 +53,6 @@ fn first_link(rows: &[Row]) -> Result<Option<LinkRow>, Error>
     }
 }
 
-fn read_links(alloc: Global, rows: &[Row]) -> Result<Vec<LinkRow>, Error>
-    ensures { IfOk result (λ links. links.items ≡ map (λ r. link_in (Null ∷ r)) rows.now) }
-{
-    let mut links = Vec::new(alloc);
-    for row in rows {
-        links.push(read_link(row)?)?;
-    }
-    Ok(links)
-}
-
 /// A customer's link to a map, by the digest of the map's text.
 pub fn link_row<S: Alter>(
     conn: &mut Connection<S>,
@@ -84,17 +66,29 @@ pub fn link_row<S: Alter>(
     first_link(rows.as_slice())
 }
 
-/// A customer's links, by digest.
-pub fn own_links<S: Alter>(
-    alloc: Global,
+impl ReadRow for LinkRow {
+    ghost reads = { λ r. link_in (Null ∷ r) };
+
+    fn read_row(row: &Row) -> Result<LinkRow, Error> {
+        read_link(row)
+    }
+}
+
+/// Hands a customer's links to the sink, by digest, while it goes on.
+pub fn visit_links<S: Alter, K: Sink<LinkRow>>(
     conn: &mut Connection<S>,
     customer: &Name,
-) -> Result<Vec<LinkRow>, Error>
+    sink: &mut K,
+) -> Result<(), Error>
     requires { HasOffice (state S.Store conn.old) }
-    ensures { Asks S.Store conn.old conn.new result (λ t rows. rows.items ≡ filter (is_of customer.now) t.links) }
+    ensures { Asks S.Store conn.old conn.new result (λ t _. Visits K.takes sink.old (filter (is_of customer.now) t.links) sink.new) }
 {
-    let rows = own_rows(conn, customer)?;
-    read_links(alloc, rows.as_slice())
+    visit_rows::<S, LinkRow, K>(
+        conn,
+        "SELECT customer, digest, map FROM link WHERE customer = ?1 ORDER BY customer, digest",
+        params![customer.as_str()],
+        sink,
+    )
 }
 
 /// Adds a customer's link to a map that is there.

@@ -98,7 +98,7 @@ fn number_of(rowid: i64) -> Result<u64, Error>
 fn new_map<S: Alter>(tx: &mut Transaction<'_, S>, map: &Owned<NewMap>) -> Result<u64, Error>
     requires { HasOffice (state S.Store tx.old.conn.now) }
     ensures same_reference { tx.new.conn.ghost_name ≡ tx.old.conn.ghost_name }
-    ensures changes { Changes S.Store tx.old.conn.now tx.new.conn.now result (λ old new id. GainsMap (record { id = id; body = map.now.row.body }) old new) }
+    ensures changes { Changes S.Store tx.old.conn.now tx.new.conn.now result (λ old new id. GainsMap map.now id old new) }
 {
     tx.execute(
         "INSERT INTO map (body, digest) VALUES (?1, ?2)",

@@ -5,6 +5,7 @@ ghost use Rattle.id_ranges.specs.Mac.{mac_of_text};
 ghost use Rattle.sqlite.specs.Held.{state};
 ghost use Rattle.sqlite.specs.Order.{column};
 ghost use Rattle.sqlite.specs.declared.types.Value.TheVariants.{Null};
+ghost use Rattle.office_tables.specs.Keeping.{Visits};
 ghost use Rattle.office_tables.specs.Tables.{is_of, is_order, order_at, IsFree};
 ghost use Rattle.office_tables.specs.declared.rows.Write.TheVariants.{AddOrder as TheOrder, SetCursor as TheCursor};
 ghost use Rattle.office_sql.specs.Asking.{Asks, Changes, HasOffice};
@@ -16,8 +17,9 @@ ghost use Rattle.office_sql.specs.Values.{mac_if, number_in};
 use crate::address::address_text;
 use crate::number::whole;
 use crate::read::{DAMAGED, mac_if_at, name_at, text_at, whole_at};
+use crate::visit::{ReadRow, visit_rows};
 use id_ranges::{Mac, SerialRange};
-use office_tables::{Cursor, Order, OrderRow, Owned};
+use office_tables::{Cursor, Order, OrderRow, Owned, Sink};
 use sqlite::{Alter, Connection, Error, Row, Transaction, params};
 use std::alloc::Global;
 use text_core::{LARGEST_WHOLE, Name};
@@ -39,16 +41,6 @@ fn order_rows<S: Alter>(
     conn.query_all(
         "SELECT customer, name, issuer, prefix, width, first, quantity, macs, mac, cursor FROM orders WHERE customer = ?1 AND name = ?2 ORDER BY customer, name",
         params![customer.as_str(), name.as_str()],
-    )
-}
-
-fn own_rows<S: Alter>(conn: &mut Connection<S>, customer: &Name) -> Result<Vec<Row>, Error>
-    requires { HasOffice (state S.Store conn.old) }
-    ensures { Asks S.Store conn.old conn.new result (λ t rows. map (λ r. order_in (Null ∷ r)) rows.items ≡ filter (is_of customer.now) t.orders) }
-{
-    conn.query_all(
-        "SELECT customer, name, issuer, prefix, width, first, quantity, macs, mac, cursor FROM orders WHERE customer = ?1 ORDER BY customer, name",
-        params![customer.as_str()],
     )
 }
 
@@ -107,23 +99,9 @@ fn first_order(rows: &[Row]) -> Result<Option<OrderRow>, Error>
     ensures { IfOk result (λ order. order ≡ option_map (λ r. order_in (Null ∷ r)) (slice_get rows.now 0)) }
 {
     match rows.first() {
-        Some(row) => {
-            let mac = mac_if_at(row, 8)?;
-            Ok(Some(read_order(row, mac)?))
-        }
+        Some(row) => Ok(Some(OrderRow::read_row(row)?)),
         None => Ok(None),
     }
-}
-
-fn read_orders(alloc: Global, rows: &[Row]) -> Result<Vec<OrderRow>, Error>
-    ensures { IfOk result (λ orders. orders.items ≡ map (λ r. order_in (Null ∷ r)) rows.now) }
-{
-    let mut orders = Vec::new(alloc);
-    for row in rows {
-        let mac = mac_if_at(row, 8)?;
-        orders.push(read_order(row, mac)?)?;
-    }
-    Ok(orders)
 }
 
 /// The row of an order.
@@ -139,17 +117,30 @@ pub fn order_row<S: Alter>(
     first_order(rows.as_slice())
 }
 
-/// The rows of a customer's orders, by name.
-pub fn own_orders<S: Alter>(
-    alloc: Global,
+impl ReadRow for OrderRow {
+    ghost reads = { λ r. order_in (Null ∷ r) };
+
+    fn read_row(row: &Row) -> Result<OrderRow, Error> {
+        let mac = mac_if_at(row, 8)?;
+        read_order(row, mac)
+    }
+}
+
+/// Hands a customer's orders to the sink, by name, while it goes on.
+pub fn visit_orders<S: Alter, K: Sink<OrderRow>>(
     conn: &mut Connection<S>,
     customer: &Name,
-) -> Result<Vec<OrderRow>, Error>
+    sink: &mut K,
+) -> Result<(), Error>
     requires { HasOffice (state S.Store conn.old) }
-    ensures { Asks S.Store conn.old conn.new result (λ t rows. rows.items ≡ filter (is_of customer.now) t.orders) }
+    ensures { Asks S.Store conn.old conn.new result (λ t _. Visits K.takes sink.old (filter (is_of customer.now) t.orders) sink.new) }
 {
-    let rows = own_rows(conn, customer)?;
-    read_orders(alloc, rows.as_slice())
+    visit_rows::<S, OrderRow, K>(
+        conn,
+        "SELECT customer, name, issuer, prefix, width, first, quantity, macs, mac, cursor FROM orders WHERE customer = ?1 ORDER BY customer, name",
+        params![customer.as_str()],
+        sink,
+    )
 }
 
 // With the text of its address.

@@ -1,13 +1,14 @@
 // Lists of writes, each list in one transaction.
-ghost use Rattle.std.specs.Prelude.{◌≡◌, ◌<◌, ⊤, false, length, IsTrue, OnOk, OnErr};
+ghost use Rattle.std.specs.Prelude.{◌≡◌, ◌<◌, false, length, IsTrue, OnOk, OnErr};
 ghost use Rattle.sqlite.specs.State.{HasCleanDisk, Survives};
 ghost use Rattle.sqlite.specs.Held.{state};
-ghost use Rattle.office_tables.specs.Tables.{CanWrite, IsFree, Written};
+ghost use Rattle.office_tables.specs.Tables.{CanWrite, IsFree};
 ghost use Rattle.office_sql.specs.Tables.{tables_in};
-ghost use Rattle.office_sql.specs.Change.{IsMade, IsUndone, Wrote};
-ghost use Rattle.office_sql.specs.Asking.{Asks, Changes, HasOffice};
+ghost use Rattle.office_sql.specs.Change.{IsMade, IsUndone, LeavesMade, Wrote};
+ghost use Rattle.office_sql.specs.Asking.{Changes, HasOffice};
 ghost use Rattle.office_sql.specs.Keeping.{IsReady};
 
+use crate::ask::ask_open;
 use crate::devices::{add_device, put_device};
 use crate::given::add_given;
 use crate::ledger::add_entry;
@@ -16,7 +17,7 @@ use crate::maps::add_map;
 use crate::orders::{add_order, set_cursor};
 use crate::seats::put_seat;
 use office_tables::Write;
-use sqlite::{Alter, Connection, Error, Row, Transaction};
+use sqlite::{Alter, Connection, Error, Transaction};
 use std::alloc::Global;
 
 /// Makes one write.
@@ -56,21 +57,13 @@ fn write_all<S: Alter>(
     ensures mode { conn.new.in_transaction ≡ false }
     ensures ok { HasCleanDisk (state S.Store conn.new) → OnOk result (IsMade writes.now (state S.Store conn.old) (state S.Store conn.new)) }
     ensures err { HasCleanDisk (state S.Store conn.new) → OnErr result (IsUndone (state S.Store conn.old) (state S.Store conn.new)) }
-    ensures crash { Survives (state S.Store conn.old) (state S.Store conn.new) (λ trees. IsTrue (state S.Store conn.old).is_open × Written writes.now (tables_in (state S.Store conn.old).now.trees) (tables_in trees)) }
+    ensures crash { Survives (state S.Store conn.old) (state S.Store conn.new) (LeavesMade writes.now (state S.Store conn.old)) }
 {
     let mut tx = conn.transaction();
     for write in writes {
         write_one(alloc, &mut tx, write)?;
     }
     tx.commit()
-}
-
-/// The rows that tell that the store is open.
-fn meta_rows<S: Alter>(conn: &mut Connection<S>) -> Result<Vec<Row>, Error>
-    requires { HasOffice (state S.Store conn.old) }
-    ensures { Asks S.Store conn.old conn.new result (λ _ _. ⊤) }
-{
-    conn.query_all("SELECT id FROM meta ORDER BY id", &[])
 }
 
 /// Makes the writes in one transaction, all of them or none. For none it only asks whether the store
@@ -85,10 +78,10 @@ pub fn commit<S: Alter>(
     ensures mode { conn.new.in_transaction ≡ false }
     ensures ok { HasCleanDisk (state S.Store conn.new) → OnOk result (IsMade writes.now (state S.Store conn.old) (state S.Store conn.new)) }
     ensures err { HasCleanDisk (state S.Store conn.new) → OnErr result (IsUndone (state S.Store conn.old) (state S.Store conn.new)) }
-    ensures crash { Survives (state S.Store conn.old) (state S.Store conn.new) (λ trees. IsTrue (state S.Store conn.old).is_open × Written writes.now (tables_in (state S.Store conn.old).now.trees) (tables_in trees)) }
+    ensures crash { Survives (state S.Store conn.old) (state S.Store conn.new) (LeavesMade writes.now (state S.Store conn.old)) }
 {
     if writes.is_empty() {
-        meta_rows(conn)?;
+        ask_open(conn)?;
         return Ok(());
     }
     write_all(alloc, conn, writes)

@@ -1,4 +1,4 @@
--- What the query of an order's states shows are those states.
+-- What the query of a customer's devices shows are their orders and states.
 use Rattle.std.proofs.Common.{refl, [], ◌∷◌}
 use Rattle.sqlite.specs.declared.types.Value.TheVariants.{Text}
 use Rattle.sqlite.specs.Held.{state}
@@ -10,8 +10,6 @@ use Rattle.office_sql.proofs.devices.state_rows.Goals as goal
 pub returns : goal.returns
 returns g c =
     let customer = c.args.customer.now in
-    let order = c.args.order.now in
-    asked g.S.Store states_text 9 (is_given 1 0 ∷ is_given 3 1 ∷ []) states_shown by_key states_read _ (Text customer ∷ Text order ∷ [])
-    (rw (c.params-to_sql.ensures, c.params-to_sql-2.ensures, c.as_str.ensures.same, c.as_str-2.ensures.same) refl) c.args.conn.now c.query_all.new.self c.query_all.result _ c.requires
-    (λ rows office s. states_shown_are customer order ((state g.S.Store c.args.conn.now).now.trees 9) rows.items office.devices s)
+    asked g.S.Store states_text 9 (is_given 1 0 ∷ []) states_shown by_key states_read _ (Text customer ∷ []) (rw (c.params-to_sql.ensures, c.as_str.ensures.same) refl) c.args.conn.now c.query_all.new.self c.query_all.result _ c.requires
+    (λ rows office s. states_shown_are customer ((state g.S.Store c.args.conn.now).now.trees 9) rows.items office.devices s)
     c.query_all.ensures.ok c.query_all.ensures.err c.query_all.ensures.mode c.query_all.ensures.survives

@@ -22,7 +22,7 @@ returns-clause-changes g c =
     let m = c.args.map.now in
     let old = c.args.tx.now.conn.now in
     let new = c.execute.new.self.conn.now in
-    let Gains = λ (x y : Database) (_ : ℕ). (id : ℕ) → (state g.S.Store new).last_rowid ≡ pos id → GainsMap (record { id = id; body = m.row.body }) x y in
+    let Gains = λ (x y : Database) (_ : ℕ). (id : ℕ) → (state g.S.Store new).last_rowid ≡ pos id → GainsMap m id x y in
     let back = to_z-of_z w64 c.last_insert_rowid.result (record { sfits = c.last_insert_rowid.type_inv }) in
     answered g.S.Store old new c.in_ok-execute.field-0 c.number_of.result Gains _
     (changes g.S.Store add_text _ (map_columns m) (search rules) old new (Ok c.in_ok-execute.field-0) Gains c.requires

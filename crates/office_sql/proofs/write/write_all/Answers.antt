@@ -1,12 +1,10 @@
 use Rattle.std.proofs.Common.{◌≡◌, rules, subst, sym, take, IsTrue}
 use Rattle.std.proofs.lemmas.List.{take_more, take_all}
-use Rattle.sqlite.specs.Tree.{Trees}
 use Rattle.sqlite.specs.State.{Survives}
 use Rattle.sqlite.specs.Held.{state}
 use Rattle.sqlite.proofs.StateLemmas.{survives_then, clean_if_open}
-use Rattle.office_tables.specs.Tables.{Written}
-use Rattle.office_sql.specs.Change.{HasMade}
-use Rattle.office_sql.specs.Tables.{tables_in}
+use Rattle.office_sql.specs.Change.{HasMade, HasWritten, LeavesMade}
+use Rattle.office_sql.specs.Tables.{IsOffice, office_over, tables_in}
 use Rattle.office_sql.proofs.Asked.{was_clean}
 use Rattle.office_sql.proofs.Making.{made_more, free_at}
 use Rattle.office_sql.proofs.write.write_all.Goals as goal
@@ -31,12 +29,15 @@ returns-clause-crash g c =
     let old = state g.S.Store c.args.conn.now in
     let last = state g.S.Store c.loop-write.tx.conn.now in
     let so_far = c.loop-write.invariant in
-    let P = λ (trees : Trees). IsTrue old.is_open × Written c.args.writes.now (tables_in old.now.trees) (tables_in trees) in
+    let P = LeavesMade c.args.writes.now old in
     let whole = survives_then old last (state g.S.Store c.commit.new.self.0) _ _ P (λ _ db none. absurd none)
     (λ clean db is.
     let all = take_all c.loop-write.write-index c.args.writes.now c.loop-write-test.false in
     let h = subst (λ ws. HasMade ws old last) all (so_far.2 (was_clean last _ _ c.commit.ensures.survives clean)) in
-    (h.was_open (h.is_open c.requires.some), subst (λ trees. Written c.args.writes.now (tables_in old.now.trees) (tables_in trees)) (sym is) h.tables)) so_far.1 c.commit.ensures.survives in
+    let up = h.is_open c.requires.some in
+    let office = h.office up in
+    let left : office_over db ≡ last.now = λ i. record { schema = sym office.schema i; trees = is i } in
+    (h.was_open up, subst IsOffice (sym left) office, subst (HasWritten c.args.writes.now old.now) (sym left) h.written)) so_far.1 c.commit.ensures.survives in
     let same : c.commit.new.self.0 ≡ c.conn-2-1.given.0 = search rules in
     subst (λ h. Survives old (state g.S.Store h) P) same whole
 
@@ -50,4 +51,4 @@ write_one-requires-clause-free g c up =
     let store = c.loop-write.tx.conn.now.store in
     let old = state g.S.Store c.args.conn.now in
     let h = c.loop-write.invariant.2 (clean_if_open (g.S.Store.view store) (g.met.S.Store.shut_if_dirty store) up) in
-    free_at c.args.writes.now c.loop-write.write-index c.write-item.result (tables_in old.now.trees) _ (search rules) (search rules) (c.requires.free (h.was_open up)) h.tables
+    free_at c.args.writes.now c.loop-write.write-index c.write-item.result (tables_in old.now.trees) _ (search rules) (search rules) (c.requires.free (h.was_open up)) h.written.tables

@@ -1,0 +1,11 @@
+-- The states that are read are those that the query shows.
+use Rattle.std.proofs.Common.{rules, ◌∙◌}
+use Rattle.std.proofs.lemmas.Result.{IfOk-weaker}
+use Rattle.office_sql.proofs.Reading.{asks_more}
+use Rattle.office_sql.proofs.devices.order_states.Goals as goal
+
+pub returns : goal.returns
+returns g c =
+    asks_more g.S.Store c.args.conn.now c.state_rows.new.conn c.state_rows.result c.read_states.result _ _ c.state_rows.ensures
+    (λ t is. IfOk-weaker c.read_states.result _ _ (λ states e. e ∙ search rules) c.read_states.ensures)
+    (search rules)
