@@ -1,23 +1,21 @@
 -- From what the functions over SQL ask to what a keeper answers.
-use Rattle.std.proofs.Common.{◌≡◌, inl, inr, List, false, refl, sym, ap, subst, ◌∙◌, Result, Ok, Err, IfOk, OnOk, IsTrue, arith, ℕ, ◌+◌, ◌<◌, suc, get_or, drop, drop-cons, ◌∷◌, length}
-use Rattle.std.specs.Result.{result_ok, IsErr}
-use Rattle.std.specs.Prelude.{Bool, Vec}
-use Rattle.std.specs.declared.alloc.Global.{Global}
+use Rattle.std.proofs.Common.{◌≡◌, ℕ, List, inl, inr, false, sym, ap, subst, ◌∙◌, Result, Ok, Err, IfOk, OnOk, IsTrue, arith}
+use Rattle.std.specs.Result.{result_ok}
 use Rattle.sqlite.specs.Effect.{Database}
 use Rattle.sqlite.specs.Store.{Ghosts}
 use Rattle.sqlite.specs.Held.{Held, state}
 use Rattle.sqlite.specs.declared.error.Error.{Error}
 use Rattle.sqlite.specs.State.{State, HasCleanDisk, IsUnchanged}
-use Rattle.office_tables.specs.declared.keep.Unkept.{Unkept}
 use Rattle.office_tables.specs.Tables.{Tables}
-use Rattle.office_tables.specs.Keeping.{Answering, Visits}
+use Rattle.office_tables.specs.Keeping.{Answering}
 use Rattle.office_sql.specs.Asking.{Asks}
 use Rattle.office_sql.specs.Change.{Rests}
 use Rattle.office_sql.specs.Keeping.{IsReady}
 use Rattle.office_sql.specs.Tables.{IsOffice, tables_in}
-use Rattle.office_store.specs.Counting.{AreRight, IsKept}
-use Rattle.office_store.specs.declared.places.PlaceCounts.{PlaceCounts}
-use Rattle.office_store.specs.Keeping.{Hands, tables_of, is_open_at, is_honest_at, may_leave_at}
+use Rattle.office_store.specs.Kept.{Kept}
+use Rattle.office_store.specs.Remembering.{Agrees, IsKept}
+use Rattle.office_store.specs.declared.remembered.Remembered.{Remembered}
+use Rattle.office_store.specs.Keeping.{tables_of, is_open_at, is_honest_at, may_leave_at}
 
 -- a connection that is ready shows after a read what it showed before
 pub same_now : (old new : State) → IsReady old → Rests old new → IsTrue new.is_open → new.now ≡ old.now
@@ -35,10 +33,6 @@ if_ok : {A E F : Type 0} (P : A → Type 0) (r : Result A E) (q : Result A F) �
 if_ok P (Ok x) (Ok y) e h = subst P (let f = e in cc) h
 if_ok P (Err x) (Ok y) e h = absurd (let f = e in cc)
 if_ok P r (Err y) e h = tt
-
-no_answer : (P : Unit {0} → Type 0) (q : Result (Unit {0}) Unkept) → IsErr q → IfOk q P
-no_answer P (Ok x) h = absurd (let e = h in cc)
-no_answer P (Err e) h = tt
 
 module _ {S : Type 0} (g : Ghosts S) (old new : Held S) (ready : IsReady (state g old)) (clean : IsTrue (state g new).is_open → HasCleanDisk (state g new)) where
   -- what is asked of a connection at rest is what a keeper answers
@@ -63,50 +57,42 @@ module _ {S : Type 0} (g : Ghosts S) (old new : Held S) (ready : IsReady (state 
       said (Ok x) same h = subst (λ (d : Database). Says (tables_in d.trees) x) (ready.settled same.0.was_open) h
       said (Err e) same h = tt
 
+  -- the tables after a read are those that it saw
+  pub same_tables : {A : Type 0} (r : Result A Error) (Says : Tables → A → Type 0) → Asks g old new r Says → IsTrue (state g new).is_open → tables_of g new ≡ tables_in (state g old).now.trees
+  same_tables r Says asks up =
+      let rests = asks.rests (clean up) in
+      ap (λ (d : Database). tables_in d.trees) (rests.committed up ∙ sym (ready.settled (rests.was_open up)))
+
   -- a connection is ready after a read
   pub still_ready : {A : Type 0} (r : Result A Error) (Says : Tables → A → Type 0) → Asks g old new r Says → IsReady (state g new)
   still_ready r Says asks = rested (state g old) (state g new) ready (λ up. asks.rests (clean up)) (asks.mode ready.mode)
 
--- the same of a keeper, whose value is its connection
-module _ {S : Type 0} (g : Ghosts S) (old new : Held S) {counts : PlaceCounts} (is_kept : IsKept g old counts) (clean : IsTrue (state g new).is_open → HasCleanDisk (state g new)) where
-  pub answered : {A F : Type 0} (self : Held S) → old ≡ self → (r : Result A Error) (q : Result A F) (Says : Tables → A → Type 0) → result_ok q ≡ result_ok r → Asks g old new r Says
-      → Answering (is_open_at g) (is_honest_at g) (may_leave_at g) (tables_of g) self new q Says
-  answered self view r q Says is asks = subst (λ h. Answering (is_open_at g) (is_honest_at g) (may_leave_at g) (tables_of g) h new q Says) view (answers g old new is_kept.ready clean r q Says is asks)
+-- what is said of a connection is said of a keeper that has it
+abbrev pub Told : {S A F : Type 0} → Ghosts S → Kept S → Kept S → Result A F → (Tables → A → Type 0) → Type 0
+Told g old new q Says = Answering (λ k. is_open_at g k.conn) (λ k. is_honest_at g k.conn) (λ k. may_leave_at g k.conn) (λ k. tables_of g k.conn) old new q Says
 
-  -- and the rows that are asked for are what a sink visits
-  pub visited : {R K : Type 0} (self : Held S) → old ≡ self → (takes : K → R → Bool → K → Type 0) (r : Result (Vec R Global) Error) (q : Result (Unit {0}) Unkept) (before after : K) (kept : Tables → List R)
-      → Hands takes r before q after → Asks g old new r (λ t rows. rows.items ≡ kept t)
-      → Answering (is_open_at g) (is_honest_at g) (may_leave_at g) (tables_of g) self new q (λ t _. Visits takes before (kept t) after)
-  visited {R = R} self view takes r q before after kept hands asks =
-      let it = answers g old new is_kept.ready clean r r _ refl asks in
-      subst (λ h. Answering (is_open_at g) (is_honest_at g) (may_leave_at g) (tables_of g) h new q (λ t _. Visits takes before (kept t) after)) view (record {
-        reads = it.reads;
-        stays_open = λ honest. open_too r hands (it.stays_open honest);
-        says = λ up. told r hands (it.says up);
-      })
-    where
-      open_too : (r : Result (Vec R Global) Error) → Hands takes r before q after → IfOk r (λ _. is_open_at g new) → IfOk q (λ _. is_open_at g new)
-      open_too (Ok rows) h up = subst (λ q. IfOk q (λ _. is_open_at g new)) (sym h.0) up
-      open_too (Err e) h up = no_answer _ q h.0
+pub told : {S A F : Type 0} (g : Ghosts S) (old new : Held S) (site : List ℕ) (self : Kept S) → record { conn = old; site = site } ≡ self → (q : Result A F) (Says : Tables → A → Type 0)
+    → Answering (is_open_at g) (is_honest_at g) (may_leave_at g) (tables_of g) old new q Says → Told g self (record { conn = new; site = site }) q Says
+told g old new site self view q Says it = subst (λ k. Told g k (record { conn = new; site = site }) q Says) view (record {
+  reads = record { was_open = it.reads.was_open; same = it.reads.same; was_honest = it.reads.was_honest; crash = it.reads.crash };
+  stays_open = it.stays_open;
+  says = it.says;
+})
 
-      told : (r : Result (Vec R Global) Error) → Hands takes r before q after → IfOk r (λ rows. rows.items ≡ kept (tables_of g old)) → IfOk q (λ _. Visits takes before (kept (tables_of g old)) after)
-      told (Ok rows) h is = subst (λ q. IfOk q (λ _. Visits takes before (kept (tables_of g old)) after)) (sym h.0) (subst (λ l. Visits takes before l after) is h.1)
-      told (Err e) h is = no_answer _ q h.0
+-- the same of a keeper, of whose value its connection is a part
+module _ {S : Type 0} (g : Ghosts S) (old new : Held S) {remembered : Remembered} {owner : List ℕ} (is_kept : IsKept g old owner remembered) (clean : IsTrue (state g new).is_open → HasCleanDisk (state g new)) where
+  pub answered : {A F : Type 0} {site : List ℕ} (self : Kept S) → record { conn = old; site = site } ≡ self → (r : Result A Error) (q : Result A F) (Says : Tables → A → Type 0) → result_ok q ≡ result_ok r → Asks g old new r Says
+      → Told g self (record { conn = new; site = site }) q Says
+  answered {site = site} self view r q Says is asks = told g old new site self view q Says (answers g old new is_kept.ready clean r q Says is asks)
 
-  -- the keeper is as good as before, and so are its numbers
-  pub ready_after : {A : Type 0} (r : Result A Error) (Says : Tables → A → Type 0) → Asks g old new r Says → IsKept g new counts
+  -- the keeper is as good as before, and so is what it remembers
+  pub ready_after : {A : Type 0} (r : Result A Error) (Says : Tables → A → Type 0) → Asks g old new r Says → IsKept g new owner remembered
   ready_after r Says asks = record {
     ready = still_ready g old new is_kept.ready clean r Says asks;
     right = λ up. let rests = asks.rests (clean up) in
-        subst (λ (d : Database). AreRight (tables_in d.trees).devices counts) (sym (rests.committed up)) (is_kept.right (rests.was_open up));
+        subst (λ (d : Database). Agrees remembered (tables_in d.trees)) (sym (rests.committed up)) (is_kept.right (rests.was_open up));
+    left = λ honest db may. elim (asks.crash.crash honest db may) [ inl m ↦ is_kept.left (omega (arith, asks.crash.clean, honest)) db m | inr none ↦ absurd none ];
   }
-
--- what is left of a list from an index on
-pub left : {R : Type 0} (rows : List R) (i : ℕ) (row : R) → i < length rows → row ≡ get_or rows i row → drop i rows ≡ row ∷ drop (i + 1) rows
-left rows i row low is =
-    let cut : drop i rows ≡ get_or rows i row ∷ drop (suc i) rows = drop-cons rows i row low in
-    let one : i + 1 ≡ suc i = omega arith in
-    rw (cut, ← is, one) refl
 
 -- a connection that is ready where it is open is ready
 pub ready_if_open : (s : State) → s.in_transaction ≡ false → (IsTrue s.is_open → IsReady s) → IsReady s

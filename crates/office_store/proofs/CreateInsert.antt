@@ -14,7 +14,7 @@ use Rattle.sqlite.specs.Rows.{Task, Counts, CountsIn, Gives, Edited, Written, co
 use Rattle.sqlite.specs.Table.{Table}
 use Rattle.sqlite.specs.Tree.{Trees, put_row}
 use Rattle.sqlite.specs.Listing.{understood}
-use Rattle.sqlite.specs.Effect.{Database, value_rows}
+use Rattle.sqlite.specs.Effect.{Database, IsDatabase, value_rows}
 use Rattle.sqlite.specs.State.{State, mode_of, Executes}
 use Rattle.sqlite.proofs.Callers.{statement_of, runs_as, one_step}
 use Rattle.sqlite_rules.specs.Cast.{cast_row}
@@ -27,6 +27,7 @@ use Rattle.office_sql.proofs.Inserting.{IsInsert}
 -- the row is put into the table, and no other table changes
 pub record PutsRow (tree : ℕ) (row : Row) (old new : Database) : Type 0 where
   pub schema : new.schema ≡ office_schema
+  pub sound : IsDatabase new
   pub is : new.trees tree ≡ put_row row (old.trees tree)
   pub others : SameBut tree old.trees new.trees
 
@@ -67,6 +68,7 @@ module _ (text : List ℕ) (at : ℕ) (table : Table) (terms : List Term) (width
       ap (λ all. edited db (edit_of db table [] Chosen 0 all)) sources ∙ ap (λ r. edited db (record { table = table; gone = []; news = numbered Chosen (db table.tree) (r ∷ []) })) casts in
       record {
         schema = ap (λ (d : Database). d.schema) now;
+        sound = w.sound;
         is = ap (λ (d : Database). d.trees table.tree) now ∙ ap (λ (t : Trees). t table.tree) trees ∙ step.rows ∙ row;
         others = subst (λ (t : Trees). SameBut table.tree db t) (sym (ap (λ (d : Database). d.trees) now ∙ trees)) step.tables;
       }

@@ -1,8 +1,9 @@
 -- What a list of writes makes of the devices, and of the places that they take.
-use Rattle.std.proofs.Common.{◌≡◌, ◌+◌, ◌-◌, ◌∙◌, ◌<◌, ℕ, arith, List, [], ◌∷◌, length, Option, Some, None, refl, sym, ap}
+use Rattle.std.proofs.Common.{◌≡◌, ◌+◌, ◌-◌, ◌∙◌, ◌<◌, ℕ, arith, Bool, true, List, [], ◌∷◌, length, Option, Some, None, Ordering, Less, Equal, Greater, refl, sym, ap}
 use Rattle.std.specs.Prelude.{filter_map, find}
 use Rattle.std.specs.List.{cons_option}
-use Rattle.std.specs.Ordering.{is_eq}
+use Rattle.std.specs.Ordering.{is_eq, match_ordering}
+use Rattle.std.proofs.lemmas.Slice.Eq.{bytes_eq-Decides}
 use Rattle.office_tables.specs.declared.rows.Owned.{Owned}
 use Rattle.office_tables.specs.declared.rows.Device.{Device}
 use Rattle.office_tables.specs.declared.rows.Order.{Order}
@@ -10,7 +11,7 @@ use Rattle.office_tables.specs.declared.rows.Write.{Write}
 use Rattle.office_tables.specs.declared.rows.Write.TheVariants.{PutSeat, AddOrder, SetCursor, AddMap, AddLink, AddDevice, PutDevice, AddGiven, AddEntry}
 use Rattle.office_tables.specs.PlaceCounting.{place_of}
 use Rattle.office_tables.specs.Tables.{device_cmp, is_device, order_at, placed, with_cursor_of, IsInOrder, Tables, Writes, Written}
-use Rattle.office_tables.proofs.Places.{device_total, find_device, places, places_put, taken_by}
+use Rattle.office_tables.proofs.Places.{device_total, find_device, places, places_put, same_device, taken_by}
 use Rattle.office_store.specs.declared.written.WrittenDevices.{WrittenDevices}
 use Rattle.office_store.specs.declared.written.WrittenDevices.TheVariants.{Nothing, One, Several}
 use Rattle.office_store.specs.Counting.{AreCounts, AreRight}
@@ -67,6 +68,22 @@ followed d replaced rows after counts ordered is put right customer order number
     let same : taken_by customer order (find (λ y. is_eq (device_cmp d y)) rows) ≡ taken_by customer order replaced = ap (taken_by customer order) (find_device d.customer d.row.chip rows ∙ sym is) in
     let now : places customer order after ≡ places customer order (placed device_cmp d rows) = ap (places customer order) put in
     omega (arith, was, moved, same, now)
+
+-- what is put is found
+put_found : {A : Type 0} (cmp : A → A → Ordering) (x : A) → is_eq (cmp x x) ≡ true → (xs : List A) → find (λ y. is_eq (cmp x y)) (placed cmp x xs) ≡ Some x
+put_found cmp x itself [] = rw itself refl
+put_found cmp x itself (y ∷ ys) =
+    elim (cmp x y) as (λ o. cmp x y ≡ o → find (λ y. is_eq (cmp x y)) (match_ordering o (x ∷ y ∷ ys) (x ∷ ys) (y ∷ placed cmp x ys)) ≡ Some x) [
+      | Less ↦ λ _. rw itself refl
+      | Equal ↦ λ _. rw itself refl
+      | Greater ↦ λ e. rw e (put_found cmp x itself ys)
+    ] refl
+
+-- and so is a device
+pub device_found : (d : Owned Device) (rows : List (Owned Device)) → find (is_device d.customer d.row.chip) (placed device_cmp d rows) ≡ Some d
+device_found d rows =
+    let itself : is_device d.customer d.row.chip d ≡ true = rw ((bytes_eq-Decides d.customer d.customer).1 refl, (bytes_eq-Decides d.row.chip d.row.chip).1 refl) refl in
+    sym (find_device d.customer d.row.chip (placed device_cmp d rows)) ∙ put_found device_cmp d (ap (λ (test : Owned Device → Bool). test d) (same_device d.customer d.row.chip) ∙ itself) rows
 
 -- two devices are several
 pub two_found : (a b : Owned Device) (rest all : List (Owned Device)) → all ≡ a ∷ b ∷ rest → 1 < length all

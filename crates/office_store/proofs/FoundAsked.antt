@@ -1,5 +1,5 @@
 -- From what `query_all` promises to what the tests of a found file do.
-use Rattle.std.proofs.Common.{◌≡◌, sym, ℕ, List, [], false, subst, inl, inr, ◌∙◌, Result, Ok, Err, IfOk, IfErr, OnOk}
+use Rattle.std.proofs.Common.{◌≡◌, ◌↔◌, sym, ℕ, List, [], false, subst, inl, inr, ◌∙◌, Result, Ok, Err, IfOk, IfErr, OnOk}
 use Rattle.std.proofs.lemmas.Result.{IfOk-weaker}
 use Rattle.std.specs.Prelude.{Vec}
 use Rattle.std.specs.declared.alloc.Global.{Global}
@@ -17,23 +17,32 @@ use Rattle.office_sql.specs.Change.{Rests}
 use Rattle.office_store.specs.Found.{HasSchema, Tests}
 use Rattle.office_sql.specs.Keeping.{IsReady}
 use Rattle.office_sql.specs.Tables.{IsOffice}
-use Rattle.office_sql.proofs.Asked.{was_clean, leaves, reads_scan, shown_open, query_rests}
+use Rattle.office_sql.proofs.Asked.{was_clean, leaves, shown_open, query_rests}
 use Rattle.office_sql.proofs.Bare.{bare_commits_nothing}
-use Rattle.office_sql.proofs.Reading.{IsRead}
-use Rattle.office_sql.proofs.Scan.{Scanned}
+use Rattle.office_sql.proofs.LedgerAsked.{IsReadAs, scan_first}
+use Rattle.office_sql.specs.Scan.{passes}
+use Rattle.office_sql.specs.Schema.{office_schema}
+use Rattle.office_store.proofs.FoundReads.{first_passes}
+use Rattle.sqlite.proofs.Callers.{reads_as}
+use Rattle.sqlite.specs.Command.TheVariants.{Select}
+use Rattle.sqlite.specs.Program.{overlay}
+use Rattle.sqlite.specs.declared.types.Value.TheVariants.{Null}
+use Rattle.std.specs.List.{AllByRecursion}
 
-module _ {S : Type 0} (g : Ghosts S) (text : List ℕ) (tree : ℕ) (tests shown : List Term) (order : List (Term × Key)) (read : IsRead text tree tests shown order) (old new : Held S) where
+module _ {S : Type 0} (g : Ghosts S) (text : List ℕ) (tree : ℕ) (tests shown : List Term) (order : List (Term × Key)) (read : IsReadAs text (scan_first tree tests shown order)) (there : (db : Trees) → overlay db [] tree ≡ db tree) (old new : Held S) where
   -- a query with no parameters, of a database whose schema is the office's
   pub tested : (r : Result (Vec Row Global) Error) (Says : Trees → Vec Row Global → Type 0)
       → HasSchema (state g old)
-      → ((rows : Vec Row Global) → Scanned tests shown order [] ((state g old).now.trees tree) rows.items → Says (state g old).now.trees rows)
+      → ((rows : Vec Row Global) → (rows.items ≡ []) ↔ AllByRecursion (λ r. passes tests [] r ≡ false) ((state g old).now.trees tree) → Says (state g old).now.trees rows)
       → (HasCleanDisk (state g new) → IfOk r (λ v. Shown text [] (state g old) (state g new) v.items)) → (HasCleanDisk (state g new) → IfErr r (FailsToQuery text [] (state g old) (state g new)))
       → (old.in_transaction ≡ false → new.in_transaction ≡ false) → Survives (state g old) (state g new) (CommitsShowing text [] (state g old))
       → Tests g old new r Says
   tested r Says has says ok err mode survives = record {
     says = λ clean. IfOk-weaker r _ _ (λ rows h.
         let schema = has (shown_open text [] (state g old) (state g new) rows.items read.bare h) in
-        says rows (subst (λ l. Scanned tests shown order [] l rows.items) (read.there (state g old).now.trees) (reads_scan text [] (state g old) (state g new) read.plain tree tests shown order read.names read.is read.unlisted schema rows.items h))) (ok clean);
+        let db = (state g old).now.trees in
+        let answer = (reads_as text [] (state g old) (state g new) office_schema schema (Select (record { lets = []; body = scan_first tree tests shown order }) read.names) read.is read.plain read.unlisted rows.items h).answer Null in
+        says rows (subst (λ l. (rows.items ≡ []) ↔ AllByRecursion (λ r. passes tests [] r ≡ false) l) (there db) (first_passes tree tests shown order (overlay db []) rows.items answer))) (ok clean);
     same = λ clean. unchanged r (ok clean);
     rests = λ clean. query_rests text [] (state g old) (state g new) r (λ v. v.items) read.bare (ok clean) (err clean);
     mode = mode;

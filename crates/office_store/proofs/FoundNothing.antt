@@ -1,10 +1,12 @@
 -- A database without tables has no rows.
 use Rattle.std.proofs.Common.{◌≡◌, ℕ, ◌≢◌, [], map, subst, inl, inr}
 use Rattle.sqlite.specs.Tree.{Trees}
-use Rattle.sqlite.specs.View.{View, IsShaped, IsOrdered}
+use Rattle.sqlite.specs.View.{IsShaped, IsOrdered}
+use Rattle.sqlite_trees.specs.declared.store.Shape.{Shape}
+use Rattle.sqlite_trees.specs.declared.store.Shape.TheVariants as shape
 use Rattle.sqlite_trees.specs.Objects.{catalog_tree, version_tree, IsListed}
 use Rattle.sqlite_catalog.specs.Listing.{IsSound}
-use Rattle.sqlite_catalog.proofs.LayoutLemmas.{named_tree, objects_rise}
+use Rattle.sqlite_catalog.proofs.LayoutLemmas.{named_tree}
 use Rattle.sqlite_keyed.specs.Lists.{sort_by}
 use Rattle.office_tables.specs.Tables.{no_rows, seat_cmp, order_cmp, map_cmp, link_cmp, device_cmp, given_cmp, entry_cmp}
 use Rattle.office_sql.specs.Schema.{no_schema}
@@ -23,17 +25,20 @@ no_rows_in db seats maps links orders devices given ledger = λ i. record {
   ledger = sort_by entry_cmp (map entry_in (ledger i));
 }
 
-module _ (v : View) (sound : IsSound no_schema v.trees) (listed : IsListed (v.trees catalog_tree) v.shape v.reals) (ordered : IsOrdered v.shape v.trees) where
-  empty_at : (t : ℕ) → t ≢ catalog_tree → t ≢ version_tree → v.trees t ≡ []
-  empty_at t other apart = elim (named_tree listed (objects_rise v listed ordered).0 sound.lists.listed t other apart) [
+module _ (shapes : ℕ → Shape) (reals : ℕ → ℕ) (trees : Trees) (sound : IsSound no_schema trees) (listed : IsListed (trees catalog_tree) shapes reals) (ordered : IsOrdered shapes trees) where
+  rising : IsShaped shape.Table (trees catalog_tree)
+  rising = subst (λ s. IsShaped s (trees catalog_tree)) listed.itself.0 (ordered catalog_tree)
+
+  empty_at : (t : ℕ) → t ≢ catalog_tree → t ≢ version_tree → trees t ≡ []
+  empty_at t other apart = elim (named_tree listed rising.0 sound.lists.listed t other apart) [
     | inl table ↦ absurd table.1
     | inr (inl index) ↦ absurd index.1
     | inr (inr (inl w)) ↦ absurd w.1
-    | inr (inr (inr none)) ↦ subst (λ s. IsShaped s (v.trees t)) none (ordered t)
+    | inr (inr (inr none)) ↦ subst (λ s. IsShaped s (trees t)) none (ordered t)
   ]
 
-  -- a store that lists nothing has no rows
-  pub nothing_found : tables_in v.trees ≡ no_rows
+  -- trees of which none is listed have no rows
+  pub nothing_found : tables_in trees ≡ no_rows
   nothing_found =
-      no_rows_in v.trees (empty_at 1 (λ e. cc) (λ e. cc)) (empty_at 3 (λ e. cc) (λ e. cc)) (empty_at 5 (λ e. cc) (λ e. cc)) (empty_at 7 (λ e. cc) (λ e. cc)) (empty_at 9 (λ e. cc) (λ e. cc))
+      no_rows_in trees (empty_at 1 (λ e. cc) (λ e. cc)) (empty_at 3 (λ e. cc) (λ e. cc)) (empty_at 5 (λ e. cc) (λ e. cc)) (empty_at 7 (λ e. cc) (λ e. cc)) (empty_at 9 (λ e. cc) (λ e. cc))
       (empty_at 11 (λ e. cc) (λ e. cc)) (empty_at 15 (λ e. cc) (λ e. cc))

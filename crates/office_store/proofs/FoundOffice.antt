@@ -1,9 +1,10 @@
--- A sound database of the office's schema, in a store that is in order, is one of the office, if no number of a map or of an entry is below zero. One lemma for each table.
-use Rattle.std.proofs.Common.{◌≡◌, false, [], ◌∷◌, refl, sym, ap, subst, ◌∙◌, inl, inr, is_eq, Less, IsTrue}
+-- A sound database of the office's schema, whose trees are in order, is one of the office, if no number of a map or of an entry is below zero. One lemma for each table.
+use Rattle.std.proofs.Common.{◌≡◌, ℕ, false, [], ◌∷◌, refl, sym, ap, subst, ◌∙◌, inl, inr, is_eq, Less, IsTrue}
 use Rattle.std.specs.List.{AllByRecursion}
 use Rattle.sqlite.specs.Order.{Row, column, value_cmp}
-use Rattle.sqlite.specs.View.{View, IsShaped, IsOrdered, is_int}
-use Rattle.sqlite.specs.Tree.{rowid}
+use Rattle.sqlite.specs.View.{IsShaped, IsOrdered, is_int}
+use Rattle.sqlite.specs.Tree.{Trees, rowid}
+use Rattle.sqlite_trees.specs.declared.store.Shape.{Shape}
 use Rattle.sqlite_trees.specs.declared.store.Shape.TheVariants as shape
 use Rattle.sqlite_trees.specs.Objects.{catalog_tree, IsListed}
 use Rattle.sqlite_schema.specs.declared.schema.Table.{Table}
@@ -11,7 +12,7 @@ use Rattle.sqlite_schema.specs.declared.schema.Constraint.TheVariants.{Datatype,
 use Rattle.sqlite_schema.specs.Rules.{clashes}
 use Rattle.sqlite_value.specs.Keys.{plain}
 use Rattle.sqlite_catalog.specs.Listing.{IsSound}
-use Rattle.sqlite_catalog.proofs.LayoutLemmas.{table_shape, objects_rise}
+use Rattle.sqlite_catalog.proofs.LayoutLemmas.{table_shape}
 use Rattle.sqlite_rules.specs.Lists.{Has}
 use Rattle.sqlite_trees.proofs.ListLemmas.{all_both, all_weaker, ascending-map}
 use Rattle.office_tables.specs.Tables.{seat_cmp, order_cmp, map_cmp, link_cmp, device_cmp, given_cmp, entry_cmp}
@@ -27,77 +28,80 @@ use Rattle.office_store.proofs.FoundRows.{both_true, not_true, text_at, blob_at,
 maps_apart : (a b : Row) → IsMapRow a → IsMapRow b → value_cmp (rowid a) (rowid b) ≡ Less → is_eq (map_cmp (map_in a) (map_in b)) ≡ false
 maps_apart a b ka kb low = ap is_eq (sym (wholes_cmp (column a 0) (column b 0) ka.0 kb.0) ∙ low)
 
-module _ (v : View) (sound : IsSound office_schema v.trees) (listed : IsListed (v.trees catalog_tree) v.shape v.reals) (ordered : IsOrdered v.shape v.trees) where
-  shaped : (t : Table) → Has office_schema.tables t → IsShaped shape.Table (v.trees t.tree)
-  shaped t h = subst (λ s. IsShaped s (v.trees t.tree)) (table_shape listed (objects_rise v listed ordered).0 sound.lists.listed t h).0 (ordered t.tree)
+module _ (shapes : ℕ → Shape) (reals : ℕ → ℕ) (trees : Trees) (sound : IsSound office_schema trees) (listed : IsListed (trees catalog_tree) shapes reals) (ordered : IsOrdered shapes trees) where
+  rising : IsShaped shape.Table (trees catalog_tree)
+  rising = subst (λ s. IsShaped s (trees catalog_tree)) listed.itself.0 (ordered catalog_tree)
 
-  seats_found : AreRows IsSeatRow seat_cmp seat_in (v.trees 1)
+  shaped : (t : Table) → Has office_schema.tables t → IsShaped shape.Table (trees t.tree)
+  shaped t h = subst (λ s. IsShaped s (trees t.tree)) (table_shape listed rising.0 sound.lists.listed t h).0 (ordered t.tree)
+
+  seats_found : AreRows IsSeatRow seat_cmp seat_in (trees 1)
   seats_found =
-      let rows = v.trees 1 in
+      let rows = trees 1 in
       rows_found (1 ∷ []) IsSeatRow seat_cmp seat_in
       (λ a b e f. last_ties _ _ (texts_tie (column a 1) (column b 1) e f))
       rows (shaped seat_table (inr (inl refl)))
-      (all_both _ _ IsSeatRow (λ r d n. text_at office_schema v.trees seat_table r d n 0 (refl, refl, refl) (refl, refl)) rows (sound.obeys.rules Datatype).1.0 (sound.obeys.rules NotNull).1.0)
+      (all_both _ _ IsSeatRow (λ r d n. text_at office_schema trees seat_table r d n 0 (refl, refl, refl) (refl, refl)) rows (sound.obeys.rules Datatype).1.0 (sound.obeys.rules NotNull).1.0)
       (all_weaker _ (λ r. clashes plain (1 ∷ []) rows r ≡ false) (λ r h. not_true _ (both_true _ _ h).0) rows (sound.obeys.rules Unique).1.0)
 
-  links_found : AreRows IsLinkRow link_cmp link_in (v.trees 5)
+  links_found : AreRows IsLinkRow link_cmp link_in (trees 5)
   links_found =
-      let rows = v.trees 5 in
+      let rows = trees 5 in
       rows_found (1 ∷ 2 ∷ []) IsLinkRow link_cmp link_in
       (λ a b e f. then_ties _ _ _ _ (texts_tie (column a 1) (column b 1) e.0 f.0) (last_ties _ _ (blobs_tie (column a 2) (column b 2) e.1 f.1)))
       rows (shaped link_table (inr (inr (inr (inl refl)))))
-      (all_both _ _ IsLinkRow (λ r d n. (text_at office_schema v.trees link_table r d n 0 (refl, refl, refl) (refl, refl), blob_at office_schema v.trees link_table r d n 1 (refl, refl, refl) (refl, refl)))
+      (all_both _ _ IsLinkRow (λ r d n. (text_at office_schema trees link_table r d n 0 (refl, refl, refl) (refl, refl), blob_at office_schema trees link_table r d n 1 (refl, refl, refl) (refl, refl)))
       rows (sound.obeys.rules Datatype).1.1.1.0 (sound.obeys.rules NotNull).1.1.1.0)
       (all_weaker _ (λ r. clashes plain (1 ∷ 2 ∷ []) rows r ≡ false) (λ r h. not_true _ (both_true _ _ h).0) rows (sound.obeys.rules Unique).1.1.1.0)
 
-  orders_found : AreRows IsOrderRow order_cmp order_in (v.trees 7)
+  orders_found : AreRows IsOrderRow order_cmp order_in (trees 7)
   orders_found =
-      let rows = v.trees 7 in
+      let rows = trees 7 in
       rows_found (1 ∷ 2 ∷ []) IsOrderRow order_cmp order_in
       (λ a b e f. then_ties _ _ _ _ (texts_tie (column a 1) (column b 1) e.0 f.0) (last_ties _ _ (texts_tie (column a 2) (column b 2) e.1 f.1)))
       rows (shaped orders_table (inr (inr (inr (inr (inl refl))))))
       (all_both _ _ IsOrderRow (λ r d n. (
-        text_at office_schema v.trees orders_table r d n 0 (refl, refl, refl) (refl, refl),
-        text_at office_schema v.trees orders_table r d n 1 (refl, refl, refl) (refl, refl),
+        text_at office_schema trees orders_table r d n 0 (refl, refl, refl) (refl, refl),
+        text_at office_schema trees orders_table r d n 1 (refl, refl, refl) (refl, refl),
         (both_true _ _ d).0,
       )) rows (sound.obeys.rules Datatype).1.1.1.1.0 (sound.obeys.rules NotNull).1.1.1.1.0)
       (all_weaker _ (λ r. clashes plain (1 ∷ 2 ∷ []) rows r ≡ false) (λ r h. not_true _ (both_true _ _ h).0) rows (sound.obeys.rules Unique).1.1.1.1.0)
 
-  devices_found : AreRows IsDeviceRow device_cmp device_in (v.trees 9)
+  devices_found : AreRows IsDeviceRow device_cmp device_in (trees 9)
   devices_found =
-      let rows = v.trees 9 in
+      let rows = trees 9 in
       rows_found (1 ∷ 2 ∷ []) IsDeviceRow device_cmp device_in
       (λ a b e f. then_ties _ _ _ _ (texts_tie (column a 1) (column b 1) e.0 f.0) (last_ties _ _ (texts_tie (column a 2) (column b 2) e.1 f.1)))
       rows (shaped device_table (inr (inr (inr (inr (inr (inl refl)))))))
       (all_both _ _ IsDeviceRow (λ r d n. (
-        text_at office_schema v.trees device_table r d n 0 (refl, refl, refl) (refl, refl),
-        text_at office_schema v.trees device_table r d n 1 (refl, refl, refl) (refl, refl),
-        text_at office_schema v.trees device_table r d n 2 (refl, refl, refl) (refl, refl),
+        text_at office_schema trees device_table r d n 0 (refl, refl, refl) (refl, refl),
+        text_at office_schema trees device_table r d n 1 (refl, refl, refl) (refl, refl),
+        text_at office_schema trees device_table r d n 2 (refl, refl, refl) (refl, refl),
       )) rows (sound.obeys.rules Datatype).1.1.1.1.1.0 (sound.obeys.rules NotNull).1.1.1.1.1.0)
       (all_weaker _ (λ r. clashes plain (1 ∷ 2 ∷ []) rows r ≡ false) (λ r h. not_true _ (both_true _ _ h).0) rows (sound.obeys.rules Unique).1.1.1.1.1.0)
 
-  given_found : AreRows IsGivenRow given_cmp given_in (v.trees 11)
+  given_found : AreRows IsGivenRow given_cmp given_in (trees 11)
   given_found =
-      let rows = v.trees 11 in
+      let rows = trees 11 in
       rows_found (1 ∷ 2 ∷ []) IsGivenRow given_cmp given_in
       (λ a b e f. then_ties _ _ _ _ (texts_tie (column a 1) (column b 1) e.0 f.0) (last_ties _ _ (texts_tie (column a 2) (column b 2) e.1 f.1)))
       rows (shaped given_table (inr (inr (inr (inr (inr (inr (inl refl))))))))
       (all_both _ _ IsGivenRow (λ r d n. (
-        text_at office_schema v.trees given_table r d n 0 (refl, refl, refl) (refl, refl),
-        text_at office_schema v.trees given_table r d n 1 (refl, refl, refl) (refl, refl),
-        blob_at office_schema v.trees given_table r d n 3 (refl, refl, refl) (refl, refl),
-        text_if_at office_schema v.trees given_table r d 5 (refl, refl, refl),
+        text_at office_schema trees given_table r d n 0 (refl, refl, refl) (refl, refl),
+        text_at office_schema trees given_table r d n 1 (refl, refl, refl) (refl, refl),
+        blob_at office_schema trees given_table r d n 3 (refl, refl, refl) (refl, refl),
+        text_if_at office_schema trees given_table r d 5 (refl, refl, refl),
       )) rows (sound.obeys.rules Datatype).1.1.1.1.1.1.0 (sound.obeys.rules NotNull).1.1.1.1.1.1.0)
-      (all_weaker _ (λ r. clashes plain (1 ∷ 2 ∷ []) rows r ≡ false) (λ r h. not_true _ (both_true _ _ (both_true _ _ h).1).0) rows (sound.obeys.rules Unique).1.1.1.1.1.1.0)
+      (all_weaker _ (λ r. clashes plain (1 ∷ 2 ∷ []) rows r ≡ false) (λ r h. not_true _ (both_true _ _ h).0) rows (sound.obeys.rules Unique).1.1.1.1.1.1.0)
 
-  module _ (whole : HasWhole v.trees) where
-    maps_found : AreRows IsMapRow map_cmp map_in (v.trees 3)
+  module _ (whole : HasWhole trees) where
+    maps_found : AreRows IsMapRow map_cmp map_in (trees 3)
     maps_found =
-        let rows = v.trees 3 in
+        let rows = trees 3 in
         let s = shaped map_table (inr (inr (inl refl))) in
         let ids : AllByRecursion (IsWhole 0) rows = all_both _ (IsNotBelow 0) (IsWhole 0) (λ r i b. whole_of (column r 0) i b) rows s.1 whole.maps in
         let bodies : AllByRecursion (IsText 2) rows =
-        all_both _ _ (IsText 2) (λ r d n. text_at office_schema v.trees map_table r d n 1 (refl, refl, refl) (refl, refl)) rows (sound.obeys.rules Datatype).1.1.0 (sound.obeys.rules NotNull).1.1.0 in
+        all_both _ _ (IsText 2) (λ r d n. text_at office_schema trees map_table r d n 1 (refl, refl, refl) (refl, refl)) rows (sound.obeys.rules Datatype).1.1.0 (sound.obeys.rules NotNull).1.1.0 in
         let typed : AllByRecursion IsMapRow rows = all_both (IsWhole 0) (IsText 2) IsMapRow (λ r i b. (i, b)) rows ids bodies in
         record {
           rising = s.0;
@@ -106,18 +110,18 @@ module _ (v : View) (sound : IsSound office_schema v.trees) (listed : IsListed (
           keyed = ascending-map (λ a b. is_eq (map_cmp a b) ≡ false) map_in rows (narrowed IsMapRow _ _ maps_apart rows typed s.0);
         }
 
-    ledger_found : AreRows IsEntryRow entry_cmp entry_in (v.trees 15)
+    ledger_found : AreRows IsEntryRow entry_cmp entry_in (trees 15)
     ledger_found =
-        let rows = v.trees 15 in
+        let rows = trees 15 in
         let s = shaped ledger_table (inr (inr (inr (inr (inr (inr (inr (inl refl)))))))) in
         let datatypes = (sound.obeys.rules Datatype).1.1.1.1.1.1.1.0 in
         let required = (sound.obeys.rules NotNull).1.1.1.1.1.1.1.0 in
         let ids : AllByRecursion (IsWhole 0) rows = all_both _ (IsNotBelow 0) (IsWhole 0) (λ r i b. whole_of (column r 0) i b) rows s.1 whole.entries in
         let texts : AllByRecursion (λ r. IsText 2 r × IsText 3 r) rows =
         all_both _ _ (λ r. IsText 2 r × IsText 3 r)
-        (λ r d n. (text_at office_schema v.trees ledger_table r d n 1 (refl, refl, refl) (refl, refl), text_at office_schema v.trees ledger_table r d n 2 (refl, refl, refl) (refl, refl))) rows datatypes required in
+        (λ r d n. (text_at office_schema trees ledger_table r d n 1 (refl, refl, refl) (refl, refl), text_at office_schema trees ledger_table r d n 2 (refl, refl, refl) (refl, refl))) rows datatypes required in
         let ints : AllByRecursion (λ r. IsTrue (is_int (column r 4))) rows =
-        all_both _ _ (λ r. IsTrue (is_int (column r 4))) (λ r d n. int_at office_schema v.trees ledger_table r d n 3 (refl, refl, refl) (refl, refl)) rows datatypes required in
+        all_both _ _ (λ r. IsTrue (is_int (column r 4))) (λ r d n. int_at office_schema trees ledger_table r d n 3 (refl, refl, refl) (refl, refl)) rows datatypes required in
         let numbers : AllByRecursion (IsWhole 4) rows = all_both _ (IsNotBelow 4) (IsWhole 4) (λ r i b. whole_of (column r 4) i b) rows ints whole.numbers in
         let half : AllByRecursion (λ r. IsWhole 0 r × IsText 2 r × IsText 3 r) rows = all_both (IsWhole 0) (λ r. IsText 2 r × IsText 3 r) (λ r. IsWhole 0 r × IsText 2 r × IsText 3 r) (λ r i t. (i, t.0, t.1)) rows ids texts in
         rows_found (2 ∷ 3 ∷ 4 ∷ []) IsEntryRow entry_cmp entry_in
@@ -127,5 +131,5 @@ module _ (v : View) (sound : IsSound office_schema v.trees) (listed : IsListed (
         (all_weaker _ (λ r. clashes plain (2 ∷ 3 ∷ 4 ∷ []) rows r ≡ false) (λ r h. not_true _ (both_true _ _ h).0) rows (sound.obeys.rules Unique).1.1.1.1.1.1.1.0)
 
     -- the tables of a found database
-    pub office_found : IsOffice (record { schema = office_schema; trees = v.trees })
-    office_found = record { schema = refl; seats = seats_found; maps = maps_found; links = links_found; orders = orders_found; devices = devices_found; given = given_found; ledger = ledger_found }
+    pub office_found : IsOffice (record { schema = office_schema; trees = trees })
+    office_found = record { schema = refl; sound = sound; seats = seats_found; maps = maps_found; links = links_found; orders = orders_found; devices = devices_found; given = given_found; ledger = ledger_found }

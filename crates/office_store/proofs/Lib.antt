@@ -4,10 +4,12 @@ mod Answers
 mod MadeAnswers
 mod Numbers
 mod DevicesPut
+mod MapsStay
 mod Committed
 mod FoundRows
 mod FoundOffice
 mod FoundNothing
+mod FoundFiles
 mod FoundResults
 mod FoundReads
 mod FoundAsked
@@ -18,3 +20,5 @@ mod CreateRow
 mod MetaShows
 mod Schemas
 mod Refusals
+mod QueryFails
+mod Settled

@@ -1,8 +1,7 @@
 -- What the text that reads the row of meta means, and shows.
 use Rattle.std.proofs.Common.{◌≡◌, ℕ, true, Option, Some, List, [], ◌∷◌, codes, map, refl, sym, ap, subst, ◌∙◌, IsPermutation, arith}
 use Rattle.std.proofs.lemmas.List.Sorted.{IsPermutation-map, length_permutation}
-use Rattle.sqlite.specs.declared.types.Value.TheVariants.{Null}
-use Rattle.sqlite.specs.Order.{Row}
+use Rattle.sqlite.specs.Order.{Row, column}
 use Rattle.sqlite.specs.Term.{Term, col, eval_all}
 use Rattle.sqlite.specs.Collation.TheVariants.{Binary}
 use Rattle.sqlite.specs.Listing.{understood}
@@ -30,11 +29,11 @@ pub row_read : IsRead row_text 0 [] row_shown row_order
 unfolding understood everything
 row_read = record { names = codes "id" ∷ codes "schema" ∷ codes "site" ∷ []; is = refl; plain = (refl, refl); unlisted = refl; bare = λ schema base. refl; there = λ db. refl }
 
-pub shows_metas : (all rows : List Row) → Scanned [] row_shown row_order [] all rows → IsPermutation (map meta_in all) (map (λ r. meta_in (Null ∷ r)) rows)
+pub shows_metas : (all rows : List Row) → Scanned [] row_shown row_order [] all rows → IsPermutation (map meta_in all) (map (λ r. meta_in (column r 0 ∷ r)) rows)
 shows_metas all rows s =
     let every = filter_all (passes [] []) all (all_of (λ r. passes [] [] r ≡ true) (λ r. refl) all) in
     let same = subst (λ l. IsPermutation l s.kept) every s.same in
-    let read : map (λ r. meta_in (Null ∷ r)) rows ≡ map meta_in s.kept = ap (map (λ r. meta_in (Null ∷ r))) s.shows ∙ map-map (λ r. meta_in (Null ∷ r)) (λ r. eval_all row_shown (env [] r)) s.kept in
+    let read : map (λ r. meta_in (column r 0 ∷ r)) rows ≡ map meta_in s.kept = ap (map (λ r. meta_in (column r 0 ∷ r))) s.shows ∙ map-map (λ r. meta_in (column r 0 ∷ r)) (λ r. eval_all row_shown (env [] r)) s.kept in
     subst (IsPermutation (map meta_in all)) (sym read) (IsPermutation-map meta_in _ _ same)
 
 no_permutation : (ys : List Meta) → IsPermutation [] ys → ys ≡ []
@@ -56,5 +55,5 @@ only_is (x ∷ []) m e = let same : x ≡ m = cc in ap (λ y. y ∷ []) same
 only_is (x ∷ y ∷ xs) m e = absurd (let f = e in cc)
 
 -- the only row that is shown is the only row of meta
-pub only_shown : (metas : List Meta) (rows : List Row) (row : Option Meta) → IsPermutation metas (map (λ r. meta_in (Null ∷ r)) rows) → row ≡ only (map (λ r. meta_in (Null ∷ r)) rows) → row ≡ only metas
-only_shown metas rows row same is = is ∙ only_permutation metas (map (λ r. meta_in (Null ∷ r)) rows) same
+pub only_shown : (metas : List Meta) (rows : List Row) (row : Option Meta) → IsPermutation metas (map (λ r. meta_in (column r 0 ∷ r)) rows) → row ≡ only (map (λ r. meta_in (column r 0 ∷ r)) rows) → row ≡ only metas
+only_shown metas rows row same is = is ∙ only_permutation metas (map (λ r. meta_in (column r 0 ∷ r)) rows) same

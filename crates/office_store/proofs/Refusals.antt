@@ -16,13 +16,13 @@ use Rattle.office_sql.specs.Asking.{Asks}
 use Rattle.office_sql.specs.Change.{IsUndone, Rests}
 use Rattle.office_sql.specs.Keeping.{IsReady}
 use Rattle.office_sql.specs.Schema.{no_schema, office_schema}
-use Rattle.office_sql.specs.Tables.{tables_in}
+use Rattle.office_sql.specs.Tables.{office_over, tables_in}
 use Rattle.office_store.specs.Faults.{fault_of, fault_of_code}
 use Rattle.office_store.specs.declared.fault.OpenFault.{OpenFault}
 use Rattle.office_store.specs.declared.fault.OpenFault.TheVariants.{OtherSite}
 use Rattle.office_store.specs.declared.meta.Meta.{Meta}
-use Rattle.office_store.specs.Adopting.{CanSettle, IsRefusedFor, Settles}
-use Rattle.office_store.specs.Meta.{metas_in, new_meta, only, IsCreated, IsFresh}
+use Rattle.office_store.specs.Adopting.{CanSettle, IsMadeFor, IsRefusedFor, Settles}
+use Rattle.office_store.specs.Meta.{metas_in, new_meta, only, IsBegun, IsCreated}
 use Rattle.office_sql.proofs.Asked.{was_clean}
 use Rattle.office_store.proofs.Answers.{same_now, still_ready}
 use Rattle.office_store.proofs.MetaShows.{only_is}
@@ -58,18 +58,18 @@ refusal site s error fault is has = record {
   other_schema = λ up none other. absurd (has up none other);
 }
 
--- what making tables may leave has the rows that were committed: none
-leaves_none : (site : List ℕ) (old new : State) → CanSettle old → old.now.schema ≡ no_schema → Survives old new (λ trees. IsTrue old.is_open × IsFresh site trees)
-    → Survives old new (λ db. tables_in db ≡ tables_in old.committed.trees)
-leaves_none site old new can bare survives = survives_weaker _ _ _ _ (λ clean db fresh.
+-- what making tables may leave: the tables of a store that had none
+leaves_made : (site : List ℕ) (old new : State) → CanSettle old → old.now.schema ≡ no_schema → Survives old new (λ trees. IsTrue old.is_open × IsBegun site (office_over trees))
+    → Survives old new (IsMadeFor site old)
+leaves_made site old new can bare survives = survives_weaker _ _ _ _ (λ clean db begun.
     let calm = was_clean _ _ _ survives clean in
-    fresh.1.tables ∙ sym (can.bare calm bare) ∙ ap (λ (d : Database). tables_in d.trees) (can.settled calm)) survives
+    (sym (ap (λ (d : Database). tables_in d.trees) (can.settled calm)) ∙ can.bare calm bare, begun.1)) survives
 
 module _ {S : Type 0} (g : Ghosts S) (site : List ℕ) (old new : Held S) (calm : IsTrue (state g new).is_open → HasCleanDisk (state g new)) where
   -- the tables were made
   pub made : CanSettle (state g old) → (state g old).now.schema ≡ no_schema → new.in_transaction ≡ false
       → (HasCleanDisk (state g new) → IsCreated site (state g old) (state g new))
-      → Survives (state g old) (state g new) (λ trees. IsTrue (state g old).is_open × IsFresh site trees)
+      → Survives (state g old) (state g new) (λ trees. IsTrue (state g old).is_open × IsBegun site (office_over trees))
       → Settles g site old new (Ok tt)
   made can bare mode created survives = record {
     mode = mode;
@@ -77,13 +77,13 @@ module _ {S : Type 0} (g : Ghosts S) (site : List ℕ) (old new : Held S) (calm 
     ours = λ clean. (created clean).begun.fresh.meta;
     kept = λ clean. (created clean).begun.fresh.tables ∙ sym (can.bare (was_clean _ _ _ survives clean) bare);
     refused = tt;
-    crash = leaves_none site (state g old) (state g new) can bare survives;
+    crash = leaves_made site (state g old) (state g new) can bare survives;
   }
 
   -- the tables weren't made
   pub unmade : CanSettle (state g old) → (state g old).now.schema ≡ no_schema → new.in_transaction ≡ false
       → (HasCleanDisk (state g new) → IsUndone (state g old) (state g new))
-      → Survives (state g old) (state g new) (λ trees. IsTrue (state g old).is_open × IsFresh site trees)
+      → Survives (state g old) (state g new) (λ trees. IsTrue (state g old).is_open × IsBegun site (office_over trees))
       → (error : Error) (fault : OpenFault) → fault ≡ fault_of error → Settles g site old new (Err fault)
   unmade can bare mode undone survives error fault is = record {
     mode = mode;
@@ -93,7 +93,7 @@ module _ {S : Type 0} (g : Ghosts S) (site : List ℕ) (old new : Held S) (calm 
     refused = refusal site (state g new) error fault is (λ up none other.
         let clean = calm up in
         none (ap (λ (d : Database). d.schema) ((undone clean).now up ∙ sym (can.settled (was_clean _ _ _ survives clean))) ∙ bare));
-    crash = leaves_none site (state g old) (state g new) can bare survives;
+    crash = leaves_made site (state g old) (state g new) can bare survives;
   }
 
   module _ (ready : IsReady (state g old)) where
@@ -116,7 +116,7 @@ module _ {S : Type 0} (g : Ghosts S) (site : List ℕ) (old new : Held S) (calm 
     -- what the store tells of itself was read and judged
     pub judged : (meta : Option Meta) → Asks {E = Error} g old new (Ok meta) (λ _ row. row ≡ only (metas_in (state g old).now.trees)) → (result : Result (Unit {0}) OpenFault)
         → OnOk result (meta ≡ Some (new_meta site))
-        → IfErr result (λ fault. fault ≡ OtherSite → (m : Meta) × (meta ≡ Some m) × (m.schema ≡ 1) × (m.site ≢ site))
+        → IfErr result (λ fault. fault ≡ OtherSite → (other : List ℕ) × (meta ≡ Some (new_meta other)) × (other ≢ site))
         → Settles g site old new result
     judged meta asks (Ok _) ours others = record {
       mode = asks.mode ready.mode;
@@ -136,7 +136,7 @@ module _ {S : Type 0} (g : Ghosts S) (site : List ℕ) (old new : Held S) (calm 
       kept = λ clean. tt;
       refused = record {
         other_site = λ clean told. let it = others told in
-            (it.0, subst (λ (d : Database). metas_in d.trees ≡ it.0 ∷ []) (sym (now clean)) (only_is _ _ (sym (asks.says clean) ∙ it.1)), it.2, it.3);
+            (it.0, subst (λ (d : Database). metas_in d.trees ≡ new_meta it.0 ∷ []) (sym (now clean)) (only_is _ _ (sym (asks.says clean) ∙ it.1)), it.2);
         other_schema = λ up none other. absurd (other (office_still _ _ asks up));
       };
       crash = survives_weaker _ _ _ _ (λ clean db none. absurd none) asks.crash;

@@ -1,20 +1,11 @@
 -- What a connection says to the clauses of a keeper.
-use Rattle.std.specs.Prelude.{◌≡◌, Bool, IsTrue, Ok, Err, Result, Vec, IsErr}
-use Rattle.std.specs.declared.alloc.Global.{Global}
-use Rattle.sqlite.specs.declared.error.Error.{Error}
-use Rattle.office_tables.specs.declared.keep.Unkept.{Unkept}
-use Rattle.office_tables.specs.Keeping.{Visits}
+use Rattle.std.specs.Prelude.{◌≡◌, IsTrue}
 use Rattle.sqlite.specs.Store.{Ghosts}
 use Rattle.sqlite.specs.Tree.{Trees}
 use Rattle.sqlite.specs.State.{HasCleanDisk}
 use Rattle.sqlite.specs.Held.{Held, state}
 use Rattle.office_tables.specs.Tables.{Tables}
 use Rattle.office_sql.specs.Tables.{tables_in}
-
--- the rows of an answer are handed to a sink; where it is a fault, nothing is
-abbrev pub Hands : {S R : Type 0} → (S → R → Bool → S → Type 0) → Result (Vec R Global) Error → S → Result (Unit {0}) Unkept → S → Type 0
-Hands takes (Ok rows) old result new = (result ≡ Ok tt) × Visits takes old rows.items new
-Hands takes (Err e) old result new = IsErr result × (new ≡ old)
 
 module _ {S : Type 0} (g : Ghosts S) where
   -- the tables that were last committed. At rest a statement sees them too

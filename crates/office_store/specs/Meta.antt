@@ -14,7 +14,7 @@ use Rattle.office_sql.specs.Tables.{IsOffice, tables_in}
 
 -- meta: id, schema, site. The id is the rowid
 abbrev pub meta_in : Row → Meta
-meta_in r = record { schema = number_in (column r 2); site = bytes (column r 3) }
+meta_in r = record { id = number_in (column r 0); schema = number_in (column r 2); site = bytes (column r 3) }
 
 abbrev pub metas_in : Trees → List Meta
 metas_in db = map meta_in (db 0)
@@ -27,7 +27,7 @@ only (x ∷ y ∷ more) = None
 
 -- the row that a new store has
 abbrev pub new_meta : List ℕ → Meta
-new_meta site = record { schema = 1; site = site }
+new_meta site = record { id = 1; schema = 1; site = site }
 
 -- the first tables of the office with their indexes
 abbrev pub first_tables : ℕ → ℕ → Schema

@@ -1,14 +1,13 @@
 // How a connection becomes a keeper.
-ghost use Rattle.std.specs.Prelude.{◌≡◌, ◌≢◌, false, Some, IsTrue, IfOk, IfErr, OnOk};
+ghost use Rattle.std.specs.Prelude.{◌≡◌, ◌≢◌, ◌↔◌, ℕ, List, false, Some, IsTrue, IfOk, IfErr, OnOk};
 ghost use Rattle.sqlite.specs.State.{HasCleanDisk, Survives};
 ghost use Rattle.sqlite.specs.Held.{state};
 ghost use Rattle.office_sql.specs.Schema.{no_schema, office_schema};
 ghost use Rattle.office_sql.specs.Keeping.{IsReady};
 ghost use Rattle.office_sql.specs.Tables.{tables_in};
 ghost use Rattle.office_store.specs.Adopting.{CanSettle, HandedLeaves, IsHandedFor, IsOurs, LeavesAtMost, Settles};
-ghost use Rattle.office_store.specs.declared.meta.Meta.{Meta as Told};
 ghost use Rattle.office_store.specs.Meta.{new_meta};
-ghost use Rattle.office_store.specs.declared.fault.OpenFault.TheVariants.{OtherSite as TheSite};
+ghost use Rattle.office_store.specs.declared.fault.OpenFault.TheVariants.{OtherSite as TheSite, OtherTables as TheTables};
 
 use crate::create::make_tables;
 use crate::fault::{OpenFault, fault_of};
@@ -19,6 +18,9 @@ use crate::schema::{is_empty_schema, is_office};
 use sqlite::{Alter, Connection};
 use std::alloc::Global;
 use text_core::Digest;
+
+/// The number of the one row of `meta`.
+const META_ID: u64 = 1;
 
 /// The number of the tables' schema.
 const SCHEMA: u64 = 1;
@@ -32,23 +34,29 @@ pub enum Handed<S: Alter> {
     Store(S),
 }
 
+/// Whether what a store tells of itself is this schema.
+fn is_of_schema(meta: &Meta) -> bool
+    ensures { IsTrue result ↔ (meta.now ≡ new_meta meta.now.site) }
+{
+    meta.id == META_ID && meta.schema == SCHEMA
+}
+
 /// Whether what a store tells of itself is this schema and this site.
 fn judge_meta(meta: Option<Meta>, site: &Digest) -> Result<(), OpenFault>
     ensures ours { OnOk result (meta ≡ Some (new_meta site.now)) }
-    ensures others { IfErr result (λ fault. fault ≡ TheSite → (m : Told) × (meta ≡ Some m) × (m.schema ≡ 1) × (m.site ≢ site.now)) }
+    ensures other_site { IfErr result (λ fault. fault ≡ TheSite → (other : List ℕ) × (meta ≡ Some (new_meta other)) × (other ≢ site.now)) }
+    ensures other_tables { IfErr result (λ fault. fault ≡ TheTables → (other : List ℕ) → meta ≢ Some (new_meta other)) }
 {
-    match meta {
-        Some(meta) => {
-            if meta.schema != SCHEMA {
-                return Err(OpenFault::OtherTables);
-            }
-            if meta.site != *site {
-                return Err(OpenFault::OtherSite);
-            }
-            Ok(())
-        }
-        None => Err(OpenFault::OtherTables),
+    let Some(meta) = meta else {
+        return Err(OpenFault::OtherTables);
+    };
+    if !is_of_schema(&meta) {
+        return Err(OpenFault::OtherTables);
     }
+    if meta.site != *site {
+        return Err(OpenFault::OtherSite);
+    }
+    Ok(())
 }
 
 /// Makes the tables of a store that has none.
@@ -93,7 +101,7 @@ fn test_site<S: Alter>(conn: &mut Connection<S>, site: &Digest) -> Result<(), Op
 }
 
 /// Makes the tables of a store that has none, or tests those that are there.
-fn settle<S: Alter>(conn: &mut Connection<S>, site: &Digest) -> Result<(), OpenFault>
+pub(crate) fn settle<S: Alter>(conn: &mut Connection<S>, site: &Digest) -> Result<(), OpenFault>
     requires { CanSettle (state S.Store conn.old) }
     ensures { Settles S.Store site.now conn.old conn.new result }
 {
@@ -128,20 +136,21 @@ pub fn adopt<S: Alter + Drop>(
     conn: Connection<S>,
     site: &Digest,
 ) -> Result<SqlKeep<S>, (OpenFault, Handed<S>)>
-    ensures open { IfOk result (λ keep. HasCleanDisk (state S.Store keep) → IsTrue (state S.Store keep).is_open) }
-    ensures ours { IfOk result (λ keep. HasCleanDisk (state S.Store keep) → IsOurs site.now (state S.Store keep).now.trees) }
-    ensures clean { IfOk result (λ keep. HasCleanDisk (state S.Store keep) → HasCleanDisk (state S.Store conn)) }
-    ensures kept { IfOk result (λ keep. HasCleanDisk (state S.Store keep) → tables_in (state S.Store keep).now.trees ≡ tables_in (state S.Store conn).committed.trees) }
-    ensures crash { IfOk result (λ keep. HasCleanDisk (state S.Store keep) → LeavesAtMost (state S.Store conn) (state S.Store keep)) }
+    ensures site { IfOk result (λ keep. keep.site ≡ site.now) }
+    ensures open { IfOk result (λ keep. HasCleanDisk (state S.Store keep.conn) → IsTrue (state S.Store keep.conn).is_open) }
+    ensures ours { IfOk result (λ keep. HasCleanDisk (state S.Store keep.conn) → IsOurs site.now (state S.Store keep.conn).now.trees) }
+    ensures clean { IfOk result (λ keep. HasCleanDisk (state S.Store keep.conn) → HasCleanDisk (state S.Store conn)) }
+    ensures kept { IfOk result (λ keep. HasCleanDisk (state S.Store keep.conn) → tables_in (state S.Store keep.conn).now.trees ≡ tables_in (state S.Store conn).committed.trees) }
+    ensures crash { IfOk result (λ keep. HasCleanDisk (state S.Store keep.conn) → LeavesAtMost site.now (state S.Store conn) (state S.Store keep.conn)) }
     ensures refused { IfErr result (λ e. IsHandedFor S.Store site.now e.0 e.1) }
-    ensures crash_left { IfErr result (λ e. HandedLeaves S.Store (state S.Store conn) e.1) }
+    ensures crash_left { IfErr result (λ e. HandedLeaves S.Store site.now (state S.Store conn) e.1) }
 {
     let mut conn = match reread(alloc, conn) {
         Ok(conn) => conn,
         Err((_, store)) => return Err((OpenFault::Failed, Handed::Store(store))),
     };
     match settle(&mut conn, site) {
-        Ok(()) => Ok(SqlKeep::over(alloc, conn)),
+        Ok(()) => Ok(SqlKeep::over(alloc, conn, *site)),
         Err(fault) => Err((fault, Handed::Connection(conn))),
     }
 }

@@ -3,16 +3,20 @@
 
 mod adopting;
 mod create;
+mod ending;
 mod fault;
 mod found;
 mod keep;
+mod maps;
 mod meta;
 mod opening;
 mod places;
+mod remembered;
 mod schema;
 mod written;
 
 pub use adopting::{Handed, adopt};
+pub use ending::into_store;
 pub use fault::OpenFault;
 pub use keep::SqlKeep;
 pub use opening::open;

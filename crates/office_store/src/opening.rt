@@ -1,14 +1,15 @@
 // A store in files.
 ghost use Rattle.std.specs.Prelude.{◌≡◌, codes, IsTrue, IfOk};
 ghost use Rattle.sqlite.specs.Files.{file_state};
+ghost use Rattle.sqlite.specs.Tree.{Trees};
 ghost use Rattle.sqlite.specs.Held.{state};
 ghost use Rattle.sqlite.specs.State.{HasCleanDisk};
 ghost use Rattle.sqlite.specs.WalFiles.{image_at};
 ghost use Rattle.office_sql.specs.Tables.{tables_in};
-ghost use Rattle.office_store.specs.Adopting.{IsOurs};
+ghost use Rattle.office_store.specs.Adopting.{CanSettle, IsOurs};
 ghost use Rattle.office_store.specs.Opening.{HasTablesOf};
 
-use crate::adopting::adopt;
+use crate::adopting::settle;
 use crate::fault::OpenFault;
 use crate::keep::SqlKeep;
 use sqlite::{Alter, Connection, FileFrom, FileStore};
@@ -16,20 +17,23 @@ use sqlite_disk::Start;
 use std::alloc::Global;
 use text_core::Digest;
 
-/// Adopts a connection, which is closed where that fails.
-fn adopt_or_close<S: Alter + Drop>(
+/// Makes or tests the tables of a connection, which is closed where that fails.
+fn settle_or_close<S: Alter + Drop>(
     alloc: Global,
-    conn: Connection<S>,
+    mut conn: Connection<S>,
     site: &Digest,
 ) -> Result<SqlKeep<S>, OpenFault>
-    ensures open { IfOk result (λ keep. HasCleanDisk (state S.Store keep) → IsTrue (state S.Store keep).is_open) }
-    ensures ours { IfOk result (λ keep. HasCleanDisk (state S.Store keep) → IsOurs site.now (state S.Store keep).now.trees) }
-    ensures clean { IfOk result (λ keep. HasCleanDisk (state S.Store keep) → HasCleanDisk (state S.Store conn)) }
-    ensures kept { IfOk result (λ keep. HasCleanDisk (state S.Store keep) → tables_in (state S.Store keep).now.trees ≡ tables_in (state S.Store conn).committed.trees) }
+    requires { CanSettle (state S.Store conn) }
+    ensures site { IfOk result (λ keep. keep.site ≡ site.now) }
+    ensures open { IfOk result (λ keep. HasCleanDisk (state S.Store keep.conn) → IsTrue (state S.Store keep.conn).is_open) }
+    ensures ours { IfOk result (λ keep. HasCleanDisk (state S.Store keep.conn) → IsOurs site.now (state S.Store keep.conn).now.trees) }
+    ensures clean { IfOk result (λ keep. HasCleanDisk (state S.Store keep.conn) → HasCleanDisk (state S.Store conn)) }
+    ensures kept { IfOk result (λ keep. HasCleanDisk (state S.Store keep.conn) → tables_in (state S.Store keep.conn).now.trees ≡ tables_in (state S.Store conn).now.trees) }
+    ensures left { IfOk result (λ keep. HasCleanDisk (state S.Store keep.conn) → (db : Trees) → (state S.Store keep.conn).may_leave db → db ≡ (state S.Store keep.conn).now.trees) }
 {
-    match adopt(alloc, conn, site) {
-        Ok(keep) => Ok(keep),
-        Err((fault, _)) => Err(fault),
+    match settle(&mut conn, site) {
+        Ok(()) => Ok(SqlKeep::over(alloc, conn, *site)),
+        Err(fault) => Err(fault),
     }
 }
 
@@ -52,13 +56,15 @@ pub fn open<S: Start>(
     start: S,
     site: &Digest,
 ) -> Result<SqlKeep<FileStore<FileFrom<S>>>, OpenFault>
-    ensures open { IfOk result (λ keep. HasCleanDisk (file_state keep) → IsTrue (file_state keep).is_open) }
-    ensures ours { IfOk result (λ keep. HasCleanDisk (file_state keep) → IsOurs site.now (file_state keep).now.trees) }
-    ensures tables { IfOk result (λ keep. HasCleanDisk (file_state keep) → HasTablesOf (image_at S.Start) (tables_in (file_state keep).now.trees)) }
+    ensures site { IfOk result (λ keep. keep.site ≡ site.now) }
+    ensures open { IfOk result (λ keep. HasCleanDisk (file_state keep.conn) → IsTrue (file_state keep.conn).is_open) }
+    ensures ours { IfOk result (λ keep. HasCleanDisk (file_state keep.conn) → IsOurs site.now (file_state keep.conn).now.trees) }
+    ensures tables { IfOk result (λ keep. HasCleanDisk (file_state keep.conn) → HasTablesOf (image_at S.Start) (tables_in (file_state keep.conn).now.trees)) }
+    ensures left { IfOk result (λ keep. HasCleanDisk (file_state keep.conn) → (db : Trees) → (file_state keep.conn).may_leave db → db ≡ (file_state keep.conn).now.trees) }
     ensures memory { path.now ≡ codes ":memory:" → result ≡ Err OpenFault.Failed }
 {
     match Connection::open_from(rt, path, false, start) {
-        Ok(conn) => adopt_or_close(alloc, conn, site),
+        Ok(conn) => settle_or_close(alloc, conn, site),
         Err(_) => Err(OpenFault::Failed),
     }
 }

@@ -1,15 +1,21 @@
 // The devices in a list of writes.
-ghost use Rattle.std.specs.Prelude.{◌≡◌, filter_map, IfOk};
+ghost use Rattle.std.specs.Prelude.{◌≡◌, List, filter_map, find, IfOk, IfSome};
 ghost use Rattle.std.specs.Option.{option_copied};
 ghost use Rattle.sqlite.specs.Held.{state};
+ghost use Rattle.sqlite.specs.Tree.{Trees};
+ghost use Rattle.office_tables.specs.declared.rows.Owned.{Owned};
+ghost use Rattle.office_tables.specs.declared.rows.Device.{Device};
 ghost use Rattle.office_tables.specs.Keeping.{Reads};
+ghost use Rattle.office_tables.specs.Tables.{is_device};
 ghost use Rattle.office_sql.specs.Keeping.{IsReady};
 ghost use Rattle.office_store.specs.Keeping.{is_honest_at, is_open_at, may_leave_at, tables_of};
-ghost use Rattle.office_store.specs.Written.{device_in, AreTold, IsReplaced};
+ghost use Rattle.office_store.specs.Remembering.{IsAnswer};
+ghost use Rattle.office_store.specs.Written.{device_in, ArePut, AreTold, IsReplaced};
 
 use office_sql as sql;
 use office_tables::{DeviceRow, Write};
 use sqlite::{Alter, Connection, Error};
+use text_core::{Chip, Name};
 
 /// The devices that a list of writes adds or changes.
 #[derive(Clone, Copy, Drop)]
@@ -17,6 +23,25 @@ pub(crate) enum WrittenDevices<'a> {
     Nothing,
     One(&'a DeviceRow),
     Several,
+}
+
+/// What the tables have for the device of a customer's chip.
+#[derive(Clone, Copy, Drop)]
+pub(crate) struct DeviceAnswer {
+    pub(crate) customer: Name,
+    pub(crate) chip: Chip,
+    pub(crate) row: Option<DeviceRow>,
+}
+
+/// That the tables have this for the device of a customer's chip.
+pub(crate) fn answer_of(customer: &Name, chip: &Chip, row: &Option<DeviceRow>) -> DeviceAnswer
+    ensures { result ≡ record { customer = customer.now; chip = chip.now; row = row.now } }
+{
+    DeviceAnswer {
+        customer: *customer,
+        chip: *chip,
+        row: *row,
+    }
 }
 
 /// The device that a write adds or changes.
@@ -49,18 +74,51 @@ pub(crate) fn written_devices(writes: &[Write]) -> WrittenDevices<'_>
     }
 }
 
-/// The row in whose place the device is put, if there is one.
+/// What the tables have for the device once it is written, if it is one.
+pub(crate) fn answer_after(written: WrittenDevices<'_>) -> Option<DeviceAnswer>
+    ensures { (rows after : List (Owned Device)) → ArePut written.entry rows after → IsAnswer result after }
+{
+    match written {
+        WrittenDevices::One(row) => Some(DeviceAnswer {
+            customer: row.customer,
+            chip: row.row.chip,
+            row: Some(*row),
+        }),
+        WrittenDevices::Nothing => None,
+        WrittenDevices::Several => None,
+    }
+}
+
+/// What the answer says of the row with the key of a device, if it is the answer for that key.
+fn known_row(answer: &Option<DeviceAnswer>, device: &DeviceRow) -> Option<Option<DeviceRow>>
+    ensures { (rows : List (Owned Device)) → IsAnswer answer.now rows → IfSome result (λ row. row ≡ find (is_device device.now.customer device.now.row.chip) rows) }
+{
+    match answer {
+        Some(answer) if answer.customer == device.customer && answer.chip == device.row.chip =>
+            Some(answer.row),
+        _ => None,
+    }
+}
+
+/// The row in whose place the device is put, if there is one: by the answer that is known, or else
+/// by the store.
 pub(crate) fn replaced_device<S: Alter>(
     conn: &mut Connection<S>,
+    answer: &Option<DeviceAnswer>,
     written: WrittenDevices<'_>,
 ) -> Result<Option<DeviceRow>, Error>
     requires ready { IsReady (state S.Store conn.old) }
+    requires known { is_open_at S.Store conn.old → IsAnswer answer.now (tables_of S.Store conn.old).devices }
     ensures ready { IsReady (state S.Store conn.new) }
     ensures reads { Reads (is_open_at S.Store) (is_honest_at S.Store) (may_leave_at S.Store) (tables_of S.Store) conn.old conn.new }
+    ensures left { is_honest_at S.Store conn.new → (db : Trees) → (state S.Store conn.new).may_leave db → (state S.Store conn.old).may_leave db }
     ensures says { is_open_at S.Store conn.new → IfOk result (λ row. IsReplaced written.entry row (tables_of S.Store conn.old).devices) }
 {
     match written {
-        WrittenDevices::One(row) => sql::device_row(conn, &row.customer, &row.row.chip),
+        WrittenDevices::One(device) => match known_row(answer, device) {
+            Some(row) => Ok(row),
+            None => sql::device_row(conn, &device.customer, &device.row.chip),
+        },
         WrittenDevices::Nothing => Ok(None),
         WrittenDevices::Several => Ok(None),
     }

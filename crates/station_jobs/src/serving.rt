@@ -11,11 +11,9 @@ ghost use Rattle.station_jobs.specs.SiteFile.{site_in};
 
 use crate::failure::Failure;
 use crate::site_file::{bytes_of_file, site_of_bytes};
-use crate::stored::store_failure;
+use crate::stored::open_limited;
 use office_core::Keep;
-use office_store::open;
 use site_core::Site;
-use sqlite_disk::Unknown;
 use station_api::{Counted, Served, serve_stream};
 use std::alloc::Global;
 use std::io;
@@ -96,7 +94,7 @@ fn serve_store<W: Write>(
     ensures silent { IfErr result (λ failure. failure ≢ Failure.WriteFailed → failure ≢ Failure.AcceptFailed
         → Keeps (W.contents output.old) (W.contents output.new)) }
 {
-    let mut keep = open(rt, alloc, db, Unknown, digest).map_err(store_failure)?;
+    let mut keep = open_limited(rt, alloc, db, digest)?;
     let served = serve_port(rt, alloc, &mut keep, site, door, output);
 
     // What was committed is in the store's log, should this fail.

@@ -1,5 +1,5 @@
 //! A replay over a store in a file.
-ghost use Rattle.std.specs.Prelude.{◌≡◌, ◌⊎◌, ◌+◌, ◌<◌, ◌≤◌, ◌^◌, IfOk, IfErr, IsErrAnd};
+ghost use Rattle.std.specs.Prelude.{◌≡◌, ◌⊎◌, ◌+◌, ◌<◌, ◌≤◌, ◌^◌, Some, IfOk, IfErr, IsErrAnd};
 ghost use Rattle.station_jobs.specs.FileText.{IsUnread};
 ghost use Rattle.office_store.specs.Faults.{fault_number};
 ghost use Rattle.station_jobs.specs.Replaying.{IsOfStore, IsOfStream, failed_reads, failed_writes};
@@ -8,8 +8,9 @@ ghost use Rattle.station_jobs.specs.SiteFile.{site_in};
 use crate::failure::Failure;
 use crate::running::serve;
 use crate::site_file::{bytes_of_file, site_of_bytes};
-use office_store::{OpenFault, open};
+use office_store::{OpenFault, SqlKeep, open};
 use site_core::Site;
+use sqlite::{FileFrom, FileStore};
 use sqlite_disk::Unknown;
 use station_api::{Drain, Source};
 use std::alloc::Global;
@@ -89,12 +90,35 @@ fn serve_stored<R: Source, W: Drain>(
     ensures no_memory { result ≡ Err Failure.NoMemory →
         (R.calls reader.new ≡ R.calls reader.old) × (W.calls writer.new ≡ W.calls writer.old) }
 {
-    let mut keep = open(rt, alloc, db, Unknown, digest).map_err(store_failure)?;
+    let mut keep = open_limited(rt, alloc, db, digest)?;
     let served = serve(alloc, &mut keep, site, reader, writer);
 
     // What was committed is in the store's log, should this fail.
     let _ = keep.into_connection().close();
     served
+}
+
+/// How many steps a statement may take: a read of a hundred million rows takes fewer.
+const STATEMENT_STEPS: u64 = 1_000_000_000;
+
+/// Opens the store of a site in the file with the name `db`, with the limit of steps for each
+/// statement.
+pub fn open_limited(
+    rt: &HostRuntime,
+    alloc: Global,
+    db: &str,
+    digest: &Digest,
+) -> Result<SqlKeep<FileStore<FileFrom<Unknown>>>, Failure<'static>>
+    ensures limit { IfOk result (λ keep. keep.conn.step_limit ≡ Some 1000000000) }
+    ensures failed { IfErr result IsOfStore }
+{
+    match open(rt, alloc, db, Unknown, digest) {
+        Ok(mut keep) => {
+            keep.set_steps(STATEMENT_STEPS);
+            Ok(keep)
+        }
+        Err(fault) => Err(store_failure(fault)),
+    }
 }
 
 /// The failure that the fault of a store is.

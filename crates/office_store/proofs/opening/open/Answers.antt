@@ -1,16 +1,22 @@
 use Rattle.std.proofs.Common.{ap, ◌∙◌}
 use Rattle.sqlite.specs.Files.{file_state}
+use Rattle.sqlite.specs.Effect.{Database}
+use Rattle.sqlite.specs.WalFiles.{image_at}
 use Rattle.office_sql.specs.Tables.{tables_in}
+use Rattle.office_store.proofs.FoundFiles.{can_settle}
 use Rattle.office_store.proofs.FoundResults.{both_of}
 use Rattle.office_store.proofs.opening.open.Goals as goal
 
 pub returns-in-Ok-clause-tables : goal.returns-in-Ok-clause-tables
 returns-in-Ok-clause-tables g c =
-    both_of c.adopt_or_close.result _ _ _ (λ keep calm kept clean.
+    both_of c.settle_or_close.result _ _ _ (λ keep calm kept clean.
     let found = c.in-Ok.ensures.found (calm clean) in
-    let same = kept clean in
+    let same = kept clean ∙ ap (λ (d : Database). tables_in d.trees) (c.in-Ok.ensures.opened (calm clean)).0.clean in
     record {
       held = λ db holds. same ∙ ap tables_in (found.holds db holds);
       found = ((file_state c.in-Ok.conn).committed.trees, found.reads, same);
     })
-    c.adopt_or_close.ensures.clean c.adopt_or_close.ensures.kept
+    c.settle_or_close.ensures.clean c.settle_or_close.ensures.kept
+
+pub settle_or_close-requires : goal.settle_or_close-requires
+settle_or_close-requires g c = can_settle (image_at g.S.Start) (file_state c.in-Ok.conn) c.in-Ok.ensures.fresh.autocommit c.in-Ok.ensures.opened c.in-Ok.ensures.found

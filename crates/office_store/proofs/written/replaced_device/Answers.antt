@@ -3,18 +3,18 @@ use Rattle.sqlite.proofs.StateLemmas.{clean_if_open}
 use Rattle.office_store.proofs.Answers.{answers, still_ready}
 use Rattle.office_store.proofs.written.replaced_device.Goals as goal
 
-pub returns-in-One-clause-ready : goal.returns-in-One-clause-ready
-returns-in-One-clause-ready g c =
+pub returns-in-None-clause-ready : goal.returns-in-None-clause-ready
+returns-in-None-clause-ready g c =
     let conn = c.device_row.new.conn in
     let clean = clean_if_open (g.S.Store.view conn.store) (g.met.S.Store.shut_if_dirty conn.store) in
     still_ready g.S.Store c.args.conn.now conn c.requires.ready clean c.device_row.result _ c.device_row.ensures
 
-pub returns-in-One-clause-reads : goal.returns-in-One-clause-reads
-returns-in-One-clause-reads g c =
+pub returns-in-None-clause-reads : goal.returns-in-None-clause-reads
+returns-in-None-clause-reads g c =
     let conn = c.device_row.new.conn in
     (answers g.S.Store c.args.conn.now conn c.requires.ready (clean_if_open (g.S.Store.view conn.store) (g.met.S.Store.shut_if_dirty conn.store)) c.device_row.result c.device_row.result _ refl c.device_row.ensures).reads
 
-pub returns-in-One-clause-says : goal.returns-in-One-clause-says
-returns-in-One-clause-says g c = λ up.
+pub returns-in-None-clause-says : goal.returns-in-None-clause-says
+returns-in-None-clause-says g c = λ up.
     let conn = c.device_row.new.conn in
     rw c.in-One.is ((answers g.S.Store c.args.conn.now conn c.requires.ready (clean_if_open (g.S.Store.view conn.store) (g.met.S.Store.shut_if_dirty conn.store)) c.device_row.result c.device_row.result _ refl c.device_row.ensures).says up)

@@ -1,0 +1,24 @@
+-- What a crash leaves opens again, as the kit's store says, and the keeper says what that is.
+use Rattle.std.proofs.Common.{◌≡◌, arith, subst}
+use Rattle.std.proofs.Math.Logic.{∥∥₁_map}
+use Rattle.sqlite.specs.Files.{over_files, HoldsDatabase}
+use Rattle.sqlite.specs.Tree.{Trees}
+use Rattle.sqlite.specs.State.{HasCleanDisk}
+use Rattle.sqlite.specs.Held.{state}
+use Rattle.sqlite.proofs.Theorems.{opens_again}
+use Rattle.office_store.specs.Adopting.{IsOfSite}
+use Rattle.office_store.specs.Keeping.{may_leave_at}
+use Rattle.office_store.proofs.ending.into_store.Goals as goal
+
+pub returns-clause-held : goal.returns-clause-held
+returns-clause-held g c = λ clean left may.
+    let store = c.into_store.ensures in
+    let calm : HasCleanDisk (state over_files c.into_connection-conn.result) = omega (arith, store.quiet.clean, clean) in
+    ∥∥₁_map (opens_again c.into_store.result (store.numbered clean) (store.sound clean) left may)
+    (λ it. let r : (db : Trees) × HoldsDatabase left db × IsOfSite c.args.keep.site db = (it.0, it.2, c.into_connection-conn.ensures.left calm it.0 (store.quiet.outcomes it.0 it.1)) in r)
+
+pub returns-clause-found : goal.returns-clause-found
+returns-clause-found g c = λ clean left may tables found.
+    let store = c.into_store.ensures in
+    ∥∥₁_map (opens_again c.into_store.result (store.numbered clean) (store.sound clean) left may)
+    (λ it. let r : may_leave_at over_files c.args.keep.conn tables = (it.0, subst (λ k. (state over_files k).may_leave it.0) c.into_connection-conn.ensures.same (store.quiet.outcomes it.0 it.1), found.held it.0 it.2) in r)

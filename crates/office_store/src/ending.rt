@@ -1,0 +1,27 @@
+// The end of a keeper over files.
+ghost use Rattle.std.specs.Prelude.{◌≡◌};
+ghost use Rattle.sqlite.specs.Files.{over_files, HoldsDatabase};
+ghost use Rattle.sqlite.specs.Recovery.{Image};
+ghost use Rattle.sqlite.specs.Tree.{Trees};
+ghost use Rattle.sqlite.specs.View.{IsClean};
+ghost use Rattle.sqlite_store.specs.FileStore as files;
+ghost use Rattle.office_tables.specs.Tables.{Tables};
+ghost use Rattle.office_store.specs.Adopting.{IsOfSite};
+ghost use Rattle.office_store.specs.Keeping.{may_leave_at};
+ghost use Rattle.office_store.specs.Opening.{HasTablesOf};
+
+use crate::keep::SqlKeep;
+use sqlite::FileStore;
+use sqlite_disk::Disk;
+
+/// Ends a keeper over files, and hands back its store. Whatever a crash leaves in the files then holds
+/// a store of the keeper's site, and whoever opens it finds tables that the keeper could leave.
+pub fn into_store<D: Disk + Drop>(keep: SqlKeep<FileStore<D>>) -> FileStore<D>
+    ensures held { IsClean (files.view result) → (left : Image) → (files.state result).may_leave left
+        → ∥ ((db : Trees) × HoldsDatabase left db × IsOfSite keep.site db) ∥₁ }
+    ensures found { IsClean (files.view result) → (left : Image) → (files.state result).may_leave left
+        → (tables : Tables) → HasTablesOf left tables → ∥ may_leave_at over_files keep.conn tables ∥₁ }
+{
+    let conn = keep.into_connection();
+    conn.into_store()
+}
