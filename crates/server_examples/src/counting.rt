@@ -1,6 +1,6 @@
 //! A keeper that counts its visits and commits, so that an example can tell which requests walk over
 //! rows, and which have changed them.
-ghost use Rattle.std.specs.Prelude.{◌≡◌, ◌+◌, ◌-◌, ◌^◌, min};
+ghost use Rattle.std.specs.Prelude.{◌≡◌, ◌+◌, ◌-◌, ◌^◌, min, refl};
 
 use fusemap_core::FuseMap;
 use id_ranges::KeyDigest;
@@ -162,6 +162,8 @@ impl Keep for CountingKeep {
     }
 
     ghost settled = { λ _ _ _ left. left };
+
+    ghost stands = { λ _ _. refl };
 
     ghost clean = { λ _ _. tt };
 }

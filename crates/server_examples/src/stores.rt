@@ -1,5 +1,5 @@
 //! What a store is when it is adopted, and what stands in its columns.
-use crate::conversation::{exchange, first_difference};
+use crate::conversation::{exchange, first_difference, is_unanswered};
 use crate::keepers::{Fresh, SqlMemory, adopted};
 use base_examples::conversations::exchanges;
 use base_examples::conversations::plans::A_BIT_AND_ITS_LOCK;
@@ -23,6 +23,8 @@ pub const CHANGED: &[(&str, &str, u8)] = &[
     ("UPDATE meta SET schema = 7", OTHER_SITE, 2),
     ("UPDATE meta SET schema = -1", SITE, 2),
     ("UPDATE meta SET site = X'00'", SITE, 2),
+    ("UPDATE meta SET id = 2", SITE, 2),
+    ("UPDATE meta SET id = 2", OTHER_SITE, 2),
     ("DELETE FROM meta", SITE, 2),
     (
         "INSERT INTO meta (id, schema, site) VALUES (2, 1, X'00')",
@@ -69,11 +71,18 @@ pub fn fault_of_foreign(alloc: Global, sql: &str) -> Result<u8, Fail> {
     Ok(fault_of_adopting(alloc, conn, SITE))
 }
 
-/// Holds a conversation over a store that is adopted anew after each request: the first request that
-/// doesn't get its reply, and what it got.
-pub fn first_difference_adopted_anew(alloc: Global, conversation: &str) -> Result<String, Fail> {
+/// Holds a conversation over a store that may first take one step a statement, and is adopted anew
+/// after each request: the first request that gets neither its reply nor 503, or whose repeat doesn't
+/// get its reply once the store may take a million steps, and what it got.
+pub fn first_difference_in_few_steps(alloc: Global, conversation: &str) -> Result<String, Fail> {
     let mut keep = SqlMemory::fresh(alloc)?;
     for (asked, wanted) in exchanges(alloc, conversation)? {
+        keep.set_steps(1);
+        let found = exchange(alloc, &mut keep, asked, wanted)?;
+        if !found.is_empty() && !is_unanswered(found.as_str()) {
+            return Ok(found);
+        }
+        keep.set_steps(1_000_000);
         let found = exchange(alloc, &mut keep, asked, wanted)?;
         if !found.is_empty() {
             return Ok(found);

@@ -18,7 +18,7 @@ use crate::replays::{RUNS, is_written, make_files_of_runs, make_folder};
 use crate::seats::{LAST_REQUESTS, digest_after, first_after_greatest};
 use crate::stores::{
     CHANGED, FOREIGN, columns_of_device, fault_after, fault_of_foreign,
-    first_difference_adopted_anew, settled_columns,
+    first_difference_in_few_steps, settled_columns,
 };
 use crate::streams::{
     BAD_HEAD, ORDER, STEPS, STREAMS, TAKEN, ends_at_the_limit, ends_so,
@@ -280,10 +280,12 @@ fn devices_are_visited_by_their_chips(rt: HostRuntime) -> Result<(), Fail> {
     Ok(())
 }
 
+/// What a limit of steps interrupts is answered 503 and changes nothing. The store is adopted anew
+/// after each request.
 #[test]
-fn stores_are_adopted_anew_between_requests(rt: HostRuntime) -> Result<(), Fail> {
+fn few_steps_change_nothing_or_serve(rt: HostRuntime) -> Result<(), Fail> {
     for row in PLANS {
-        let found = first_difference_adopted_anew(rt.alloc(), row.1)?;
+        let found = first_difference_in_few_steps(rt.alloc(), row.1)?;
         assert_eq!(rt; found.as_str(), "", "{}", row.0);
     }
     Ok(())
