@@ -13,7 +13,7 @@ reads a request and answers a constant. Each reply has to be 200, and the replie
 to be the same bytes. Servers whose Python lacks them are left out.
 
 Python 3.11, standard library alone, on Linux. It needs served.py, flask_station.py, fuses.py, life.py,
-cycles.py, devices.py, store.py and streams.py beside it.
+cycles.py, devices.py and streams.py beside it.
 """
 
 import argparse

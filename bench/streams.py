@@ -77,7 +77,7 @@ class Replies:
         return self.read < len(self.bytes) or bool(os.read(self.descriptor, 1))
 
     def check_next(self):
-        """Reads one reply, which has to be a success."""
+        """Reads one reply, which has to be a success, and returns its body."""
         while (end := self.bytes.find(b"\r\n\r\n", self.read)) < 0:
             self.more()
         top = self.bytes[self.read : end + 4]
@@ -89,6 +89,7 @@ class Replies:
         while len(self.bytes) - self.read < int(length[1]):
             self.more()
         self.read += int(length[1])
+        return self.bytes[self.read - int(length[1]) : self.read]
 
 
 class Program:
