@@ -20,5 +20,4 @@ mod CreateRow
 mod MetaShows
 mod Schemas
 mod Refusals
-mod QueryFails
 mod Settled

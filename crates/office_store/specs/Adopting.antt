@@ -1,6 +1,8 @@
 -- How a connection comes to have the tables of the office.
-use Rattle.std.specs.Prelude.{◌≡◌, ◌≢◌, ◌⊎◌, [], ◌∷◌, false, ℕ, List, IsTrue, Result, OnOk, IfErr}
+use Rattle.std.specs.Prelude.{◌≡◌, ◌≢◌, ◌⊎◌, [], ◌∷◌, false, ℕ, length, List, IsTrue, Result, OnOk, IfErr}
 use Rattle.sqlite.specs.Tree.{Trees}
+use Rattle.sqlite.specs.Schema.{Schema}
+use Rattle.sqlite.specs.Effect.{Database}
 use Rattle.sqlite.specs.Store.{Ghosts}
 use Rattle.sqlite.specs.Held.{Held, state}
 use Rattle.sqlite.specs.State.{State, HasCleanDisk, Survives}
@@ -13,7 +15,7 @@ use Rattle.office_store.specs.declared.adopting.Handed.TheVariants as handed
 use Rattle.office_store.specs.declared.fault.OpenFault.{OpenFault}
 use Rattle.office_store.specs.declared.fault.OpenFault.TheVariants.{OtherSite, OtherTables, Failed}
 use Rattle.office_store.specs.Found.{HasWhole}
-use Rattle.office_store.specs.Meta.{metas_in, new_meta, IsBegun}
+use Rattle.office_store.specs.Meta.{metas_in, new_meta, IsBegun, TellNoSite}
 
 -- no transaction is under way, what was committed is shown, the connection is ready if its schema and its numbers are the office's, and with no schema it has no row
 pub record CanSettle (s : State) : Type 0 where
@@ -30,14 +32,26 @@ IsOurs site db = metas_in db ≡ new_meta site ∷ []
 abbrev pub IsOfSite : List ℕ → Trees → Type 0
 IsOfSite site db = IsOffice (office_over db) × IsOurs site db
 
--- the store has one row of meta, of this schema and another site
+-- the store has one row of meta, of this schema and another site, which is 32 bytes too
 abbrev pub IsOfOtherSite : List ℕ → Trees → Type 0
-IsOfOtherSite site db = (other : List ℕ) × IsOurs other db × (other ≢ site)
+IsOfOtherSite site db = (other : List ℕ) × (length other ≡ 32) × IsOurs other db × (other ≢ site)
 
--- what a refused connection shows: the fault of another site comes with such a row of meta alone, and a schema that is neither none nor the office's is refused for its tables
+-- a schema that is neither none nor the office's
+abbrev pub IsOtherSchema : Schema → Type 0
+IsOtherSchema schema = (schema ≢ no_schema) × (schema ≢ office_schema)
+
+-- the tables are other ones: by their schema, by a number of a map or of an entry below zero, or by a meta that tells no site
+abbrev pub HasOtherTables : Database → Type 0
+HasOtherTables db =
+    IsOtherSchema db.schema
+    ⊎ ((db.schema ≡ office_schema) × ¬ HasWhole db.trees)
+    ⊎ ((db.schema ≡ office_schema) × TellNoSite (metas_in db.trees))
+
+-- what a refused connection shows: the fault of another site comes with such a row of meta alone, that of other tables with other tables alone, and another schema is refused for its tables
 pub record IsRefusedFor (site : List ℕ) (s : State) (fault : OpenFault) : Type 0 where
   pub other_site : HasCleanDisk s → fault ≡ OtherSite → IsOfOtherSite site s.now.trees
-  pub other_schema : IsTrue s.is_open → s.now.schema ≢ no_schema → s.now.schema ≢ office_schema → fault ≡ OtherTables
+  pub other_tables : HasCleanDisk s → fault ≡ OtherTables → HasOtherTables s.now
+  pub other_schema : IsTrue s.is_open → IsOtherSchema s.now.schema → fault ≡ OtherTables
 
 -- the tables of a store that had none, whole: all of them, with no row but that of meta
 abbrev pub IsMadeFor : List ℕ → State → Trees → Type 0

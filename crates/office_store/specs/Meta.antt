@@ -1,5 +1,5 @@
 -- What the table meta tells of a store, and a store whose tables are new.
-use Rattle.std.specs.Prelude.{◌≡◌, ℕ, take, List, [], ◌∷◌, Option, Some, None, map, IsTrue, Ok}
+use Rattle.std.specs.Prelude.{◌≡◌, ◌≢◌, ℕ, length, take, List, [], ◌∷◌, Option, Some, None, map, IsPermutation, IsTrue, Ok}
 use Rattle.std.specs.List.{AllByRecursion}
 use Rattle.sqlite.specs.Order.{Row, column, bytes}
 use Rattle.sqlite.specs.Tree.{Trees}
@@ -10,7 +10,7 @@ use Rattle.office_tables.specs.Tables.{no_rows}
 use Rattle.office_store.specs.declared.meta.Meta.{Meta}
 use Rattle.office_sql.specs.Schema.{office_schema}
 use Rattle.office_sql.specs.Values.{number_in}
-use Rattle.office_sql.specs.Tables.{IsOffice, tables_in}
+use Rattle.office_sql.specs.Tables.{IsBlob, IsOffice, tables_in}
 
 -- meta: id, schema, site. The id is the rowid
 abbrev pub meta_in : Row → Meta
@@ -19,15 +19,27 @@ meta_in r = record { id = number_in (column r 0); schema = number_in (column r 2
 abbrev pub metas_in : Trees → List Meta
 metas_in db = map meta_in (db 0)
 
--- the element of a list that has no other
-abbrev pub only : {A : Type 0} → List A → Option A
-only [] = None
-only (x ∷ []) = Some x
-only (x ∷ y ∷ more) = None
+-- of a row that shows these columns alone
+abbrev pub meta_of : Row → Meta
+meta_of r = meta_in (column r 0 ∷ r)
+
+-- the rows show meta, in some order, and their sites are blobs
+pub record ShowMeta (db : Trees) (rows : List Row) : Type 0 where
+  pub metas : IsPermutation (metas_in db) (map meta_of rows)
+  pub blobs : AllByRecursion (IsBlob 2) rows
 
 -- the row that a new store has
 abbrev pub new_meta : List ℕ → Meta
 new_meta site = record { id = 1; schema = 1; site = site }
+
+-- whatever the site, which is 32 bytes, they aren't the one row of its store
+abbrev pub TellNoSite : List Meta → Type 0
+TellNoSite metas = (site : List ℕ) → length site ≡ 32 → metas ≢ new_meta site ∷ []
+
+-- what was read of them: the one row, or none where they tell no site
+abbrev pub IsMetaOf : List Meta → Option Meta → Type 0
+IsMetaOf metas (Some meta) = metas ≡ meta ∷ []
+IsMetaOf metas None = TellNoSite metas
 
 -- the first tables of the office with their indexes
 abbrev pub first_tables : ℕ → ℕ → Schema

@@ -1,16 +1,16 @@
 // How a connection becomes a keeper.
-ghost use Rattle.std.specs.Prelude.{◌≡◌, ◌≢◌, ◌↔◌, ℕ, List, false, Some, IsTrue, IfOk, IfErr, OnOk};
+ghost use Rattle.std.specs.Prelude.{◌≡◌, ◌≢◌, ◌↔◌, ℕ, length, List, false, Some, IsTrue, IfOk, IfErr, OnOk};
 ghost use Rattle.sqlite.specs.State.{HasCleanDisk, Survives};
 ghost use Rattle.sqlite.specs.Held.{state};
 ghost use Rattle.office_sql.specs.Schema.{no_schema, office_schema};
 ghost use Rattle.office_sql.specs.Keeping.{IsReady};
 ghost use Rattle.office_sql.specs.Tables.{tables_in};
-ghost use Rattle.office_store.specs.Adopting.{CanSettle, HandedLeaves, IsHandedFor, IsOurs, LeavesAtMost, Settles};
+ghost use Rattle.office_store.specs.Adopting.{CanSettle, HandedLeaves, HasOtherTables, IsHandedFor, IsOurs, LeavesAtMost, Settles};
 ghost use Rattle.office_store.specs.Meta.{new_meta};
 ghost use Rattle.office_store.specs.declared.fault.OpenFault.TheVariants.{OtherSite as TheSite, OtherTables as TheTables};
 
 use crate::create::make_tables;
-use crate::fault::{OpenFault, fault_of};
+use crate::fault::OpenFault;
 use crate::found::{has_whole_numbers, reread};
 use crate::keep::SqlKeep;
 use crate::meta::{Meta, meta_row};
@@ -44,7 +44,8 @@ fn is_of_schema(meta: &Meta) -> bool
 /// Whether what a store tells of itself is this schema and this site.
 fn judge_meta(meta: Option<Meta>, site: &Digest) -> Result<(), OpenFault>
     ensures ours { OnOk result (meta ≡ Some (new_meta site.now)) }
-    ensures other_site { IfErr result (λ fault. fault ≡ TheSite → (other : List ℕ) × (meta ≡ Some (new_meta other)) × (other ≢ site.now)) }
+    ensures other_site { IfErr result (λ fault. fault ≡ TheSite
+        → (other : List ℕ) × (length other ≡ 32) × (meta ≡ Some (new_meta other)) × (other ≢ site.now)) }
     ensures other_tables { IfErr result (λ fault. fault ≡ TheTables → (other : List ℕ) → meta ≢ Some (new_meta other)) }
 {
     let Some(meta) = meta else {
@@ -67,7 +68,7 @@ fn make<S: Alter>(conn: &mut Connection<S>, site: &Digest) -> Result<(), OpenFau
 {
     match make_tables(conn, site) {
         Ok(()) => Ok(()),
-        Err(error) => Err(fault_of(error)),
+        Err(_) => Err(OpenFault::Failed),
     }
 }
 
@@ -80,12 +81,14 @@ fn test_numbers<S: Alter>(conn: &mut Connection<S>) -> Result<(), OpenFault>
     ensures kept { HasCleanDisk (state S.Store conn.new) → OnOk result (tables_in (state S.Store conn.new).now.trees ≡ tables_in (state S.Store conn.old).now.trees) }
     ensures schema { IsTrue (state S.Store conn.new).is_open → (state S.Store conn.new).now.schema ≡ office_schema }
     ensures never { IfErr result (λ fault. fault ≢ TheSite) }
+    ensures other_tables { HasCleanDisk (state S.Store conn.new)
+        → IfErr result (λ fault. fault ≡ TheTables → HasOtherTables (state S.Store conn.new).now) }
     ensures crash { Survives (state S.Store conn.old) (state S.Store conn.new) (λ _. ⊥) }
 {
     match has_whole_numbers(conn) {
         Ok(true) => Ok(()),
         Ok(false) => Err(OpenFault::OtherTables),
-        Err(error) => Err(fault_of(error)),
+        Err(_) => Err(OpenFault::Failed),
     }
 }
 
@@ -96,7 +99,7 @@ fn test_site<S: Alter>(conn: &mut Connection<S>, site: &Digest) -> Result<(), Op
 {
     match meta_row(conn) {
         Ok(meta) => judge_meta(meta, site),
-        Err(error) => Err(fault_of(error)),
+        Err(_) => Err(OpenFault::Failed),
     }
 }
 

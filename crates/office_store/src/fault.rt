@@ -1,8 +1,7 @@
 // Why a store isn't opened.
 ghost use Rattle.std.specs.Prelude.{◌≡◌};
-ghost use Rattle.office_store.specs.Faults.{fault_number, fault_of};
+ghost use Rattle.office_store.specs.Faults.{fault_number};
 
-use sqlite::{Error, ErrorCode};
 use thiserror::Error as Faulty;
 
 /// Why a store isn't opened.
@@ -29,20 +28,5 @@ impl OpenFault {
             OpenFault::OtherTables => 2,
             OpenFault::Failed => 3,
         }
-    }
-}
-
-/// What an error says of a store: a constraint or a text that SQL refuses is met by other tables
-/// alone, everything else is the store's or memory's.
-pub(crate) fn fault_of(error: Error) -> OpenFault
-    ensures { result ≡ fault_of error }
-{
-    match error {
-        Error::SqliteFailure(ErrorCode::ConstraintViolation(_))
-        | Error::SqliteFailure(ErrorCode::NameTaken)
-        | Error::SqlInputError(_)
-        | Error::InvalidColumnType(_, _)
-        | Error::IntegralValueOutOfRange(_) => OpenFault::OtherTables,
-        _ => OpenFault::Failed,
     }
 }

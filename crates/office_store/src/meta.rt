@@ -1,17 +1,16 @@
 // The table that tells of the store itself.
-ghost use Rattle.std.specs.Prelude.{◌≡◌, ◌∷◌, IfOk, map, IsPermutation};
+ghost use Rattle.std.specs.Prelude.{◌≡◌, ◌≢◌, [], ◌∷◌, length, map, IfSome, IfNone};
+ghost use Rattle.std.specs.List.{AllByRecursion};
 ghost use Rattle.sqlite.specs.Held.{state};
-ghost use Rattle.sqlite.specs.Order.{column};
+ghost use Rattle.sqlite.specs.Order.{bytes, column};
 ghost use Rattle.office_sql.specs.Asking.{Asks, HasOffice};
-ghost use Rattle.office_store.specs.Meta.{meta_in, metas_in, only};
+ghost use Rattle.office_sql.specs.Tables.{IsBlob};
+ghost use Rattle.office_sql.specs.Values.{number_in};
+ghost use Rattle.office_store.specs.Meta.{meta_of, metas_in, IsMetaOf, ShowMeta, TellNoSite};
 
-use office_sql::{digest_at, whole_at};
-use sqlite::types::Type;
+use sqlite::types::ValueRef;
 use sqlite::{Alter, Connection, Error, Row};
 use text_core::Digest;
-
-/// The error of a row of `meta` that no store of this product has.
-const OTHER_FORM: Error = Error::InvalidColumnType(2, Type::Blob);
 
 /// What a store tells of itself: the row's own number, the number of the schema, and whose site it
 /// is of.
@@ -24,38 +23,64 @@ pub struct Meta {
 
 fn meta_rows<S: Alter>(conn: &mut Connection<S>) -> Result<Vec<Row>, Error>
     requires { HasOffice (state S.Store conn.old) }
-    ensures { Asks S.Store conn.old conn.new result (λ _ rows. IsPermutation (metas_in (state S.Store conn.old).now.trees) (map (λ r. meta_in (column r 0 ∷ r)) rows.items)) }
+    ensures { Asks S.Store conn.old conn.new result (λ _ rows. ShowMeta (state S.Store conn.old).now.trees rows.items) }
 {
     conn.query_all("SELECT id, schema, site FROM meta ORDER BY id", &[])
 }
 
-fn read_meta(row: &Row) -> Result<Meta, Error>
-    ensures { IfOk result (λ meta. meta ≡ meta_in (column row.now 0 ∷ row.now)) }
+/// A whole number that isn't below zero, if the column is one.
+fn number_at(row: &Row, at: usize) -> Option<u64>
+    ensures some { IfSome result (λ number. number ≡ number_in (column row.now at)) }
+    ensures none { IfNone result (number_in (column row.now at) ≡ 0) }
 {
-    Ok(Meta {
-        id: whole_at(row, 0)?,
-        schema: whole_at(row, 1)?,
-        site: digest_at(row, 2)?,
-    })
-}
-
-fn only_meta(rows: &[Row]) -> Result<Option<Meta>, Error>
-    ensures { IfOk result (λ meta. meta ≡ only (map (λ r. meta_in (column r 0 ∷ r)) rows.now)) }
-{
-    match rows {
-        [row] => match read_meta(row) {
-            Ok(meta) => Ok(Some(meta)),
-            Err(_) => Err(OTHER_FORM),
-        },
-        _ => Ok(None),
+    match row.get_ref(at) {
+        Ok(ValueRef::Int(number)) => u64::try_from(number).ok(),
+        _ => None,
     }
 }
 
-/// What the store tells of itself, where `meta` has one row.
+/// The name of a site, if the blob of the column is as long as one.
+fn site_at(row: &Row, at: usize) -> Option<Digest>
+    ensures some { IfSome result (λ site. site ≡ bytes (column row.now at)) }
+    ensures none { IfNone result (IsBlob at row.now → length (bytes (column row.now at)) ≢ 32) }
+{
+    let Ok(ValueRef::Blob(blob)) = row.get_ref(at) else {
+        return None;
+    };
+    let Ok(bytes) = <[u8; 32]>::try_from(blob) else {
+        return None;
+    };
+    Some(Digest::from_bytes(bytes))
+}
+
+/// A row of `meta`, if each column is of its form.
+fn read_meta(row: &Row) -> Option<Meta>
+    ensures some { IfSome result (λ meta. meta ≡ meta_of row.now) }
+    ensures none { IfNone result (IsBlob 2 row.now → TellNoSite (meta_of row.now ∷ [])) }
+{
+    Some(Meta {
+        id: number_at(row, 0)?,
+        schema: number_at(row, 1)?,
+        site: site_at(row, 2)?,
+    })
+}
+
+/// The row of `meta`, if there is one and no other, and each column is of its form.
+fn only_meta(rows: &[Row]) -> Option<Meta>
+    ensures some { IfSome result (λ meta. map meta_of rows.now ≡ meta ∷ []) }
+    ensures none { IfNone result (AllByRecursion (IsBlob 2) rows.now → TellNoSite (map meta_of rows.now)) }
+{
+    match rows {
+        [row] => read_meta(row),
+        _ => None,
+    }
+}
+
+/// What the store tells of itself, if `meta` has one row, of which each column is of its form.
 pub fn meta_row<S: Alter>(conn: &mut Connection<S>) -> Result<Option<Meta>, Error>
     requires { HasOffice (state S.Store conn.old) }
-    ensures { Asks S.Store conn.old conn.new result (λ _ row. row ≡ only (metas_in (state S.Store conn.old).now.trees)) }
+    ensures { Asks S.Store conn.old conn.new result (λ _ meta. IsMetaOf (metas_in (state S.Store conn.old).now.trees) meta) }
 {
     let rows = meta_rows(conn)?;
-    only_meta(rows.as_slice())
+    Ok(only_meta(rows.as_slice()))
 }

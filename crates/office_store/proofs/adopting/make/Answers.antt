@@ -12,7 +12,7 @@ returns-in-Err g c =
     let conn = c.make_tables.new.conn in
     let it = c.in-Err.ensures in
     unmade g.S.Store c.args.site.now c.args.conn.now conn (clean_if_open (g.S.Store.view conn.store) (g.met.S.Store.shut_if_dirty conn.store))
-    c.requires.can c.requires.bare it.mode it.err it.crash c.in-Err.error c.fault_of.result c.fault_of.ensures
+    c.requires.can c.requires.bare it.mode it.err it.crash
 
 pub returns-in-Ok : goal.returns-in-Ok
 returns-in-Ok g c =
