@@ -17,7 +17,10 @@ use Rattle.http_serving.specs.Sends.{Sends, Sending}
 use Rattle.http_serving.specs.declared.send.Sent.{Sent}
 use Rattle.http_serving.specs.declared.Served.{Served}
 use Rattle.http_replies.specs.Replies.{Answer, reply_text}
-use Rattle.http_serving.specs.Streams.{outcome_of, Turning, Serving, ServingSoFar, StopsReading, StopsWriting, Piece, whole, refused, IsPiece, is_last, text_of, texts_of, Machine, Steps, Serves, IsOpen, Ends, TakesTurns, Runs, Reaches}
+use Rattle.http_replies.specs.Runs.{Machine, Runs}
+use Rattle.http_replies.proofs.RunLemmas.{runs_both}
+use Rattle.http_serving.specs.Streams.{outcome_of, StopsReading, StopsWriting, Piece, whole, refused, IsPiece, is_last, text_of, texts_of, turns_of, Cuts, IsOpen, Ends}
+use Rattle.http_serving.specs.Turns.{TakesTurns, Turning, IsTurn}
 
 -- a request stays one whatever bytes follow
 pub request_more : (rest more : List ℕ) (request : Request) (after : List ℕ) → HasRequest rest request after → HasRequest (rest ++ more) request (after ++ more)
@@ -46,40 +49,10 @@ pub refused_more : (rest more : List ℕ) (refusal : FrameRefusal) (is_head : Bo
 refused_more rest more refusal is_head (inl has) = inl (refused_head_more rest more refusal is_head has)
 refused_more rest more refusal is_head (inr bad) = inr (bad.0, bad.1, omega (arith, bad.2, length-append rest more), bad_head_more rest more bad.3)
 
-or_split : (a b : Bool) → (a || b) ≡ false → (a ≡ false) × (b ≡ false)
+-- neither of two
+pub or_split : (a b : Bool) → (a || b) ≡ false → (a ≡ false) × (b ≡ false)
 or_split false b e = (refl, e)
 or_split true b e = absurd cc
-
--- one piece more, behind pieces that don't end the stream
-pub serves_more : {S : Type 0} (step : Machine S) (old : S) (stream : List ℕ) (pieces : List Piece) (middle : S) (rest : List ℕ) (piece : Piece) (new : S) (after : List ℕ)
-    → Serves step old stream pieces middle rest → IsOpen pieces → IsPiece rest piece after → Steps step middle piece new
-    → Serves step old stream (pieces ++ piece ∷ []) new after
-serves_more step old stream [] middle rest piece new after served open_pieces is_piece steps = (
-  new,
-  after,
-  subst (λ (s : List ℕ). IsPiece s piece after) served.1 is_piece,
-  subst (λ s. Steps step s piece new) served.0 steps,
-  (λ _. refl),
-  (refl, refl),
-)
-serves_more step old stream (p ∷ pieces) middle rest piece new after served open_pieces is_piece steps =
-    let closed = or_split (is_last p) (list_any is_last pieces) open_pieces in (
-      served.0,
-      served.1,
-      served.2,
-      served.3,
-      (λ yes. let no = closed.0 in absurd cc),
-      serves_more step served.0 served.1 pieces middle rest piece new after served.5 closed.1 is_piece steps,
-    )
-
-pub open_more : (pieces : List Piece) (piece : Piece) → IsOpen pieces → is_last piece ≡ false → IsOpen (pieces ++ piece ∷ [])
-open_more [] piece open_pieces last = ap (λ t. t || false) last
-open_more (p ∷ pieces) piece open_pieces last =
-    let closed = or_split (is_last p) (list_any is_last pieces) open_pieces in
-    (λ i. closed.0 i || open_more pieces piece closed.1 last i)
-
-pub texts_more : (pieces : List Piece) (piece : Piece) → texts_of (pieces ++ piece ∷ []) ≡ texts_of pieces ++ text_of piece
-texts_more pieces piece = flat_map-append text_of pieces (piece ∷ []) ∙ ap (λ s. texts_of pieces ++ s) (append-nil (text_of piece))
 
 one : (before text : List ℕ) → before ++ (text ++ []) ≡ before ++ text
 one before text = ap (λ s. before ++ s) (append-nil text)
@@ -87,106 +60,121 @@ one before text = ap (λ s. before ++ s) (append-nil text)
 none_more : (before : List ℕ) → before ≡ before ++ []
 none_more before = sym (append-nil before)
 
+-- one piece is cut
+one_cut : (rest after : List ℕ) (piece : Piece) → IsPiece rest piece after → Cuts rest (piece ∷ []) after
+one_cut rest after piece is_piece = (after, is_piece, (λ _. refl), refl)
+
+-- of one piece a front of the reply was written
+one_part : (before written sent unsent : List ℕ) (piece : Piece) → text_of piece ≡ sent ++ unsent → written ≡ before ++ sent → StopsWriting (piece ∷ []) before written
+one_part before written sent unsent piece text written_is = record {
+  front = [];
+  last = piece;
+  pieces_are = refl;
+  sent = sent;
+  unsent = unsent;
+  text = text;
+  written_is = written_is ∙ ap (λ s. s ++ sent) (none_more before);
+}
+
 -- one piece and its reply, or a front of the reply
-piece_turn : {S : Type 0} (step : Machine S) (old new : S) (rest after left before written : List ℕ) (piece : Piece) (last : Bool) (sent : Sent) → is_last piece ≡ last
-    → IsPiece rest piece after → Steps step old piece new → Sends before written (text_of piece) sent
-    → TakesTurns step old new rest after left before written (outcome_of sent last)
-piece_turn step old new rest after left before written piece true Sent.All last is_piece steps sends =
-    (piece ∷ [], after, (new, after, is_piece, steps, (λ _. refl), (refl, refl)), (ap (λ t. t || false) last, sends ∙ sym (one before (text_of piece))))
-piece_turn step old new rest after left before written piece false Sent.All last is_piece steps sends = (piece, is_piece, steps, last, sends)
-piece_turn step old new rest after left before written piece last Sent.Fault last_is is_piece steps sends = (
-  piece ∷ [],
-  after,
-  (new, after, is_piece, steps, (λ _. refl), (refl, refl)),
-  record { front = []; last = piece; pieces_are = refl; sent = sends.0; unsent = sends.1; text = sends.2; written_is = sends.3 ∙ ap (λ s. s ++ sends.0) (none_more before) },
-)
-piece_turn step old new rest after left before written piece last Sent.TurnLimit last_is is_piece steps sends = (
-  piece ∷ [],
-  after,
-  (new, after, is_piece, steps, (λ _. refl), (refl, refl)),
-  inr (record { front = []; last = piece; pieces_are = refl; sent = sends.0; unsent = sends.1; text = sends.2; written_is = sends.3 ∙ ap (λ s. s ++ sends.0) (none_more before) }),
-)
+piece_turn : (rest after left before written : List ℕ) (piece : Piece) (last : Bool) (sent : Sent) → is_last piece ≡ last
+    → IsPiece rest piece after → Sends before written (text_of piece) sent → TakesTurns (outcome_of sent last) (piece ∷ []) rest after left before written
+piece_turn rest after left before written piece true Sent.All last is_piece sends =
+    (after, one_cut rest after piece is_piece, (ap (λ t. t || false) last, sends ∙ sym (one before (text_of piece))))
+piece_turn rest after left before written piece false Sent.All last is_piece sends =
+    (one_cut rest after piece is_piece, ap (λ t. t || false) last, sends ∙ sym (one before (text_of piece)))
+piece_turn rest after left before written piece last Sent.Fault last_is is_piece sends =
+    (after, one_cut rest after piece is_piece, one_part before written sends.0 sends.1 piece sends.2 sends.3)
+piece_turn rest after left before written piece last Sent.TurnLimit last_is is_piece sends =
+    (after, one_cut rest after piece is_piece, inr (one_part before written sends.0 sends.1 piece sends.2 sends.3))
 
 -- a refusal always ends the stream, so that nothing is said of what follows
-refused_turn : {S : Type 0} (step : Machine S) (old : S) (rest next left before written : List ℕ) (refusal : FrameRefusal) (is_head : Bool) (sent : Sent)
+refused_turn : (rest next left before written : List ℕ) (refusal : FrameRefusal) (is_head : Bool) (sent : Sent)
     → IsRefused rest refusal is_head → Sends before written (text_of (refused refusal is_head)) sent
-    → TakesTurns step old old rest next left before written (outcome_of sent true)
-refused_turn step old rest next left before written refusal is_head Sent.All is_refused sends =
-    piece_turn step old old rest rest left before written (refused refusal is_head) true Sent.All refl (is_refused, refl) refl sends
-refused_turn step old rest next left before written refusal is_head Sent.Fault is_refused sends =
-    piece_turn step old old rest rest left before written (refused refusal is_head) true Sent.Fault refl (is_refused, refl) refl sends
-refused_turn step old rest next left before written refusal is_head Sent.TurnLimit is_refused sends =
-    piece_turn step old old rest rest left before written (refused refusal is_head) true Sent.TurnLimit refl (is_refused, refl) refl sends
+    → TakesTurns (outcome_of sent true) (refused refusal is_head ∷ []) rest next left before written
+refused_turn rest next left before written refusal is_head Sent.All is_refused sends =
+    piece_turn rest rest left before written (refused refusal is_head) true Sent.All refl (is_refused, refl) sends
+refused_turn rest next left before written refusal is_head Sent.Fault is_refused sends =
+    piece_turn rest rest left before written (refused refusal is_head) true Sent.Fault refl (is_refused, refl) sends
+refused_turn rest next left before written refusal is_head Sent.TurnLimit is_refused sends =
+    piece_turn rest rest left before written (refused refusal is_head) true Sent.TurnLimit refl (is_refused, refl) sends
 
 -- a turn without a write
-pub quiet : {S : Type 0} (step : Machine S) (old : S) (front window next : List ℕ) (left_old left_new written : Option (List ℕ)) (ended : Type 0) (result : Option Served) → Keeps front left_old window left_new ended
-    → ((left after before : List ℕ) → front ++ left ≡ window ++ after → (ended → after ≡ []) → TakesTurns step old old (front ++ left) (next ++ after) after before before result)
-    → Turning step old old front left_old next left_new written written result
-quiet step old front window next None left_new written ended result keeps turn = tt
-quiet step old front window next (Some left) None None ended result keeps turn = tt
-quiet step old front window next (Some left) None (Some before) ended result keeps turn = absurd keeps
-quiet step old front window next (Some left) (Some after) None ended result keeps turn = tt
-quiet step old front window next (Some left) (Some after) (Some before) ended result keeps turn = turn left after before keeps.0 keeps.1
+quiet : (front window next : List ℕ) (left_old left_new written : Option (List ℕ)) (ended : Type 0) (result : Option Served) → Keeps front left_old window left_new ended
+    → ((left after before : List ℕ) → front ++ left ≡ window ++ after → (ended → after ≡ []) → TakesTurns result [] (front ++ left) (next ++ after) after before before)
+    → Turning front left_old next left_new written written result []
+quiet front window next None left_new written ended result keeps turn = tt
+quiet front window next (Some left) None None ended result keeps turn = tt
+quiet front window next (Some left) None (Some before) ended result keeps turn = absurd keeps
+quiet front window next (Some left) (Some after) None ended result keeps turn = tt
+quiet front window next (Some left) (Some after) (Some before) ended result keeps turn = turn left after before keeps.0 keeps.1
 
 -- a turn with a reply
-pub told : {S : Type 0} (step : Machine S) (old new : S) (front window next text : List ℕ) (left_old left_new written_old written_new : Option (List ℕ)) (ended : Type 0) (sent : Sent) (result : Option Served)
+told : (front window next text : List ℕ) (left_old left_new written_old written_new : Option (List ℕ)) (ended : Type 0) (sent : Sent) (result : Option Served) (pieces : List Piece)
     → Keeps front left_old window left_new ended → Sending written_old written_new text sent
-    → ((left after before written : List ℕ) → front ++ left ≡ window ++ after → Sends before written text sent → TakesTurns step old new (front ++ left) (next ++ after) after before written result)
-    → Turning step old new front left_old next left_new written_old written_new result
-told step old new front window next text None left_new written_old written_new ended sent result keeps sends turn = tt
-told step old new front window next text (Some left) left_new None written_new ended sent result keeps sends turn = tt
-told step old new front window next text (Some left) None (Some before) written_new ended sent result keeps sends turn = absurd keeps
-told step old new front window next text (Some left) (Some after) (Some before) None ended sent result keeps sends turn = absurd sends
-told step old new front window next text (Some left) (Some after) (Some before) (Some written) ended sent result keeps sends turn = turn left after before written keeps.0 sends
+    → ((left after before written : List ℕ) → front ++ left ≡ window ++ after → Sends before written text sent → TakesTurns result pieces (front ++ left) (next ++ after) after before written)
+    → Turning front left_old next left_new written_old written_new result pieces
+told front window next text None left_new written_old written_new ended sent result pieces keeps sends turn = tt
+told front window next text (Some left) left_new None written_new ended sent result pieces keeps sends turn = tt
+told front window next text (Some left) None (Some before) written_new ended sent result pieces keeps sends turn = absurd keeps
+told front window next text (Some left) (Some after) (Some before) None ended sent result pieces keeps sends turn = absurd sends
+told front window next text (Some left) (Some after) (Some before) (Some written) ended sent result pieces keeps sends turn = turn left after before written keeps.0 sends
 
-pub turn_ended : {S : Type 0} (step : Machine S) (old : S) (front window next : List ℕ) (left_old left_new written : Option (List ℕ)) → Keeps front left_old window left_new (Unit {0}) → window ≡ []
-    → Turning step old old front left_old next left_new written written (Some Served.Ended)
-turn_ended step old front window next left_old left_new written keeps empty =
-    quiet step old front window next left_old left_new written (Unit {0}) (Some Served.Ended) keeps
-    (λ left after before same ended. ([], front ++ left, (refl, refl), (refl, same ∙ (λ i. empty i ++ ended tt i), none_more before)))
-
-pub turn_cut : {S : Type 0} (step : Machine S) (old : S) (front window next : List ℕ) (left_old left_new written : Option (List ℕ)) → Keeps front left_old window left_new (Unit {0}) → IsCutOff window
-    → Turning step old old front left_old next left_new written written (Some Served.Cut)
-turn_cut step old front window next left_old left_new written keeps cut =
-    quiet step old front window next left_old left_new written (Unit {0}) (Some Served.Cut) keeps
+-- the bytes ended inside a request
+pub turn_cut : (front window next : List ℕ) (left_old left_new written : Option (List ℕ)) → Keeps front left_old window left_new (Unit {0}) → IsCutOff window
+    → Turning front left_old next left_new written written (Some Served.Cut) []
+turn_cut front window next left_old left_new written keeps cut =
+    quiet front window next left_old left_new written (Unit {0}) (Some Served.Cut) keeps
     (λ left after before same ended.
     let whole : window ≡ front ++ left = sym (same ∙ ap (λ s. window ++ s) (ended tt) ∙ append-nil window) in
-    ([], front ++ left, (refl, refl), (refl, subst IsCutOff whole cut, none_more before)))
+    (front ++ left, refl, (refl, subst IsCutOff whole cut, none_more before)))
 
+-- no piece was cut, and reading stopped
 stops : (front window left after before : List ℕ) → front ++ left ≡ window ++ after → IsUndecided window → StopsReading [] (front ++ left) after before before
 stops front window left after before same undecided =
     record { open_pieces = refl; held = window; rest_is = same; undecided = undecided; written_is = none_more before }
 
-pub turn_fault : {S : Type 0} (step : Machine S) (old : S) (front window next : List ℕ) (left_old left_new written : Option (List ℕ)) → Keeps front left_old window left_new ⊥ → IsUndecided window
-    → Turning step old old front left_old next left_new written written (Some Served.ReadFault)
-turn_fault step old front window next left_old left_new written keeps undecided =
-    quiet step old front window next left_old left_new written ⊥ (Some Served.ReadFault) keeps
-    (λ left after before same ended. ([], front ++ left, (refl, refl), stops front window left after before same undecided))
+-- the reader failed
+pub turn_fault : (front window next : List ℕ) (left_old left_new written : Option (List ℕ)) → Keeps front left_old window left_new ⊥ → IsUndecided window
+    → Turning front left_old next left_new written written (Some Served.ReadFault) []
+turn_fault front window next left_old left_new written keeps undecided =
+    quiet front window next left_old left_new written ⊥ (Some Served.ReadFault) keeps
+    (λ left after before same ended. (front ++ left, refl, stops front window left after before same undecided))
 
-pub turn_limit : {S : Type 0} (step : Machine S) (old : S) (front window next : List ℕ) (left_old left_new written : Option (List ℕ)) → Keeps front left_old window left_new ⊥ → IsUndecided window
-    → Turning step old old front left_old next left_new written written (Some Served.TurnLimit)
-turn_limit step old front window next left_old left_new written keeps undecided =
-    quiet step old front window next left_old left_new written ⊥ (Some Served.TurnLimit) keeps
-    (λ left after before same ended. ([], front ++ left, (refl, refl), inl (stops front window left after before same undecided)))
+-- no call was left to read by
+pub turn_limit : (front window next : List ℕ) (left_old left_new written : Option (List ℕ)) → Keeps front left_old window left_new ⊥ → IsUndecided window
+    → Turning front left_old next left_new written written (Some Served.TurnLimit) []
+turn_limit front window next left_old left_new written keeps undecided =
+    quiet front window next left_old left_new written ⊥ (Some Served.TurnLimit) keeps
+    (λ left after before same ended. (front ++ left, refl, inl (stops front window left after before same undecided)))
 
-pub turn_refused : {S : Type 0} (step : Machine S) (old : S) (front window next : List ℕ) (left_old left_new written_old written_new : Option (List ℕ)) (refusal : FrameRefusal) (is_head : Bool) (sent : Sent)
+-- a refusal and its reply, or a front of the reply
+pub turn_refused : (front window next : List ℕ) (left_old left_new written_old written_new : Option (List ℕ)) (refusal : FrameRefusal) (is_head : Bool) (sent : Sent)
     → Keeps front left_old window left_new ⊥ → IsRefused window refusal is_head → Sending written_old written_new (text_of (refused refusal is_head)) sent
-    → Turning step old old front left_old next left_new written_old written_new (outcome_of sent true)
-turn_refused step old front window next left_old left_new written_old written_new refusal is_head sent keeps is_refused sends =
-    told step old old front window next (text_of (refused refusal is_head)) left_old left_new written_old written_new ⊥ sent (outcome_of sent true) keeps sends
+    → Turning front left_old next left_new written_old written_new (outcome_of sent true) (refused refusal is_head ∷ [])
+turn_refused front window next left_old left_new written_old written_new refusal is_head sent keeps is_refused sends =
+    told front window next (text_of (refused refusal is_head)) left_old left_new written_old written_new ⊥ sent (outcome_of sent true) (refused refusal is_head ∷ []) keeps sends
     (λ left after before written same sends.
-    refused_turn step old (front ++ left) (next ++ after) after before written refusal is_head sent
+    refused_turn (front ++ left) (next ++ after) after before written refusal is_head sent
     (subst (λ (s : List ℕ). IsRefused s refusal is_head) (sym same) (refused_more window after refusal is_head is_refused)) sends)
 
-pub turn_whole : {S : Type 0} (step : Machine S) (old new : S) (front window next : List ℕ) (left_old left_new written_old written_new : Option (List ℕ)) (request : Request) (answer : Answer) (last : Bool) (sent : Sent)
-    → Keeps front left_old window left_new ⊥ → HasRequest window request next → step old request answer new → last ≡ is_last (whole request answer)
+-- a request and its reply, or a front of the reply
+pub turn_whole : (front window next : List ℕ) (left_old left_new written_old written_new : Option (List ℕ)) (request : Request) (answer : Answer) (last : Bool) (sent : Sent)
+    → Keeps front left_old window left_new ⊥ → HasRequest window request next → last ≡ is_last (whole request answer)
     → Sending written_old written_new (text_of (whole request answer)) sent
-    → Turning step old new front left_old next left_new written_old written_new (outcome_of sent last)
-turn_whole step old new front window next left_old left_new written_old written_new request answer last sent keeps has steps last_is sends =
-    told step old new front window next (text_of (whole request answer)) left_old left_new written_old written_new ⊥ sent (outcome_of sent last) keeps sends
+    → Turning front left_old next left_new written_old written_new (outcome_of sent last) (whole request answer ∷ [])
+turn_whole front window next left_old left_new written_old written_new request answer last sent keeps has last_is sends =
+    told front window next (text_of (whole request answer)) left_old left_new written_old written_new ⊥ sent (outcome_of sent last) (whole request answer ∷ []) keeps sends
     (λ left after before written same sends.
-    piece_turn step old new (front ++ left) (next ++ after) after before written (whole request answer) last sent (sym last_is)
-    (subst (λ (s : List ℕ). HasRequest s request (next ++ after)) (sym same) (request_more window after request next has)) steps sends)
+    piece_turn (front ++ left) (next ++ after) after before written (whole request answer) last sent (sym last_is)
+    (subst (λ (s : List ℕ). HasRequest s request (next ++ after)) (sym same) (request_more window after request next has)) sends)
+
+-- whatever became of the reply, one piece is a turn
+pub is_turn : (sent : Sent) (last : Bool) (piece : Piece) → IsTurn (outcome_of sent last) (piece ∷ [])
+is_turn Sent.All true piece = omega arith
+is_turn Sent.All false piece = refl
+is_turn Sent.Fault last piece = omega arith
+is_turn Sent.TurnLimit last piece = omega arith
 
 list_any_both : (p q : List Piece) (a b : Bool) → list_any is_last p ≡ a → list_any is_last q ≡ b → list_any is_last (p ++ q) ≡ (a || b)
 list_any_both p q a b e f = list_any-append is_last p q ∙ (λ i. e i || f i)
@@ -196,19 +184,12 @@ texts_both p q before middle written e f =
     f ∙ ap (λ s. s ++ texts_of q) e ∙ append_assoc before (texts_of p) (texts_of q) ∙ ap (λ s. before ++ s) (sym (flat_map-append text_of p q))
 
 -- some pieces, and then others
-serves_both : {S : Type 0} (step : Machine S) (old : S) (stream : List ℕ) (pieces : List Piece) (middle : S) (rest : List ℕ) (others : List Piece) (new : S) (after : List ℕ)
-    → Serves step old stream pieces middle rest → IsOpen pieces → Serves step middle rest others new after → Serves step old stream (pieces ++ others) new after
-serves_both step old stream [] middle rest others new after served open_pieces more =
-    subst (λ (s : List ℕ). Serves step old s others new after) served.1 (subst (λ s. Serves step s rest others new after) served.0 more)
-serves_both step old stream (p ∷ pieces) middle rest others new after served open_pieces more =
-    let closed = or_split (is_last p) (list_any is_last pieces) open_pieces in (
-      served.0,
-      served.1,
-      served.2,
-      served.3,
-      (λ yes. let no = closed.0 in absurd cc),
-      serves_both step served.0 served.1 pieces middle rest others new after served.5 closed.1 more,
-    )
+cuts_both : (stream : List ℕ) (pieces : List Piece) (rest : List ℕ) (others : List Piece) (after : List ℕ)
+    → Cuts stream pieces rest → IsOpen pieces → Cuts rest others after → Cuts stream (pieces ++ others) after
+cuts_both stream [] rest others after cut open_pieces more = subst (λ (s : List ℕ). Cuts s others after) cut more
+cuts_both stream (p ∷ pieces) rest others after cut open_pieces more =
+    let closed = or_split (is_last p) (list_any is_last pieces) open_pieces in
+    (cut.0, cut.1, (λ yes. let no = closed.0 in absurd cc), cuts_both cut.0 pieces rest others after cut.3 closed.1 more)
 
 reading_both : (p q : List Piece) (rest left before middle written : List ℕ) → IsOpen p → middle ≡ before ++ texts_of p → StopsReading q rest left middle written → StopsReading (p ++ q) rest left before written
 reading_both p q rest left before middle written open_pieces told stop = record {
@@ -244,64 +225,41 @@ ends_both Served.TurnLimit p q rest left before middle written open_pieces told 
 ends_both Served.TurnLimit p q rest left before middle written open_pieces told some (inr ends) = inr (writing_both p q before middle written told ends)
 ends_both Served.NoMemory p q rest left before middle written open_pieces told some ends = absurd (some refl)
 
--- a turn more
-pub serving_step : {S : Type 0} (step : Machine S) (old middle new : S) (next further : List ℕ) (left_old left_mid left_new written_old written_mid written_new : Option (List ℕ))
-    → ServingSoFar step old middle left_old next left_mid written_old written_mid → Turning step middle new next left_mid further left_new written_mid written_new None
-    → ServingSoFar step old new left_old further left_new written_old written_new
-serving_step step old middle new next further None lm ln wo wm wn so_far turn = tt
-serving_step step old middle new next further (Some stream) lm ln None wm wn so_far turn = tt
-serving_step step old middle new next further (Some stream) None ln (Some before) wm wn so_far turn = absurd so_far
-serving_step step old middle new next further (Some stream) (Some left) ln (Some before) None wn so_far turn = absurd so_far
-serving_step step old middle new next further (Some stream) (Some left) None (Some before) (Some mid) wn so_far turn = turn
-serving_step step old middle new next further (Some stream) (Some left) (Some after) (Some before) (Some mid) None so_far turn = turn
-serving_step step old middle new next further (Some stream) (Some left) (Some after) (Some before) (Some mid) (Some written) so_far turn = (
-  so_far.0 ++ turn.0 ∷ [],
-  serves_more step old stream so_far.0 middle (next ++ left) turn.0 new (further ++ after) so_far.1 so_far.2 turn.1 turn.2,
-  open_more so_far.0 turn.0 so_far.2 turn.3,
-  turn.4 ∙ ap (λ s. s ++ text_of turn.0) so_far.3 ∙ append_assoc before (texts_of so_far.0) (text_of turn.0) ∙ ap (λ s. before ++ s) (sym (texts_more so_far.0 turn.0)),
+-- some pieces, and then a turn
+takes_both : (result : Option Served) (p q : List Piece) (stream rest next left before middle written : List ℕ) → result ≢ Some Served.NoMemory
+    → Cuts stream p rest → IsOpen p → middle ≡ before ++ texts_of p → TakesTurns result q rest next left middle written → TakesTurns result (p ++ q) stream next left before written
+takes_both None p q stream rest next left before middle written some cut open_pieces told turns =
+    (cuts_both stream p rest q next cut open_pieces turns.0, list_any_both p q false false open_pieces turns.1, texts_both p q before middle written told turns.2)
+takes_both (Some served) p q stream rest next left before middle written some cut open_pieces told turns = (
+  turns.0,
+  cuts_both stream p rest q turns.0 cut open_pieces turns.1,
+  ends_both served p q turns.0 left before middle written open_pieces told (λ none. some (ap Some none)) turns.2,
 )
 
--- the last turn
-pub serving_end : {S : Type 0} (step : Machine S) (old middle new : S) (next further : List ℕ) (left_old left_mid left_new written_old written_mid written_new : Option (List ℕ)) (served : Served)
-    → served ≢ Served.NoMemory → ServingSoFar step old middle left_old next left_mid written_old written_mid
-    → Turning step middle new next left_mid further left_new written_mid written_new (Some served) → Serving step old new left_old left_new written_old written_new served
-serving_end step old middle new next further None lm ln wo wm wn served some so_far turn = tt
-serving_end step old middle new next further (Some stream) lm ln None wm wn served some so_far turn = tt
-serving_end step old middle new next further (Some stream) None ln (Some before) wm wn served some so_far turn = absurd so_far
-serving_end step old middle new next further (Some stream) (Some left) ln (Some before) None wn served some so_far turn = absurd so_far
-serving_end step old middle new next further (Some stream) (Some left) None (Some before) (Some mid) wn served some so_far turn = turn
-serving_end step old middle new next further (Some stream) (Some left) (Some after) (Some before) (Some mid) None served some so_far turn = turn
-serving_end step old middle new next further (Some stream) (Some left) (Some after) (Some before) (Some mid) (Some written) served some so_far turn = (
-  so_far.0 ++ turn.0,
-  turn.1,
-  serves_both step old stream so_far.0 middle (next ++ left) turn.0 new turn.1 so_far.1 so_far.2 turn.2,
-  ends_both served so_far.0 turn.0 turn.1 after before mid written so_far.2 so_far.3 some turn.3,
-)
+-- some turns, and then others
+pub turning_both : (result : Option Served) (p q : List Piece) (front next further : List ℕ) (left_old left_mid left_new written_old written_mid written_new : Option (List ℕ)) → result ≢ Some Served.NoMemory
+    → Turning front left_old next left_mid written_old written_mid None p → Turning next left_mid further left_new written_mid written_new result q
+    → Turning front left_old further left_new written_old written_new result (p ++ q)
+turning_both result p q front next further None lm ln wo wm wn some first second = tt
+turning_both result p q front next further (Some left) lm ln None wm wn some first second = tt
+turning_both result p q front next further (Some left) None ln (Some before) wm wn some first second = absurd first
+turning_both result p q front next further (Some left) (Some mid) ln (Some before) None wn some first second = absurd first
+turning_both result p q front next further (Some left) (Some mid) None (Some before) (Some told) wn some first second = second
+turning_both result p q front next further (Some left) (Some mid) (Some after) (Some before) (Some told) None some first second = second
+turning_both result p q front next further (Some left) (Some mid) (Some after) (Some before) (Some told) (Some written) some first second =
+    takes_both result p q (front ++ left) (next ++ mid) (further ++ after) after before told written some first.0 first.1 first.2 second
 
-pub serving_start : {S : Type 0} (step : Machine S) (old : S) (held : List ℕ) (left written : Option (List ℕ)) → held ≡ [] → ServingSoFar step old old left held left written written
-serving_start step old held None written empty = tt
-serving_start step old held (Some stream) None empty = tt
-serving_start step old held (Some stream) (Some before) empty = ([], (refl, ap (λ s. s ++ stream) empty), refl, none_more before)
+-- the requests of some pieces and then others
+turns_both : (p q : List Piece) → turns_of (p ++ q) ≡ turns_of p ++ turns_of q
+turns_both [] q = refl
+turns_both (whole request answer ∷ p) q = ap (λ turns. (request, answer) ∷ turns) (turns_both p q)
+turns_both (refused refusal is_head ∷ p) q = turns_both p q
 
-pub serving_none : {S : Type 0} (step : Machine S) (old : S) (left written : Option (List ℕ)) → Serving step old old left left written written Served.NoMemory
-serving_none step old None written = tt
-serving_none step old (Some stream) None = tt
-serving_none step old (Some stream) (Some before) = ([], stream, (refl, refl), (refl, refl))
-
--- some answers, and then others
-runs_both : {S : Type 0} (step : Machine S) (old : S) (turns : List (Request × Answer)) (middle : S) (others : List (Request × Answer)) (new : S)
-    → Runs step old turns middle → Runs step middle others new → Runs step old (turns ++ others) new
-runs_both step old [] middle others new first second = subst (λ s. Runs step s others new) first second
-runs_both step old (turn ∷ turns) middle others new first second = (first.0, first.1, runs_both step first.0 turns middle others new first.2 second)
-
-pub reaches_both : {S : Type 0} (step : Machine S) (old middle new : S) → Reaches step old middle → Reaches step middle new → Reaches step old new
-reaches_both step old middle new first second = (first.0 ++ second.0, runs_both step old first.0 middle second.0 new first.1 second.1)
-
-pub reaches_itself : {S : Type 0} (step : Machine S) (old : S) → Reaches step old old
-reaches_itself step old = ([], refl)
-
-pub reaches_by : {S : Type 0} (step : Machine S) (old new : S) (request : Request) (answer : Answer) → step old request answer new → Reaches step old new
-reaches_by step old new request answer stepped = ((request, answer) ∷ [], (new, stepped, refl))
+-- the requests of some pieces, and then of others
+pub runs_on : {S : Type 0} (step : Machine S Request) (old : S) (p : List Piece) (middle : S) (q : List Piece) (new : S)
+    → Runs step old (turns_of p) middle → Runs step middle (turns_of q) new → Runs step old (turns_of (p ++ q)) new
+runs_on step old p middle q new first second =
+    subst (λ turns. Runs step old turns new) (sym (turns_both p q)) (runs_both step old (turns_of p) middle (turns_of q) new first second)
 
 -- equal parts make equal replies
 pub reply_same : (a b : Answer) (h i l m : Bool) → a ≡ b → h ≡ i → l ≡ m → reply_text a h l ≡ reply_text b i m

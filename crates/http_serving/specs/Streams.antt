@@ -43,30 +43,17 @@ text_of (refused refusal is_head) = reply_text (refusal_answer refusal) is_head 
 abbrev pub texts_of : List Piece → List ℕ
 texts_of pieces = flat_map text_of pieces
 
--- from one state, a request may be answered so, and lead to another state
-abbrev pub Machine : Type 0 → Type 1
-Machine S = S → Request → Answer → S → Type 0
+-- the requests among the pieces, with their answers
+abbrev pub turns_of : List Piece → List (Request × Answer)
+turns_of [] = []
+turns_of (whole request answer ∷ pieces) = (request, answer) ∷ turns_of pieces
+turns_of (refused refusal is_head ∷ pieces) = turns_of pieces
 
--- a request is answered by a step, and a refusal leaves the state as it was
-abbrev pub Steps : {S : Type 0} → Machine S → S → Piece → S → Type 0
-Steps step old (whole request answer) new = step old request answer new
-Steps step old (refused refusal is_head) new = new ≡ old
-
--- the stream begins with these pieces, answered by steps of the machine, and `rest` follows. Only the last may end the stream
-abbrev pub Serves : {S : Type 0} → Machine S → S → List ℕ → List Piece → S → List ℕ → Type 0
-Serves step old stream [] new rest = (new ≡ old) × (rest ≡ stream)
-Serves {S = S} step old stream (piece ∷ pieces) new rest =
-    (middle : S) × (after : List ℕ) × IsPiece stream piece after × Steps step old piece middle
-    × (is_last piece ≡ true → pieces ≡ []) × Serves step middle after pieces new rest
-
--- these requests were answered in turn, each by a step of the machine
-abbrev pub Runs : {S : Type 0} → Machine S → S → List (Request × Answer) → S → Type 0
-Runs step old [] new = new ≡ old
-Runs {S = S} step old (turn ∷ turns) new = (middle : S) × step old turn.0 turn.1 middle × Runs step middle turns new
-
--- the new state comes from the old one by answers to some requests
-abbrev pub Reaches : {S : Type 0} → Machine S → S → S → Type 0
-Reaches step old new = (turns : List (Request × Answer)) × Runs step old turns new
+-- the stream begins with these pieces, and `rest` follows. Only the last may end the stream
+abbrev pub Cuts : List ℕ → List Piece → List ℕ → Type 0
+Cuts stream [] rest = rest ≡ stream
+Cuts stream (piece ∷ pieces) rest =
+    (after : List ℕ) × IsPiece stream piece after × (is_last piece ≡ true → pieces ≡ []) × Cuts after pieces rest
 
 -- none of the pieces ends the stream
 abbrev pub IsOpen : List Piece → Type 0
@@ -100,16 +87,12 @@ Ends WriteFault pieces rest left before written = StopsWriting pieces before wri
 Ends TurnLimit pieces rest left before written = StopsReading pieces rest left before written ⊎ StopsWriting pieces before written
 Ends NoMemory pieces rest left before written = (pieces ≡ []) × (written ≡ before)
 
--- the stream was served so
-abbrev pub IsServed : {S : Type 0} → Machine S → S → S → List ℕ → List ℕ → List ℕ → List ℕ → Served → Type 0
-IsServed step old new stream left before written served =
-    (pieces : List Piece) × (rest : List ℕ) × Serves step old stream pieces new rest × Ends served pieces rest left before written
-
--- one turn: a piece more, or the end
-abbrev pub TakesTurns : {S : Type 0} → Machine S → S → S → List ℕ → List ℕ → List ℕ → List ℕ → List ℕ → Option Served → Type 0
-TakesTurns step old new rest next left before written None =
-    (piece : Piece) × IsPiece rest piece next × Steps step old piece new × (is_last piece ≡ false) × (written ≡ before ++ text_of piece)
-TakesTurns step old new rest next left before written (Some served) = IsServed step old new rest left before written served
+-- what the pieces are to the bytes, where the reader and the writer tell theirs
+abbrev pub Tells : Option (List ℕ) → Option (List ℕ) → Option (List ℕ) → Option (List ℕ) → Served → List Piece → Type 0
+Tells left_old left_new written_old written_new served pieces =
+    IfSome left_old (λ stream. IfSome written_old (λ before.
+    IsSomeAnd left_new (λ left. IsSomeAnd written_new (λ written.
+    (rest : List ℕ) × Cuts stream pieces rest × Ends served pieces rest left before written))))
 
 -- what became of a stream where this became of a reply
 abbrev pub outcome_of : Sent → Bool → Option Served
@@ -117,30 +100,6 @@ outcome_of All true = Some Closed
 outcome_of All false = None
 outcome_of Sent.Fault last = Some WriteFault
 outcome_of Sent.TurnLimit last = Some TurnLimit
-
--- a turn, where the reader and the writer tell their bytes
-abbrev pub Turning : {S : Type 0} → Machine S → S → S → List ℕ → Option (List ℕ) → List ℕ → Option (List ℕ) → Option (List ℕ) → Option (List ℕ) → Option Served → Type 0
-Turning step old new front left_old next left_new written_old written_new result =
-    IfSome left_old (λ left. IfSome written_old (λ before.
-    IsSomeAnd left_new (λ after. IsSomeAnd written_new (λ written.
-    TakesTurns step old new (front ++ left) (next ++ after) after before written result))))
-
--- a whole stream, where the reader and the writer tell their bytes
-abbrev pub Serving : {S : Type 0} → Machine S → S → S → Option (List ℕ) → Option (List ℕ) → Option (List ℕ) → Option (List ℕ) → Served → Type 0
-Serving step old new left_old left_new written_old written_new served =
-    IfSome left_old (λ stream. IfSome written_old (λ before.
-    IsSomeAnd left_new (λ left. IsSomeAnd written_new (λ written. IsServed step old new stream left before written served))))
-
--- some turns of a stream
-abbrev pub IsServing : {S : Type 0} → Machine S → S → S → List ℕ → List ℕ → List ℕ → List ℕ → Type 0
-IsServing step old new stream rest before written =
-    (pieces : List Piece) × Serves step old stream pieces new rest × IsOpen pieces × (written ≡ before ++ texts_of pieces)
-
--- the same, where the reader and the writer tell their bytes
-abbrev pub ServingSoFar : {S : Type 0} → Machine S → S → S → Option (List ℕ) → List ℕ → Option (List ℕ) → Option (List ℕ) → Option (List ℕ) → Type 0
-ServingSoFar step old new left_old next left_new written_old written_new =
-    IfSome left_old (λ stream. IfSome written_old (λ before.
-    IsSomeAnd left_new (λ left. IsSomeAnd written_new (λ written. IsServing step old new stream (next ++ left) before written))))
 
 -- the failures of the reader that the end of a stream tells
 abbrev pub read_faults : Option Served → ℕ

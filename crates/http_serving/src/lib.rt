@@ -1,12 +1,15 @@
 //! Serves a stream of HTTP/1.1 requests: requests in, replies out (RFC 9112).
 #![tactic(auto)]
 
-ghost use Rattle.std.specs.Prelude.{◌≡◌, ◌≢◌, ℕ, ◌+◌, ◌<◌, ◌≤◌, ◌^◌, List, Option, Bool};
+ghost use Rattle.std.specs.Prelude.{◌≡◌, ◌≢◌, ℕ, ◌+◌, ◌<◌, ◌≤◌, ◌^◌, ◌⊎◌, List, Option, Bool, map};
 ghost use Rattle.http_replies.specs.Replies.{Answer, answer_of};
+ghost use Rattle.http_replies.specs.Runs.{Runs};
 ghost use Rattle.http_frames.specs.Frames.{Request, HasRequest};
 ghost use Rattle.http_frames.specs.Looks.{IsFrameAt};
 ghost use Rattle.http_frames.specs.Buffers.{unread};
-ghost use Rattle.http_serving.specs.Streams.{refusal_answer, outcome_of, Turning, Serving, Reaches, read_faults, write_faults};
+ghost use Rattle.http_serving.specs.Streams.{Piece, refusal_answer, turns_of, Tells, outcome_of, read_faults, write_faults};
+ghost use Rattle.http_serving.specs.Turns.{Turning, IsTurn};
+ghost use Rattle.http_serving.specs.Determined.{cut_of, requests_of, IsCutWhole, IsEitherWay};
 
 pub mod send;
 
@@ -15,7 +18,7 @@ use http_fields::FrameRefusal;
 use http_frames::buffer::{Buffer, CALL_LIMIT, read_request};
 use http_frames::frame::{Frame, Framed};
 use http_frames::transfer::{Drain, Source};
-use http_replies::{Body, Flags, Reply, Status};
+use http_replies::{Body, Flags, HEAD_ROOM, Reply, Status};
 use std::alloc::Global;
 
 /// How a stream came to its end.
@@ -85,19 +88,21 @@ fn outcome(sent: Sent, is_last: bool) -> Option<Served>
     }
 }
 
-/// Serves one request, or answers how the stream ended.
+/// Serves one request, or answers how the stream ended. The room is for the head of its reply.
 fn serve_turn<S, V: Service<S>, R: Source, W: Drain>(
     service: &V,
     state: &mut S,
     reader: &mut R,
     writer: &mut W,
     buffer: &mut Buffer,
+    room: &mut [u8; HEAD_ROOM],
 ) -> Option<Served>
     requires reader { R.calls reader.old + 2 ^ 25 < 2 ^ 64 + buffer.old.calls }
     requires writer { W.calls writer.old + 2 ^ 25 < 2 ^ 64 + buffer.old.calls }
-    ensures turn { Turning (V.steps service.now) state.old state.new (unread buffer.old) (R.left reader.old)
-        (unread buffer.new) (R.left reader.new) (W.written writer.old) (W.written writer.new) result }
-    ensures reaches { Reaches (V.steps service.now) state.old state.new }
+    ensures turn { (pieces : List Piece) × IsTurn result pieces
+        × Turning (unread buffer.old) (R.left reader.old) (unread buffer.new) (R.left reader.new)
+        (W.written writer.old) (W.written writer.new) result pieces
+        × Runs (V.steps service.now) state.old (turns_of pieces) state.new }
     ensures calls { R.calls reader.new + W.calls writer.new + buffer.old.calls ≡ R.calls reader.old + W.calls writer.old + buffer.new.calls }
     ensures reader_calls { R.calls reader.old ≤ R.calls reader.new }
     ensures writer_calls { W.calls writer.old ≤ W.calls writer.new }
@@ -119,7 +124,7 @@ fn serve_turn<S, V: Service<S>, R: Source, W: Drain>(
                 is_head,
                 is_last: true,
             };
-            outcome(write_reply(writer, buffer, &reply, flags), true)
+            outcome(write_reply(writer, buffer, room, &reply, flags), true)
         }
         Framed::Request(frame) => {
             let reply = service.answer(state, frame, buffer);
@@ -127,7 +132,10 @@ fn serve_turn<S, V: Service<S>, R: Source, W: Drain>(
                 is_head: frame.is_head,
                 is_last: frame.is_last,
             };
-            outcome(write_reply(writer, buffer, &reply, flags), frame.is_last)
+            outcome(
+                write_reply(writer, buffer, room, &reply, flags),
+                frame.is_last,
+            )
         }
     }
 }
@@ -138,9 +146,17 @@ pub fn requests_are_unique()
         → HasRequest rest other later → (request ≡ other) × (after ≡ later) }
 {}
 
-/// Serves a stream until it ends, and answers how it did. It takes memory once, before the first read.
+/// Where the bytes alone end a stream, they decide its requests and what follows them, however they were read, and also its refusals and how it ends. The one exception to the latter is a rest that is part of a head and never becomes one with few enough fields: it may be refused, or be cut off where the stream ends.
+pub fn streams_are_determined()
+    ensures { (stream : List ℕ) (served other : Served) (pieces others : List Piece) (rest later : List ℕ)
+        → IsCutWhole stream served pieces rest → IsCutWhole stream other others later
+        → (requests_of pieces ≡ requests_of others) × (rest ≡ later)
+        × (((served ≡ other) × (map cut_of pieces ≡ map cut_of others)) ⊎ IsEitherWay rest) }
+{}
+
+/// Serves a stream until it ends, and answers how it did. It takes memory once, for its buffer, and makes the room for the heads of the replies beside it, both before the first read.
 ///
-/// Where the reader and the writer tell their bytes, what is written is the replies to the requests that the stream begins with, each answered by a step of the service in turn (`Serving`). Whatever they tell, the state changes by such steps alone (`Reaches`).
+/// Whatever the reader and the writer tell of their bytes, the state goes by steps of the service, one for each request among the pieces in turn, with the answer that the piece has (`Runs`). Where both tell them, the stream begins with these pieces, and what is written is the replies to them, up to where the stream ended (`Tells`).
 pub fn serve_stream<S, V: Service<S>, R: Source, W: Drain>(
     alloc: Global,
     service: &V,
@@ -150,9 +166,10 @@ pub fn serve_stream<S, V: Service<S>, R: Source, W: Drain>(
 ) -> Served
     requires reader { R.calls reader.old + 2 ^ 25 < 2 ^ 64 }
     requires writer { W.calls writer.old + 2 ^ 25 < 2 ^ 64 }
-    ensures served { Serving (V.steps service.now) state.old state.new (R.left reader.old) (R.left reader.new)
-        (W.written writer.old) (W.written writer.new) result }
-    ensures reaches { Reaches (V.steps service.now) state.old state.new }
+    ensures run { (pieces : List Piece)
+        × Tells (R.left reader.old) (R.left reader.new)
+        (W.written writer.old) (W.written writer.new) result pieces
+        × Runs (V.steps service.now) state.old (turns_of pieces) state.new }
     ensures calls { R.calls reader.new + W.calls writer.new ≤ R.calls reader.old + W.calls writer.old + CALL_LIMIT }
     ensures limit { result ≡ Served.TurnLimit → R.calls reader.new + W.calls writer.new ≡ R.calls reader.old + W.calls writer.old + CALL_LIMIT }
     ensures read_faults { R.failures reader.new ≡ R.failures reader.old + read_faults (Some result) }
@@ -164,8 +181,9 @@ pub fn serve_stream<S, V: Service<S>, R: Source, W: Drain>(
         Ok(buffer) => buffer,
         Err(_) => return Served::NoMemory,
     };
+    let mut room = [0; HEAD_ROOM];
     loop {
-        if let Some(served) = serve_turn(service, state, reader, writer, &mut buffer) {
+        if let Some(served) = serve_turn(service, state, reader, writer, &mut buffer, &mut room) {
             return served;
         }
     }

@@ -46,10 +46,11 @@ pub fn write_all<W: Drain>(writer: &mut W, bytes: &[u8], buffer: &mut Buffer) ->
     Sent::All
 }
 
-/// Writes a reply, or a front of it (RFC 9112, section 2.1). It takes no memory.
+/// Writes a reply, or a front of it (RFC 9112, section 2.1). It takes no memory: the room for the head is the caller's.
 pub fn write_reply<W: Drain>(
     writer: &mut W,
     buffer: &mut Buffer,
+    room: &mut [u8; HEAD_ROOM],
     reply: &Reply,
     flags: Flags,
 ) -> Sent
@@ -63,8 +64,7 @@ pub fn write_reply<W: Drain>(
     ensures limit { result ≡ Sent.TurnLimit → buffer.new.calls ≡ CALL_LIMIT }
     ensures failures { W.failures writer.new ≡ W.failures writer.old + sent_faults result }
 {
-    let mut room = [0; HEAD_ROOM];
-    let len = reply_head(reply, flags, &mut room);
+    let len = reply_head(reply, flags, room);
     match write_all(writer, &room[..len], buffer) {
         Sent::All => {}
         Sent::Fault => return Sent::Fault,

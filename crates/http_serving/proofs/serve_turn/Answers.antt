@@ -1,17 +1,40 @@
 -- Why `serve_turn` meets its contract, where that has to be said.
-use Rattle.std.proofs.Common.{◌∙◌, ap, sym, subst, refl, drop, List, ℕ}
+use Rattle.std.proofs.Common.{◌∙◌, arith, ap, sym, subst, refl, drop, List, ℕ, [], ◌∷◌}
 use Rattle.std.specs.Prelude.{true}
 use Rattle.http_frames.specs.Buffers.{unread}
 use Rattle.http_serving.specs.Sends.{Sending}
-use Rattle.http_serving.specs.Streams.{Turning, outcome_of}
+use Rattle.http_serving.specs.Streams.{outcome_of, whole, refused}
+use Rattle.http_serving.specs.Turns.{Turning}
 use Rattle.http_replies.specs.Replies.{answer_of}
-use Rattle.http_serving.proofs.StreamLemmas.{turn_cut, turn_refused, turn_whole, reply_same, reaches_by}
+use Rattle.http_serving.proofs.StreamLemmas.{turn_cut, turn_fault, turn_limit, turn_refused, turn_whole, is_turn, reply_same}
 use Rattle.http_serving.proofs.serve_turn.Goals as goal
 
 pub returns-in-Cut-clause-turn : goal.returns-in-Cut-clause-turn
-returns-in-Cut-clause-turn g c =
-    turn_cut (g.V.Service.steps c.args.service.now) c.args.state.now (unread c.args.buffer.now) c.read_request.new.buffer.window (unread c.read_request.new.buffer)
-    (g.R.Source.left c.args.reader.now) (g.R.Source.left c.read_request.new.reader) (g.W.Drain.written c.args.writer.now) c.in-Cut.ensures.bytes c.in-Cut.ensures.framed
+returns-in-Cut-clause-turn g c = (
+  [],
+  omega arith,
+  turn_cut (unread c.args.buffer.now) c.read_request.new.buffer.window (unread c.read_request.new.buffer) (g.R.Source.left c.args.reader.now) (g.R.Source.left c.read_request.new.reader)
+      (g.W.Drain.written c.args.writer.now) c.in-Cut.ensures.bytes c.in-Cut.ensures.framed,
+  refl {a = c.args.state.now},
+)
+
+pub returns-in-ReadFault-clause-turn : goal.returns-in-ReadFault-clause-turn
+returns-in-ReadFault-clause-turn g c = (
+  [],
+  omega arith,
+  turn_fault (unread c.args.buffer.now) c.read_request.new.buffer.window (unread c.read_request.new.buffer) (g.R.Source.left c.args.reader.now) (g.R.Source.left c.read_request.new.reader)
+      (g.W.Drain.written c.args.writer.now) c.in-ReadFault.ensures.bytes c.in-ReadFault.ensures.framed,
+  refl {a = c.args.state.now},
+)
+
+pub returns-in-TurnLimit-clause-turn : goal.returns-in-TurnLimit-clause-turn
+returns-in-TurnLimit-clause-turn g c = (
+  [],
+  omega arith,
+  turn_limit (unread c.args.buffer.now) c.read_request.new.buffer.window (unread c.read_request.new.buffer) (g.R.Source.left c.args.reader.now) (g.R.Source.left c.read_request.new.reader)
+      (g.W.Drain.written c.args.writer.now) c.in-TurnLimit.ensures.bytes c.in-TurnLimit.ensures.framed.0,
+  refl {a = c.args.state.now},
+)
 
 pub returns-in-Refused-clause-turn : goal.returns-in-Refused-clause-turn
 returns-in-Refused-clause-turn g c =
@@ -19,15 +42,15 @@ returns-in-Refused-clause-turn g c =
     let sends =
     subst (λ (s : List ℕ). Sending (g.W.Drain.written c.args.writer.now) (g.W.Drain.written c.write_reply.new.writer) s c.write_reply.result) text c.write_reply.ensures.sent
     in
-    rw c.outcome.ensures (turn_refused (g.V.Service.steps c.args.service.now) c.args.state.now (unread c.args.buffer.now) c.read_request.new.buffer.window
-    (unread c.write_reply.new.buffer) (g.R.Source.left c.args.reader.now) (g.R.Source.left c.read_request.new.reader) (g.W.Drain.written c.args.writer.now)
-    (g.W.Drain.written c.write_reply.new.writer) c.in-Refused.refusal c.in-Refused.is_head c.write_reply.result c.in-Refused.ensures.bytes c.in-Refused.ensures.framed sends)
-
-pub returns-in-Request-clause-reaches : goal.returns-in-Request-clause-reaches
-returns-in-Request-clause-reaches g c =
-    let framed = c.in-Request.ensures.framed in
-    reaches_by (g.V.Service.steps c.args.service.now) c.args.state.now c.answer-reply.new.state framed.0 (answer_of c.answer-reply.result)
-    (c.answer-reply.ensures framed.0 framed.1)
+    let piece = refused c.in-Refused.refusal c.in-Refused.is_head in
+    rw c.outcome.ensures (
+      piece ∷ [],
+      is_turn c.write_reply.result true piece,
+      turn_refused (unread c.args.buffer.now) c.read_request.new.buffer.window (unread c.write_reply.new.buffer) (g.R.Source.left c.args.reader.now) (g.R.Source.left c.read_request.new.reader)
+          (g.W.Drain.written c.args.writer.now) (g.W.Drain.written c.write_reply.new.writer) c.in-Refused.refusal c.in-Refused.is_head c.write_reply.result c.in-Refused.ensures.bytes
+          c.in-Refused.ensures.framed sends,
+      refl {a = c.args.state.now},
+    )
 
 pub returns-in-Request-clause-turn : goal.returns-in-Request-clause-turn
 returns-in-Request-clause-turn g c =
@@ -40,12 +63,16 @@ returns-in-Request-clause-turn g c =
     subst (λ (s : List ℕ). Sending (g.W.Drain.written c.args.writer.now) (g.W.Drain.written c.write_reply-in-Request.new.writer) s c.write_reply-in-Request.result) text
     c.write_reply-in-Request.ensures.sent
     in
+    let piece = whole framed.0 (answer_of reply) in
     let turn =
-    turn_whole (g.V.Service.steps c.args.service.now) c.args.state.now c.answer-reply.new.state (unread c.args.buffer.now) window
-    (drop c.in-Request.frame.end window) (g.R.Source.left c.args.reader.now) (g.R.Source.left c.read_request.new.reader) (g.W.Drain.written c.args.writer.now)
-    (g.W.Drain.written c.write_reply-in-Request.new.writer) framed.0 (answer_of reply) c.in-Request.frame.is_last c.write_reply-in-Request.result c.in-Request.ensures.bytes
-    framed.1.whole (c.answer-reply.ensures framed.0 framed.1) framed.1.is_last sends
+    turn_whole (unread c.args.buffer.now) window (drop c.in-Request.frame.end window) (g.R.Source.left c.args.reader.now) (g.R.Source.left c.read_request.new.reader)
+    (g.W.Drain.written c.args.writer.now) (g.W.Drain.written c.write_reply-in-Request.new.writer) framed.0 (answer_of reply) c.in-Request.frame.is_last
+    c.write_reply-in-Request.result c.in-Request.ensures.bytes framed.1.whole framed.1.is_last sends
     in
-    rw c.outcome-in-Request.ensures (subst (λ (s : List ℕ). Turning (g.V.Service.steps c.args.service.now) c.args.state.now c.answer-reply.new.state
-    (unread c.args.buffer.now) (g.R.Source.left c.args.reader.now) s (g.R.Source.left c.read_request.new.reader) (g.W.Drain.written c.args.writer.now)
-    (g.W.Drain.written c.write_reply-in-Request.new.writer) (outcome_of c.write_reply-in-Request.result c.in-Request.frame.is_last)) (sym next) turn)
+    rw c.outcome-in-Request.ensures (
+      piece ∷ [],
+      is_turn c.write_reply-in-Request.result c.in-Request.frame.is_last piece,
+      subst (λ (s : List ℕ). Turning (unread c.args.buffer.now) (g.R.Source.left c.args.reader.now) s (g.R.Source.left c.read_request.new.reader) (g.W.Drain.written c.args.writer.now)
+          (g.W.Drain.written c.write_reply-in-Request.new.writer) (outcome_of c.write_reply-in-Request.result c.in-Request.frame.is_last) (piece ∷ [])) (sym next) turn,
+      (c.answer-reply.new.state, c.answer-reply.ensures framed.0 framed.1, refl {a = c.answer-reply.new.state}),
+    )

@@ -1,0 +1,40 @@
+-- What the bytes of a stream alone decide of how it is served.
+use Rattle.std.specs.Prelude.{◌≡◌, ℕ, List, Bool, true, false, Result, Ok, Err, map}
+use Rattle.httparse.specs.Spans.{RequestOverflows}
+use Rattle.http_fields.specs.declared.FrameRefusal.{FrameRefusal}
+use Rattle.http_frames.specs.Frames.{Request, IsCutInHead, field_limit}
+use Rattle.http_serving.specs.declared.Served.{Served}
+use Rattle.http_serving.specs.declared.Served.TheVariants.{Ended, Closed, Cut, ReadFault, WriteFault, TurnLimit, NoMemory}
+use Rattle.http_serving.specs.Streams.{Piece, whole, refused, turns_of, Cuts, Ends}
+
+-- what stands in the stream where the piece is: a request, or what is refused. The answer is left out
+abbrev pub cut_of : Piece → Result Request (FrameRefusal × Bool)
+cut_of (whole request answer) = Ok request
+cut_of (refused refusal is_head) = Err (refusal, is_head)
+
+-- the requests among the pieces
+abbrev pub requests_of : List Piece → List Request
+requests_of pieces = map (λ turn. turn.0) (turns_of pieces)
+
+-- the stream ended so by its bytes, and not by its reader, its writer, a limit or memory
+abbrev pub is_by_bytes : Served → Bool
+is_by_bytes Ended = true
+is_by_bytes Closed = true
+is_by_bytes Cut = true
+is_by_bytes ReadFault = false
+is_by_bytes WriteFault = false
+is_by_bytes TurnLimit = false
+is_by_bytes NoMemory = false
+
+-- the stream is these pieces up to its end, which its bytes make, and `rest` follows them
+pub record IsCutWhole (stream : List ℕ) (served : Served) (pieces : List Piece) (rest : List ℕ) : Type 0 where
+  pub cut : Cuts stream pieces rest
+  pub by_bytes : is_by_bytes served ≡ true
+  pub left : List ℕ
+  pub before : List ℕ
+  pub written : List ℕ
+  pub ends : Ends served pieces rest left before written
+
+-- part of a head that no bytes make one with few enough fields: it may be refused at once, or be cut off where the stream ends
+abbrev pub IsEitherWay : List ℕ → Type 0
+IsEitherWay rest = IsCutInHead rest × RequestOverflows field_limit rest
