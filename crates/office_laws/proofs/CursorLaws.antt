@@ -19,6 +19,7 @@ use Rattle.office_laws.specs.Sound.{AreDisjoint, EachApart, IsInPool, IsOrder, I
 use Rattle.office_laws.specs.SoundDevices.{IsReferred}
 use Rattle.office_laws.specs.SoundRecords.{AreSoundRecords, IsGivenBelow, IsOfDevice, IsOfOrder, IsRecordOf}
 use Rattle.office_laws.specs.View.{at_first, own_map, view}
+use Rattle.office_laws.proofs.Growing.{OrderStays}
 use Rattle.office_laws.proofs.Readings.{find_holds, find_map, orders_total}
 
 -- an order's row without its cursor
@@ -47,6 +48,15 @@ moved_same p o n (y ∷ ys) order e =
           let greater : order_cmp (moved n o) y ≡ Greater = orders_total.antisymm (moved n o) y ∙ ap ordering_reverse less in
           rw greater (ap (λ zs. row_at_first y ∷ zs) (moved_same p o n ys order.1 later))
     ] e
+
+-- an order stays where its cursor alone moves
+order_moved : (old mid new : Option (Owned Order)) → option_map row_at_first new ≡ option_map row_at_first mid → OrderStays old mid → OrderStays old new
+order_moved None mid new same stays = tt
+order_moved (Some o) None new same stays = absurd stays
+order_moved (Some o) (Some x) None same stays = cc
+order_moved (Some o) (Some x) (Some y) same stays =
+    let rows : row_at_first y ≡ row_at_first x = cc in
+    ap (λ (r : Owned Order). r.row) rows ∙ stays
 
 -- what holds of each row without its cursor
 all_at_first : (P : Owned Order → Type 0) (rows : List (Owned Order)) → AllByRecursion (λ o. P (row_at_first o)) rows → AllByRecursion P (map row_at_first rows)
@@ -190,5 +200,12 @@ module _ {owners : Owners} {t : Tables} (sound : IsSound owners t) (c name : Lis
   -- and nothing that was kept is lost by it
   pub cursor_grows : (before : Tables) → Grows before t → Grows before (with_cursor (record { customer = c; row = record { order = name; number = n } }) t)
   cursor_grows before grows =
-      let kept : Grows before (with_order (moved n o) t) = record { devices = grows.devices; maps = grows.maps; given = grows.given } in
+      let kept : Grows before (with_order (moved n o) t) =
+      record {
+        devices = grows.devices;
+        maps = grows.maps;
+        orders = λ customer called. order_moved (order_at customer called before) (order_at customer called t) (order_at customer called (with_order (moved n o) t))
+            (found_same t.orders (placed order_cmp (moved n o) t.orders) orders_same customer called) (grows.orders customer called);
+        given = grows.given;
+      } in
       subst (Grows before) (sym placed_there) kept

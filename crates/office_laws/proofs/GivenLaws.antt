@@ -174,6 +174,7 @@ pub given_grows : (before t : Tables) (g : Owned Given) → given_at g.row.issue
 given_grows before t g new grows = record {
   devices = grows.devices;
   maps = grows.maps;
+  orders = grows.orders;
   given = λ issuer serial. by issuer serial (given_at issuer serial before) (grows.given issuer serial);
 }
   where

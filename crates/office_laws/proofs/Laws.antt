@@ -220,7 +220,7 @@ module _ {owners : Owners} {t : Tables} (sound : IsSound owners t) (apart : AreA
       → Makes owners s.name t body mid (body_with o (own_next (view s.name t) o), (let v = view s.name t in record v { orders = placed own_order_cmp o v.orders }))
   order_made o body mid first mine terms in_pool disjoint new text is = record {
     sound = subst (IsSound owners) (sym is) (order_sound sound s.name o mine terms in_pool disjoint new first);
-    grows = subst (Grows t) (sym is) (order_grows t (record { customer = s.name; row = o }));
+    grows = subst (Grows t) (sym is) (order_grows t (record { customer = s.name; row = o }) new);
     own = λ i. ((text ∙ ap (body_with o) (next_own sound s.name o mine (none_below o first))) i, (ap (view s.name) is ∙ order_view sound s.name o first) i);
     other = λ d ne. ap (view d) is ∙ order_hidden sound s.name d o ne;
   }

@@ -13,22 +13,22 @@ pub mod IdentityLaws
 pub mod ImportLaws
 pub mod ImportSteps
 mod Kept
-mod Laws
+pub mod Laws
 pub mod Lowest
 mod Makes
 mod MapLaws
 mod MapRows
 mod NamedMaps
-mod Placed
+pub mod Placed
 mod Planning
 mod ReadingBack
-mod Readings
+pub mod Readings
 pub mod RecordAddresses
 mod RecordRows
 mod Registrations
 pub mod Sounding
 mod StepLaws
-mod Steps
+pub mod Steps
 mod Terms
 mod Unread
-mod Within
+pub mod Within

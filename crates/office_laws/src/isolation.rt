@@ -24,9 +24,9 @@ ghost use Rattle.office_laws.specs.Sound.{IsSound};
 
 /// A step of a customer's seat, from sound tables, acts on the customer's view as the customer's own
 /// machine does, which knows of nobody else; it leaves each other customer's view; the tables stay
-/// sound; nothing that was known to be burnt is forgotten, and what is given stays; and an identity
-/// gives what was nobody's. As the own machine is a function of the view, equal views give equal
-/// replies.
+/// sound; nothing that was known to be burnt is forgotten, an order stays but for its cursor, and what
+/// is given stays; and an identity gives what was nobody's. As the own machine is a function of the
+/// view, equal views give equal replies.
 pub fn steps_are_the_customers_own()
     ensures own { (owners : Owners) (s : Section) (seat : List ℕ) (t : Tables) (r : Request) (reply : Answer) (t2 : Tables)
         → AreApart owners → IsSection owners s → owners.seat seat ≡ Some s.name → IsAsked r → IsSound owners t → Step s seat t r reply t2

@@ -1,19 +1,21 @@
 -- What is known of a caller that was found.
-use Rattle.std.proofs.Common.{◌≡◌, ◌+◌, ◌∙◌, ◌||◌, ℕ, suc, List, [], ◌∷◌, length, map, Bool, true, false, not, cond, ltb, Option, Some, None, is_some, IfSome, slice_index_or, refl, sym, ap, arith}
+use Rattle.std.proofs.Common.{◌≡◌, ◌<◌, ◌+◌, ◌∙◌, ◌||◌, ℕ, suc, List, [], ◌∷◌, length, map, Bool, true, false, not, cond, ltb, Option, Some, None, is_some, IfSome, slice_index_or, refl, sym, ap, arith}
 use Rattle.std.specs.List.{flat_map, list_any, position, position_or_len}
 use Rattle.std.specs.Prelude.{bytes_eq}
 use Rattle.std.proofs.lemmas.Bool.Decides.{nat_tests}
 use Rattle.std.proofs.lemmas.Cmp.{nat_list_eq_equiv}
 use Rattle.std.proofs.lemmas.List.{map-append}
 use Rattle.std.proofs.lemmas.List.Folds.{list_any-append}
+use Rattle.std.proofs.lemmas.List.Quantifiers.{position-Some}
 use Rattle.std.proofs.lemmas.List.Sums.{passes_at_first}
 use Rattle.std.proofs.lemmas.Slice.Eq.{bytes_eq-Decides}
 use borrow.Author.Tests.{ltb-true}
 use Rattle.sha2.specs.Sha256.{sha256}
 use Rattle.text_core.specs.Options.{◌>>=◌}
-use Rattle.site_core.specs.Caller.{caller_of, caller_or, has_seat_with, manager_with, no_seat, no_section, seat_caller_with, seat_of, seat_with, section_in}
+use Rattle.site_core.specs.Caller.{IsCaller, IsSeatCaller, caller_of, caller_or, has_seat_with, manager_with, no_seat, no_section, seat_caller_with, seat_of, seat_with, section_in}
 use Rattle.site_core.specs.Section.{SeatOf, Section, SiteValue, has_token, tokens_of, with_token}
 use Rattle.site_core.specs.declared.site.Caller.{Caller}
+use Rattle.site_core.specs.declared.site.Caller.TheVariants.{Manager}
 use Rattle.site_core.specs.declared.site.SeatCaller.{SeatCaller}
 
 -- whether an element of a list passes, by its first
@@ -104,3 +106,40 @@ caller_of-known site token =
     is_some-caller_or (seat_caller_with digest site.customers) (manager_with digest site.manager)
     ∙ ap (λ b. is_some (manager_with digest site.manager) || b) (seat_caller_with-known digest site.customers ∙ sym (list_any-customer_tokens digest site.customers))
     ∙ sym (list_any-with_token digest site.manager _)
+
+-- a place that was found lies in the list
+position-within : {X : Type 0} (p : X → Bool) (xs : List X) (d : X) (found : Option ℕ) → position p xs ≡ found → IfSome found (λ place. place < length xs)
+position-within p xs d None is = tt
+position-within p xs d (Some place) is = (position-Some p xs place d is).0
+
+-- the caller that was found is a seat of the site
+seat_caller_with-within : (digest : List ℕ) (site : SiteValue) → IfSome (seat_caller_with digest site.customers) (IsSeatCaller site)
+seat_caller_with-within digest site = by_customer (position (has_seat_with digest) site.customers) (position-within (has_seat_with digest) site.customers no_section _ refl)
+  where
+    by_seat : (customer : ℕ) → customer < length site.customers → (seat : Option ℕ) → IfSome seat (λ s. s < length (section_in site.customers customer).seats) → IfSome (seat >>= caller_at customer) (IsSeatCaller site)
+    by_seat customer customer_low None low = tt
+    by_seat customer customer_low (Some s) low = record { customer_in = customer_low; seat_in = low }
+
+    by_customer : (customer : Option ℕ) → IfSome customer (λ c. c < length site.customers) → IfSome (customer >>= (λ c. seat_with digest (section_in site.customers c) >>= caller_at c)) (IsSeatCaller site)
+    by_customer None low = tt
+    by_customer (Some c) low = by_seat c low (seat_with digest (section_in site.customers c)) (position-within (has_token digest) (section_in site.customers c).seats no_seat _ refl)
+
+-- a manager is found where the site has one
+manager_with-there : (digest : List ℕ) (site : SiteValue) (manager : Option (List ℕ)) → site.manager ≡ manager → IfSome (manager_with digest manager) (IsCaller site)
+manager_with-there digest site None is = tt
+manager_with-there digest site (Some token) is = elim (bytes_eq token digest) as (λ b. IfSome (cond b (Some Manager) None) (IsCaller site)) [
+  | true ↦ ap is_some is
+  | false ↦ tt
+]
+
+caller_or-one : (site : SiteValue) (found : Option SeatCaller) (other : Option Caller) → IfSome found (IsSeatCaller site) → IfSome other (IsCaller site) → IfSome (caller_or found other) (IsCaller site)
+caller_or-one site None other is_seat is_one = is_one
+caller_or-one site (Some caller) other is_seat is_one = is_seat
+
+-- the caller that was found is one of the site
+pub caller_of-one : (site : SiteValue) (token : List ℕ) (caller : Caller) → caller_of site token ≡ Some caller → IsCaller site caller
+caller_of-one site token caller found =
+    let digest = sha256 token in
+    let is : IfSome (caller_of site token) (IsCaller site) =
+    caller_or-one site (seat_caller_with digest site.customers) (manager_with digest site.manager) (seat_caller_with-within digest site) (manager_with-there digest site site.manager refl) in
+    rw found at is

@@ -29,7 +29,7 @@ length-earlier_piece f xs i j d before low =
     rw (← take-take i j xs within, ← get_or-take j xs i d before) (length-flat_map-take f (take j xs) i d inside)
 
 -- an element of one piece is apart from one of a later piece
-apart_in_pieces : {X A : Type 0} (e : A → A → Bool) (f : X → List A) (xs : List X) (i j : ℕ) (d : X) (x y : A)
+pub apart_in_pieces : {X A : Type 0} (e : A → A → Bool) (f : X → List A) (xs : List X) (i j : ℕ) (d : X) (x y : A)
     → IsDistinct e (flat_map f xs) → i < j → j < length xs → Contains (f (get_or xs i d)) x → Contains (f (get_or xs j d)) y → e x y ≡ false
 apart_in_pieces e f xs i j d x y distinct before low first second =
     let earlier = length-earlier_piece f xs i j d before low in
@@ -40,7 +40,7 @@ apart_in_pieces e f xs i j d x y distinct before low first second =
     rw (at_first, at_second) at apart
 
 -- where keys are apart, so are the elements by their keys
-IsDistinct-by_key : {X K : Type 0} (e : K → K → Bool) (key : X → K) (xs : List X) → IsDistinct e (map key xs) → IsDistinct (λ x y. e (key x) (key y)) xs
+pub IsDistinct-by_key : {X K : Type 0} (e : K → K → Bool) (key : X → K) (xs : List X) → IsDistinct e (map key xs) → IsDistinct (λ x y. e (key x) (key y)) xs
 IsDistinct-by_key e key xs distinct =
     IsDistinct-from_apart _ xs (λ i j d before low.
     rw (get_or-map key xs i d (key d) (omega arith), get_or-map key xs j d (key d) low) at (apart_from_distinct e (map key xs) i j (key d) distinct before (omega (arith, length-map xs key))))
