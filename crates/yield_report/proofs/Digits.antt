@@ -1,0 +1,116 @@
+-- The digits of a range's serial numbers, and the numbers that they write.
+use Rattle.std.proofs.Common.{◌≡◌, ◌≢◌, ℕ, zero, suc, ◌+◌, ◌-◌, ◌*◌, ◌^◌, ◌<◌, ◌≤◌, Bool, true, false, List, ◌++◌, length, take, drop, get_or, replicate, decimal, Some, None, inl, inr, refl, sym, ap, ◌∙◌, arith}
+use Rattle.std.specs.Str.{bytes_eq}
+use Rattle.std.specs.Str.Parse.{digits_value, AllDigits}
+use Rattle.std.specs.List.{list_any, range_with_len}
+use Rattle.std.proofs.Math.Nat.{pow-le-pow_right}
+use Rattle.std.proofs.lemmas.Bool.{both_ways, cases_lt, or_left, or_right, or_from, false_from_ne_true}
+use Rattle.std.proofs.lemmas.Slice.Eq.{bytes_eq-Decides}
+use Rattle.std.proofs.lemmas.Option.{none-some, same_Some}
+use Rattle.std.proofs.lemmas.Int.Digits.{digits_value-lt, digits_value_more}
+use Rattle.std.proofs.lemmas.Str.{digit_value_digit}
+use Rattle.std.proofs.lemmas.Str.Parse.{digit_at, digits_value-take-le}
+use Rattle.std.proofs.lemmas.Fmt.{decimal_is_IsNumeral}
+use Rattle.std.proofs.lemmas.List.{drop_at, take_at, take_rest}
+use Rattle.text_core.specs.Padding.{zero_padded}
+use Rattle.id_ranges.specs.Range.{Range, IsRange, Has, text_of}
+use Rattle.id_ranges.proofs.Texts.{is_small}
+use Rattle.yield_report.specs.Serials.{has_serial}
+
+-- at most nine digits write a small number
+pub value_is_small : (digits : List ℕ) (i : ℕ) → AllDigits 10 digits → length digits ≤ 9 → digits_value 10 (take i digits) < 1000000000
+value_is_small digits i all few =
+    let most : 10 ^ length digits ≤ 10 ^ 9 = pow-le-pow_right {n = 10} (omega arith) few in
+    let whole = digits_value-lt 10 digits all in
+    let part = digits_value-take-le 10 digits i (omega arith) in
+    omega (arith, most, whole, part)
+
+-- one digit more
+pub value_more : (digits : List ℕ) (i digit : ℕ) → AllDigits 10 digits → i < length digits → digit ≡ get_or digits i 0
+    → (48 ≤ digit) × (digits_value 10 (take (i + 1) digits) ≡ digits_value 10 (take i digits) * 10 + (digit - 48))
+value_more digits i digit all within is =
+    let range = digit_at digits i all within in
+    let digit_is = digit_value_digit (get_or digits i 0) range in
+    let more = digits_value_more 10 digits i within in
+    (omega (arith, range.0), more ∙ ap (λ k. digits_value 10 (take i digits) * 10 + k) (omega (arith, digit_is)))
+
+-- zeros before digits are digits
+zeros_are_digits : (count : ℕ) (digits : List ℕ) → AllDigits 10 digits → AllDigits 10 (replicate count 48 ++ digits)
+zeros_are_digits zero digits all = all
+zeros_are_digits (suc count) digits all = (omega arith, zeros_are_digits count digits all)
+
+pub padded_digits : (width n : ℕ) → n < 2 ^ 64 → AllDigits 10 (zero_padded width (decimal n))
+padded_digits width n small = zeros_are_digits (width - length (decimal n)) (decimal n) (decimal_is_IsNumeral n small).0.1
+
+-- zeros before digits don't change their value
+value-zeros : (count : ℕ) (digits : List ℕ) → digits_value 10 (replicate count 48 ++ digits) ≡ digits_value 10 digits
+value-zeros zero digits = refl
+value-zeros (suc count) digits = value-zeros count digits
+
+-- the value of a number's digits is the number
+value-padded : (width n : ℕ) → n < 2 ^ 64 → digits_value 10 (zero_padded width (decimal n)) ≡ n
+value-padded width n small = value-zeros (width - length (decimal n)) (decimal n) ∙ (decimal_is_IsNumeral n small).1
+
+-- the digits of a serial number
+pub digits_of_text : (r : Range) (n : ℕ) (serial : List ℕ) → serial ≡ text_of r n → drop (length r.prefix) serial ≡ zero_padded r.width (decimal n)
+digits_of_text r n serial is = ap (drop (length r.prefix)) is ∙ drop_at r.prefix (zero_padded r.width (decimal n)) (length r.prefix) refl
+
+pub front_of_text : (r : Range) (n : ℕ) (serial : List ℕ) → serial ≡ text_of r n → take (length r.prefix) serial ≡ r.prefix
+front_of_text r n serial is = ap (take (length r.prefix)) is ∙ take_at r.prefix (zero_padded r.width (decimal n)) (length r.prefix) refl
+
+-- the number that they write is the serial number's
+pub value_of_text : (r : Range) → IsRange r → (n : ℕ) → Has r n → (serial : List ℕ) → serial ≡ text_of r n → (digits : List ℕ) → digits ≡ drop (length r.prefix) serial
+    → (value : ℕ) → (AllDigits 10 digits → value ≡ digits_value 10 digits) → value ≡ n
+value_of_text r is n has serial text digits cut value says =
+    let same : digits ≡ zero_padded r.width (decimal n) = cut ∙ digits_of_text r n serial text in
+    let small = is_small r is n has in
+    says (rw same (padded_digits r.width n small)) ∙ (ap (digits_value 10) same ∙ value-padded r.width n small)
+
+-- a number of a range that passes
+any_at : (p : ℕ → Bool) (first count n : ℕ) → first ≤ n → n < first + count → p n ≡ true → list_any p (range_with_len first count) ≡ true
+any_at p first zero n low high h = absurd (omega arith)
+any_at p first (suc count) n low high h =
+    elim (cases_lt first n) [
+      | inl past ↦ or_right (p first) (list_any p (range_with_len (first + 1) count)) (any_at p (first + 1) count n (omega arith) (omega arith) h)
+      | inr here ↦
+          let same : n ≡ first = omega arith in
+          or_left (p first) (list_any p (range_with_len (first + 1) count)) (rw same at h)
+    ]
+
+-- a range whose numbers all fail
+pub any_none : (p : ℕ → Bool) (first count : ℕ) → ((n : ℕ) → first ≤ n → n < first + count → p n ≡ false) → list_any p (range_with_len first count) ≡ false
+any_none p first zero none = refl
+any_none p first (suc count) none =
+    or_from (p first) (list_any p (range_with_len (first + 1) count)) (none first (omega arith) (omega arith))
+    (any_none p (first + 1) count (λ n low high. none n (omega arith) (omega arith)))
+
+-- a text that is the serial number of a number of the range
+pub has_at : (r : Range) (serial : List ℕ) (n : ℕ) → Has r n → serial ≡ text_of r n → has_serial r serial ≡ true
+has_at r serial n has text = any_at (λ k. bytes_eq serial (text_of r k)) r.first r.quantity n has.0 has.1 ((bytes_eq-Decides serial (text_of r n)).1 text)
+
+-- a text that is that of none
+pub has_none : (r : Range) (serial : List ℕ) → ((n : ℕ) → Has r n → serial ≢ text_of r n) → has_serial r serial ≡ false
+has_none r serial none =
+    any_none (λ k. bytes_eq serial (text_of r k)) r.first r.quantity
+    (λ n low high. false_from_ne_true _ (λ t. none n (low, high) ((bytes_eq-Decides serial (text_of r n)).0 t)))
+
+-- the number of the digits that are read after the prefix
+pub number_is : (r : Range) → IsRange r → (n : ℕ) → Has r n → (serial : List ℕ) → serial ≡ text_of r n → (front bytes : List ℕ) → front ≡ r.prefix → bytes ≡ serial
+    → (value : ℕ)
+    → (AllDigits 10 (take (length bytes - length front) (drop (length front) bytes)) → value ≡ digits_value 10 (take (length bytes - length front) (drop (length front) bytes)))
+    → value ≡ n
+number_is r is n has serial text front bytes front_is bytes_is value says =
+    value_of_text r is n has serial text (take (length bytes - length front) (drop (length front) bytes))
+    (take_rest bytes (length front) ∙ (ap (λ (f : List ℕ). drop (length f) bytes) front_is ∙ ap (drop (length r.prefix)) bytes_is)) value says
+
+-- the test by the one number that it may be
+pub has_by : (r : Range) (serial : List ℕ) (n : ℕ) → Has r n → ((k : ℕ) → Has r k → serial ≡ text_of r k → Some n ≡ Some k) → (e : Bool) → e ≡ bytes_eq (text_of r n) serial
+    → e ≡ has_serial r serial
+has_by r serial n has only true e = sym (has_at r serial n has (sym ((bytes_eq-Decides (text_of r n) serial).0 (sym e))))
+has_by r serial n has only false e =
+    sym (has_none r serial (λ k other text.
+    let same : text_of r n ≡ serial = ap (text_of r) (same_Some n k (only k other text)) ∙ sym text in
+    both_ways (bytes_eq (text_of r n) serial) (sym e) ((bytes_eq-Decides (text_of r n) serial).1 same)))
+
+pub has_not : (r : Range) (serial : List ℕ) → ((k : ℕ) → Has r k → serial ≡ text_of r k → None ≡ Some k) → false ≡ has_serial r serial
+has_not r serial only = sym (has_none r serial (λ k has text. none-some k (only k has text)))

@@ -1,0 +1,10 @@
+-- The lemmas of this crate.
+pub mod Counted
+pub mod Digits
+pub mod Gathered
+pub mod Issuers
+pub mod RisingSerials
+pub mod Placed
+pub mod SiteLines
+pub mod Taken
+pub mod WholeLines

@@ -1,0 +1,115 @@
+-- How many serial numbers of a range are left, where the given ones rise.
+use Rattle.std.proofs.Common.{◌≡◌, ℕ, zero, suc, ◌+◌, ◌<◌, ◌≤◌, Bool, true, false, not, List, [], ◌∷◌, length, Option, Some, Ordering, Less, Equal, Greater, inl, inr, refl, sym, ap, ◌∙◌, arith, cond}
+use Rattle.std.specs.Prelude.{◌||◌, filter, find, is_some}
+use Rattle.std.specs.List.{list_any, range_with_len}
+use Rattle.std.specs.Ordering.{is_eq, is_lt}
+use Rattle.std.specs.Str.{bytes_eq}
+use Rattle.std.proofs.lemmas.Bool.{cases_Bool, or_from, false_from_ne_true}
+use Rattle.std.proofs.lemmas.Bool.Decides.{nat_tests}
+use Rattle.std.proofs.lemmas.Cmp.{nat_list_cmp_total, nat_list_eq_equiv}
+use Rattle.std.proofs.lemmas.Map.Text.{is_eq-slice_cmp}
+use Rattle.std.proofs.lemmas.Slice.Eq.{bytes_eq-Decides}
+use Rattle.id_ranges.specs.Range.{Range, IsRange, numbers, text_of}
+use Rattle.id_ranges.proofs.Texts.{same_number}
+use Rattle.office_tables.specs.declared.rows.Given.{Given}
+use Rattle.office_tables.specs.declared.rows.Owned.{Owned}
+use Rattle.office_tables.specs.Tables.{is_given, is_of_issuer, text_cmp}
+use Rattle.yield_report.specs.Serials.{has_serial, serials_in, AreRising}
+
+-- the text isn't one of these
+abbrev is_new : List (List ℕ) → Range → ℕ → Bool
+is_new serials r n = not (list_any (bytes_eq (text_of r n)) serials)
+
+lt_is_less : (o : Ordering) → is_lt o ≡ true → o ≡ Less
+lt_is_less Less h = refl
+lt_is_less Equal h = absurd (cc h)
+lt_is_less Greater h = absurd (cc h)
+
+-- a text differs from a greater one
+differs : (a b : List ℕ) → is_lt (text_cmp a b) ≡ true → bytes_eq a b ≡ false
+differs a b less = sym (is_eq-slice_cmp a b) ∙ ap is_eq (lt_is_less (text_cmp a b) less)
+
+later : (a b c : List ℕ) → is_lt (text_cmp a b) ≡ true → is_lt (text_cmp b c) ≡ true → is_lt (text_cmp a c) ≡ true
+later a b c one other = ap is_lt (nat_list_cmp_total.trans a b c (lt_is_less (text_cmp a b) one) (lt_is_less (text_cmp b c) other))
+
+-- a text that is less than the last one isn't among those that rise from there
+above : (a last : List ℕ) (serials : List (List ℕ)) → is_lt (text_cmp a last) ≡ true → AreRising (Some last) serials → list_any (bytes_eq a) serials ≡ false
+above a last [] less rising = refl
+above a last (s ∷ ss) less rising =
+    let here = later a last s less rising.0 in
+    or_from (bytes_eq a s) (list_any (bytes_eq a) ss) (differs a s here) (above a s ss here rising.1)
+
+rises_apart : (s : List ℕ) (serials : List (List ℕ)) → AreRising (Some s) serials → list_any (bytes_eq s) serials ≡ false
+rises_apart s [] rising = refl
+rises_apart s (x ∷ xs) rising = or_from (bytes_eq s x) (list_any (bytes_eq s) xs) (differs s x rising.0) (above s x xs rising.0 rising.1)
+
+-- a test that no number of a range passes changes nothing
+rest_same : (p q : ℕ → Bool) (first count : ℕ) → ((n : ℕ) → first ≤ n → n < first + count → q n ≡ false)
+    → length (filter (λ n. not (q n || p n)) (range_with_len first count)) ≡ length (filter (λ n. not (p n)) (range_with_len first count))
+rest_same p q first zero none = refl
+rest_same p q first (suc count) none =
+    let here = none first (omega arith) (omega arith) in
+    let rest = rest_same p q (first + 1) count (λ n low high. none n (omega arith) (omega arith)) in
+    elim (p first) as (λ b. length (cond (not (q first || b)) (first ∷ filter (λ n. not (q n || p n)) (range_with_len (first + 1) count)) (filter (λ n. not (q n || p n)) (range_with_len (first + 1) count)))
+    ≡ length (cond (not b) (first ∷ filter (λ n. not (p n)) (range_with_len (first + 1) count)) (filter (λ n. not (p n)) (range_with_len (first + 1) count)))) [
+      | true ↦ rw here rest
+      | false ↦ rw here (ap suc rest)
+    ]
+
+-- one number of a range is passed over
+one_less : (p q : ℕ → Bool) (first count : ℕ) → ((m n : ℕ) → first ≤ m → m < n → n < first + count → q m ≡ true → q n ≡ false)
+    → ((n : ℕ) → first ≤ n → n < first + count → q n ≡ true → p n ≡ false)
+    → length (filter (λ n. not (q n || p n)) (range_with_len first count)) + cond (list_any q (range_with_len first count)) 1 0 ≡ length (filter (λ n. not (p n)) (range_with_len first count))
+one_less p q first zero unique apart = refl
+one_less p q first (suc count) unique apart =
+    elim (cases_Bool (q first)) [
+      | inl passes ↦
+          let free = apart first (omega arith) (omega arith) passes in
+          let rest = rest_same p q (first + 1) count (λ n low high. unique first n (omega arith) (omega arith) (omega arith) passes) in
+          rw (passes, free) (omega (arith, rest))
+      | inr fails ↦
+          let rest = one_less p q (first + 1) count (λ m n low less high. unique m n (omega arith) less (omega arith)) (λ n low high. apart n (omega arith) (omega arith)) in
+          elim (p first) as (λ b. length (cond (not (q first || b)) (first ∷ filter (λ n. not (q n || p n)) (range_with_len (first + 1) count)) (filter (λ n. not (q n || p n)) (range_with_len (first + 1) count)))
+          + cond (q first || list_any q (range_with_len (first + 1) count)) 1 0
+          ≡ length (cond (not b) (first ∷ filter (λ n. not (p n)) (range_with_len (first + 1) count)) (filter (λ n. not (p n)) (range_with_len (first + 1) count)))) [
+            | true ↦ rw fails rest
+            | false ↦ rw fails (omega (arith, rest))
+          ]
+    ]
+
+all_new : (first count : ℕ) → length (filter (λ (n : ℕ). true) (range_with_len first count)) ≡ count
+all_new first zero = refl
+all_new first (suc count) = ap suc (all_new (first + 1) count)
+
+any_same : {A : Type 0} (p q : A → Bool) → ((x : A) → p x ≡ q x) → (xs : List A) → list_any p xs ≡ list_any q xs
+any_same p q same [] = refl
+any_same p q same (x ∷ xs) = rw (same x, any_same p q same xs) refl
+
+-- of the records whose serial numbers rise, as many are of the range as serial numbers of it are given
+pub left_count : (r : Range) → IsRange r → (last : Option (List ℕ)) (serials : List (List ℕ)) → AreRising last serials
+    → length (filter (is_new serials r) (numbers r)) + length (filter (has_serial r) serials) ≡ r.quantity
+left_count r is last [] rising = let all = all_new r.first r.quantity in omega (arith, all)
+left_count r is last (s ∷ ss) rising =
+    let q : ℕ → Bool = λ n. bytes_eq (text_of r n) s in
+    let p : ℕ → Bool = λ n. list_any (bytes_eq (text_of r n)) ss in
+    let rest = left_count r is (Some s) ss rising.1 in
+    let step = one_less p q r.first r.quantity
+    (λ m n low less high passes. false_from_ne_true (q n) (λ too.
+    let one = (bytes_eq-Decides (text_of r m) s).0 passes in
+    let other = (bytes_eq-Decides (text_of r n) s).0 too in
+    let same : m ≡ n = same_number r is m n (low, omega arith) (omega arith, high) (one ∙ sym other) in
+    omega arith))
+    (λ n low high passes.
+    let one = (bytes_eq-Decides (text_of r n) s).0 passes in
+    rw one (rises_apart s ss rising.1)) in
+    let tested : has_serial r s ≡ list_any q (numbers r) = any_same (λ n. bytes_eq s (text_of r n)) q (λ n. nat_list_eq_equiv.symm s (text_of r n)) (numbers r) in
+    elim (has_serial r s) as (λ b. has_serial r s ≡ b → length (filter (is_new (s ∷ ss) r) (numbers r)) + length (cond b (s ∷ filter (has_serial r) ss) (filter (has_serial r) ss)) ≡ r.quantity) [
+      | true ↦ λ e. let t = rw (sym tested ∙ e) at step in omega (arith, t, rest)
+      | false ↦ λ e. let t = rw (sym tested ∙ e) at step in omega (arith, t, rest)
+    ] refl
+
+-- whether a serial number is given in an issuer, by the serial numbers of its records
+pub given_is_listed : (issuer serial : List ℕ) (rows : List (Owned Given))
+    → is_some (find (is_given issuer serial) rows) ≡ list_any (bytes_eq serial) (serials_in (filter (is_of_issuer issuer) rows))
+given_is_listed issuer serial [] = refl
+given_is_listed issuer serial (row ∷ rows) = grind (arith, nat_tests, given_is_listed issuer serial rows)

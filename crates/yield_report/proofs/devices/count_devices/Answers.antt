@@ -1,0 +1,13 @@
+-- Why `devices::count_devices` meets its contract, where that has to be said.
+use Rattle.std.proofs.Common.{rules}
+use Rattle.yield_report.proofs.Counted.{devices_counted, devices_fit}
+use Rattle.yield_report.proofs.devices.count_devices.Goals as goal
+
+pub returns : goal.returns
+returns g c = record {
+  reads = search rules;
+  stays_open = search rules;
+  says = λ is.
+      let visits = c.in_ok-visit_devices.ensures.says is in
+      (devices_counted _ _ _ visits c.if-scan.false, devices_fit _ _ _ visits c.if-scan.false);
+}

@@ -1,0 +1,13 @@
+-- Why `left::take_of_issuer` meets its contract, where that has to be said.
+use Rattle.std.proofs.Common.{rules}
+use Rattle.yield_report.proofs.Taken.{serials_fit, serials_rise, serials_taken}
+use Rattle.yield_report.proofs.left.take_of_issuer.Goals as goal
+
+pub returns : goal.returns
+returns g c = record {
+  reads = search rules;
+  stays_open = search rules;
+  says = λ is.
+      let visits = c.in_ok-visit_given.ensures.says is in
+      (serials_rise _ _ _ visits c.if-scan.false, serials_taken _ _ _ visits c.if-scan.false, serials_fit _ _ _ visits c.if-scan.false);
+}

@@ -1,0 +1,15 @@
+-- Why `lines::order_lines` meets its contract, where that has to be said.
+use Rattle.std.proofs.Common.{rules}
+use Rattle.std.proofs.lemmas.List.Elements.{All-nil}
+use Rattle.yield_report.specs.Lines.{IsLine}
+use Rattle.yield_report.proofs.Gathered.{lines_fit, lines_gathered}
+use Rattle.yield_report.proofs.lines.order_lines.Goals as goal
+
+pub returns : goal.returns
+returns g c = record {
+  reads = search rules;
+  stays_open = search rules;
+  says = λ is.
+      let visits = c.in_ok-visit_orders.ensures.says is in
+      (rw c.new.ensures.items at (lines_gathered _ _ _ visits c.if-scan.false), lines_fit _ _ _ visits c.if-scan.false (rw c.new.ensures.items (All-nil IsLine)));
+}

@@ -1,0 +1,15 @@
+-- Why `orders::order_report` meets its contract, where that has to be said.
+use Rattle.std.proofs.Common.{◌∙◌, ap, rules}
+use Rattle.yield_report.specs.Rows.{lines_text}
+use Rattle.yield_report.proofs.WholeLines.{report_of_lines}
+use Rattle.yield_report.proofs.orders.order_report.Goals as goal
+
+pub returns : goal.returns
+returns g c = record {
+  reads = search rules;
+  stays_open = search rules;
+  says = λ is.
+      let lines = c.in_ok-lines.ensures.says is in
+      report_of_lines c.args.customer.now (g.K.Keep.tables c.args.keep.now) c.in_ok-lines.lines.items _ lines.0 lines.1
+      (c.in_ok-order_text.ensures ∙ ap lines_text c.as_slice.ensures.value);
+}

@@ -1,0 +1,12 @@
+-- Why `rows::row_bytes` meets its contract, where that has to be said.
+use Rattle.std.proofs.Common.{◌≢◌, ◌∙◌}
+use Rattle.csv.specs.declared.writer.QuoteStyle.TheVariants as style
+use Rattle.yield_report.proofs.rows.row_bytes.Goals as goal
+
+pub returns-in-Ok-into_inner : goal.returns-in-Ok-into_inner
+returns-in-Ok-into_inner c =
+    let from = c.from_writer-writer.ensures in
+    let plain : c.from_writer-writer.result.cfg.style ≢ style.NonNumeric = rw (from.cfg, c.new.ensures) (λ e. cc e) in
+    let appended = c.in-Ok.ensures.bytes from.fields from.wrote plain in
+    let text = rw (from.cfg, c.new.ensures, from.wtr, c.new-2.ensures.items, from.empty) at appended in
+    c.in-Ok-into_inner.ensures.ok ∙ text

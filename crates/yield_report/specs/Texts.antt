@@ -1,0 +1,46 @@
+-- The texts of reports: lines of fields with commas between them (RFC 4180), each with a line feed behind it.
+use Rattle.std.specs.Prelude.{ℕ, ◌≤◌, List, [], ◌∷◌, codes, decimal, flat_map, length, map}
+use Rattle.std.specs.List.{AllByRecursion}
+use Rattle.csv.specs.Writing.{default_writer, row_text}
+use Rattle.office_tables.specs.declared.rows.Order.{Order}
+use Rattle.office_tables.specs.declared.rows.Device.{Device}
+use Rattle.yield_report.specs.Counts.{HasGiven, total, yield_of}
+use Rattle.yield_report.specs.declared.yields.Yield.{Yield}
+
+-- the names of the numbers, in their order
+abbrev pub number_names : List (List ℕ)
+number_names =
+    codes "quantity" ∷ codes "registered" ∷ codes "planned" ∷ codes "settled" ∷ codes "identified" ∷ codes "shipped" ∷ codes "quarantined" ∷ codes "scrapped"
+    ∷ codes "serials_left" ∷ []
+
+abbrev pub numbers_of : Yield → List ℕ
+numbers_of y =
+    y.quantity ∷ y.registered ∷ y.planned ∷ y.settled ∷ y.identified ∷ y.shipped ∷ y.quarantined ∷ y.scrapped ∷ y.serials_left ∷ []
+
+-- a text of these lines
+abbrev pub report_text : List (List (List ℕ)) → List ℕ
+report_text lines = flat_map (row_text default_writer) lines
+
+-- a customer's report: a header, and a line for each order
+abbrev pub order_header : List (List ℕ)
+order_header = codes "order" ∷ number_names
+
+abbrev pub order_line : HasGiven → List Device → Order → List (List ℕ)
+order_line given devices o = o.name ∷ map decimal (numbers_of (yield_of given devices o))
+
+abbrev pub order_report_text : HasGiven → List Order → List Device → List ℕ
+order_report_text given orders devices = report_text (order_header ∷ map (order_line given devices) orders)
+
+-- the manager's report: a header, and a line for each customer with the number of its orders and the sum of their numbers
+abbrev pub site_header : List (List ℕ)
+site_header = codes "customer" ∷ codes "orders" ∷ number_names
+
+abbrev pub customer_total : HasGiven → List Order → List Device → Yield
+customer_total given orders devices = total (map (yield_of given devices) orders)
+
+abbrev pub customer_line : List ℕ → HasGiven → List Order → List Device → List (List ℕ)
+customer_line customer given orders devices = customer ∷ map decimal (length orders ∷ numbers_of (customer_total given orders devices))
+
+-- numbers that the tables have room for
+abbrev pub AreStorable : List ℕ → Type 0
+AreStorable ns = AllByRecursion (λ n. n ≤ 9223372036854775807) ns

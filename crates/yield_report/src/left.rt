@@ -1,0 +1,135 @@
+// The serial numbers that are left of each order.
+ghost use Rattle.std.specs.Prelude.{◌≡◌, ◌∷◌, [], bytes_eq, map, None};
+ghost use Rattle.std.specs.List.{list_any};
+ghost use Rattle.office_tables.specs.Reading.{Reading};
+ghost use Rattle.yield_report.specs.Lines.{left_in, new_issuer, taken};
+ghost use Rattle.yield_report.specs.Lines.{AreLines, IsLine, TakesSerial};
+ghost use Rattle.yield_report.specs.Reports.{has_given_in};
+ghost use Rattle.yield_report.specs.Serials.{follows, serials_of, AreRising};
+
+use crate::lines::OrderLine;
+use crate::serials::has_serial;
+use office_tables::{GivenRow, Keep, Sink, Unkept};
+use text_core::{Name, Serial};
+
+/// The lines of a customer's orders, without the serial numbers of an issuer that were met so far.
+#[derive(Drop)]
+struct GivenScan {
+    lines: Vec<OrderLine>,
+    issuer: Name,
+    /// The serial number that was met last.
+    last: Option<Serial>,
+    /// A serial number came that wasn't greater than the one before.
+    is_unordered: bool,
+}
+
+impl Sink<GivenRow> for GivenScan {
+    ghost takes = { TakesSerial };
+
+    fn take(&mut self, row: &GivenRow) -> bool {
+        if !follows(&self.last, &row.row.serial) {
+            self.is_unordered = true;
+            return false;
+        }
+        self.last = Some(row.row.serial);
+        take_serial(&mut self.lines, &self.issuer, &row.row.serial);
+        true
+    }
+}
+
+/// Whether a serial number is greater than the last one, if there was one.
+fn follows(last: &Option<Serial>, serial: &Serial) -> bool
+    ensures { result ≡ follows last.now serial.now }
+{
+    match last {
+        Some(last) => last < serial,
+        None => true,
+    }
+}
+
+/// Takes a serial number of an issuer from a line, where it is one of the line's order.
+fn take_from_line(line: &mut OrderLine, issuer: &Name, serial: &Serial)
+    ensures line { line.new ≡ taken issuer.now (serial.now ∷ []) line.old }
+    ensures is_line { IsLine line.old → IsLine line.new }
+{
+    if line.issuer == *issuer && has_serial(&line.range, serial) {
+        line.numbers.serials_left = line.numbers.serials_left.saturating_sub(1);
+    }
+}
+
+/// Takes a serial number of an issuer from each line whose order has it.
+fn take_serial(lines: &mut Vec<OrderLine>, issuer: &Name, serial: &Serial)
+    ensures lines { lines.new.items ≡ map (taken issuer.now (serial.now ∷ [])) lines.old.items }
+    ensures are_lines { AreLines lines.old.items → AreLines lines.new.items }
+{
+    for i in 0..lines.len() {
+        take_from_line(&mut lines[i], issuer, serial);
+    }
+}
+
+/// Takes the serial numbers that are given in an issuer from the lines, by one walk over its
+/// records.
+fn take_of_issuer<K: Keep>(
+    keep: &mut K,
+    issuer: &Name,
+    lines: Vec<OrderLine>,
+) -> Result<Vec<OrderLine>, Unkept>
+    ensures { Reading K.Keep keep.old keep.new result (λ t left.
+        AreRising None (serials_of issuer.now t)
+        × (left.items ≡ map (taken issuer.now (serials_of issuer.now t)) lines.items)
+        × (AreLines lines.items → AreLines left.items)) }
+{
+    let mut scan = GivenScan {
+        lines,
+        issuer: *issuer,
+        last: None,
+        is_unordered: false,
+    };
+    keep.visit_given(issuer, &mut scan)?;
+    if scan.is_unordered {
+        return Err(Unkept);
+    }
+    Ok(scan.lines)
+}
+
+/// Whether one of the lines is of an issuer.
+fn has_issuer(lines: &[OrderLine], issuer: &Name) -> bool
+    ensures { result ≡ list_any (λ l. bytes_eq l.issuer issuer.now) lines.now }
+{
+    lines.iter().any(|line| line.issuer == *issuer)
+}
+
+/// The issuer of the line at a place, if there is one and no line before it has its issuer.
+fn new_issuer(lines: &[OrderLine], place: usize) -> Option<Name>
+    ensures { result ≡ new_issuer lines.now place }
+{
+    if place >= lines.len() {
+        return None;
+    }
+    let issuer = lines[place].issuer;
+    if has_issuer(&lines[..place], &issuer) {
+        return None;
+    }
+    Some(issuer)
+}
+
+/// The lines without the serial numbers that are given, by one walk over the records of each
+/// issuer.
+/// `Err` also where the records of an issuer aren't in the order of their serial numbers.
+pub(crate) fn take_given<K: Keep>(
+    keep: &mut K,
+    lines: Vec<OrderLine>,
+) -> Result<Vec<OrderLine>, Unkept>
+    requires { K.is_honest keep.old → K.is_open keep.old }
+    ensures { Reading K.Keep keep.old keep.new result (λ t left. AreLines lines.items
+        → (left.items ≡ map (left_in (has_given_in t)) lines.items) × AreLines left.items) }
+{
+    let mut left = lines;
+    for place in 0..left.len() {
+        let Some(issuer) = new_issuer(left.as_slice(), place) else {
+            continue;
+        };
+        left = take_of_issuer(keep, &issuer, left)?;
+    }
+    Ok(left)
+}

@@ -1,0 +1,84 @@
+// The lines of a report, one for each order.
+ghost use Rattle.std.specs.Prelude.{◌≡◌, map};
+ghost use Rattle.office_tables.specs.Tables.{own};
+ghost use Rattle.office_tables.specs.Reading.{Reading};
+ghost use Rattle.yield_report.specs.Lines.{first_line, AreLines, GathersOrder, IsLine};
+
+use crate::yields::Yield;
+use id_ranges::SerialRange;
+use office_tables::{Keep, Order, OrderRow, Sink, Unkept};
+use std::alloc::Global;
+use text_core::Name;
+
+/// An order, and what was counted of it so far.
+#[derive(Clone, Copy, Drop)]
+pub(crate) struct OrderLine {
+    pub(crate) name: Name,
+    pub(crate) issuer: Name,
+    pub(crate) range: SerialRange,
+    pub(crate) numbers: Yield,
+}
+
+/// The lines of the orders that were met so far.
+#[derive(Drop)]
+struct OrderScan {
+    lines: Vec<OrderLine>,
+    /// There was no memory for a line.
+    is_full: bool,
+}
+
+impl Sink<OrderRow> for OrderScan {
+    ghost takes = { GathersOrder };
+
+    fn take(&mut self, row: &OrderRow) -> bool {
+        if self.lines.push(first_line(&row.row)).is_err() {
+            self.is_full = true;
+            return false;
+        }
+        true
+    }
+}
+
+/// The line of an order of which no device and no given serial number was met yet.
+fn first_line(order: &Order) -> OrderLine
+    ensures same { result ≡ first_line order.now }
+    ensures is_line { IsLine result }
+{
+    let quantity = order.range.quantity();
+    OrderLine {
+        name: order.name,
+        issuer: order.issuer,
+        range: order.range,
+        numbers: Yield {
+            quantity,
+            registered: 0,
+            planned: 0,
+            settled: 0,
+            identified: 0,
+            shipped: 0,
+            quarantined: 0,
+            scrapped: 0,
+            serials_left: quantity,
+        },
+    }
+}
+
+/// A line for each of a customer's orders, in the order of their names.
+pub(crate) fn order_lines<K: Keep>(
+    alloc: Global,
+    keep: &mut K,
+    customer: &Name,
+) -> Result<Vec<OrderLine>, Unkept>
+    ensures { Reading K.Keep keep.old keep.new result (λ t lines.
+        (lines.items ≡ map first_line (own customer.now t.orders)) × AreLines lines.items) }
+{
+    let mut scan = OrderScan {
+        lines: Vec::new(alloc),
+        is_full: false,
+    };
+    keep.visit_orders(customer, &mut scan)?;
+    if scan.is_full {
+        return Err(Unkept);
+    }
+    Ok(scan.lines)
+}

@@ -1,0 +1,56 @@
+// The report of a customer.
+ghost use Rattle.std.specs.Prelude.{◌≡◌, IfOk};
+ghost use Rattle.office_tables.specs.Reading.{Reading};
+ghost use Rattle.yield_report.specs.Reports.{IsOrderReport};
+ghost use Rattle.yield_report.specs.Rows.{lines_text, AreWhole};
+
+use crate::devices::count_devices;
+use crate::left::take_given;
+use crate::lines::{OrderLine, order_lines};
+use crate::rows::{append_order, append_order_header};
+use office_tables::{Keep, Unkept};
+use std::alloc::{AllocError, Global};
+use text_core::Name;
+
+/// A line for each of a customer's orders, in the order of their names, with all its numbers.
+pub(crate) fn whole_lines<K: Keep>(
+    alloc: Global,
+    keep: &mut K,
+    customer: &Name,
+) -> Result<Vec<OrderLine>, Unkept>
+    ensures { Reading K.Keep keep.old keep.new result (λ t lines. AreWhole customer.now t lines.items) }
+{
+    let orders = order_lines(alloc, keep, customer)?;
+    let counted = count_devices(keep, customer, orders)?;
+    take_given(keep, counted)
+}
+
+/// The text of a customer's report.
+fn order_text(alloc: Global, lines: &[OrderLine]) -> Result<Vec<u8>, AllocError>
+    ensures { IfOk result (λ text. text.items ≡ lines_text lines.now) }
+{
+    let mut text = Vec::new(alloc);
+    append_order_header(alloc, &mut text)?;
+    for line in lines {
+        append_order(alloc, &mut text, &line.name, &line.numbers)?;
+    }
+    Ok(text)
+}
+
+/// The yield report of a customer as comma-separated text (RFC 4180): a header, and a line for each
+/// of its orders, in the order of their names, with how many devices of the order stand in each
+/// state and how many of its serial numbers are left. The keeper is read one row at a time; what is
+/// held are the lines, about 300 bytes an order, and the text.
+///
+/// `Err` is want of memory, a keeper's fault, records of an issuer that aren't in the order of
+/// their serial numbers, or a number past 9223372036854775807, and nothing else.
+pub fn order_report<K: Keep>(
+    alloc: Global,
+    keep: &mut K,
+    customer: &Name,
+) -> Result<Vec<u8>, Unkept>
+    ensures { Reading K.Keep keep.old keep.new result (λ t text. IsOrderReport customer.now t text.items) }
+{
+    let lines = whole_lines(alloc, keep, customer)?;
+    Ok(order_text(alloc, lines.as_slice())?)
+}

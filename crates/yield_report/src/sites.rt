@@ -1,0 +1,101 @@
+// The report of a site.
+ghost use Rattle.std.specs.Prelude.{◌≡◌, ◌↔◌, ⊤, IfSome, IsSome};
+ghost use Rattle.office_tables.specs.Reading.{Reading};
+ghost use Rattle.yield_report.specs.Counts.{no_yield, total};
+ghost use Rattle.yield_report.specs.Reports.{customer_line_in, IsSiteReport};
+ghost use Rattle.yield_report.specs.Rows.{numbers_in, with_row, FitsCustomer};
+ghost use Rattle.yield_report.specs.Texts.{numbers_of, AreStorable};
+
+use crate::lines::OrderLine;
+use crate::names::customer_names;
+use crate::orders::whole_lines;
+use crate::rows::{append_customer, append_site_header};
+use crate::yields::{LARGEST_NUMBER, Yield, added};
+use office_tables::{Keep, Unkept};
+use site_core::Site;
+use std::alloc::Global;
+use text_core::Name;
+
+/// Numbers of which nothing was counted.
+fn no_yield() -> Yield
+    ensures { result ≡ no_yield }
+{
+    Yield {
+        quantity: 0,
+        registered: 0,
+        planned: 0,
+        settled: 0,
+        identified: 0,
+        shipped: 0,
+        quarantined: 0,
+        scrapped: 0,
+        serials_left: 0,
+    }
+}
+
+/// The sums of the numbers of all lines. `None` where the tables have no room for one of them.
+fn total(lines: &[OrderLine]) -> Option<Yield>
+    ensures sums { IfSome result (λ sums. sums ≡ total (numbers_in lines.now)) }
+    ensures fits { IsSome result ↔ AreStorable (numbers_of (total (numbers_in lines.now))) }
+{
+    let mut sums = no_yield();
+    for line in lines {
+        let Some(more) = added(&sums, &line.numbers) else {
+            return None;
+        };
+        sums = more;
+    }
+    Some(sums)
+}
+
+/// Asks whether the store is open, by a look-up of the map with the number 0, so that the report of
+/// a site without customers asks it too.
+fn ask_open<K: Keep>(keep: &mut K) -> Result<(), Unkept>
+    ensures { Reading K.Keep keep.old keep.new result (λ _ _. ⊤) }
+{
+    keep.map(0)?;
+    Ok(())
+}
+
+/// Appends the line of a customer.
+fn append_line<K: Keep>(
+    alloc: Global,
+    keep: &mut K,
+    text: &mut Vec<u8>,
+    customer: &Name,
+) -> Result<(), Unkept>
+    ensures { Reading K.Keep keep.old keep.new result (λ t _.
+        (text.new.items ≡ with_row text.old.items (customer_line_in t customer.now))
+        × FitsCustomer t customer.now) }
+{
+    let lines = whole_lines(alloc, keep, customer)?;
+    let count = lines.len() as u64;
+    if count > LARGEST_NUMBER {
+        return Err(Unkept);
+    }
+    let Some(sums) = total(lines.as_slice()) else {
+        return Err(Unkept);
+    };
+    append_customer(alloc, text, customer, count, &sums)?;
+    Ok(())
+}
+
+/// The manager's yield report of a site as comma-separated text (RFC 4180): a header, and a line
+/// for each of its customers, in the order of their names, with how many orders it has and the sums
+/// of the numbers of its orders. The keeper is read one row at a time; what is held are the lines of
+/// one customer, about 300 bytes an order, and the text.
+///
+/// `Err` is want of memory, a keeper's fault, records of an issuer that aren't in the order of
+/// their serial numbers, or a number past 9223372036854775807, and nothing else.
+pub fn site_report<K: Keep>(alloc: Global, keep: &mut K, site: &Site) -> Result<Vec<u8>, Unkept>
+    ensures { Reading K.Keep keep.old keep.new result (λ t text. IsSiteReport site.now t text.items) }
+{
+    ask_open(keep)?;
+    let names = customer_names(alloc, site)?;
+    let mut text = Vec::new(alloc);
+    append_site_header(alloc, &mut text)?;
+    for customer in &names {
+        append_line(alloc, keep, &mut text, customer)?;
+    }
+    Ok(text)
+}
