@@ -1,21 +1,21 @@
 -- What a request comes to, from what its parts came to.
-use Rattle.std.proofs.Common.{◌≡◌, ◌⊎◌, inl, inr, true, false, Option, Some, Result, Ok, Err, refl, sym, ap, subst, ◌∙◌}
+use Rattle.std.proofs.Common.{◌≡◌, ◌⊎◌, inl, inr, true, false, List, ℕ, Option, Some, Result, Ok, Err, refl, sym, ap, subst, ◌∙◌}
+use Rattle.std.specs.Prelude.{IfOk, OnErr}
 use Rattle.http_frames.specs.Frames.{Request as HttpRequest}
 use Rattle.http_replies.specs.Replies.{Answer, is_unavailable}
 use Rattle.site_core.specs.Section.{SiteValue}
-use Rattle.site_core.specs.Caller.{IsCaller, IsSeatCaller, section_at, seat_at}
-use Rattle.site_core.specs.declared.site.Caller.TheVariants.{Seat}
 use Rattle.site_core.specs.declared.site.Caller.{Caller}
 use Rattle.office_tables.specs.Tables.{Tables}
 use Rattle.office_commands.specs.declared.refusal.Refusal.{Refusal}
 use Rattle.office_commands.specs.declared.refusal.Refusal.TheVariants.{UnknownToken, UnknownPath, WrongCaller, BadJson, BadMember, WrongNumber, OtherBody, UnknownMap, UnknownOrder, UnknownDevice, WrongState, BadPlan, QuantityReached, CodingScheme, BadReadback, Exists, BadMap, BadSerial, NumberTooWide, Exhausted, NoMacRoom, RangeOverlap, KeyBound, ForeignIssuer, ImportConflict, MapDigestTaken, Limit, Unkept}
 use Rattle.office_commands.specs.Refusals.{refusal_status}
 use Rattle.office_commands.specs.Replies.{refusal}
-use Rattle.office_rules.specs.Office.{Step, Answers}
-use Rattle.office_core.proofs.Served.{answers}
-use Rattle.station_api.specs.Requests.{asked}
+use Rattle.office_tables.specs.Reading.{Reading}
+use Rattle.office_tables.specs.declared.keep.Keep.{Ghosts}
+use Rattle.office_tables.specs.declared.keep.Unkept.{Unkept as NoAnswer}
+use Rattle.station_api.specs.Requests.{asked, kind_of}
 use Rattle.station_api.specs.declared.parse.Parsed.{Parsed}
-use Rattle.station_api.specs.Machine.{caller_at, AnswersCaller, AnswersAny, StationAnswers, DeskSteps}
+use Rattle.station_api.specs.Machine.{AnswersAny, AnswersAsked, Asks, AnswersCaller, DeskSteps, Says, SaysAny, SaysAsked, StationAnswers, caller_at, reported}
 
 -- only one refusal is answered 503
 unavailable_is_unkept : (reason : Refusal) → is_unavailable (refusal_status reason) ≡ true → reason ≡ Unkept
@@ -48,58 +48,88 @@ unavailable_is_unkept MapDigestTaken e = cc
 unavailable_is_unkept Limit e = cc
 unavailable_is_unkept Unkept e = refl
 
-unkept_caller : (site : SiteValue) (caller : Caller) (r : HttpRequest) (t : Tables) (reply : Answer) → reply ≡ refusal Unkept → AnswersCaller site caller r t reply t
-unkept_caller site caller r t reply is =
+-- a reply of 503
+pub unkept_asked : (site : SiteValue) (caller : Caller) (wanted : Result Parsed Refusal) (t : Tables) (reply : Answer) → reply ≡ refusal Unkept → AnswersAsked site caller wanted t reply t
+unkept_asked site caller wanted t reply is =
     let unavailable : is_unavailable reply.status ≡ true = ap (λ (a : Answer). is_unavailable a.status) is in
     rw unavailable (is, refl)
 
-refused_asked : (site : SiteValue) (caller : Caller) (r : HttpRequest) (t : Tables) (reply : Answer) (reason : Refusal) → asked caller r ≡ Err reason → reply ≡ refusal reason → AnswersCaller site caller r t reply t
-refused_asked site caller r t reply reason wanted is =
-    elim (is_unavailable (refusal_status reason)) as (λ b. is_unavailable (refusal_status reason) ≡ b → AnswersCaller site caller r t reply t) [
-      | true ↦ λ e. unkept_caller site caller r t reply (is ∙ ap refusal (unavailable_is_unkept reason e))
+unkept_said : (wanted : Result Parsed Refusal) (reply : Answer) → reply ≡ refusal Unkept → SaysAsked wanted reply
+unkept_said (Ok parsed) reply is = tt
+unkept_said (Err reason) reply is = inr is
+
+refused_asked : (site : SiteValue) (caller : Caller) (wanted : Result Parsed Refusal) (t : Tables) (reply : Answer) (reason : Refusal) → wanted ≡ Err reason → reply ≡ refusal reason → AnswersAsked site caller wanted t reply t
+refused_asked site caller wanted t reply reason refused is =
+    elim (is_unavailable (refusal_status reason)) as (λ b. is_unavailable (refusal_status reason) ≡ b → AnswersAsked site caller wanted t reply t) [
+      | true ↦ λ e. unkept_asked site caller wanted t reply (is ∙ ap refusal (unavailable_is_unkept reason e))
       | false ↦ λ e.
           let served : is_unavailable reply.status ≡ false = ap (λ (a : Answer). is_unavailable a.status) is ∙ e in
-          rw (served, wanted) (is, refl)
+          rw (served, refused) (is, refl)
     ] refl
 
--- a request that isn't of its form
-pub refused_caller : (site : SiteValue) (caller : Caller) (r : HttpRequest) (t : Tables) (reply : Answer) (reason : Refusal)
-    → (Err reason ≡ asked caller r) ⊎ (◌≡◌ {A = Result Parsed Refusal} (Err reason) (Err Unkept)) → (reply ≡ refusal reason) ⊎ (reply ≡ refusal Unkept) → AnswersCaller site caller r t reply t
-refused_caller site caller r t reply reason wanted (inr is) = unkept_caller site caller r t reply is
-refused_caller site caller r t reply reason (inl wanted) (inl is) = refused_asked site caller r t reply reason (sym wanted) is
-refused_caller site caller r t reply reason (inr unkept) (inl is) = let same : reason ≡ Unkept = cc in unkept_caller site caller r t reply (is ∙ ap refusal same)
+-- a request that is refused as it came
+pub refused_caller : (site : SiteValue) (caller : Caller) (wanted : Result Parsed Refusal) (t : Tables) (reply : Answer) (reason : Refusal)
+    → (Err reason ≡ wanted) ⊎ (◌≡◌ {A = Result Parsed Refusal} (Err reason) (Err Unkept)) → (reply ≡ refusal reason) ⊎ (reply ≡ refusal Unkept) → AnswersAsked site caller wanted t reply t
+refused_caller site caller wanted t reply reason is (inr said) = unkept_asked site caller wanted t reply said
+refused_caller site caller wanted t reply reason (inl is) (inl said) = refused_asked site caller wanted t reply reason (sym is) said
+refused_caller site caller wanted t reply reason (inr unkept) (inl said) = let same : reason ≡ Unkept = cc in unkept_asked site caller wanted t reply (said ∙ ap refusal same)
+
+pub refused_said : (wanted : Result Parsed Refusal) (reply : Answer) (reason : Refusal)
+    → (Err reason ≡ wanted) ⊎ (◌≡◌ {A = Result Parsed Refusal} (Err reason) (Err Unkept)) → (reply ≡ refusal reason) ⊎ (reply ≡ refusal Unkept) → SaysAsked wanted reply
+refused_said wanted reply reason is (inr said) = unkept_said wanted reply said
+refused_said wanted reply reason (inl is) (inl said) = subst (λ w. SaysAsked w reply) is (inl said)
+refused_said wanted reply reason (inr unkept) (inl said) = let same : reason ≡ Unkept = cc in unkept_said wanted reply (said ∙ ap refusal same)
 
 pub asked_is : {A E : Type 0} (wanted : Result A E) (x : A) (e : E) → (Ok x ≡ wanted) ⊎ (Ok x ≡ Err e) → wanted ≡ Ok x
 asked_is wanted x e (inl is) = sym is
 asked_is wanted x e (inr is) = cc
 
--- a seat that asks is one of the site's, where the caller is
-pub is_seat : (site : SiteValue) (caller : Caller) (parsed : Parsed) → IsCaller site caller → caller ≡ Seat parsed.seat → IsSeatCaller site parsed.seat
-is_seat site caller parsed one same = rw same at one
-
--- an office's answer to what was asked
-pub answers_caller : (site : SiteValue) (caller : Caller) (r : HttpRequest) (parsed : Parsed) (t : Tables) (reply : Answer) (t2 : Tables)
-    → asked caller r ≡ Ok parsed → Answers (section_at site parsed.seat) (seat_at site parsed.seat) t parsed.request reply t2 → AnswersCaller site caller r t reply t2
-answers_caller site caller r parsed t reply t2 wanted answered = rw wanted answered
-
-pub step_answers : (site : SiteValue) (caller : Caller) (r : HttpRequest) (parsed : Parsed) (t : Tables) (reply : Answer) (t2 : Tables)
-    → asked caller r ≡ Ok parsed → Step (section_at site parsed.seat) (seat_at site parsed.seat) t parsed.request reply t2 → AnswersCaller site caller r t reply t2
-step_answers site caller r parsed t reply t2 wanted step =
-    answers_caller site caller r parsed t reply t2 wanted (answers (section_at site parsed.seat) (seat_at site parsed.seat) t parsed.request reply t2 step)
-
 -- a keeper that isn't asked
-pub unchanged : {K : Type 0} (is_open is_honest : K → Type 0) (may_leave : K → Tables → Type 0) (tables : K → Tables) (step : Tables → Answer → Tables → Type 0) (k : K) (reply : Answer)
-    → ((t : Tables) → step t reply t) → DeskSteps is_open is_honest may_leave tables step k reply k
-unchanged is_open is_honest may_leave tables step k reply same = record {
+pub unchanged : {K : Type 0} (is_open is_honest : K → Type 0) (may_leave : K → Tables → Type 0) (tables : K → Tables) (Said : Answer → Type 0) (step : Tables → Answer → Tables → Type 0) (k : K) (reply : Answer)
+    → Said reply → ((t : Tables) → step t reply t) → DeskSteps is_open is_honest may_leave tables Said step k reply k
+unchanged is_open is_honest may_leave tables Said step k reply said same = record {
   was_open = λ is. is;
   was_honest = λ honest. honest;
+  said = said;
   answered = λ _ t stands. (t, same t, stands);
   crash = λ _ t left. inl left;
 }
 
--- a request with the token of a seat
+-- a request with the token of a caller
 pub known_caller : {K : Type 0} (is_open is_honest : K → Type 0) (may_leave : K → Tables → Type 0) (tables : K → Tables) (site : SiteValue) (caller : Caller) (r : HttpRequest) (old : K) (reply : Answer) (new : K)
-    → caller_at site r ≡ Some caller → DeskSteps is_open is_honest may_leave tables (AnswersCaller site caller r) old reply new
-    → DeskSteps is_open is_honest may_leave tables (λ t. StationAnswers site t r) old reply new
+    → caller_at site r ≡ Some caller → DeskSteps is_open is_honest may_leave tables (SaysAsked (asked (kind_of caller) r)) (AnswersCaller site caller r) old reply new
+    → DeskSteps is_open is_honest may_leave tables (Says site r) (λ t. StationAnswers site t r) old reply new
 known_caller is_open is_honest may_leave tables site caller r old reply new is made =
-    subst (λ (found : Option Caller). DeskSteps is_open is_honest may_leave tables (λ t said t2. AnswersAny site found r t said t2) old reply new) (sym is) made
+    subst (λ (found : Option Caller). DeskSteps is_open is_honest may_leave tables (SaysAny found r) (λ t said t2. AnswersAny site found r t said t2) old reply new) (sym is) made
+
+-- a report is no 503
+pub report_answers : (site : SiteValue) (caller : Caller) (wanted : Result Parsed Refusal) (t : Tables) (reply : Answer) (text : List ℕ)
+    → reply ≡ reported text → Asks site caller wanted t reply t → AnswersAsked site caller wanted t reply t
+report_answers site caller wanted t reply text is asked_for =
+    let served : is_unavailable reply.status ≡ false = ap (λ (a : Answer). is_unavailable a.status) is in
+    rw served asked_for
+
+-- a report that is read by a keeper, and told
+module _ {K A : Type 0} (k : Ghosts K) (site : SiteValue) (caller : Caller) (parsed : Parsed) (bytes : A → List ℕ) (text : Tables → List ℕ) (Says : Tables → A → Type 0)
+    (says : (t : Tables) (v : A) → Says t v → bytes v ≡ text t)
+    (answers : (t : Tables) (reply : Answer) → reply ≡ reported (text t) → AnswersAsked site caller (Ok parsed) t reply t) where
+  pub report_told : (old new : K) (result : Result A NoAnswer) (reply : Answer) → Reading k old new result Says
+      → IfOk result (λ v. reply ≡ reported (bytes v)) → OnErr result (reply ≡ refusal Unkept)
+      → DeskSteps k.is_open k.is_honest k.may_leave k.tables (SaysAsked (Ok parsed)) (AnswersAsked site caller (Ok parsed)) old reply new
+  report_told old new (Ok v) reply read told none = record {
+    was_open = read.reads.was_open;
+    was_honest = read.reads.was_honest;
+    said = tt;
+    answered = λ honest t stands.
+        let opened = read.stays_open honest in
+        let is : bytes v ≡ text t = says (k.tables old) v (read.says opened) ∙ ap text (stands (read.reads.was_open opened)) in
+        (t, answers t reply (told ∙ ap reported is), (λ after. read.reads.same after ∙ stands (read.reads.was_open after)));
+    crash = λ honest t left. inl (read.reads.crash honest t left);
+  }
+  report_told old new (Err unkept) reply read told none = record {
+    was_open = read.reads.was_open;
+    was_honest = read.reads.was_honest;
+    said = tt;
+    answered = λ honest t stands. (t, unkept_asked site caller (Ok parsed) t reply none, (λ after. read.reads.same after ∙ stands (read.reads.was_open after)));
+    crash = λ honest t left. inl (read.reads.crash honest t left);
+  }

@@ -11,3 +11,5 @@ pub mod Ends
 pub mod Imports
 pub mod Requests
 pub mod Machine
+pub mod Own
+pub mod Books

@@ -1,9 +1,9 @@
 // Serves a stream of a site's callers.
-ghost use Rattle.std.specs.Prelude.{◌≡◌, ◌+◌, ◌<◌, ◌≤◌, ◌^◌, IfSome, IsSomeAnd, Some};
-ghost use Rattle.http_serving.specs.Streams.{Reaches, read_faults, write_faults};
-ghost use Rattle.office_tables.specs.Tables.{Tables};
-ghost use Rattle.office_tables.specs.Keeping.{Stands};
-ghost use Rattle.station_api.specs.Machine.{StationAnswers, ServesTables};
+ghost use Rattle.std.specs.Prelude.{◌≡◌, ◌+◌, ◌<◌, ◌≤◌, ◌^◌, List, Some};
+ghost use Rattle.http_frames.specs.Frames.{call_limit};
+ghost use Rattle.http_serving.specs.Streams.{Piece, Tells, read_faults, turns_of, write_faults};
+ghost use Rattle.station_api.specs.Books.{Leads};
+ghost use Rattle.station_api.specs.Machine.{AreSaid};
 
 use crate::desk::Desk;
 use http_frames::transfer::{Drain, Source};
@@ -15,10 +15,13 @@ use std::alloc::Global;
 /// Serves a stream until it ends, and answers how it did. It takes memory once for its buffer,
 /// before the first read, and none from a commit until that reply is written.
 ///
-/// Where the reader and the writer tell their bytes and the keeper's disk is honest, the stream
-/// begins with a list of requests and refused heads, each request is answered by a step of the
-/// office or by 503 with the tables as they were, the tables are those after these steps, and what
-/// was written is the replies' bytes: all of them where the stream ended, was closed or was cut.
+/// The stream is cut into pieces, requests and refused heads, where the reader and the writer tell
+/// their bytes: what was written is the bytes of their replies, all of them where the stream ended,
+/// was closed or was cut. Whatever the store does, a request without a known token gets 401, and one
+/// that is refused as it came gets its refusal or 503. Where the store's disk is honest, each request
+/// is answered by a step of the office, by a report or by 503 with the tables as they were, and the
+/// tables are those after these steps. Sound tables stay sound, nothing that they know is forgotten,
+/// and an identity gives what was nobody's.
 pub fn serve_stream<K: Keep, R: Source, W: Drain>(
     alloc: Global,
     keep: &mut K,
@@ -29,18 +32,19 @@ pub fn serve_stream<K: Keep, R: Source, W: Drain>(
     requires reader { R.calls reader.old + 2 ^ 25 < 2 ^ 64 }
     requires writer { W.calls writer.old + 2 ^ 25 < 2 ^ 64 }
     ensures was_honest { K.is_honest keep.new → K.is_honest keep.old }
-    ensures served { K.is_honest keep.new → (t : Tables) → Stands K.is_open K.tables keep.old t
-        → ServesTables (StationAnswers site.now) (Stands K.is_open K.tables keep.new) t
-        (R.left reader.old) (R.left reader.new) (W.written writer.old) (W.written writer.new) result }
-    ensures reaches { K.is_honest keep.new → (t : Tables) → Stands K.is_open K.tables keep.old t
-        → (t2 : Tables) × Reaches (StationAnswers site.now) t t2 × Stands K.is_open K.tables keep.new t2 }
-    ensures calls { R.calls reader.new + W.calls writer.new ≤ R.calls reader.old + W.calls writer.old + 16777216 }
-    ensures limit { result ≡ Served.TurnLimit → R.calls reader.new + W.calls writer.new ≡ R.calls reader.old + W.calls writer.old + 16777216 }
+    ensures run { (pieces : List Piece)
+        × Tells (R.left reader.old) (R.left reader.new) (W.written writer.old) (W.written writer.new) result pieces
+        × AreSaid site.now (turns_of pieces)
+        × Leads K.Keep site.now keep.old keep.new (turns_of pieces) }
+    ensures calls { R.calls reader.new + W.calls writer.new ≤ R.calls reader.old + W.calls writer.old + call_limit }
+    ensures limit { result ≡ Served.TurnLimit → R.calls reader.new + W.calls writer.new ≡ R.calls reader.old + W.calls writer.old + call_limit }
     ensures read_faults { R.failures reader.new ≡ R.failures reader.old + read_faults (Some result) }
     ensures write_faults { W.failures writer.new ≡ W.failures writer.old + write_faults (Some result) }
     ensures no_memory { result ≡ Served.NoMemory → (R.calls reader.new ≡ R.calls reader.old) × (W.calls writer.new ≡ W.calls writer.old) }
     ensures unserved { result ≡ Served.NoMemory → keep.new ≡ keep.old }
 {
+    // That the customers' sections are apart is known of each site that was read.
+    let _customers = site.customers();
     let desk = Desk { alloc, site };
     http_serving::serve_stream(alloc, &desk, keep, reader, writer)
 }

@@ -1,12 +1,12 @@
 -- What the result of a stream says of its end.
 use Rattle.std.proofs.Common.{◌≡◌, ◌⊎◌, ℕ, List, [], Option, Some, None, Result, Ok, Err, inl, inr, refl, sym, subst}
 use Rattle.std.specs.Prelude.{IfErr, IfOk}
-use Rattle.http_serving.specs.Streams.{Machine, read_faults, write_faults}
+use Rattle.http_serving.specs.Streams.{Tells, read_faults, write_faults}
 use Rattle.http_serving.specs.declared.Served.{Served}
 use Rattle.http_serving.specs.declared.Served.TheVariants.{Ended, Closed, Cut, ReadFault, WriteFault, TurnLimit, NoMemory}
+use Rattle.office_laws.proofs.Growing.{grows_itself}
 use Rattle.office_tables.specs.Tables.{Tables}
 use Rattle.site_core.specs.Section.{SiteValue}
-use Rattle.station_api.specs.Machine.{ServesTables, StationAnswers}
 use Rattle.text_core.specs.Answer.{GivesUnless}
 use Rattle.station_jobs.specs.Replaying.{IsOfStream, Replays, failed_reads, failed_writes}
 use Rattle.station_jobs.specs.Statuses.{end_of}
@@ -79,37 +79,30 @@ pub fails_behind : (P : Failure → Type 0) (result : Result Unit Failure) (serv
     → IfErr result (λ failure. P failure ⊎ IsOfStream failure)
 fails_behind P result served is = failing result IsOfStream (λ failure. P failure ⊎ IsOfStream failure) (λ failure h. inr h) (of_stream result served is)
 
--- a stream that was served, whatever stands then
-served_any : (step : Machine Tables) (Standing : Tables → Type 0) (t : Tables)
-    (left_old left_new written_old written_new : Option (List ℕ)) (served : Served)
-    → ServesTables step Standing t left_old left_new written_old written_new served
-    → ServesTables step (λ _. Unit {0}) t left_old left_new written_old written_new served
-served_any step Standing t None left_new written_old written_new served made = tt
-served_any step Standing t (Some stream) left_new None written_new served made = tt
-served_any step Standing t (Some stream) None (Some before) written_new served made = made
-served_any step Standing t (Some stream) (Some left) (Some before) None served made = made
-served_any step Standing t (Some stream) (Some left) (Some before) (Some written) served made = (made.0, made.1, tt)
-
 -- a stream that was served over a keeper of these tables, for the site that the bytes describe
-pub replays_site : (wanted : Result SiteValue Failure) (site : SiteValue) (Standing : Tables → Type 0) (t : Tables)
-    (left_old left_new written_old written_new : Option (List ℕ)) (served : Served) (result : Result Unit Failure)
-    → GivesUnless Failure.NoMemory (Ok site) wanted → result ≡ end_of served
-    → ServesTables (StationAnswers site) Standing t left_old left_new written_old written_new served
+pub replays_site : (wanted : Result SiteValue Failure) (site : SiteValue) (t : Tables)
+    (left_old left_new written_old written_new : Option (List ℕ)) (result : Result Unit Failure)
+    → GivesUnless Failure.NoMemory (Ok site) wanted
+    → Replays site t left_old left_new written_old written_new result
     → IfOk wanted (λ described. Replays described t left_old left_new written_old written_new result)
-replays_site (Ok described) site Standing t left_old left_new written_old written_new served result given is made = elim given [
+replays_site (Ok described) site t left_old left_new written_old written_new result given made = elim given [
   | inl same ↦
       let found : site ≡ described = cc in
-      subst (λ s. Replays s t left_old left_new written_old written_new result) found
-      (served, is, served_any (StationAnswers site) Standing t left_old left_new written_old written_new served made)
+      subst (λ s. Replays s t left_old left_new written_old written_new result) found made
   | inr none ↦ cc
 ]
-replays_site (Err failure) site Standing t left_old left_new written_old written_new served result given is made = tt
+replays_site (Err failure) site t left_old left_new written_old written_new result given made = tt
+
+-- what is told of a stream of which nothing was read
+tells_nothing : (left written : Option (List ℕ)) → Tells left left written written NoMemory []
+tells_nothing None written = tt
+tells_nothing (Some stream) None = tt
+tells_nothing (Some stream) (Some before) = (stream, refl, (refl, refl))
 
 -- a stream of which nothing was read, for want of memory
 replays_nothing : (site : SiteValue) (t : Tables) (left written : Option (List ℕ)) → Replays site t left left written written (Err Failure.NoMemory)
-replays_nothing site t None written = (NoMemory, refl, tt)
-replays_nothing site t (Some stream) None = (NoMemory, refl, tt)
-replays_nothing site t (Some stream) (Some before) = (NoMemory, refl, (t, ([], stream, (refl, refl), (refl, refl)), tt))
+replays_nothing site t left written =
+    (NoMemory, refl, [], tells_nothing left written, tt, t, refl, (λ sound. record { sound = sound; grows = grows_itself t; gives = refl }))
 
 -- the site that the bytes describe wasn't read
 pub replays_no_site : (wanted : Result SiteValue Failure) (failure : Failure) (t : Tables) (left written : Option (List ℕ)) (result : Result Unit Failure)

@@ -1,10 +1,11 @@
 -- A port that is listened on, and what becomes of the tables over its connections.
 use Rattle.std.specs.Prelude.{◌≡◌, ◌⊎◌, ℕ, ◌++◌, List, codes, decimal}
-use Rattle.http_serving.specs.Streams.{Reaches}
-use Rattle.office_tables.specs.Keeping.{Stands}
-use Rattle.office_tables.specs.Tables.{Tables}
+use Rattle.http_frames.specs.Frames.{Request}
+use Rattle.http_replies.specs.Replies.{Answer}
+use Rattle.office_tables.specs.declared.keep.Keep.{Ghosts}
 use Rattle.site_core.specs.Section.{SiteValue}
-use Rattle.station_api.specs.Machine.{StationAnswers}
+use Rattle.station_api.specs.Books.{Leads}
+use Rattle.station_api.specs.Machine.{AreSaid}
 use Rattle.station_jobs.specs.declared.failure.Failure.{Failure}
 use Rattle.station_jobs.specs.declared.failure.Failure.TheVariants.{ListenFailed, AcceptFailed, WriteFailed}
 
@@ -16,7 +17,6 @@ listening_line port = codes "listening on 127.0.0.1:" ++ decimal port
 abbrev pub IsOfPort : Failure → Type 0
 IsOfPort failure = (failure ≡ ListenFailed) ⊎ (failure ≡ WriteFailed) ⊎ (failure ≡ AcceptFailed)
 
--- the tables that stood lead to those that stand, by answers to requests of the site's callers
-abbrev pub LeadsOn : {K : Type 0} → SiteValue → (K → Type 0) → (K → Tables) → K → K → Type 0
-LeadsOn site is_open tables old new =
-    (t : Tables) → Stands is_open tables old t → (t2 : Tables) × Reaches (StationAnswers site) t t2 × Stands is_open tables new t2
+-- some requests were answered in turn, each as it has to be whatever the store does, and the tables that stood lead by them to those that stand
+abbrev pub LeadsOn : {K : Type 0} → Ghosts K → SiteValue → K → K → Type 0
+LeadsOn k site old new = (turns : List (Request × Answer)) × AreSaid site turns × Leads k site old new turns

@@ -1,28 +1,27 @@
 -- What a stream leads to, and what its result tells.
 use Rattle.std.specs.Prelude.{◌≡◌, ◌⊎◌, ℕ, List, Option, Result, Ok, Err}
+use Rattle.http_replies.specs.Runs.{Runs}
+use Rattle.http_serving.specs.Streams.{Piece, Tells, turns_of}
 use Rattle.http_serving.specs.declared.Served.{Served}
+use Rattle.office_laws.specs.Sound.{IsSound}
 use Rattle.office_store.specs.Faults.{fault_number}
 use Rattle.office_store.specs.declared.fault.OpenFault.{OpenFault}
-use Rattle.office_tables.specs.Keeping.{Stands}
 use Rattle.office_tables.specs.Tables.{Tables}
+use Rattle.site_core.specs.Owners.{owners_of}
 use Rattle.site_core.specs.Section.{SiteValue}
-use Rattle.station_api.specs.Machine.{ServesTables, StationAnswers}
+use Rattle.station_api.specs.Books.{IsKept}
+use Rattle.station_api.specs.Machine.{AreSaid, StationAnswers}
 use Rattle.station_jobs.specs.Statuses.{end_of}
 use Rattle.station_jobs.specs.declared.failure.Failure.{Failure}
 use Rattle.station_jobs.specs.declared.failure.Failure.TheVariants.{StoreFault, ReadFailed, WriteFailed, TurnLimit, NoMemory}
 
--- the tables that stood are served the stream and lead to those that stand, and the stream came to this end
-abbrev pub ServesOn : {K : Type 0} → SiteValue → (K → Type 0) → (K → Tables) → K → K
-    → Option (List ℕ) → Option (List ℕ) → Option (List ℕ) → Option (List ℕ) → Served → Type 0
-ServesOn site is_open tables old new left_old left_new written_old written_new served =
-    (t : Tables) → Stands is_open tables old t
-    → ServesTables (StationAnswers site) (Stands is_open tables new) t left_old left_new written_old written_new served
-
--- the stream was served from these tables on, and the result is what its end says
+-- a stream was served from these tables on, with its requests in turn, and the result is what its end says
 abbrev pub Replays : SiteValue → Tables → Option (List ℕ) → Option (List ℕ) → Option (List ℕ) → Option (List ℕ) → Result Unit Failure → Type 0
 Replays site t left_old left_new written_old written_new result =
-    (served : Served) × (result ≡ end_of served)
-    × ServesTables (StationAnswers site) (λ _. Unit {0}) t left_old left_new written_old written_new served
+    (served : Served) × (result ≡ end_of served) × (pieces : List Piece)
+    × Tells left_old left_new written_old written_new served pieces
+    × AreSaid site (turns_of pieces)
+    × (t2 : Tables) × Runs (StationAnswers site) t (turns_of pieces) t2 × (IsSound (owners_of site) t → IsKept site t (turns_of pieces) t2)
 
 -- a failure that the end of a stream says
 abbrev pub IsOfStream : Failure → Type 0

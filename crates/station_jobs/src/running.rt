@@ -1,12 +1,14 @@
 //! Does the jobs of the command line.
-ghost use Rattle.std.specs.Prelude.{◌≡◌, ◌≢◌, ◌+◌, ◌<◌, ◌≤◌, ◌^◌, ◌⊎◌, ◌++◌, ◌∷◌, [], IfOk, IfErr, IsErrAnd, MatchResult, OnOk};
+ghost use Rattle.std.specs.Prelude.{◌≡◌, ◌≢◌, ◌+◌, ◌<◌, ◌≤◌, ◌^◌, ◌⊎◌, ◌++◌, ◌∷◌, [], List, IfOk, IfErr, IsErrAnd, MatchResult, OnOk};
 ghost use Rattle.std.specs.Io.KnownBytes.{Appends, Keeps};
+ghost use Rattle.http_serving.specs.Streams.{Piece, Tells, turns_of};
 ghost use Rattle.http_serving.specs.declared.Served.{Served};
 ghost use Rattle.office_tables.specs.Tables.{no_rows};
+ghost use Rattle.station_api.specs.Books.{Leads};
+ghost use Rattle.station_api.specs.Machine.{AreSaid};
 ghost use Rattle.station_jobs.specs.FileText.{IsUnread};
-ghost use Rattle.station_jobs.specs.Listening.{LeadsOn};
 ghost use Rattle.station_jobs.specs.MapFile.{map_in, map_line};
-ghost use Rattle.station_jobs.specs.Replaying.{IsOfStream, Replays, ServesOn, failed_reads, failed_writes};
+ghost use Rattle.station_jobs.specs.Replaying.{IsOfStream, Replays, failed_reads, failed_writes};
 ghost use Rattle.station_jobs.specs.SiteFile.{site_in};
 ghost use Rattle.station_jobs.specs.Statuses.{end_of, line_of, status_of};
 
@@ -134,13 +136,12 @@ pub fn serve<K: Keep, R: Source, W: Drain>(
     requires reader { R.calls reader.old + 2 ^ 25 < 2 ^ 64 }
     requires writer { W.calls writer.old + 2 ^ 25 < 2 ^ 64 }
     ensures was_honest { K.is_honest keep.new → K.is_honest keep.old }
-    ensures reaches { K.is_honest keep.new → LeadsOn site.now K.is_open K.tables keep.old keep.new }
 
-    // The result is what an end of the stream says. Where the reader and the writer tell their
-    // bytes and the disk is honest, the stream came to that end, over this keeper.
-    ensures served { (served : Served) × (result ≡ end_of served) × (K.is_honest keep.new
-        → ServesOn site.now K.is_open K.tables keep.old keep.new (R.left reader.old)
-        (R.left reader.new) (W.written writer.old) (W.written writer.new) served) }
+    // The result is what an end of the stream says, and the stream came to that end, over this keeper.
+    ensures served { (served : Served) × (result ≡ end_of served) × (pieces : List Piece)
+        × Tells (R.left reader.old) (R.left reader.new) (W.written writer.old) (W.written writer.new) served pieces
+        × AreSaid site.now (turns_of pieces)
+        × Leads K.Keep site.now keep.old keep.new (turns_of pieces) }
     ensures calls { R.calls reader.new + W.calls writer.new
         ≤ R.calls reader.old + W.calls writer.old + 16777216 }
     ensures limit { result ≡ Err Failure.TurnLimit → R.calls reader.new + W.calls writer.new

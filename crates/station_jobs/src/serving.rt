@@ -112,7 +112,7 @@ fn serve_port<K: Keep, W: Write>(
     output: &mut W,
 ) -> Result<(), Failure<'static>>
     ensures was_honest { K.is_honest keep.new → K.is_honest keep.old }
-    ensures reaches { K.is_honest keep.new → LeadsOn site.now K.is_open K.tables keep.old keep.new }
+    ensures reaches { LeadsOn K.Keep site.now keep.old keep.new }
     ensures failed { IfErr result IsOfPort }
     ensures told { OnOk result (Appends (W.contents output.old) (W.contents output.new)
         (listening_line door.port ++ 10 ∷ [])) }
@@ -168,8 +168,9 @@ pub fn serve_connections<K: Keep>(
 ) -> Result<(), Failure<'static>>
     ensures was_honest { K.is_honest keep.new → K.is_honest keep.old }
 
-    // Whatever the connections said, the tables change by answers to requests alone.
-    ensures reaches { K.is_honest keep.new → LeadsOn site.now K.is_open K.tables keep.old keep.new }
+    // Whatever the connections said, the tables change by answers to requests alone, and sound ones
+    // are kept.
+    ensures reaches { LeadsOn K.Keep site.now keep.old keep.new }
     ensures failed { IfErr result (λ failure. failure ≡ Failure.AcceptFailed) }
 {
     let mut connections = Connections {
@@ -233,7 +234,7 @@ fn serve_accepted<K: Keep>(
 ) -> Result<(), Failure<'static>>
     requires { connections.old.accepted + count < 2 ^ 32 }
     ensures was_honest { K.is_honest keep.new → K.is_honest keep.old }
-    ensures reaches { K.is_honest keep.new → LeadsOn site.now K.is_open K.tables keep.old keep.new }
+    ensures reaches { LeadsOn K.Keep site.now keep.old keep.new }
 
     // No connection ends the others: so many are accepted, unless waiting for one fails.
     ensures counted { OnOk result (connections.new.accepted ≡ connections.old.accepted + count) }
@@ -255,7 +256,7 @@ fn serve_connection<K: Keep>(
     stream: &TcpStream,
 ) -> io::Result<Served>
     ensures was_honest { K.is_honest keep.new → K.is_honest keep.old }
-    ensures reaches { K.is_honest keep.new → LeadsOn site.now K.is_open K.tables keep.old keep.new }
+    ensures reaches { LeadsOn K.Keep site.now keep.old keep.new }
 {
     set_up(stream)?;
     let mut reader = Counted::new(stream);

@@ -4,7 +4,9 @@ use Rattle.station_jobs.proofs.Ending.{failed_reads_end, failed_writes_end, limi
 use Rattle.station_jobs.proofs.running.serve.Goals as goal
 
 pub returns-clause-served : goal.returns-clause-served
-returns-clause-served g c = (c.serve_stream.result, c.end_of.ensures, c.serve_stream.ensures.served)
+returns-clause-served g c =
+    let run = c.serve_stream.ensures.run in
+    (c.serve_stream.result, c.end_of.ensures, run.0, run.1, run.2, run.3)
 
 pub returns-clause-limit : goal.returns-clause-limit
 returns-clause-limit g c = λ is. c.serve_stream.ensures.limit (limit_end c.serve_stream.result (sym c.end_of.ensures ∙ is))

@@ -6,7 +6,7 @@ use Rattle.station_jobs.proofs.serving.serve_accepted.Goals as goal
 pub loop-turn-init : goal.loop-turn-init
 loop-turn-init g c = record {
   was_honest = λ honest. honest;
-  reaches = λ honest. leads_itself c.args.site.now g.K.Keep.is_open g.K.Keep.tables c.args.keep.now;
+  reaches = leads_itself g.K.Keep c.args.site.now c.args.keep.now;
   counted = search rules;
 }
 
@@ -16,8 +16,6 @@ loop-turn-preserved g c =
     let turn = c.serve_connection.ensures in
     record {
       was_honest = λ honest. seen.was_honest (turn.was_honest honest);
-      reaches = λ honest.
-          leads_both c.args.site.now g.K.Keep.is_open g.K.Keep.tables c.args.keep.now c.loop-turn.keep c.serve_connection.new.keep
-          (seen.reaches (turn.was_honest honest)) (turn.reaches honest);
+      reaches = leads_both g.K.Keep c.args.site.now c.args.keep.now c.loop-turn.keep c.serve_connection.new.keep turn.was_honest seen.reaches turn.reaches;
       counted = search rules;
     }

@@ -6,6 +6,6 @@ use Rattle.station_jobs.proofs.serving.serve_accepted.Given as goal
 abbrev pub invariant-loop-turn : goal.invariant-loop-turn
 invariant-loop-turn g l = record {
   was_honest : g.K.Keep.is_honest l.keep → g.K.Keep.is_honest l.fn.keep;
-  reaches : g.K.Keep.is_honest l.keep → LeadsOn l.fn.site g.K.Keep.is_open g.K.Keep.tables l.fn.keep l.keep;
+  reaches : LeadsOn g.K.Keep l.fn.site l.fn.keep l.keep;
   counted : l.connections.accepted ≡ l.fn.connections.accepted + l._turn;
 }

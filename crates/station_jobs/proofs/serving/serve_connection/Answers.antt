@@ -3,4 +3,4 @@ use Rattle.station_jobs.proofs.Leading.{leads_itself}
 use Rattle.station_jobs.proofs.serving.serve_connection.Goals as goal
 
 pub returns-in_err-set_up-clause-reaches : goal.returns-in_err-set_up-clause-reaches
-returns-in_err-set_up-clause-reaches g c = λ honest. leads_itself c.args.site.now g.K.Keep.is_open g.K.Keep.tables c.args.keep.now
+returns-in_err-set_up-clause-reaches g c = leads_itself g.K.Keep c.args.site.now c.args.keep.now
