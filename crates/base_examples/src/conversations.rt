@@ -1,13 +1,15 @@
 //! Conversations with the server: texts of requests, each with the reply that it must get.
 //!
 //! The line of a request is its caller, the method, the target and the body, and the line after it is
-//! the status and the body of the reply. Empty lines and those that begin with `#` say nothing.
+//! the status and the body of the reply. That of a report is `csv` and its text, with `|` for each line
+//! feed. Empty lines and those that begin with `#` say nothing.
 pub mod devices;
 pub mod identities;
 pub mod maps;
 pub mod orders;
 mod placeholders;
 pub mod plans;
+pub mod reports;
 
 pub use placeholders::filled;
 use placeholders::filled_bytes;
@@ -68,11 +70,23 @@ pub fn request(alloc: Global, line: &str) -> Result<Vec<u8>, Fail> {
 /// The line isn't of a reply, or memory runs out.
 pub fn reply(alloc: Global, line: &str) -> Result<String, Fail> {
     let (status, body) = line.split_once(" ").ok_or("no status")?;
+    if status == "csv" {
+        return report(alloc, body);
+    }
     let phrase = listed(PHRASES, status).ok_or("no such status")?;
     let body = filled(alloc, body)?;
     let size = body.len();
     Ok(format!(in alloc;
         "HTTP/1.1 {status} {phrase}\r\nContent-Type: application/json\r\nContent-Length: {size}\r\n\r\n{body}"
+    )?)
+}
+
+/// The bytes of the reply with a report.
+fn report(alloc: Global, lines: &str) -> Result<String, Fail> {
+    let text = lines.replace(alloc, "|", "\n")?;
+    let size = text.len();
+    Ok(format!(in alloc;
+        "HTTP/1.1 200 OK\r\nContent-Type: text/csv\r\nContent-Length: {size}\r\n\r\n{text}"
     )?)
 }
 

@@ -31,6 +31,7 @@ use base_examples::conversations::identities::IDENTITIES;
 use base_examples::conversations::maps::MAPS;
 use base_examples::conversations::orders::ORDERS;
 use base_examples::conversations::plans::PLANS;
+use base_examples::conversations::reports::REPORTS;
 use base_examples::samples::{MAP, SITE};
 use office_core::MemKeep;
 use station_api::Served;
@@ -90,6 +91,13 @@ fn plans_and_read_backs_get_their_replies(rt: HostRuntime) -> Result<(), Fail> {
 #[test]
 fn identities_and_imports_get_their_replies(rt: HostRuntime) -> Result<(), Fail> {
     let found = first_of_each(rt.alloc(), IDENTITIES)?;
+    assert_eq!(rt; found.as_str(), "");
+    Ok(())
+}
+
+#[test]
+fn reports_get_their_replies(rt: HostRuntime) -> Result<(), Fail> {
+    let found = first_of_each(rt.alloc(), REPORTS)?;
     assert_eq!(rt; found.as_str(), "");
     Ok(())
 }
