@@ -13,11 +13,12 @@ use Rattle.office_tables.specs.Tables.{Tables}
 use Rattle.office_commands.specs.declared.refusal.Refusal.{Refusal}
 use Rattle.office_commands.specs.declared.refusal.Refusal.TheVariants.{UnknownToken}
 use Rattle.office_commands.specs.Replies.{refusal}
-use Rattle.office_core.proofs.Served.{step_is_served}
+use Rattle.office_runs.proofs.Served.{step_is_served}
 use Rattle.office_laws.specs.Sound.{IsSound}
 use Rattle.office_laws.proofs.Steps.{step_exists}
 use Rattle.yield_report.specs.Reports.{order_report_in, site_report_in}
-use Rattle.station_api.specs.Machine.{AnswersAny, AnswersAsked, Asks, StationAnswers, caller_at, reported}
+use Rattle.station_api.specs.Machine.{AnswersAny, AnswersAsked, Asks, StationAnswers, caller_at}
+use Rattle.office_runs.specs.Exchanges.{reported}
 use Rattle.station_api.specs.Requests.{asked, of_manager, of_seat}
 use Rattle.station_api.specs.declared.parse.Parsed.{Parsed}
 use Rattle.station_api.specs.declared.parse.Parsed.TheVariants.{Office, Report, SiteReport}

@@ -1,10 +1,13 @@
 -- What a request comes to, from what its parts came to.
 use Rattle.std.proofs.Common.{◌≡◌, ◌⊎◌, inl, inr, true, false, List, ℕ, Option, Some, Result, Ok, Err, refl, sym, ap, subst, ◌∙◌}
 use Rattle.std.specs.Prelude.{IfOk, OnErr}
+use Rattle.std.specs.List.{AllByRecursion}
 use Rattle.http_frames.specs.Frames.{Request as HttpRequest}
 use Rattle.http_replies.specs.Replies.{Answer, is_unavailable}
+use Rattle.site_core.specs.Caller.{seat_at, section_at}
 use Rattle.site_core.specs.Section.{SiteValue}
 use Rattle.site_core.specs.declared.site.Caller.{Caller}
+use Rattle.site_core.specs.declared.site.Caller.TheVariants.{Seat, Manager}
 use Rattle.office_tables.specs.Tables.{Tables}
 use Rattle.office_commands.specs.declared.refusal.Refusal.{Refusal}
 use Rattle.office_commands.specs.declared.refusal.Refusal.TheVariants.{UnknownToken, UnknownPath, WrongCaller, BadJson, BadMember, WrongNumber, OtherBody, UnknownMap, UnknownOrder, UnknownDevice, WrongState, BadPlan, QuantityReached, CodingScheme, BadReadback, Exists, BadMap, BadSerial, NumberTooWide, Exhausted, NoMacRoom, RangeOverlap, KeyBound, ForeignIssuer, ImportConflict, MapDigestTaken, Limit, Unkept}
@@ -13,9 +16,12 @@ use Rattle.office_commands.specs.Replies.{refusal}
 use Rattle.office_tables.specs.Reading.{Reading}
 use Rattle.office_tables.specs.declared.keep.Keep.{Ghosts}
 use Rattle.office_tables.specs.declared.keep.Unkept.{Unkept as NoAnswer}
+use Rattle.office_runs.specs.Exchanges.{Exchange, reported}
+use Rattle.office_runs.proofs.Leaving.{SettlesNone, leaves_unsettled, settles_none}
 use Rattle.station_api.specs.Requests.{asked, kind_of}
 use Rattle.station_api.specs.declared.parse.Parsed.{Parsed}
-use Rattle.station_api.specs.Machine.{AnswersAny, AnswersAsked, Asks, AnswersCaller, DeskSteps, Says, SaysAny, SaysAsked, StationAnswers, caller_at, reported}
+use Rattle.station_api.specs.Machine.{AnswersAny, AnswersAsked, Asks, AnswersCaller, DeskSteps, Says, SaysAny, SaysAsked, StationAnswers, caller_at}
+use Rattle.station_api.specs.Own.{exchange_any, exchange_asked, exchange_of}
 
 -- only one refusal is answered 503
 unavailable_is_unkept : (reason : Refusal) → is_unavailable (refusal_status reason) ≡ true → reason ≡ Unkept
@@ -84,23 +90,46 @@ pub asked_is : {A E : Type 0} (wanted : Result A E) (x : A) (e : E) → (Ok x �
 asked_is wanted x e (inl is) = sym is
 asked_is wanted x e (inr is) = cc
 
+-- a request that is refused as it came settles nothing
+pub refused_settles : (site : SiteValue) (caller : Caller) (wanted : Result Parsed Refusal)
+    (reply : Answer) (reason : Refusal)
+    → (Err reason ≡ wanted) ⊎ (◌≡◌ {A = Result Parsed Refusal} (Err reason) (Err Unkept))
+    → (reply ≡ refusal reason) ⊎ (reply ≡ refusal Unkept)
+    → AllByRecursion SettlesNone (exchange_asked site caller wanted reply)
+refused_settles site Manager wanted reply reason is said = tt
+refused_settles site (Seat caller) wanted reply reason (inl is) said =
+    (subst (λ (w : Result Parsed Refusal). SettlesNone (exchange_of (section_at site caller) (seat_at site caller) w reply)) is refl, tt)
+refused_settles site (Seat caller) wanted reply reason (inr unkept) said =
+    (settles_none (exchange_of (section_at site caller) (seat_at site caller) wanted reply) (unavailable said), tt)
+  where
+    unavailable : (reply ≡ refusal reason) ⊎ (reply ≡ refusal Unkept) → is_unavailable reply.status ≡ true
+    unavailable (inl is) = let same : reason ≡ Unkept = cc in ap (λ (a : Answer). is_unavailable a.status) (is ∙ ap refusal same)
+    unavailable (inr is) = ap (λ (a : Answer). is_unavailable a.status) is
+
 -- a keeper that isn't asked
-pub unchanged : {K : Type 0} (is_open is_honest : K → Type 0) (may_leave : K → Tables → Type 0) (tables : K → Tables) (Said : Answer → Type 0) (step : Tables → Answer → Tables → Type 0) (k : K) (reply : Answer)
-    → Said reply → ((t : Tables) → step t reply t) → DeskSteps is_open is_honest may_leave tables Said step k reply k
-unchanged is_open is_honest may_leave tables Said step k reply said same = record {
+pub unchanged : {K : Type 0} (k : Ghosts K) (Said : Answer → Type 0) (exchanges : Answer → List Exchange)
+    (step : Tables → Answer → Tables → Type 0) (keep : K) (reply : Answer)
+    → Said reply → AllByRecursion SettlesNone (exchanges reply) → ((t : Tables) → step t reply t)
+    → DeskSteps k Said exchanges step keep reply keep
+unchanged k Said exchanges step keep reply said unsettled same = record {
   was_open = λ is. is;
   was_honest = λ honest. honest;
   said = said;
-  answered = λ _ t stands. (t, same t, stands);
-  crash = λ _ t left. inl left;
+  answered = λ _ t stands. (
+    t,
+    same t,
+    leaves_unsettled (exchanges reply) t t (k.may_leave keep) (k.may_leave keep) unsettled refl (λ left is. is),
+    stands,
+  );
 }
 
 -- a request with the token of a caller
-pub known_caller : {K : Type 0} (is_open is_honest : K → Type 0) (may_leave : K → Tables → Type 0) (tables : K → Tables) (site : SiteValue) (caller : Caller) (r : HttpRequest) (old : K) (reply : Answer) (new : K)
-    → caller_at site r ≡ Some caller → DeskSteps is_open is_honest may_leave tables (SaysAsked (asked (kind_of caller) r)) (AnswersCaller site caller r) old reply new
-    → DeskSteps is_open is_honest may_leave tables (Says site r) (λ t. StationAnswers site t r) old reply new
-known_caller is_open is_honest may_leave tables site caller r old reply new is made =
-    subst (λ (found : Option Caller). DeskSteps is_open is_honest may_leave tables (SaysAny found r) (λ t said t2. AnswersAny site found r t said t2) old reply new) (sym is) made
+pub known_caller : {K : Type 0} (k : Ghosts K) (site : SiteValue) (caller : Caller) (r : HttpRequest) (old : K) (reply : Answer) (new : K)
+    → caller_at site r ≡ Some caller
+    → DeskSteps k (SaysAsked (asked (kind_of caller) r)) (exchange_asked site caller (asked (kind_of caller) r)) (AnswersCaller site caller r) old reply new
+    → DeskSteps k (Says site r) (λ said. exchange_any site (caller_at site r) r said) (λ t. StationAnswers site t r) old reply new
+known_caller k site caller r old reply new is made =
+    subst (λ (found : Option Caller). DeskSteps k (SaysAny found r) (λ said. exchange_any site found r said) (λ t said t2. AnswersAny site found r t said t2) old reply new) (sym is) made
 
 -- a report is no 503
 pub report_answers : (site : SiteValue) (caller : Caller) (wanted : Result Parsed Refusal) (t : Tables) (reply : Answer) (text : List ℕ)
@@ -111,25 +140,33 @@ report_answers site caller wanted t reply text is asked_for =
 
 -- a report that is read by a keeper, and told
 module _ {K A : Type 0} (k : Ghosts K) (site : SiteValue) (caller : Caller) (parsed : Parsed) (bytes : A → List ℕ) (text : Tables → List ℕ) (Says : Tables → A → Type 0)
+    (unsettled : (reply : Answer) → AllByRecursion SettlesNone (exchange_asked site caller (Ok parsed) reply))
     (says : (t : Tables) (v : A) → Says t v → bytes v ≡ text t)
     (answers : (t : Tables) (reply : Answer) → reply ≡ reported (text t) → AnswersAsked site caller (Ok parsed) t reply t) where
   pub report_told : (old new : K) (result : Result A NoAnswer) (reply : Answer) → Reading k old new result Says
       → IfOk result (λ v. reply ≡ reported (bytes v)) → OnErr result (reply ≡ refusal Unkept)
-      → DeskSteps k.is_open k.is_honest k.may_leave k.tables (SaysAsked (Ok parsed)) (AnswersAsked site caller (Ok parsed)) old reply new
+      → DeskSteps k (SaysAsked (Ok parsed)) (exchange_asked site caller (Ok parsed)) (AnswersAsked site caller (Ok parsed)) old reply new
   report_told old new (Ok v) reply read told none = record {
     was_open = read.reads.was_open;
     was_honest = read.reads.was_honest;
     said = tt;
     answered = λ honest t stands.
         let opened = read.stays_open honest in
-        let is : bytes v ≡ text t = says (k.tables old) v (read.says opened) ∙ ap text (stands (read.reads.was_open opened)) in
-        (t, answers t reply (told ∙ ap reported is), (λ after. read.reads.same after ∙ stands (read.reads.was_open after)));
-    crash = λ honest t left. inl (read.reads.crash honest t left);
+        let is : bytes v ≡ text t = says (k.tables old) v (read.says opened) ∙ ap text (stands (read.reads.was_open opened)) in (
+          t,
+          answers t reply (told ∙ ap reported is),
+          leaves_unsettled (exchange_asked site caller (Ok parsed) reply) t t (k.may_leave old) (k.may_leave new) (unsettled reply) refl (read.reads.crash honest),
+          (λ after. read.reads.same after ∙ stands (read.reads.was_open after)),
+        );
   }
   report_told old new (Err unkept) reply read told none = record {
     was_open = read.reads.was_open;
     was_honest = read.reads.was_honest;
     said = tt;
-    answered = λ honest t stands. (t, unkept_asked site caller (Ok parsed) t reply none, (λ after. read.reads.same after ∙ stands (read.reads.was_open after)));
-    crash = λ honest t left. inl (read.reads.crash honest t left);
+    answered = λ honest t stands. (
+      t,
+      unkept_asked site caller (Ok parsed) t reply none,
+      leaves_unsettled (exchange_asked site caller (Ok parsed) reply) t t (k.may_leave old) (k.may_leave new) (unsettled reply) refl (read.reads.crash honest),
+      (λ after. read.reads.same after ∙ stands (read.reads.was_open after)),
+    );
   }

@@ -6,9 +6,7 @@ mod Identities
 pub mod KeptRuns
 mod Members
 mod NameTexts
-mod OwnAnswers
-mod OwnReports
-mod OwnRequests
+mod OwnCalls
 mod OwnTokens
 mod Streaming
 pub mod Wishes

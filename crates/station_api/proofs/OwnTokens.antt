@@ -24,8 +24,12 @@ use Rattle.site_core.proofs.Callers.{caller_of-one}
 use Rattle.site_core.proofs.Owners.{IsDistinct-by_key, apart_in_pieces}
 use Rattle.office_rules.proofs.Ties.{same_text}
 use Rattle.station_api.specs.Machine.{caller_at}
-use Rattle.station_api.specs.Own.{is_own, own_seat}
+use Rattle.station_api.specs.Own.{own_seat}
 use Rattle.station_api.proofs.Members.{bound}
+
+-- a request carries the token of one of the customer's seats
+abbrev pub has_seat : Section → HttpRequest → Bool
+has_seat s r = is_some (own_seat s r)
 
 -- the caller of a request is one of the site
 pub caller_one : (site : SiteValue) (r : HttpRequest) (caller : Caller) → caller_at site r ≡ Some caller → IsCaller site caller
@@ -93,7 +97,7 @@ module _ (site : SiteValue) (w : IsSite site) (place : ℕ) (low : place < lengt
   abbrev mine : Section
   mine = section_in site.customers place
 
-  abbrev seat_name : ℕ → List ℕ
+  abbrev pub seat_name : ℕ → List ℕ
   seat_name seat = (slice_index_or mine.seats seat no_seat).name
 
   abbrev seat_here : ℕ → SeatCaller
@@ -116,7 +120,7 @@ module _ (site : SiteValue) (w : IsSite site) (place : ℕ) (low : place < lengt
       first = place_at (has_seat_with digest) site.customers place no_section low (list_any_at (has_token digest) mine.seats p no_seat at.0 at.1) earlier
 
   -- an own request is that of the customer's seat
-  pub own_caller : (r : HttpRequest) → is_own mine r ≡ true → (p : ℕ) × (caller_at site r ≡ Some (Seat (seat_here p))) × (own_seat mine r ≡ Some (seat_name p))
+  pub own_caller : (r : HttpRequest) → has_seat mine r ≡ true → (p : ℕ) × (caller_at site r ≡ Some (Seat (seat_here p))) × (own_seat mine r ≡ Some (seat_name p))
   own_caller r own = by_token (token_of (headers_of r.head)) own
     where
       by_seat : (digest : List ℕ) (seat : Option ℕ) → seat_with digest mine ≡ seat → is_some (option_map seat_name seat) ≡ true
@@ -139,7 +143,7 @@ module _ (site : SiteValue) (w : IsSite site) (place : ℕ) (low : place < lengt
   ]
 
   -- and a request that is not own is that of another customer's seat, of the manager or of nobody
-  pub other_caller : (r : HttpRequest) → is_own mine r ≡ false → (caller : Caller) → caller_at site r ≡ Some caller → IsOther site mine.name caller
+  pub other_caller : (r : HttpRequest) → has_seat mine r ≡ false → (caller : Caller) → caller_at site r ≡ Some caller → IsOther site mine.name caller
   other_caller r apart Manager is = tt
   other_caller r apart (Seat caller) is = by_token (token_of (headers_of r.head)) apart is
     where

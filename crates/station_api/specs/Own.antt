@@ -1,46 +1,62 @@
--- A customer's own machine over requests as they came. It knows the customer's section of the site alone, and no row or request of anybody else.
-use Rattle.std.specs.Prelude.{ℕ, Bool, List, Option, Some, None, is_some, option_and_then, option_map, Result, Ok, Err, slice_index_or}
+-- Requests as they came, as calls of seats.
+use Rattle.std.specs.Prelude.{ℕ, not, List, [], ◌∷◌, filter, flat_map, Option, Some, None, option_and_then, option_map, Result, Ok, Err, slice_index_or}
 use Rattle.sha2.specs.Sha256.{sha256}
 use Rattle.http_fields.specs.Fields.{token_of}
 use Rattle.http_frames.specs.Frames.{Request as HttpRequest, headers_of}
-use Rattle.http_replies.specs.Replies.{Answer}
-use Rattle.site_core.specs.Caller.{no_seat, seat_with}
-use Rattle.site_core.specs.Section.{Section}
+use Rattle.http_replies.specs.Replies.{Answer, is_unavailable}
+use Rattle.site_core.specs.Caller.{no_seat, seat_at, seat_with, section_at}
+use Rattle.site_core.specs.Section.{Section, SiteValue}
+use Rattle.site_core.specs.declared.site.Caller.{Caller}
+use Rattle.site_core.specs.declared.site.Caller.TheVariants.{Seat, Manager}
 use Rattle.office_commands.specs.declared.refusal.Refusal.{Refusal}
-use Rattle.office_commands.specs.declared.refusal.Refusal.TheVariants.{UnknownToken, WrongCaller}
-use Rattle.office_commands.specs.Replies.{refusal}
-use Rattle.office_laws.specs.Solo.{State, has_given, solo}
-use Rattle.yield_report.specs.Texts.{order_report_text}
-use Rattle.station_api.specs.Machine.{reported}
-use Rattle.station_api.specs.Requests.{asked, of_seat}
+use Rattle.office_commands.specs.declared.refusal.Refusal.TheVariants.{WrongCaller}
+use Rattle.office_runs.specs.Exchanges.{Exchange, Wanted, asks, reports, refused}
+use Rattle.station_api.specs.Machine.{caller_at}
+use Rattle.station_api.specs.Requests.{asked, kind_of, of_seat}
 use Rattle.station_api.specs.declared.parse.Parsed.{Parsed}
 use Rattle.station_api.specs.declared.parse.Parsed.TheVariants.{Office, Report, SiteReport}
 
--- the customer's seat whose token a request carries
+-- what is wanted by what a seat asks for: the manager's report is no seat's
+abbrev pub wanted_of : Result Parsed Refusal → Wanted
+wanted_of (Ok (Office request)) = asks request
+wanted_of (Ok Report) = reports
+wanted_of (Ok SiteReport) = refused WrongCaller
+wanted_of (Err reason) = refused reason
+
+-- the call of a seat that asks for this, with its reply
+abbrev pub exchange_of : Section → List ℕ → Result Parsed Refusal → Answer → Exchange
+exchange_of s seat wanted reply = (record { section = s; seat = seat; wanted = wanted_of wanted }, reply)
+
+-- the seat of a customer whose token a request carries, by the customer's section alone
 abbrev pub own_seat : Section → HttpRequest → Option (List ℕ)
 own_seat s r =
     option_map (λ place. (slice_index_or s.seats place no_seat).name)
     (option_and_then (λ token. seat_with (sha256 token) s) (token_of (headers_of r.head)))
 
--- a request is the customer's own where it carries the token of one of the customer's seats: the manager's are nobody's own, nor are those without a known token
-abbrev pub is_own : Section → HttpRequest → Bool
-is_own s r = is_some (own_seat s r)
+-- the exchange with this seat, if there is one
+abbrev pub own_exchange : Section → Option (List ℕ) → HttpRequest → Answer → List Exchange
+own_exchange s None r reply = []
+own_exchange s (Some seat) r reply = exchange_of s seat (asked of_seat r) reply ∷ []
 
--- the report of the customer's orders, by the customer's own rows
-abbrev pub own_report : State → List ℕ
-own_report state = order_report_text (has_given state) state.orders state.devices
+-- a customer's own exchanges, by the customer's section alone: those with the customer's seats, in turn, but for those answered 503
+abbrev pub own_exchanges : Section → List (HttpRequest × Answer) → List Exchange
+own_exchanges s turns =
+    filter (λ x. not (is_unavailable x.1.status)) (flat_map (λ turn. own_exchange s (own_seat s turn.0) turn.0 turn.1) turns)
 
--- what a seat asks for is refused, done, or told. The manager's report is no seat's
-abbrev pub own_asked : Section → List ℕ → State → Result Parsed Refusal → Answer × State
-own_asked s seat state (Err reason) = (refusal reason, state)
-own_asked s seat state (Ok (Office request)) = solo s seat state request
-own_asked s seat state (Ok Report) = (reported (own_report state), state)
-own_asked s seat state (Ok SiteReport) = (refusal WrongCaller, state)
+-- the exchange with a caller who asks for this: the manager's is no customer's
+abbrev pub exchange_asked : SiteValue → Caller → Result Parsed Refusal → Answer → List Exchange
+exchange_asked site (Seat caller) wanted reply = exchange_of (section_at site caller) (seat_at site caller) wanted reply ∷ []
+exchange_asked site Manager wanted reply = []
 
-abbrev pub own_answers_as : Option (List ℕ) → Section → State → HttpRequest → Answer × State
-own_answers_as None s state r = (refusal UnknownToken, state)
-own_answers_as (Some seat) s state r = own_asked s seat state (asked of_seat r)
+-- and one without the token of a caller is nobody's
+abbrev pub exchange_any : SiteValue → Option Caller → HttpRequest → Answer → List Exchange
+exchange_any site None r reply = []
+exchange_any site (Some caller) r reply = exchange_asked site caller (asked (kind_of caller) r) reply
 
--- the answer to a request, and the state after it
-abbrev pub own_answers : Section → State → HttpRequest → Answer × State
-own_answers s state r = own_answers_as (own_seat s r) s state r
+-- the exchange with the seat whose token a request carries, if there is one
+abbrev pub exchange_in : SiteValue → HttpRequest × Answer → List Exchange
+exchange_in site turn = exchange_any site (caller_at site turn.0) turn.0 turn.1
+
+-- the exchanges with the seats of a site, in turn
+abbrev pub exchanges_in : SiteValue → List (HttpRequest × Answer) → List Exchange
+exchanges_in site turns = flat_map (exchange_in site) turns

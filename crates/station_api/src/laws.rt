@@ -1,37 +1,53 @@
-// A law of requests as they came, over definitions alone.
-ghost use Rattle.std.specs.Prelude.{◌≡◌, ◌<◌, ℕ, length, false, true};
+// Laws of requests as they came, over definitions alone.
+ghost use Rattle.std.specs.Prelude.{◌≡◌, ◌<◌, ℕ, List, length, false};
 ghost use Rattle.http_frames.specs.Frames.{Request as HttpRequest};
 ghost use Rattle.http_replies.specs.Replies.{Answer, is_unavailable};
+ghost use Rattle.http_replies.specs.Runs.{Runs};
 ghost use Rattle.site_core.specs.Caller.{section_in};
 ghost use Rattle.site_core.specs.Owners.{owners_of};
-ghost use Rattle.site_core.specs.Section.{SiteValue};
+ghost use Rattle.site_core.specs.Section.{Section, SiteValue};
 ghost use Rattle.site_core.specs.Site.{IsSite};
 ghost use Rattle.office_laws.specs.Sound.{IsSound};
 ghost use Rattle.office_laws.specs.View.{view};
+ghost use Rattle.office_runs.specs.Exchanges.{calls_of, replies_of};
 ghost use Rattle.office_tables.specs.Tables.{Tables};
-ghost use Rattle.station_api.specs.Books.{KeepsBooks};
+ghost use Rattle.station_api.specs.Books.{IsKept};
 ghost use Rattle.station_api.specs.Machine.{StationAnswers};
-ghost use Rattle.station_api.specs.Own.{is_own, own_answers};
+ghost use Rattle.station_api.specs.Own.{own_exchanges};
 
-/// A request is a customer's own where it carries the token of one of the customer's seats. From sound
-/// tables, an own request that isn't answered 503 acts on the customer's view as the customer's own
-/// machine does, which knows of nobody else; every other request leaves the view, and so does a 503,
-/// which changes nothing. The tables stay sound, nothing that they know is forgotten, and an identity
-/// gives what was nobody's. And to each request there is an answer that isn't 503.
-pub fn requests_are_the_customers_own()
-    ensures own { (site : SiteValue) (place : ℕ) (t : Tables) (r : HttpRequest) (reply : Answer) (t2 : Tables)
-        → IsSite site → place < length site.customers → IsSound (owners_of site) t → StationAnswers site t r reply t2
-        → is_own (section_in site.customers place) r ≡ true → is_unavailable reply.status ≡ false
-        → (reply, view (section_in site.customers place).name t2) ≡ own_answers (section_in site.customers place) (view (section_in site.customers place).name t) r }
-    ensures other { (site : SiteValue) (place : ℕ) (t : Tables) (r : HttpRequest) (reply : Answer) (t2 : Tables)
-        → IsSite site → place < length site.customers → IsSound (owners_of site) t → StationAnswers site t r reply t2
-        → is_own (section_in site.customers place) r ≡ false
-        → view (section_in site.customers place).name t2 ≡ view (section_in site.customers place).name t }
-    ensures unavailable { (site : SiteValue) (t : Tables) (r : HttpRequest) (reply : Answer) (t2 : Tables)
-        → StationAnswers site t r reply t2 → is_unavailable reply.status ≡ true → t2 ≡ t }
-    ensures kept { (site : SiteValue) (t : Tables) (r : HttpRequest) (reply : Answer) (t2 : Tables)
-        → IsSite site → IsSound (owners_of site) t → StationAnswers site t r reply t2 → KeepsBooks site t r reply t2 }
-    ensures always { (site : SiteValue) (t : Tables) (r : HttpRequest)
+/// Requests that are answered in turn from sound tables keep the books: all that is promised of a
+/// run holds of their exchanges with the site's seats. Each customer's own exchanges are those whose
+/// requests carry the token of one of the customer's seats, but for those answered 503; the replies
+/// in them and the customer's rows are those of the customer's own machine, run on them alone.
+pub fn requests_keep_the_books()
+    ensures { (site : SiteValue) (turns : List (HttpRequest × Answer)) (t t2 : Tables)
+        → IsSite site → IsSound (owners_of site) t → Runs (StationAnswers site) t turns t2
+        → IsKept site t turns t2 }
+{}
+
+/// Under two sites with the same section of a customer, from tables in which the customer's rows are
+/// the same, with the same own calls that weren't answered 503, the customer gets the same replies
+/// and has the same rows after, whatever else was asked for.
+pub fn other_requests_make_no_difference()
+    ensures { (section : Section)
+        (site : SiteValue) (place : ℕ) (turns : List (HttpRequest × Answer)) (t t2 : Tables)
+        (other : SiteValue) (there : ℕ) (others : List (HttpRequest × Answer)) (u u2 : Tables)
+        → IsSite site → place < length site.customers
+        → section_in site.customers place ≡ section
+        → IsSound (owners_of site) t → Runs (StationAnswers site) t turns t2
+        → IsSite other → there < length other.customers
+        → section_in other.customers there ≡ section
+        → IsSound (owners_of other) u → Runs (StationAnswers other) u others u2
+        → view section.name t ≡ view section.name u
+        → calls_of (own_exchanges section turns) ≡ calls_of (own_exchanges section others)
+        → (replies_of (own_exchanges section turns) ≡ replies_of (own_exchanges section others))
+        × (view section.name t2 ≡ view section.name u2) }
+{}
+
+/// From sound tables there is an answer to each request that isn't 503.
+pub fn requests_have_answers()
+    ensures { (site : SiteValue) (t : Tables) (r : HttpRequest)
         → IsSite site → IsSound (owners_of site) t
-        → (reply : Answer) × (t2 : Tables) × StationAnswers site t r reply t2 × (is_unavailable reply.status ≡ false) }
+        → (reply : Answer) × (t2 : Tables) × StationAnswers site t r reply t2
+        × (is_unavailable reply.status ≡ false) }
 {}

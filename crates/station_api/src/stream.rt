@@ -18,10 +18,15 @@ use std::alloc::Global;
 /// The stream is cut into pieces, requests and refused heads, where the reader and the writer tell
 /// their bytes: what was written is the bytes of their replies, all of them where the stream ended,
 /// was closed or was cut. Whatever the store does, a request without a known token gets 401, and one
-/// that is refused as it came gets its refusal or 503. Where the store's disk is honest, each request
-/// is answered by a step of the office, by a report or by 503 with the tables as they were, and the
-/// tables are those after these steps. Sound tables stay sound, nothing that they know is forgotten,
-/// and an identity gives what was nobody's.
+/// that is refused as it came gets its refusal or 503.
+///
+/// Where the store's disk is honest, each request is answered by a step of the office, by a report or
+/// by 503 with the tables as they were; the tables are those after these steps; and a crash leaves
+/// them, or those after one step more, of a request that was answered 503 since a request of the
+/// office was last answered otherwise. From sound tables, the tables stay sound; each customer's
+/// replies and rows are those of the customer's own machine, run on the customer's own requests
+/// alone; nothing that was burnt is forgotten, and what is given stays; no identity gives what
+/// another gave; and a request that comes again acts once.
 pub fn serve_stream<K: Keep, R: Source, W: Drain>(
     alloc: Global,
     keep: &mut K,
@@ -33,14 +38,19 @@ pub fn serve_stream<K: Keep, R: Source, W: Drain>(
     requires writer { W.calls writer.old + 2 ^ 25 < 2 ^ 64 }
     ensures was_honest { K.is_honest keep.new → K.is_honest keep.old }
     ensures run { (pieces : List Piece)
-        × Tells (R.left reader.old) (R.left reader.new) (W.written writer.old) (W.written writer.new) result pieces
+        × Tells (R.left reader.old) (R.left reader.new)
+        (W.written writer.old) (W.written writer.new) result pieces
         × AreSaid site.now (turns_of pieces)
         × Leads K.Keep site.now keep.old keep.new (turns_of pieces) }
-    ensures calls { R.calls reader.new + W.calls writer.new ≤ R.calls reader.old + W.calls writer.old + call_limit }
-    ensures limit { result ≡ Served.TurnLimit → R.calls reader.new + W.calls writer.new ≡ R.calls reader.old + W.calls writer.old + call_limit }
+    ensures calls { R.calls reader.new + W.calls writer.new
+        ≤ R.calls reader.old + W.calls writer.old + call_limit }
+    ensures limit { result ≡ Served.TurnLimit
+        → R.calls reader.new + W.calls writer.new
+        ≡ R.calls reader.old + W.calls writer.old + call_limit }
     ensures read_faults { R.failures reader.new ≡ R.failures reader.old + read_faults (Some result) }
     ensures write_faults { W.failures writer.new ≡ W.failures writer.old + write_faults (Some result) }
-    ensures no_memory { result ≡ Served.NoMemory → (R.calls reader.new ≡ R.calls reader.old) × (W.calls writer.new ≡ W.calls writer.old) }
+    ensures no_memory { result ≡ Served.NoMemory
+        → (R.calls reader.new ≡ R.calls reader.old) × (W.calls writer.new ≡ W.calls writer.old) }
     ensures unserved { result ≡ Served.NoMemory → keep.new ≡ keep.old }
 {
     // That the customers' sections are apart is known of each site that was read.

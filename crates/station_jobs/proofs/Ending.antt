@@ -4,9 +4,9 @@ use Rattle.std.specs.Prelude.{IfErr, IfOk}
 use Rattle.http_serving.specs.Streams.{Tells, read_faults, write_faults}
 use Rattle.http_serving.specs.declared.Served.{Served}
 use Rattle.http_serving.specs.declared.Served.TheVariants.{Ended, Closed, Cut, ReadFault, WriteFault, TurnLimit, NoMemory}
-use Rattle.office_laws.proofs.Growing.{grows_itself}
 use Rattle.office_tables.specs.Tables.{Tables}
 use Rattle.site_core.specs.Section.{SiteValue}
+use Rattle.station_api.proofs.KeptRuns.{kept_none}
 use Rattle.text_core.specs.Answer.{GivesUnless}
 use Rattle.station_jobs.specs.Replaying.{IsOfStream, Replays, failed_reads, failed_writes}
 use Rattle.station_jobs.specs.Statuses.{end_of}
@@ -102,7 +102,7 @@ tells_nothing (Some stream) (Some before) = (stream, refl, (refl, refl))
 -- a stream of which nothing was read, for want of memory
 replays_nothing : (site : SiteValue) (t : Tables) (left written : Option (List ℕ)) → Replays site t left left written written (Err Failure.NoMemory)
 replays_nothing site t left written =
-    (NoMemory, refl, [], tells_nothing left written, tt, t, refl, (λ sound. record { sound = sound; grows = grows_itself t; gives = refl }))
+    (NoMemory, refl, [], tells_nothing left written, tt, t, refl, (λ sound. kept_none site t sound))
 
 -- the site that the bytes describe wasn't read
 pub replays_no_site : (wanted : Result SiteValue Failure) (failure : Failure) (t : Tables) (left written : Option (List ℕ)) (result : Result Unit Failure)

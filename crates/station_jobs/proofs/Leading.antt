@@ -1,23 +1,19 @@
 -- How the tables that stand are led on by one stream after another.
-use Rattle.std.proofs.Common.{List, [], ◌∷◌, ◌++◌, refl}
+use Rattle.std.proofs.Common.{List, [], ◌∷◌, ◌++◌, refl, sym, subst}
+use Rattle.std.proofs.lemmas.Grind.{flat_map-append}
 use Rattle.http_frames.specs.Frames.{Request}
 use Rattle.http_replies.specs.Replies.{Answer}
 use Rattle.http_replies.proofs.RunLemmas.{runs_both}
-use Rattle.office_laws.proofs.Growing.{grows_both, grows_itself}
-use Rattle.office_tables.specs.Tables.{Tables}
+use Rattle.office_runs.specs.Exchanges.{Exchange}
+use Rattle.office_runs.specs.Stops.{LeavesAfter}
+use Rattle.office_runs.proofs.Leaving.{leaves_joined, leaves_none}
 use Rattle.office_tables.specs.declared.keep.Keep.{Ghosts}
 use Rattle.site_core.specs.Section.{SiteValue}
-use Rattle.station_api.specs.Books.{Gives, IsKept}
+use Rattle.site_core.specs.Site.{IsSite}
 use Rattle.station_api.specs.Machine.{AreSaid, StationAnswers}
+use Rattle.station_api.specs.Own.{exchange_in, exchanges_in}
+use Rattle.station_api.proofs.KeptRuns.{kept, kept_none}
 use Rattle.station_jobs.specs.Listening.{LeadsOn}
-
--- sound tables are kept by one run and then by another
-kept_both : (site : SiteValue) (t mid t2 : Tables) (first second : List (Request × Answer)) → IsKept site t first mid → IsKept site mid second t2 → IsKept site t (first ++ second) t2
-kept_both site t mid t2 first second one other = record {
-  sound = other.sound;
-  grows = grows_both t mid t2 one.grows other.grows;
-  gives = runs_both (λ before r reply after. StationAnswers site before r reply after × Gives site before r reply after) t first mid second t2 one.gives other.gives;
-}
 
 said_both : (site : SiteValue) (first second : List (Request × Answer)) → AreSaid site first → AreSaid site second → AreSaid site (first ++ second)
 said_both site [] second one other = other
@@ -26,20 +22,26 @@ said_both site (turn ∷ turns) second one other = (one.0, said_both site turns 
 -- no stream leads to the tables that stood
 pub leads_itself : {K : Type 0} (k : Ghosts K) (site : SiteValue) (keep : K) → LeadsOn k site keep keep
 leads_itself k site keep =
-    ([], tt, (λ honest t stands. (t, refl, stands, (λ sound. record { sound = sound; grows = grows_itself t; gives = refl }))))
+    ([], tt, (λ honest t stands. (t, refl, leaves_none (k.may_leave keep) t, stands, (λ sound. kept_none site t sound))))
 
 -- streams, and then others
-pub leads_both : {K : Type 0} (k : Ghosts K) (site : SiteValue) (old middle new : K) → (k.is_honest new → k.is_honest middle)
+pub leads_both : {K : Type 0} (k : Ghosts K) (site : SiteValue) (old middle new : K) → IsSite site
+    → (k.is_honest new → k.is_honest middle)
     → LeadsOn k site old middle → LeadsOn k site middle new → LeadsOn k site old new
-leads_both k site old middle new was_honest first second = (
+leads_both k site old middle new w was_honest first second = (
   first.0 ++ second.0,
   said_both site first.0 second.0 first.1 second.1,
   (λ honest t stands.
       let before = first.2 (was_honest honest) t stands in
-      let after = second.2 honest before.0 before.2 in (
+      let after = second.2 honest before.0 before.3 in
+      let run = runs_both (StationAnswers site) t first.0 before.0 second.0 after.0 before.1 after.1 in (
         after.0,
-        runs_both (StationAnswers site) t first.0 before.0 second.0 after.0 before.1 after.1,
-        after.2,
-        (λ sound. let kept = before.3 sound in kept_both site t before.0 after.0 first.0 second.0 kept (after.3 kept.sound)),
+        run,
+        subst (λ (xs : List Exchange). LeavesAfter xs (k.may_leave old) t (k.may_leave new) after.0)
+            (sym (flat_map-append (exchange_in site) first.0 second.0))
+            (leaves_joined (exchanges_in site first.0) (exchanges_in site second.0) (k.may_leave old)
+            (k.may_leave middle) (k.may_leave new) t before.0 after.0 before.2 after.2),
+        after.3,
+        (λ sound. kept site w (first.0 ++ second.0) t after.0 sound run),
       )),
 )

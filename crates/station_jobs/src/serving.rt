@@ -168,8 +168,8 @@ pub fn serve_connections<K: Keep>(
 ) -> Result<(), Failure<'static>>
     ensures was_honest { K.is_honest keep.new → K.is_honest keep.old }
 
-    // Whatever the connections said, the tables change by answers to requests alone, and sound ones
-    // are kept.
+    // Whatever the connections said, the tables change by answers to requests alone, a crash leaves
+    // what a stop may leave, and from sound tables the books are kept over all connections.
     ensures reaches { LeadsOn K.Keep site.now keep.old keep.new }
     ensures failed { IfErr result (λ failure. failure ≡ Failure.AcceptFailed) }
 {
@@ -240,6 +240,8 @@ fn serve_accepted<K: Keep>(
     ensures counted { OnOk result (connections.new.accepted ≡ connections.old.accepted + count) }
     ensures failed { IfErr result (λ failure. failure ≡ Failure.AcceptFailed) }
 {
+    // That the customers' sections are apart is known of each site that was read.
+    let _customers = site.customers();
     for _turn in 0..count {
         let stream = connections.accept()?;
         let _ = serve_connection(alloc, keep, site, &stream);

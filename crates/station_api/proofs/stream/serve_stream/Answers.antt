@@ -1,16 +1,16 @@
 -- Why `stream::serve_stream` meets its contract, where that has to be said.
 use Rattle.http_serving.specs.Streams.{turns_of}
 use Rattle.station_api.specs.Machine.{Says, StationAnswers}
+use Rattle.station_api.specs.Own.{exchange_in}
 use Rattle.station_api.proofs.KeptRuns.{kept}
 use Rattle.station_api.proofs.Streaming.{runs_honest, runs_said, runs_tables}
 use Rattle.station_api.proofs.stream.serve_stream.Goals as goal
 
 pub returns-clause-was_honest : goal.returns-clause-was_honest
 returns-clause-was_honest g c = λ honest.
-    let k = g.K.Keep in
     let site = c.args.site.now in
     let made = c.serve_stream.ensures.run in
-    runs_honest k.is_open k.is_honest k.may_leave k.tables (Says site) (StationAnswers site) (turns_of made.0) c.args.keep.now c.serve_stream.new.state made.2 honest
+    runs_honest g.K.Keep (Says site) (exchange_in site) (StationAnswers site) (turns_of made.0) c.args.keep.now c.serve_stream.new.state made.2 honest
 
 pub returns-clause-run : goal.returns-clause-run
 returns-clause-run g c =
@@ -22,8 +22,8 @@ returns-clause-run g c =
     let new = c.serve_stream.new.state in (
       made.0,
       made.1,
-      runs_said k.is_open k.is_honest k.may_leave k.tables (Says site) (StationAnswers site) turns old new made.2,
+      runs_said k (Says site) (exchange_in site) (StationAnswers site) turns old new made.2,
       (λ honest t stands.
-          let over = runs_tables k.is_open k.is_honest k.may_leave k.tables (Says site) (StationAnswers site) turns old new made.2 honest t stands in
-          (over.0, over.1, over.2, (λ sound. kept site c.customers-customers.ensures.site turns t over.0 sound over.1))),
+          let over = runs_tables k (Says site) (exchange_in site) (StationAnswers site) turns old new made.2 honest t stands in
+          (over.0, over.1, over.2, over.3, (λ sound. kept site c.customers-customers.ensures.site turns t over.0 sound over.1))),
     )

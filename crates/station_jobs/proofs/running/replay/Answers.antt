@@ -29,4 +29,4 @@ returns-clause-served g c =
     c.in_ok-bytes.ensures.read
     (replays_site (site_in c.args.name c.in_ok-bytes.bytes.items) c.in_ok-site.site no_rows left_old left_new written_old written_new c.serve.result
     (rw c.as_slice.ensures.value at c.in_ok-site.ensures)
-    (let led = served.5 tt no_rows (λ _. c.new-keep.ensures) in (served.0, served.1, served.2, served.3, served.4, led.0, led.1, led.3)))
+    (let led = served.5 tt no_rows (λ _. c.new-keep.ensures) in (served.0, served.1, served.2, served.3, served.4, led.0, led.1, led.4)))

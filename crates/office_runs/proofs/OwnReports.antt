@@ -12,7 +12,7 @@ use Rattle.office_laws.specs.View.{at_first, view}
 use Rattle.office_laws.proofs.Readings.{own_given}
 use Rattle.yield_report.specs.Reports.{has_given_in, order_report_in}
 use Rattle.yield_report.specs.Texts.{order_header, order_line, report_text}
-use Rattle.station_api.specs.Own.{own_report}
+use Rattle.office_runs.specs.Alone.{own_report}
 
 -- an order's line, by the serial numbers that are given in its issuer
 abbrev line_with : List Device → Order → (List ℕ → Bool) → List (List ℕ)

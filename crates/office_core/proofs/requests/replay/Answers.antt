@@ -1,0 +1,30 @@
+-- Why `requests::replay` meets its contract, where that has to be said.
+use Rattle.std.proofs.Common.{◌≡◌, ◌∙◌, ◌++◌, List, length, sym, ap}
+use Rattle.std.proofs.lemmas.List.{length-map}
+use Rattle.http_replies.specs.declared.Reply.{Reply}
+use Rattle.site_core.specs.Owners.{owners_of}
+use Rattle.office_runs.proofs.Promising.{promises}
+use Rattle.office_runs.proofs.Seats.{all_seats}
+use Rattle.office_core.specs.Replaying.{call_of, calls_in, exchanges_in}
+use Rattle.office_core.proofs.Replaying.{exchanges_calls}
+use Rattle.office_core.proofs.requests.replay.Goals as goal
+
+pub returns-clause-count : goal.returns-clause-count
+returns-clause-count g c =
+    let run = c.answer_all.ensures.run in
+    let is : c.answer_all.new.replies.items ≡ run.0 = run.1 ∙ ap (λ (rs : List Reply). rs ++ run.0) c.in_ok-replies.ensures.items in
+    ap length is ∙ run.2
+
+pub returns-clause-run : goal.returns-clause-run
+returns-clause-run g c = λ honest t stands.
+    let run = c.answer_all.ensures.run in
+    let is : c.answer_all.new.replies.items ≡ run.0 = run.1 ∙ ap (λ (rs : List Reply). rs ++ run.0) c.in_ok-replies.ensures.items in
+    let site = c.args.site.now in
+    let owners = owners_of site in
+    let calls = calls_in site c.args.requests.now in
+    let made = run.3 honest t stands in
+    let each = exchanges_calls calls run.0 (run.2 ∙ sym (length-map c.args.requests.now (call_of site))) in (
+      made.0,
+      rw is made.1,
+      (λ sound. rw is (promises owners (exchanges_in site c.args.requests.now run.0) owners t made.0 sound (rw each (all_seats owners calls c.answer_all.ensures.seats)) made.1.run)),
+    )

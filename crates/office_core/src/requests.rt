@@ -1,0 +1,94 @@
+// Lists of requests, one after another.
+ghost use Rattle.std.specs.Prelude.{◌≡◌, ◌+◌, ◌≤◌, ◌++◌, All, List, length, IsOk, IfOk, OnErr};
+ghost use Rattle.std.specs.List.{AllByRecursion};
+ghost use Rattle.std.specs.Vec.{vec_capacity, vec_len};
+ghost use Rattle.http_replies.specs.declared.Reply.{Reply as AReply};
+ghost use Rattle.site_core.specs.Caller.{IsSeatCaller};
+ghost use Rattle.site_core.specs.Owners.{AreApart, owners_of};
+ghost use Rattle.office_tables.specs.Keeping.{Stands};
+ghost use Rattle.office_tables.specs.Tables.{Tables};
+ghost use Rattle.office_runs.specs.Growth.{IsSeat};
+ghost use Rattle.office_core.specs.Replaying.{Answered, KeepsPromises, call_of, calls_in, exchanges_in};
+
+use crate::office::answer;
+use http_replies::Reply;
+use office_commands::Request;
+use office_tables::{Keep, Unkept};
+use site_core::{SeatCaller, Site};
+use std::alloc::Global;
+
+/// A request of a seat of a site.
+#[derive(Drop)]
+pub struct SeatRequest {
+    pub caller: SeatCaller,
+    pub request: Request,
+}
+
+/// The caller is a seat of the site, and asks for what a seat can ask for.
+fn seat_asks(site: &Site, asked: &SeatRequest)
+    requires { IsSeatCaller site.now asked.now.caller }
+    ensures apart { AreApart (owners_of site.now) }
+    ensures seat { IsSeat (owners_of site.now) (call_of site.now asked.now) }
+{
+    asked.request.ranges();
+    let _customer = site.customer(asked.caller);
+}
+
+/// Answers requests one after another, where there is room for the replies.
+fn answer_all<K: Keep>(
+    alloc: Global,
+    keep: &mut K,
+    site: &Site,
+    requests: &[SeatRequest],
+    replies: &mut Vec<Reply>,
+) -> Result<(), Unkept>
+    requires callers { All (λ asked. IsSeatCaller site.now asked.caller) requests.now }
+    requires room { vec_len replies.old + length requests.now ≤ vec_capacity replies.old }
+    ensures ok { IsOk result }
+    ensures was_open { K.is_open keep.new → K.is_open keep.old }
+    ensures was_honest { K.is_honest keep.new → K.is_honest keep.old }
+    ensures seats { AllByRecursion (λ c. AreApart (owners_of site.now) × IsSeat (owners_of site.now) c)
+        (calls_in site.now requests.now) }
+    ensures run { (added : List AReply)
+        × (replies.new.items ≡ replies.old.items ++ added)
+        × (length added ≡ length requests.now)
+        × (K.is_honest keep.new → (t : Tables) → Stands K.is_open K.tables keep.old t
+        → (t2 : Tables)
+        × Answered K.Keep keep.old keep.new (exchanges_in site.now requests.now added) t t2) }
+{
+    for asked in requests {
+        seat_asks(site, asked);
+        replies.push(answer(alloc, keep, site, asked.caller, &asked.request))?;
+    }
+    Ok(())
+}
+
+/// Answers requests of a site's seats, one after another. It takes room for all replies first, and
+/// answers `Err`, with nothing changed, only where that is refused; any later failure is that
+/// request's 503.
+///
+/// Where the store is honest, the replies are those of a run of the office. From sound tables, the
+/// tables stay sound; each customer's replies and rows are those of the customer's own machine, run
+/// on the customer's own requests alone; nothing that was burnt is forgotten, and what is given
+/// stays; no identity gives what another gave; and a request that comes again acts once. A crash
+/// after the last reply leaves the tables of the run, or those after one step more, of a request
+/// that was answered 503 since the last other reply.
+pub fn replay<K: Keep>(
+    alloc: Global,
+    keep: &mut K,
+    site: &Site,
+    requests: &[SeatRequest],
+) -> Result<Vec<Reply>, Unkept>
+    requires { All (λ asked. IsSeatCaller site.now asked.caller) requests.now }
+    ensures was_open { K.is_open keep.new → K.is_open keep.old }
+    ensures was_honest { K.is_honest keep.new → K.is_honest keep.old }
+    ensures err { OnErr result (keep.new ≡ keep.old) }
+    ensures count { IfOk result (λ replies. length replies.items ≡ length requests.now) }
+    ensures run { IfOk result (λ replies.
+        KeepsPromises K.Keep site.now keep.old keep.new
+        (exchanges_in site.now requests.now replies.items)) }
+{
+    let mut replies = Vec::with_capacity(alloc, requests.len())?;
+    answer_all(alloc, keep, site, requests, &mut replies)?;
+    Ok(replies)
+}
