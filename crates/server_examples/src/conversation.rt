@@ -10,8 +10,25 @@ use station_api::{Served, serve_stream};
 use std::alloc::Global;
 use std::test::Fail;
 
-/// Serves a stream that comes in pieces of `step` bytes for the sample site: how it ended, and what
+/// Serves a stream that comes in pieces of `step` bytes for the site of a text: how it ended, and what
 /// was written.
+pub fn serve_for<K: Keep>(
+    alloc: Global,
+    keep: &mut K,
+    site: &str,
+    stream: &[u8],
+    step: usize,
+) -> Result<(Served, Written), Fail>
+    requires { 0 < step }
+{
+    let site = read_site(alloc, site)?;
+    let mut reader = Pieces::new(stream, step);
+    let mut writer = Written::new(Vec::new(alloc), 4096);
+    let served = serve_stream(alloc, keep, &site, &mut reader, &mut writer);
+    Ok((served, writer))
+}
+
+/// The same for the sample site.
 pub fn serve<K: Keep>(
     alloc: Global,
     keep: &mut K,
@@ -20,11 +37,7 @@ pub fn serve<K: Keep>(
 ) -> Result<(Served, Written), Fail>
     requires { 0 < step }
 {
-    let site = read_site(alloc, SITE)?;
-    let mut reader = Pieces::new(stream, step);
-    let mut writer = Written::new(Vec::new(alloc), 4096);
-    let served = serve_stream(alloc, keep, &site, &mut reader, &mut writer);
-    Ok((served, writer))
+    serve_for(alloc, keep, SITE, stream, step)
 }
 
 /// What a request gets where it isn't the reply that it must get: nothing where it is, and the stream
@@ -44,19 +57,29 @@ pub fn exchange<K: Keep>(
     Ok(found)
 }
 
-/// Holds a conversation: the first request that doesn't get its reply, and what it got.
-pub fn first_difference<K: Keep>(
+/// Makes exchanges, a stream for each: the first request that doesn't get its reply, and what it got.
+pub fn first_difference_of<K: Keep>(
     alloc: Global,
     keep: &mut K,
-    conversation: &str,
+    exchanges: &[(&str, &str)],
 ) -> Result<String, Fail> {
-    for (asked, wanted) in exchanges(alloc, conversation)? {
+    for (asked, wanted) in exchanges {
         let found = exchange(alloc, keep, asked, wanted)?;
         if !found.is_empty() {
             return Ok(found);
         }
     }
     Ok(String::new(alloc))
+}
+
+/// Holds a conversation: the first request that doesn't get its reply, and what it got.
+pub fn first_difference<K: Keep>(
+    alloc: Global,
+    keep: &mut K,
+    conversation: &str,
+) -> Result<String, Fail> {
+    let exchanges = exchanges(alloc, conversation)?;
+    first_difference_of(alloc, keep, exchanges.as_slice())
 }
 
 /// Whether an exchange ended with 503 or without a reply.
@@ -83,28 +106,24 @@ pub fn first_difference_after_want<K: Keep>(
     Ok(String::new(alloc))
 }
 
-/// Holds two conversations in turns, `a` for the next request of the first and `b` for one of the
+/// The exchanges of two conversations in turns, `a` for the next of the first and `b` for one of the
 /// other.
-pub fn first_difference_in_turns<K: Keep>(
+pub fn in_turns<'a>(
     alloc: Global,
-    keep: &mut K,
-    first: &str,
-    other: &str,
+    first: &'a str,
+    other: &'a str,
     turns: &str,
-) -> Result<String, Fail> {
+) -> Result<Vec<(&'a str, &'a str)>, Fail> {
     let mut first = exchanges(alloc, first)?.into_iter();
     let mut other = exchanges(alloc, other)?.into_iter();
+    let mut both = Vec::new(alloc);
     for turn in turns.chars() {
         let next = if turn == 'a' {
             first.next()
         } else {
             other.next()
         };
-        let (asked, wanted) = next.ok_or("no request is left")?;
-        let found = exchange(alloc, keep, asked, wanted)?;
-        if !found.is_empty() {
-            return Ok(found);
-        }
+        both.push(next.ok_or("no exchange is left")?)?;
     }
-    Ok(String::new(alloc))
+    Ok(both)
 }

@@ -12,20 +12,25 @@ pub type SqlMemory = SqlKeep<MemStore>;
 
 /// A keeper that an example can begin with.
 pub trait Fresh: Keep + Drop {
-    /// A keeper of no rows.
-    fn fresh(alloc: Global) -> Result<Self, Fail>;
+    /// A keeper of no rows for the site of a text.
+    fn of_site(alloc: Global, site: &str) -> Result<Self, Fail>;
+
+    /// A keeper of no rows for the sample site.
+    fn fresh(alloc: Global) -> Result<Self, Fail> {
+        Self::of_site(alloc, SITE)
+    }
 }
 
 impl Fresh for MemKeep {
-    fn fresh(alloc: Global) -> Result<MemKeep, Fail> {
+    fn of_site(alloc: Global, _site: &str) -> Result<MemKeep, Fail> {
         Ok(MemKeep::new(alloc))
     }
 }
 
 impl Fresh for SqlMemory {
-    fn fresh(alloc: Global) -> Result<SqlMemory, Fail> {
+    fn of_site(alloc: Global, site: &str) -> Result<SqlMemory, Fail> {
         let conn = Connection::open_in_memory(alloc)?;
-        Ok(adopted(alloc, conn, SITE)?)
+        Ok(adopted(alloc, conn, site)?)
     }
 }
 

@@ -17,9 +17,15 @@ mod digests;
 #[cfg(test)]
 mod disks;
 #[cfg(test)]
+mod isolation;
+#[cfg(test)]
 mod jobs;
 #[cfg(test)]
 mod keepers;
+#[cfg(test)]
+mod lists;
+#[cfg(test)]
+mod parts;
 #[cfg(test)]
 mod replays;
 #[cfg(test)]

@@ -1,19 +1,19 @@
 //! The examples over both keepers, and those of the program.
 use crate::chips::chips_are_visited;
 use crate::connections::{ORDERED_LAST, replies_in_turn};
-use crate::conversation::{
-    first_difference, first_difference_after_want, first_difference_in_turns,
-};
+use crate::conversation::{first_difference, first_difference_after_want};
 use crate::counting::CountingKeep;
 use crate::damage::{DAMAGES, first_lost_of, refuses_another_head};
 use crate::digests::has_taken_digest;
 use crate::disks::{SqlFiles, first_difference_opened_anew};
+use crate::isolation::{TURNS, first_beside_orders, first_of_shared_map, first_of_turns};
 use crate::jobs::{
     BROKEN, FILES, LINE_LENGTH, LINES, LONG_ENDS, LONG_FILES, SITE_NAMES, UNREAD, WRITE_FAILED,
     is_replayed, line_of_check, line_of_replay, outcome_of_line, tells_unread, with_samples,
     write_long_file, written,
 };
 use crate::keepers::{Fresh, SqlMemory};
+use crate::parts::{first_of_parts, first_strange_part};
 use crate::replays::{RUNS, is_written, make_files_of_runs, make_folder};
 use crate::seats::{LAST_REQUESTS, digest_after, first_after_greatest};
 use crate::stores::{
@@ -26,7 +26,7 @@ use crate::streams::{
     stops_where_the_reader_fails, stops_where_the_writer_does,
 };
 use crate::visits::{VISITS, first_unanswered_commit, visits_of_each_kind};
-use base_examples::conversations::devices::{ACME, BOLT, DEVICES};
+use base_examples::conversations::devices::{ACME, DEVICES};
 use base_examples::conversations::identities::IDENTITIES;
 use base_examples::conversations::maps::MAPS;
 use base_examples::conversations::orders::ORDERS;
@@ -41,13 +41,6 @@ use std::test::Fail;
 
 /// The conversations, each under its name, but for those of tests of their own.
 const ALL: &[&[(&str, &str)]] = &[ORDERS, MAPS, DEVICES];
-
-/// The orders in which the requests of two seats can come.
-const TURNS: &[&str] = &[
-    "aaaa", "bbbb", "aaabbbab", "aababbab", "aabbabab", "aabbbaab", "abaabbab", "abababab",
-    "ababbaab", "abbaabab", "abbabaab", "abbbaaab", "baaabbab", "baababab", "baabbaab", "babaabab",
-    "bababaab", "babbaaab", "bbaaabab", "bbaabaab", "bbabaaab", "bbbaaaab",
-];
 
 /// Holds conversations, each over a keeper without rows: what differs first, behind the name of its
 /// conversation.
@@ -121,20 +114,44 @@ fn each_kind_of_visit_counts(rt: HostRuntime) -> Result<(), Fail> {
     Ok(())
 }
 
-/// Holds the two seats' conversations in turns.
-fn first_of_turns<K: Fresh>(alloc: Global, turns: &str) -> Result<String, Fail> {
-    let mut keep = K::fresh(alloc)?;
-    first_difference_in_turns(alloc, &mut keep, ACME, BOLT, turns)
-}
-
 /// Three requests of each of two seats in each of the twenty orders in which they can come, and then
-/// both ledgers: each seat gets the replies that it gets alone.
+/// both ledgers, in streams and in a list: each seat gets the replies that it gets alone.
 #[test]
 fn seats_are_served_as_if_alone(rt: HostRuntime) -> Result<(), Fail> {
     for turns in TURNS {
         let found = first_of_turns::<MemKeep>(rt.alloc(), turns)?;
         assert_eq!(rt; found.as_str(), "", "{turns}");
         let found = first_of_turns::<SqlMemory>(rt.alloc(), turns)?;
+        assert_eq!(rt; found.as_str(), "", "{turns} over SQL");
+    }
+    Ok(())
+}
+
+/// A customer with as many orders as it may have is refused one more, and another's first order gets
+/// the reply that it gets in an empty store.
+#[test]
+fn orders_to_the_limit_leave_another_customer_alone(rt: HostRuntime) -> Result<(), Fail> {
+    assert_eq!(rt; first_beside_orders::<MemKeep>(rt.alloc())?.as_str(), "");
+    Ok(())
+}
+
+/// Two customers import one text and get one digest, and each has devices under it.
+#[test]
+fn maps_may_be_shared(rt: HostRuntime) -> Result<(), Fail> {
+    assert_eq!(rt; first_of_shared_map::<MemKeep>(rt.alloc())?.as_str(), "");
+    assert_eq!(rt; first_of_shared_map::<SqlMemory>(rt.alloc())?.as_str(), "");
+    Ok(())
+}
+
+/// Each customer gets the same replies, byte for byte, where one store serves the whole site and where
+/// a store of its own serves its section alone.
+#[test]
+fn parts_of_a_site_are_served_as_the_whole(rt: HostRuntime) -> Result<(), Fail> {
+    assert_eq!(rt; first_strange_part(rt.alloc())?.as_str(), "");
+    for turns in TURNS {
+        let found = first_of_parts::<MemKeep>(rt.alloc(), turns)?;
+        assert_eq!(rt; found.as_str(), "", "{turns}");
+        let found = first_of_parts::<SqlMemory>(rt.alloc(), turns)?;
         assert_eq!(rt; found.as_str(), "", "{turns} over SQL");
     }
     Ok(())
