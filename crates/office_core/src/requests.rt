@@ -84,10 +84,14 @@ pub fn replay<K: Keep>(
     ensures was_honest { K.is_honest keep.new → K.is_honest keep.old }
     ensures err { OnErr result (keep.new ≡ keep.old) }
     ensures count { IfOk result (λ replies. length replies.items ≡ length requests.now) }
+    ensures apart { IfOk result (λ _. AreApart (owners_of site.now)) }
+    ensures seats { IfOk result (λ _.
+        AllByRecursion (IsSeat (owners_of site.now)) (calls_in site.now requests.now)) }
     ensures run { IfOk result (λ replies.
         KeepsPromises K.Keep site.now keep.old keep.new
         (exchanges_in site.now requests.now replies.items)) }
 {
+    let _customers = site.customers();
     let mut replies = Vec::with_capacity(alloc, requests.len())?;
     answer_all(alloc, keep, site, requests, &mut replies)?;
     Ok(replies)

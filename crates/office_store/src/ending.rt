@@ -7,7 +7,7 @@ ghost use Rattle.sqlite.specs.View.{IsClean};
 ghost use Rattle.sqlite_store.specs.FileStore as files;
 ghost use Rattle.office_tables.specs.Tables.{Tables};
 ghost use Rattle.office_store.specs.Adopting.{IsOfSite};
-ghost use Rattle.office_store.specs.Keeping.{may_leave_at};
+ghost use Rattle.office_store.specs.Keeping.{is_honest_at, may_leave_at};
 ghost use Rattle.office_store.specs.Opening.{HasTablesOf};
 
 use crate::keep::SqlKeep;
@@ -17,6 +17,7 @@ use sqlite_disk::Disk;
 /// Ends a keeper over files, and hands back its store. Whatever a crash leaves in the files then holds
 /// a store of the keeper's site, and whoever opens it finds tables that the keeper could leave.
 pub fn into_store<D: Disk + Drop>(keep: SqlKeep<FileStore<D>>) -> FileStore<D>
+    ensures was_honest { IsClean (files.view result) → is_honest_at over_files keep.conn }
     ensures held { IsClean (files.view result) → (left : Image) → (files.state result).may_leave left
         → ∥ ((db : Trees) × HoldsDatabase left db × IsOfSite keep.site db) ∥₁ }
     ensures found { IsClean (files.view result) → (left : Image) → (files.state result).may_leave left

@@ -1,10 +1,13 @@
 -- Why `requests::replay` meets its contract, where that has to be said.
 use Rattle.std.proofs.Common.{◌≡◌, ◌∙◌, ◌++◌, List, length, sym, ap}
 use Rattle.std.proofs.lemmas.List.{length-map}
+use Rattle.office_tables.proofs.Placing.{all_map}
 use Rattle.http_replies.specs.declared.Reply.{Reply}
+use Rattle.site_core.proofs.Owners.{owners_apart}
 use Rattle.site_core.specs.Owners.{owners_of}
 use Rattle.office_runs.proofs.Promising.{promises}
-use Rattle.office_runs.proofs.Seats.{all_seats}
+use Rattle.office_runs.proofs.Seats.{IsSeatOf, all_seats}
+use Rattle.office_runs.specs.Growth.{IsSeat}
 use Rattle.office_core.specs.Replaying.{call_of, calls_in, exchanges_in}
 use Rattle.office_core.proofs.Replaying.{exchanges_calls}
 use Rattle.office_core.proofs.requests.replay.Goals as goal
@@ -14,6 +17,14 @@ returns-clause-count g c =
     let run = c.answer_all.ensures.run in
     let is : c.answer_all.new.replies.items ≡ run.0 = run.1 ∙ ap (λ (rs : List Reply). rs ++ run.0) c.in_ok-replies.ensures.items in
     ap length is ∙ run.2
+
+pub returns-clause-apart : goal.returns-clause-apart
+returns-clause-apart g c = owners_apart c.args.site.now c.customers-customers.ensures.site
+
+pub returns-clause-seats : goal.returns-clause-seats
+returns-clause-seats g c =
+    let owners = owners_of c.args.site.now in
+    all_map (IsSeatOf owners) (IsSeat owners) (λ _ both. both.1) (calls_in c.args.site.now c.args.requests.now) c.answer_all.ensures.seats
 
 pub returns-clause-run : goal.returns-clause-run
 returns-clause-run g c = λ honest t stands.

@@ -10,6 +10,11 @@ use Rattle.office_store.specs.Adopting.{IsOfSite}
 use Rattle.office_store.specs.Keeping.{may_leave_at}
 use Rattle.office_store.proofs.ending.into_store.Goals as goal
 
+pub returns-clause-was_honest : goal.returns-clause-was_honest
+returns-clause-was_honest g c = λ clean.
+    let calm : HasCleanDisk (state over_files c.into_connection-conn.result) = omega (arith, c.into_store.ensures.quiet.clean, clean) in
+    subst (λ k. HasCleanDisk (state over_files k)) c.into_connection-conn.ensures.same calm
+
 pub returns-clause-held : goal.returns-clause-held
 returns-clause-held g c = λ clean left may.
     let store = c.into_store.ensures in

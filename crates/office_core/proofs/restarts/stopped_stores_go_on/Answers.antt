@@ -1,0 +1,25 @@
+-- Why `restarts::stopped_stores_go_on` meets its contract, where that has to be said.
+use Rattle.std.proofs.Common.{◌++◌, List, [], ◌∷◌, None, refl, sym}
+use Rattle.std.proofs.lemmas.List.{append-nil}
+use Rattle.office_runs.specs.Exchanges.{Exchange}
+use Rattle.office_runs.specs.Stops.{IsStoppedRun, Leaves, Session}
+use Rattle.office_runs.proofs.Grown.{growth_itself}
+use Rattle.office_runs.proofs.Leaving.{stop_leaves}
+use Rattle.office_runs.proofs.Promising.{promises}
+use Rattle.office_runs.proofs.Stopping.{stopped_runs, stopped_seats}
+use Rattle.office_core.proofs.restarts.stopped_stores_go_on.Goals as goal
+
+pub returns : goal.returns
+returns g c = λ site opened stopped again later xs ys t t2 left t3 apart seats others life after.
+    let before : Session = record { exchanges = xs; cut_off = None } in
+    let behind : Session = record { exchanges = ys; cut_off = None } in
+    let made : Leaves xs t2 left = life.answered.crash [] (λ other is. ([], life.fresh other is)) left life.leaves in
+    let all : List Exchange = xs ++ (made.0 ++ ys) in
+    let run : IsStoppedRun (before ∷ behind ∷ []) all t t3 = (t2, life.answered.run, made.0, left, stop_leaves before t2 made.0 left made.1, ys, (t3, after.run, [], t3, refl, [], (refl, refl), sym (append-nil ys)), refl) in (
+      made.0,
+      made.1,
+      λ sound. promises site all site t t3 sound
+          (stopped_seats site (before ∷ behind ∷ []) all site t t3
+          (site, growth_itself site, apart, seats, tt, (site, growth_itself site, apart, others, tt, growth_itself site)) run)
+          (stopped_runs (before ∷ behind ∷ []) all t t3 run),
+    )
