@@ -1,0 +1,8 @@
+-- Why `opening::adopted` meets its contract, where that has to be said.
+use Rattle.std.proofs.Common.{ap, ◌∙◌}
+use Rattle.office_sql.specs.Tables.{tables_in}
+use Rattle.office_restart.proofs.opening.adopted.Goals as goal
+
+-- an open store leaves what was committed last
+pub returns-in-Ok-clause-settled : goal.returns-in-Ok-clause-settled
+returns-in-Ok-clause-settled g c = λ clean left may. may.2 ∙ ap tables_in (g.met.S.Store.settled c.in-Ok.keep.conn.store may.0 (c.in-Ok.ensures.open clean) may.1)

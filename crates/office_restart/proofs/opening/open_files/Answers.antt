@@ -1,0 +1,14 @@
+-- Why `opening::open_files` meets its contract, where that has to be said.
+use Rattle.std.proofs.Common.{ap, ◌∙◌}
+use Rattle.sqlite.specs.Files.{file_state}
+use Rattle.office_sql.specs.Tables.{tables_in}
+use Rattle.office_restart.proofs.opening.open_files.Goals as goal
+
+pub returns-in-Ok-adopted-clause-tables : goal.returns-in-Ok-adopted-clause-tables
+returns-in-Ok-adopted-clause-tables g c = λ clean.
+    let found = c.in-Ok.ensures.found (c.in-Ok-adopted.ensures.was_honest clean) in
+    let same = c.in-Ok-adopted.ensures.tables clean in
+    record {
+      held = λ db holds. same ∙ ap tables_in (found.holds db holds);
+      found = ((file_state c.in-Ok.conn).committed.trees, found.reads, same);
+    }

@@ -1,0 +1,2 @@
+-- What the contracts of this crate are made of.
+pub mod Restarting

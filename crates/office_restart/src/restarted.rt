@@ -1,0 +1,101 @@
+// Requests to a store in files, before a crash and after it.
+ghost use Rattle.std.specs.Prelude.{◌≡◌, All, length, IsTrue, IfOk};
+ghost use Rattle.sqlite.specs.Files.{over_files};
+ghost use Rattle.site_core.specs.Caller.{IsSeatCaller};
+ghost use Rattle.site_core.specs.Owners.{owners_of};
+ghost use Rattle.office_core.specs.Replaying.{exchanges_in};
+ghost use Rattle.office_store.specs.Keeping.{is_honest_at};
+ghost use Rattle.office_restart.specs.Restarting.{GoesOn};
+
+use crate::crashing::crash;
+use crate::opening::open_files;
+use http_replies::Reply;
+use office_core::{SeatRequest, Unkept, replay, stopped_stores_go_on};
+use office_store::{OpenFault, SqlKeep};
+use site_core::Site;
+use sqlite::{FileStore, Files, Options};
+use sqlite_disk::{Crash, Disk};
+use std::alloc::Global;
+use text_core::Digest;
+use thiserror::Error;
+
+/// Why requests weren't answered.
+#[derive(Clone, Copy, Debug, PartialEq, Eq, Drop, Error)]
+pub enum Unserved {
+    /// The store isn't opened.
+    #[error("the store isn't opened")]
+    NotOpened(#[from] OpenFault),
+    /// There is no memory for the replies.
+    #[error("there is no memory for the replies")]
+    NoRoom,
+}
+
+impl From<Unkept> for Unserved {
+    fn from(_: Unkept) -> Self {
+        Unserved::NoRoom
+    }
+}
+
+/// What requests got, and the store after them.
+pub struct Restarted<D: Disk> {
+    /// The replies before the crash.
+    pub before: Vec<Reply>,
+    /// The replies after it.
+    pub after: Vec<Reply>,
+    /// The store.
+    pub keep: SqlKeep<FileStore<D>>,
+}
+
+/// Answers requests of a site's seats over the store in files, until these crash; opens what is left,
+/// and answers more requests over it.
+///
+/// Where the disks return what was written, what was answered before the crash is there after it, and
+/// so may be one step more, of a request that was answered 503 since the last one that wasn't. What was
+/// answered before, that step and what is answered after are one run: from sound tables all is promised
+/// of it that is promised of a run without a crash. So a request that was cut off is there whole or not
+/// at all, and where it is sent again it acts once, and gets the reply of its one execution.
+///
+/// # Errors
+///
+/// The store isn't opened, before or after the crash, or there is no memory for the replies. The files
+/// are closed then.
+pub fn replay_through_crash<D: Crash + Drop>(
+    alloc: Global,
+    files: Files<D>,
+    options: Options,
+    digest: &Digest,
+    site: &Site,
+    first: &[SeatRequest],
+    second: &[SeatRequest],
+) -> Result<Restarted<D>, Unserved>
+    requires log { IsTrue (D.Disk.is_usable files.log) }
+    requires db { IsTrue (D.Disk.is_usable files.db) }
+    requires first { All (λ asked. IsSeatCaller site.now asked.caller) first.now }
+    requires second { All (λ asked. IsSeatCaller site.now asked.caller) second.now }
+    ensures count { IfOk result (λ done. (length done.before.items ≡ length first.now)
+        × (length done.after.items ≡ length second.now)) }
+    ensures run { IfOk result (λ done. is_honest_at over_files done.keep.conn
+        → ∥ GoesOn D.Disk (owners_of site.now) files
+        (exchanges_in site.now first.now done.before.items)
+        (exchanges_in site.now second.now done.after.items) done.keep.conn ∥₁) }
+{
+    let mut opened = open_files(alloc, files, options, digest)?;
+    let before = replay(alloc, &mut opened, site, first);
+    let left = crash(opened);
+    let before = before?;
+    let mut keep = open_files(alloc, left, options, digest)?;
+    match replay(alloc, &mut keep, site, second) {
+        Ok(after) => {
+            stopped_stores_go_on::<SqlKeep<FileStore<D>>, SqlKeep<FileStore<D>>>();
+            Ok(Restarted {
+                before,
+                after,
+                keep,
+            })
+        }
+        Err(_) => {
+            drop(crash(keep));
+            Err(Unserved::NoRoom)
+        }
+    }
+}
