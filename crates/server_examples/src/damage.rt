@@ -1,6 +1,6 @@
 //! A store's files with their bytes changed, and what is served over them.
 use crate::conversation::serve;
-use crate::disks::{InFiles, Store};
+use crate::disks::{InFiles, NO_STOP, Store, opened_whole};
 use base_examples::conversations::{reply, request};
 use std::alloc::Global;
 use std::str;
@@ -66,12 +66,12 @@ fn stream_of(alloc: Global, lines: &[&str]) -> Result<Vec<u8>, Fail> {
 /// Makes a store of a device, which is closed or killed at the end.
 fn made_store<K: InFiles>(alloc: Global, is_closed: bool) -> Result<Store, Fail> {
     let stream = stream_of(alloc, MADE_BY)?;
-    let mut keep = K::opened(alloc, &Store::new(alloc))??;
+    let mut keep: K = opened_whole(alloc, &Store::new(alloc))?;
     let served = serve(alloc, &mut keep, stream.as_slice(), 4096);
     let left = if is_closed {
         keep.closed(alloc)
     } else {
-        keep.killed(alloc)
+        keep.stopped(alloc, false)
     };
     served?;
     Ok(left.ok_or("the store isn't closed")?)
@@ -80,7 +80,7 @@ fn made_store<K: InFiles>(alloc: Global, is_closed: bool) -> Result<Store, Fail>
 /// What is written over a store for the requests of [`ASKED`], or nothing where it isn't opened.
 fn written_over<K: InFiles>(alloc: Global, store: &Store) -> Result<Option<Vec<u8>>, Fail> {
     let stream = stream_of(alloc, ASKED)?;
-    match K::opened(alloc, store)? {
+    match K::opened(alloc, store, NO_STOP)? {
         Ok(mut keep) => {
             let served = serve(alloc, &mut keep, stream.as_slice(), 4096);
             let _ = keep.closed(alloc);

@@ -1,19 +1,35 @@
-//! Stores in files that are in memory.
+//! Stores in files that are in memory, and what a stop leaves of them.
 ghost use Rattle.std.specs.Prelude.{IsTrue, IfOk};
 
 use crate::conversation::exchange;
-use crate::keepers::adopted;
 use base_examples::conversations::exchanges;
 use base_examples::samples::SITE;
 use office_core::Keep;
-use office_store::{OpenFault, SqlKeep};
+use office_store::{Handed, SqlKeep, adopt};
 use sqlite::{Connection, FileStore, Files, Options};
-use sqlite_disk::{Disk, Memory};
+use sqlite_disk::{Crash, Disk, Fuse, Memory};
 use std::alloc::Global;
 use std::test::Fail;
+use text_core::Digest;
 
 /// The keeper over a database in files in memory.
-pub type SqlFiles = SqlKeep<FileStore<Memory>>;
+pub type SqlFiles = SqlKeep<FileStore<Fuse<Memory>>>;
+
+/// When a store is stopped: how many calls its file and its log answer before they fail each further
+/// one, and whether what wasn't synced is lost then, as where the power fails.
+#[derive(Clone, Copy)]
+pub struct Stop {
+    pub file_calls: u64,
+    pub log_calls: u64,
+    pub loses_unsynced: bool,
+}
+
+/// No stop.
+pub const NO_STOP: Stop = Stop {
+    file_calls: u64::MAX,
+    log_calls: u64::MAX,
+    loses_unsynced: false,
+};
 
 /// The bytes of a store: those of its file and those of its log.
 #[derive(Drop)]
@@ -32,46 +48,82 @@ impl Store {
     }
 
     /// The bytes of files, or none where there is no memory.
-    fn of(alloc: Global, files: &Files<Memory>) -> Option<Store> {
+    fn of(alloc: Global, files: &Files<Fuse<Memory>>) -> Option<Store> {
         Some(Store {
-            file: files.db.bytes().to_vec(alloc).ok()?,
-            log: files.log.bytes().to_vec(alloc).ok()?,
+            file: files.db.inner().bytes().to_vec(alloc).ok()?,
+            log: files.log.inner().bytes().to_vec(alloc).ok()?,
         })
+    }
+
+    /// The bytes that a stop leaves of files, or none where there is no memory.
+    fn left_of(
+        alloc: Global,
+        mut files: Files<Fuse<Memory>>,
+        loses_unsynced: bool,
+    ) -> Option<Store> {
+        if loses_unsynced {
+            files.db.crash();
+            files.log.crash();
+        }
+        Store::of(alloc, &files)
     }
 }
 
-/// A file in memory that has these bytes.
-fn memory_of(alloc: Global, bytes: &[u8]) -> Result<Memory, Fail>
-    ensures { IfOk result (λ file. IsTrue (⟦<Memory as Disk>⟧.is_usable file)) }
+/// A file in memory that has these bytes, and answers so many calls.
+fn file_of(alloc: Global, bytes: &[u8], calls: u64) -> Result<Fuse<Memory>, Fail>
+    ensures { IfOk result (λ file. IsTrue (⟦<Fuse<Memory> as Disk>⟧.is_usable file)) }
 {
-    let mut file = Memory::new(alloc);
-    file.write_at(0, bytes)?;
+    let mut memory = Memory::new(alloc);
+    memory.write_at(0, bytes)?;
+    memory.sync()?;
+    let file = Fuse::new(memory, calls);
+    if !file.may_be_used() {
+        return Err(Fail::from("a file that can't be used"));
+    }
     Ok(file)
 }
 
 /// A keeper over the files of a store. It has no drop, so that nothing proves again how each part of a
 /// database in files is dropped.
 pub trait InFiles: Keep {
-    /// The keeper over files of these bytes for the sample site, or the fault of the store.
-    fn opened(alloc: Global, store: &Store) -> Result<Result<Self, OpenFault>, Fail>;
+    /// The keeper over files of these bytes for the sample site, with a stop to come, or what the
+    /// opening left.
+    fn opened(alloc: Global, store: &Store, stop: Stop) -> Result<Result<Self, Store>, Fail>;
 
     /// The bytes that it leaves where it is closed, or none where that fails.
     fn closed(self, alloc: Global) -> Option<Store>;
 
-    /// The bytes that it leaves where it is killed.
-    fn killed(self, alloc: Global) -> Option<Store>;
+    /// The bytes that it leaves where it is stopped, all that was written or what was synced alone.
+    fn stopped(self, alloc: Global, loses_unsynced: bool) -> Option<Store>;
+}
+
+/// What is left of a store to which no keeper is had.
+fn handed_back(
+    alloc: Global,
+    handed: Handed<FileStore<Fuse<Memory>>>,
+    loses_unsynced: bool,
+) -> Option<Store> {
+    let store = match handed {
+        Handed::Connection(conn) => conn.into_store(),
+        Handed::Store(store) => store,
+    };
+    Store::left_of(alloc, store.close(), loses_unsynced)
 }
 
 impl InFiles for SqlFiles {
-    fn opened(alloc: Global, store: &Store) -> Result<Result<SqlFiles, OpenFault>, Fail> {
+    fn opened(alloc: Global, store: &Store, stop: Stop) -> Result<Result<SqlFiles, Store>, Fail> {
         let files = Files {
-            log: memory_of(alloc, store.log.as_slice())?,
-            db: memory_of(alloc, store.file.as_slice())?,
+            log: file_of(alloc, store.log.as_slice(), stop.log_calls)?,
+            db: file_of(alloc, store.file.as_slice(), stop.file_calls)?,
         };
-        match Connection::open_files(alloc, files, Options::new(7)) {
-            Ok(conn) => Ok(adopted(alloc, conn, SITE)),
-            Err(_) => Ok(Err(OpenFault::Failed)),
-        }
+        let left = match Connection::open_files(alloc, files, Options::new(7)) {
+            Ok(conn) => match adopt(alloc, conn, &Digest::of(SITE.as_bytes())) {
+                Ok(keep) => return Ok(Ok(keep)),
+                Err((_, handed)) => handed_back(alloc, handed, stop.loses_unsynced),
+            },
+            Err((_, left)) => Store::left_of(alloc, left.into_files(), stop.loses_unsynced),
+        };
+        Ok(Err(left.ok_or("no memory for what is left")?))
     }
 
     fn closed(self, alloc: Global) -> Option<Store> {
@@ -84,8 +136,17 @@ impl InFiles for SqlFiles {
         }
     }
 
-    fn killed(self, alloc: Global) -> Option<Store> {
-        Store::of(alloc, &self.into_connection().into_store().close())
+    fn stopped(self, alloc: Global, loses_unsynced: bool) -> Option<Store> {
+        let files = self.into_connection().into_store().close();
+        Store::left_of(alloc, files, loses_unsynced)
+    }
+}
+
+/// The keeper over files of these bytes, without a stop.
+pub fn opened_whole<K: InFiles>(alloc: Global, store: &Store) -> Result<K, Fail> {
+    match K::opened(alloc, store, NO_STOP)? {
+        Ok(keep) => Ok(keep),
+        Err(_) => Err(Fail::from("the store isn't opened")),
     }
 }
 
@@ -97,7 +158,7 @@ fn exchange_over<K: InFiles>(
     asked: &str,
     wanted: &str,
 ) -> Result<(String, Store), Fail> {
-    let mut keep = K::opened(alloc, store)??;
+    let mut keep: K = opened_whole(alloc, store)?;
     let found = exchange(alloc, &mut keep, asked, wanted);
     let left = keep.closed(alloc);
     Ok((found?, left.ok_or("the store isn't closed")?))

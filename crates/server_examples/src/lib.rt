@@ -29,7 +29,11 @@ mod parts;
 #[cfg(test)]
 mod replays;
 #[cfg(test)]
+mod restarts;
+#[cfg(test)]
 mod seats;
+#[cfg(test)]
+mod stops;
 #[cfg(test)]
 mod stores;
 #[cfg(test)]

@@ -38,7 +38,7 @@ fn seat_request(
 }
 
 /// What seats of the site ask in exchanges, one after another.
-fn seat_requests(
+pub fn seat_requests(
     alloc: Global,
     site: &Site,
     exchanges: &[(&str, &str)],
@@ -65,6 +65,24 @@ fn difference(alloc: Global, asked: &str, wanted: &str, reply: &Reply) -> Result
     Ok(format!(in alloc; "{asked} -> {got}")?)
 }
 
+/// The first of exchanges whose request didn't get its reply, and what it got.
+pub fn first_difference_among(
+    alloc: Global,
+    exchanges: &[(&str, &str)],
+    replies: &[Reply],
+) -> Result<String, Fail> {
+    if replies.len() != exchanges.len() {
+        return Ok(format!(in alloc; "{} replies", replies.len())?);
+    }
+    for (exchange, reply) in exchanges.iter().zip(replies.iter()) {
+        let found = difference(alloc, exchange.0, exchange.1, reply)?;
+        if !found.is_empty() {
+            return Ok(found);
+        }
+    }
+    Ok(String::new(alloc))
+}
+
 /// Asks what is asked in exchanges by one list, of the seats of a text's site: the first request that
 /// doesn't get its reply, and what it got.
 pub fn first_difference_in_list<K: Keep>(
@@ -76,14 +94,5 @@ pub fn first_difference_in_list<K: Keep>(
     let site = read_site(alloc, site)?;
     let requests = seat_requests(alloc, &site, exchanges)?;
     let replies = replay(alloc, keep, &site, requests.as_slice())?;
-    if replies.len() != exchanges.len() {
-        return Ok(format!(in alloc; "{} replies", replies.len())?);
-    }
-    for (exchange, reply) in exchanges.iter().zip(replies.iter()) {
-        let found = difference(alloc, exchange.0, exchange.1, reply)?;
-        if !found.is_empty() {
-            return Ok(found);
-        }
-    }
-    Ok(String::new(alloc))
+    first_difference_among(alloc, exchanges, replies.as_slice())
 }

@@ -15,7 +15,9 @@ use crate::jobs::{
 use crate::keepers::{Fresh, SqlMemory};
 use crate::parts::{first_of_parts, first_strange_part};
 use crate::replays::{RUNS, is_written, make_files_of_runs, make_folder};
+use crate::restarts::first_difference_at_crashes;
 use crate::seats::{LAST_REQUESTS, digest_after, first_after_greatest};
+use crate::stops::first_lost_at_stops;
 use crate::stores::{
     CHANGED, FOREIGN, columns_of_device, fault_after, fault_of_foreign,
     first_difference_in_few_steps, settled_columns,
@@ -323,6 +325,36 @@ fn stores_are_opened_anew_between_requests(rt: HostRuntime) -> Result<(), Fail> 
         let found = first_difference_opened_anew::<SqlFiles>(rt.alloc(), row.1)?;
         assert_eq!(rt; found.as_str(), "", "{}", row.0);
     }
+    Ok(())
+}
+
+/// A run over files is stopped at each call of either, and some of the openings behind are stopped
+/// too: what was replied is there, the request that was cut off gets its reply when it is sent again,
+/// and the books are those of an undisturbed run.
+#[test]
+fn a_killed_run_goes_on(rt: HostRuntime) -> Result<(), Fail> {
+    assert_eq!(rt;
+        first_lost_at_stops::<SqlFiles>(rt.alloc(), false)?.as_str(),
+        ""
+    );
+    Ok(())
+}
+
+/// The same, where what wasn't synced is lost at each stop.
+#[test]
+fn a_run_goes_on_after_a_power_cut(rt: HostRuntime) -> Result<(), Fail> {
+    assert_eq!(rt;
+        first_lost_at_stops::<SqlFiles>(rt.alloc(), true)?.as_str(),
+        ""
+    );
+    Ok(())
+}
+
+/// A list of requests, a crash of the files and a list that begins with the last request again: what was
+/// replied is there, and the repeat gets its reply.
+#[test]
+fn lists_go_on_behind_a_crash(rt: HostRuntime) -> Result<(), Fail> {
+    assert_eq!(rt; first_difference_at_crashes(rt.alloc())?.as_str(), "");
     Ok(())
 }
 

@@ -1,0 +1,66 @@
+//! A store in files that crashes between two lists of requests.
+
+use crate::lists::{first_difference_among, seat_requests};
+use crate::stops::{BOOKS, RUN, rest_of};
+use base_examples::conversations::exchanges;
+use base_examples::samples::SITE;
+use office_restart::{Restarted, crash, replay_through_crash};
+use site_core::read_site;
+use sqlite::{Files, Options};
+use sqlite_disk::Memory;
+use std::alloc::Global;
+use std::test::Fail;
+use text_core::Digest;
+
+/// Asks what is asked in exchanges, has the files in memory lose what wasn't synced, and asks for more:
+/// the first request that doesn't get its reply, and what it got.
+fn first_difference_through_crash(
+    alloc: Global,
+    before: &[(&str, &str)],
+    after: &[(&str, &str)],
+) -> Result<String, Fail> {
+    let site = read_site(alloc, SITE)?;
+    let first = seat_requests(alloc, &site, before)?;
+    let second = seat_requests(alloc, &site, after)?;
+    let files = Files {
+        log: Memory::new(alloc),
+        db: Memory::new(alloc),
+    };
+    let done = replay_through_crash(
+        alloc,
+        files,
+        Options::new(7),
+        &Digest::of(SITE.as_bytes()),
+        &site,
+        first.as_slice(),
+        second.as_slice(),
+    )?;
+    let Restarted {
+        before: replies,
+        after: more,
+        keep,
+    } = done;
+    drop(crash(keep));
+    let found = first_difference_among(alloc, before, replies.as_slice())?;
+    if !found.is_empty() {
+        return Ok(found);
+    }
+    first_difference_among(alloc, after, more.as_slice())
+}
+
+/// A run with a crash behind each of its requests, which is sent again after it: the first request that
+/// doesn't get the reply of the undisturbed run, and what it got.
+pub fn first_difference_at_crashes(alloc: Global) -> Result<String, Fail> {
+    let run = exchanges(alloc, RUN)?;
+    let books = exchanges(alloc, BOOKS)?;
+    for sent in 0..run.len() {
+        let count = sent + 1;
+        let (before, _) = run.as_slice().split_at(count);
+        let rest = rest_of(alloc, run.as_slice(), sent, books.as_slice())?;
+        let found = first_difference_through_crash(alloc, before, rest.as_slice())?;
+        if !found.is_empty() {
+            return Ok(format!(in alloc; "behind {count} requests: {found}")?);
+        }
+    }
+    Ok(String::new(alloc))
+}
