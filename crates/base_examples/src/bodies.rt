@@ -1,7 +1,7 @@
 //! Refusals, and the bodies that answer orders, identities, shipped and scrapped devices and imports.
 
 use fuse_plan::PlanFault;
-use id_ranges::{IdevidRecord, KeyDigest, Mac, SerialRange};
+use id_ranges::{IdevidRecord, KeyDigest, Mac, NotBefore, SerialRange};
 use office_commands::{Refusal, identity_body, import_body, order_body, refused, state_body};
 use office_tables::{DeviceState, Order};
 use std::alloc::Global;
@@ -20,19 +20,20 @@ const REFUSALS: &[(u8, u16, &str)] = &[
         409,
         r#"{"error":"import_conflict","no":38,"serial":"Z2"}"#,
     ),
+    (42, 422, r#"{"error":"bad_not_before","no":42}"#),
 ];
 
 const ORDER: &str =
-    r#"{"first":998,"issuer":"acme-ca","mac":null,"macs":0,"name":"o1","next":"A998","prefix":"A","quantity":2,"width":3}"#;
+    r#"{"first":998,"issuer":"acme-ca","mac":null,"macs":0,"name":"o1","next":"A998","not_before":null,"prefix":"A","quantity":2,"width":3}"#;
 
 const FULL_ORDER: &str =
-    r#"{"first":998,"issuer":"acme-ca","mac":"020000000010","macs":2,"name":"o1","next":null,"prefix":"A","quantity":2,"width":3}"#;
+    r#"{"first":998,"issuer":"acme-ca","mac":"020000000010","macs":2,"name":"o1","next":null,"not_before":"20240229120000Z","prefix":"A","quantity":2,"width":3}"#;
 
 const IDENTITY: &str =
-    r#"{"chip":"00000000000a","issuer":"acme-ca","key_sha256":"ba7816bf8f01cfea414140de5dae2223b00361a396177a9cb410ff61f20015ad","mac":null,"not_after":"99991231235959Z","serial":"A998"}"#;
+    r#"{"chip":"00000000000a","issuer":"acme-ca","key_sha256":"ba7816bf8f01cfea414140de5dae2223b00361a396177a9cb410ff61f20015ad","mac":null,"not_after":"99991231235959Z","not_before":null,"serial":"A998"}"#;
 
 const ADDRESSED: &str =
-    r#"{"chip":"00000000000a","issuer":"acme-ca","key_sha256":"ba7816bf8f01cfea414140de5dae2223b00361a396177a9cb410ff61f20015ad","mac":"020000000010","not_after":"99991231235959Z","serial":"A998"}"#;
+    r#"{"chip":"00000000000a","issuer":"acme-ca","key_sha256":"ba7816bf8f01cfea414140de5dae2223b00361a396177a9cb410ff61f20015ad","mac":"020000000010","not_after":"99991231235959Z","not_before":"20240229120000Z","serial":"A998"}"#;
 
 /// Where a device stands, and the body that tells it.
 const STATES: &[(DeviceState, &str)] = &[
@@ -62,6 +63,7 @@ fn refusal(number: u8) -> Option<Refusal> {
         32 => Some(Refusal::Exhausted),
         35 => Some(Refusal::KeyBound),
         38 => Some(Refusal::ImportConflict(Serial::parse("Z2")?)),
+        42 => Some(Refusal::BadNotBefore),
         _ => None,
     }
 }
@@ -72,7 +74,8 @@ fn is_refused(alloc: Global, number: u8, status: u16, body: &str) -> Option<bool
     Some(reply.status.code() == status && reply.body.as_bytes() == body.as_bytes())
 }
 
-/// Whether an order is shown so, with its next serial number and without one.
+/// Whether an order is shown so, with its next serial number and without one, and so without a beginning
+/// of validity and with one.
 fn are_orders_shown(alloc: Global) -> Option<bool> {
     let order = Order {
         name: Name::parse("o1")?,
@@ -81,11 +84,13 @@ fn are_orders_shown(alloc: Global) -> Option<bool> {
         macs: 0,
         mac: None,
         cursor: 998,
+        not_before: None,
     };
     let full = Order {
         macs: 2,
         mac: Some(Mac::parse("020000000010")?),
         cursor: 1000,
+        not_before: NotBefore::read("20240229120000Z").ok(),
         ..order
     };
     let open = order_body(alloc, &order, Some("A998")).ok()?;
@@ -94,17 +99,26 @@ fn are_orders_shown(alloc: Global) -> Option<bool> {
 }
 
 /// Whether an identity is shown so.
-fn is_identity(alloc: Global, mac: Option<Mac>, wanted: &str) -> Option<bool> {
+fn is_identity(
+    alloc: Global,
+    mac: Option<Mac>,
+    not_before: Option<NotBefore>,
+    wanted: &str,
+) -> Option<bool> {
     let issuer = Name::parse("acme-ca")?;
-    let record = IdevidRecord::new(issuer, "A998", KeyDigest::of(b"abc"), mac).ok()?;
+    let record = IdevidRecord::new(issuer, "A998", KeyDigest::of(b"abc"), mac, not_before).ok()?;
     let body = identity_body(alloc, &Chip::parse("00000000000a")?, &record).ok()?;
     Some(body.as_str() == wanted)
 }
 
-/// Whether identities are shown so, without an address and with one.
+/// Whether identities are shown so, without an address and a beginning of validity and with both.
 fn are_identities_shown(alloc: Global) -> Option<bool> {
     let mac = Mac::parse("020000000010")?;
-    Some(is_identity(alloc, None, IDENTITY)? && is_identity(alloc, Some(mac), ADDRESSED)?)
+    let start = NotBefore::read("20240229120000Z").ok()?;
+    Some(
+        is_identity(alloc, None, None, IDENTITY)?
+            && is_identity(alloc, Some(mac), Some(start), ADDRESSED)?,
+    )
 }
 
 /// Whether a device's state is told so.

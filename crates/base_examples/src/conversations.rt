@@ -3,7 +3,9 @@
 //! The line of a request is its caller, the method, the target and the body, and the line after it is
 //! the status and the body of the reply. That of a report is `csv` and its text, with `|` for each line
 //! feed. Empty lines and those that begin with `#` say nothing.
+pub mod beginnings;
 pub mod devices;
+pub mod growths;
 pub mod identities;
 pub mod maps;
 pub mod orders;
@@ -17,8 +19,15 @@ use std::alloc::{AllocError, Global};
 use std::str;
 use std::test::Fail;
 
-/// The callers of the sample site, seats and the manager, and their tokens.
-const TOKENS: &[(&str, &str)] = &[("a1", "abc"), ("b1", "hello"), ("manager", "test")];
+/// The callers of the sample site and of those that grew from it, seats and the manager, and their
+/// tokens.
+const TOKENS: &[(&str, &str)] = &[
+    ("a1", "abc"),
+    ("b1", "hello"),
+    ("b2", "world"),
+    ("c1", "key"),
+    ("manager", "test"),
+];
 
 /// A token that nobody has.
 const NO_TOKEN: &str = "zzz";

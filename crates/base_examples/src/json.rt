@@ -1,6 +1,6 @@
 //! Bodies as JSON, and whole numbers in them.
 
-use json_members::{JsonFault, read_json, whole_member};
+use json_members::{JsonFault, read_json, text_if_member, whole_member};
 use std::alloc::Global;
 
 /// The greatest whole number that a request may have.
@@ -47,6 +47,20 @@ const BODIES: &[(&[u8], u64, u64, Option<Option<u64>>)] = &[
     (b"{\"n\":\"\xff\"}", 0, LARGEST_WHOLE, None),
 ];
 
+/// Bodies, and whether their member `n` is a text or missing, with the text.
+const TEXTS: &[(&[u8], Option<Option<&str>>)] = &[
+    (b"{\"n\":\"1\"}", Some(Some("1"))),
+    (b"{\"n\":\"\"}", Some(Some(""))),
+    (b"{\"n\":null}", Some(None)),
+    (b"{\"m\":\"1\"}", Some(None)),
+    (b"{\"n\":\"1\",\"n\":null}", Some(None)),
+    (b"[\"n\"]", Some(None)),
+    (b"{\"n\":1}", None),
+    (b"{\"n\":false}", None),
+    (b"{\"n\":[]}", None),
+    (b"{\"n\":{}}", None),
+];
+
 /// The whole number of a body, if it is JSON. An outer `None` stands for want of memory.
 fn whole_number(
     alloc: Global,
@@ -61,10 +75,28 @@ fn whole_number(
     }
 }
 
+/// Whether a body has this text as its member `n`. An outer `None` stands for want of memory, or for no
+/// JSON.
+fn has_text(alloc: Global, body: &[u8], wanted: Option<Option<&str>>) -> Option<bool> {
+    let value = read_json(alloc, body).ok()?;
+    Some(text_if_member(&value, "n") == wanted)
+}
+
 #[test]
 fn reads_json(rt: HostRuntime) {
     for row in BODIES {
         let found = whole_number(rt.alloc(), row.0, row.1, row.2);
         assert!(rt; found == Some(row.3), "{:?}", row.0);
+    }
+}
+
+#[test]
+fn reads_missing_texts(rt: HostRuntime) {
+    for row in TEXTS {
+        assert!(rt;
+            has_text(rt.alloc(), row.0, row.1) == Some(true),
+            "{:?}",
+            row.0
+        );
     }
 }

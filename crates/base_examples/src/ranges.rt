@@ -1,6 +1,6 @@
 //! Ranges of serial numbers, the serial numbers that they give, and the records of identities.
 
-use id_ranges::{IdevidRecord, KeyDigest, RangeFault, SerialRange, next_serial};
+use id_ranges::{IdevidRecord, KeyDigest, NotBefore, RangeFault, SerialRange, next_serial};
 use std::alloc::Global;
 use std::collections::BTreeSet;
 use text_core::{LARGEST_WHOLE, Name, Serial};
@@ -82,6 +82,35 @@ const IDENTITIES: &[(&str, bool)] = &[
     ("A.1", false),
 ];
 
+/// Texts, and whether a validity can begin then: by the forms of the text, by the days of the years and
+/// months, and by the hours, minutes and seconds.
+const BEGINNINGS: &[(&str, bool)] = &[
+    ("20240229120000Z", true),
+    ("202402291200Z", false),
+    ("202402291200000", false),
+    ("202402291200000Z", false),
+    ("20240229120000z", false),
+    ("202402291200\u{662}Z", false),
+    ("", false),
+    ("99991231235959Z", true),
+    ("00000229000000Z", true),
+    ("20000229235959Z", true),
+    ("20230229120000Z", false),
+    ("19000229000000Z", false),
+    ("20240431000000Z", false),
+    ("20240430000000Z", true),
+    ("20240831000000Z", true),
+    ("20240832000000Z", false),
+    ("20240230000000Z", false),
+    ("20240001000000Z", false),
+    ("20241301000000Z", false),
+    ("20240100000000Z", false),
+    ("20240229235959Z", true),
+    ("20240229240000Z", false),
+    ("20240229126000Z", false),
+    ("20240229120060Z", false),
+];
+
 /// The range of these numbers. `None` where they aren't those that a range may be asked of.
 fn range_of(numbers: &Numbers) -> Option<Result<SerialRange, RangeFault>> {
     let (prefix, width, first, quantity) = *numbers;
@@ -156,7 +185,7 @@ fn is_next(alloc: Global, row: &NextRow) -> Option<bool> {
 /// Whether a text is a serial number in a record without an end. Any other is a `BadText`.
 fn is_identity(serial: &str) -> Option<bool> {
     let issuer = Name::parse("acme-ca")?;
-    match IdevidRecord::new(issuer, serial, KeyDigest::of(b"abc"), None) {
+    match IdevidRecord::new(issuer, serial, KeyDigest::of(b"abc"), None, None) {
         Ok(record) => {
             if record.not_after().as_str() != "99991231235959Z" {
                 return None;
@@ -166,6 +195,19 @@ fn is_identity(serial: &str) -> Option<bool> {
         Err(RangeFault::BadText) => Some(false),
         Err(_) => None,
     }
+}
+
+/// Whether a text is a beginning that a record has. Any other is a `BadNotBefore`.
+fn is_beginning(text: &str) -> Option<bool> {
+    let start = match NotBefore::read(text) {
+        Ok(start) => start,
+        Err(RangeFault::BadNotBefore) => return Some(false),
+        Err(_) => return None,
+    };
+    let issuer = Name::parse("acme-ca")?;
+    let key = KeyDigest::of(b"abc");
+    let record = IdevidRecord::new(issuer, "A998", key, None, Some(start)).ok()?;
+    Some(record.not_before()?.as_str() == text)
 }
 
 #[test]
@@ -188,5 +230,12 @@ fn gives_serials_and_records(rt: HostRuntime) {
     }
     for row in IDENTITIES {
         assert!(rt; is_identity(row.0) == Some(row.1), "{}", row.0);
+    }
+}
+
+#[test]
+fn reads_beginnings(rt: HostRuntime) {
+    for row in BEGINNINGS {
+        assert!(rt; is_beginning(row.0) == Some(row.1), "{}", row.0);
     }
 }

@@ -83,3 +83,62 @@ token = "2cf24dba5fb0a30e26e83b2ac5b9e29e1b161e5c1fa7425e73043362938b9824"
 [manager]
 token = "9f86d081884c7d659a2feaa0c55ad015a3bf4f1b2b0b822cd15d6c15b0f00a08"
 "#;
+
+/// The sample site, grown: a third pool of 4 addresses for acme, behind the others.
+pub const SITE_WITH_A_POOL: &str = r#"[[customer]]
+name = "acme"
+issuer = ["acme-ca"]
+[[customer.pool]]
+first = "020000000010"
+count = 4
+[[customer.pool]]
+first = "020000000020"
+count = 4
+[[customer.pool]]
+first = "020000000030"
+count = 4
+[[customer.seat]]
+name = "a1"
+token = "ba7816bf8f01cfea414140de5dae2223b00361a396177a9cb410ff61f20015ad"
+[[customer]]
+name = "bolt"
+issuer = ["bolt-ca"]
+[[customer.seat]]
+name = "b1"
+token = "2cf24dba5fb0a30e26e83b2ac5b9e29e1b161e5c1fa7425e73043362938b9824"
+[manager]
+token = "9f86d081884c7d659a2feaa0c55ad015a3bf4f1b2b0b822cd15d6c15b0f00a08"
+"#;
+
+/// The sample site, grown: a second seat for bolt, `b2` with the token `world`, and a third customer,
+/// crux, whose seat `c1` has the token `key`.
+pub const SITE_WITH_A_CUSTOMER: &str = r#"[[customer]]
+name = "acme"
+issuer = ["acme-ca"]
+[[customer.pool]]
+first = "020000000010"
+count = 4
+[[customer.pool]]
+first = "020000000020"
+count = 4
+[[customer.seat]]
+name = "a1"
+token = "ba7816bf8f01cfea414140de5dae2223b00361a396177a9cb410ff61f20015ad"
+[[customer]]
+name = "bolt"
+issuer = ["bolt-ca"]
+[[customer.seat]]
+name = "b1"
+token = "2cf24dba5fb0a30e26e83b2ac5b9e29e1b161e5c1fa7425e73043362938b9824"
+[[customer.seat]]
+name = "b2"
+token = "486ea46224d1bb4fb680f34f7c9ad96a8f24ec88be73ea8e5a6c65260e9cb8a7"
+[[customer]]
+name = "crux"
+issuer = ["crux-ca"]
+[[customer.seat]]
+name = "c1"
+token = "2c70e12b7a0646f92279f427c7b38e7334d8e5389cff167a1dc30e73f826b683"
+[manager]
+token = "9f86d081884c7d659a2feaa0c55ad015a3bf4f1b2b0b822cd15d6c15b0f00a08"
+"#;

@@ -1,9 +1,11 @@
-//! Sites: the sample read whole, its callers, and the faults of texts that are near it.
+//! Sites: the sample read whole, its callers, the faults of texts that are near it, and which of them
+//! are growths of it.
 
 use crate::changes::{changed, numbered, padded};
-use crate::samples::SITE;
-use site_core::{Caller, Site, SiteFault, read_site};
+use crate::samples::{SITE, SITE_WITH_A_CUSTOMER, SITE_WITH_A_POOL};
+use site_core::{Caller, Site, SiteFault, read_site, read_site_text};
 use std::alloc::Global;
+use text_core::Digest;
 
 const OF_ABC: &str = "ba7816bf8f01cfea414140de5dae2223b00361a396177a9cb410ff61f20015ad";
 
@@ -12,6 +14,9 @@ const OF_ABC_IN_CAPITALS: &str = "BA7816BF8F01CFEA414140DE5DAE2223B00361A396177A
 const OF_HELLO: &str = "2cf24dba5fb0a30e26e83b2ac5b9e29e1b161e5c1fa7425e73043362938b9824";
 
 const OF_TEST: &str = "9f86d081884c7d659a2feaa0c55ad015a3bf4f1b2b0b822cd15d6c15b0f00a08";
+
+/// A digest that is no token's of the sample.
+const OF_OTHER: &str = "60303ae22b998861bce3b28f33eec1be758a213c86c93c076dbe9f558c11c752";
 
 /// A part of the sample, what stands there in its place, and the fault: the lowest where there are
 /// several. The last rows are whole texts.
@@ -276,4 +281,110 @@ fn keeps_limits(rt: HostRuntime) {
     for length in 0..SITE.len() {
         assert!(rt; fault_number(alloc, SITE.get(..length).unwrap_or("")) <= 2);
     }
+}
+
+/// A part of the sample, what stands there in its place, whether the new site is a growth of the
+/// sample's, and whether the sample's is a growth of the new one.
+const GROWTHS: &[(&str, &str, bool, bool)] = &[
+    ("[manager]", "[manager]", true, true),
+    ("[manager]", "# for the office\n[manager]", true, true),
+    ("[\"acme-ca\"]", "[\"acme-cb\", \"acme-ca\"]", true, false),
+    (
+        "020000000010\"\ncount = 4\n[[customer.pool]]\nfirst = \"020000000020",
+        "020000000020\"\ncount = 4\n[[customer.pool]]\nfirst = \"020000000010",
+        false,
+        false,
+    ),
+    (OF_ABC, OF_OTHER, false, false),
+    (
+        "[manager]\ntoken = \"9f86d081884c7d659a2feaa0c55ad015a3bf4f1b2b0b822cd15d6c15b0f00a08\"\n",
+        "",
+        false,
+        true,
+    ),
+    (OF_TEST, OF_OTHER, false, false),
+    ("[\"acme-ca\"]", "[]", false, true),
+    ("[\"acme-ca\"]", "[\"acme-cb\"]", false, false),
+    (
+        "[[customer.seat]]\nname = \"b1\"\ntoken = \"2cf24dba5fb0a30e26e83b2ac5b9e29e1b161e5c1fa7425e73043362938b9824\"\n",
+        "",
+        false,
+        true,
+    ),
+    ("name = \"a1\"", "name = \"a2\"", false, false),
+    (
+        "[[customer.pool]]",
+        "[[customer.pool]]\nfirst = \"020000000000\"\ncount = 4\n[[customer.pool]]",
+        false,
+        false,
+    ),
+    (
+        "[[customer.pool]]\nfirst = \"020000000020\"\ncount = 4\n",
+        "",
+        false,
+        true,
+    ),
+    ("count = 4", "count = 5", false, false),
+    ("name = \"acme\"", "name = \"apex\"", false, false),
+    (
+        "[[customer.pool]]\nfirst = \"020000000020\"\ncount = 4\n[[customer.seat]]\nname = \"a1\"\ntoken = \"ba7816bf8f01cfea414140de5dae2223b00361a396177a9cb410ff61f20015ad\"\n[[customer]]\nname = \"bolt\"\nissuer = [\"bolt-ca\"]\n",
+        "[[customer.seat]]\nname = \"a1\"\ntoken = \"ba7816bf8f01cfea414140de5dae2223b00361a396177a9cb410ff61f20015ad\"\n[[customer]]\nname = \"bolt\"\nissuer = [\"bolt-ca\"]\n[[customer.pool]]\nfirst = \"020000000020\"\ncount = 4\n",
+        false,
+        false,
+    ),
+    (SITE, "customer = []", false, true),
+];
+
+/// Whether each of two texts' sites is a growth of the other's: the second of the first, and the
+/// first of the second.
+fn growths(alloc: Global, first: &str, second: &str) -> Option<(bool, bool)> {
+    let first = read_site(alloc, first).ok()?;
+    let second = read_site(alloc, second).ok()?;
+    Some((first.is_growth(&second), second.is_growth(&first)))
+}
+
+fn growths_of_change(alloc: Global, part: &str, new: &str) -> Option<(bool, bool)> {
+    let text = changed(alloc, SITE, part, new)?;
+    growths(alloc, SITE, text.as_str())
+}
+
+/// The sample with its customers in the other order.
+fn reordered(alloc: Global) -> Option<String> {
+    let (acme, others) = SITE.split_once("[[customer]]\nname = \"bolt\"")?;
+    let (bolt, manager) = others.split_once("[manager]")?;
+    format!(in alloc; "[[customer]]\nname = \"bolt\"{bolt}{acme}[manager]{manager}").ok()
+}
+
+#[test]
+fn tells_growths(rt: HostRuntime) {
+    let alloc = rt.alloc();
+    for row in GROWTHS {
+        assert!(rt;
+            growths_of_change(alloc, row.0, row.1) == Some((row.2, row.3)),
+            "{}",
+            row.1
+        );
+    }
+    for grown in &[SITE_WITH_A_POOL, SITE_WITH_A_CUSTOMER] {
+        assert!(rt; growths(alloc, SITE, grown) == Some((true, false)));
+    }
+    let other = reordered(alloc).unwrap_or(String::new(alloc));
+    assert!(rt; growths(alloc, SITE, other.as_str()) == Some((true, true)));
+}
+
+/// Where an allocation fails, the text is read whole all the same or the fault is want of memory.
+#[test]
+fn keeps_a_text(rt: HostRuntime) {
+    match read_site_text(rt.alloc(), SITE) {
+        Ok(text) => assert!(rt;
+            text.text() == SITE
+                && is_sample(text.site())
+                && text.digest() == Digest::of(SITE.as_bytes())
+        ),
+        Err(fault) => assert!(rt; fault == SiteFault::OutOfMemory),
+    }
+    let fault = read_site_text(rt.alloc(), "customer")
+        .err()
+        .map(SiteFault::number);
+    assert!(rt; fault == Some(1) || fault == Some(7));
 }

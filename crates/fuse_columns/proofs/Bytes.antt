@@ -67,7 +67,8 @@ number_split f (suc n) =
 
 -- the bytes of a number of 32 bits
 pub bytes_of_number : (f : ℕ → Bool)
-    → to_le_bytes w32 (number_with f 32) ≡ number_with f 8 ∷ number_with (λ i. f (8 + i)) 8 ∷ number_with (λ i. f (8 + (8 + i))) 8 ∷ number_with (λ i. f (8 + (8 + (8 + i)))) 8 ∷ []
+    → to_le_bytes w32 (number_with f 32) ≡ number_with f 8 ∷ number_with (λ i. f (8 + i)) 8 ∷ number_with (λ i. f (8 + (8 + i))) 8 ∷ number_with (λ i.
+    f (8 + (8 + (8 + i)))) 8 ∷ []
 bytes_of_number f =
     let n0 : ℕ = number_with f 8 in
     let n1 : ℕ = number_with (λ i. f (8 + i)) 8 in
@@ -98,14 +99,19 @@ bit_of_bytes a b c d j la lb lc low =
     let n2 : ℕ = n1 * 2 ^ 8 + b in
     let whole : from_le_bytes w32 (a ∷ b ∷ c ∷ d ∷ []) ≡ n2 * 2 ^ 8 + a = omega arith in
     let bytes : List ℕ = a ∷ b ∷ c ∷ d ∷ [] in
-    let place : (q r : ℕ) → j / 8 ≡ q → j % 8 ≡ r → bit_at (slice_index bytes q) r ≡ bit_at (slice_index bytes (j / 8)) (j % 8) = λ q r e f. ap₂ (λ (x y : ℕ). bit_at (slice_index bytes x) y) (sym e) (sym f) in
+    let place : (q r : ℕ) → j / 8 ≡ q → j % 8 ≡ r → bit_at (slice_index bytes q) r ≡ bit_at (slice_index bytes (j / 8)) (j % 8) =
+    λ q r e f. ap₂ (λ (x y : ℕ). bit_at (slice_index bytes x) y) (sym e) (sym f) in
     ap (λ k. bit_at k j) whole ∙ elim (cases_lt j 8) as (λ _. bit_at (n2 * 2 ^ 8 + a) j ≡ bit_at (slice_index bytes (j / 8)) (j % 8)) [
       | inl in0 ↦ bit_at_cat_low n2 8 a j in0 ∙ place 0 j (omega (arith, in0)) (omega (arith, in0))
       | inr past0 ↦ bit_at_cat_high n2 8 a j la past0 ∙ elim (cases_lt j 16) as (λ _. bit_at n2 (j - 8) ≡ bit_at (slice_index bytes (j / 8)) (j % 8)) [
         | inl in1 ↦ bit_at_cat_low n1 8 b (j - 8) (omega (arith, in1, past0)) ∙ place 1 (j - 8) (omega (arith, in1, past0)) (omega (arith, in1, past0))
-        | inr past1 ↦ bit_at_cat_high n1 8 b (j - 8) lb (omega (arith, past1)) ∙ elim (cases_lt j 24) as (λ _. bit_at n1 (j - 8 - 8) ≡ bit_at (slice_index bytes (j / 8)) (j % 8)) [
-          | inl in2 ↦ bit_at_cat_low d 8 c (j - 8 - 8) (omega (arith, in2, past1)) ∙ place 2 (j - 8 - 8) (omega (arith, in2, past1)) (omega (arith, in2, past1))
-          | inr past2 ↦ bit_at_cat_high d 8 c (j - 8 - 8) lc (omega (arith, past2)) ∙ place 3 (j - 8 - 8 - 8) (omega (arith, low, past2)) (omega (arith, low, past2))
-        ]
+        | inr past1 ↦
+            bit_at_cat_high n1 8 b (j - 8) lb (omega (arith, past1)) ∙ elim (cases_lt j 24) as (λ _.
+            bit_at n1 (j - 8 - 8) ≡ bit_at (slice_index bytes (j / 8)) (j % 8)) [
+              | inl in2 ↦
+                  bit_at_cat_low d 8 c (j - 8 - 8) (omega (arith, in2, past1)) ∙ place 2 (j - 8 - 8) (omega (arith, in2, past1)) (omega (arith, in2, past1))
+              | inr past2 ↦
+                  bit_at_cat_high d 8 c (j - 8 - 8) lc (omega (arith, past2)) ∙ place 3 (j - 8 - 8 - 8) (omega (arith, low, past2)) (omega (arith, low, past2))
+            ]
       ]
     ]

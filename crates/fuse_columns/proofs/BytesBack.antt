@@ -1,5 +1,6 @@
 -- The bytes of all blocks come back from the set that they stand for.
-use Rattle.std.proofs.Common.{◌≡◌, ℕ, zero, suc, ◌+◌, ◌*◌, ◌/◌, ◌%◌, ◌<◌, ◌≤◌, Bool, true, false, ◌&&◌, not, All, List, [], ◌∷◌, ◌++◌, length, take, drop, refl, sym, ap, ap₂, ◌∙◌, arith, length-drop}
+use Rattle.std.proofs.Common.{◌≡◌, ℕ, zero, suc, ◌+◌, ◌*◌, ◌/◌, ◌%◌, ◌<◌, ◌≤◌, Bool, true, false, ◌&&◌, not, All, List, [], ◌∷◌, ◌++◌, length, take, drop}
+use Rattle.std.proofs.Common.{refl, sym, ap, ap₂, ◌∙◌, arith, length-drop}
 use Rattle.std.specs.Prelude.{slice_index, sum, nat_lt, ◌==◌}
 use Rattle.std.specs.Int.{bit_at}
 use Rattle.std.specs.List.{flat_map, range_with_len}
@@ -36,15 +37,18 @@ abbrev ReadsAlike : List ℕ → List ℕ → Positions → Type 0
 ReadsAlike blocks bytes s = (p : Pos) → p.bit < 32 * words_of blocks p.block → reads_one blocks bytes p ≡ set.contains s p
 
 -- a byte comes back
-byte_back : (blocks bytes : List ℕ) (s : Positions) → ((i : ℕ) → slice_index bytes i < 256) → ReadsAlike blocks bytes s → (block i : ℕ) → i < 4 * words_of blocks block
+byte_back : (blocks bytes : List ℕ) (s : Positions) → ((i : ℕ) → slice_index bytes i < 256) → ReadsAlike blocks bytes s → (block i : ℕ)
+    → i < 4 * words_of blocks block
     → slice_index bytes (start_of blocks block + i) ≡ byte_of s block i
 byte_back blocks bytes s small same block i low =
     let byte : ℕ = slice_index bytes (start_of blocks block + i) in
-    same_from_bits_below 8 byte (byte_of s block i) (small (start_of blocks block + i)) (number_with-lt (λ bit. set.contains s (record { block = block; bit = 8 * i + bit })) 8) (λ j few.
+    same_from_bits_below 8 byte (byte_of s block i) (small (start_of blocks block + i))
+    (number_with-lt (λ bit. set.contains s (record { block = block; bit = 8 * i + bit })) 8) (λ j few.
     let p : Pos = record { block = block; bit = 8 * i + j } in
     let at : (8 * i + j) / 8 ≡ i = omega (arith, few) in
     let bit : (8 * i + j) % 8 ≡ j = omega (arith, few) in
-    let read : (bit_at byte j == 1) ≡ reads_one blocks bytes p = ap₂ (λ (a b : ℕ). bit_at (slice_index bytes (start_of blocks block + a)) b == 1) (sym at) (sym bit) in
+    let read : (bit_at byte j == 1) ≡ reads_one blocks bytes p =
+    ap₂ (λ (a b : ℕ). bit_at (slice_index bytes (start_of blocks block + a)) b == 1) (sym at) (sym bit) in
     alike (bit_at byte j) (bit_at (byte_of s block i) j) (bit_at-lt byte j) (bit_at-lt (byte_of s block i) j)
     (read ∙ (same p (omega (arith, low, few)) ∙ sym (number_reads (λ k. set.contains s (record { block = block; bit = 8 * i + k })) 8 j few))))
 
@@ -67,7 +71,8 @@ first_back blocks bytes s size small same (suc n) low =
     ∙ (ap₂ (λ (xs ys : List ℕ). xs ++ ys) (first_back blocks bytes s size small same n (omega (arith, low))) (sym piece)
     ∙ (sym (take-add start count bytes) ∙ (ap (λ k. take k bytes) (sym further) ∙ ap (λ k. take (start_of blocks k) bytes) (sym next)))))
 
-all_back : (blocks bytes : List ℕ) (s : Positions) → length bytes ≡ 4 * sum blocks → ((i : ℕ) → slice_index bytes i < 256) → ReadsAlike blocks bytes s → all_bytes blocks s ≡ bytes
+all_back : (blocks bytes : List ℕ) (s : Positions) → length bytes ≡ 4 * sum blocks → ((i : ℕ) → slice_index bytes i < 256) → ReadsAlike blocks bytes s
+    → all_bytes blocks s ≡ bytes
 all_back blocks bytes s size small same =
     first_back blocks bytes s size small same (length blocks) (omega arith)
     ∙ (ap (λ xs. take (4 * sum xs) bytes) (take_all (length blocks) blocks (omega arith)) ∙ take_all (4 * sum blocks) bytes (omega (arith, size)))
@@ -79,7 +84,8 @@ small_at (byte ∷ bytes) all zero = all 0 byte (omega arith)
 small_at (byte ∷ bytes) all (suc i) = small_at bytes (λ k d low. all (suc k) d (omega (arith, low))) i
 
 -- what the set has that the bytes stand for, less key fields
-kept : (place plain key reads : Bool) → place ≡ true → (key ≡ false → plain ≡ true) → (key ≡ true → reads ≡ false) → ((place && (plain && reads)) && not key) ≡ reads
+kept : (place plain key reads : Bool) → place ≡ true → (key ≡ false → plain ≡ true) → (key ≡ true → reads ≡ false)
+    → ((place && (plain && reads)) && not key) ≡ reads
 kept place plain true true is here none = absurd (true≢false (none refl))
 kept place plain true false is here none = not_there (place && (plain && false))
   where

@@ -1,9 +1,11 @@
 -- Tables of keys as bytes, and back.
-use Rattle.std.proofs.Common.{◌≡◌, ◌≢◌, ℕ, suc, ◌+◌, ◌*◌, ◌<◌, ◌≤◌, true, false, ◌&&◌, List, [], ◌∷◌, ◌++◌, length, get_or, take, drop, drop-cons, Option, Some, None, IfSome, refl, sym, ap, ◌∙◌, inl, inr, arith, length-append}
+use Rattle.std.proofs.Common.{◌≡◌, ◌≢◌, ℕ, suc, ◌+◌, ◌*◌, ◌<◌, ◌≤◌, true, false, ◌&&◌, List, [], ◌∷◌, ◌++◌, length, get_or, take, drop, drop-cons, Option}
+use Rattle.std.proofs.Common.{Some, None, IfSome, refl, sym, ap, ◌∙◌, inl, inr, arith, length-append}
 use Rattle.std.specs.Prelude.{◌==◌, ◌||◌, slice_index, is_some, if◌then◌else◌}
 use Rattle.std.specs.List.{flat_map, list_any}
 use Rattle.std.specs.FinMap as map
-use Rattle.std.proofs.lemmas.Bool.{cases_Bool, cases_lt, cond-true, cond-false, eq-eqb, eqb-true, ne_eqb, and_from, and_left, and_right, and_parts, or_left, or_right, false≢true, true≢false}
+use Rattle.std.proofs.lemmas.Bool.{cases_Bool, cases_lt, cond-true, cond-false, eq-eqb, eqb-true, ne_eqb, and_from, and_left, and_right, and_parts, or_left}
+use Rattle.std.proofs.lemmas.Bool.{or_right, false≢true, true≢false}
 use Rattle.std.proofs.lemmas.List.{append_assoc, length-take-le, take_all}
 use Rattle.std.proofs.Math.ListN.{drop_of_length-le}
 use Rattle.std.proofs.Math.Seq.{take-append_seam, drop-append_seam}
@@ -21,18 +23,21 @@ pub key_of-short : (bytes : List ℕ) → length bytes < 33 → key_of (take 33 
 key_of-short [] low = refl
 key_of-short (first ∷ bytes) low =
     let size : length (take 32 bytes) ≢ 32 = λ e. omega (arith, e, low, ap length (take_all 32 bytes (omega (arith, low)))) in
-    cond-false (first == 1 && length (take 32 bytes) == 32) (Some (take 32 bytes)) None (and_right (first == 1) (length (take 32 bytes) == 32) (ne_eqb (length (take 32 bytes)) 32 size))
+    cond-false (first == 1 && length (take 32 bytes) == 32) (Some (take 32 bytes)) None
+    (and_right (first == 1) (length (take 32 bytes) == 32) (ne_eqb (length (take 32 bytes)) 32 size))
 
 pub key_of-other : (bytes : List ℕ) → slice_index bytes 0 ≢ 1 → key_of (take 33 bytes) ≡ None
 key_of-other [] other = refl
 key_of-other (first ∷ bytes) other =
-    cond-false (first == 1 && length (take 32 bytes) == 32) (Some (take 32 bytes)) None (and_left (first == 1) (length (take 32 bytes) == 32) (ne_eqb first 1 other))
+    cond-false (first == 1 && length (take 32 bytes) == 32) (Some (take 32 bytes)) None
+    (and_left (first == 1) (length (take 32 bytes) == 32) (ne_eqb first 1 other))
 
 pub key_of-some : (bytes : List ℕ) → 33 ≤ length bytes → slice_index bytes 0 ≡ 1 → key_of (take 33 bytes) ≡ Some (take 32 (drop 1 bytes))
 key_of-some [] long one = absurd (omega (arith, long))
 key_of-some (first ∷ bytes) long one =
     cond-true (first == 1 && length (take 32 bytes) == 32) (Some (take 32 bytes)) None
-    (and_from (first == 1) (length (take 32 bytes) == 32) (eq-eqb first 1 one) (eq-eqb (length (take 32 bytes)) 32 (length-take-le 32 bytes (omega (arith, long)))))
+    (and_from (first == 1) (length (take 32 bytes) == 32) (eq-eqb first 1 one)
+    (eq-eqb (length (take 32 bytes)) 32 (length-take-le 32 bytes (omega (arith, long)))))
 
 -- one field more
 pub key_in-plain : (fields : List Field) (i : ℕ) (f : Field) (rest : List ℕ) (block : ℕ) → i < length fields → f ≡ get_or fields i f → f.key ≡ false
@@ -43,20 +48,23 @@ key_in-plain fields i f rest block low at plain =
     ∙ (ap (λ bs. key_in bs rest block) (key_blocks-plain f (drop (suc i) fields) plain) ∙ ap (λ k. key_in (key_blocks (drop k fields)) rest block) next)
 
 with_key : (fields : List Field) (i : ℕ) (f : Field) (rest : List ℕ) (block : ℕ) → i < length fields → f ≡ get_or fields i f → f.key ≡ true
-    → key_in (key_blocks (drop i fields)) rest block ≡ (if f.block == block then key_of (take 33 rest) else key_in (key_blocks (drop (i + 1) fields)) (drop 33 rest) block)
+    → key_in (key_blocks (drop i fields)) rest block ≡ (if f.block == block then key_of (take 33 rest)
+    else key_in (key_blocks (drop (i + 1) fields)) (drop 33 rest) block)
 with_key fields i f rest block low at key =
     let next : suc i ≡ i + 1 = omega arith in
     ap (λ fs. key_in (key_blocks fs) rest block) (drop-cons fields i f low ∙ ap (λ (g : Field). g ∷ drop (suc i) fields) (sym at))
     ∙ (ap (λ bs. key_in bs rest block) (key_blocks-key f (drop (suc i) fields) key)
     ∙ ap (λ k. if f.block == block then key_of (take 33 rest) else key_in (key_blocks (drop k fields)) (drop 33 rest) block) next)
 
-pub key_in-here : (fields : List Field) (i : ℕ) (f : Field) (rest : List ℕ) (block : ℕ) → i < length fields → f ≡ get_or fields i f → f.key ≡ true → f.block ≡ block
+pub key_in-here : (fields : List Field) (i : ℕ) (f : Field) (rest : List ℕ) (block : ℕ) → i < length fields → f ≡ get_or fields i f → f.key ≡ true
+    → f.block ≡ block
     → key_in (key_blocks (drop i fields)) rest block ≡ key_of (take 33 rest)
 key_in-here fields i f rest block low at key here =
     with_key fields i f rest block low at key
     ∙ cond-true (f.block == block) (key_of (take 33 rest)) (key_in (key_blocks (drop (i + 1) fields)) (drop 33 rest) block) (eq-eqb f.block block here)
 
-pub key_in-other : (fields : List Field) (i : ℕ) (f : Field) (rest : List ℕ) (block : ℕ) → i < length fields → f ≡ get_or fields i f → f.key ≡ true → f.block ≢ block
+pub key_in-other : (fields : List Field) (i : ℕ) (f : Field) (rest : List ℕ) (block : ℕ) → i < length fields → f ≡ get_or fields i f → f.key ≡ true
+    → f.block ≢ block
     → key_in (key_blocks (drop i fields)) rest block ≡ key_in (key_blocks (drop (i + 1) fields)) (drop 33 rest) block
 key_in-other fields i f rest block low at key other =
     with_key fields i f rest block low at key
@@ -85,7 +93,12 @@ in_rest first block blocks has = or_right (first == block) (list_any (λ c. c ==
 pub length-keys : (t : KeyTable) (blocks : List ℕ) → HoldsDigests t → length (flat_map (λ block. key_bytes (map.get t block)) blocks) ≡ 33 * length blocks
 length-keys t [] are = refl
 length-keys t (b ∷ blocks) are =
-    omega (arith, length-append (key_bytes (map.get t b)) (flat_map (λ block. key_bytes (map.get t block)) blocks), length-keys t blocks are, length-key_bytes (map.get t b) (are b))
+    omega (
+      arith,
+      length-append (key_bytes (map.get t b)) (flat_map (λ block. key_bytes (map.get t block)) blocks),
+      length-keys t blocks are,
+      length-key_bytes (map.get t b) (are b),
+    )
 
 -- the key of a block comes back from the bytes of all, whatever follows them
 pub key_in-keys : (t : KeyTable) (blocks : List ℕ) (more : List ℕ) (block : ℕ) → HoldsDigests t
@@ -96,14 +109,19 @@ key_in-keys t (b ∷ blocks) more block are =
     let others : List ℕ = flat_map (λ c. key_bytes (map.get t c)) blocks in
     let size : length first ≡ 33 = length-key_bytes (map.get t b) (are b) in
     let split : (first ++ others) ++ more ≡ first ++ (others ++ more) = append_assoc first others more in
-    let front : take 33 (first ++ (others ++ more)) ≡ first = ap (λ n. take n (first ++ (others ++ more))) (sym size) ∙ take-append_seam first (others ++ more) in
-    let back : drop 33 (first ++ (others ++ more)) ≡ others ++ more = ap (λ n. drop n (first ++ (others ++ more))) (sym size) ∙ drop-append_seam first (others ++ more) in
+    let front : take 33 (first ++ (others ++ more)) ≡ first =
+    ap (λ n. take n (first ++ (others ++ more))) (sym size) ∙ take-append_seam first (others ++ more) in
+    let back : drop 33 (first ++ (others ++ more)) ≡ others ++ more =
+    ap (λ n. drop n (first ++ (others ++ more))) (sym size) ∙ drop-append_seam first (others ++ more) in
     let rest = key_in-keys t blocks more block are in
-    ap (λ bytes. key_in (b ∷ blocks) bytes block) split ∙ elim (cases_Bool (b == block)) as (λ _. (if b == block then key_of (take 33 (first ++ (others ++ more))) else key_in blocks (drop 33 (first ++ (others ++ more))) block) ≡ (if (b == block || list_any (λ c. c == block) blocks) then map.get t block else None)) [
+    ap (λ bytes. key_in (b ∷ blocks) bytes block) split ∙ elim (cases_Bool (b == block)) as (λ _.
+    (if b == block then key_of (take 33 (first ++ (others ++ more))) else key_in blocks (drop 33 (first ++ (others ++ more))) block)
+    ≡ (if (b == block || list_any (λ c. c == block) blocks) then map.get t block else None)) [
       | inl here ↦
           cond-true (b == block) _ _ here
           ∙ (ap key_of front ∙ (key_back (map.get t b) (are b) ∙ (ap (map.get t) (eqb-true b block here)
-          ∙ sym (cond-true (b == block || list_any (λ c. c == block) blocks) (map.get t block) None (or_left (b == block) (list_any (λ c. c == block) blocks) here)))))
+          ∙ sym (cond-true (b == block || list_any (λ c. c == block) blocks) (map.get t block) None
+          (or_left (b == block) (list_any (λ c. c == block) blocks) here)))))
       | inr other ↦
           cond-false (b == block) _ _ other
           ∙ (ap (λ bytes. key_in blocks bytes block) back ∙ (rest
@@ -120,29 +138,41 @@ HoldsDigests-table_where f are block = elim (cases_lt block 4) as (λ _. IfSome 
 -- a key that bytes stand for is one of a key field, and has 32 bytes
 digest_of_key : (bytes : List ℕ) → IfSome (key_of bytes) (λ digest. length digest ≡ 32)
 digest_of_key [] = tt
-digest_of_key (first ∷ digest) = elim (cases_Bool (first == 1 && length digest == 32)) as (λ _. IfSome (if first == 1 && length digest == 32 then Some digest else None) (λ d. length d ≡ 32)) [
-  | inl is ↦ rw (cond-true (first == 1 && length digest == 32) (Some digest) None is) (eqb-true (length digest) 32 (and_parts (first == 1) (length digest == 32) is).1)
-  | inr not_one ↦ rw (cond-false (first == 1 && length digest == 32) (Some digest) None not_one) tt
-]
+digest_of_key (first ∷ digest) =
+    elim (cases_Bool (first == 1 && length digest == 32)) as (λ _.
+    IfSome (if first == 1 && length digest == 32 then Some digest else None) (λ d. length d ≡ 32)) [
+      | inl is ↦
+          rw (cond-true (first == 1 && length digest == 32) (Some digest) None is)
+          (eqb-true (length digest) 32 (and_parts (first == 1) (length digest == 32) is).1)
+      | inr not_one ↦ rw (cond-false (first == 1 && length digest == 32) (Some digest) None not_one) tt
+    ]
 
 digest_in_keys : (blocks bytes : List ℕ) (block : ℕ) → IfSome (key_in blocks bytes block) (λ digest. length digest ≡ 32)
 digest_in_keys [] bytes block = tt
-digest_in_keys (b ∷ blocks) bytes block = elim (cases_Bool (b == block)) as (λ _. IfSome (if b == block then key_of (take 33 bytes) else key_in blocks (drop 33 bytes) block) (λ d. length d ≡ 32)) [
-  | inl here ↦ rw (cond-true (b == block) (key_of (take 33 bytes)) (key_in blocks (drop 33 bytes) block) here) (digest_of_key (take 33 bytes))
-  | inr other ↦ rw (cond-false (b == block) (key_of (take 33 bytes)) (key_in blocks (drop 33 bytes) block) other) (digest_in_keys blocks (drop 33 bytes) block)
-]
+digest_in_keys (b ∷ blocks) bytes block =
+    elim (cases_Bool (b == block)) as (λ _. IfSome (if b == block then key_of (take 33 bytes) else key_in blocks (drop 33 bytes) block) (λ d. length d ≡ 32)) [
+      | inl here ↦ rw (cond-true (b == block) (key_of (take 33 bytes)) (key_in blocks (drop 33 bytes) block) here) (digest_of_key (take 33 bytes))
+      | inr other ↦
+          rw (cond-false (b == block) (key_of (take 33 bytes)) (key_in blocks (drop 33 bytes) block) other) (digest_in_keys blocks (drop 33 bytes) block)
+    ]
 
 block_of_key : (blocks bytes : List ℕ) (block : ℕ) → is_some (key_in blocks bytes block) ≡ true → list_any (λ c. c == block) blocks ≡ true
 block_of_key [] bytes block has = absurd (false≢true has)
 block_of_key (b ∷ blocks) bytes block has = elim (cases_Bool (b == block)) as (λ _. list_any (λ c. c == block) (b ∷ blocks) ≡ true) [
   | inl here ↦ or_left (b == block) (list_any (λ c. c == block) blocks) here
-  | inr other ↦ in_rest b block blocks (block_of_key blocks (drop 33 bytes) block (sym (ap is_some (cond-false (b == block) (key_of (take 33 bytes)) (key_in blocks (drop 33 bytes) block) other)) ∙ has))
+  | inr other ↦
+      in_rest b block blocks (block_of_key blocks (drop 33 bytes) block
+      (sym (ap is_some (cond-false (b == block) (key_of (take 33 bytes)) (key_in blocks (drop 33 bytes) block) other)) ∙ has))
 ]
 
 AreKeys-keys_in : (m : Map) (bytes : List ℕ) → AreKeys m (keys_in m bytes)
 unfolding keys_in
 AreKeys-keys_in m bytes block some = elim (cases_lt block 4) as (λ _. (block < 4) × (is_key_block m block ≡ true)) [
-  | inl low ↦ (low, sym (key_block_is m.fields block) ∙ block_of_key (key_blocks m.fields) bytes block (sym (ap is_some (get_within (key_in (key_blocks m.fields) bytes) block low)) ∙ some))
+  | inl low ↦ (
+    low,
+    sym (key_block_is m.fields block) ∙ block_of_key (key_blocks m.fields) bytes block
+        (sym (ap is_some (get_within (key_in (key_blocks m.fields) bytes) block low)) ∙ some),
+  )
   | inr high ↦ absurd (false≢true (sym (ap is_some (get_past (key_in (key_blocks m.fields) bytes) block (λ low. omega (arith, low, high)))) ∙ some))
 ]
 
@@ -163,7 +193,8 @@ unfolding keys_in keys_column
 keys_return m t more lies =
     table_where-same (key_in (key_blocks m.fields) (flat_map (λ b. key_bytes (map.get t b)) (key_blocks m.fields) ++ more)) t
     (λ block low. key_in-keys t (key_blocks m.fields) more block lies.digests
-    ∙ elim (cases_Bool (list_any (λ c. c == block) (key_blocks m.fields))) as (λ _. (if list_any (λ c. c == block) (key_blocks m.fields) then map.get t block else None) ≡ map.get t block) [
+    ∙ elim (cases_Bool (list_any (λ c. c == block) (key_blocks m.fields))) as (λ _.
+    (if list_any (λ c. c == block) (key_blocks m.fields) then map.get t block else None) ≡ map.get t block) [
       | inl is ↦ cond-true (list_any (λ c. c == block) (key_blocks m.fields)) (map.get t block) None is
       | inr other ↦ cond-false (list_any (λ c. c == block) (key_blocks m.fields)) (map.get t block) None other
           ∙ sym (none_else (map.get t block) (λ some. true≢false (sym (key_block_is m.fields block ∙ (lies.keys block some).1) ∙ other)))

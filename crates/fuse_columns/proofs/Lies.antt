@@ -1,5 +1,6 @@
 -- Sets and tables of a map stay in it, and so does what a chip shows.
-use Rattle.std.proofs.Common.{◌≡◌, ℕ, ◌*◌, ◌/◌, ◌%◌, ◌<◌, Bool, true, false, ◌&&◌, not, List, [], length, Option, Some, None, IfSome, refl, sym, ap, ◌∙◌, inl, inr, arith}
+use Rattle.std.proofs.Common.{◌≡◌, ℕ, ◌*◌, ◌/◌, ◌%◌, ◌<◌, Bool, true, false, ◌&&◌, not, List, [], length, Option, Some, None, IfSome, refl, sym, ap, ◌∙◌, inl}
+use Rattle.std.proofs.Common.{inr, arith}
 use Rattle.std.specs.Prelude.{◌==◌, is_some, slice_index, slice_index_or, if◌then◌else◌}
 use Rattle.std.specs.Int.{bit_at}
 use Rattle.std.specs.Option.{option_or}
@@ -30,7 +31,8 @@ pub sets_stay : (m : Map) → SetsStay m
 sets_stay m = record {
   none = λ p has. absurd (false≢true (sym (set.contains-empty pos_cmp p) ∙ has));
   union = λ s t s_lies t_lies p has.
-      elim (or_cases (set.contains s p) (set.contains t p) (sym (set.contains-union pos_total s t p) ∙ has)) as (λ _. IsPosition m.blocks p × (is_key_position m p ≡ false)) [
+      elim (or_cases (set.contains s p) (set.contains t p) (sym (set.contains-union pos_total s t p) ∙ has)) as (λ _.
+      IsPosition m.blocks p × (is_key_position m p ≡ false)) [
         | inl one ↦ s_lies p one
         | inr other ↦ t_lies p other
       ];
@@ -64,19 +66,25 @@ joined_lies : (m : Map) (t u : KeyTable) → AreKeysOf m t → AreKeysOf m u →
 unfolding joined
 joined_lies m t u t_lies u_lies = record {
   keys = λ block has.
-      elim (one_of_two (map.get t block) (map.get u block) (from_table (λ b. option_or (map.get t b) (map.get u b)) block has)) as (λ _. (block < 4) × (is_key_block m block ≡ true)) [
+      elim (one_of_two (map.get t block) (map.get u block) (from_table (λ b. option_or (map.get t b) (map.get u b)) block has)) as (λ _.
+      (block < 4) × (is_key_block m block ≡ true)) [
         | inl one ↦ t_lies.keys block one
         | inr other ↦ u_lies.keys block other
       ];
-  digests = HoldsDigests-table_where (λ b. option_or (map.get t b) (map.get u b)) (λ block. each_digest (map.get t block) (map.get u block) (t_lies.digests block) (u_lies.digests block));
+  digests =
+      HoldsDigests-table_where (λ b. option_or (map.get t b) (map.get u b)) (λ block.
+      each_digest (map.get t block) (map.get u block) (t_lies.digests block) (u_lies.digests block));
 }
 
 without_lies : (m : Map) (t u : KeyTable) → AreKeysOf m t → AreKeysOf m (without t u)
 unfolding without
 without_lies m t u t_lies = record {
   keys = λ block has.
-      t_lies.keys block (first_of_two (is_some (map.get u block)) (map.get t block) (from_table (λ b. if is_some (map.get u b) then None else map.get t b) block has));
-  digests = HoldsDigests-table_where (λ b. if is_some (map.get u b) then None else map.get t b) (λ block. left_digest (is_some (map.get u block)) (map.get t block) (t_lies.digests block));
+      t_lies.keys block (first_of_two (is_some (map.get u block)) (map.get t block)
+      (from_table (λ b. if is_some (map.get u b) then None else map.get t b) block has));
+  digests =
+      HoldsDigests-table_where (λ b. if is_some (map.get u b) then None else map.get t b) (λ block.
+      left_digest (is_some (map.get u block)) (map.get t block) (t_lies.digests block));
 }
 
 no_keys : KeyTable
@@ -109,13 +117,16 @@ ones_in_blocks m blocks fits p one =
       | inl low ↦ omega (arith, low, count)
       | inr high ↦
           let none : bit_at 0 (p.bit % 32) ≡ 0 = omega arith in
-          absurd (false≢true (sym (ap (λ (word : ℕ). bit_at word (p.bit % 32) == 1) (get_or_past block (p.bit / 32) 0 (omega (arith, high))) ∙ ap (λ k. k == 1) none) ∙ one))
+          absurd (false≢true (sym (ap (λ (word : ℕ). bit_at word (p.bit % 32) == 1) (get_or_past block (p.bit / 32) 0 (omega (arith, high))) ∙ ap (λ k.
+          k == 1) none) ∙ one))
     ]
 
 ones_lie : (m : Map) (blocks : List (List ℕ)) → Fits m blocks → AreBits m (redacted m blocks).ones
 unfolding redacted
 ones_lie m blocks fits p has =
-    let parts = and_parts (is_place p) (reads_one blocks p && not (is_key_position m p)) (sym (contains-places_where (λ q. reads_one blocks q && not (is_key_position m q)) p) ∙ has) in
+    let parts =
+    and_parts (is_place p) (reads_one blocks p && not (is_key_position m p))
+    (sym (contains-places_where (λ q. reads_one blocks q && not (is_key_position m q)) p) ∙ has) in
     let both = and_parts (reads_one blocks p) (not (is_key_position m p)) parts.1 in
     let low : p.bit < 32 * words_of m.blocks p.block = ones_in_blocks m blocks fits p both.0 in
     (record { block = block_is m.blocks p.block p.bit low; bit = low }, not-true (is_key_position m p) both.1)

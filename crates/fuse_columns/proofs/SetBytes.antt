@@ -1,10 +1,12 @@
 -- Sets of positions as the bytes of all blocks, and back.
-use Rattle.std.proofs.Common.{◌≡◌, ℕ, zero, suc, ◌+◌, ◌*◌, ◌/◌, ◌%◌, ◌<◌, ◌≤◌, Bool, true, false, ◌&&◌, not, All, List, [], ◌∷◌, ◌++◌, length, refl, sym, ap, ap₂, ◌∙◌, inl, inr, arith, map}
+use Rattle.std.proofs.Common.{◌≡◌, ℕ, zero, suc, ◌+◌, ◌*◌, ◌/◌, ◌%◌, ◌<◌, ◌≤◌, Bool, true, false, ◌&&◌, not, All, List, [], ◌∷◌, ◌++◌, length, refl, sym, ap}
+use Rattle.std.proofs.Common.{ap₂, ◌∙◌, inl, inr, arith, map}
 use Rattle.std.specs.Prelude.{slice_index, sum, take, nat_lt, ◌==◌}
 use Rattle.std.specs.Int.{bit_at, to_le_bytes, w32}
 use Rattle.std.specs.List.{flat_map, range_with_len}
 use Rattle.std.specs.FinSet as set
-use Rattle.std.proofs.lemmas.Bool.{cases_Bool, cases_lt, cond-true, cond-false, lt-ltb, le-ltb, ltb-true, and_parts, and_from, and_left, and_right, not-true, false≢true, false_from_ne_true}
+use Rattle.std.proofs.lemmas.Bool.{cases_Bool, cases_lt, cond-true, cond-false, lt-ltb, le-ltb, ltb-true, and_parts, and_from, and_left, and_right, not-true}
+use Rattle.std.proofs.lemmas.Bool.{false≢true, false_from_ne_true}
 use Rattle.std.proofs.lemmas.List.{get_or_past, get_or_append_left, map-append}
 use Rattle.std.proofs.lemmas.List.FromFn.{get_or-map-range_with_len, length-map-range_with_len}
 use Rattle.std.proofs.lemmas.List.Sums.{sum_by_more_le}
@@ -15,7 +17,8 @@ use Rattle.fuse_image.specs.Places.{Positions, IsPlace, is_place, places_where, 
 use Rattle.fuse_image.specs.Words.{bit_in, number_with, place_of, word_of, words_of as image_words}
 use Rattle.fuse_image.proofs.Sets.{places_where-at, none_outside, same_places, is_place-from_IsPlace}
 use Rattle.fuse_image.specs.WordsAgain.{same_number}
-use Rattle.fuse_columns.specs.BitsColumns.{byte_of, block_bytes, all_bytes, outside_keys, bits_column, bits_length, start_of, reads_one, is_plain, bits_in, AreBits}
+use Rattle.fuse_columns.specs.BitsColumns.{byte_of, block_bytes, all_bytes, outside_keys, bits_column, bits_length, start_of, reads_one, is_plain, bits_in}
+use Rattle.fuse_columns.specs.BitsColumns.{AreBits}
 use Rattle.fuse_columns.specs.Words.{bytes_of_words, bytes_of_blocks, word_at, word_in}
 use Rattle.fuse_columns.proofs.Blocks.{bytes_of_words-zero, bytes_of_words-more}
 use Rattle.fuse_columns.proofs.Bytes.{bytes_of_number, bit_of_bytes, number_reads}
@@ -25,7 +28,8 @@ use Rattle.fuse_columns.proofs.Pieces.{range-append, same_pieces, length-pieces,
 word_byte : (s : Positions) (block n byte : ℕ) (shift : ℕ → ℕ) → n < 8 → ((i : ℕ) → i < 8 → 32 * n + shift i ≡ 8 * byte + i)
     → number_with (λ i. set.contains s (place_of (8 * block + n) (shift i))) 8 ≡ byte_of s block byte
 word_byte s block n byte shift low same =
-    same_number (λ i. set.contains s (place_of (8 * block + n) (shift i))) (λ bit. set.contains s (record { block = block; bit = 8 * byte + bit })) 8 (λ i small.
+    same_number (λ i. set.contains s (place_of (8 * block + n) (shift i))) (λ bit.
+    set.contains s (record { block = block; bit = 8 * byte + bit })) 8 (λ i small.
     let there : (8 * block + n) / 8 ≡ block = omega (arith, low) in
     let index : (8 * block + n) % 8 ≡ n = omega (arith, low) in
     ap₂ (λ (b k : ℕ). set.contains s (record { block = b; bit = k })) there (ap (λ k. 32 * k + shift i) index ∙ same i small))
@@ -91,16 +95,20 @@ all_by_words blocks s small =
 -- sets that agree on the positions of the blocks have the same bytes
 same_map_range : (f g : ℕ → ℕ) (a n : ℕ) → ((k : ℕ) → k < a + n → f k ≡ g k) → map f (range_with_len a n) ≡ map g (range_with_len a n)
 same_map_range f g a zero same = refl
-same_map_range f g a (suc n) same = ap₂ (λ (x : ℕ) (xs : List ℕ). x ∷ xs) (same a (omega arith)) (same_map_range f g (a + 1) n (λ k low. same k (omega (arith, low))))
+same_map_range f g a (suc n) same =
+    ap₂ (λ (x : ℕ) (xs : List ℕ). x ∷ xs) (same a (omega arith)) (same_map_range f g (a + 1) n (λ k low. same k (omega (arith, low))))
 
-pub same_bytes : (blocks : List ℕ) (s t : Positions) → ((p : Pos) → p.bit < 32 * words_of blocks p.block → set.contains s p ≡ set.contains t p) → all_bytes blocks s ≡ all_bytes blocks t
+pub same_bytes : (blocks : List ℕ) (s t : Positions) → ((p : Pos) → p.bit < 32 * words_of blocks p.block → set.contains s p ≡ set.contains t p)
+    → all_bytes blocks s ≡ all_bytes blocks t
 same_bytes blocks s t same = same_pieces (block_bytes blocks s) (block_bytes blocks t) (length blocks) (λ block _.
     same_map_range (byte_of s block) (byte_of t block) 0 (4 * words_of blocks block) (λ i low.
-    same_number (λ bit. set.contains s (record { block = block; bit = 8 * i + bit })) (λ bit. set.contains t (record { block = block; bit = 8 * i + bit })) 8 (λ bit small.
+    same_number (λ bit. set.contains s (record { block = block; bit = 8 * i + bit })) (λ bit.
+    set.contains t (record { block = block; bit = 8 * i + bit })) 8 (λ bit small.
     same (record { block = block; bit = 8 * i + bit }) (omega (arith, low, small)))))
 
 -- the words of a set without key positions give the set's column
-pub column_by_words : (m : Map) (s : Positions) → IsMap m → bytes_of_blocks (image_words (set.difference s (places_where (is_key_position m)))) m.blocks (length m.blocks) ≡ bits_column m s
+pub column_by_words : (m : Map) (s : Positions) → IsMap m → bytes_of_blocks (image_words (set.difference s (places_where (is_key_position m)))) m.blocks
+    (length m.blocks) ≡ bits_column m s
 unfolding bits_column
 column_by_words m s is =
     let keys : Positions = places_where (is_key_position m) in
@@ -129,7 +137,8 @@ unfolding bits_column
 length-bits_column m s = length-all_bytes m.blocks (outside_keys m s)
 
 -- what the bytes of a set read at a position of the blocks
-pub reads_set : (blocks : List ℕ) (s : Positions) (rest : List ℕ) (p : Pos) → p.bit < 32 * words_of blocks p.block → reads_one blocks (all_bytes blocks s ++ rest) p ≡ set.contains s p
+pub reads_set : (blocks : List ℕ) (s : Positions) (rest : List ℕ) (p : Pos) → p.bit < 32 * words_of blocks p.block
+    → reads_one blocks (all_bytes blocks s ++ rest) p ≡ set.contains s p
 reads_set blocks s rest p low =
     let block = p.block in
     let i : ℕ = p.bit / 8 in
@@ -188,7 +197,8 @@ pub bits_return : (m : Map) → IsMap m → (s : Positions) (rest : List ℕ) �
 bits_return m is s rest bits =
     bits_back m is s rest ∙ set.same_set pos_total pos_exact (set.retain s (is_plain m)) s (λ p.
     contains-plain m s p ∙ kept (set.contains s p) (is_plain m p) (λ has.
-    and_from (nat_lt p.bit (32 * words_of m.blocks p.block)) (not (is_key_position m p)) (lt-ltb p.bit (32 * words_of m.blocks p.block) (bits p has).0.bit) (ap not (bits p has).1)))
+    and_from (nat_lt p.bit (32 * words_of m.blocks p.block)) (not (is_key_position m p)) (lt-ltb p.bit (32 * words_of m.blocks p.block) (bits p has).0.bit)
+    (ap not (bits p has).1)))
   where
     kept : (a b : Bool) → (a ≡ true → b ≡ true) → (a && b) ≡ a
     kept true b h = h refl
@@ -198,7 +208,9 @@ bits_return m is s rest bits =
 pub AreBits-bits_in : (m : Map) (bytes : List ℕ) → AreBits m (bits_in m bytes)
 unfolding bits_in
 AreBits-bits_in m bytes p has =
-    let parts = and_parts (is_place p) (is_plain m p && reads_one m.blocks bytes p) (sym (contains-places_where (λ q. is_plain m q && reads_one m.blocks bytes q) p) ∙ has) in
+    let parts =
+    and_parts (is_place p) (is_plain m p && reads_one m.blocks bytes p)
+    (sym (contains-places_where (λ q. is_plain m q && reads_one m.blocks bytes q) p) ∙ has) in
     let plain = and_parts (is_plain m p) (reads_one m.blocks bytes p) parts.1 in
     let both = and_parts (nat_lt p.bit (32 * words_of m.blocks p.block)) (not (is_key_position m p)) plain.0 in
     let low : p.bit < 32 * words_of m.blocks p.block = ltb-true p.bit (32 * words_of m.blocks p.block) both.0 in
@@ -206,14 +218,16 @@ AreBits-bits_in m bytes p has =
 
 -- the bits of words that are read from bytes
 four_at : (bytes : List ℕ) (i q : ℕ) → q < 4
-    → slice_index (slice_index bytes (4 * i) ∷ slice_index bytes (4 * i + 1) ∷ slice_index bytes (4 * i + 2) ∷ slice_index bytes (4 * i + 3) ∷ []) q ≡ slice_index bytes (4 * i + q)
+    → slice_index (slice_index bytes (4 * i) ∷ slice_index bytes (4 * i + 1) ∷ slice_index bytes (4 * i + 2) ∷ slice_index bytes (4 * i + 3) ∷ []) q
+    ≡ slice_index bytes (4 * i + q)
 four_at bytes i zero low = let e : 4 * i ≡ 4 * i + 0 = omega arith in ap (slice_index bytes) e
 four_at bytes i (suc zero) low = refl
 four_at bytes i (suc (suc zero)) low = refl
 four_at bytes i (suc (suc (suc zero))) low = refl
 four_at bytes i (suc (suc (suc (suc q)))) low = absurd (omega (arith, low))
 
-bit_of_word_at : (bytes : List ℕ) → ((i : ℕ) → slice_index bytes i < 256) → (i j : ℕ) → j < 32 → bit_at (word_at bytes i) j ≡ bit_at (slice_index bytes (4 * i + j / 8)) (j % 8)
+bit_of_word_at : (bytes : List ℕ) → ((i : ℕ) → slice_index bytes i < 256) → (i j : ℕ) → j < 32
+    → bit_at (word_at bytes i) j ≡ bit_at (slice_index bytes (4 * i + j / 8)) (j % 8)
 bit_of_word_at bytes small i j low =
     bit_of_bytes (slice_index bytes (4 * i)) (slice_index bytes (4 * i + 1)) (slice_index bytes (4 * i + 2)) (slice_index bytes (4 * i + 3)) j
     (small (4 * i)) (small (4 * i + 1)) (small (4 * i + 2)) low
@@ -232,7 +246,8 @@ bit_in_words blocks bytes words small each p is =
     let index : (8 * p.block + p.bit / 32) % 8 ≡ p.bit / 32 = omega (arith, is.1) in
     let read : slice_index words (8 * p.block + p.bit / 32) ≡ word_in blocks bytes p.block word =
     each (8 * p.block + p.bit / 32) (omega (arith, is.0, is.1)) ∙ ap₂ (λ (b i : ℕ). word_in blocks bytes b i) block index in
-    ap (λ k. bit_at k (p.bit % 32) == 1) read ∙ elim (cases_lt p.bit (32 * count)) as (λ _. (bit_at (word_in blocks bytes p.block word) (p.bit % 32) == 1) ≡ (nat_lt p.bit (32 * count) && reads_one blocks bytes p)) [
+    ap (λ k. bit_at k (p.bit % 32) == 1) read ∙ elim (cases_lt p.bit (32 * count)) as (λ _.
+    (bit_at (word_in blocks bytes p.block word) (p.bit % 32) == 1) ≡ (nat_lt p.bit (32 * count) && reads_one blocks bytes p)) [
       | inl low ↦
           let there : nat_lt word count ≡ true = lt-ltb word count (omega (arith, low)) in
           let byte : 4 * (sum (take p.block blocks) + p.bit / 32) + p.bit % 32 / 8 ≡ start_of blocks p.block + p.bit / 8 = omega arith in
@@ -265,5 +280,6 @@ bits_by_words m bytes words small each =
     (λ p is.
     turned (nat_lt p.bit (32 * words_of m.blocks p.block)) (is_key_position m p) (reads_one m.blocks bytes p)
     ∙ sym (set.contains-difference pos_total ones keys p
-    ∙ ap₂ (λ (a b : Bool). a && not b) (places_where-at (bit_in words) p is ∙ bit_in_words m.blocks bytes words small each p is) (places_where-at (is_key_position m) p is)))
+    ∙ ap₂ (λ (a b : Bool). a && not b) (places_where-at (bit_in words) p is ∙ bit_in_words m.blocks bytes words small each p is)
+    (places_where-at (is_key_position m) p is)))
     (λ p not_one. set.contains-difference pos_total ones keys p ∙ and_left _ _ (none_outside (bit_in words) p not_one)))

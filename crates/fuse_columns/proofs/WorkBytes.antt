@@ -38,7 +38,14 @@ unfolding todo_column
 length-todo_column m work digests =
     let first = bits_column m work.first in
     let second = bits_column m work.second in
-    omega (arith, length-append (first ++ second) (keys_column m work.keys), length-append first second, length-bits_column m work.first, length-bits_column m work.second, length-keys_column m work.keys digests)
+    omega (
+      arith,
+      length-append (first ++ second) (keys_column m work.keys),
+      length-append first second,
+      length-bits_column m work.first,
+      length-bits_column m work.second,
+      length-keys_column m work.keys digests,
+    )
 
 -- work that lies in the map comes back whole
 pub work_returns : (m : Map) → IsMap m → (work : Work) → IsWork m work → work_in m (todo_column m work) ≡ work
@@ -50,8 +57,10 @@ work_returns m is work lies =
     let keys : List ℕ = keys_column m work.keys in
     let bytes : List ℕ = first ++ second ++ keys in
     let split : bytes ≡ first ++ (second ++ keys) = append_assoc first second keys in
-    let rest : drop n bytes ≡ second ++ keys = ap₂ (λ (k : ℕ) (bs : List ℕ). drop k bs) (sym (length-bits_column m work.first)) split ∙ drop-append_seam first (second ++ keys) in
-    let last : drop (n + n) bytes ≡ keys = sym (drop-drop n n bytes) ∙ (ap₂ (λ (k : ℕ) (bs : List ℕ). drop k bs) (sym (length-bits_column m work.second)) rest ∙ drop-append_seam second keys) in
+    let rest : drop n bytes ≡ second ++ keys =
+    ap₂ (λ (k : ℕ) (bs : List ℕ). drop k bs) (sym (length-bits_column m work.first)) split ∙ drop-append_seam first (second ++ keys) in
+    let last : drop (n + n) bytes ≡ keys =
+    sym (drop-drop n n bytes) ∙ (ap₂ (λ (k : ℕ) (bs : List ℕ). drop k bs) (sym (length-bits_column m work.second)) rest ∙ drop-append_seam second keys) in
     let e0 : bits_in m bytes ≡ work.first = ap (bits_in m) split ∙ bits_return m is work.first (second ++ keys) lies.first in
     let e1 : bits_in m (drop n bytes) ≡ work.second = ap (bits_in m) rest ∙ bits_return m is work.second keys lies.second in
     let e2 : keys_in m (drop (n + n) bytes) ≡ work.keys = ap (keys_in m) last ∙ keys_return_whole m work.keys lies.keys in

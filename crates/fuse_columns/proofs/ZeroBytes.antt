@@ -1,5 +1,6 @@
 -- Zeros stand for nothing, and nothing is zeros.
-use Rattle.std.proofs.Common.{◌≡◌, ℕ, zero, suc, ◌+◌, ◌-◌, ◌*◌, ◌/◌, ◌%◌, ◌<◌, false, ◌&&◌, List, [], ◌∷◌, ◌++◌, length, get_or, take, drop, None, refl, sym, ap, ap₂, ◌∙◌, inl, inr, arith, nat_cmp}
+use Rattle.std.proofs.Common.{◌≡◌, ℕ, zero, suc, ◌+◌, ◌-◌, ◌*◌, ◌/◌, ◌%◌, ◌<◌, false, ◌&&◌, List, [], ◌∷◌, ◌++◌, length, get_or, take, drop, None, refl, sym}
+use Rattle.std.proofs.Common.{ap, ap₂, ◌∙◌, inl, inr, arith, nat_cmp}
 use Rattle.std.specs.Prelude.{◌==◌, if◌then◌else◌}
 use Rattle.std.specs.Int.{bit_at}
 use Rattle.std.specs.FinSet as set
@@ -39,14 +40,15 @@ no_bits m count =
 
 no_key : (blocks : List ℕ) (count block : ℕ) → key_in blocks (zeros count) block ≡ None
 no_key [] count block = refl
-no_key (b ∷ blocks) count block = elim (cases_Bool (b == block)) as (λ _. (if b == block then key_of (take 33 (zeros count)) else key_in blocks (drop 33 (zeros count)) block) ≡ None) [
-  | inl here ↦
-      cond-true (b == block) (key_of (take 33 (zeros count))) (key_in blocks (drop 33 (zeros count)) block) here
-      ∙ key_of-other (zeros count) (λ e. omega (arith, e, zeros_at count 0))
-  | inr other ↦
-      cond-false (b == block) (key_of (take 33 (zeros count))) (key_in blocks (drop 33 (zeros count)) block) other
-      ∙ (ap (λ bytes. key_in blocks bytes block) (zeros_after count 33) ∙ no_key blocks (count - 33) block)
-]
+no_key (b ∷ blocks) count block =
+    elim (cases_Bool (b == block)) as (λ _. (if b == block then key_of (take 33 (zeros count)) else key_in blocks (drop 33 (zeros count)) block) ≡ None) [
+      | inl here ↦
+          cond-true (b == block) (key_of (take 33 (zeros count))) (key_in blocks (drop 33 (zeros count)) block) here
+          ∙ key_of-other (zeros count) (λ e. omega (arith, e, zeros_at count 0))
+      | inr other ↦
+          cond-false (b == block) (key_of (take 33 (zeros count))) (key_in blocks (drop 33 (zeros count)) block) other
+          ∙ (ap (λ bytes. key_in blocks bytes block) (zeros_after count 33) ∙ no_key blocks (count - 33) block)
+    ]
 
 no_keys : (m : Map) (count : ℕ) → keys_in m (zeros count) ≡ map.empty
 unfolding keys_in
@@ -101,6 +103,7 @@ nothing_is_zeros m is =
       bits = zero_bits m is;
       keys = zero_keys m is;
       work =
-          ap₂ (λ (xs ys : List ℕ). xs ++ ys) (ap₂ (λ (xs ys : List ℕ). xs ++ ys) (zero_bits m is) (zero_bits m is) ∙ replicate-append-replicate n n 0) (zero_keys m is)
+          ap₂ (λ (xs ys : List ℕ). xs ++ ys) (ap₂ (λ (xs ys : List ℕ). xs ++ ys) (zero_bits m is) (zero_bits m is) ∙ replicate-append-replicate n n 0)
+          (zero_keys m is)
           ∙ (replicate-append-replicate (n + n) k 0 ∙ ap zeros whole);
     }

@@ -3,7 +3,11 @@ ghost use Rattle.std.specs.Prelude.{ℕ};
 ghost use Rattle.fusemap_core.specs.Map.{IsMap, Map};
 ghost use Rattle.fuse_columns.specs.Zeros.{NothingIsZeros, ZerosAreNothing};
 ghost use Rattle.fuse_columns.specs.Lying.{ReadBacksLie, SetsStay, TablesStay};
-ghost use Rattle.fuse_columns.specs.Laws.{PlainBitsComeBack, BitsComeBack, KeysComeBack, ImageComesBack, WorkComesBack, BitsLieInMap, KeysLieInMap, WorkLiesInMap, BitsHaveLength, KeysHaveLength, WorkHasLength, BitsBytesComeBack, KeyBytesComeBack, WorkBytesComeBack};
+ghost use Rattle.fuse_columns.specs.Laws.{PlainBitsComeBack, BitsComeBack, KeysComeBack};
+ghost use Rattle.fuse_columns.specs.Laws.{ImageComesBack, WorkComesBack, BitsLieInMap};
+ghost use Rattle.fuse_columns.specs.Laws.{KeysLieInMap, WorkLiesInMap, BitsHaveLength};
+ghost use Rattle.fuse_columns.specs.Laws.{KeysHaveLength, WorkHasLength, BitsBytesComeBack};
+ghost use Rattle.fuse_columns.specs.Laws.{KeyBytesComeBack, WorkBytesComeBack};
 
 /// What was made a column comes back from it as it was: sets of positions of the map outside key
 /// fields, keys at its key fields, and an image and work made of both. Of any other set such positions

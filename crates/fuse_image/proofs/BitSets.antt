@@ -1,17 +1,21 @@
 -- Sets of positions by the bits of words.
-use Rattle.std.proofs.Common.{◌≡◌, ℕ, zero, suc, ◌+◌, ◌-◌, ◌*◌, ◌/◌, ◌%◌, ◌^◌, ◌<◌, max, min, Bool, true, false, ◌&&◌, ◌||◌, not, List, length, get_or, set as list_set, replicate, ◌↔◌, is_eq, refl, sym, ap, ap₂, ◌∙◌, inl, inr, arith}
+use Rattle.std.proofs.Common.{◌≡◌, ℕ, zero, suc, ◌+◌, ◌-◌, ◌*◌, ◌/◌, ◌%◌, ◌^◌, ◌<◌, max, min, Bool, true, false, ◌&&◌, ◌||◌, not, List, length, get_or}
+use Rattle.std.proofs.Common.{set as list_set, replicate, ◌↔◌, is_eq, refl, sym, ap, ap₂, ◌∙◌, inl, inr, arith}
 use Rattle.std.specs.Prelude.{◌==◌, bit_and, bit_or}
 use Rattle.std.specs.Int.{bit_at, bit_not, w32}
 use Rattle.std.specs.FinSet as set
-use Rattle.std.proofs.lemmas.Bool.{cases_Bool, cases_eq, and_parts, and_from, and_left, and_right, or_from, or_left, eq-eqb, eqb-true, ne_eqb, true≢false, false_from_ne_true}
+use Rattle.std.proofs.lemmas.Bool.{cases_Bool, cases_eq, and_parts, and_from, and_left, and_right, or_from, or_left, eq-eqb, eqb-true, ne_eqb, true≢false}
+use Rattle.std.proofs.lemmas.Bool.{false_from_ne_true}
 use Rattle.std.specs.Int.Bits.{and_lt}
 use Rattle.std.specs.Ordering.{eq_by_cmp}
 use Rattle.std.specs.Cmp.{Equal-is, tied_itself}
 use Rattle.std.proofs.lemmas.Grind.{get_or-set_at}
 use Rattle.std.proofs.lemmas.List.{get_or-set_other}
-use Rattle.std.proofs.lemmas.Nat.Bits.{bit_at_or, bit_at_and, bit_at_not, bit_at-lt, bit_at-zero, bit_at_set_same, bit_at_set_other, shr_and_one, same_from_bits_below}
+use Rattle.std.proofs.lemmas.Nat.Bits.{bit_at_or, bit_at_and, bit_at_not, bit_at-lt, bit_at-zero, bit_at_set_same, bit_at_set_other, shr_and_one}
+use Rattle.std.proofs.lemmas.Nat.Bits.{same_from_bits_below}
 use Rattle.fusemap_core.specs.declared.pos.Pos.{Pos}
-use Rattle.fuse_image.specs.Places.{is_empty, meets, Positions, pos_cmp, pos_total, pos_exact, is_place, IsPlace, places_where, contains-places_where, same_bool}
+use Rattle.fuse_image.specs.Places.{is_empty, meets, Positions, pos_cmp, pos_total, pos_exact, is_place, IsPlace, places_where, contains-places_where}
+use Rattle.fuse_image.specs.Places.{same_bool}
 use Rattle.fuse_image.specs.Words.{bit_in, place_of}
 use Rattle.fuse_image.specs.WordsAgain.{AreWords, contains-place_of}
 use Rattle.fuse_image.proofs.Sets.{none_in, is_empty-from_none, is_empty-difference, is_place-from_IsPlace, IsPlace-from_is_place, same_places, none_outside}
@@ -32,7 +36,8 @@ place_again p is =
     ap₂ (λ (x y : ℕ). let r : Pos = record { block = x; bit = y } in r) block bit
 
 -- the bit of a position
-bit_of : (word : ℕ → ℕ) (s : Positions) → AreBitsOf word s → (p : Pos) → IsPlace p → (bit_at (word (8 * p.block + p.bit / 32)) (p.bit % 32) == 1) ≡ set.contains s p
+bit_of : (word : ℕ → ℕ) (s : Positions) → AreBitsOf word s → (p : Pos) → IsPlace p
+    → (bit_at (word (8 * p.block + p.bit / 32)) (p.bit % 32) == 1) ≡ set.contains s p
 bit_of word s are p is =
     are.bits (8 * p.block + p.bit / 32) (p.bit % 32) (omega (arith, is.0, is.1)) (omega arith)
     ∙ ap (set.contains s) (place_again p is)
@@ -96,7 +101,8 @@ AreBitsOf-and f g s t own other = record {
   none = λ p not_one. set.contains-intersection pos_total s t p ∙ and_left _ _ (own.none p not_one);
 }
 
-pub AreBitsOf-and_not : (f g : ℕ → ℕ) (s t : Positions) → AreBitsOf f s → AreBitsOf g t → ((w : ℕ) → g w < 2 ^ 32) → AreBitsOf (λ w. bit_and (f w) (bit_not w32 (g w))) (set.difference s t)
+pub AreBitsOf-and_not : (f g : ℕ → ℕ) (s t : Positions) → AreBitsOf f s → AreBitsOf g t → ((w : ℕ) → g w < 2 ^ 32) → AreBitsOf (λ w.
+    bit_and (f w) (bit_not w32 (g w))) (set.difference s t)
 AreBitsOf-and_not f g s t own other small_words = record {
   bits = λ w i low small.
       ap (λ (b : ℕ). b == 1) (bit_at_and (f w) (bit_not w32 (g w)) i)
@@ -134,7 +140,8 @@ no_bit zero h e = refl
 no_bit (suc zero) h e = absurd (true≢false e)
 no_bit (suc (suc b)) h e = absurd (omega (arith, h))
 
-pub is_empty-zeros : (word : ℕ → ℕ) (s : Positions) → AreBitsOf word s → ((w : ℕ) → word w < 2 ^ 32) → (are_zeros : Bool) → ((are_zeros ≡ true) ↔ ((w : ℕ) → w < 32 → word w ≡ 0)) → are_zeros ≡ is_empty s
+pub is_empty-zeros : (word : ℕ → ℕ) (s : Positions) → AreBitsOf word s → ((w : ℕ) → word w < 2 ^ 32) → (are_zeros : Bool)
+    → ((are_zeros ≡ true) ↔ ((w : ℕ) → w < 32 → word w ≡ 0)) → are_zeros ≡ is_empty s
 is_empty-zeros word s are small_words are_zeros each = same_bool are_zeros (is_empty s)
     (λ is. is_empty-from_none s (λ p. elim (cases_Bool (is_place p)) as (λ _. set.contains s p ≡ false) [
       | inl here ↦
@@ -152,30 +159,40 @@ pub is_place-of_words : (words : List ℕ) (p : Pos) → set.contains (positions
 is_place-of_words words p has = (and_parts (is_place p) (bit_in words p) (sym (contains-places_where (bit_in words) p) ∙ has)).0
 
 -- what the operations on words do to their sets
-pub positions_of-both : (own other words : List ℕ) → ((w : ℕ) → w < 32 → get_or words w 0 ≡ bit_or (get_or own w 0) (get_or other w 0)) → positions_of words ≡ set.union (positions_of own) (positions_of other)
+pub positions_of-both : (own other words : List ℕ) → ((w : ℕ) → w < 32 → get_or words w 0 ≡ bit_or (get_or own w 0) (get_or other w 0))
+    → positions_of words ≡ set.union (positions_of own) (positions_of other)
 positions_of-both own other words each =
     let s = set.union (positions_of own) (positions_of other) in
-    positions_of-bits words s (AreBitsOf-same _ (λ w. get_or words w 0) s each (AreBitsOf-or (λ w. get_or own w 0) (λ w. get_or other w 0) _ _ (AreBitsOf-words own) (AreBitsOf-words other)))
+    positions_of-bits words s (AreBitsOf-same _ (λ w. get_or words w 0) s each
+    (AreBitsOf-or (λ w. get_or own w 0) (λ w. get_or other w 0) _ _ (AreBitsOf-words own) (AreBitsOf-words other)))
 
-pub positions_of-shared : (own other words : List ℕ) → ((w : ℕ) → w < 32 → get_or words w 0 ≡ bit_and (get_or own w 0) (get_or other w 0)) → positions_of words ≡ set.intersection (positions_of own) (positions_of other)
+pub positions_of-shared : (own other words : List ℕ) → ((w : ℕ) → w < 32 → get_or words w 0 ≡ bit_and (get_or own w 0) (get_or other w 0))
+    → positions_of words ≡ set.intersection (positions_of own) (positions_of other)
 positions_of-shared own other words each =
     let s = set.intersection (positions_of own) (positions_of other) in
-    positions_of-bits words s (AreBitsOf-same _ (λ w. get_or words w 0) s each (AreBitsOf-and (λ w. get_or own w 0) (λ w. get_or other w 0) _ _ (AreBitsOf-words own) (AreBitsOf-words other)))
+    positions_of-bits words s (AreBitsOf-same _ (λ w. get_or words w 0) s each
+    (AreBitsOf-and (λ w. get_or own w 0) (λ w. get_or other w 0) _ _ (AreBitsOf-words own) (AreBitsOf-words other)))
 
-pub positions_of-without : (own other words : List ℕ) → AreWords other → ((w : ℕ) → w < 32 → get_or words w 0 ≡ bit_and (get_or own w 0) (bit_not w32 (get_or other w 0))) → positions_of words ≡ set.difference (positions_of own) (positions_of other)
+pub positions_of-without : (own other words : List ℕ) → AreWords other
+    → ((w : ℕ) → w < 32 → get_or words w 0 ≡ bit_and (get_or own w 0) (bit_not w32 (get_or other w 0)))
+    → positions_of words ≡ set.difference (positions_of own) (positions_of other)
 positions_of-without own other words are each =
     let s = set.difference (positions_of own) (positions_of other) in
-    positions_of-bits words s (AreBitsOf-same _ (λ w. get_or words w 0) s each (AreBitsOf-and_not (λ w. get_or own w 0) (λ w. get_or other w 0) _ _ (AreBitsOf-words own) (AreBitsOf-words other) are.small))
+    positions_of-bits words s (AreBitsOf-same _ (λ w. get_or words w 0) s each
+    (AreBitsOf-and_not (λ w. get_or own w 0) (λ w. get_or other w 0) _ _ (AreBitsOf-words own) (AreBitsOf-words other) are.small))
 
 -- what tests of words say of their sets
-pub is_subset-words : (own other : List ℕ) → AreWords own → AreWords other → (is : Bool) → ((is ≡ true) ↔ ((w : ℕ) → w < 32 → bit_and (get_or own w 0) (bit_not w32 (get_or other w 0)) ≡ 0)) → is ≡ set.is_subset (positions_of own) (positions_of other)
+pub is_subset-words : (own other : List ℕ) → AreWords own → AreWords other → (is : Bool)
+    → ((is ≡ true) ↔ ((w : ℕ) → w < 32 → bit_and (get_or own w 0) (bit_not w32 (get_or other w 0)) ≡ 0))
+    → is ≡ set.is_subset (positions_of own) (positions_of other)
 is_subset-words own other own_words other_words is each =
     is_empty-zeros (λ w. bit_and (get_or own w 0) (bit_not w32 (get_or other w 0))) (set.difference (positions_of own) (positions_of other))
     (AreBitsOf-and_not (λ w. get_or own w 0) (λ w. get_or other w 0) _ _ (AreBitsOf-words own) (AreBitsOf-words other) other_words.small)
     (λ w. and_lt 32 _ _ (own_words.small w) (omega arith)) is each
     ∙ is_empty-difference (positions_of own) (positions_of other)
 
-pub meets-words : (own other : List ℕ) → AreWords own → AreWords other → (is : Bool) → ((is ≡ true) ↔ ((w : ℕ) → w < 32 → bit_and (get_or own w 0) (get_or other w 0) ≡ 0)) → not is ≡ meets (positions_of own) (positions_of other)
+pub meets-words : (own other : List ℕ) → AreWords own → AreWords other → (is : Bool)
+    → ((is ≡ true) ↔ ((w : ℕ) → w < 32 → bit_and (get_or own w 0) (get_or other w 0) ≡ 0)) → not is ≡ meets (positions_of own) (positions_of other)
 meets-words own other own_words other_words is each =
     ap not (
     is_empty-zeros (λ w. bit_and (get_or own w 0) (get_or other w 0)) (set.intersection (positions_of own) (positions_of other))
@@ -183,7 +200,8 @@ meets-words own other own_words other_words is each =
     (λ w. and_lt 32 _ _ (own_words.small w) (other_words.small w)) is each)
 
 -- one bit
-pub contains-shifted : (words : List ℕ) (p : Pos) (index : ℕ) → index ≡ 8 * p.block + p.bit / 32 → IsPlace p → (bit_and (get_or words index 0 / 2 ^ (p.bit % 32)) 1 == 1) ≡ set.contains (positions_of words) p
+pub contains-shifted : (words : List ℕ) (p : Pos) (index : ℕ) → index ≡ 8 * p.block + p.bit / 32 → IsPlace p
+    → (bit_and (get_or words index 0 / 2 ^ (p.bit % 32)) 1 == 1) ≡ set.contains (positions_of words) p
 contains-shifted words p index is place =
     ap (λ (b : ℕ). b == 1) (shr_and_one (get_or words index 0) (p.bit % 32) ∙ ap (λ (w : ℕ). bit_at (get_or words w 0) (p.bit % 32)) is)
     ∙ bit_of (λ w. get_or words w 0) (positions_of words) (AreBitsOf-words words) p place
@@ -212,21 +230,26 @@ positions_of-insert words p index is place count =
     let one = bit_or (get_or words index 0) (1 * 2 ^ bit % 2 ^ 32) in
     positions_of-bits (list_set words index one) (set.insert (positions_of words) p) (record {
       bits = λ w i low_index small.
-          (elim (cases_eq w index) as (λ _. (bit_at (get_or (list_set words index one) w 0) i == 1) ≡ ((w == 8 * p.block + p.bit / 32 && i == p.bit % 32) || bit_at (get_or words w 0) i == 1)) [
-            | inl here ↦ elim (cases_eq i bit) as (λ _. (bit_at (get_or (list_set words index one) w 0) i == 1) ≡ ((w == 8 * p.block + p.bit / 32 && i == p.bit % 32) || bit_at (get_or words w 0) i == 1)) [
-              | inl same ↦
-                  ap (λ (x : ℕ). bit_at x i == 1) (get_or-set_at words index w one 0 here low)
-                  ∙ (ap (λ (j : ℕ). bit_at one j == 1) same ∙ (ap (λ (b : ℕ). b == 1) (bit_at_set_same w32 (get_or words index 0) bit within)
-                  ∙ sym (or_left _ _ (and_from _ _ (eq-eqb w _ (here ∙ is)) (eq-eqb i bit same)))))
-              | inr other ↦
-                  ap (λ (x : ℕ). bit_at x i == 1) (get_or-set_at words index w one 0 here low)
-                  ∙ (ap (λ (b : ℕ). b == 1) (bit_at_set_other w32 (get_or words index 0) bit within i other)
-                  ∙ (ap (λ (j : ℕ). bit_at (get_or words j 0) i == 1) (sym here)
-                  ∙ ap (λ (b : Bool). b || bit_at (get_or words w 0) i == 1) (sym (and_right (w == 8 * p.block + p.bit / 32) (i == bit) (ne_eqb i bit other)))))
-            ]
+          (elim (cases_eq w index) as (λ _. (bit_at (get_or (list_set words index one) w 0) i == 1)
+          ≡ ((w == 8 * p.block + p.bit / 32 && i == p.bit % 32) || bit_at (get_or words w 0) i == 1)) [
+            | inl here ↦
+                elim (cases_eq i bit) as (λ _. (bit_at (get_or (list_set words index one) w 0) i == 1)
+                ≡ ((w == 8 * p.block + p.bit / 32 && i == p.bit % 32) || bit_at (get_or words w 0) i == 1)) [
+                  | inl same ↦
+                      ap (λ (x : ℕ). bit_at x i == 1) (get_or-set_at words index w one 0 here low)
+                      ∙ (ap (λ (j : ℕ). bit_at one j == 1) same ∙ (ap (λ (b : ℕ). b == 1) (bit_at_set_same w32 (get_or words index 0) bit within)
+                      ∙ sym (or_left _ _ (and_from _ _ (eq-eqb w _ (here ∙ is)) (eq-eqb i bit same)))))
+                  | inr other ↦
+                      ap (λ (x : ℕ). bit_at x i == 1) (get_or-set_at words index w one 0 here low)
+                      ∙ (ap (λ (b : ℕ). b == 1) (bit_at_set_other w32 (get_or words index 0) bit within i other)
+                      ∙ (ap (λ (j : ℕ). bit_at (get_or words j 0) i == 1) (sym here)
+                      ∙ ap (λ (b : Bool). b || bit_at (get_or words w 0) i == 1)
+                      (sym (and_right (w == 8 * p.block + p.bit / 32) (i == bit) (ne_eqb i bit other)))))
+                ]
             | inr elsewhere ↦
                 ap (λ (x : ℕ). bit_at x i == 1) (get_or-set_other words index w one 0 elsewhere)
-                ∙ ap (λ (b : Bool). b || bit_at (get_or words w 0) i == 1) (sym (and_left (w == 8 * p.block + p.bit / 32) (i == bit) (ne_eqb w _ (λ e. elsewhere (e ∙ sym is)))))
+                ∙ ap (λ (b : Bool). b || bit_at (get_or words w 0) i == 1)
+                (sym (and_left (w == 8 * p.block + p.bit / 32) (i == bit) (ne_eqb w _ (λ e. elsewhere (e ∙ sym is)))))
           ])
           ∙ (ap₂ (λ (a b : Bool). a || b) (sym (same_place p w i place small)) (sym (contains-place_of words w i low_index small))
           ∙ sym (set.contains-insert pos_total (positions_of words) p (place_of w i)));

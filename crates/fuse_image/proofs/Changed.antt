@@ -14,7 +14,8 @@ pub record AreChanged (f : ℕ → ℕ → ℕ) (own words : List ℕ) (n : ℕ)
 pub AreChanged-none : (f : ℕ → ℕ → ℕ) (own : List ℕ) (n : ℕ) → ((k : ℕ) → k < n → get_or own k 0 ≡ f k (get_or own k 0)) → AreChanged f own own n
 AreChanged-none f own n same = record { count = refl; done = same; left = λ k _. refl }
 
-pub AreChanged-more : (f : ℕ → ℕ → ℕ) (own words : List ℕ) (n index x : ℕ) → AreChanged f own words n → index ≡ n → n < length words → x ≡ f n (get_or words n 0) → AreChanged f own (list_set words index x) (n + 1)
+pub AreChanged-more : (f : ℕ → ℕ → ℕ) (own words : List ℕ) (n index x : ℕ) → AreChanged f own words n → index ≡ n → n < length words
+    → x ≡ f n (get_or words n 0) → AreChanged f own (list_set words index x) (n + 1)
 AreChanged-more f own words n index x are is low changed = record {
   count = length-set words index x ∙ are.count;
   done = λ k below. elim (cases_eq k index) as (λ _. get_or (list_set words index x) k 0 ≡ f k (get_or own k 0)) [

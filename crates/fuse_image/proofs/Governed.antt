@@ -1,5 +1,6 @@
 -- The positions of fields that pass a test, one field after another, and where the locks of a map lie.
-use Rattle.std.proofs.Common.{◌≡◌, ℕ, ◌+◌, ◌<◌, Bool, true, false, ◌&&◌, ◌||◌, List, [], length, get_or, take, Option, Some, None, IfSome, refl, sym, ap, ap₂, ◌∙◌}
+use Rattle.std.proofs.Common.{◌≡◌, ℕ, ◌+◌, ◌<◌, Bool, true, false, ◌&&◌, ◌||◌, List, [], length, get_or, take, Option, Some, None, IfSome, refl, sym, ap, ap₂}
+use Rattle.std.proofs.Common.{◌∙◌}
 use Rattle.std.specs.Prelude.{slice_get}
 use Rattle.std.specs.List.{list_any}
 use Rattle.std.specs.FinSet as set
@@ -33,14 +34,16 @@ positions_in-passes test fields i f low e passes = set.same_set pos_total pos_ex
     set.contains-union pos_total (positions_in test (take i fields)) (run (record { block = f.block; bit = f.bit }) f.count) p
     ∙ (ap₂ (λ (a b : Bool). a || b)
     (contains-places_where (λ q. list_any (λ g. holds g q && test g) (take i fields)) p)
-    (contains-places_where (λ q. holds f q) p ∙ ap (λ (a : Bool). is_place p && a) (sym (and-true (holds f p)) ∙ (ap (λ (a : Bool). holds f p && a) (sym passes) ∙ ap at e)))
+    (contains-places_where (λ q. holds f q) p ∙ ap (λ (a : Bool). is_place p && a)
+    (sym (and-true (holds f p)) ∙ (ap (λ (a : Bool). holds f p && a) (sym passes) ∙ ap at e)))
     ∙ (sym (both_parts (is_place p) (list_any at (take i fields)) (at (get_or fields i f)))
     ∙ (ap (λ (a : Bool). is_place p && a) (sym (list_any_more at fields i f low))
     ∙ sym (contains-places_where (λ q. list_any (λ g. holds g q && test g) (take (i + 1) fields)) p)))))
 
 pub positions_in-fails : (test : Field → Bool) (fields : List Field) (i : ℕ) (f : Field) → i < length fields → f ≡ get_or fields i f → test f ≡ false
     → positions_in test (take i fields) ≡ positions_in test (take (i + 1) fields)
-positions_in-fails test fields i f low e fails = set.same_set pos_total pos_exact (positions_in test (take i fields)) (positions_in test (take (i + 1) fields)) (λ p.
+positions_in-fails test fields i f low e fails =
+    set.same_set pos_total pos_exact (positions_in test (take i fields)) (positions_in test (take (i + 1) fields)) (λ p.
     let at : Field → Bool = λ g. holds g p && test g in
     contains-places_where (λ q. list_any (λ g. holds g q && test g) (take i fields)) p
     ∙ (ap (λ (a : Bool). is_place p && a)
@@ -60,7 +63,8 @@ lock_is_place : (m : Map) → IsMap m → (lock : Lock) (i : ℕ) (f : Field) �
 lock_is_place m is Write i f low e = place_from_small _ (write_lock_is_small m is (id_at i) f (slice_get-at m.fields i f low e))
 lock_is_place m is Read i f low e = place_from_small _ (read_lock_is_small m is (id_at i) f (slice_get-at m.fields i f low e))
 
-pub lock_in_fields : (m : Map) → IsMap m → (fields : List Field) → fields ≡ m.fields → (lock : Lock) (i : ℕ) (f : Field) → i < length fields → f ≡ get_or fields i f → IfSome (lock_of m lock f) IsPlace
+pub lock_in_fields : (m : Map) → IsMap m → (fields : List Field) → fields ≡ m.fields → (lock : Lock) (i : ℕ) (f : Field) → i < length fields
+    → f ≡ get_or fields i f → IfSome (lock_of m lock f) IsPlace
 lock_in_fields m is fields same lock i f low e =
     let low_there : i < length m.fields = rw (← same) low in
     lock_is_place m is lock i f low_there (e ∙ ap (λ (fs : List Field). get_or fs i f) same)

@@ -3,7 +3,8 @@ use Rattle.std.proofs.Common.{◌≡◌, ℕ, ◌+◌, ◌-◌, ◌<◌, List, s
 use Rattle.std.proofs.lemmas.List.{drop-set-lt, drop-drop, drop-replicate, length-set}
 use Rattle.text_core.specs.InPlace.{AreAtFront}
 
-pub one_more_at_front : {X : Type 0} (size : ℕ) (blank : X) (array : List X) (len : ℕ) (x : X) → AreAtFront size blank array len → len < size → AreAtFront size blank (set array len x) (len + 1)
+pub one_more_at_front : {X : Type 0} (size : ℕ) (blank : X) (array : List X) (len : ℕ) (x : X) → AreAtFront size blank array len → len < size
+    → AreAtFront size blank (set array len x) (len + 1)
 one_more_at_front size blank array len x h low = record {
   room = length-set array len x ∙ h.room;
   within = omega (arith, low);

@@ -38,7 +38,8 @@ bit_at-mask_of start end w i small =
       | inr from ↦ elim (cases_lt i high) as (λ _. (bit_at (2 ^ high - 2 ^ low) i == 1) ≡ (nat_le start (32 * w + i) && nat_lt (32 * w + i) end)) [
         | inl inside ↦
             ap (λ (b : ℕ). b == 1) (bit_at_mask_inside low high i from inside)
-            ∙ sym (and_from (nat_le start (32 * w + i)) (nat_lt (32 * w + i) end) (le-leb start (32 * w + i) (omega (arith, from, small))) (lt-ltb (32 * w + i) end (omega (arith, inside))))
+            ∙ sym (and_from (nat_le start (32 * w + i)) (nat_lt (32 * w + i) end) (le-leb start (32 * w + i) (omega (arith, from, small)))
+            (lt-ltb (32 * w + i) end (omega (arith, inside))))
         | inr above ↦
             ap (λ (b : ℕ). b == 1) (bit_at_mask_above low high i above)
             ∙ sym (and_right (nat_le start (32 * w + i)) (nat_lt (32 * w + i) end) (le-ltb (32 * w + i) end (omega (arith, above, small))))
@@ -73,7 +74,8 @@ run_places first count w i fits small =
     (lt-ltb (32 * w + i) (start + count) (omega (arith, high, block))))
 
 -- words with a run too
-AreBitsOf-run : (first : Pos) (count : ℕ) → first.bit + count ≤ 256 → AreBitsOf (mask_of (256 * first.block + first.bit) (256 * first.block + first.bit + count)) (run first count)
+AreBitsOf-run : (first : Pos) (count : ℕ) → first.bit + count ≤ 256
+    → AreBitsOf (mask_of (256 * first.block + first.bit) (256 * first.block + first.bit + count)) (run first count)
 AreBitsOf-run first count fits = record {
   bits = λ w i low small.
       bit_at-mask_of (256 * first.block + first.bit) (256 * first.block + first.bit + count) w i small
@@ -82,8 +84,10 @@ AreBitsOf-run first count fits = record {
 }
 
 pub positions_of-run : (own words : List ℕ) (first : Pos) (count : ℕ) → first.bit + count ≤ 256
-    → ((w : ℕ) → w < 32 → get_or words w 0 ≡ bit_or (get_or own w 0) (mask_of (256 * first.block + first.bit) (256 * first.block + first.bit + count) w)) → positions_of words ≡ set.union (positions_of own) (run first count)
+    → ((w : ℕ) → w < 32 → get_or words w 0 ≡ bit_or (get_or own w 0) (mask_of (256 * first.block + first.bit) (256 * first.block + first.bit + count) w))
+    → positions_of words ≡ set.union (positions_of own) (run first count)
 positions_of-run own words first count fits each =
     let mask = mask_of (256 * first.block + first.bit) (256 * first.block + first.bit + count) in
     let s = set.union (positions_of own) (run first count) in
-    positions_of-bits words s (AreBitsOf-same _ (λ w. get_or words w 0) s each (AreBitsOf-or (λ w. get_or own w 0) mask (positions_of own) (run first count) (AreBitsOf-words own) (AreBitsOf-run first count fits)))
+    positions_of-bits words s (AreBitsOf-same _ (λ w. get_or words w 0) s each
+    (AreBitsOf-or (λ w. get_or own w 0) mask (positions_of own) (run first count) (AreBitsOf-words own) (AreBitsOf-run first count fits)))

@@ -28,8 +28,10 @@ nothing_left false b h = refl
 
 pub is_empty-difference : (s t : Positions) → is_empty (set.difference s t) ≡ set.is_subset s t
 is_empty-difference s t = same_bool (is_empty (set.difference s t)) (set.is_subset s t)
-    (λ h. set.contains-is_subset pos_total s t (λ p e. neither (set.contains s p) (set.contains t p) (sym (set.contains-difference pos_total s t p) ∙ none_in (set.difference s t) h p) e))
-    (λ h. is_empty-from_none (set.difference s t) (λ p. set.contains-difference pos_total s t p ∙ nothing_left (set.contains s p) (set.contains t p) (set.is_subset-contains pos_total s t h p)))
+    (λ h. set.contains-is_subset pos_total s t (λ p e. neither (set.contains s p) (set.contains t p)
+    (sym (set.contains-difference pos_total s t p) ∙ none_in (set.difference s t) h p) e))
+    (λ h. is_empty-from_none (set.difference s t) (λ p. set.contains-difference pos_total s t p
+    ∙ nothing_left (set.contains s p) (set.contains t p) (set.is_subset-contains pos_total s t h p)))
 
 -- a position of the blocks, as a test and as a fact
 pub is_place-from_IsPlace : (p : Pos) → IsPlace p → is_place p ≡ true
@@ -44,7 +46,8 @@ pub places_where-at : (test : Pos → Bool) (p : Pos) → IsPlace p → set.cont
 places_where-at test p h = contains-places_where test p ∙ ap (λ b. b && test p) (is_place-from_IsPlace p h)
 
 -- a set by a test that agrees with it on the blocks, where it has no other position
-pub same_places : (test : Pos → Bool) (s : Positions) → ((p : Pos) → IsPlace p → test p ≡ set.contains s p) → ((p : Pos) → is_place p ≡ false → set.contains s p ≡ false) → places_where test ≡ s
+pub same_places : (test : Pos → Bool) (s : Positions) → ((p : Pos) → IsPlace p → test p ≡ set.contains s p)
+    → ((p : Pos) → is_place p ≡ false → set.contains s p ≡ false) → places_where test ≡ s
 same_places test s agree none = set.same_set pos_total pos_exact (places_where test) s (λ p.
     elim (cases_Bool (is_place p)) as (λ _. set.contains (places_where test) p ≡ set.contains s p) [
       | inl is ↦ places_where-at test p (IsPlace-from_is_place p is) ∙ agree p (IsPlace-from_is_place p is)
@@ -61,7 +64,8 @@ kept_where false is passes inside = refl
 kept_where true true passes inside = refl
 kept_where true false passes inside = absurd (true≢false (sym (inside refl)))
 
-pub difference-places_where : (s : Positions) (test : Pos → Bool) → ((p : Pos) → set.contains s p ≡ true → is_place p ≡ true) → set.difference s (places_where test) ≡ set.retain s (λ p. not (test p))
+pub difference-places_where : (s : Positions) (test : Pos → Bool) → ((p : Pos) → set.contains s p ≡ true → is_place p ≡ true)
+    → set.difference s (places_where test) ≡ set.retain s (λ p. not (test p))
 difference-places_where s test inside = set.same_set pos_total pos_exact (set.difference s (places_where test)) (set.retain s (λ p. not (test p))) (λ p.
     set.contains-difference pos_total s (places_where test) p
     ∙ (ap (λ (b : Bool). set.contains s p && not b) (contains-places_where test p)
@@ -91,7 +95,8 @@ insert-union s t p = set.same_set pos_total pos_exact (set.insert (set.union s t
     ∙ (ap (λ (b : Bool). set.contains s q || b) (sym (set.contains-insert pos_total t p q))
     ∙ sym (set.contains-union pos_total s (set.insert t p) q)))))
 
-pub union-more : (s : Positions) (positions : List Pos) (i : ℕ) (d : Pos) → i < length positions → set.insert (set.union s (set.from_list (take i positions))) (get_or positions i d) ≡ set.union s (set.from_list (take (i + 1) positions))
+pub union-more : (s : Positions) (positions : List Pos) (i : ℕ) (d : Pos) → i < length positions
+    → set.insert (set.union s (set.from_list (take i positions))) (get_or positions i d) ≡ set.union s (set.from_list (take (i + 1) positions))
 union-more s positions i d low =
     insert-union s (set.from_list (take i positions)) (get_or positions i d)
     ∙ (ap (set.union s) (sym (set.from_list_push pos_total pos_exact (take i positions) (get_or positions i d)))

@@ -15,7 +15,8 @@ pub get_within : (f : ℕ → Option (List ℕ)) → (b : ℕ) → b < 4 → map
 get_within f b low = get-table_where f b ∙ cond-true (nat_lt b 4) (f b) None (lt-ltb b 4 low)
 
 pub get_past : (f : ℕ → Option (List ℕ)) → (b : ℕ) → (b < 4 → ⊥) → map.get (table_where f) b ≡ None
-get_past f b past = get-table_where f b ∙ cond-false (nat_lt b 4) (f b) None (le-ltb b 4 (elim (cases_lt b 4) [ inl low ↦ absurd (past low) | inr high ↦ high ]))
+get_past f b past =
+    get-table_where f b ∙ cond-false (nat_lt b 4) (f b) None (le-ltb b 4 (elim (cases_lt b 4) [ inl low ↦ absurd (past low) | inr high ↦ high ]))
 
 -- a table is empty exactly where it has a key at no block
 pub no_key_at : (t : KeyTable) → has_no_key t ≡ true → (b : ℕ) → map.get t b ≡ None
@@ -23,10 +24,12 @@ no_key_at t h b = ap (λ (u : KeyTable). map.get u b) (map.empty_of_len t (eqb-t
 
 pub has_no_key-from_none : (t : KeyTable) → ((b : ℕ) → map.get t b ≡ None) → has_no_key t ≡ true
 has_no_key-from_none t h =
-    eq-eqb (map.len t) 0 (ap map.len (map.same_map nat_cmp_total nat_cmp-IsAntisymmetric t map.empty (λ b. h b ∙ sym (map.get-empty {X = List ℕ} nat_cmp b))) ∙ map.len-empty nat_cmp (List ℕ))
+    eq-eqb (map.len t) 0 (ap map.len (map.same_map nat_cmp_total nat_cmp-IsAntisymmetric t map.empty (λ b. h b ∙ sym (map.get-empty {X = List ℕ} nat_cmp b)))
+    ∙ map.len-empty nat_cmp (List ℕ))
 
 -- a table by a function that agrees with it
-pub table_where-same : (f : ℕ → Option (List ℕ)) (t : KeyTable) → ((b : ℕ) → b < 4 → f b ≡ map.get t b) → ((b : ℕ) → (b < 4 → ⊥) → map.get t b ≡ None) → table_where f ≡ t
+pub table_where-same : (f : ℕ → Option (List ℕ)) (t : KeyTable) → ((b : ℕ) → b < 4 → f b ≡ map.get t b) → ((b : ℕ) → (b < 4 → ⊥) → map.get t b ≡ None)
+    → table_where f ≡ t
 table_where-same f t agree none = map.same_map nat_cmp_total nat_cmp-IsAntisymmetric (table_where f) t (λ b.
     elim (cases_lt b 4) as (λ _. map.get (table_where f) b ≡ map.get t b) [
       | inl low ↦ get_within f b low ∙ agree b low
@@ -45,7 +48,8 @@ at_four f g a b c d (suc (suc (suc zero))) low = d
 at_four f g a b c d (suc (suc (suc (suc n)))) low = absurd (omega (arith, low))
 
 -- the table of four digests that are those of g
-pub table_is : {x0 x1 x2 x3 : Option (List ℕ)} (g : ℕ → Option (List ℕ)) → x0 ≡ g 0 → x1 ≡ g 1 → x2 ≡ g 2 → x3 ≡ g 3 → table (x0 ∷ x1 ∷ x2 ∷ x3 ∷ []) ≡ table_where g
+pub table_is : {x0 x1 x2 x3 : Option (List ℕ)} (g : ℕ → Option (List ℕ)) → x0 ≡ g 0 → x1 ≡ g 1 → x2 ≡ g 2 → x3 ≡ g 3
+    → table (x0 ∷ x1 ∷ x2 ∷ x3 ∷ []) ≡ table_where g
 table_is {x0} {x1} {x2} {x3} g a b c d =
     same_table (λ n. get_or (x0 ∷ x1 ∷ x2 ∷ x3 ∷ []) n None) g (at_four (λ n. get_or (x0 ∷ x1 ∷ x2 ∷ x3 ∷ []) n None) g a b c d)
 
@@ -60,7 +64,8 @@ table-none =
     (λ b past. map.get-empty {X = List ℕ} nat_cmp b)
 
 -- a digest put at a block
-pub insert-at : (digests : List (Option (List ℕ))) (block : ℕ) (d : List ℕ) (b : ℕ) → b < 4 → (if block == b then Some d else get_or digests b None) ≡ map.get (map.insert (table digests) block d) b
+pub insert-at : (digests : List (Option (List ℕ))) (block : ℕ) (d : List ℕ) (b : ℕ) → b < 4
+    → (if block == b then Some d else get_or digests b None) ≡ map.get (map.insert (table digests) block d) b
 insert-at digests block d b low = sym (
     map.get-insert nat_cmp_total (table digests) block d b
     ∙ (λ i. if (unsigned_tied b block ∙ turned b block) i then Some d else sym (get_table digests b low) i))
@@ -69,7 +74,9 @@ insert-at digests block d b low = sym (
     turned a b = same_bool (a == b) (b == a) (λ e. eq-eqb b a (sym (eqb-true a b e))) (λ e. eq-eqb a b (sym (eqb-true b a e)))
 
 pub table-insert : (digests : List (Option (List ℕ))) (block : ℕ) (d : List ℕ) → block < 4
-    → table ((if block == 0 then Some d else get_or digests 0 None) ∷ (if block == 1 then Some d else get_or digests 1 None) ∷ (if block == 2 then Some d else get_or digests 2 None) ∷ (if block == 3 then Some d else get_or digests 3 None) ∷ []) ≡ map.insert (table digests) block d
+    → table ((if block == 0 then Some d else get_or digests 0 None) ∷ (if block == 1 then Some d else get_or digests 1 None)
+    ∷ (if block == 2 then Some d else get_or digests 2 None) ∷ (if block == 3 then Some d else get_or digests 3 None) ∷ [])
+    ≡ map.insert (table digests) block d
 table-insert digests block d small =
     table_is (λ b. if block == b then Some d else get_or digests b None) refl refl refl refl
     ∙ table_where-same (λ b. if block == b then Some d else get_or digests b None) (map.insert (table digests) block d) (insert-at digests block d)
@@ -96,7 +103,8 @@ pub no_digest : (digests : List (Option (List ℕ))) → AreDigests digests → 
 no_digest digests four = same_bool (list_all is_none digests) (has_no_key (table digests))
     (λ h. has_no_key-from_none (table digests) (λ b.
     elim (cases_lt b 4) as (λ _. map.get (table digests) b ≡ None) [
-      | inl low ↦ get_within (λ k. get_or digests k None) b low ∙ none_is (get_or digests b None) (list_all_each is_none digests h b None (omega (arith, four, low)))
+      | inl low ↦
+          get_within (λ k. get_or digests k None) b low ∙ none_is (get_or digests b None) (list_all_each is_none digests h b None (omega (arith, four, low)))
       | inr high ↦ get_past (λ k. get_or digests k None) b (λ low. omega (arith, low, high))
     ]))
     (λ h. list_all_from is_none digests (λ k d low.
@@ -116,14 +124,17 @@ each_among-from_tables digests others among b low = rw (get_table digests b low,
 abbrev IsDigest : Option (List ℕ) → Type 0
 IsDigest d = IfSome d (λ digest. length digest ≡ 32)
 
-at_block : (digests : List (Option (List ℕ))) (b : ℕ) (x : Option (List ℕ)) → b < 4 → AreDigests digests → IsDigest (get_or digests b x) → IsDigest (map.get (table digests) b)
+at_block : (digests : List (Option (List ℕ))) (b : ℕ) (x : Option (List ℕ)) → b < 4 → AreDigests digests → IsDigest (get_or digests b x)
+    → IsDigest (map.get (table digests) b)
 at_block digests b x low four is =
     rw (get_within (λ k. get_or digests k None) b low) (subst IsDigest (get_or_default digests b x None (omega (arith, low, four))) is)
 
 pub HoldsDigests-from_four : (digests : List (Option (List ℕ))) (x0 x1 x2 x3 : Option (List ℕ)) → AreDigests digests
-    → IsDigest (get_or digests 0 x0) → IsDigest (get_or digests 1 x1) → IsDigest (get_or digests 2 x2) → IsDigest (get_or digests 3 x3) → HoldsDigests (table digests)
+    → IsDigest (get_or digests 0 x0) → IsDigest (get_or digests 1 x1) → IsDigest (get_or digests 2 x2) → IsDigest (get_or digests 3 x3)
+    → HoldsDigests (table digests)
 HoldsDigests-from_four digests x0 x1 x2 x3 four d0 d1 d2 d3 zero = at_block digests 0 x0 (omega arith) four d0
 HoldsDigests-from_four digests x0 x1 x2 x3 four d0 d1 d2 d3 (suc zero) = at_block digests 1 x1 (omega arith) four d1
 HoldsDigests-from_four digests x0 x1 x2 x3 four d0 d1 d2 d3 (suc (suc zero)) = at_block digests 2 x2 (omega arith) four d2
 HoldsDigests-from_four digests x0 x1 x2 x3 four d0 d1 d2 d3 (suc (suc (suc zero))) = at_block digests 3 x3 (omega arith) four d3
-HoldsDigests-from_four digests x0 x1 x2 x3 four d0 d1 d2 d3 (suc (suc (suc (suc b)))) = rw (get_past (λ k. get_or digests k None) (suc (suc (suc (suc b)))) (λ low. omega (arith, low))) tt
+HoldsDigests-from_four digests x0 x1 x2 x3 four d0 d1 d2 d3 (suc (suc (suc (suc b)))) =
+    rw (get_past (λ k. get_or digests k None) (suc (suc (suc (suc b)))) (λ low. omega (arith, low))) tt

@@ -1,5 +1,6 @@
 -- Tables from key blocks to digests.
-use Rattle.std.specs.Prelude.{◌≡◌, ℕ, zero, suc, ◌<◌, Bool, true, false, ◌==◌, nat_lt, List, [], ◌∷◌, length, slice_index_or, Option, Some, None, IfSome, is_some, if◌then◌else◌}
+use Rattle.std.specs.Prelude.{◌≡◌, ℕ, zero, suc, ◌<◌, Bool, true, false, ◌==◌, nat_lt, List, [], ◌∷◌, length, slice_index_or, Option, Some, None, IfSome}
+use Rattle.std.specs.Prelude.{is_some, if◌then◌else◌}
 use Rattle.std.proofs.Common.{refl, sym, ap, ◌∙◌, arith, nat_cmp, inl, inr, zero-le}
 use Rattle.std.proofs.lemmas.Bool.{cases_order, cond-true, cond-false, le-ltb, lt-ltb, eq-eqb, ne_eqb}
 use Rattle.std.specs.Option.{option_or}
@@ -71,7 +72,8 @@ or_none : (d : Option (List ℕ)) → option_or d None ≡ d
 or_none None = refl
 or_none (Some d) = refl
 
-one_more : (f : ℕ → Option (List ℕ)) (n q : ℕ) (x : Option (List ℕ)) → x ≡ (if nat_lt q n then f q else None) → (if q == n then option_or (f n) x else x) ≡ (if nat_lt q (suc n) then f q else None)
+one_more : (f : ℕ → Option (List ℕ)) (n q : ℕ) (x : Option (List ℕ)) → x ≡ (if nat_lt q n then f q else None)
+    → (if q == n then option_or (f n) x else x) ≡ (if nat_lt q (suc n) then f q else None)
 one_more f n q x h = elim (cases_order q n) as (λ _. (if q == n then option_or (f n) x else x) ≡ (if nat_lt q (suc n) then f q else None)) [
   | inl e ↦ cond-true (q == n) (option_or (f n) x) x (eq-eqb q n e)
       ∙ ap (λ y. option_or (f n) y) (h ∙ cond-false (nat_lt q n) (f q) None (le-ltb q n (omega (arith, e))))
@@ -94,7 +96,8 @@ pub get-table_where : (f : ℕ → Option (List ℕ)) (q : ℕ) → map.get (tab
 unfolding table_where
 get-table_where f q = get-table_below f 4 q
 
-four : (digests : List (Option (List ℕ))) → length digests ≡ 4 → digests ≡ slice_index_or digests 0 None ∷ slice_index_or digests 1 None ∷ slice_index_or digests 2 None ∷ slice_index_or digests 3 None ∷ []
+four : (digests : List (Option (List ℕ))) → length digests ≡ 4
+    → digests ≡ slice_index_or digests 0 None ∷ slice_index_or digests 1 None ∷ slice_index_or digests 2 None ∷ slice_index_or digests 3 None ∷ []
 four (a ∷ b ∷ c ∷ d ∷ []) h = refl
 four [] h = absurd (omega (arith, h))
 four (a ∷ []) h = absurd (omega (arith, h))
@@ -105,5 +108,6 @@ four (a ∷ b ∷ c ∷ d ∷ e ∷ digests) h = absurd (omega (arith, h))
 -- the digests of the table of four digests
 pub digests_again : (digests : List (Option (List ℕ))) → AreDigests digests → digests_of (table digests) ≡ digests
 digests_again digests h =
-    (λ i. get-table_where (λ b. slice_index_or digests b None) 0 i ∷ get-table_where (λ b. slice_index_or digests b None) 1 i ∷ get-table_where (λ b. slice_index_or digests b None) 2 i ∷ get-table_where (λ b. slice_index_or digests b None) 3 i ∷ [])
+    (λ i. get-table_where (λ b. slice_index_or digests b None) 0 i ∷ get-table_where (λ b. slice_index_or digests b None) 1 i ∷ get-table_where (λ b.
+    slice_index_or digests b None) 2 i ∷ get-table_where (λ b. slice_index_or digests b None) 3 i ∷ [])
     ∙ sym (four digests h)

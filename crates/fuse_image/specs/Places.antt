@@ -25,7 +25,9 @@ Positions = FinSet pos_cmp
 
 -- the order tells any two positions apart
 pub pos_exact : IsAntisymmetric pos_cmp
-pos_exact a b h = ap (λ (p : ℕ × ℕ). let r : Pos = record { block = p.0; bit = p.1 } in r) (exact_pairs nat_cmp nat_cmp exact_unsigned exact_unsigned (a.block, a.bit) (b.block, b.bit) h)
+pos_exact a b h =
+    ap (λ (p : ℕ × ℕ). let r : Pos = record { block = p.0; bit = p.1 } in r)
+    (exact_pairs nat_cmp nat_cmp exact_unsigned exact_unsigned (a.block, a.bit) (b.block, b.bit) h)
 
 pub pos_total : IsTotalOrder pos_cmp
 pos_total = then_total (on_total (λ (p : Pos). p.block) nat_cmp_total) (on_total (λ (p : Pos). p.bit) nat_cmp_total)
@@ -73,7 +75,8 @@ in_first : (n : ℕ) (p : Pos) → list_any (eq_by_cmp pos_cmp p) (first_places 
 unfolding first_places
 in_first zero p h = absurd (false≢true h)
 in_first (suc n) p h =
-    elim (or_cases (eq_by_cmp pos_cmp p (record { block = n / 256; bit = n % 256 })) (list_any (eq_by_cmp pos_cmp p) (first_places n)) h) as (λ _. (256 * p.block + p.bit < suc n) × (p.bit < 256)) [
+    elim (or_cases (eq_by_cmp pos_cmp p (record { block = n / 256; bit = n % 256 })) (list_any (eq_by_cmp pos_cmp p) (first_places n)) h) as (λ _.
+    (256 * p.block + p.bit < suc n) × (p.bit < 256)) [
       | inl e ↦
           let same : p ≡ record { block = n / 256; bit = n % 256 } = pos_exact p _ ((Equal-is (pos_cmp p (record { block = n / 256; bit = n % 256 }))).0 e) in
           let block : p.block ≡ n / 256 = ap (λ (q : Pos). q.block) same in
@@ -90,7 +93,8 @@ to_first (suc n) p low small =
       | inl e ↦
           let block : n / 256 ≡ p.block = omega (arith, e, small) in
           let bit : n % 256 ≡ p.bit = omega (arith, e, small) in
-          or_left (eq_by_cmp pos_cmp p (record { block = n / 256; bit = n % 256 })) _ (ap₂ (λ (x y : ℕ). eq_by_cmp pos_cmp p (record { block = x; bit = y })) block bit ∙ ap is_eq (tied_itself pos_total p))
+          or_left (eq_by_cmp pos_cmp p (record { block = n / 256; bit = n % 256 })) _
+          (ap₂ (λ (x y : ℕ). eq_by_cmp pos_cmp p (record { block = x; bit = y })) block bit ∙ ap is_eq (tied_itself pos_total p))
       | inr e ↦ or_right _ _ (to_first n p (omega (arith, low, e)) small)
     ]
 
@@ -100,7 +104,8 @@ contains-places p =
     set.contains-from_list pos_total (first_places 1024) p
     ∙ same_bool _ _
     (λ h. let parts = in_first 1024 p h in and_from _ _ (lt-ltb p.block 4 (omega (arith, parts.0, parts.1))) (lt-ltb p.bit 256 parts.1))
-    (λ h. let parts = and_parts _ _ h in let block = ltb-true p.block 4 parts.0 in let bit = ltb-true p.bit 256 parts.1 in to_first 1024 p (omega (arith, block, bit)) bit)
+    (λ h. let parts = and_parts _ _ h in let block = ltb-true p.block 4 parts.0 in let bit = ltb-true p.bit 256 parts.1
+    in to_first 1024 p (omega (arith, block, bit)) bit)
 
 -- a position is among them where it lies in the blocks and passes the test
 pub contains-places_where : (test : Pos → Bool) (p : Pos) → set.contains (places_where test) p ≡ (is_place p && test p)

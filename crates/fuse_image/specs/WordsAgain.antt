@@ -37,16 +37,19 @@ number_with-bits x (suc n) =
     ∙ omega (arith, mod-pow-add x 1 n, ap (λ (k : ℕ). x % 2 ^ k) (one-add n))
 
 -- the position of a bit is in the set where the bit is 1
-pub contains-place_of : (words : List ℕ) (word bit : ℕ) → word < 32 → bit < 32 → set.contains (places_where (bit_in words)) (place_of word bit) ≡ (bit_at (slice_index words word) bit == 1)
+pub contains-place_of : (words : List ℕ) (word bit : ℕ) → word < 32 → bit < 32
+    → set.contains (places_where (bit_in words)) (place_of word bit) ≡ (bit_at (slice_index words word) bit == 1)
 contains-place_of words word bit low small =
     let index : 8 * (word / 8) + (32 * (word % 8) + bit) / 32 ≡ word = omega (arith, small) in
     let place : (32 * (word % 8) + bit) % 32 ≡ bit = omega (arith, small) in
     contains-places_where (bit_in words) (place_of word bit)
-    ∙ (ap (λ (b : Bool). b && bit_in words (place_of word bit)) (and_from _ _ (lt-ltb (word / 8) 4 (omega (arith, low))) (lt-ltb (32 * (word % 8) + bit) 256 (omega (arith, small))))
+    ∙ (ap (λ (b : Bool). b && bit_in words (place_of word bit))
+    (and_from _ _ (lt-ltb (word / 8) 4 (omega (arith, low))) (lt-ltb (32 * (word % 8) + bit) 256 (omega (arith, small))))
     ∙ ap₂ (λ (w b : ℕ). bit_at (slice_index words w) b == 1) index place)
 
 pub words_again : (words : List ℕ) → AreWords words → words_of (places_where (bit_in words)) ≡ words
 unfolding words_of
 words_again words are = sym (fill_by_all (word_of (places_where (bit_in words))) words 32 0 are.count (λ word low.
-    sym (same_number (λ bit. set.contains (places_where (bit_in words)) (place_of word bit)) (λ bit. bit_at (slice_index words word) bit == 1) 32 (λ bit small. contains-place_of words word bit low small)
+    sym (same_number (λ bit. set.contains (places_where (bit_in words)) (place_of word bit)) (λ bit. bit_at (slice_index words word) bit == 1) 32 (λ bit small.
+    contains-place_of words word bit low small)
     ∙ (number_with-bits (slice_index words word) 32 ∙ mod-eq_of_lt (are.small word)))))

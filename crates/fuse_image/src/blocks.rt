@@ -70,7 +70,10 @@ impl Model for Blocks {
 
     ghost invariant = { λ a. AreAtFront 4 [] a.array a.len };
 
-    ghost inverse = { λ blocks. record { array = blocks ++ replicate (4 - length blocks) []; len = length blocks } };
+    ghost inverse = { λ blocks. record {
+      array = blocks ++ replicate (4 - length blocks) [];
+      len = length blocks;
+    } };
 
     ghost inverse_ok = { λ a h. blocks_again a.array a.len h };
 }

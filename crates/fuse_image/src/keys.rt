@@ -1,9 +1,11 @@
 // Tables of the digests of keys, by block.
-ghost use Rattle.std.specs.Prelude.{◌≡◌, ◌<◌, ◌↔◌, IsTrue, IfSome, Some, None, is_some, is_none, length, if◌then◌else◌};
+ghost use Rattle.std.specs.Prelude.{◌≡◌, ◌<◌, ◌↔◌, IsTrue, IfSome, Some, None, is_some, is_none};
+ghost use Rattle.std.specs.Prelude.{length, if◌then◌else◌};
 ghost use Rattle.std.specs.FinMap as map;
 ghost use Rattle.std.specs.List.{list_all};
 ghost use Rattle.std.specs.Option.{option_or};
-ghost use Rattle.fuse_image.specs.Keys.{AreAmong, AreDigests, AreEachAmong, HoldsDigests, has_no_key, joined, table, without};
+ghost use Rattle.fuse_image.specs.Keys.{AreAmong, AreDigests, AreEachAmong, HoldsDigests};
+ghost use Rattle.fuse_image.specs.Keys.{has_no_key, joined, table, without};
 
 use std::marker::Model;
 use text_core::Digest;

@@ -75,7 +75,8 @@ never None = refl
 never (Some f) = refl
 
 -- a test of a field, in sets
-pub in_field : (test : Field → Pos → Bool) (o : Option Field) → (s : Positions) → (f : Field) → o ≡ Some f → s ≡ places_where (test f) → s ≡ places_where (λ p. option_map_or (λ g. test g p) o false)
+pub in_field : (test : Field → Pos → Bool) (o : Option Field) → (s : Positions) → (f : Field) → o ≡ Some f → s ≡ places_where (test f) → s ≡ places_where (λ p.
+    option_map_or (λ g. test g p) o false)
 in_field test o s f e h = h ∙ ap (λ (x : Option Field). places_where (λ p. option_map_or (λ g. test g p) x false)) (sym e)
 
 pub in_no_field : (test : Field → Pos → Bool) (o : Option Field) → o ≡ None → set.empty ≡ places_where (λ p. option_map_or (λ g. test g p) o false)

@@ -30,16 +30,20 @@ pub lost_is : (m : Map) (L B ones H : Positions) → IsPlaced B → H ≡ places
 unfolding lost
 lost_is m L B ones H k e = set.same_set pos_total pos_exact (set.difference (set.difference B H) ones) (lost m L B ones) (λ p.
     set.contains-difference pos_total (set.difference B H) ones p
-    ∙ ap (λ (x : Bool). x && not (set.contains ones p)) (set.contains-difference pos_total B H p ∙ ap (λ (x : Bool). set.contains B p && not x) (ap (λ (s : Positions). set.contains s p) e ∙ contains-places_where (is_hidden m L) p))
+    ∙ ap (λ (x : Bool). x && not (set.contains ones p)) (set.contains-difference pos_total B H p
+    ∙ ap (λ (x : Bool). set.contains B p && not x) (ap (λ (s : Positions). set.contains s p) e ∙ contains-places_where (is_hidden m L) p))
     ∙ lost_at (set.contains B p) (is_place p) (is_hidden m L p) (set.contains ones p) (k p)
     ∙ sym (in_retain B (λ p. not (is_hidden m L p) && not (set.contains ones p)) p))
 
-pub stray_is : (m : Map) (L B P ones H : Positions) → IsPlaced ones → H ≡ places_where (is_hidden m L) → set.union (set.difference ones (set.union B P)) (set.intersection ones H) ≡ stray m L B P ones
+pub stray_is : (m : Map) (L B P ones H : Positions) → IsPlaced ones → H ≡ places_where (is_hidden m L)
+    → set.union (set.difference ones (set.union B P)) (set.intersection ones H) ≡ stray m L B P ones
 unfolding stray
-stray_is m L B P ones H k e = set.same_set pos_total pos_exact (set.union (set.difference ones (set.union B P)) (set.intersection ones H)) (stray m L B P ones) (λ p.
+stray_is m L B P ones H k e =
+    set.same_set pos_total pos_exact (set.union (set.difference ones (set.union B P)) (set.intersection ones H)) (stray m L B P ones) (λ p.
     set.contains-union pos_total (set.difference ones (set.union B P)) (set.intersection ones H) p
     ∙ ap₂ (λ (x y : Bool). x || y)
     (set.contains-difference pos_total ones (set.union B P) p)
-    (set.contains-intersection pos_total ones H p ∙ ap (λ (x : Bool). set.contains ones p && x) (ap (λ (s : Positions). set.contains s p) e ∙ contains-places_where (is_hidden m L) p))
+    (set.contains-intersection pos_total ones H p ∙ ap (λ (x : Bool). set.contains ones p && x)
+    (ap (λ (s : Positions). set.contains s p) e ∙ contains-places_where (is_hidden m L) p))
     ∙ stray_at (set.contains ones p) (set.contains (set.union B P) p) (is_place p) (is_hidden m L p) (k p)
     ∙ sym (in_retain ones (λ p. not (set.contains (set.union B P) p) || is_hidden m L p) p))

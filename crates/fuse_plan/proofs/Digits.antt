@@ -1,5 +1,6 @@
 -- The number of hexadecimal digits, and its words of eight digits each.
-use Rattle.std.proofs.Common.{◌≡◌, ℕ, zero, suc, ◌+◌, ◌-◌, ◌*◌, ◌/◌, ◌%◌, ◌^◌, ◌<◌, ◌≤◌, Bool, true, false, ◌&&◌, List, [], ◌∷◌, ◌++◌, length, get_or, take, drop, replicate, refl, sym, ap, ap₂, subst, ◌∙◌, append-nil, arith, length-append}
+use Rattle.std.proofs.Common.{◌≡◌, ℕ, zero, suc, ◌+◌, ◌-◌, ◌*◌, ◌/◌, ◌%◌, ◌^◌, ◌<◌, ◌≤◌, Bool, true, false, ◌&&◌, List, [], ◌∷◌, ◌++◌, length, get_or, take}
+use Rattle.std.proofs.Common.{drop, replicate, refl, sym, ap, ap₂, subst, ◌∙◌, append-nil, arith, length-append}
 use borrow.Rule.Slice.PartMut.{put_mid}
 use Rattle.std.specs.Prelude.{nat_le, unwrap_or, fold, if◌then◌else◌, Some, None}
 use Rattle.std.specs.List.{slice_range}
@@ -49,7 +50,8 @@ from value [] = omega arith
 from value (d ∷ ds) =
     let r = reach (length ds) in
     from (step value d) ds
-    ∙ (ap (λ (n : ℕ). n + fold step 0 ds) (shifted value (digit_value d) r ∙ ap (λ (n : ℕ). value * n + (16 * 0 + digit_value d) * r) (sym (reach-suc (length ds))))
+    ∙ (ap (λ (n : ℕ). n + fold step 0 ds) (shifted value (digit_value d) r
+    ∙ ap (λ (n : ℕ). value * n + (16 * 0 + digit_value d) * r) (sym (reach-suc (length ds))))
     ∙ let later = from (step 0 d) ds in omega (arith, later))
 
 -- so many digits stay below their reach
@@ -76,7 +78,8 @@ digits_value-padded digits = zeros_before (64 - length digits) digits
 
 pub length-padded : (digits : List ℕ) → length digits ≤ 64 → length (zero_padded 64 digits) ≡ 64
 length-padded digits low =
-    length-append (replicate (64 - length digits) 48) digits ∙ (ap (λ (n : ℕ). n + length digits) (length-replicate (64 - length digits) 48) ∙ omega (arith, low))
+    length-append (replicate (64 - length digits) 48) digits
+    ∙ (ap (λ (n : ℕ). n + length digits) (length-replicate (64 - length digits) 48) ∙ omega (arith, low))
 
 -- digits put behind so many zeros
 behind : (at : ℕ) (digits put : List ℕ) → at ≤ 64 → put ≡ digits → put_mid at (64 - at) (replicate 64 48) put ≡ replicate at 48 ++ digits
@@ -90,7 +93,8 @@ pub put_behind : (digits put : List ℕ) → put ≡ digits → put_mid (64 - le
 put_behind digits put e = behind (64 - length digits) digits put (omega arith) e
 
 -- one digit more of at most eight, and it fits 32 bits
-pub digits_value-more : (digits : List ℕ) (i d : ℕ) → i < length digits → 16 * digits_value (take i digits) + digit_value (get_or digits i d) ≡ digits_value (take (i + 1) digits)
+pub digits_value-more : (digits : List ℕ) (i d : ℕ) → i < length digits
+    → 16 * digits_value (take i digits) + digit_value (get_or digits i d) ≡ digits_value (take (i + 1) digits)
 unfolding digits_value
 digits_value-more digits i d low = sym (fold_more step 0 digits i d low)
 
@@ -106,7 +110,8 @@ fits-more digits i digit low few =
     omega (arith, under, most, small)
 
 -- a word is the number of eight digits
-pub word-is : (digits : List ℕ) (i : ℕ) → length digits ≡ 64 → i < 8 → digits_value (slice_range digits (64 - 8 * i - 8) (64 - 8 * i)) ≡ number_word (digits_value digits) i
+pub word-is : (digits : List ℕ) (i : ℕ) → length digits ≡ 64 → i < 8
+    → digits_value (slice_range digits (64 - 8 * i - 8) (64 - 8 * i)) ≡ number_word (digits_value digits) i
 unfolding digits_value number_word
 word-is digits i whole low =
     let end = 64 - 8 * i in
@@ -115,7 +120,8 @@ word-is digits i whole low =
     let high = fold step 0 (take at digits) in
     let rest = drop end digits in
     let parts : digits ≡ (take at digits ++ mid) ++ rest =
-    sym (take-append-drop at digits) ∙ (ap (λ (ys : List ℕ). take at digits ++ ys) (drop_split digits at end (omega arith)) ∙ sym (append_assoc (take at digits) mid rest)) in
+    sym (take-append-drop at digits) ∙ (ap (λ (ys : List ℕ). take at digits ++ ys) (drop_split digits at end (omega arith))
+    ∙ sym (append_assoc (take at digits) mid rest)) in
     let rest_count : length rest ≡ 8 * i = length-drop end digits ∙ omega (arith, whole, low) in
     let mid_count : length mid ≡ 8 = length-take-le (end - at) (drop at digits) (omega (arith, length-drop at digits, whole, low)) ∙ omega (arith, low) in
     let rest_reach : reach (length rest) ≡ 2 ^ (32 * i) = let same : 4 * length rest ≡ 32 * i = omega (arith, rest_count) in ap (λ (k : ℕ). 2 ^ k) same in
@@ -124,5 +130,6 @@ word-is digits i whole low =
     ap (fold step 0) parts ∙ (together (take at digits ++ mid) rest
     ∙ ap₂ (λ (n r : ℕ). n * r + fold step 0 rest) (together (take at digits) mid ∙ ap (λ (r : ℕ). high * r + fold step 0 mid) mid_reach) rest_reach) in
     sym (ap (λ (n : ℕ). n / 2 ^ (32 * i) % 2 ^ 32) value
-    ∙ (ap (λ (n : ℕ). n % 2 ^ 32) (shr_high (high * 2 ^ 32 + fold step 0 mid) (32 * i) (fold step 0 rest) (subst (λ (r : ℕ). fold step 0 rest < r) rest_reach (below rest)))
+    ∙ (ap (λ (n : ℕ). n % 2 ^ 32) (shr_high (high * 2 ^ 32 + fold step 0 mid) (32 * i) (fold step 0 rest)
+    (subst (λ (r : ℕ). fold step 0 rest < r) rest_reach (below rest)))
     ∙ mod_low high 32 (fold step 0 mid) (subst (λ (r : ℕ). fold step 0 mid < r) mid_reach (below mid))))

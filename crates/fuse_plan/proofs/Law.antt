@@ -8,7 +8,8 @@ use Rattle.std.specs.FinMap as map
 use Rattle.std.specs.FinMap.{nat_cmp-IsAntisymmetric}
 use Rattle.std.specs.Cmp.{nat_cmp_total}
 use Rattle.std.specs.Cmp.Lexicographic.{bytes_decides}
-use Rattle.std.proofs.lemmas.Bool.{and_parts, and_from, and_right, or_parts, or_from, or_cases, or_right, true≢false, false≢true, not-true, not-false, not_from_false, not_from_true, cases_Bool, eqb-true, false_from_ne_true, lt-ltb, ltb-true, cond-true, cond-false}
+use Rattle.std.proofs.lemmas.Bool.{and_parts, and_from, and_right, or_parts, or_from, or_cases, or_right, true≢false, false≢true, not-true, not-false}
+use Rattle.std.proofs.lemmas.Bool.{not_from_false, not_from_true, cases_Bool, eqb-true, false_from_ne_true, lt-ltb, ltb-true, cond-true, cond-false}
 use Rattle.fuse_image.specs.declared.image.Image.{Image}
 use Rattle.fuse_redaction.specs.declared.redaction.ReadBack.{ReadBack}
 use Rattle.fuse_plan.specs.declared.verdict.ChipFault.{ChipFault}
@@ -81,7 +82,8 @@ is_none : {A : Type 0} (s : Option A) → is_some s ≡ false → s ≡ None
 is_none None h = refl
 is_none (Some x) h = absurd (true≢false h)
 
-shows_key : (k q s : Option (List ℕ)) (h : Bool) → (if h then is_some s else is_other k q s) ≡ false → (if is_some k || is_some s then None else q) ≡ None → s ≡ (if h then None else option_or k q)
+shows_key : (k q s : Option (List ℕ)) (h : Bool) → (if h then is_some s else is_other k q s) ≡ false → (if is_some k || is_some s then None else q) ≡ None
+    → s ≡ (if h then None else option_or k q)
 shows_key k q s true b t = is_none s b
 shows_key (Some d) q None false b t = absurd (true≢false b)
 shows_key (Some d) q (Some e) false b t = ap Some (sym (same_bytes d e (not-false (bytes_eq d e) b)))
@@ -98,19 +100,23 @@ none_bad : (k q s : Option (List ℕ)) (h : Bool) → s ≡ (if h then None else
 none_bad k q s true e = ap is_some e
 none_bad k q s false e = ap (λ (x : Option (List ℕ)). is_other k q x) e ∙ good_key k q
 
-no_short : (k q s : Option (List ℕ)) (h : Bool) → s ≡ (if h then None else option_or k q) → (is_some q ≡ true → is_some k ≡ false → h ≡ false) → (if is_some k || is_some s then None else q) ≡ None
+no_short : (k q s : Option (List ℕ)) (h : Bool) → s ≡ (if h then None else option_or k q) → (is_some q ≡ true → is_some k ≡ false → h ≡ false)
+    → (if is_some k || is_some s then None else q) ≡ None
 no_short (Some d) q s h e f = refl
 no_short None None s h e f = same_cond (is_some s) None
-no_short None (Some d) s h e f = ap (λ (x : Option (List ℕ)). if is_some x then None else Some d) (e ∙ ap (λ (g : Bool). if g then None else Some d) (f refl refl))
+no_short None (Some d) s h e f =
+    ap (λ (x : Option (List ℕ)). if is_some x then None else Some d) (e ∙ ap (λ (g : Bool). if g then None else Some d) (f refl refl))
 
-neither_there : (low k s : Bool) (q : Option (List ℕ)) → (if low then (if s then None else (if low then (if k then None else q) else None)) else None) ≡ (if low then (if k || s then None else q) else None)
+neither_there : (low k s : Bool) (q : Option (List ℕ)) → (if low then (if s then None else (if low then (if k then None else q) else None)) else None)
+    ≡ (if low then (if k || s then None else q) else None)
 neither_there true true true q = refl
 neither_there true true false q = refl
 neither_there true false s q = refl
 neither_there false k s q = refl
 
 -- ---- all key fields
-pub test_of_key : (fs : List Field) (test : ℕ → Bool) (b : ℕ) → list_any (λ f. f.key && test f.block) fs ≡ false → list_any (λ f. f.key && f.block == b) fs ≡ true → test b ≡ false
+pub test_of_key : (fs : List Field) (test : ℕ → Bool) (b : ℕ) → list_any (λ f. f.key && test f.block) fs ≡ false → list_any (λ f.
+    f.key && f.block == b) fs ≡ true → test b ≡ false
 test_of_key [] test b h k = absurd (false≢true k)
 test_of_key (f ∷ fs) test b h k =
     let parts = or_parts (f.key && test f.block) (list_any (λ f. f.key && test f.block) fs) h in
@@ -123,7 +129,8 @@ test_of_key (f ∷ fs) test b h k =
 
 no_key_passes : (fs : List Field) (test : ℕ → Bool) → ((b : ℕ) → test b ≡ false) → list_any (λ f. f.key && test f.block) fs ≡ false
 no_key_passes [] test h = refl
-no_key_passes (f ∷ fs) test h = or_from (f.key && test f.block) (list_any (λ f. f.key && test f.block) fs) (and_right f.key (test f.block) (h f.block)) (no_key_passes fs test h)
+no_key_passes (f ∷ fs) test h =
+    or_from (f.key && test f.block) (list_any (λ f. f.key && test f.block) fs) (and_right f.key (test f.block) (h f.block)) (no_key_passes fs test h)
 
 no_key_here : (m : Map) (t : KeyTable) → AreKeys m t → (b : ℕ) → is_key_block m b ≡ false → map.get t b ≡ None
 no_key_here m t h b k = is_none (map.get t b) (false_from_ne_true (is_some (map.get t b)) (λ e. true≢false (sym (h b e).1 ∙ k)))
@@ -132,7 +139,8 @@ no_key_above : (m : Map) (t : KeyTable) → AreKeys m t → (b : ℕ) → nat_lt
 no_key_above m t h b k = is_none (map.get t b) (false_from_ne_true (is_some (map.get t b)) (λ e. true≢false (sym (lt-ltb b 4 (h b e).0) ∙ k)))
 
 -- where no key field is bad, no block is
-no_bad : (m : Map) (L : Positions) (K Q S : KeyTable) → AreKeys m K → AreKeys m Q → AreKeys m S → some_key m (is_bad_key m L K Q S) ≡ false → (b : ℕ) → is_bad_key m L K Q S b ≡ false
+no_bad : (m : Map) (L : Positions) (K Q S : KeyTable) → AreKeys m K → AreKeys m Q → AreKeys m S → some_key m (is_bad_key m L K Q S) ≡ false → (b : ℕ)
+    → is_bad_key m L K Q S b ≡ false
 unfolding is_bad_key
 no_bad m L K Q S hk hq hs h b = elim (cases_Bool (is_key_block m b)) as (λ _. is_bad_key m L K Q S b ≡ false) [
   | inl e ↦ test_of_key m.fields (is_bad_key m L K Q S) b h e
@@ -154,7 +162,9 @@ match_of Match h = refl
 match_of (Short rest) h = absurd (false≢true h)
 match_of (Fault f) h = absurd (false≢true h)
 
-matched : (a b c d e : Bool) (x y z : ChipFault) (w : Image) → is_match (if not a then Fault x else if not b then Fault y else if c then Fault z else if not d || not e then Short w else Match) ≡ (a && (b && (not c && (d && e))))
+matched : (a b c d e : Bool) (x y z : ChipFault) (w : Image)
+    → is_match (if not a then Fault x else if not b then Fault y else if c then Fault z else if not d || not e then Short w else Match)
+    ≡ (a && (b && (not c && (d && e))))
 unfolding is_match
 matched false b c d e x y z w = refl
 matched true false c d e x y z w = refl
@@ -171,7 +181,8 @@ pub record NoneOf (m : Map) (L : Positions) (image : Image) (P : Positions) (Q :
   pub bits : is_empty (short_bits P r.ones) ≡ true
   pub keys : has_no_key (short_keys image.keys Q r.shown) ≡ true
 
-match_parts : (m : Map) (L : Positions) (image : Image) (P : Positions) (Q : KeyTable) (r : ReadBack) → verdict_under m L image P Q r ≡ Match → NoneOf m L image P Q r
+match_parts : (m : Map) (L : Positions) (image : Image) (P : Positions) (Q : KeyTable) (r : ReadBack) → verdict_under m L image P Q r ≡ Match
+    → NoneOf m L image P Q r
 unfolding is_match
 match_parts m L image P Q r h =
     let a = is_empty (lost m L image.burnt r.ones) in
@@ -186,7 +197,8 @@ match_parts m L image P Q r h =
     let t = and_parts d e s.1 in
     record { lost = p.0; stray = q.0; key = not-true c s.0; bits = t.0; keys = t.1 }
 
-match_from : (m : Map) (L : Positions) (image : Image) (P : Positions) (Q : KeyTable) (r : ReadBack) → NoneOf m L image P Q r → verdict_under m L image P Q r ≡ Match
+match_from : (m : Map) (L : Positions) (image : Image) (P : Positions) (Q : KeyTable) (r : ReadBack) → NoneOf m L image P Q r
+    → verdict_under m L image P Q r ≡ Match
 match_from m L image P Q r n =
     let a = is_empty (lost m L image.burnt r.ones) in
     let b = is_empty (stray m L image.burnt P r.ones) in
@@ -194,7 +206,8 @@ match_from m L image P Q r n =
     let d = is_empty (short_bits P r.ones) in
     let e = has_no_key (short_keys image.keys Q r.shown) in
     match_of _ (matched a b c d e Lost Stray Key (record { burnt = short_bits P r.ones; keys = short_keys image.keys Q r.shown })
-    ∙ and_from a (b && (not c && (d && e))) n.lost (and_from b (not c && (d && e)) n.stray (and_from (not c) (d && e) (not_from_false c n.key) (and_from d e n.bits n.keys))))
+    ∙ and_from a (b && (not c && (d && e))) n.lost (and_from b (not c && (d && e)) n.stray
+    (and_from (not c) (d && e) (not_from_false c n.key) (and_from d e n.bits n.keys))))
 
 module _ (m : Map) (image : Image) (P : Positions) (Q : KeyTable) (r : ReadBack) (hk : AreKeys m image.keys) (hq : AreKeys m Q) (hs : AreKeys m r.shown) where
   abbrev B : Positions
@@ -220,11 +233,13 @@ module _ (m : Map) (image : Image) (P : Positions) (Q : KeyTable) (r : ReadBack)
   unfolding short_bits
   at_short p = set.contains-difference pos_total P r.ones p
 
-  at_short_key : (b : ℕ) → map.get (short_keys image.keys Q r.shown) b ≡ (if nat_lt b 4 then (if is_some (map.get image.keys b) || is_some (map.get r.shown b) then None else map.get Q b) else None)
+  at_short_key : (b : ℕ) → map.get (short_keys image.keys Q r.shown) b
+      ≡ (if nat_lt b 4 then (if is_some (map.get image.keys b) || is_some (map.get r.shown b) then None else map.get Q b) else None)
   unfolding short_keys without
   at_short_key b =
       get-table_where (λ b. if is_some (map.get r.shown b) then None else map.get (without Q image.keys) b) b
-      ∙ ap (λ (x : Option (List ℕ)). if nat_lt b 4 then (if is_some (map.get r.shown b) then None else x) else None) (get-table_where (λ b. if is_some (map.get image.keys b) then None else map.get Q b) b)
+      ∙ ap (λ (x : Option (List ℕ)). if nat_lt b 4 then (if is_some (map.get r.shown b) then None else x) else None)
+      (get-table_where (λ b. if is_some (map.get image.keys b) then None else map.get Q b) b)
       ∙ neither_there (nat_lt b 4) (is_some (map.get image.keys b)) (is_some (map.get r.shown b)) (map.get Q b)
 
   at_joined : (b : ℕ) → b < 4 → map.get (joined image.keys Q) b ≡ option_or (map.get image.keys b) (map.get Q b)
@@ -296,12 +311,14 @@ module _ (m : Map) (image : Image) (P : Positions) (Q : KeyTable) (r : ReadBack)
 
     -- in a block without a number below 4 nothing is known, asked for or shown
     key_anywhere : (b : ℕ) → map.get r.shown b ≡ (if is_hidden_key m BP b then None else option_or (map.get image.keys b) (map.get Q b))
-    key_anywhere b = elim (cases_Bool (nat_lt b 4)) as (λ _. map.get r.shown b ≡ (if is_hidden_key m BP b then None else option_or (map.get image.keys b) (map.get Q b))) [
-      | inl l ↦ key_shown b (ltb-true b 4 l)
-      | inr l ↦
-          no_key_above m r.shown hs b l ∙ sym (same_cond (is_hidden_key m BP b) None)
-          ∙ ap₂ (λ (x y : Option (List ℕ)). if is_hidden_key m BP b then None else option_or x y) (sym (no_key_above m image.keys hk b l)) (sym (no_key_above m Q hq b l))
-    ]
+    key_anywhere b =
+        elim (cases_Bool (nat_lt b 4)) as (λ _. map.get r.shown b ≡ (if is_hidden_key m BP b then None else option_or (map.get image.keys b) (map.get Q b))) [
+          | inl l ↦ key_shown b (ltb-true b 4 l)
+          | inr l ↦
+              no_key_above m r.shown hs b l ∙ sym (same_cond (is_hidden_key m BP b) None)
+              ∙ ap₂ (λ (x y : Option (List ℕ)). if is_hidden_key m BP b then None else option_or x y) (sym (no_key_above m image.keys hk b l))
+              (sym (no_key_above m Q hq b l))
+        ]
 
     back : NoneOf m L image P Q r
     unfolding is_bad_key
@@ -313,13 +330,15 @@ module _ (m : Map) (image : Image) (P : Positions) (Q : KeyTable) (r : ReadBack)
           at_stray p ∙ ap (λ (S : Positions). set.contains r.ones p && (not (set.contains B p || set.contains P p) || is_hidden m S p)) before_is
           ∙ none_stray (set.contains B p) (set.contains r.ones p) (set.contains P p) (is_hidden m BP p) (one_at p));
       key = no_key_passes m.fields (is_bad_key m L image.keys Q r.shown) (λ b.
-          ap (λ (S : Positions). if is_hidden_key m S b then is_some (map.get r.shown b) else is_other (map.get image.keys b) (map.get Q b) (map.get r.shown b)) before_is
+          ap (λ (S : Positions). if is_hidden_key m S b then is_some (map.get r.shown b) else is_other (map.get image.keys b) (map.get Q b) (map.get r.shown b))
+          before_is
           ∙ none_bad (map.get image.keys b) (map.get Q b) (map.get r.shown b) (is_hidden_key m BP b) (key_anywhere b));
       bits = is_empty-from_none (short_bits P r.ones) (λ p.
           at_short p ∙ none_short (set.contains B p) (set.contains r.ones p) (set.contains P p) (is_hidden m BP p) (one_at p) (sight.bits p));
       keys = has_no_key-from_none (short_keys image.keys Q r.shown) (λ b.
           at_short_key b
-          ∙ ap (λ (x : Option (List ℕ)). if nat_lt b 4 then x else None) (no_short (map.get image.keys b) (map.get Q b) (map.get r.shown b) (is_hidden_key m BP b) (key_anywhere b) (sight.keys b))
+          ∙ ap (λ (x : Option (List ℕ)). if nat_lt b 4 then x else None)
+          (no_short (map.get image.keys b) (map.get Q b) (map.get r.shown b) (is_hidden_key m BP b) (key_anywhere b) (sight.keys b))
           ∙ same_cond (nat_lt b 4) None);
     }
 

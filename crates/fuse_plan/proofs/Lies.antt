@@ -1,5 +1,6 @@
 -- What lawful wishes ask to be burnt lies in the map, outside key fields.
-use Rattle.std.proofs.Common.{◌≡◌, ℕ, ◌+◌, ◌<◌, Bool, true, false, List, [], ◌∷◌, Option, Some, None, IfSome, IsSomeAnd, option_map, option_and_then, refl, subst, sym, ap, ap₂, ◌∙◌, inl, inr, arith}
+use Rattle.std.proofs.Common.{◌≡◌, ℕ, ◌+◌, ◌<◌, Bool, true, false, List, [], ◌∷◌, Option, Some, None, IfSome, IsSomeAnd, option_map, option_and_then, refl}
+use Rattle.std.proofs.Common.{subst, sym, ap, ap₂, ◌∙◌, inl, inr, arith}
 use Rattle.std.specs.Prelude.{◌==◌, ◌&&◌, nat_le, nat_lt, if◌then◌else◌}
 use Rattle.std.specs.List.{list_any}
 use Rattle.std.specs.Option.{option_map_or}
@@ -7,7 +8,8 @@ use Rattle.std.specs.FinSet as set
 use Rattle.std.proofs.lemmas.Bool.{and_from, and_parts, eqb-true, false≢true, le-leb, lt-ltb, ltb-true, or_cases, or_parts}
 use Rattle.fusemap_core.specs.declared.field.Field.{Field}
 use Rattle.fusemap_core.specs.declared.pos.Pos.{Pos}
-use Rattle.fusemap_core.specs.Map.{HasBit, HasItsLocks, IsInBlock, IsMap, IsPosition, Map, NamesLockField, bit_of, field_named, holds, is_lock, is_named, lock_at, words_of}
+use Rattle.fusemap_core.specs.Map.{HasBit, HasItsLocks, IsInBlock, IsMap, IsPosition, Map, NamesLockField, bit_of, field_named, holds, is_lock, is_named}
+use Rattle.fusemap_core.specs.Map.{lock_at, words_of}
 use Rattle.fusemap_core.proofs.Bounds.{found}
 use Rattle.fuse_image.specs.Locks.{is_key_position}
 use Rattle.fuse_image.specs.Places.{Positions, contains-places_where, is_place, pos_total}
@@ -45,7 +47,8 @@ module _ (m : Map) (is : IsMap m) (q : Pos) where
   plain : (name : List ℕ) (g : Field) → field_named name m.fields ≡ Some g → g.key ≡ false → holds g q ≡ true → Lies m q
   unfolding is_key_position
   plain name g e not_key h =
-      let within : IfSome (Some g) (IsInBlock m.blocks) = subst (λ (o : Option Field). IfSome o (IsInBlock m.blocks)) e (found (is_named name) (IsInBlock m.blocks) m.fields is.in_block) in
+      let within : IfSome (Some g) (IsInBlock m.blocks) =
+      subst (λ (o : Option Field). IfSome o (IsInBlock m.blocks)) e (found (is_named name) (IsInBlock m.blocks) m.fields is.in_block) in
       let parts = and_parts (g.block == q.block) (nat_le g.bit q.bit && nat_lt q.bit (g.bit + g.count)) h in
       let bits = and_parts (nat_le g.bit q.bit) (nat_lt q.bit (g.bit + g.count)) parts.1 in
       let block : g.block ≡ q.block = eqb-true g.block q.block parts.0 in
@@ -58,16 +61,19 @@ module _ (m : Map) (is : IsMap m) (q : Pos) where
       )
 
   -- a lock is a bit of its lock field
-  lock : (name : List ℕ) → NamesLockField m.fields name → (i : Option ℕ) → IfSome i (HasBit m.fields name) → is_lock (option_and_then (lock_at m.fields name) i) q ≡ true → Lies m q
+  lock : (name : List ℕ) → NamesLockField m.fields name → (i : Option ℕ) → IfSome i (HasBit m.fields name)
+      → is_lock (option_and_then (lock_at m.fields name) i) q ≡ true → Lies m q
   lock name names None has h = absurd (false≢true h)
   lock name names (Some i) has h = at (field_named name m.fields) refl names has h
     where
-      at : (o : Option Field) → field_named name m.fields ≡ o → IsSomeAnd o (λ f. (f.key ≡ false) × (f.read ≡ None)) → IsSomeAnd o (λ f. i < f.count) → is_lock (option_map (λ f. bit_of f i) o) q ≡ true → Lies m q
+      at : (o : Option Field) → field_named name m.fields ≡ o → IsSomeAnd o (λ f. (f.key ≡ false) × (f.read ≡ None)) → IsSomeAnd o (λ f.
+          i < f.count) → is_lock (option_map (λ f. bit_of f i) o) q ≡ true → Lies m q
       at None e n b l = absurd n
       at (Some g) e n b l = plain name g e n.0 (has_bit g i q b l)
 
   -- what a wish asks of a field of its kind
-  of_field : (name : List ℕ) (f : Field) → field_named name m.fields ≡ Some f → (want : Want) → is_wrong want f ≡ false → is_to_be_one m q want f ≡ true → Lies m q
+  of_field : (name : List ℕ) (f : Field) → field_named name m.fields ≡ Some f → (want : Want) → is_wrong want f ≡ false → is_to_be_one m q want f ≡ true
+      → Lies m q
   of_field name f e (Bit i) right asks = in_it (nat_lt i f.count) refl asks
     where
       in_it : (low : Bool) → nat_lt i f.count ≡ low → is_lock (if low then Some (bit_of f i) else None) q ≡ true → Lies m q
@@ -76,16 +82,19 @@ module _ (m : Map) (is : IsMap m) (q : Pos) where
   of_field name f e (Value v) right asks = plain name f e right (and_parts (holds f q) _ asks).0
   of_field name f e (Key digest) right asks = absurd (false≢true asks)
   of_field name f e WriteLock right asks =
-      let has : IfSome (Some f) (HasItsLocks m) = subst (λ (o : Option Field). IfSome o (HasItsLocks m)) e (found (is_named name) (HasItsLocks m) m.fields is.locks) in
+      let has : IfSome (Some f) (HasItsLocks m) =
+      subst (λ (o : Option Field). IfSome o (HasItsLocks m)) e (found (is_named name) (HasItsLocks m) m.fields is.locks) in
       lock m.wr is.lock_fields.wr f.write has.write asks
   of_field name f e ReadLock right asks =
-      let has : IfSome (Some f) (HasItsLocks m) = subst (λ (o : Option Field). IfSome o (HasItsLocks m)) e (found (is_named name) (HasItsLocks m) m.fields is.locks) in
+      let has : IfSome (Some f) (HasItsLocks m) =
+      subst (λ (o : Option Field). IfSome o (HasItsLocks m)) e (found (is_named name) (HasItsLocks m) m.fields is.locks) in
       lock m.rd is.lock_fields.rd f.read has.read asks
 
   of_wish : (w : Wish) → is_of_wrong_kind m w ≡ false → asks_one m q w ≡ true → Lies m q
   of_wish w right asks = at (field_named w.field m.fields) refl right asks
     where
-      at : (o : Option Field) → field_named w.field m.fields ≡ o → option_map_or (is_wrong w.want) o false ≡ false → option_map_or (is_to_be_one m q w.want) o false ≡ true → Lies m q
+      at : (o : Option Field) → field_named w.field m.fields ≡ o → option_map_or (is_wrong w.want) o false ≡ false
+          → option_map_or (is_to_be_one m q w.want) o false ≡ true → Lies m q
       at None e r a = absurd (false≢true a)
       at (Some f) e r a = of_field w.field f e w.want r a
 

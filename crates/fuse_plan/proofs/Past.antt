@@ -3,7 +3,8 @@ use Rattle.std.proofs.Common.{◌≡◌, ℕ, zero, suc, ◌+◌, ◌-◌, ◌<�
 use Rattle.std.specs.Prelude.{◌==◌, nat_le, nat_lt}
 use Rattle.std.specs.List.{list_any, range_with_len}
 use Rattle.std.specs.FinSet as set
-use Rattle.std.proofs.lemmas.Bool.{and_from, and_parts, both_ways, cases_lt, false_from_ne_true, false≢true, le-leb, leb-true, lt-ltb, ltb-true, not-true, not_from_false, or_cases, or_left, or_right, true_from_ne_false}
+use Rattle.std.proofs.lemmas.Bool.{and_from, and_parts, both_ways, cases_lt, false_from_ne_true, false≢true, le-leb, leb-true, lt-ltb, ltb-true, not-true}
+use Rattle.std.proofs.lemmas.Bool.{not_from_false, or_cases, or_left, or_right, true_from_ne_false}
 use Rattle.fusemap_core.specs.declared.pos.Pos.{Pos}
 use Rattle.fuse_image.specs.Places.{Positions, contains-places_where, is_empty, is_place, meets, places_where, run, same_bool}
 use Rattle.fuse_image.proofs.Sets.{is_empty-from_none, none_in}
@@ -41,19 +42,22 @@ abbrev is_one_past : List ℕ → ℕ → Pos → Bool
 is_one_past v start p = is_one_from v (at 0) p && is_past start p
 
 -- a bit from the start on that is 1 is such a position
-one_past : (v : List ℕ) (start i : ℕ) → start ≤ i → i < start + (256 - start) → start ≤ 256 → has_one v i ≡ true → set.contains (places_where (is_one_past v start)) (at i) ≡ true
+one_past : (v : List ℕ) (start i : ℕ) → start ≤ i → i < start + (256 - start) → start ≤ 256 → has_one v i ≡ true
+    → set.contains (places_where (is_one_past v start)) (at i) ≡ true
 one_past v start i low high within one =
     let small : i < 256 = omega (arith, high, within) in
     let same : i - 0 ≡ i = omega arith in
     let in_place : is_place (at i) ≡ true = lt-ltb i 256 small in
     let one_from : is_one_from v (at 0) (at i) ≡ true = and_from (nat_le 0 i) (has_one v (i - 0)) (le-leb 0 i (omega arith)) (ap (has_one v) same ∙ one) in
-    let past : is_past start (at i) ≡ true = and_from (nat_le start i) (nat_lt i (start + (256 - start))) (le-leb start i low) (lt-ltb i (start + (256 - start)) high) in
+    let past : is_past start (at i) ≡ true =
+    and_from (nat_le start i) (nat_lt i (start + (256 - start))) (le-leb start i low) (lt-ltb i (start + (256 - start)) high) in
     let both : is_one_past v start (at i) ≡ true = and_from (is_one_from v (at 0) (at i)) (is_past start (at i)) one_from past in
     let there : (is_place (at i) && is_one_past v start (at i)) ≡ true = and_from (is_place (at i)) (is_one_past v start (at i)) in_place both in
     contains-places_where (is_one_past v start) (at i) ∙ there
 
 -- such a position is a bit from the start on that is 1
-one_of_past : (v : List ℕ) (start : ℕ) (p : Pos) → set.contains (places_where (is_one_past v start)) p ≡ true → list_any (has_one v) (range_with_len start (256 - start)) ≡ true
+one_of_past : (v : List ℕ) (start : ℕ) (p : Pos) → set.contains (places_where (is_one_past v start)) p ≡ true
+    → list_any (has_one v) (range_with_len start (256 - start)) ≡ true
 one_of_past v start p h =
     let parts = and_parts (is_place p) (is_one_past v start p) (sym (contains-places_where (is_one_past v start) p) ∙ h) in
     let both = and_parts (is_one_from v (at 0) p) (is_past start p) parts.1 in
@@ -62,10 +66,12 @@ one_of_past v start p h =
     let in_block = and_parts (0 == p.block) (nat_le start p.bit && nat_lt p.bit (start + (256 - start))) both.1 in
     let in_run = and_parts (nat_le start p.bit) (nat_lt p.bit (start + (256 - start))) in_block.1 in
     let same : p.bit ≡ p.bit - 0 = omega arith in
-    any_in_range (has_one v) start (256 - start) p.bit (leb-true start p.bit in_run.0) (ltb-true p.bit (start + (256 - start)) in_run.1) (ap (has_one v) same ∙ one.1)
+    any_in_range (has_one v) start (256 - start) p.bit (leb-true start p.bit in_run.0) (ltb-true p.bit (start + (256 - start)) in_run.1)
+    (ap (has_one v) same ∙ one.1)
 
 -- a number at the front of a block meets the positions from a bit on where it has a 1 from that bit on
-pub meets-from : (v : List ℕ) (start : ℕ) → start ≤ 256 → meets (places_where (is_one_from v (at 0))) (run (at start) (256 - start)) ≡ list_any (has_one v) (range_with_len start (256 - start))
+pub meets-from : (v : List ℕ) (start : ℕ) → start ≤ 256 → meets (places_where (is_one_from v (at 0))) (run (at start) (256 - start))
+    ≡ list_any (has_one v) (range_with_len start (256 - start))
 meets-from v start within =
     ap (λ (s : Positions). not (is_empty s)) (intersection-of_tests (is_one_from v (at 0)) (is_past start))
     ∙ same_bool _ _

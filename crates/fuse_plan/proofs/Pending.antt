@@ -1,5 +1,6 @@
 -- A plan is pending on its chip, and so is what a read-back leaves of it.
-use Rattle.std.proofs.Common.{◌≡◌, ℕ, zero, suc, get_or, Bool, true, false, ◌&&◌, ◌||◌, not, List, [], ◌∷◌, Option, Some, None, option_and_then, find, refl, sym, ap, ap₂, subst, ◌∙◌, nat_cmp, inl, inr}
+use Rattle.std.proofs.Common.{◌≡◌, ℕ, zero, suc, get_or, Bool, true, false, ◌&&◌, ◌||◌, not, List, [], ◌∷◌, Option, Some, None, option_and_then, find, refl}
+use Rattle.std.proofs.Common.{sym, ap, ap₂, subst, ◌∙◌, nat_cmp, inl, inr}
 use Rattle.std.specs.Prelude.{◌==◌, nat_lt, is_some, Ok, if◌then◌else◌, cond}
 use Rattle.std.specs.List.{list_any}
 use Rattle.std.specs.Option.{option_map_or, option_or}
@@ -49,7 +50,8 @@ none_at [] i h = refl
 none_at (c ∷ cs) zero h = (not_then c.0 c.1 (lowest cs) h).0
 none_at (c ∷ cs) (suc i) h = none_at cs i (not_then c.0 c.1 (lowest cs) h).1
 
-none_hidden : (m : Map) (a : Image) (ws : List Wish) (w : Wants) (lacking : Image) → lowest (faults_with m a ws w lacking) ≡ None → is_hidden_in m a.burnt lacking ≡ false
+none_hidden : (m : Map) (a : Image) (ws : List Wish) (w : Wants) (lacking : Image) → lowest (faults_with m a ws w lacking) ≡ None
+    → is_hidden_in m a.burnt lacking ≡ false
 none_hidden m a ws w lacking h = none_at (faults_with m a ws w lacking) 8 h
 
 -- a key that is wished for is one of a key field
@@ -75,12 +77,14 @@ any_found (f ∷ fs) named test (Some g) e h = elim (cases_Bool (named f)) as (�
       or_right (test f) (list_any test fs) (any_found fs named test (Some g) (ap (λ b. cond b (Some f) (find named fs)) (sym is_not) ∙ e) h)
 ]
 
-key_field : (b : ℕ) (want : Want) (o : Option Field) → is_some (option_and_then (key_in b want) o) ≡ true → option_map_or (λ f. f.key && f.block == b) o false ≡ true
+key_field : (b : ℕ) (want : Want) (o : Option Field) → is_some (option_and_then (key_in b want) o) ≡ true → option_map_or (λ f.
+    f.key && f.block == b) o false ≡ true
 key_field b want None h = absurd (false≢true h)
 key_field b want (Some f) h = is_of_block b want f h
 
 is_key_of : (m : Map) (b : ℕ) (w : Wish) → is_some (key_of m b w) ≡ true → is_key_block m b ≡ true
-is_key_of m b w h = any_found m.fields (is_named w.field) (λ f. f.key && f.block == b) (field_named w.field m.fields) refl (key_field b w.want (field_named w.field m.fields) h)
+is_key_of m b w h =
+    any_found m.fields (is_named w.field) (λ f. f.key && f.block == b) (field_named w.field m.fields) refl (key_field b w.want (field_named w.field m.fields) h)
 
 one_of_both : (x y : Option (List ℕ)) → is_some (option_or x y) ≡ true → is_some x ≡ false → is_some y ≡ true
 one_of_both None y h none = h
@@ -107,7 +111,8 @@ is_new false known x h = absurd (false≢true h)
 left_of : (asked known : KeyTable) (b : ℕ) → is_some (map.get (without asked known) b) ≡ true → IsNew (nat_lt b 4) (is_some (map.get known b)) (map.get asked b)
 unfolding without
 left_of asked known b h =
-    is_new (nat_lt b 4) (is_some (map.get known b)) (map.get asked b) (ap is_some (sym (get-table_where (λ c. if is_some (map.get known c) then None else map.get asked c) b)) ∙ h)
+    is_new (nat_lt b 4) (is_some (map.get known b)) (map.get asked b)
+    (ap is_some (sym (get-table_where (λ c. if is_some (map.get known c) then None else map.get asked c) b)) ∙ h)
 
 are_wanted : (m : Map) (ws : List Wish) → AreKeys m (wanted_keys m ws)
 unfolding wanted_keys
@@ -166,7 +171,8 @@ module _ (m : Map) (is : IsMap m) (a : Image) (ws : List Wish) (clear : is_hidde
 
   bit_in_sight : (q : Pos) → set.contains lacking.burnt q ≡ true → is_hidden m a.burnt q ≡ false
   bit_in_sight q h =
-      let none : set.contains (set.intersection lacking.burnt hidden) q ≡ false = none_in (set.intersection lacking.burnt hidden) (not-false (is_empty (set.intersection lacking.burnt hidden)) parts_clear.0) q in
+      let none : set.contains (set.intersection lacking.burnt hidden) q ≡ false =
+      none_in (set.intersection lacking.burnt hidden) (not-false (is_empty (set.intersection lacking.burnt hidden)) parts_clear.0) q in
       let both : (set.contains lacking.burnt q && set.contains hidden q) ≡ false = sym (set.contains-intersection pos_total lacking.burnt hidden q) ∙ none in
       not_with (is_place q) (is_hidden m a.burnt q) (are_places m ws q (lacking_at q h).0) (
       sym (contains-places_where (is_hidden m a.burnt) q) ∙ not_with (set.contains lacking.burnt q) (set.contains hidden q) h both)
@@ -197,7 +203,8 @@ plan_law m is a ws w h =
     subst (IsPending m a) planned.1 (batches_pending m is a ws (none_hidden m a ws (wants_of m ws) (missing a (wants_of m ws)) planned.0))
 
 -- ---- what a read-back leaves
-no_stray : (c d e : Bool) (rest : Verdict) → is_no_fault (if not c then Fault chip.Lost else if not d then Fault chip.Stray else if e then Fault chip.Key else rest) ≡ true → d ≡ true
+no_stray : (c d e : Bool) (rest : Verdict) → is_no_fault (if not c then Fault chip.Lost else if not d then Fault chip.Stray else if e then Fault chip.Key
+    else rest) ≡ true → d ≡ true
 no_stray false d e rest h = absurd (false≢true h)
 no_stray true true e rest h = refl
 no_stray true false e rest h = absurd (false≢true h)
@@ -229,10 +236,12 @@ in_neither : (low : Bool) (x : Option (List ℕ)) → is_some x ≡ false → is
 in_neither true x h = h
 in_neither false x h = refl
 
-joined_at : (known shown : KeyTable) (b : ℕ) → is_some (map.get known b) ≡ false → is_some (map.get shown b) ≡ false → is_some (map.get (joined known shown) b) ≡ false
+joined_at : (known shown : KeyTable) (b : ℕ) → is_some (map.get known b) ≡ false → is_some (map.get shown b) ≡ false
+    → is_some (map.get (joined known shown) b) ≡ false
 unfolding joined
 joined_at known shown b x y =
-    ap is_some (get-table_where (λ c. option_or (map.get known c) (map.get shown c)) b) ∙ in_neither (nat_lt b 4) _ (not_known (map.get known b) (map.get shown b) x y)
+    ap is_some (get-table_where (λ c. option_or (map.get known c) (map.get shown c)) b)
+    ∙ in_neither (nat_lt b 4) _ (not_known (map.get known b) (map.get shown b) x y)
 
 -- a key of the rest was asked for, and is neither known nor shown
 pub record IsShortKey (K Q S : KeyTable) (b : ℕ) : Type 0 where
@@ -260,7 +269,9 @@ module _ (m : Map) (a : Image) (w : Work) (r : ReadBack) (pending : IsPending m 
   not_stray q =
       ap (λ (x : Bool). set.contains r.ones q && (not x || is_hidden m L q)) (sym (set.contains-union pos_total a.burnt w.first q))
       ∙ (sym (in_retain r.ones (λ s. not (set.contains (set.union a.burnt w.first) s) || is_hidden m L s) q)
-      ∙ none_in (stray m L a.burnt w.first r.ones) (no_stray (is_empty (lost m L a.burnt r.ones)) (is_empty (stray m L a.burnt w.first r.ones)) (some_key m (is_bad_key m L a.keys w.keys r.shown)) (short_or_match (record { burnt = short_bits w.first r.ones; keys = short_keys a.keys w.keys r.shown })) right) q)
+      ∙ none_in (stray m L a.burnt w.first r.ones) (no_stray (is_empty (lost m L a.burnt r.ones)) (is_empty (stray m L a.burnt w.first r.ones))
+      (some_key m (is_bad_key m L a.keys w.keys r.shown))
+      (short_or_match (record { burnt = short_bits w.first r.ones; keys = short_keys a.keys w.keys r.shown })) right) q)
 
   same_in_all : set.union L (short_bits w.first r.ones) ≡ set.union a.burnt w.first
   same_in_all = set.same_set pos_total pos_exact _ (set.union a.burnt w.first) (λ q.
@@ -282,10 +293,12 @@ module _ (m : Map) (a : Image) (w : Work) (r : ReadBack) (pending : IsPending m 
   rest_pending = record {
     new_first = λ q h.
         set.contains-union pos_total a.burnt r.ones q
-        ∙ still_new (set.contains a.burnt q) (set.contains r.ones q) (set.contains w.first q) (pending.new_first q (and_parts _ _ (in_first q h)).0) (in_first q h);
+        ∙ still_new (set.contains a.burnt q) (set.contains r.ones q) (set.contains w.first q) (pending.new_first q (and_parts _ _ (in_first q h)).0)
+        (in_first q h);
     new_second = λ q h.
         set.contains-union pos_total a.burnt r.ones q
-        ∙ not_burnt (set.contains a.burnt q) (set.contains r.ones q) (set.contains w.first q) (is_hidden m L q) true (not_stray q) (pending.new_second q h) (second_apart q h);
+        ∙ not_burnt (set.contains a.burnt q) (set.contains r.ones q) (set.contains w.first q) (is_hidden m L q) true (not_stray q) (pending.new_second q h)
+        (second_apart q h);
     plain = λ q h. pending.plain q (and_parts _ _ (in_first q h)).0;
     locks = pending.locks;
     new_keys = λ b h. let k = short_key a.keys w.keys r.shown b h in joined_at a.keys r.shown b k.known k.shown;
@@ -345,4 +358,5 @@ rest_told true true false rest h = short_rest rest
 pub rest_law : RestLaw
 rest_law m a batch asked r h =
     let after = set.union a.burnt r.ones in
-    rest_told (is_empty (lost m after a.burnt r.ones)) (is_empty (stray m after a.burnt batch r.ones)) (some_key m (is_bad_key m after a.keys asked r.shown)) (record { burnt = short_bits batch r.ones; keys = short_keys a.keys asked r.shown }) h
+    rest_told (is_empty (lost m after a.burnt r.ones)) (is_empty (stray m after a.burnt batch r.ones)) (some_key m (is_bad_key m after a.keys asked r.shown))
+    (record { burnt = short_bits batch r.ones; keys = short_keys a.keys asked r.shown }) h

@@ -1,5 +1,6 @@
 -- No lock hides the lock fields, and no batch outside them changes what is hidden.
-use Rattle.std.proofs.Common.{◌≡◌, ℕ, suc, ◌+◌, ◌<◌, Bool, true, false, ◌&&◌, ◌||◌, cond, List, [], ◌∷◌, get_or, All, AllPairs, Option, Some, None, IfSome, IsSomeAnd, option_map, option_and_then, find, refl, subst, sym, ap, ap₂, ◌∙◌, inl, inr, arith}
+use Rattle.std.proofs.Common.{◌≡◌, ℕ, suc, ◌+◌, ◌<◌, Bool, true, false, ◌&&◌, ◌||◌, cond, List, [], ◌∷◌, get_or, All, AllPairs, Option, Some, None, IfSome}
+use Rattle.std.proofs.Common.{IsSomeAnd, option_map, option_and_then, find, refl, subst, sym, ap, ap₂, ◌∙◌, inl, inr, arith}
 use Rattle.std.specs.Prelude.{◌==◌}
 use Rattle.std.specs.List.{list_any}
 use Rattle.std.specs.Option.{option_map_or}
@@ -28,13 +29,15 @@ not_there : (h t : Bool) → (h ≡ true → ⊥) → (h && t) ≡ false
 not_there true t h = absurd (h refl)
 not_there false t h = refl
 
-apart_from : (fs : List Field) (named : Field → Bool) (f g : Field) (q : Pos) → All (AreApart f) fs → find named fs ≡ Some g → holds f q ≡ true → holds g q ≡ false
+apart_from : (fs : List Field) (named : Field → Bool) (f g : Field) (q : Pos) → All (AreApart f) fs → find named fs ≡ Some g → holds f q ≡ true
+    → holds g q ≡ false
 apart_from fs named f g q all e here =
     let apart : IfSome (Some g) (AreApart f) = subst (λ (o : Option Field). IfSome o (AreApart f)) e (found named (AreApart f) fs all) in
     apart q here
 
 -- of fields that are apart, where the one that is found has a position and fails a test, none has the position and passes
-pub found_alone : (fs : List Field) (named test : Field → Bool) (q : Pos) → AllPairs AreApart fs → (g : Field) → find named fs ≡ Some g → holds g q ≡ true → test g ≡ false → list_any (λ f. holds f q && test f) fs ≡ false
+pub found_alone : (fs : List Field) (named test : Field → Bool) (q : Pos) → AllPairs AreApart fs → (g : Field) → find named fs ≡ Some g → holds g q ≡ true
+    → test g ≡ false → list_any (λ f. holds f q && test f) fs ≡ false
 found_alone [] named test q pairs g e has fails = refl
 found_alone (f ∷ fs) named test q pairs g e has fails = elim (cases_Bool (named f)) as (λ _. list_any (λ x. holds x q && test x) (f ∷ fs) ≡ false) [
   | inl is ↦
@@ -54,11 +57,13 @@ found_alone (f ∷ fs) named test q pairs g e has fails = elim (cases_Bool (name
 no_read_lock : (m : Map) (burnt : Positions) (f : Field) → f.read ≡ None → is_burnt burnt (read_lock m f) ≡ false
 no_read_lock m burnt f e = ap (λ (o : Option ℕ). is_burnt burnt (option_and_then (lock_at m.fields m.rd) o)) e
 
-lock_field_shows : (m : Map) → IsMap m → (name : List ℕ) → NamesLockField m.fields name → (burnt : Positions) (q : Pos) → at_field m (λ f. holds f q) name ≡ true → is_hidden m burnt q ≡ false
+lock_field_shows : (m : Map) → IsMap m → (name : List ℕ) → NamesLockField m.fields name → (burnt : Positions) (q : Pos) → at_field m (λ f.
+    holds f q) name ≡ true → is_hidden m burnt q ≡ false
 unfolding is_hidden
 lock_field_shows m is name names burnt q has = shows (field_named name m.fields) refl names has
   where
-    shows : (o : Option Field) → field_named name m.fields ≡ o → IsSomeAnd o (λ f. (f.key ≡ false) × (f.read ≡ None)) → option_map_or (λ f. holds f q) o false ≡ true → list_any (λ f. holds f q && is_burnt burnt (read_lock m f)) m.fields ≡ false
+    shows : (o : Option Field) → field_named name m.fields ≡ o → IsSomeAnd o (λ f. (f.key ≡ false) × (f.read ≡ None)) → option_map_or (λ f.
+        holds f q) o false ≡ true → list_any (λ f. holds f q && is_burnt burnt (read_lock m f)) m.fields ≡ false
     shows None e plain h = absurd plain
     shows (Some g) e plain h =
         found_alone m.fields (is_named name) (λ f. is_burnt burnt (read_lock m f)) q is.apart g e h (no_read_lock m burnt g plain.1)
@@ -69,7 +74,8 @@ in_positions m name q h =
 
 pub locks_show : LocksShow
 locks_show m is burnt q has =
-    elim (or_cases (set.contains (positions_named m m.wr) q) (set.contains (positions_named m m.rd) q) (sym (set.contains-union pos_total (positions_named m m.wr) (positions_named m m.rd) q) ∙ has)) as (λ _. is_hidden m burnt q ≡ false) [
+    elim (or_cases (set.contains (positions_named m m.wr) q) (set.contains (positions_named m m.rd) q)
+    (sym (set.contains-union pos_total (positions_named m m.wr) (positions_named m m.rd) q) ∙ has)) as (λ _. is_hidden m burnt q ≡ false) [
       | inl here ↦ lock_field_shows m is m.wr is.lock_fields.wr burnt q (in_positions m m.wr q here)
       | inr here ↦ lock_field_shows m is m.rd is.lock_fields.rd burnt q (in_positions m m.rd q here)
     ]
@@ -87,7 +93,8 @@ same_lock : (o : Option ℕ) (g : Option Field) (S T : Positions) → IfSome o (
 same_lock None g S T has agree = refl
 same_lock (Some i) None S T has agree = absurd has
 same_lock (Some i) (Some f) S T has agree =
-    agree (bit_of f i) (and_from _ _ (eq-eqb f.block f.block refl) (and_from _ _ (le-leb f.bit (f.bit + i) (omega arith)) (lt-ltb (f.bit + i) (f.bit + f.count) (omega (arith, has)))))
+    agree (bit_of f i) (and_from _ _ (eq-eqb f.block f.block refl)
+    (and_from _ _ (le-leb f.bit (f.bit + i) (omega arith)) (lt-ltb (f.bit + i) (f.bit + f.count) (omega (arith, has)))))
 
 -- positions outside the lock fields, joined to those that are burnt, change no lock
 pub record IsPlain (m : Map) (P : Positions) : Type 0 where
@@ -99,7 +106,8 @@ or_not true b h = refl
 or_not false true h = absurd (h refl)
 or_not false false h = refl
 
-same_read_lock : (m : Map) → IsMap m → (B P : Positions) → IsPlain m P → All (λ f. is_burnt (set.union B P) (read_lock m f) ≡ is_burnt B (read_lock m f)) m.fields
+same_read_lock : (m : Map) → IsMap m → (B P : Positions) → IsPlain m P → All (λ f.
+    is_burnt (set.union B P) (read_lock m f) ≡ is_burnt B (read_lock m f)) m.fields
 same_read_lock m is B P outside k d low =
     same_lock (get_or m.fields k d).read (field_named m.rd m.fields) (set.union B P) B (is.locks k d low).read (λ l here.
     set.contains-union pos_total B P l ∙ or_not (set.contains B l) (set.contains P l) (λ has.

@@ -1,5 +1,6 @@
 -- Where the ones of a number lie that begins at some bit of a block, word by word.
-use Rattle.std.proofs.Common.{length, subst, set as set_word, ◌≡◌, ℕ, ◌+◌, ◌-◌, ◌*◌, ◌/◌, ◌%◌, ◌^◌, ◌<◌, ◌≤◌, Bool, true, false, ◌&&◌, not, List, refl, sym, ap, ap₂, ◌∙◌, inl, inr, arith}
+use Rattle.std.proofs.Common.{length, subst, set as set_word, ◌≡◌, ℕ, ◌+◌, ◌-◌, ◌*◌, ◌/◌, ◌%◌, ◌^◌, ◌<◌, ◌≤◌, Bool, true, false, ◌&&◌, not, List, refl, sym}
+use Rattle.std.proofs.Common.{ap, ap₂, ◌∙◌, inl, inr, arith}
 use Rattle.std.specs.Prelude.{◌==◌, nat_le, nat_lt, slice_index, if◌then◌else◌}
 use Rattle.std.specs.Int.{bit_at}
 use Rattle.std.specs.FinSet as set
@@ -48,7 +49,8 @@ shifted-bit upper lower s i small low within =
 abbrev pub past : List ℕ → ℕ → ℕ → ℕ
 past v word skipped = if nat_le skipped word then slice_index v (word - skipped) else 0
 
-at_word : (v : List ℕ) (word skipped rest n : ℕ) → skipped ≤ word → rest < 32 → n ≡ 32 * (word - skipped) + rest → bit_at (past v word skipped) rest ≡ bit_at (slice_index v (n / 32)) (n % 32)
+at_word : (v : List ℕ) (word skipped rest n : ℕ) → skipped ≤ word → rest < 32 → n ≡ 32 * (word - skipped) + rest
+    → bit_at (past v word skipped) rest ≡ bit_at (slice_index v (n / 32)) (n % 32)
 at_word v word skipped rest n within low e =
     let index : word - skipped ≡ n / 32 = omega (arith, e, low) in
     let bit : rest ≡ n % 32 = omega (arith, e, low) in
@@ -74,22 +76,28 @@ window-is v word s i low =
     elim (cases_lt i (s % 32)) as (λ _. (window_bit v word s i == 1) ≡ (nat_le s (32 * word + i) && has_one v (32 * word + i - s))) [
       | inl below ↦
           ap (λ (n : ℕ). n == 1) (cond-true (nat_lt i (s % 32)) _ _ (lt-ltb i (s % 32) below))
-          ∙ elim (cases_lt word (s / 32 + 1)) as (λ _. (bit_at (past v word (s / 32 + 1)) (32 + i - s % 32) == 1) ≡ (nat_le s (32 * word + i) && has_one v (32 * word + i - s))) [
-            | inl under ↦ none_there (nat_le s (32 * word + i)) _ _ (lt-leb s (32 * word + i) (omega (arith, below, under))) (past_none v word (s / 32 + 1) (32 + i - s % 32) under)
+          ∙ elim (cases_lt word (s / 32 + 1)) as (λ _. (bit_at (past v word (s / 32 + 1)) (32 + i - s % 32) == 1)
+          ≡ (nat_le s (32 * word + i) && has_one v (32 * word + i - s))) [
+            | inl under ↦
+                none_there (nat_le s (32 * word + i)) _ _ (lt-leb s (32 * word + i) (omega (arith, below, under)))
+                (past_none v word (s / 32 + 1) (32 + i - s % 32) under)
             | inr within ↦ one_there (nat_le s (32 * word + i)) _ _ (le-leb s (32 * word + i) (omega (arith, within)))
                 (at_word v word (s / 32 + 1) (32 + i - s % 32) (32 * word + i - s) within (omega (arith, below)) (omega (arith, below, within)))
           ]
       | inr above ↦
           ap (λ (n : ℕ). n == 1) (cond-false (nat_lt i (s % 32)) _ _ (le-ltb i (s % 32) above))
-          ∙ elim (cases_lt word (s / 32)) as (λ _. (bit_at (past v word (s / 32)) (i - s % 32) == 1) ≡ (nat_le s (32 * word + i) && has_one v (32 * word + i - s))) [
-            | inl under ↦ none_there (nat_le s (32 * word + i)) _ _ (lt-leb s (32 * word + i) (omega (arith, low, under))) (past_none v word (s / 32) (i - s % 32) under)
+          ∙ elim (cases_lt word (s / 32)) as (λ _. (bit_at (past v word (s / 32)) (i - s % 32) == 1)
+          ≡ (nat_le s (32 * word + i) && has_one v (32 * word + i - s))) [
+            | inl under ↦
+                none_there (nat_le s (32 * word + i)) _ _ (lt-leb s (32 * word + i) (omega (arith, low, under))) (past_none v word (s / 32) (i - s % 32) under)
             | inr within ↦ one_there (nat_le s (32 * word + i)) _ _ (le-leb s (32 * word + i) (omega (arith, above, within)))
                 (at_word v word (s / 32) (i - s % 32) (32 * word + i - s) within (omega (arith, low)) (omega (arith, above, within)))
           ]
     ]
 
 -- the set of words that are right bit by bit
-pub words_are : (words : List ℕ) (test : Pos → Bool) → ((word bit : ℕ) → word < 32 → bit < 32 → (bit_at (slice_index words word) bit == 1) ≡ test (place_of word bit)) → places_where (bit_in words) ≡ places_where test
+pub words_are : (words : List ℕ) (test : Pos → Bool) → ((word bit : ℕ) → word < 32 → bit < 32
+    → (bit_at (slice_index words word) bit == 1) ≡ test (place_of word bit)) → places_where (bit_in words) ≡ places_where test
 words_are words test each =
     same_places (bit_in words) (places_where test)
     (λ p is.
@@ -105,7 +113,8 @@ zero_where true true lt h = refl
 zero_where true false lt h = refl
 zero_where false le lt h = refl
 
-pub zeros_are : (f : Field) (v : List ℕ) → set.difference (places_where (holds f)) (places_where (is_one_from v (record { block = f.block; bit = f.bit }))) ≡ places_where (λ p. holds f p && not (has_one v (p.bit - f.bit)))
+pub zeros_are : (f : Field) (v : List ℕ) → set.difference (places_where (holds f)) (places_where (is_one_from v (record { block = f.block; bit = f.bit })))
+    ≡ places_where (λ p. holds f p && not (has_one v (p.bit - f.bit)))
 zeros_are f v =
     difference-of_tests (holds f) (is_one_from v (record { block = f.block; bit = f.bit }))
     ∙ same_test _ (λ p. holds f p && not (has_one v (p.bit - f.bit))) (λ p.
@@ -116,14 +125,16 @@ one_where true true lt h = refl
 one_where true false lt h = refl
 one_where false le lt h = refl
 
-pub ones_are : (f : Field) (v : List ℕ) → set.intersection (places_where (holds f)) (places_where (is_one_from v (record { block = f.block; bit = f.bit }))) ≡ places_where (λ p. holds f p && has_one v (p.bit - f.bit))
+pub ones_are : (f : Field) (v : List ℕ) → set.intersection (places_where (holds f)) (places_where (is_one_from v (record { block = f.block; bit = f.bit })))
+    ≡ places_where (λ p. holds f p && has_one v (p.bit - f.bit))
 ones_are f v =
     intersection-of_tests (holds f) (is_one_from v (record { block = f.block; bit = f.bit }))
     ∙ same_test _ (λ p. holds f p && has_one v (p.bit - f.bit)) (λ p.
     one_where (f.block == p.block) (nat_le f.bit p.bit) (nat_lt p.bit (f.bit + f.count)) (has_one v (p.bit - f.bit)))
 
 -- one word more that is right
-pub one_word_more : (Q : ℕ → ℕ → Type 0) (words : List ℕ) (n value : ℕ) → n < length words → ((k : ℕ) → k < n → Q k (slice_index words k)) → Q n value → (k : ℕ) → k < n + 1 → Q k (slice_index (set_word words n value) k)
+pub one_word_more : (Q : ℕ → ℕ → Type 0) (words : List ℕ) (n value : ℕ) → n < length words → ((k : ℕ) → k < n → Q k (slice_index words k)) → Q n value → (k : ℕ)
+    → k < n + 1 → Q k (slice_index (set_word words n value) k)
 one_word_more Q words n value within each here k low = elim (cases_eq k n) as (λ _. Q k (slice_index (set_word words n value) k)) [
   | inl e ↦ subst (λ (j : ℕ). Q j (slice_index (set_word words n value) j)) (sym e) (subst (Q n) (sym (get_or-set_same words n value 0 within)) here)
   | inr other ↦ subst (Q k) (sym (get_or-set_other words n k value 0 other)) (each k (omega (arith, low, other)))

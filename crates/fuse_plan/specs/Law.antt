@@ -22,7 +22,8 @@ pub record IsInSight (m : Map) (burnt batch : Positions) (known asked : KeyTable
 abbrev pub with_batch : Image → Positions → KeyTable → Image
 with_batch a batch asked = record { burnt = set.union a.burnt batch; keys = joined a.keys asked }
 
--- where keys are those of key blocks alone, and the batch stays readable, a read-back matches exactly where it is what the chip shows when all of the batch is burnt and nothing else
+-- where keys are those of key blocks alone, and the batch stays readable, a read-back matches exactly where it is what the chip shows when all of the batch is
+-- burnt and nothing else
 abbrev pub MatchLaw : Type 0
 MatchLaw = (m : Map) (a : Image) (batch : Positions) (asked : KeyTable) (r : ReadBack)
     → AreKeys m a.keys → AreKeys m asked → AreKeys m r.shown

@@ -19,7 +19,8 @@ use Rattle.fuse_plan.specs.Law.{IsInSight}
 use Rattle.fuse_plan.specs.Outcome.{image_after, short_bits, short_keys, verdict_of}
 use Rattle.fuse_plan.specs.Plans.{lock_positions, plan_of}
 
--- what is to be burnt isn't yet, the second batch lies in the lock fields (WR_DIS and RD_DIS) and the first outside them, keys are those of key blocks, and the first batch stays readable
+-- what is to be burnt isn't yet, the second batch lies in the lock fields (WR_DIS and RD_DIS) and the first outside them, keys are those of key blocks, and the
+-- first batch stays readable
 pub record IsPending (m : Map) (a : Image) (w : Work) : Type 0 where
   pub new_first : (q : Pos) → set.contains w.first q ≡ true → set.contains a.burnt q ≡ false
   pub new_second : (q : Pos) → set.contains w.second q ≡ true → set.contains a.burnt q ≡ false

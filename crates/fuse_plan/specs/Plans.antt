@@ -1,5 +1,6 @@
 -- The plan of some wishes, and the faults of wishes.
-use Rattle.std.specs.Prelude.{ℕ, ◌-◌, nat_le, Bool, false, not, ◌&&◌, ◌||◌, List, [], ◌∷◌, Option, Some, None, is_none, is_some, Result, Ok, Err, bytes_eq, if◌then◌else◌}
+use Rattle.std.specs.Prelude.{ℕ, ◌-◌, nat_le, Bool, false, not, ◌&&◌, ◌||◌, List, [], ◌∷◌, Option, Some, None, is_none, is_some, Result, Ok, Err, bytes_eq}
+use Rattle.std.specs.Prelude.{if◌then◌else◌}
 use Rattle.std.specs.List.{list_any, range_with_len}
 use Rattle.std.specs.Option.{option_map_or}
 use Rattle.std.specs.FinSet as set
@@ -13,7 +14,8 @@ use Rattle.fuse_image.specs.declared.image.Image.{Image}
 use Rattle.fuse_columns.specs.declared.todo.Work.{Work}
 use Rattle.fuse_redaction.specs.Redaction.{coding_field, some_key}
 use Rattle.fuse_plan.specs.declared.fault.PlanFault.{PlanFault}
-use Rattle.fuse_plan.specs.declared.fault.PlanFault.TheVariants.{UnknownField, UnmappedBit, ValueTooWide, ClearsBurnt, Contradiction, WrongKind, OtherKey, WriteProtected, Hidden, NoLock}
+use Rattle.fuse_plan.specs.declared.fault.PlanFault.TheVariants.{UnknownField, UnmappedBit, ValueTooWide, ClearsBurnt, Contradiction, WrongKind, OtherKey}
+use Rattle.fuse_plan.specs.declared.fault.PlanFault.TheVariants.{WriteProtected, Hidden, NoLock}
 use Rattle.fuse_plan.specs.declared.wants.Wants.{Wants}
 use Rattle.fuse_plan.specs.declared.wish.Want.{Want}
 use Rattle.fuse_plan.specs.declared.wish.Want.TheVariants.{Bit, Value, Key, WriteLock, ReadLock}
@@ -152,7 +154,8 @@ abbrev pub is_hidden_in : Map → Positions → Image → Bool
 is_hidden_in m burnt part =
     meets part.burnt (places_where (is_hidden m burnt)) || has_key_where m part.keys (is_hidden_key m burnt)
 
--- the conditions of the faults, in the order of their numbers, for what the wishes ask for and what of it is missing: each is said of all the wishes, whatever the others say
+-- the conditions of the faults, in the order of their numbers, for what the wishes ask for and what of it is missing: each is said of all the wishes, whatever
+-- the others say
 abbrev pub faults_with : Map → Image → List Wish → Wants → Image → List (Bool × PlanFault)
 faults_with m image ws w lacking =
     (list_any (names_no_field m) ws, UnknownField)

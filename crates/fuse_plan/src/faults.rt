@@ -289,7 +289,8 @@ fn is_hidden_in(map: &FuseMap, burnt: &Bits, part: &Image) -> bool
 }
 
 fn has_hidden_key(map: &FuseMap, burnt: &Bits, keys: &Keys) -> bool
-    ensures { result ≡ plans.has_key_where map.now keys.now (locks.is_hidden_key map.now burnt.now) }
+    ensures { result ≡ plans.has_key_where map.now keys.now (locks.is_hidden_key map.now
+        burnt.now) }
 {
     let fields = map.fields();
     for field in fields {

@@ -1,6 +1,7 @@
 // What holds of plans and read-backs.
 ghost use Rattle.fuse_plan.specs.Law.{MatchLaw};
-ghost use Rattle.fuse_plan.specs.Pending.{FirstRestLaw, LocksShow, PlanLaw, RestLaw, RestsLie, SecondRestLaw};
+ghost use Rattle.fuse_plan.specs.Pending.{FirstRestLaw, LocksShow, PlanLaw, RestLaw, RestsLie};
+ghost use Rattle.fuse_plan.specs.Pending.{SecondRestLaw};
 
 /// A read-back matches exactly where it is what the chip shows when all of the batch is burnt and
 /// nothing else, for a batch that stays readable.

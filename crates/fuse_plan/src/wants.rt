@@ -4,7 +4,8 @@ ghost use Rattle.fusemap_core.specs.Map.{holds};
 ghost use Rattle.fuse_image.specs.Places.{places_where};
 ghost use Rattle.fuse_plan.specs.Numbers.{has_one};
 ghost use Rattle.fuse_plan.specs.Wishes as asked;
-ghost use Rattle.fuse_plan.specs.Wishes.{asks_one, asks_zero, at_field, key_in, key_of, wanted_key, wanted_keys, wanted_ones, wanted_zeros};
+ghost use Rattle.fuse_plan.specs.Wishes.{asks_one, asks_zero, at_field, key_in, key_of, wanted_key};
+ghost use Rattle.fuse_plan.specs.Wishes.{wanted_keys, wanted_ones, wanted_zeros};
 
 use crate::fields::{bit_named, field_named, only, read_lock_named, write_lock_named};
 use crate::number::Number;

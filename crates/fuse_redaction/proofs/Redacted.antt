@@ -40,7 +40,9 @@ plain_ones-words m blocks words each =
 -- no one that is left lies in a key field
 pub AreOutsideKeys-plain_ones : (m : Map) (blocks : List (List ℕ)) → AreOutsideKeys m (plain_ones m blocks)
 AreOutsideKeys-plain_ones m blocks p has =
-    let parts = and_parts (is_place p) (reads_one blocks p && not (is_key_position m p)) (sym (contains-places_where (λ q. reads_one blocks q && not (is_key_position m q)) p) ∙ has) in
+    let parts =
+    and_parts (is_place p) (reads_one blocks p && not (is_key_position m p))
+    (sym (contains-places_where (λ q. reads_one blocks q && not (is_key_position m q)) p) ∙ has) in
     not-true (is_key_position m p) (and_parts (reads_one blocks p) (not (is_key_position m p)) parts.1).1
 
 -- each key that is shown is one of a key field

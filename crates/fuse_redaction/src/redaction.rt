@@ -1,5 +1,6 @@
 // What the words of a chip show, with digests in place of its keys.
-ghost use Rattle.std.specs.Prelude.{◌≡◌, ◌<◌, ◌↔◌, ◌&&◌, ◌==◌, IfSome, IsTrue, is_some, length, map as list_map, option_and_then};
+ghost use Rattle.std.specs.Prelude.{◌≡◌, ◌<◌, ◌↔◌, ◌&&◌, ◌==◌, IfSome, IsTrue, is_some, length};
+ghost use Rattle.std.specs.Prelude.{map as list_map, option_and_then};
 ghost use Rattle.std.specs.List.{list_all};
 ghost use Rattle.std.specs.FinMap as table;
 ghost use Rattle.fusemap_core.specs.declared.field.Field.{Field};

@@ -1,5 +1,6 @@
 -- Where the fields and the locks of a map lie.
-use Rattle.std.proofs.Common.{◌≡◌, ℕ, suc, ◌+◌, ◌<◌, ◌≤◌, nat_lt, Bool, true, false, cond, List, [], ◌∷◌, length, get_or, Option, Some, None, All, IfSome, IsSomeAnd, option_map, option_and_then, find, refl, sym, ap, ◌∙◌, arith}
+use Rattle.std.proofs.Common.{◌≡◌, ℕ, suc, ◌+◌, ◌<◌, ◌≤◌, nat_lt, Bool, true, false, cond, List, [], ◌∷◌, length, get_or, Option, Some, None, All, IfSome}
+use Rattle.std.proofs.Common.{IsSomeAnd, option_map, option_and_then, find, refl, sym, ap, ◌∙◌, arith}
 use Rattle.std.specs.Prelude.{position, slice_get}
 use Rattle.std.specs.List.{position_or_len}
 use Rattle.std.proofs.lemmas.Bool.{ltb-false}
@@ -8,7 +9,8 @@ use Rattle.std.proofs.lemmas.Option.{slice_get_past, slice_get_within, get_or_fr
 use Rattle.fusemap_core.specs.declared.field.Field.{Field}
 use Rattle.fusemap_core.specs.declared.map.FieldId.{FieldId}
 use Rattle.fusemap_core.specs.declared.pos.Pos.{Pos}
-use Rattle.fusemap_core.specs.Map.{Map, is_named, field_named, bit_of, lock_at, write_lock, read_lock, field_of, id_at, IsInRange, IsInBlock, IsMap, IsPosition, IsSmall, IsSmallPosition, HasBit, HasItsLocks}
+use Rattle.fusemap_core.specs.Map.{Map, is_named, field_named, bit_of, lock_at, write_lock, read_lock, field_of, id_at, IsInRange, IsInBlock, IsMap}
+use Rattle.fusemap_core.specs.Map.{IsPosition, IsSmall, IsSmallPosition, HasBit, HasItsLocks}
 
 -- what holds of each element holds of the one that is found
 found_by : {X : Type 0} (P : X → Type 0) (passes : Bool) (x : X) (rest : Option X) → P x → IfSome rest P → IfSome (cond passes (Some x) rest) P
@@ -29,7 +31,8 @@ few_bits : (fields : List Field) (name : List ℕ) (i : ℕ) → All (λ f. f.co
 few_bits fields name i counts has =
     below_count (field_named name fields) i has (found (is_named name) (λ f. f.count ≤ 256) fields counts)
 
-few_locks : (fields : List Field) (name : List ℕ) (number : Option ℕ) → All (λ f. f.count ≤ 256) fields → IfSome number (HasBit fields name) → IfSome number (λ i. i < 256)
+few_locks : (fields : List Field) (name : List ℕ) (number : Option ℕ) → All (λ f.
+    f.count ≤ 256) fields → IfSome number (HasBit fields name) → IfSome number (λ i. i < 256)
 few_locks fields name None counts has = tt
 few_locks fields name (Some i) counts has = few_bits fields name i counts has
 
@@ -55,12 +58,14 @@ are_small m is k d low =
     }
 
 -- a bit of a field in a block is a position
-position_in : (blocks : List ℕ) (found : Option Field) (i : ℕ) → IsSomeAnd found (λ f. i < f.count) → IfSome found (IsInBlock blocks) → IfSome (option_map (λ f. bit_of f i) found) (IsPosition blocks)
+position_in : (blocks : List ℕ) (found : Option Field) (i : ℕ) → IsSomeAnd found (λ f.
+    i < f.count) → IfSome found (IsInBlock blocks) → IfSome (option_map (λ f. bit_of f i) found) (IsPosition blocks)
 position_in blocks None i has in_block = tt
 position_in blocks (Some f) i has in_block = record { block = in_block.block; bit = omega (arith, in_block.end, has) }
 
 -- a lock is a position
-lock_is_position : (blocks : List ℕ) (fields : List Field) (name : List ℕ) (number : Option ℕ) → All (IsInBlock blocks) fields → IfSome number (HasBit fields name) → IfSome (option_and_then (lock_at fields name) number) (IsPosition blocks)
+lock_is_position : (blocks : List ℕ) (fields : List Field) (name : List ℕ) (number : Option ℕ) → All (IsInBlock blocks) fields
+    → IfSome number (HasBit fields name) → IfSome (option_and_then (lock_at fields name) number) (IsPosition blocks)
 lock_is_position blocks fields name None in_block has = tt
 lock_is_position blocks fields name (Some i) in_block has =
     position_in blocks (field_named name fields) i has (found (is_named name) (IsInBlock blocks) fields in_block)
@@ -98,11 +103,13 @@ pub read_lock_is_small : (m : Map) → IsMap m → (id : FieldId) (f : Field) �
 read_lock_is_small m is id f e = position_is_small m is (read_lock m f) (read_lock_is_position m is id f e)
 
 -- the field at the first place that passes a test is the first field that does
-found_at_place : {X : Type 0} (test : X → Bool) (xs : List X) (place : ℕ) (low : Bool) → nat_lt place (length xs) ≡ low → option_and_then (slice_get xs) (cond low (Some place) None) ≡ slice_get xs place
+found_at_place : {X : Type 0} (test : X → Bool) (xs : List X) (place : ℕ) (low : Bool) → nat_lt place (length xs) ≡ low
+    → option_and_then (slice_get xs) (cond low (Some place) None) ≡ slice_get xs place
 found_at_place test xs place true is_low = refl
 found_at_place test xs place false is_low = sym (slice_get_past xs place (ltb-false place (length xs) is_low))
 
-pub field_of_first : (m : Map) (test : Field → Bool) (place : Option ℕ) → place ≡ position test m.fields → option_and_then (field_of m) (option_map id_at place) ≡ find test m.fields
+pub field_of_first : (m : Map) (test : Field → Bool) (place : Option ℕ) → place ≡ position test m.fields
+    → option_and_then (field_of m) (option_map id_at place) ≡ find test m.fields
 field_of_first m test None e =
     let first = position_or_len test m.fields in
     ap (option_and_then (slice_get m.fields)) e ∙ (found_at_place test m.fields first (nat_lt first (length m.fields)) refl ∙ sym (find_at test m.fields))

@@ -4,15 +4,19 @@ use Rattle.std.specs.Prelude.{if◌then◌else◌}
 use Rattle.std.specs.List.{list_all}
 use Rattle.std.proofs.lemmas.Bool.{false≢true}
 use Rattle.fusemap_core.specs.declared.fault.MapFault.{MapFault}
-use Rattle.fusemap_core.specs.declared.fault.MapFault.TheVariants.{NotToml, BadMember, NameTwice, OutOfBlock, FieldsOverlap, BadLockField, BadLockIndex, BadKeyField, OutOfMemory}
+use Rattle.fusemap_core.specs.declared.fault.MapFault.TheVariants.{NotToml, BadMember, NameTwice, OutOfBlock, FieldsOverlap, BadLockField, BadLockIndex}
+use Rattle.fusemap_core.specs.declared.fault.MapFault.TheVariants.{BadKeyField, OutOfMemory}
 use Rattle.fusemap_core.specs.Map.{Map, IsMap, IsInRange, IsInBlock, AreApart, HasItsLocks, IsKeyField}
-use Rattle.fusemap_core.specs.MapFaults.{all_pairs, have_other_names, is_in_block, are_apart, has_lock_fields, has_its_locks, is_plain_or_key, fault_number, lowest_fault, unless_faulty, judged, KeepsRule, IsLowestBroken}
+use Rattle.fusemap_core.specs.MapFaults.{all_pairs, have_other_names, is_in_block, are_apart, has_lock_fields, has_its_locks, is_plain_or_key, fault_number}
+use Rattle.fusemap_core.specs.MapFaults.{lowest_fault, unless_faulty, judged, KeepsRule, IsLowestBroken}
 use Rattle.fusemap_core.proofs.Pairs.{Decides-all_pairs, Decides-list_all}
-use Rattle.fusemap_core.proofs.Rules.{Decides-have_other_names, Decides-is_in_block, Decides-are_apart, Decides-has_lock_fields, Decides-has_its_locks, Decides-is_plain_or_key}
+use Rattle.fusemap_core.proofs.Rules.{Decides-have_other_names, Decides-is_in_block, Decides-are_apart, Decides-has_lock_fields, Decides-has_its_locks}
+use Rattle.fusemap_core.proofs.Rules.{Decides-is_plain_or_key}
 
 -- what a judgement that finds no fault says of its six tests
 no_fault : (names inside apart locks bits keys : Bool)
-    → (if not names then Some NameTwice else if not inside then Some OutOfBlock else if not apart then Some FieldsOverlap else if not locks then Some BadLockField else if not bits then Some BadLockIndex else if not keys then Some BadKeyField else None) ≡ None
+    → (if not names then Some NameTwice else if not inside then Some OutOfBlock else if not apart then Some FieldsOverlap else if not locks
+    then Some BadLockField else if not bits then Some BadLockIndex else if not keys then Some BadKeyField else None) ≡ None
     → (names ≡ true) × (inside ≡ true) × (apart ≡ true) × (locks ≡ true) × (bits ≡ true) × (keys ≡ true)
 no_fault false inside apart locks bits keys e = cc
 no_fault true false apart locks bits keys e = cc
@@ -40,7 +44,9 @@ keys_decided m = Decides-list_all (is_plain_or_key m.blocks) (λ f. f.key ≡ tr
 -- a map in which no fault is found
 pub IsMap-from_no_fault : (m : Map) → IsInRange m → lowest_fault m ≡ None → IsMap m
 IsMap-from_no_fault m ranges none =
-    let parts = no_fault (all_pairs have_other_names m.fields) (list_all (is_in_block m.blocks) m.fields) (all_pairs are_apart m.fields) (has_lock_fields m) (list_all (has_its_locks m.fields m.wr m.rd) m.fields) (list_all (is_plain_or_key m.blocks) m.fields) none in
+    let parts =
+    no_fault (all_pairs have_other_names m.fields) (list_all (is_in_block m.blocks) m.fields) (all_pairs are_apart m.fields) (has_lock_fields m)
+    (list_all (has_its_locks m.fields m.wr m.rd) m.fields) (list_all (is_plain_or_key m.blocks) m.fields) none in
     record {
       ranges = ranges;
       names = (names_decided m).0 parts.0;
@@ -78,7 +84,8 @@ pub judged-from_IsMap : (m : Map) → IsMap m → judged m ≡ Ok m
 judged-from_IsMap m is = ap (λ fault. unless_faulty fault m) (no_fault-from_IsMap m is)
 
 -- the rules of all faults below a number, by the rules of those that have one
-rules_below : (m : Map) (n : ℕ) → (3 < n → KeepsRule NameTwice m) → (4 < n → KeepsRule OutOfBlock m) → (5 < n → KeepsRule FieldsOverlap m) → (6 < n → KeepsRule BadLockField m)
+rules_below : (m : Map) (n : ℕ) → (3 < n → KeepsRule NameTwice m) → (4 < n → KeepsRule OutOfBlock m) → (5 < n → KeepsRule FieldsOverlap m)
+    → (6 < n → KeepsRule BadLockField m)
     → (7 < n → KeepsRule BadLockIndex m) → (8 < n → KeepsRule BadKeyField m) → (other : MapFault) → fault_number other < n → KeepsRule other m
 rules_below m n names inside apart locks bits keys NotToml low = tt
 rules_below m n names inside apart locks bits keys BadMember low = tt
@@ -96,27 +103,53 @@ broken_by d holds = false≢true (d.1 holds)
 
 -- the fault that six tests tell is that of the first that fails, and what they decide tells which rules are kept
 lowest_of_tests : (m : Map) (fault : MapFault) (names inside apart locks bits keys : Bool)
-    → Decides names (KeepsRule NameTwice m) → Decides inside (KeepsRule OutOfBlock m) → Decides apart (KeepsRule FieldsOverlap m) → Decides locks (KeepsRule BadLockField m) → Decides bits (KeepsRule BadLockIndex m) → Decides keys (KeepsRule BadKeyField m)
-    → (if not names then Some NameTwice else if not inside then Some OutOfBlock else if not apart then Some FieldsOverlap else if not locks then Some BadLockField else if not bits then Some BadLockIndex else if not keys then Some BadKeyField else None) ≡ Some fault
+    → Decides names (KeepsRule NameTwice m) → Decides inside (KeepsRule OutOfBlock m) → Decides apart (KeepsRule FieldsOverlap m)
+    → Decides locks (KeepsRule BadLockField m) → Decides bits (KeepsRule BadLockIndex m) → Decides keys (KeepsRule BadKeyField m)
+    → (if not names then Some NameTwice else if not inside then Some OutOfBlock else if not apart then Some FieldsOverlap else if not locks
+    then Some BadLockField else if not bits then Some BadLockIndex else if not keys then Some BadKeyField else None) ≡ Some fault
     → IsLowestBroken fault m
 lowest_of_tests m fault false inside apart locks bits keys d3 d4 d5 d6 d7 d8 e =
     let same : NameTwice ≡ fault = cc in
-    rw (← same) (record { broken = broken_by d3; lower = rules_below m 3 (λ l. absurd (omega (arith, l))) (λ l. absurd (omega (arith, l))) (λ l. absurd (omega (arith, l))) (λ l. absurd (omega (arith, l))) (λ l. absurd (omega (arith, l))) (λ l. absurd (omega (arith, l))) })
+    rw (← same) (record {
+      broken = broken_by d3;
+      lower = rules_below m 3 (λ l. absurd (omega (arith, l))) (λ l. absurd (omega (arith, l))) (λ l.
+          absurd (omega (arith, l))) (λ l. absurd (omega (arith, l))) (λ l. absurd (omega (arith, l))) (λ l. absurd (omega (arith, l)));
+    })
 lowest_of_tests m fault true false apart locks bits keys d3 d4 d5 d6 d7 d8 e =
     let same : OutOfBlock ≡ fault = cc in
-    rw (← same) (record { broken = broken_by d4; lower = rules_below m 4 (λ _. d3.0 refl) (λ l. absurd (omega (arith, l))) (λ l. absurd (omega (arith, l))) (λ l. absurd (omega (arith, l))) (λ l. absurd (omega (arith, l))) (λ l. absurd (omega (arith, l))) })
+    rw (← same) (record {
+      broken = broken_by d4;
+      lower = rules_below m 4 (λ _. d3.0 refl) (λ l. absurd (omega (arith, l))) (λ l.
+          absurd (omega (arith, l))) (λ l. absurd (omega (arith, l))) (λ l. absurd (omega (arith, l))) (λ l. absurd (omega (arith, l)));
+    })
 lowest_of_tests m fault true true false locks bits keys d3 d4 d5 d6 d7 d8 e =
     let same : FieldsOverlap ≡ fault = cc in
-    rw (← same) (record { broken = broken_by d5; lower = rules_below m 5 (λ _. d3.0 refl) (λ _. d4.0 refl) (λ l. absurd (omega (arith, l))) (λ l. absurd (omega (arith, l))) (λ l. absurd (omega (arith, l))) (λ l. absurd (omega (arith, l))) })
+    rw (← same) (record {
+      broken = broken_by d5;
+      lower = rules_below m 5 (λ _. d3.0 refl) (λ _. d4.0 refl) (λ l. absurd (omega (arith, l))) (λ l.
+          absurd (omega (arith, l))) (λ l. absurd (omega (arith, l))) (λ l. absurd (omega (arith, l)));
+    })
 lowest_of_tests m fault true true true false bits keys d3 d4 d5 d6 d7 d8 e =
     let same : BadLockField ≡ fault = cc in
-    rw (← same) (record { broken = broken_by d6; lower = rules_below m 6 (λ _. d3.0 refl) (λ _. d4.0 refl) (λ _. d5.0 refl) (λ l. absurd (omega (arith, l))) (λ l. absurd (omega (arith, l))) (λ l. absurd (omega (arith, l))) })
+    rw (← same) (record {
+      broken = broken_by d6;
+      lower = rules_below m 6 (λ _. d3.0 refl) (λ _. d4.0 refl) (λ _. d5.0 refl) (λ l.
+          absurd (omega (arith, l))) (λ l. absurd (omega (arith, l))) (λ l. absurd (omega (arith, l)));
+    })
 lowest_of_tests m fault true true true true false keys d3 d4 d5 d6 d7 d8 e =
     let same : BadLockIndex ≡ fault = cc in
-    rw (← same) (record { broken = broken_by d7; lower = rules_below m 7 (λ _. d3.0 refl) (λ _. d4.0 refl) (λ _. d5.0 refl) (λ _. d6.0 refl) (λ l. absurd (omega (arith, l))) (λ l. absurd (omega (arith, l))) })
+    rw (← same) (record {
+      broken = broken_by d7;
+      lower = rules_below m 7 (λ _. d3.0 refl) (λ _. d4.0 refl) (λ _. d5.0 refl) (λ _. d6.0 refl) (λ l.
+          absurd (omega (arith, l))) (λ l. absurd (omega (arith, l)));
+    })
 lowest_of_tests m fault true true true true true false d3 d4 d5 d6 d7 d8 e =
     let same : BadKeyField ≡ fault = cc in
-    rw (← same) (record { broken = broken_by d8; lower = rules_below m 8 (λ _. d3.0 refl) (λ _. d4.0 refl) (λ _. d5.0 refl) (λ _. d6.0 refl) (λ _. d7.0 refl) (λ l. absurd (omega (arith, l))) })
+    rw (← same) (record {
+      broken = broken_by d8;
+      lower = rules_below m 8 (λ _. d3.0 refl) (λ _. d4.0 refl) (λ _. d5.0 refl) (λ _. d6.0 refl) (λ _.
+          d7.0 refl) (λ l. absurd (omega (arith, l)));
+    })
 lowest_of_tests m fault true true true true true true d3 d4 d5 d6 d7 d8 e = cc
 
 -- the lowest fault of a map is that of a broken rule, and no lower rule is broken

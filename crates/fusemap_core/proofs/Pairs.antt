@@ -9,7 +9,8 @@ use Rattle.std.proofs.lemmas.List.Kept.{AllPairs-cons}
 use Rattle.fusemap_core.specs.MapFaults.{all_pairs}
 
 -- a test of each element
-pub Decides-list_all : {X : Type 0} (test : X → Bool) (P : X → Type 0) → ((x : X) → Decides (test x) (P x)) → (xs : List X) → Decides (list_all test xs) (All P xs)
+pub Decides-list_all : {X : Type 0} (test : X → Bool) (P : X → Type 0) → ((x : X) → Decides (test x) (P x)) → (xs : List X)
+    → Decides (list_all test xs) (All P xs)
 Decides-list_all test P each xs = Decides-by_and test P (list_all test) each refl (λ _ _. refl) xs
 
 -- the pairs of the first element with the others, and those of the others
@@ -20,18 +21,21 @@ pairs_of_others : {X : Type 0} (R : X → X → Type 0) (x : X) (xs : List X) �
 pairs_of_others R x xs pairs i j d order low = pairs (suc i) (suc j) d (omega arith) (omega arith)
 
 -- a test of each pair
-pub Decides-all_pairs : {X : Type 0} (test : X → X → Bool) (R : X → X → Type 0) → ((x y : X) → Decides (test x y) (R x y)) → (xs : List X) → Decides (all_pairs test xs) (AllPairs R xs)
+pub Decides-all_pairs : {X : Type 0} (test : X → X → Bool) (R : X → X → Type 0) → ((x y : X) → Decides (test x y) (R x y)) → (xs : List X)
+    → Decides (all_pairs test xs) (AllPairs R xs)
 Decides-all_pairs test R each [] = (λ _ i j d order low. absurd (omega (arith, low)), λ _. refl)
 Decides-all_pairs test R each (x ∷ xs) =
     Decides-like (all_pairs test (x ∷ xs)) (λ both. AllPairs-cons R x xs both.0 both.1) (λ pairs. (pairs_of_first R x xs pairs, pairs_of_others R x xs pairs))
     (Decides-and (list_all (test x) xs) (all_pairs test xs) (Decides-list_all (test x) (R x) (each x) xs) (Decides-all_pairs test R each xs))
 
 -- a test of the value, if there is one, which fails or passes where there is none
-pub Decides-some_and : {X : Type 0} (test : X → Bool) (P : X → Type 0) → ((x : X) → Decides (test x) (P x)) → (o : Option X) → Decides (option_map_or test o false) (IsSomeAnd o P)
+pub Decides-some_and : {X : Type 0} (test : X → Bool) (P : X → Type 0) → ((x : X) → Decides (test x) (P x)) → (o : Option X)
+    → Decides (option_map_or test o false) (IsSomeAnd o P)
 Decides-some_and test P each None = (λ e. absurd (false≢true e), λ h. absurd h)
 Decides-some_and test P each (Some x) = each x
 
-pub Decides-if_some : {X : Type 0} (test : X → Bool) (P : X → Type 0) → ((x : X) → Decides (test x) (P x)) → (o : Option X) → Decides (option_map_or test o true) (IfSome o P)
+pub Decides-if_some : {X : Type 0} (test : X → Bool) (P : X → Type 0) → ((x : X) → Decides (test x) (P x)) → (o : Option X)
+    → Decides (option_map_or test o true) (IfSome o P)
 Decides-if_some test P each None = (λ _. tt, λ _. refl)
 Decides-if_some test P each (Some x) = each x
 

@@ -1,5 +1,6 @@
 -- The ranges of the numbers that a document gives.
-use Rattle.std.proofs.Common.{◌≡◌, ℕ, suc, zero, ℤ, pos, negsuc, ◌≤◌, ◌&&◌, List, [], ◌∷◌, length, Option, Some, None, All, option_map, option_and_then, refl, ap, ◌∙◌, arith}
+use Rattle.std.proofs.Common.{◌≡◌, ℕ, suc, zero, ℤ, pos, negsuc, ◌≤◌, ◌&&◌, List, [], ◌∷◌, length, Option, Some, None, All, option_map, option_and_then, refl}
+use Rattle.std.proofs.Common.{ap, ◌∙◌, arith}
 use Rattle.std.specs.Prelude.{nat_le, if◌then◌else◌, codes}
 use Rattle.std.proofs.lemmas.Bool.{and_parts, leb-true}
 use Rattle.std.proofs.lemmas.Option.{cond_some, option_and_then_some}
@@ -48,7 +49,8 @@ first_and_others : {B : Type 0} (P : B → Type 0) (y : B) (ys : List B) → P y
 first_and_others P y ys here others zero d low = here
 first_and_others P y ys here others (suc k) d low = others k d (omega arith)
 
-All-all_of : {A B : Type 0} (f : A → Option B) (P : B → Type 0) → ((x : A) (y : B) → f x ≡ Some y → P y) → (xs : List A) (ys : List B) → all_of f xs ≡ Some ys → All P ys
+All-all_of : {A B : Type 0} (f : A → Option B) (P : B → Type 0) → ((x : A) (y : B) → f x ≡ Some y → P y) → (xs : List A) (ys : List B) → all_of f xs ≡ Some ys
+    → All P ys
 All-all_of f P each [] ys e = let same : [] ≡ ys = cc in rw (← same) (λ k d low. absurd (omega (arith, low)))
 All-all_of f P each (x ∷ xs) ys e =
     let parts = parts_of (f x) (all_of f xs) ys e in
@@ -63,7 +65,8 @@ of_length_bounds least greatest ds items e =
     let high = leb-true (length ds) greatest parts.1 in
     (rw (← chosen.1) low, rw (← chosen.1) high)
 
-list_member_bounds : (name : List ℕ) (least greatest : ℕ) (d : Data) (items : List Data) → list_member name least greatest d ≡ Some items → (least ≤ length items) × (length items ≤ greatest)
+list_member_bounds : (name : List ℕ) (least greatest : ℕ) (d : Data) (items : List Data) → list_member name least greatest d ≡ Some items
+    → (least ≤ length items) × (length items ≤ greatest)
 list_member_bounds name least greatest d items e =
     option_and_then_some (of_length least greatest) (items_member name d) items e (λ ds there. of_length_bounds least greatest ds items)
 

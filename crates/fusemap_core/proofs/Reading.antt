@@ -1,5 +1,6 @@
 -- The map that a text is, by its definition and by its relation.
-use Rattle.std.proofs.Common.{◌≡◌, ◌≢◌, ℕ, Bool, true, false, nat_lt, List, length, Option, Some, None, Result, Ok, Err, IfOk, IfErr, inl, inr, refl, sym, ◌∙◌, arith}
+use Rattle.std.proofs.Common.{◌≡◌, ◌≢◌, ℕ, Bool, true, false, nat_lt, List, length, Option, Some, None, Result, Ok, Err, IfOk, IfErr, inl, inr, refl, sym, ◌∙◌}
+use Rattle.std.proofs.Common.{arith}
 use Rattle.std.specs.Prelude.{if◌then◌else◌}
 use Rattle.std.specs.Option.{ok_or}
 use Rattle.std.proofs.lemmas.Bool.{ltb-false}
@@ -60,7 +61,8 @@ valid_from_exact text (Ok m) (inr e) = cc
 valid_from_exact text (Err fault) exact = tt
 
 -- where a fault is answered the text has no map
-pub refused_from_exact : (text : List ℕ) (answer : Result Map MapFault) → GivesUnless OutOfMemory answer (map_read text) → IfErr answer (λ fault. fault ≢ OutOfMemory → (m : Map) → ¬ IsMapText text m)
+pub refused_from_exact : (text : List ℕ) (answer : Result Map MapFault) → GivesUnless OutOfMemory answer (map_read text) → IfErr answer (λ fault.
+    fault ≢ OutOfMemory → (m : Map) → ¬ IsMapText text m)
 refused_from_exact text (Ok m) exact = tt
 refused_from_exact text (Err fault) (inl e) = λ other m is. let read = read-from_IsMapText text m is in cc
 refused_from_exact text (Err fault) (inr e) = λ other m is. other cc
@@ -76,7 +78,8 @@ read_of_members text m has =
     rw under (judged_of_members (document_of text) m has.members)
 
 -- a fault that is answered is that of a broken rule, and no lower rule is broken
-pub lowest_from_exact : (text : List ℕ) (answer : Result Map MapFault) → GivesUnless OutOfMemory answer (map_read text) → IfErr answer (λ fault. fault ≢ OutOfMemory → (m : Map) → HasMembers text m → IsLowestBroken fault m)
+pub lowest_from_exact : (text : List ℕ) (answer : Result Map MapFault) → GivesUnless OutOfMemory answer (map_read text) → IfErr answer (λ fault.
+    fault ≢ OutOfMemory → (m : Map) → HasMembers text m → IsLowestBroken fault m)
 lowest_from_exact text (Ok m) exact = tt
 lowest_from_exact text (Err fault) (inl e) = λ other m has. IsLowestBroken-from_judged m fault (sym (read_of_members text m has) ∙ sym e)
 lowest_from_exact text (Err fault) (inr e) = λ other m has. absurd (other cc)

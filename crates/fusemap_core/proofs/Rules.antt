@@ -7,8 +7,10 @@ use Rattle.std.proofs.lemmas.Bool.Decides.{Decides-and, Decides-eqb, Decides-lik
 use Rattle.std.proofs.lemmas.Slice.Eq.{bytes_eq-Decides}
 use Rattle.fusemap_core.specs.declared.field.Field.{Field}
 use Rattle.fusemap_core.specs.declared.pos.Pos.{Pos}
-use Rattle.fusemap_core.specs.Map.{Map, words_of, holds, field_named, IsInBlock, AreApart, NamesLockField, NamesCodingField, HasLockFields, HasBit, HasItsLocks, IsKeyField}
-use Rattle.fusemap_core.specs.MapFaults.{have_other_names, is_in_block, are_apart, names_lock_field, names_plain_field, names_coding_field, has_lock_fields, has_bit, has_its_locks, is_key_field, is_plain_or_key}
+use Rattle.fusemap_core.specs.Map.{Map, words_of, holds, field_named, IsInBlock, AreApart, NamesLockField, NamesCodingField, HasLockFields, HasBit}
+use Rattle.fusemap_core.specs.Map.{HasItsLocks, IsKeyField}
+use Rattle.fusemap_core.specs.MapFaults.{have_other_names, is_in_block, are_apart, names_lock_field, names_plain_field, names_coding_field, has_lock_fields}
+use Rattle.fusemap_core.specs.MapFaults.{has_bit, has_its_locks, is_key_field, is_plain_or_key}
 use Rattle.fusemap_core.proofs.Pairs.{Decides-some_and, Decides-if_some, Decides-is_none, Decides-is_false, Decides-is_true, Decides-under}
 
 Decides-leb : (a b : ℕ) → Decides (nat_le a b) (a ≤ b)
@@ -25,7 +27,8 @@ Decides-have_other_names f g = Decides-other f.name g.name
 pub Decides-is_in_block : (blocks : List ℕ) (f : Field) → Decides (is_in_block blocks f) (IsInBlock blocks f)
 Decides-is_in_block blocks f =
     Decides-like (is_in_block blocks f) (λ parts. record { block = parts.0; end = parts.1 }) (λ is. (is.block, is.end))
-    (Decides-and (nat_lt f.block (length blocks)) (nat_le (f.bit + f.count) (32 * words_of blocks f.block)) (Decides-ltb f.block (length blocks)) (Decides-leb (f.bit + f.count) (32 * words_of blocks f.block)))
+    (Decides-and (nat_lt f.block (length blocks)) (nat_le (f.bit + f.count) (32 * words_of blocks f.block)) (Decides-ltb f.block (length blocks))
+    (Decides-leb (f.bit + f.count) (32 * words_of blocks f.block)))
 
 -- the positions of a field
 pub record IsHeld (f : Field) (p : Pos) : Type 0 where
@@ -59,14 +62,17 @@ apart_at f g apart p in_f in_g =
 pub Decides-are_apart : (f g : Field) → Decides (are_apart f g) (AreApart f g)
 Decides-are_apart f g = (
   λ apart p in_f. false_from_ne_true (holds g p) (λ in_g. apart_at f g apart p ((Decides-holds f p).0 in_f) ((Decides-holds g p).0 in_g)),
-  λ apart. true_from_ne_false (are_apart f g) (λ meet. let parts = or_parts (not (f.block == g.block)) (nat_le (min (f.bit + f.count) (g.bit + g.count)) (max f.bit g.bit)) meet in
-      meet_at_start f g (eqb-true f.block g.block (not-false (f.block == g.block) parts.0)) (leb-false (min (f.bit + f.count) (g.bit + g.count)) (max f.bit g.bit) parts.1) apart),
+  λ apart. true_from_ne_false (are_apart f g) (λ meet. let parts = or_parts (not (f.block == g.block))
+      (nat_le (min (f.bit + f.count) (g.bit + g.count)) (max f.bit g.bit)) meet in
+      meet_at_start f g (eqb-true f.block g.block (not-false (f.block == g.block) parts.0))
+      (leb-false (min (f.bit + f.count) (g.bit + g.count)) (max f.bit g.bit) parts.1) apart),
 )
 
 -- the name is that of a field that can be a lock field
 Decides-names_lock_field : (fields : List Field) (name : List ℕ) → Decides (names_lock_field fields name) (NamesLockField fields name)
 Decides-names_lock_field fields name =
-    Decides-some_and (λ f. not f.key && is_none f.read) (λ f. (f.key ≡ false) × (f.read ≡ None)) (λ f. Decides-and (not f.key) (is_none f.read) (Decides-is_false f.key) (Decides-is_none f.read)) (field_named name fields)
+    Decides-some_and (λ f. not f.key && is_none f.read) (λ f. (f.key ≡ false) × (f.read ≡ None)) (λ f.
+    Decides-and (not f.key) (is_none f.read) (Decides-is_false f.key) (Decides-is_none f.read)) (field_named name fields)
 
 Decides-names_coding_field : (m : Map) (name : List ℕ) → Decides (names_coding_field m name) (NamesCodingField m name)
 Decides-names_coding_field m name =
@@ -74,7 +80,8 @@ Decides-names_coding_field m name =
     let not_wr = not (bytes_eq name m.wr) in
     let not_rd = not (bytes_eq name m.rd) in
     let is_plain = Decides-some_and (λ (f : Field). not f.key) (λ f. f.key ≡ false) (λ f. Decides-is_false f.key) (field_named name m.fields) in
-    Decides-like (plain && not_wr && not_rd) (λ parts. record { plain = parts.0.0; not_wr = parts.0.1; not_rd = parts.1 }) (λ is. ((is.plain, is.not_wr), is.not_rd))
+    Decides-like (plain && not_wr && not_rd) (λ parts. record { plain = parts.0.0; not_wr = parts.0.1; not_rd = parts.1 }) (λ is.
+    ((is.plain, is.not_wr), is.not_rd))
     (Decides-and (plain && not_wr) not_rd (Decides-and plain not_wr is_plain (Decides-other name m.wr)) (Decides-other name m.rd))
 
 -- the lock fields and the coding field can be it
@@ -84,7 +91,8 @@ Decides-has_lock_fields m =
     let rd = names_lock_field m.fields m.rd in
     let two = not (bytes_eq m.wr m.rd) in
     let coding = option_map_or (names_coding_field m) m.coding true in
-    Decides-like (wr && rd && two && coding) (λ parts. record { wr = parts.0.0.0; rd = parts.0.0.1; two = parts.0.1; coding = parts.1 }) (λ is. (((is.wr, is.rd), is.two), is.coding))
+    Decides-like (wr && rd && two && coding) (λ parts. record { wr = parts.0.0.0; rd = parts.0.0.1; two = parts.0.1; coding = parts.1 }) (λ is.
+    (((is.wr, is.rd), is.two), is.coding))
     (Decides-and (wr && rd && two) coding
     (Decides-and (wr && rd) two (Decides-and wr rd (Decides-names_lock_field m.fields m.wr) (Decides-names_lock_field m.fields m.rd)) (Decides-other m.wr m.rd))
     (Decides-if_some (names_coding_field m) (NamesCodingField m) (Decides-names_coding_field m) m.coding))
@@ -110,7 +118,9 @@ Decides-is_key_field blocks f =
     let words = words_of blocks f.block == 8 in
     let write = is_some f.write in
     let read = is_some f.read in
-    Decides-like (first && whole && words && write && read) (λ parts. record { first = parts.0.0.0.0; whole = parts.0.0.0.1; words = parts.0.0.1; write = parts.0.1; read = parts.1 }) (λ is. ((((is.first, is.whole), is.words), is.write), is.read))
+    Decides-like (first && whole && words && write && read) (λ parts.
+    record { first = parts.0.0.0.0; whole = parts.0.0.0.1; words = parts.0.0.1; write = parts.0.1; read = parts.1 })
+    (λ is. ((((is.first, is.whole), is.words), is.write), is.read))
     (Decides-and (first && whole && words && write) read
     (Decides-and (first && whole && words) write
     (Decides-and (first && whole) words (Decides-and first whole (Decides-eqb f.bit 0) (Decides-eqb f.count 256)) (Decides-eqb (words_of blocks f.block) 8))

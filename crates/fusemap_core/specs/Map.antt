@@ -1,5 +1,6 @@
 -- A fuse map: its blocks, its fields, the locks of the fields, and what holds of each map.
-use Rattle.std.specs.Prelude.{◌≡◌, ◌≢◌, ℕ, ◌+◌, ◌*◌, ◌<◌, ◌≤◌, Bool, true, false, ◌&&◌, ◌||◌, ◌==◌, nat_le, nat_lt, List, length, find, position, slice_get, slice_index, All, AllPairs, Option, Some, None, IsSome, IfSome, IsSomeAnd, option_map, option_and_then, bytes_eq}
+use Rattle.std.specs.Prelude.{◌≡◌, ◌≢◌, ℕ, ◌+◌, ◌*◌, ◌<◌, ◌≤◌, Bool, true, false, ◌&&◌, ◌||◌, ◌==◌, nat_le, nat_lt, List, length, find, position, slice_get}
+use Rattle.std.specs.Prelude.{slice_index, All, AllPairs, Option, Some, None, IsSome, IfSome, IsSomeAnd, option_map, option_and_then, bytes_eq}
 use Rattle.std.specs.List.{list_any}
 use Rattle.fusemap_core.specs.declared.field.Field.{Field}
 use Rattle.fusemap_core.specs.declared.map.FieldId.{FieldId}
@@ -127,7 +128,8 @@ pub record IsKeyField (blocks : List ℕ) (f : Field) : Type 0 where
   pub write : IsSome f.write
   pub read : IsSome f.read
 
--- the numbers are in range, no two fields have one name, each lies in its block, no two overlap, the lock fields can be it, each lock is a bit of its lock field, and each key field can be one
+-- the numbers are in range, no two fields have one name, each lies in its block, no two overlap, the lock fields can be it, each lock is a bit of its lock
+-- field, and each key field can be one
 pub record IsMap (m : Map) : Type 0 where
   pub ranges : IsInRange m
   pub names : AllPairs (λ f g. f.name ≢ g.name) m.fields

@@ -1,11 +1,13 @@
 -- The faults of a map's text, and the tests of a map's rules.
-use Rattle.std.specs.Prelude.{◌≡◌, ◌≢◌, ℕ, ◌+◌, ◌*◌, ◌<◌, All, AllPairs, Bool, true, false, not, ◌&&◌, ◌||◌, ◌==◌, nat_le, nat_lt, min, max, List, [], ◌∷◌, length, Option, Some, None, is_some, is_none, Result, Ok, Err, bytes_eq, if◌then◌else◌}
+use Rattle.std.specs.Prelude.{◌≡◌, ◌≢◌, ℕ, ◌+◌, ◌*◌, ◌<◌, All, AllPairs, Bool, true, false, not, ◌&&◌, ◌||◌, ◌==◌, nat_le, nat_lt, min, max, List, [], ◌∷◌}
+use Rattle.std.specs.Prelude.{length, Option, Some, None, is_some, is_none, Result, Ok, Err, bytes_eq, if◌then◌else◌}
 use Rattle.std.specs.List.{list_all}
 use Rattle.std.specs.Option.{option_map_or}
 use Rattle.toml_members.specs.declared.DocumentFault.{DocumentFault}
 use Rattle.toml_members.specs.declared.DocumentFault.TheVariants as document
 use Rattle.fusemap_core.specs.declared.fault.MapFault.{MapFault}
-use Rattle.fusemap_core.specs.declared.fault.MapFault.TheVariants.{NotToml, BadMember, NameTwice, OutOfBlock, FieldsOverlap, BadLockField, BadLockIndex, BadKeyField, OutOfMemory}
+use Rattle.fusemap_core.specs.declared.fault.MapFault.TheVariants.{NotToml, BadMember, NameTwice, OutOfBlock, FieldsOverlap, BadLockField, BadLockIndex}
+use Rattle.fusemap_core.specs.declared.fault.MapFault.TheVariants.{BadKeyField, OutOfMemory}
 use Rattle.fusemap_core.specs.declared.field.Field.{Field}
 use Rattle.fusemap_core.specs.Map.{Map, words_of, field_named, IsInBlock, AreApart, HasLockFields, HasItsLocks, IsKeyField}
 
@@ -88,7 +90,8 @@ lowest_fault m =
     else if not (list_all (is_plain_or_key m.blocks) m.fields) then Some BadKeyField
     else None
 
--- the rule that a fault is of: names differ, fields lie in blocks, no two share a position, the lock fields can be it, locks are their bits, key fields can be it
+-- the rule that a fault is of: names differ, fields lie in blocks, no two share a position, the lock fields can be it, locks are their bits, key fields can be
+-- it
 abbrev pub KeepsRule : MapFault → Map → Type 0
 KeepsRule NotToml m = Unit {0}
 KeepsRule BadMember m = Unit {0}

@@ -20,11 +20,27 @@ impl Model for FieldDraft {
 
     ghost Value = { Field };
 
-    ghost view = { λ f. record { name = f.name; block = f.block; bit = f.bit; count = f.count; write = f.write; read = f.read; key = f.key } };
+    ghost view = { λ f. record {
+      name = f.name;
+      block = f.block;
+      bit = f.bit;
+      count = f.count;
+      write = f.write;
+      read = f.read;
+      key = f.key;
+    } };
 
     ghost invariant = { λ f. f.bit + f.count < 2 ^ 64 };
 
-    ghost inverse = { λ f. record { name = f.name; block = f.block; bit = f.bit; count = f.count; write = f.write; read = f.read; key = f.key } };
+    ghost inverse = { λ f. record {
+      name = f.name;
+      block = f.block;
+      bit = f.bit;
+      count = f.count;
+      write = f.write;
+      read = f.read;
+      key = f.key;
+    } };
 }
 
 /// A map as a text gives it, which may have faults.
@@ -43,5 +59,12 @@ impl Model for MapDraft {
 
     ghost Value = { Map };
 
-    ghost view = { λ m. record { name = m.name; blocks = m.blocks.items; fields = m.fields.items; wr = m.wr; rd = m.rd; coding = m.coding } };
+    ghost view = { λ m. record {
+      name = m.name;
+      blocks = m.blocks.items;
+      fields = m.fields.items;
+      wr = m.wr;
+      rd = m.rd;
+      coding = m.coding;
+    } };
 }

@@ -2,7 +2,9 @@
 ghost use Rattle.std.specs.Prelude.{◌≡◌, ◌≤◌, All, IfOk, IfSome, find, length};
 ghost use Rattle.std.specs.Option.{option_and_then};
 ghost use Rattle.fusemap_core.specs.Map as map;
-ghost use Rattle.fusemap_core.specs.Map.{IsFieldOf, IsInBlock, IsMap, IsPosition, IsSmall, IsSmallPosition, field_named, field_of, holds, id_of, is_named};
+ghost use Rattle.fusemap_core.specs.Map.{IsFieldOf, IsInBlock, IsMap, IsPosition, IsSmall};
+ghost use Rattle.fusemap_core.specs.Map.{IsSmallPosition, field_named, field_of, holds, id_of};
+ghost use Rattle.fusemap_core.specs.Map.{is_named};
 
 use crate::field::Field;
 use crate::locks;
@@ -38,9 +40,23 @@ impl Model for FuseMap {
 
     ghost Value = { Map };
 
-    ghost view = { λ m. record { name = m.name; blocks = m.blocks.items; fields = m.fields.items; wr = m.wr; rd = m.rd; coding = m.coding } };
+    ghost view = { λ m. record {
+      name = m.name;
+      blocks = m.blocks.items;
+      fields = m.fields.items;
+      wr = m.wr;
+      rd = m.rd;
+      coding = m.coding;
+    } };
 
-    ghost invariant = { λ m. IsMap (record { name = m.name; blocks = m.blocks.items; fields = m.fields.items; wr = m.wr; rd = m.rd; coding = m.coding }) };
+    ghost invariant = { λ m. IsMap (record {
+      name = m.name;
+      blocks = m.blocks.items;
+      fields = m.fields.items;
+      wr = m.wr;
+      rd = m.rd;
+      coding = m.coding;
+    }) };
 }
 
 /// A field of a map, by its place.

@@ -5,7 +5,8 @@ ghost use Rattle.text_core.specs.Answer.{GivesUnless};
 ghost use Rattle.fusemap_core.specs.Map.{Map};
 ghost use Rattle.fusemap_core.specs.MapFaults.{IsLowestBroken};
 ghost use Rattle.fusemap_core.specs.MapText as map_text;
-ghost use Rattle.fusemap_core.specs.MapText.{HasMembers, IsMapText, field_in, map_of, map_read, words_in};
+ghost use Rattle.fusemap_core.specs.MapText.{HasMembers, IsMapText, field_in, map_of, map_read};
+ghost use Rattle.fusemap_core.specs.MapText.{words_in};
 
 use crate::draft::{FieldDraft, MapDraft};
 use crate::fault::MapFault;

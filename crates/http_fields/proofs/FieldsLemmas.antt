@@ -1,5 +1,6 @@
 -- Pieces between bytes, and lists of fields one more at a time.
-use Rattle.std.proofs.Common.{◌≡◌, ◌≢◌, ℕ, zero, suc, ◌+◌, ◌*◌, ◌<◌, ◌≤◌, min, Bool, true, false, cond, eqb, ◌&&◌, ◌||◌, List, [], ◌∷◌, ◌++◌, length, get_or, take, drop, sym, refl, ap, ◌∙◌, arith, add-one}
+use Rattle.std.proofs.Common.{◌≡◌, ◌≢◌, ℕ, zero, suc, ◌+◌, ◌*◌, ◌<◌, ◌≤◌, min, Bool, true, false, cond, eqb, ◌&&◌, ◌||◌, List, [], ◌∷◌, ◌++◌, length, get_or}
+use Rattle.std.proofs.Common.{take, drop, sym, refl, ap, ◌∙◌, arith, add-one}
 use Rattle.std.specs.Prelude.{codes, flat_map, Some, None}
 use Rattle.std.specs.List.{list_all, list_any}
 use Rattle.std.proofs.lemmas.Bool.{eq-eqb, ne_eqb}
@@ -11,7 +12,8 @@ use Rattle.std.proofs.lemmas.List.Concat.{flat_map-append}
 use Rattle.httparse.specs.Grammar.{trim_ows}
 use Rattle.httparse.specs.declared.spans.HeaderSpan.{HeaderSpan}
 use Rattle.httparse.specs.Spans.{header_bytes}
-use Rattle.http_fields.specs.Fields.{headers_at, Header, Lacks, split_at_byte, cons_first, before_byte, after_byte, same_ignoring_case, has_close, is_named, values_named, parameters_named, piece_values, bearer_token, skip_spaces, some_token}
+use Rattle.http_fields.specs.Fields.{headers_at, Header, Lacks, split_at_byte, cons_first, before_byte, after_byte, same_ignoring_case, has_close, is_named}
+use Rattle.http_fields.specs.Fields.{values_named, parameters_named, piece_values, bearer_token, skip_spaces, some_token}
 
 eqb-same : (n : ℕ) → eqb n n ≡ true
 eqb-same n = eq-eqb n n refl
@@ -108,10 +110,12 @@ unfolding parameters_named
 parameters_whole name xs none = ap (flat_map (piece_values name)) (split_whole 38 xs none) ∙ append-nil (piece_values name xs)
 
 -- one field more
-pub values_named_push : (name : List ℕ) (hs : List Header) (h : Header) → values_named name (hs ++ h ∷ []) ≡ values_named name hs ++ cond (is_named name h) (h.1 ∷ []) []
+pub values_named_push : (name : List ℕ) (hs : List Header) (h : Header)
+    → values_named name (hs ++ h ∷ []) ≡ values_named name hs ++ cond (is_named name h) (h.1 ∷ []) []
 unfolding values_named
 values_named_push name hs h =
-    flat_map-append (λ x. cond (is_named name x) (x.1 ∷ []) []) hs (h ∷ []) ∙ ap (λ l. values_named name hs ++ l) (append-nil (cond (is_named name h) (h.1 ∷ []) []))
+    flat_map-append (λ x. cond (is_named name x) (x.1 ∷ []) []) hs (h ∷ []) ∙ ap (λ l.
+    values_named name hs ++ l) (append-nil (cond (is_named name h) (h.1 ∷ []) []))
 
 pub values_named-nil : (name : List ℕ) → values_named name [] ≡ []
 unfolding values_named
@@ -168,11 +172,13 @@ list_all-append p (x ∷ xs) ys = by_test (p x) (list_all-append p xs ys)
     by_test true later = later
     by_test false later = refl
 
-pub list_all_more : {X : Type 0} (p : X → Bool) (xs : List X) (i : ℕ) (d : X) → i < length xs → list_all p (take i xs) ≡ true → p (get_or xs i d) ≡ true → list_all p (take (i + 1) xs) ≡ true
+pub list_all_more : {X : Type 0} (p : X → Bool) (xs : List X) (i : ℕ) (d : X) → i < length xs → list_all p (take i xs) ≡ true → p (get_or xs i d) ≡ true
+    → list_all p (take (i + 1) xs) ≡ true
 list_all_more p xs i d inside before here =
     ap (list_all p) (take_more xs i d inside) ∙ list_all-append p (take i xs) _ ∙ (λ k. before k && (here k && true))
 
-value_if : (named : Bool) (value : Bor (List ℕ)) → option_to_list (option_map (λ (v : Bor (List ℕ)). v.now) (then_some named value)) ≡ cond named (value.now ∷ []) []
+value_if : (named : Bool) (value : Bor (List ℕ)) → option_to_list (option_map (λ (v : Bor (List ℕ)). v.now) (then_some named value))
+    ≡ cond named (value.now ∷ []) []
 value_if true value = refl
 value_if false value = refl
 

@@ -1,5 +1,6 @@
 -- What the fields of a request's head say of its body, its connection and its caller, and the parts of its target (RFC 9110, 9112, 6750).
-use Rattle.std.specs.Prelude.{◌≡◌, ◌<◌, take, drop, slice_index, ℕ, Bool, false, ◌++◌, ◌&&◌, List, [], ◌∷◌, map, length, Option, Some, None, Result, Ok, Err, if◌then◌else◌, nat_lt, nat_le, ◌==◌, codes, bytes_eq, flat_map}
+use Rattle.std.specs.Prelude.{◌≡◌, ◌<◌, take, drop, slice_index, ℕ, Bool, false, ◌++◌, ◌&&◌, List, [], ◌∷◌, map, length, Option, Some, None, Result, Ok, Err}
+use Rattle.std.specs.Prelude.{if◌then◌else◌, nat_lt, nat_le, ◌==◌, codes, bytes_eq, flat_map}
 use Rattle.std.specs.List.{list_all, list_any}
 use Rattle.std.specs.Borrow.{Bor}
 use Rattle.std.specs.Char.{is_ascii_digit, to_ascii_lowercase}

@@ -1,11 +1,17 @@
 //! What the fields of a request's head say of its body, its connection and its caller, and how its target is split (RFC 9110, RFC 9112, RFC 6750).
 #![tactic(auto)]
 
-ghost use Rattle.std.specs.Prelude.{◌≡◌, ◌≤◌, ℕ, List, length, map, reverse, Option, option_map, option_to_list, ◌++◌, All, IfOk, codes, ◌↔◌, IsTrue};
+ghost use Rattle.std.specs.Prelude.{◌≡◌, ◌≤◌, ℕ, List, length, map, reverse, Option, option_map};
+ghost use Rattle.std.specs.Prelude.{option_to_list, ◌++◌, All, IfOk, codes, ◌↔◌, IsTrue};
 ghost use Rattle.std.specs.List.{list_any};
 ghost use Rattle.httparse.specs.Grammar.{skip_ows, trim_ows};
 ghost use Rattle.httparse.specs.Spans.{IsHeaderWithin};
-ghost use Rattle.http_fields.specs.Fields.{refusal_number, same_ignoring_case, values_named, has_field, size_of_value, body_size, has_close, asks_close, skip_spaces, bearer_token, token_of, IsOccurrence, headers_at, path_of, query_of, parameters_named, before_byte, after_byte, body_limit, piece_values, IsCut};
+ghost use Rattle.http_fields.specs.Fields.{refusal_number, same_ignoring_case, values_named};
+ghost use Rattle.http_fields.specs.Fields.{has_field, size_of_value, body_size, has_close};
+ghost use Rattle.http_fields.specs.Fields.{asks_close, skip_spaces, bearer_token, token_of};
+ghost use Rattle.http_fields.specs.Fields.{IsOccurrence, headers_at, path_of, query_of};
+ghost use Rattle.http_fields.specs.Fields.{parameters_named, before_byte, after_byte, body_limit};
+ghost use Rattle.http_fields.specs.Fields.{piece_values, IsCut};
 
 use httparse::is_space_or_tab;
 use httparse::spans::HeaderSpan;
@@ -213,7 +219,8 @@ fn after_spaces(mut s: &[u8]) -> &[u8]
     s
 }
 
-/// The bearer token of the value of an `Authorization` field (RFC 6750, section 2.1): what follows `Bearer`, in any case, and one or more spaces. An empty token is none.
+/// The bearer token of the value of an `Authorization` field (RFC 6750, section 2.1): what follows
+/// `Bearer`, in any case, and one or more spaces. An empty token is none.
 fn read_bearer(value: &[u8]) -> Option<&[u8]>
     ensures { option_map (λ token. token.now) result ≡ bearer_token value.now }
 {
@@ -255,7 +262,9 @@ fn split_once(bytes: &[u8], byte: u8) -> (&[u8], &[u8])
     }
 }
 
-/// The path and the query of a target: what stands in front of its first `?`, and what stands behind it (RFC 9112, section 3.2.1). Neither is percent-decoded. Without a `?` the query is empty.
+/// The path and the query of a target: what stands in front of its first `?`, and what stands
+/// behind it (RFC 9112, section 3.2.1). Neither is percent-decoded. Without a `?` the query is
+/// empty.
 pub fn split_target(target: &[u8]) -> (&[u8], &[u8])
     ensures path { result.0.now ≡ path_of target.now }
     ensures query { result.1.now ≡ query_of target.now }
@@ -265,7 +274,8 @@ pub fn split_target(target: &[u8]) -> (&[u8], &[u8])
 
 /// The value of a piece of a query, if the piece has the name. A piece without `=` is a name with an empty value.
 fn value_of_piece<'q>(piece: &'q [u8], name: &[u8]) -> Option<&'q [u8]>
-    ensures { option_to_list (option_map (λ value. value.now) result) ≡ piece_values name.now piece.now }
+    ensures { option_to_list (option_map (λ value. value.now) result)
+        ≡ piece_values name.now piece.now }
 {
     let (key, value) = split_once(piece, b'=');
     if key == name { Some(value) } else { None }
@@ -283,7 +293,9 @@ fn found_more<'q>(found: Occurrence<'q>, more: Option<&'q [u8]>) -> Occurrence<'
     }
 }
 
-/// The value of the only parameter of a query with the name, which is not percent-decoded. The parameters stand between `&`, each as a name, `=` and a value, or as a name alone, whose value is empty.
+/// The value of the only parameter of a query with the name, which is not percent-decoded. The
+/// parameters stand between `&`, each as a name, `=` and a value, or as a name alone, whose value
+/// is empty.
 pub fn only_parameter<'q>(query: &'q [u8], name: &[u8]) -> Occurrence<'q>
     ensures { IsOccurrence (parameters_named name.now query.now) result }
 {

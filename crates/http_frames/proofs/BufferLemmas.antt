@@ -12,7 +12,8 @@ use Rattle.http_frames.specs.Buffers.{Keeps, count_of}
 use Rattle.http_frames.specs.declared.transfer.Transfer.{Transfer}
 use Rattle.http_frames.specs.declared.transfer.Transfer.TheVariants.{Moved, Interrupted, Failed}
 
-pub moved_down : (bytes : List ℕ) (from len : ℕ) → from ≤ len → len ≤ length bytes → take (len - from) (copy_within bytes from len 0) ≡ drop from (take len bytes)
+pub moved_down : (bytes : List ℕ) (from len : ℕ) → from ≤ len → len ≤ length bytes
+    → take (len - from) (copy_within bytes from len 0) ≡ drop from (take len bytes)
 moved_down bytes from len ordered fits =
     let n = len - from in
     let whole : from + n ≡ len = omega arith in
@@ -26,7 +27,8 @@ pub unmoved : (old new : List ℕ) (len count : ℕ) → take len new ≡ take l
 unmoved old new len count before none = ap (λ k. take k new) (ap (λ k. len + k) none ∙ add-zero len) ∙ before
 
 -- what one call takes from the bytes left comes to the bytes held
-taken : (old new : List ℕ) (len : ℕ) (result : Transfer) (left after : List ℕ) → take len new ≡ take len old → len ≤ length old → length new ≡ length old → Takes left after (drop len new) result
+taken : (old new : List ℕ) (len : ℕ) (result : Transfer) (left after : List ℕ) → take len new ≡ take len old → len ≤ length old → length new ≡ length old
+    → Takes left after (drop len new) result
     → (take len old ++ left ≡ take (len + count_of result) new ++ after) × (len < length old × result ≡ Moved 0 → after ≡ [])
 taken old new len (Moved count) left after before room same takes = (
   ap (λ s. take len old ++ s) takes.0 ∙ sym (append_assoc (take len old) (take count (drop len new)) after)
@@ -43,7 +45,8 @@ taken old new len Failed left after before room same takes =
     let none = sym before ∙ ap (λ k. take k new) (sym (add-zero len)) in
     ((λ i. none i ++ sym takes i), λ ended. cc)
 
-pub kept : (old new : List ℕ) (len : ℕ) (result : Transfer) (left after : Option (List ℕ)) → take len new ≡ take len old → len ≤ length old → length new ≡ length old → ReadsBytes left after (drop len new) result
+pub kept : (old new : List ℕ) (len : ℕ) (result : Transfer) (left after : Option (List ℕ)) → take len new ≡ take len old → len ≤ length old
+    → length new ≡ length old → ReadsBytes left after (drop len new) result
     → Keeps (take len old) left (take (len + count_of result) new) after (len < length old × result ≡ Moved 0)
 kept old new len result None after before room same reads = reads
 kept old new len result (Some left) None before room same reads = reads

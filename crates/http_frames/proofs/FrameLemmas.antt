@@ -1,5 +1,6 @@
 -- Fronts of a stream, and the bytes that follow them.
-use Rattle.std.proofs.Common.{◌≡◌, ℕ, ◌+◌, ◌-◌, ◌≤◌, List, [], ◌∷◌, ◌++◌, map, length, take, drop, sym, refl, ap, ◌∙◌, subst, arith, append_assoc, length-append, length-take}
+use Rattle.std.proofs.Common.{◌≡◌, ℕ, ◌+◌, ◌-◌, ◌≤◌, List, [], ◌∷◌, ◌++◌, map, length, take, drop, sym, refl, ap, ◌∙◌, subst, arith, append_assoc}
+use Rattle.std.proofs.Common.{length-append, length-take}
 use Rattle.std.specs.Prelude.{Ok}
 use Rattle.std.proofs.Common.{inl, inr}
 use Rattle.std.proofs.lemmas.List.{take-append-drop, length-map, take-append-le, drop-append-le, length-drop}
@@ -44,7 +45,8 @@ split n xs = take-append-drop n xs
 pub overflows_window : (n : ℕ) (window : List ℕ) → RequestOverflows field_limit (take n window) → RequestOverflows field_limit window
 overflows_window n window over more head rest reads =
     over (drop n window ++ more) head rest
-    (subst (λ (s : List ℕ). ReadsRequest s head rest) (sym (sym (append_assoc (take n window) (drop n window) more) ∙ ap (λ s. s ++ more) (split n window))) reads)
+    (subst (λ (s : List ℕ). ReadsRequest s head rest) (sym (sym (append_assoc (take n window) (drop n window) more) ∙ ap (λ s. s ++ more) (split n window)))
+    reads)
 
 pub lacks_overflowing : (window : List ℕ) → RequestOverflows field_limit window → LacksHead window
 lacks_overflowing window over head after has =
@@ -65,7 +67,8 @@ bad_full window full none = (lacks_full window full none, inl full)
 pub bad_overflowing : (window : List ℕ) → RequestOverflows field_limit window → HasBadHead window
 bad_overflowing window over = (lacks_overflowing window over, inr over)
 
-few_fields : (front : List ℕ) (spans : List HeaderSpan) (found : RequestSpans) (head : RequestHead) → length spans ≡ field_limit → IsRequestAt front spans found head → length head.fields ≤ field_limit
+few_fields : (front : List ℕ) (spans : List HeaderSpan) (found : RequestSpans) (head : RequestHead) → length spans ≡ field_limit
+    → IsRequestAt front spans found head → length head.fields ≤ field_limit
 few_fields front spans found head full at =
     let same = ap length at.fields in
     omega (arith, length-map (take found.headers spans) (header_bytes front), length-map head.fields name_and_value, length-take found.headers spans)
@@ -84,7 +87,8 @@ headers_front front more (s ∷ spans) n inside each =
     let value = slice_front front more s.value.start s.value.end here.1.0 (omega (arith, here.1.1)) in
     (λ i. (name i, value i) ∷ headers_front front more spans n inside (All-tail (IsHeaderWithin n) s spans each) i)
 
-within_more : (front more : List ℕ) (spans : List HeaderSpan) (found : RequestSpans) → IsRequestWithin front spans found → IsRequestWithin (front ++ more) spans found
+within_more : (front more : List ℕ) (spans : List HeaderSpan) (found : RequestSpans) → IsRequestWithin front spans found
+    → IsRequestWithin (front ++ more) spans found
 within_more front more spans found within = record {
   method = within.method;
   path = within.path;
@@ -96,7 +100,8 @@ within_more front more spans found within = record {
   };
 }
 
-at_more : (front more : List ℕ) (spans : List HeaderSpan) (found : RequestSpans) (head : RequestHead) → IsRequestWithin front spans found → IsRequestAt front spans found head
+at_more : (front more : List ℕ) (spans : List HeaderSpan) (found : RequestSpans) (head : RequestHead) → IsRequestWithin front spans found
+    → IsRequestAt front spans found head
     → IsRequestAt (front ++ more) spans found head
 at_more front more spans found head within at =
     let fits = within.section.len_fits in
@@ -122,7 +127,11 @@ head_found window spans found head front e full within_front at_front =
     record {
       has = (
         at.reads,
-        (few_fields front spans found head full at_front, omega (arith, within_front.section.len_fits, at_front.len, ap length e, length-take head_limit window)),
+        (
+          few_fields front spans found head full at_front,
+          omega
+              (arith, within_front.section.len_fits, at_front.len, ap length e, length-take head_limit window),
+        ),
       );
       within = within;
       at = at;

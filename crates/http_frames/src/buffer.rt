@@ -1,9 +1,11 @@
 //! The bytes of a stream that were read and not yet served.
 
-ghost use Rattle.std.specs.Prelude.{◌≡◌, ℕ, ◌+◌, ◌-◌, ◌<◌, ◌≤◌, ◌^◌, ◌++◌, List, [], ◌↔◌, ◌==◌, true, length, take, drop, IfOk, Option, vec_len};
+ghost use Rattle.std.specs.Prelude.{◌≡◌, ℕ, ◌+◌, ◌-◌, ◌<◌, ◌≤◌, ◌^◌, ◌++◌, List, [], ◌↔◌, ◌==◌};
+ghost use Rattle.std.specs.Prelude.{true, length, take, drop, IfOk, Option, vec_len};
 ghost use Rattle.http_frames.specs.Transfers.{ReadsBytes, failures_of};
 ghost use Rattle.http_frames.specs.Looks.{IsLook};
-ghost use Rattle.http_frames.specs.Buffers.{unread, count_of, Keeps, IsFramed, IsEnd, faults_of, end_of};
+ghost use Rattle.http_frames.specs.Buffers.{unread, count_of, Keeps, IsFramed, IsEnd, faults_of};
+ghost use Rattle.http_frames.specs.Buffers.{end_of};
 
 use crate::frame::Framed;
 use crate::look;
@@ -34,9 +36,15 @@ impl Model for Buffer {
 
     ghost Value = { Held };
 
-    ghost view = { λ b. record { window = take b.len b.bytes.items; taken = b.taken; spans = b.spans; calls = b.calls } };
+    ghost view = { λ b. record {
+      window = take b.len b.bytes.items;
+      taken = b.taken;
+      spans = b.spans;
+      calls = b.calls;
+    } };
 
-    ghost invariant = { λ b. (vec_len b.bytes ≡ 73728) × (b.len ≤ 73728) × (b.taken ≤ b.len) × (b.calls ≤ 16777216) };
+    ghost invariant = { λ b. (vec_len b.bytes ≡ 73728) × (b.len ≤ 73728) × (b.taken ≤ b.len)
+        × (b.calls ≤ 16777216) };
 }
 
 /// Moves the bytes from `from` up to `len` to the front.
@@ -67,8 +75,10 @@ fn read_more<R: Source>(reader: &mut R, bytes: &mut [u8], len: usize) -> Transfe
     ensures counted { R.calls reader.new ≡ R.calls reader.old + 1 }
     ensures failed { R.failures reader.new ≡ R.failures reader.old + failures_of result }
     ensures most { len + count_of result ≤ length bytes.new }
-    ensures still { count_of result ≡ 0 → take (len + count_of result) bytes.new ≡ take len bytes.old }
-    ensures bytes { Keeps (take len bytes.old) (R.left reader.old) (take (len + count_of result) bytes.new) (R.left reader.new)
+    ensures still { count_of result ≡ 0 → take (len + count_of result) bytes.new
+        ≡ take len bytes.old }
+    ensures bytes { Keeps (take len bytes.old) (R.left reader.old)
+        (take (len + count_of result) bytes.new) (R.left reader.new)
         (len < length bytes.old × result ≡ Transfer.Moved 0) }
 {
     read_behind(reader, bytes, len)
@@ -168,7 +178,8 @@ impl Buffer {
         ensures still { count_of result ≡ 0 → self.new.window ≡ self.old.window }
         ensures taken { self.new.taken ≡ self.old.taken }
         ensures calls { self.new.calls ≡ self.old.calls + 1 }
-        ensures bytes { Keeps self.old.window (R.left reader.old) self.new.window (R.left reader.new)
+        ensures bytes { Keeps self.old.window (R.left reader.old) self.new.window
+            (R.left reader.new)
             (length self.old.window < ROOM × result ≡ Transfer.Moved 0) }
     {
         self.count_call();
@@ -182,11 +193,14 @@ impl Buffer {
 
 /// Cuts the next request from the stream, or says what stands there (RFC 9112, section 6.3). It takes no memory.
 ///
-/// What is said of a request or a refusal holds of the bytes in the buffer alone, and those and the bytes that are left are the bytes that there were: so it holds of the stream, in whatever pieces it came.
+/// What is said of a request or a refusal holds of the bytes in the buffer alone, and those and the
+/// bytes that are left are the bytes that there were: so it holds of the stream, in whatever pieces
+/// it came.
 pub fn read_request<R: Source>(reader: &mut R, buffer: &mut Buffer) -> Framed
     requires { R.calls reader.old + 2 ^ 25 < 2 ^ 64 + buffer.old.calls }
     ensures framed { IsFramed buffer.new result }
-    ensures bytes { Keeps (unread buffer.old) (R.left reader.old) buffer.new.window (R.left reader.new) (IsEnd result) }
+    ensures bytes { Keeps (unread buffer.old) (R.left reader.old) buffer.new.window
+        (R.left reader.new) (IsEnd result) }
     ensures calls { R.calls reader.new + buffer.old.calls ≡ R.calls reader.old + buffer.new.calls }
     ensures limit { (buffer.old.calls ≤ buffer.new.calls) × (buffer.new.calls ≤ CALL_LIMIT) }
     ensures failures { R.failures reader.new ≡ R.failures reader.old + faults_of result }

@@ -72,7 +72,8 @@ impl Frame {
     pub fn fields(self, buffer: &Buffer) -> &[HeaderSpan]
         requires { (request : Request) × IsFrameAt buffer.now.window buffer.now.spans self request }
         ensures within { All (IsHeaderWithin (length buffer.now.window)) result.now }
-        ensures fields { (request : Request) → IsFrameAt buffer.now.window buffer.now.spans self request
+        ensures fields { (request : Request) → IsFrameAt buffer.now.window buffer.now.spans self
+            request
             → headers_at buffer.now.window result.now ≡ headers_of request.head }
     {
         &buffer.spans()[..self.head.headers]

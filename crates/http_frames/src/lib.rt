@@ -1,8 +1,12 @@
 //! Cuts a stream of bytes into HTTP/1.1 requests, in whatever pieces it comes (RFC 9112, sections 2 to 6).
 //!
-//! A head is what `httparse` reads with its default configuration and room for 64 fields, in at most 8,192 bytes: empty lines in front of the request line belong to it, a line may end in LF alone, the version is HTTP/1.0 or HTTP/1.1, the target is UTF-8 and the method any token. So a stream whose last bytes are an empty line behind a request ends inside a request.
+//! A head is what `httparse` reads with its default configuration and room for 64 fields, in at
+//! most 8,192 bytes: empty lines in front of the request line belong to it, a line may end in LF
+//! alone, the version is HTTP/1.0 or HTTP/1.1, the target is UTF-8 and the method any token. So a
+//! stream whose last bytes are an empty line behind a request ends inside a request.
 //!
-//! A stream is read into one [`buffer::Buffer`], which takes its memory when it is made and none later. [`buffer::read_request`] finds the next request there, as a [`frame::Frame`].
+//! A stream is read into one [`buffer::Buffer`], which takes its memory when it is made and none
+//! later. [`buffer::read_request`] finds the next request there, as a [`frame::Frame`].
 #![tactic(auto)]
 
 pub mod buffer;

@@ -1,6 +1,7 @@
 //! Readers and writers over memory, readers and writers that are interrupted or fail, and those of std with their calls counted.
 
-ghost use Rattle.std.specs.Prelude.{◌≡◌, ℕ, ◌+◌, ◌^◌, ◌<◌, ◌≤◌, ◌==◌, not, if◌then◌else◌, length, Some, None, []};
+ghost use Rattle.std.specs.Prelude.{◌≡◌, ℕ, ◌+◌, ◌^◌, ◌<◌, ◌≤◌, ◌==◌, not, if◌then◌else◌, length};
+ghost use Rattle.std.specs.Prelude.{Some, None, []};
 
 use crate::transfer::{Drain, Source, Transfer};
 use std::io::{ErrorKind, Read, Write};
@@ -136,7 +137,8 @@ impl<T: Drop> Interrupted<T> {
     fn interrupts(&mut self) -> bool
         requires { self.old.interruptions + 1 < 2 ^ 64 }
         ensures inner { self.new.inner ≡ self.old.inner }
-        ensures counted { self.new.interruptions ≡ self.old.interruptions + (if result then 1 else 0) }
+        ensures counted { self.new.interruptions ≡ self.old.interruptions +
+            (if result then 1 else 0) }
         ensures in_turn { (result ≡ self.old.is_next) × (self.new.is_next ≡ not self.old.is_next) }
     {
         if !self.is_next {

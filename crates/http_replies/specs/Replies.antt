@@ -2,7 +2,8 @@
 use Rattle.std.specs.Prelude.{ℕ, List, [], ◌++◌, length, Bool, unwrap_or, codes, decimal, if◌then◌else◌, ◌==◌, string_bytes}
 use Rattle.http.specs.StatusCode.{reason_phrase}
 use Rattle.http_replies.specs.declared.Status.{Status}
-use Rattle.http_replies.specs.declared.Status.TheVariants.{Success, BadRequest, Unauthorized, Forbidden, NotFound, Conflict, TooLarge, Unprocessable, NotImplemented, Unavailable}
+use Rattle.http_replies.specs.declared.Status.TheVariants.{Success, BadRequest, Unauthorized, Forbidden, NotFound, Conflict, TooLarge, Unprocessable}
+use Rattle.http_replies.specs.declared.Status.TheVariants.{NotImplemented, Unavailable}
 use Rattle.http_replies.specs.declared.Kind.{Kind}
 use Rattle.http_replies.specs.declared.Body.{Body}
 use Rattle.http_replies.specs.declared.Reply.{Reply}

@@ -43,7 +43,8 @@ fn put_if(room: &mut [u8], at: usize, holds: bool, line: &[u8]) -> usize
 fn put_status(room: &mut [u8], status: Status) -> usize
     requires { 64 ≤ length room.old }
     ensures short { (0 < result) × (result ≤ 51) }
-    ensures text { take result room.new ≡ codes "HTTP/1.1 " ++ decimal (code_of status) ++ codes " " ++ phrase_of status }
+    ensures text { take result room.new ≡ codes "HTTP/1.1 " ++ decimal (code_of status) ++ codes " "
+        ++ phrase_of status }
 {
     let mut at = put(room, 0, b"HTTP/1.1 ");
     at = put_number(room, at, u64::from(status.code()));
@@ -51,7 +52,9 @@ fn put_status(room: &mut [u8], status: Status) -> usize
     put(room, at, status.phrase().as_bytes())
 }
 
-/// Writes what stands in front of the body, up to and with the empty line, and answers how many bytes that is (RFC 9112, section 2.1). It takes no memory. `Content-Length` is the body's size, whatever the request's method was.
+/// Writes what stands in front of the body, up to and with the empty line, and answers how many
+/// bytes that is (RFC 9112, section 2.1). It takes no memory. `Content-Length` is the body's size,
+/// whatever the request's method was.
 pub fn reply_head(reply: &Reply, flags: Flags, room: &mut [u8; HEAD_ROOM]) -> usize
     ensures within { (0 < result) × (result ≤ 256) }
     ensures text { take result room.new ≡ head_text (answer_of reply.now) flags.is_last }

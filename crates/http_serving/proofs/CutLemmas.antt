@@ -25,7 +25,8 @@ one_head : (rest : List ℕ) (head other : RequestHead) (after later : List ℕ)
 one_head rest head other after later has had = (request_unique rest head other after later has.0 had.0).0
 
 -- no whole request is refused
-whole_or_refused : (rest : List ℕ) (request : Request) (after : List ℕ) (refusal : FrameRefusal) (is_head : Bool) → HasRequest rest request after → IsRefused rest refusal is_head → ⊥
+whole_or_refused : (rest : List ℕ) (request : Request) (after : List ℕ) (refusal : FrameRefusal) (is_head : Bool) → HasRequest rest request after
+    → IsRefused rest refusal is_head → ⊥
 whole_or_refused rest request after refusal is_head has (inl had) =
     let same = ap (λ h. body_size (headers_of h)) (one_head rest request.head had.0 (request.body ++ after) had.1 has.0 had.2) in
     let bad : Ok (length request.body) ≡ Err refusal = sym has.1 ∙ same ∙ had.3 in
@@ -33,7 +34,8 @@ whole_or_refused rest request after refusal is_head has (inl had) =
 whole_or_refused rest request after refusal is_head has (inr bad) = bad.3.0 request.head (request.body ++ after) has.0
 
 -- what is refused is refused in one way
-one_refusal : (rest : List ℕ) (refusal other : FrameRefusal) (is_head was_head : Bool) → IsRefused rest refusal is_head → IsRefused rest other was_head → (refusal ≡ other) × (is_head ≡ was_head)
+one_refusal : (rest : List ℕ) (refusal other : FrameRefusal) (is_head was_head : Bool) → IsRefused rest refusal is_head → IsRefused rest other was_head
+    → (refusal ≡ other) × (is_head ≡ was_head)
 one_refusal rest refusal other is_head was_head (inl has) (inl had) =
     let same = one_head rest has.0 had.0 has.1 had.1 has.2 had.2 in
     let sizes = sym has.3 ∙ ap (λ h. body_size (headers_of h)) same ∙ had.3 in
@@ -43,7 +45,8 @@ one_refusal rest refusal other is_head was_head (inr bad) (inl had) = absurd (ba
 one_refusal rest refusal other is_head was_head (inr bad) (inr ill) = (bad.0 ∙ sym ill.0, bad.1 ∙ sym ill.1)
 
 -- at most one piece stands at the front of a stream
-pub one_piece : (rest : List ℕ) (piece other : Piece) (after later : List ℕ) → IsPiece rest piece after → IsPiece rest other later → (cut_of piece ≡ cut_of other) × (after ≡ later)
+pub one_piece : (rest : List ℕ) (piece other : Piece) (after later : List ℕ) → IsPiece rest piece after → IsPiece rest other later
+    → (cut_of piece ≡ cut_of other) × (after ≡ later)
 one_piece rest (whole request answer) (whole other said) after later has had =
     let same = one_request rest request other after later has had in
     (ap Ok same.0, same.1)
@@ -96,7 +99,8 @@ Stops TurnLimit pieces rest = ⊥
 Stops NoMemory pieces rest = ⊥
 
 -- what the bytes have to do with it
-stops : (served : Served) (pieces : List Piece) (rest left before written : List ℕ) → is_by_bytes served ≡ true → Ends served pieces rest left before written → Stops served pieces rest
+stops : (served : Served) (pieces : List Piece) (rest left before written : List ℕ) → is_by_bytes served ≡ true → Ends served pieces rest left before written
+    → Stops served pieces rest
 stops Ended pieces rest left before written by_bytes ends = (ends.0, ends.1)
 stops Closed pieces rest left before written by_bytes ends = ends.0
 stops Cut pieces rest left before written by_bytes ends = (ends.0, ends.1)
@@ -123,7 +127,8 @@ no_end TurnLimit rest stop = absurd stop
 no_end NoMemory rest stop = absurd stop
 
 -- it ends there in one way
-one_end : (served other : Served) (rest : List ℕ) → (served ≡ Ended × rest ≡ []) ⊎ (served ≡ Cut × IsCutOff rest) → (other ≡ Ended × rest ≡ []) ⊎ (other ≡ Cut × IsCutOff rest) → served ≡ other
+one_end : (served other : Served) (rest : List ℕ) → (served ≡ Ended × rest ≡ []) ⊎ (served ≡ Cut × IsCutOff rest)
+    → (other ≡ Ended × rest ≡ []) ⊎ (other ≡ Cut × IsCutOff rest) → served ≡ other
 one_end served other rest (inl stop) (inl stopped) = stop.0 ∙ sym stopped.0
 one_end served other rest (inl stop) (inr stopped) = absurd (not_cut_off (subst IsCutOff stop.1 stopped.1))
 one_end served other rest (inr stop) (inl stopped) = absurd (not_cut_off (subst IsCutOff stopped.1 stop.1))
@@ -134,9 +139,12 @@ last_rest : (after : List ℕ) (pieces : List Piece) (rest : List ℕ) → piece
 last_rest after pieces rest none cut = subst (λ pieces. Cuts after pieces rest) none cut
 
 -- one stops where the other goes on
-goes_on : (served : Served) (stream : List ℕ) (piece : Piece) (pieces : List Piece) (after later : List ℕ) → (served ≡ Ended × stream ≡ []) ⊎ (served ≡ Cut × IsCutOff stream)
-    → IsPiece stream piece after → (is_last piece ≡ true → pieces ≡ []) → Cuts after pieces later → IsEitherWay stream × (stream ≡ later) × (requests_of (piece ∷ pieces) ≡ [])
-goes_on served stream piece pieces after later (inl stop) is_piece last cut = absurd (no_piece piece after (subst (λ (s : List ℕ). IsPiece s piece after) stop.1 is_piece))
+goes_on : (served : Served) (stream : List ℕ) (piece : Piece) (pieces : List Piece) (after later : List ℕ)
+    → (served ≡ Ended × stream ≡ []) ⊎ (served ≡ Cut × IsCutOff stream)
+    → IsPiece stream piece after → (is_last piece ≡ true → pieces ≡ []) → Cuts after pieces later
+    → IsEitherWay stream × (stream ≡ later) × (requests_of (piece ∷ pieces) ≡ [])
+goes_on served stream piece pieces after later (inl stop) is_piece last cut =
+    absurd (no_piece piece after (subst (λ (s : List ℕ). IsPiece s piece after) stop.1 is_piece))
 goes_on served stream (whole request answer) pieces after later (inr stop) is_piece last cut = absurd (cut_off_whole stream request after stop.1 is_piece)
 goes_on served stream (refused refusal is_head) pieces after later (inr stop) is_piece last cut =
     (cut_off_refused stream refusal is_head stop.1 is_piece.0, sym (last_rest after pieces later (last refl) cut ∙ is_piece.1), ap requests_of (last refl))
@@ -147,7 +155,8 @@ Agrees served other pieces others rest later =
     (requests_of pieces ≡ requests_of others) × (rest ≡ later) × (((served ≡ other) × (map cut_of pieces ≡ map cut_of others)) ⊎ IsEitherWay rest)
 
 -- one piece more, on both sides
-requests_more : (piece twin : Piece) (pieces others : List Piece) → cut_of piece ≡ cut_of twin → requests_of pieces ≡ requests_of others → requests_of (piece ∷ pieces) ≡ requests_of (twin ∷ others)
+requests_more : (piece twin : Piece) (pieces others : List Piece) → cut_of piece ≡ cut_of twin → requests_of pieces ≡ requests_of others
+    → requests_of (piece ∷ pieces) ≡ requests_of (twin ∷ others)
 requests_more (whole request answer) (whole other said) pieces others same more =
     let here : request ≡ other = cc in
     (λ i. here i ∷ more i)
@@ -185,7 +194,8 @@ closes TurnLimit piece pieces rest last stop = absurd stop
 closes NoMemory piece pieces rest last stop = absurd stop
 
 -- a piece that does not end the stream leaves its end to the others
-stops_later : (served : Served) (piece : Piece) (pieces : List Piece) (rest : List ℕ) → is_last piece ≡ false → Stops served (piece ∷ pieces) rest → Stops served pieces rest
+stops_later : (served : Served) (piece : Piece) (pieces : List Piece) (rest : List ℕ) → is_last piece ≡ false → Stops served (piece ∷ pieces) rest
+    → Stops served pieces rest
 stops_later Ended piece pieces rest last stop = ((or_split (is_last piece) (list_any is_last pieces) stop.0).1, stop.1)
 stops_later Closed piece pieces rest last stop = sym (ap (λ t. t || list_any is_last pieces) last) ∙ stop
 stops_later Cut piece pieces rest last stop = ((or_split (is_last piece) (list_any is_last pieces) stop.0).1, stop.1)
@@ -203,9 +213,11 @@ one_more served other piece twin pieces others rest later same (requests, rests,
     (requests_more piece twin pieces others same requests, rests, inr either)
 
 -- a piece that ends the stream, or one that does not and what follows
-at_piece : (last : Bool) (served other : Served) (piece twin : Piece) (pieces others : List Piece) (stream rest later : List ℕ) (cut : Cuts stream (piece ∷ pieces) rest) (had : Cuts stream (twin ∷ others) later)
+at_piece : (last : Bool) (served other : Served) (piece twin : Piece) (pieces others : List Piece) (stream rest later : List ℕ)
+    (cut : Cuts stream (piece ∷ pieces) rest) (had : Cuts stream (twin ∷ others) later)
     → is_last piece ≡ last → Stops served (piece ∷ pieces) rest → Stops other (twin ∷ others) later
-    → ((after : List ℕ) → Cuts after pieces rest → Cuts after others later → Stops served pieces rest → Stops other others later → Agrees served other pieces others rest later)
+    → ((after : List ℕ) → Cuts after pieces rest → Cuts after others later → Stops served pieces rest → Stops other others later
+    → Agrees served other pieces others rest later)
     → Agrees served other (piece ∷ pieces) (twin ∷ others) rest later
 at_piece true served other piece twin pieces others stream rest later cut had last stop stopped more =
     let same = one_piece stream piece twin cut.0 had.0 cut.1 had.1 in
@@ -226,8 +238,14 @@ at_piece false served other piece twin pieces others stream rest later cut had l
 agrees : (served other : Served) (pieces others : List Piece) (stream rest later : List ℕ) → Cuts stream pieces rest → Cuts stream others later
     → Stops served pieces rest → Stops other others later → Agrees served other pieces others rest later
 agrees served other [] [] stream rest later cut had stop stopped =
-    let same = cut ∙ sym had in
-    (refl, same, inl (one_end served other rest (no_end served rest stop) (no_end other rest (subst (λ (s : List ℕ). Stops other [] s) (sym same) stopped)), refl))
+    let same = cut ∙ sym had in (
+      refl,
+      same,
+      inl (
+        one_end served other rest (no_end served rest stop) (no_end other rest (subst (λ (s : List ℕ). Stops other [] s) (sym same) stopped)),
+        refl,
+      ),
+    )
 agrees served other [] (twin ∷ others) stream rest later cut had stop stopped =
     let either = goes_on served stream twin others had.0 later (no_end served stream (subst (λ (s : List ℕ). Stops served [] s) cut stop)) had.1 had.2 had.3 in
     (sym either.2, cut ∙ either.1, inr (subst IsEitherWay (sym cut) either.0))
@@ -235,11 +253,13 @@ agrees served other (piece ∷ pieces) [] stream rest later cut had stop stopped
     let either = goes_on other stream piece pieces cut.0 rest (no_end other stream (subst (λ (s : List ℕ). Stops other [] s) had stopped)) cut.1 cut.2 cut.3 in
     (either.2, sym either.1 ∙ sym had, inr (subst IsEitherWay either.1 either.0))
 agrees served other (piece ∷ pieces) (twin ∷ others) stream rest later cut had stop stopped =
-    at_piece (is_last piece) served other piece twin pieces others stream rest later cut had refl stop stopped (λ after. agrees served other pieces others after rest later)
+    at_piece (is_last piece) served other piece twin pieces others stream rest later cut had refl stop stopped (λ after.
+    agrees served other pieces others after rest later)
 
 -- the same, as `streams_are_determined` says it
 pub one_stream : (stream : List ℕ) (served other : Served) (pieces others : List Piece) (rest later : List ℕ)
     → IsCutWhole stream served pieces rest → IsCutWhole stream other others later → Agrees served other pieces others rest later
 one_stream stream served other pieces others rest later is_cut had_cut =
-    agrees served other pieces others stream rest later is_cut.cut had_cut.cut (stops served pieces rest is_cut.left is_cut.before is_cut.written is_cut.by_bytes is_cut.ends)
+    agrees served other pieces others stream rest later is_cut.cut had_cut.cut
+    (stops served pieces rest is_cut.left is_cut.before is_cut.written is_cut.by_bytes is_cut.ends)
     (stops other others later had_cut.left had_cut.before had_cut.written had_cut.by_bytes had_cut.ends)

@@ -5,14 +5,26 @@ use Rattle.http_serving.specs.Sends.{Sends, Sending}
 use Rattle.http_serving.specs.declared.send.Sent.{Sent}
 use Rattle.http_serving.specs.declared.send.Sent.TheVariants.{All, Fault, TurnLimit}
 
-sends_then : (before middle after head body : List ℕ) (result : Sent) → Sends before middle head All → Sends middle after body result → Sends before after (head ++ body) result
+sends_then : (before middle after head body : List ℕ) (result : Sent) → Sends before middle head All → Sends middle after body result
+    → Sends before after (head ++ body) result
 sends_then before middle after head body All first second = second ∙ ap (λ s. s ++ body) first ∙ append_assoc before head body
-sends_then before middle after head body Fault first second =
-    (head ++ second.0, second.1, ap (λ s. head ++ s) second.2 ∙ sym (append_assoc head second.0 second.1), second.3 ∙ ap (λ s. s ++ second.0) first ∙ append_assoc before head second.0)
-sends_then before middle after head body TurnLimit first second =
-    (head ++ second.0, second.1, ap (λ s. head ++ s) second.2 ∙ sym (append_assoc head second.0 second.1), second.3 ∙ ap (λ s. s ++ second.0) first ∙ append_assoc before head second.0)
+sends_then before middle after head body Fault first second = (
+  head ++ second.0,
+  second.1,
+  ap (λ s. head ++ s) second.2 ∙ sym (append_assoc head second.0 second.1),
+  second.3 ∙ ap (λ s.
+      s ++ second.0) first ∙ append_assoc before head second.0,
+)
+sends_then before middle after head body TurnLimit first second = (
+  head ++ second.0,
+  second.1,
+  ap (λ s. head ++ s) second.2 ∙ sym (append_assoc head second.0 second.1),
+  second.3 ∙ ap (λ s.
+      s ++ second.0) first ∙ append_assoc before head second.0,
+)
 
-pub sending_then : (old middle new : Option (List ℕ)) (head body : List ℕ) (result : Sent) → Sending old middle head All → Sending middle new body result → Sending old new (head ++ body) result
+pub sending_then : (old middle new : Option (List ℕ)) (head body : List ℕ) (result : Sent) → Sending old middle head All → Sending middle new body result
+    → Sending old new (head ++ body) result
 sending_then None middle new head body result first second = first
 sending_then (Some before) None new head body result first second = absurd first
 sending_then (Some before) (Some middle) None head body result first second = second

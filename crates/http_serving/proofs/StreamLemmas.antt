@@ -1,5 +1,6 @@
 -- Pieces of a stream, one after another.
-use Rattle.std.proofs.Common.{◌≡◌, ◌≢◌, ℕ, ◌≤◌, List, [], ◌∷◌, ◌++◌, length, Bool, true, false, ◌||◌, sym, refl, ap, ◌∙◌, subst, append_assoc, arith, length-append, inl, inr}
+use Rattle.std.proofs.Common.{◌≡◌, ◌≢◌, ℕ, ◌≤◌, List, [], ◌∷◌, ◌++◌, length, Bool, true, false, ◌||◌, sym, refl, ap, ◌∙◌, subst, append_assoc, arith}
+use Rattle.std.proofs.Common.{length-append, inl, inr}
 use Rattle.std.specs.Prelude.{Option, Some, None}
 use Rattle.std.specs.List.{list_any}
 use Rattle.std.proofs.lemmas.List.{append-nil}
@@ -10,7 +11,8 @@ use Rattle.httparse.specs.Spans.{RequestOverflows}
 use Rattle.httparse.proofs.GrammarLemmas.{request_unique}
 use Rattle.http_fields.specs.Fields.{body_size}
 use Rattle.http_fields.specs.declared.FrameRefusal.{FrameRefusal}
-use Rattle.http_frames.specs.Frames.{Request, LacksHead, HasBadHead, HasRequest, IsRefused, HasRefusedHead, head_limit, field_limit, IsUndecided, IsCutOff, headers_of}
+use Rattle.http_frames.specs.Frames.{Request, LacksHead, HasBadHead, HasRequest, IsRefused, HasRefusedHead, head_limit, field_limit, IsUndecided, IsCutOff}
+use Rattle.http_frames.specs.Frames.{headers_of}
 use Rattle.http_frames.proofs.FrameLemmas.{reads_more, reads_within, bad_overflowing}
 use Rattle.http_frames.specs.Buffers.{Keeps}
 use Rattle.http_serving.specs.Sends.{Sends, Sending}
@@ -19,7 +21,8 @@ use Rattle.http_serving.specs.declared.Served.{Served}
 use Rattle.http_replies.specs.Replies.{Answer, reply_text}
 use Rattle.http_replies.specs.Runs.{Machine, Runs}
 use Rattle.http_replies.proofs.RunLemmas.{runs_both}
-use Rattle.http_serving.specs.Streams.{outcome_of, StopsReading, StopsWriting, Piece, whole, refused, IsPiece, is_last, text_of, texts_of, turns_of, Cuts, IsOpen, Ends}
+use Rattle.http_serving.specs.Streams.{outcome_of, StopsReading, StopsWriting, Piece, whole, refused, IsPiece, is_last, text_of, texts_of, turns_of, Cuts}
+use Rattle.http_serving.specs.Streams.{IsOpen, Ends}
 use Rattle.http_serving.specs.Turns.{TakesTurns, Turning, IsTurn}
 
 -- a request stays one whatever bytes follow
@@ -28,7 +31,8 @@ request_more rest more request after has =
     let reads = reads_more rest more (request.body ++ after) request.head has.0.0 in
     ((subst (λ (s : List ℕ). ReadsRequest (rest ++ more) request.head s) (append_assoc request.body after more) reads, has.0.1), has.1)
 
-refused_head_more : (rest more : List ℕ) (refusal : FrameRefusal) (is_head : Bool) → HasRefusedHead rest refusal is_head → HasRefusedHead (rest ++ more) refusal is_head
+refused_head_more : (rest more : List ℕ) (refusal : FrameRefusal) (is_head : Bool) → HasRefusedHead rest refusal is_head
+    → HasRefusedHead (rest ++ more) refusal is_head
 refused_head_more rest more refusal is_head has =
     (has.0, has.1 ++ more, (reads_more rest more has.1 has.0 has.2.0, has.2.1), has.3, has.4)
 
@@ -65,7 +69,8 @@ one_cut : (rest after : List ℕ) (piece : Piece) → IsPiece rest piece after �
 one_cut rest after piece is_piece = (after, is_piece, (λ _. refl), refl)
 
 -- of one piece a front of the reply was written
-one_part : (before written sent unsent : List ℕ) (piece : Piece) → text_of piece ≡ sent ++ unsent → written ≡ before ++ sent → StopsWriting (piece ∷ []) before written
+one_part : (before written sent unsent : List ℕ) (piece : Piece) → text_of piece ≡ sent ++ unsent → written ≡ before ++ sent
+    → StopsWriting (piece ∷ []) before written
 one_part before written sent unsent piece text written_is = record {
   front = [];
   last = piece;
@@ -100,8 +105,10 @@ refused_turn rest next left before written refusal is_head Sent.TurnLimit is_ref
     piece_turn rest rest left before written (refused refusal is_head) true Sent.TurnLimit refl (is_refused, refl) sends
 
 -- a turn without a write
-quiet : (front window next : List ℕ) (left_old left_new written : Option (List ℕ)) (ended : Type 0) (result : Option Served) → Keeps front left_old window left_new ended
-    → ((left after before : List ℕ) → front ++ left ≡ window ++ after → (ended → after ≡ []) → TakesTurns result [] (front ++ left) (next ++ after) after before before)
+quiet : (front window next : List ℕ) (left_old left_new written : Option (List ℕ)) (ended : Type 0) (result : Option Served)
+    → Keeps front left_old window left_new ended
+    → ((left after before : List ℕ) → front ++ left ≡ window ++ after → (ended → after ≡ [])
+    → TakesTurns result [] (front ++ left) (next ++ after) after before before)
     → Turning front left_old next left_new written written result []
 quiet front window next None left_new written ended result keeps turn = tt
 quiet front window next (Some left) None None ended result keeps turn = tt
@@ -110,15 +117,18 @@ quiet front window next (Some left) (Some after) None ended result keeps turn = 
 quiet front window next (Some left) (Some after) (Some before) ended result keeps turn = turn left after before keeps.0 keeps.1
 
 -- a turn with a reply
-told : (front window next text : List ℕ) (left_old left_new written_old written_new : Option (List ℕ)) (ended : Type 0) (sent : Sent) (result : Option Served) (pieces : List Piece)
+told : (front window next text : List ℕ) (left_old left_new written_old written_new : Option (List ℕ)) (ended : Type 0) (sent : Sent) (result : Option Served)
+    (pieces : List Piece)
     → Keeps front left_old window left_new ended → Sending written_old written_new text sent
-    → ((left after before written : List ℕ) → front ++ left ≡ window ++ after → Sends before written text sent → TakesTurns result pieces (front ++ left) (next ++ after) after before written)
+    → ((left after before written : List ℕ) → front ++ left ≡ window ++ after → Sends before written text sent
+    → TakesTurns result pieces (front ++ left) (next ++ after) after before written)
     → Turning front left_old next left_new written_old written_new result pieces
 told front window next text None left_new written_old written_new ended sent result pieces keeps sends turn = tt
 told front window next text (Some left) left_new None written_new ended sent result pieces keeps sends turn = tt
 told front window next text (Some left) None (Some before) written_new ended sent result pieces keeps sends turn = absurd keeps
 told front window next text (Some left) (Some after) (Some before) None ended sent result pieces keeps sends turn = absurd sends
-told front window next text (Some left) (Some after) (Some before) (Some written) ended sent result pieces keeps sends turn = turn left after before written keeps.0 sends
+told front window next text (Some left) (Some after) (Some before) (Some written) ended sent result pieces keeps sends turn =
+    turn left after before written keeps.0 sends
 
 -- the bytes ended inside a request
 pub turn_cut : (front window next : List ℕ) (left_old left_new written : Option (List ℕ)) → Keeps front left_old window left_new (Unit {0}) → IsCutOff window
@@ -149,22 +159,26 @@ turn_limit front window next left_old left_new written keeps undecided =
     (λ left after before same ended. (front ++ left, refl, inl (stops front window left after before same undecided)))
 
 -- a refusal and its reply, or a front of the reply
-pub turn_refused : (front window next : List ℕ) (left_old left_new written_old written_new : Option (List ℕ)) (refusal : FrameRefusal) (is_head : Bool) (sent : Sent)
+pub turn_refused : (front window next : List ℕ) (left_old left_new written_old written_new : Option (List ℕ)) (refusal : FrameRefusal) (is_head : Bool)
+    (sent : Sent)
     → Keeps front left_old window left_new ⊥ → IsRefused window refusal is_head → Sending written_old written_new (text_of (refused refusal is_head)) sent
     → Turning front left_old next left_new written_old written_new (outcome_of sent true) (refused refusal is_head ∷ [])
 turn_refused front window next left_old left_new written_old written_new refusal is_head sent keeps is_refused sends =
-    told front window next (text_of (refused refusal is_head)) left_old left_new written_old written_new ⊥ sent (outcome_of sent true) (refused refusal is_head ∷ []) keeps sends
+    told front window next (text_of (refused refusal is_head)) left_old left_new written_old written_new ⊥ sent (outcome_of sent true)
+    (refused refusal is_head ∷ []) keeps sends
     (λ left after before written same sends.
     refused_turn (front ++ left) (next ++ after) after before written refusal is_head sent
     (subst (λ (s : List ℕ). IsRefused s refusal is_head) (sym same) (refused_more window after refusal is_head is_refused)) sends)
 
 -- a request and its reply, or a front of the reply
-pub turn_whole : (front window next : List ℕ) (left_old left_new written_old written_new : Option (List ℕ)) (request : Request) (answer : Answer) (last : Bool) (sent : Sent)
+pub turn_whole : (front window next : List ℕ) (left_old left_new written_old written_new : Option (List ℕ)) (request : Request) (answer : Answer) (last : Bool)
+    (sent : Sent)
     → Keeps front left_old window left_new ⊥ → HasRequest window request next → last ≡ is_last (whole request answer)
     → Sending written_old written_new (text_of (whole request answer)) sent
     → Turning front left_old next left_new written_old written_new (outcome_of sent last) (whole request answer ∷ [])
 turn_whole front window next left_old left_new written_old written_new request answer last sent keeps has last_is sends =
-    told front window next (text_of (whole request answer)) left_old left_new written_old written_new ⊥ sent (outcome_of sent last) (whole request answer ∷ []) keeps sends
+    told front window next (text_of (whole request answer)) left_old left_new written_old written_new ⊥ sent (outcome_of sent last)
+    (whole request answer ∷ []) keeps sends
     (λ left after before written same sends.
     piece_turn (front ++ left) (next ++ after) after before written (whole request answer) last sent (sym last_is)
     (subst (λ (s : List ℕ). HasRequest s request (next ++ after)) (sym same) (request_more window after request next has)) sends)
@@ -179,7 +193,8 @@ is_turn Sent.TurnLimit last piece = omega arith
 list_any_both : (p q : List Piece) (a b : Bool) → list_any is_last p ≡ a → list_any is_last q ≡ b → list_any is_last (p ++ q) ≡ (a || b)
 list_any_both p q a b e f = list_any-append is_last p q ∙ (λ i. e i || f i)
 
-texts_both : (p q : List Piece) (before middle written : List ℕ) → middle ≡ before ++ texts_of p → written ≡ middle ++ texts_of q → written ≡ before ++ texts_of (p ++ q)
+texts_both : (p q : List Piece) (before middle written : List ℕ) → middle ≡ before ++ texts_of p → written ≡ middle ++ texts_of q
+    → written ≡ before ++ texts_of (p ++ q)
 texts_both p q before middle written e f =
     f ∙ ap (λ s. s ++ texts_of q) e ∙ append_assoc before (texts_of p) (texts_of q) ∙ ap (λ s. before ++ s) (sym (flat_map-append text_of p q))
 
@@ -191,7 +206,8 @@ cuts_both stream (p ∷ pieces) rest others after cut open_pieces more =
     let closed = or_split (is_last p) (list_any is_last pieces) open_pieces in
     (cut.0, cut.1, (λ yes. let no = closed.0 in absurd cc), cuts_both cut.0 pieces rest others after cut.3 closed.1 more)
 
-reading_both : (p q : List Piece) (rest left before middle written : List ℕ) → IsOpen p → middle ≡ before ++ texts_of p → StopsReading q rest left middle written → StopsReading (p ++ q) rest left before written
+reading_both : (p q : List Piece) (rest left before middle written : List ℕ) → IsOpen p → middle ≡ before ++ texts_of p
+    → StopsReading q rest left middle written → StopsReading (p ++ q) rest left before written
 reading_both p q rest left before middle written open_pieces told stop = record {
   open_pieces = list_any_both p q false false open_pieces stop.open_pieces;
   held = stop.held;
@@ -200,7 +216,8 @@ reading_both p q rest left before middle written open_pieces told stop = record 
   written_is = texts_both p q before middle written told stop.written_is;
 }
 
-writing_both : (p q : List Piece) (before middle written : List ℕ) → middle ≡ before ++ texts_of p → StopsWriting q middle written → StopsWriting (p ++ q) before written
+writing_both : (p q : List Piece) (before middle written : List ℕ) → middle ≡ before ++ texts_of p → StopsWriting q middle written
+    → StopsWriting (p ++ q) before written
 writing_both p q before middle written told stop = record {
   front = p ++ stop.front;
   last = stop.last;
@@ -211,7 +228,8 @@ writing_both p q before middle written told stop = record {
   written_is = stop.written_is ∙ ap (λ s. s ++ stop.sent) (texts_both p stop.front before middle (middle ++ texts_of stop.front) told refl);
 }
 
-ends_both : (served : Served) (p q : List Piece) (rest left before middle written : List ℕ) → IsOpen p → middle ≡ before ++ texts_of p → served ≢ Served.NoMemory
+ends_both : (served : Served) (p q : List Piece) (rest left before middle written : List ℕ) → IsOpen p → middle ≡ before ++ texts_of p
+    → served ≢ Served.NoMemory
     → Ends served q rest left middle written → Ends served (p ++ q) rest left before written
 ends_both Served.Ended p q rest left before middle written open_pieces told some ends =
     (list_any_both p q false false open_pieces ends.0, ends.1, texts_both p q before middle written told ends.2)
@@ -219,17 +237,23 @@ ends_both Served.Closed p q rest left before middle written open_pieces told som
     (list_any_both p q false true open_pieces ends.0, texts_both p q before middle written told ends.1)
 ends_both Served.Cut p q rest left before middle written open_pieces told some ends =
     (list_any_both p q false false open_pieces ends.0, ends.1, texts_both p q before middle written told ends.2)
-ends_both Served.ReadFault p q rest left before middle written open_pieces told some ends = reading_both p q rest left before middle written open_pieces told ends
+ends_both Served.ReadFault p q rest left before middle written open_pieces told some ends =
+    reading_both p q rest left before middle written open_pieces told ends
 ends_both Served.WriteFault p q rest left before middle written open_pieces told some ends = writing_both p q before middle written told ends
-ends_both Served.TurnLimit p q rest left before middle written open_pieces told some (inl ends) = inl (reading_both p q rest left before middle written open_pieces told ends)
+ends_both Served.TurnLimit p q rest left before middle written open_pieces told some (inl ends) =
+    inl (reading_both p q rest left before middle written open_pieces told ends)
 ends_both Served.TurnLimit p q rest left before middle written open_pieces told some (inr ends) = inr (writing_both p q before middle written told ends)
 ends_both Served.NoMemory p q rest left before middle written open_pieces told some ends = absurd (some refl)
 
 -- some pieces, and then a turn
 takes_both : (result : Option Served) (p q : List Piece) (stream rest next left before middle written : List ℕ) → result ≢ Some Served.NoMemory
-    → Cuts stream p rest → IsOpen p → middle ≡ before ++ texts_of p → TakesTurns result q rest next left middle written → TakesTurns result (p ++ q) stream next left before written
-takes_both None p q stream rest next left before middle written some cut open_pieces told turns =
-    (cuts_both stream p rest q next cut open_pieces turns.0, list_any_both p q false false open_pieces turns.1, texts_both p q before middle written told turns.2)
+    → Cuts stream p rest → IsOpen p → middle ≡ before ++ texts_of p → TakesTurns result q rest next left middle written
+    → TakesTurns result (p ++ q) stream next left before written
+takes_both None p q stream rest next left before middle written some cut open_pieces told turns = (
+  cuts_both stream p rest q next cut open_pieces turns.0,
+  list_any_both p q false false open_pieces turns.1,
+  texts_both p q before middle written told turns.2,
+)
 takes_both (Some served) p q stream rest next left before middle written some cut open_pieces told turns = (
   turns.0,
   cuts_both stream p rest q turns.0 cut open_pieces turns.1,
@@ -237,7 +261,8 @@ takes_both (Some served) p q stream rest next left before middle written some cu
 )
 
 -- some turns, and then others
-pub turning_both : (result : Option Served) (p q : List Piece) (front next further : List ℕ) (left_old left_mid left_new written_old written_mid written_new : Option (List ℕ)) → result ≢ Some Served.NoMemory
+pub turning_both : (result : Option Served) (p q : List Piece) (front next further : List ℕ)
+    (left_old left_mid left_new written_old written_mid written_new : Option (List ℕ)) → result ≢ Some Served.NoMemory
     → Turning front left_old next left_mid written_old written_mid None p → Turning next left_mid further left_new written_mid written_new result q
     → Turning front left_old further left_new written_old written_new result (p ++ q)
 turning_both result p q front next further None lm ln wo wm wn some first second = tt
@@ -276,7 +301,8 @@ same_front (x ∷ p) (y ∷ q) a b e f =
     let same = same_front p q a b (omega arith) tail in
     ((λ i. head i ∷ same.0 i), same.1)
 
-pub one_request : (rest : List ℕ) (request other : Request) (after later : List ℕ) → HasRequest rest request after → HasRequest rest other later → (request ≡ other) × (after ≡ later)
+pub one_request : (rest : List ℕ) (request other : Request) (after later : List ℕ) → HasRequest rest request after → HasRequest rest other later
+    → (request ≡ other) × (after ≡ later)
 one_request rest request other after later has had =
     let heads = request_unique rest request.head other.head (request.body ++ after) (other.body ++ later) has.0.0 had.0.0 in
     let sizes = sym has.1 ∙ ap (λ h. body_size (headers_of h)) heads.0 ∙ had.1 in

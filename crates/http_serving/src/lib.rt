@@ -7,7 +7,8 @@ ghost use Rattle.http_replies.specs.Runs.{Runs};
 ghost use Rattle.http_frames.specs.Frames.{Request, HasRequest};
 ghost use Rattle.http_frames.specs.Looks.{IsFrameAt};
 ghost use Rattle.http_frames.specs.Buffers.{unread};
-ghost use Rattle.http_serving.specs.Streams.{Piece, refusal_answer, turns_of, Tells, outcome_of, read_faults, write_faults};
+ghost use Rattle.http_serving.specs.Streams.{Piece, refusal_answer, turns_of, Tells, outcome_of};
+ghost use Rattle.http_serving.specs.Streams.{read_faults, write_faults};
 ghost use Rattle.http_serving.specs.Turns.{Turning, IsTurn};
 ghost use Rattle.http_serving.specs.Determined.{cut_of, requests_of, IsCutWhole, IsEitherWay};
 
@@ -47,7 +48,8 @@ pub trait Service<S> {
 
     /// Answers the request that stands in the buffer.
     fn answer(&self, state: &mut S, frame: Frame, buffer: &Buffer) -> Reply
-        requires { (request : Request) × IsFrameAt buffer.now.window buffer.now.spans frame request }
+        requires { (request : Request) × IsFrameAt buffer.now.window buffer.now.spans frame
+            request }
         ensures { (request : Request) → IsFrameAt buffer.now.window buffer.now.spans frame request
             → steps self.now state.old request (answer_of result) state.new };
 }
@@ -103,7 +105,8 @@ fn serve_turn<S, V: Service<S>, R: Source, W: Drain>(
         × Turning (unread buffer.old) (R.left reader.old) (unread buffer.new) (R.left reader.new)
         (W.written writer.old) (W.written writer.new) result pieces
         × Runs (V.steps service.now) state.old (turns_of pieces) state.new }
-    ensures calls { R.calls reader.new + W.calls writer.new + buffer.old.calls ≡ R.calls reader.old + W.calls writer.old + buffer.new.calls }
+    ensures calls { R.calls reader.new + W.calls writer.new + buffer.old.calls
+        ≡ R.calls reader.old + W.calls writer.old + buffer.new.calls }
     ensures reader_calls { R.calls reader.old ≤ R.calls reader.new }
     ensures writer_calls { W.calls writer.old ≤ W.calls writer.new }
     ensures more { result ≡ None → buffer.old.calls < buffer.new.calls }
@@ -142,21 +145,30 @@ fn serve_turn<S, V: Service<S>, R: Source, W: Drain>(
 
 /// At most one whole request stands at the front of a stream, so that the pieces of a stream are determined by its bytes.
 pub fn requests_are_unique()
-    ensures { (rest : List ℕ) (request other : Request) (after later : List ℕ) → HasRequest rest request after
+    ensures { (rest : List ℕ) (request other : Request) (after later : List ℕ)
+        → HasRequest rest request after
         → HasRequest rest other later → (request ≡ other) × (after ≡ later) }
 {}
 
-/// Where the bytes alone end a stream, they decide its requests and what follows them, however they were read, and also its refusals and how it ends. The one exception to the latter is a rest that is part of a head and never becomes one with few enough fields: it may be refused, or be cut off where the stream ends.
+/// Where the bytes alone end a stream, they decide its requests and what follows them, however they
+/// were read, and also its refusals and how it ends. The one exception to the latter is a rest that
+/// is part of a head and never becomes one with few enough fields: it may be refused, or be cut off
+/// where the stream ends.
 pub fn streams_are_determined()
-    ensures { (stream : List ℕ) (served other : Served) (pieces others : List Piece) (rest later : List ℕ)
+    ensures { (stream : List ℕ) (served other : Served) (pieces others : List Piece)
+        (rest later : List ℕ)
         → IsCutWhole stream served pieces rest → IsCutWhole stream other others later
         → (requests_of pieces ≡ requests_of others) × (rest ≡ later)
         × (((served ≡ other) × (map cut_of pieces ≡ map cut_of others)) ⊎ IsEitherWay rest) }
 {}
 
-/// Serves a stream until it ends, and answers how it did. It takes memory once, for its buffer, and makes the room for the heads of the replies beside it, both before the first read.
+/// Serves a stream until it ends, and answers how it did. It takes memory once, for its buffer, and
+/// makes the room for the heads of the replies beside it, both before the first read.
 ///
-/// Whatever the reader and the writer tell of their bytes, the state goes by steps of the service, one for each request among the pieces in turn, with the answer that the piece has (`Runs`). Where both tell them, the stream begins with these pieces, and what is written is the replies to them, up to where the stream ended (`Tells`).
+/// Whatever the reader and the writer tell of their bytes, the state goes by steps of the service,
+/// one for each request among the pieces in turn, with the answer that the piece has (`Runs`).
+/// Where both tell them, the stream begins with these pieces, and what is written is the replies to
+/// them, up to where the stream ended (`Tells`).
 pub fn serve_stream<S, V: Service<S>, R: Source, W: Drain>(
     alloc: Global,
     service: &V,
@@ -170,11 +182,16 @@ pub fn serve_stream<S, V: Service<S>, R: Source, W: Drain>(
         × Tells (R.left reader.old) (R.left reader.new)
         (W.written writer.old) (W.written writer.new) result pieces
         × Runs (V.steps service.now) state.old (turns_of pieces) state.new }
-    ensures calls { R.calls reader.new + W.calls writer.new ≤ R.calls reader.old + W.calls writer.old + CALL_LIMIT }
-    ensures limit { result ≡ Served.TurnLimit → R.calls reader.new + W.calls writer.new ≡ R.calls reader.old + W.calls writer.old + CALL_LIMIT }
-    ensures read_faults { R.failures reader.new ≡ R.failures reader.old + read_faults (Some result) }
-    ensures write_faults { W.failures writer.new ≡ W.failures writer.old + write_faults (Some result) }
-    ensures no_memory { result ≡ Served.NoMemory → (R.calls reader.new ≡ R.calls reader.old) × (W.calls writer.new ≡ W.calls writer.old) }
+    ensures calls { R.calls reader.new + W.calls writer.new ≤ R.calls reader.old + W.calls
+        writer.old + CALL_LIMIT }
+    ensures limit { result ≡ Served.TurnLimit → R.calls reader.new + W.calls writer.new
+        ≡ R.calls reader.old + W.calls writer.old + CALL_LIMIT }
+    ensures read_faults { R.failures reader.new ≡ R.failures reader.old + read_faults
+        (Some result) }
+    ensures write_faults { W.failures writer.new ≡ W.failures writer.old + write_faults
+        (Some result) }
+    ensures no_memory { result ≡ Served.NoMemory → (R.calls reader.new ≡ R.calls reader.old)
+        × (W.calls writer.new ≡ W.calls writer.old) }
     ensures unserved { result ≡ Served.NoMemory → state.new ≡ state.old }
 {
     let mut buffer = match Buffer::new(alloc) {

@@ -1,6 +1,7 @@
 //! Writes replies, and counts the calls of the writer.
 
-ghost use Rattle.std.specs.Prelude.{◌≡◌, ℕ, ◌+◌, ◌-◌, ◌<◌, ◌≤◌, ◌^◌, ◌++◌, length, Bool, if◌then◌else◌, []};
+ghost use Rattle.std.specs.Prelude.{◌≡◌, ℕ, ◌+◌, ◌-◌, ◌<◌, ◌≤◌, ◌^◌, ◌++◌, length, Bool};
+ghost use Rattle.std.specs.Prelude.{if◌then◌else◌, []};
 ghost use Rattle.http_replies.specs.Replies.{answer_of, reply_text};
 ghost use Rattle.http_serving.specs.Sends.{Sending, sent_faults};
 
@@ -55,7 +56,8 @@ pub fn write_reply<W: Drain>(
     flags: Flags,
 ) -> Sent
     requires { W.calls writer.old + 2 ^ 25 < 2 ^ 64 + buffer.old.calls }
-    ensures sent { Sending (W.written writer.old) (W.written writer.new) (reply_text (answer_of reply.now) flags.is_head flags.is_last) result }
+    ensures sent { Sending (W.written writer.old) (W.written writer.new)
+        (reply_text (answer_of reply.now) flags.is_head flags.is_last) result }
     ensures kept { buffer.new ≡ record buffer.old { calls = buffer.new.calls } }
     ensures calls { W.calls writer.new + buffer.old.calls ≡ W.calls writer.old + buffer.new.calls }
     ensures more { buffer.old.calls ≤ buffer.new.calls }

@@ -1,6 +1,8 @@
 -- Free blocks of addresses.
-use Rattle.std.proofs.Common.{◌≡◌, ℕ, ◌+◌, ◌<◌, ◌≤◌, max, Bool, true, false, not, List, [], ◌∷◌, Some, None, find, slice_index_or, All, inl, inr, refl, ap, sym, ◌∙◌, arith}
-use Rattle.std.proofs.lemmas.Bool.{cases_Bool, lt-ltb, ltb-true, le-leb, leb-true, not-true, and_from, and_parts, both_ways, false_from_ne_true, or_left, or_right, or_from}
+use Rattle.std.proofs.Common.{◌≡◌, ℕ, ◌+◌, ◌<◌, ◌≤◌, max, Bool, true, false, not, List, [], ◌∷◌, Some, None, find, slice_index_or, All, inl, inr, refl, ap}
+use Rattle.std.proofs.Common.{sym, ◌∙◌, arith}
+use Rattle.std.proofs.lemmas.Bool.{cases_Bool, lt-ltb, ltb-true, le-leb, leb-true, not-true, and_from, and_parts, both_ways, false_from_ne_true, or_left}
+use Rattle.std.proofs.lemmas.Bool.{or_right, or_from}
 use Rattle.std.proofs.lemmas.List.Folds.{list_any_at, list_any_none}
 use Rattle.std.proofs.lemmas.Option.{none-some, same_Some}
 use Rattle.std.specs.List.{list_any}
@@ -53,7 +55,8 @@ pub IsIn-from_is_in : (interval : ℕ × ℕ) (mac : ℕ) → is_in interval mac
 IsIn-from_is_in interval mac h = let parts = and_parts _ _ h in (leb-true _ _ parts.0, ltb-true _ _ parts.1)
 
 -- an address of a block that is in an interval shows that the block isn't free
-pub not_free-from_IsIn : (intervals : List (ℕ × ℕ)) (start count mac : ℕ) → IsIn (start, count) mac → list_any (λ interval. is_in interval mac) intervals ≡ true → is_free intervals count start ≡ false
+pub not_free-from_IsIn : (intervals : List (ℕ × ℕ)) (start count mac : ℕ) → IsIn (start, count) mac → list_any (λ interval.
+    is_in interval mac) intervals ≡ true → is_free intervals count start ≡ false
 not_free-from_IsIn intervals start count mac inside taken =
     false_from_ne_true _ (λ free.
     both_ways _ (not-true _ (in_list_all-range (λ m. not (list_any (λ interval. is_in interval m) intervals)) start count mac free inside.0 inside.1)) taken)
@@ -61,7 +64,8 @@ not_free-from_IsIn intervals start count mac inside taken =
 -- no address of a free block is in an interval
 pub apart-from_free : (intervals : List (ℕ × ℕ)) (start count : ℕ) → is_free intervals count start ≡ true → All (IsApart (start, count)) intervals
 apart-from_free intervals start count free = λ k d below mac one other.
-    both_ways _ (not_free-from_IsIn intervals start count mac one (list_any_at (λ interval. is_in interval mac) intervals k d below (is_in-from_IsIn _ mac other))) free
+    both_ways _ (not_free-from_IsIn intervals start count mac one
+    (list_any_at (λ interval. is_in interval mac) intervals k d below (is_in-from_IsIn _ mac other))) free
 
 -- a block is free if none of its addresses is in an interval
 pub free-from_apart : (intervals : List (ℕ × ℕ)) (start count : ℕ) → All (IsApart (start, count)) intervals → is_free intervals count start ≡ true
@@ -71,20 +75,24 @@ free-from_apart intervals start count apart =
     false_from_ne_true _ (λ passes. apart k d below mac (low, high) (IsIn-from_is_in (slice_index_or intervals k d) mac passes)))))
 
 -- where an interval meets a block, no block of that length from the first one's start to the interval's end is free
-pub not_free_later : (intervals : List (ℕ × ℕ)) (start count k : ℕ) (interval : ℕ × ℕ) → 1 ≤ count → find (meets (start, count)) intervals ≡ Some interval → start ≤ k → k < interval.0 + interval.1 → is_free intervals count k ≡ false
+pub not_free_later : (intervals : List (ℕ × ℕ)) (start count k : ℕ) (interval : ℕ × ℕ) → 1 ≤ count → find (meets (start, count)) intervals ≡ Some interval
+    → start ≤ k → k < interval.0 + interval.1 → is_free intervals count k ≡ false
 not_free_later intervals start count k interval some found low high =
     let met = IsIn-from_meets (start, count) interval (find-passes (meets (start, count)) intervals interval found) in
     let mac : ℕ = max k interval.0 in
     let inside : IsIn interval mac = (omega arith, omega arith) in
-    not_free-from_IsIn intervals k count mac (omega arith, omega arith) (list_any-from_find (meets (start, count)) (λ i. is_in i mac) intervals interval found (is_in-from_IsIn interval mac inside))
+    not_free-from_IsIn intervals k count mac (omega arith, omega arith)
+    (list_any-from_find (meets (start, count)) (λ i. is_in i mac) intervals interval found (is_in-from_IsIn interval mac inside))
 
 -- a block that no interval meets is free
 pub free_from_none : (intervals : List (ℕ × ℕ)) (start count : ℕ) → find (meets (start, count)) intervals ≡ None → is_free intervals count start ≡ true
 free_from_none intervals start count none =
     free-from_apart intervals start count (λ k d below mac one other.
-    both_ways _ (list_any-from_none (meets (start, count)) intervals none) (list_any_at (meets (start, count)) intervals k d below (meets-from_IsIn (start, count) (slice_index_or intervals k d) mac one other)))
+    both_ways _ (list_any-from_none (meets (start, count)) intervals none)
+    (list_any_at (meets (start, count)) intervals k d below (meets-from_IsIn (start, count) (slice_index_or intervals k d) mac one other)))
 
 -- the end of an interval that meets a block is past the block's start
-pub end_past_start : (intervals : List (ℕ × ℕ)) (start count : ℕ) (interval : ℕ × ℕ) → find (meets (start, count)) intervals ≡ Some interval → start < interval.0 + interval.1
+pub end_past_start : (intervals : List (ℕ × ℕ)) (start count : ℕ) (interval : ℕ × ℕ) → find (meets (start, count)) intervals ≡ Some interval
+    → start < interval.0 + interval.1
 end_past_start intervals start count interval found =
     let met = ltb-true _ _ (find-passes (meets (start, count)) intervals interval found) in omega arith

@@ -7,3 +7,4 @@ pub mod Pools
 pub mod Ranges
 pub mod ReservedStart
 pub mod Texts
+pub mod Times

@@ -1,5 +1,6 @@
 -- A hardware address has one text, from which it is read back.
-use Rattle.std.proofs.Common.{◌≡◌, ℕ, zero, suc, ◌+◌, ◌-◌, ◌*◌, ◌/◌, ◌%◌, ◌^◌, ◌<◌, ◌≤◌, inl, inr, Bool, true, false, cond, nat_le, List, [], ◌∷◌, ◌++◌, length, map, replicate, Option, Some, None, Result, Ok, Err, refl, sym, ap, ◌∙◌, subst, arith, append-nil}
+use Rattle.std.proofs.Common.{◌≡◌, ℕ, zero, suc, ◌+◌, ◌-◌, ◌*◌, ◌/◌, ◌%◌, ◌^◌, ◌<◌, ◌≤◌, inl, inr, Bool, true, false, cond, nat_le, List, [], ◌∷◌, ◌++◌}
+use Rattle.std.proofs.Common.{length, map, replicate, Option, Some, None, Result, Ok, Err, refl, sym, ap, ◌∙◌, subst, arith, append-nil}
 use Rattle.std.specs.Fmt.{digit_glyph, digits_onto}
 use Rattle.std.specs.Int.Digits.{number_from_digits, number_from_digits_after, AllBelowBase}
 use Rattle.std.specs.List.{list_all}
@@ -86,7 +87,8 @@ ends_number (suc k) n acc low =
     ends_number k (n / 16) (n % 16 ∷ acc) (omega (arith, pow-suc 16 k)) ∙ ap (λ m. number_from_digits_after 16 m acc) whole
 
 -- the text of the number that digits write
-spell_number : (ds : List ℕ) → AllBelowBase 16 ds → (k n : ℕ) (acc : List ℕ) → spell (length ds + k) (number_from_digits_after 16 n ds) acc ≡ spell k n (map glyph ds ++ acc)
+spell_number : (ds : List ℕ) → AllBelowBase 16 ds → (k n : ℕ) (acc : List ℕ)
+    → spell (length ds + k) (number_from_digits_after 16 n ds) acc ≡ spell k n (map glyph ds ++ acc)
 spell_number [] low k n acc = let none : 0 + k ≡ k = omega arith in ap (λ m. spell m n acc) none
 spell_number (d ∷ ds) low k n acc =
     let high : (n * 16 + d) / 16 ≡ n = omega (arith, low.0) in

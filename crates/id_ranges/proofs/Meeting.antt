@@ -40,8 +40,11 @@ meets_from_test a b h =
     let outer = and_parts (bytes_eq a.prefix b.prefix && (a.width == b.width)) shared h in
     let inner = and_parts (bytes_eq a.prefix b.prefix) (a.width == b.width) outer.0 in
     let found = some_passes (is_of b) a.first a.quantity outer.1 in
-    let other = and_parts (nat_le b.first found.0) (nat_lt found.0 (b.first + b.quantity)) found.3 in
-    ((bytes_eq-Decides a.prefix b.prefix).0 inner.0, (Decides-eqb a.width b.width).0 inner.1, (found.0, (found.1, found.2), (leb-true _ _ other.0, ltb-true _ _ other.1)))
+    let other = and_parts (nat_le b.first found.0) (nat_lt found.0 (b.first + b.quantity)) found.3 in (
+      (bytes_eq-Decides a.prefix b.prefix).0 inner.0,
+      (Decides-eqb a.width b.width).0 inner.1,
+      (found.0, (found.1, found.2), (leb-true _ _ other.0, ltb-true _ _ other.1)),
+    )
 
 -- ranges that meet pass it
 pub test_from_meets : (a b : Range) → Meets a b → meets a b ≡ true

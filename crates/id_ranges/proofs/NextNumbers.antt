@@ -1,5 +1,6 @@
 -- The next number of a range.
-use Rattle.std.proofs.Common.{◌≡◌, ℕ, suc, zero, ◌+◌, ◌<◌, ◌≤◌, nat_le, Bool, true, false, ◌&&◌, Option, Some, None, find, option_map, inl, inr, refl, sym, ap, arith}
+use Rattle.std.proofs.Common.{◌≡◌, ℕ, suc, zero, ◌+◌, ◌<◌, ◌≤◌, nat_le, Bool, true, false, ◌&&◌, Option, Some, None, find, option_map, inl, inr, refl, sym, ap}
+use Rattle.std.proofs.Common.{arith}
 use Rattle.std.proofs.lemmas.Bool.{both_ways, cases_Bool, cases_lt, and_parts, le-leb, leb-true, not-true, false_from_ne_true}
 use Rattle.std.proofs.lemmas.Option.{none-some, same_Some}
 use Rattle.std.specs.List.{range_with_len}
@@ -10,7 +11,8 @@ use Rattle.id_ranges.proofs.FreeBlocks.{find-passes}
 use Rattle.id_ranges.proofs.Ranges.{fails-from_find, find-range_some, find-range_none, in_range-from_find}
 
 -- two tests that agree on a range find the same in it
-find-range_same : (p q : ℕ → Bool) (first count : ℕ) → ((k : ℕ) → first ≤ k → k < first + count → p k ≡ q k) → find p (range_with_len first count) ≡ find q (range_with_len first count)
+find-range_same : (p q : ℕ → Bool) (first count : ℕ) → ((k : ℕ) → first ≤ k → k < first + count → p k ≡ q k)
+    → find p (range_with_len first count) ≡ find q (range_with_len first count)
 find-range_same p q first zero same = refl
 find-range_same p q first (suc n) same =
     rw (same first (omega arith) (omega arith), find-range_same p q (first + 1) n (λ k low high. same k (omega arith) (omega arith))) refl
@@ -30,7 +32,8 @@ taken cursor given r k is =
     ]
 
 -- a cursor that skips given numbers alone
-pub cursor_skips : (cursor : ℕ) (given : TextSet) (r : Range) → ((n : ℕ) → Has r n → n < cursor → given (text_of r n) ≡ true) → next_serial_from cursor given r ≡ next_serial given r
+pub cursor_skips : (cursor : ℕ) (given : TextSet) (r : Range) → ((n : ℕ) → Has r n → n < cursor → given (text_of r n) ≡ true)
+    → next_serial_from cursor given r ≡ next_serial given r
 cursor_skips cursor given r all =
     ap (option_map (with_text r)) (find-range_same (λ n. nat_le cursor n && is_unused given r n) (is_unused given r) r.first r.quantity (λ k low high.
     elim (cases_lt k cursor) [
@@ -39,14 +42,16 @@ cursor_skips cursor given r all =
     ]))
 
 -- the first number from the cursor on that isn't given is the next one
-pub next_here : (cursor : ℕ) (given : TextSet) (r : Range) (n : ℕ) → Has r n → cursor ≤ n → given (text_of r n) ≡ false → ((k : ℕ) → r.first ≤ k → cursor ≤ k → k < n → given (text_of r k) ≡ true) → next_serial_from cursor given r ≡ Some (n, text_of r n)
+pub next_here : (cursor : ℕ) (given : TextSet) (r : Range) (n : ℕ) → Has r n → cursor ≤ n → given (text_of r n) ≡ false
+    → ((k : ℕ) → r.first ≤ k → cursor ≤ k → k < n → given (text_of r k) ≡ true) → next_serial_from cursor given r ≡ Some (n, text_of r n)
 next_here cursor given r n has high free before =
     let passes : (nat_le cursor n && is_unused given r n) ≡ true = rw (le-leb cursor n high, free) refl in
     ap (option_map (with_text r)) (find-range_some (λ k. nat_le cursor k && is_unused given r k) r.first r.quantity n has.0 has.1 passes (λ j above low.
     taken cursor given r j (λ from. before j above from low)))
 
 -- where each number from the cursor on is given there is none
-pub next_none : (cursor : ℕ) (given : TextSet) (r : Range) → ((k : ℕ) → r.first ≤ k → cursor ≤ k → k < r.first + r.quantity → given (text_of r k) ≡ true) → next_serial_from cursor given r ≡ None
+pub next_none : (cursor : ℕ) (given : TextSet) (r : Range) → ((k : ℕ) → r.first ≤ k → cursor ≤ k → k < r.first + r.quantity → given (text_of r k) ≡ true)
+    → next_serial_from cursor given r ≡ None
 next_none cursor given r all =
     ap (option_map (with_text r)) (find-range_none (λ k. nat_le cursor k && is_unused given r k) r.first r.quantity (λ j above low.
     taken cursor given r j (λ from. all j above from low)))
@@ -74,7 +79,8 @@ found_none r None none = refl
 found_none r (Some m) none = absurd (none-some (m, text_of r m) (sym none))
 
 -- a number from the cursor on that isn't taken is given
-given-from_fails : (cursor : ℕ) (given : TextSet) (r : Range) (k : ℕ) → cursor ≤ k → (nat_le cursor k && is_unused given r k) ≡ false → given (text_of r k) ≡ true
+given-from_fails : (cursor : ℕ) (given : TextSet) (r : Range) (k : ℕ) → cursor ≤ k → (nat_le cursor k && is_unused given r k) ≡ false
+    → given (text_of r k) ≡ true
 given-from_fails cursor given r k high fails =
     elim (cases_Bool (given (text_of r k))) [
       | inl is ↦ is
@@ -84,7 +90,8 @@ given-from_fails cursor given r k high fails =
     ]
 
 -- the next serial number is that of the least number that isn't given
-pub next_is_least : (cursor : ℕ) (given : TextSet) (r : Range) (n : ℕ) → next_serial_from cursor given r ≡ Some (n, text_of r n) → IsLeastUnused cursor given r n
+pub next_is_least : (cursor : ℕ) (given : TextSet) (r : Range) (n : ℕ) → next_serial_from cursor given r ≡ Some (n, text_of r n)
+    → IsLeastUnused cursor given r n
 next_is_least cursor given r n next =
     let p : ℕ → Bool = λ k. nat_le cursor k && is_unused given r k in
     let found : find p (range_with_len r.first r.quantity) ≡ Some n = found_number r n (find p (range_with_len r.first r.quantity)) next in
@@ -96,12 +103,14 @@ next_is_least cursor given r n next =
       least = λ k has from low. given-from_fails cursor given r k from (fails-before_found p r.first r.quantity n k found has.0 low);
     }
 
-pub least_is_next : (cursor : ℕ) (given : TextSet) (r : Range) (n : ℕ) → IsLeastUnused cursor given r n → next_serial_from cursor given r ≡ Some (n, text_of r n)
+pub least_is_next : (cursor : ℕ) (given : TextSet) (r : Range) (n : ℕ) → IsLeastUnused cursor given r n
+    → next_serial_from cursor given r ≡ Some (n, text_of r n)
 least_is_next cursor given r n is =
     next_here cursor given r n is.has is.from is.unused (λ k low from before. is.least k (low, omega (arith, is.has.1)) from before)
 
 -- where there is none each number from the cursor on is given
-pub none_is_left : (cursor : ℕ) (given : TextSet) (r : Range) → next_serial_from cursor given r ≡ None → (k : ℕ) → Has r k → cursor ≤ k → given (text_of r k) ≡ true
+pub none_is_left : (cursor : ℕ) (given : TextSet) (r : Range) → next_serial_from cursor given r ≡ None → (k : ℕ) → Has r k → cursor ≤ k
+    → given (text_of r k) ≡ true
 none_is_left cursor given r none k has from =
     let p : ℕ → Bool = λ j. nat_le cursor j && is_unused given r j in
     let fails = fails-from_find p r.first r.quantity k (found_none r (find p (range_with_len r.first r.quantity)) none) has.0 has.1 in

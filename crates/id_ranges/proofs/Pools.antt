@@ -12,13 +12,15 @@ octet_between first last k low high near =
     elim (cases_lt (first / 2 ^ 40) (k / 2 ^ 40)) [ inl past ↦ inr (omega arith) | inr here ↦ inl (omega arith) ]
 
 -- such an address is individual if both are
-individual_between : (first last k : ℕ) → first ≤ k → k ≤ last → last < first + 2 ^ 40 → is_individual first ≡ true → is_individual last ≡ true → is_individual k ≡ true
+individual_between : (first last k : ℕ) → first ≤ k → k ≤ last → last < first + 2 ^ 40 → is_individual first ≡ true → is_individual last ≡ true
+    → is_individual k ≡ true
 individual_between first last k low high near a b =
     let P : ℕ → Bool = λ octet. octet % 2 == 0 in
     elim (octet_between first last k low high near) [ inl same ↦ ap P same ∙ a | inr same ↦ ap P same ∙ b ]
 
 -- the ends of a pool stand for its other addresses
-pub ends_individual : (first count : ℕ) → 1 ≤ count → count ≤ 2 ^ 24 → is_individual first ≡ true → is_individual (first + (count - 1)) ≡ true → list_all is_individual (range_with_len first count) ≡ true
+pub ends_individual : (first count : ℕ) → 1 ≤ count → count ≤ 2 ^ 24 → is_individual first ≡ true → is_individual (first + (count - 1)) ≡ true
+    → list_all is_individual (range_with_len first count) ≡ true
 ends_individual first count some few a b =
     list_all-range is_individual first count (λ k low high. individual_between first (first + (count - 1)) k low (omega arith) (omega arith) a b)
 
@@ -39,7 +41,9 @@ pub ruleset ends = (ends_individual, first_group, last_group)
 pub IsPool-from_pool_of : (first count : ℕ) (p : Pool) → pool_of first count ≡ Some p → IsPool p
 IsPool-from_pool_of first count p made =
     let parts = cond_some (is_pool first count) (record { first = first; count = count }) p made in
-    let outer = and_parts (nat_le 1 count && nat_le count 0x100_0000 && nat_le (first + count) (2 ^ 48)) (list_all is_individual (range_with_len first count)) parts.0 in
+    let outer =
+    and_parts (nat_le 1 count && nat_le count 0x100_0000 && nat_le (first + count) (2 ^ 48)) (list_all is_individual (range_with_len first count)) parts.0
+    in
     let inner = and_parts (nat_le 1 count && nat_le count 0x100_0000) (nat_le (first + count) (2 ^ 48)) outer.0 in
     let counts = and_parts (nat_le 1 count) (nat_le count 0x100_0000) inner.0 in
     let same : record { first = first; count = count } ≡ p = parts.1 in

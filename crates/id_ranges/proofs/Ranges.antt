@@ -21,11 +21,13 @@ in_list_all-range p first (suc n) k h low high =
     ]
 
 -- the first number of a range that passes
-pub find-range_some : (p : ℕ → Bool) (first count k : ℕ) → first ≤ k → k < first + count → p k ≡ true → ((j : ℕ) → first ≤ j → j < k → p j ≡ false) → find p (range_with_len first count) ≡ Some k
+pub find-range_some : (p : ℕ → Bool) (first count k : ℕ) → first ≤ k → k < first + count → p k ≡ true → ((j : ℕ) → first ≤ j → j < k → p j ≡ false)
+    → find p (range_with_len first count) ≡ Some k
 find-range_some p first zero k low high h none = absurd (omega arith)
 find-range_some p first (suc n) k low high h none =
     elim (cases_lt first k) [
-      | inl past ↦ rw (none first (omega arith) past) (find-range_some p (first + 1) n k (omega arith) (omega arith) h (λ j above below. none j (omega arith) below))
+      | inl past ↦
+          rw (none first (omega arith) past) (find-range_some p (first + 1) n k (omega arith) (omega arith) h (λ j above below. none j (omega arith) below))
       | inr here ↦
           let same : k ≡ first = omega arith in
           let passes = rw same at h in

@@ -1,5 +1,6 @@
 -- The serial numbers of a range's numbers.
-use Rattle.std.proofs.Common.{◌≡◌, ℕ, zero, suc, ◌+◌, ◌-◌, ◌%◌, ◌^◌, ◌<◌, ◌≤◌, true, ◌&&◌, nat_le, List, [], ◌∷◌, ◌++◌, length, replicate, decimal, refl, sym, ap, ◌∙◌, arith, length-append}
+use Rattle.std.proofs.Common.{◌≡◌, ℕ, zero, suc, ◌+◌, ◌-◌, ◌%◌, ◌^◌, ◌<◌, ◌≤◌, true, ◌&&◌, nat_le, List, [], ◌∷◌, ◌++◌, length, replicate, decimal, refl, sym}
+use Rattle.std.proofs.Common.{ap, ◌∙◌, arith, length-append}
 use Rattle.std.specs.List.{list_all}
 use Rattle.std.specs.Str.{IsAscii, IsUtf8}
 use Rattle.std.specs.Str.Parse.{digits_value}
@@ -70,7 +71,9 @@ texts_are_serials r is n has =
     let least = leb-true _ _ lengths.0 in
     let largest = leb-true _ _ lengths.1 in
     let size = length-text_of r is n has in
-    let digits = both_parts (replicate (r.width - length (decimal n)) 48) (decimal n) (zeros_pass (r.width - length (decimal n))) (digits_pass n (is_small r is n has)) in
+    let digits =
+    both_parts (replicate (r.width - length (decimal n)) 48) (decimal n) (zeros_pass (r.width - length (decimal n))) (digits_pass n (is_small r is n has))
+    in
     let some : 1 ≤ length (text_of r n) = omega (arith, least, size) in
     let few : length (text_of r n) ≤ 64 = omega (arith, largest, size, is.largest_width) in
     and_from _ _ (and_from _ _ (le-leb _ _ some) (le-leb _ _ few))

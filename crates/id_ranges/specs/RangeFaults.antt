@@ -1,7 +1,7 @@
 -- The faults of ranges.
 use Rattle.std.specs.Prelude.{ℕ}
 use Rattle.id_ranges.specs.declared.fault.RangeFault.{RangeFault}
-use Rattle.id_ranges.specs.declared.fault.RangeFault.TheVariants.{BadText, TooWide, Exhausted, NoMacRoom, Overlap, KeyBound, OutOfMemory, Unread}
+use Rattle.id_ranges.specs.declared.fault.RangeFault.TheVariants.{BadText, TooWide, Exhausted, NoMacRoom, Overlap, KeyBound, OutOfMemory, Unread, BadNotBefore}
 
 -- the number of a fault
 abbrev pub fault_number : RangeFault → ℕ
@@ -13,3 +13,4 @@ fault_number Overlap = 5
 fault_number KeyBound = 6
 fault_number OutOfMemory = 7
 fault_number Unread = 8
+fault_number BadNotBefore = 9

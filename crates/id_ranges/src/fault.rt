@@ -34,10 +34,14 @@ pub enum RangeFault {
     /// Whether a serial number is given was looked up, and there was no answer (8).
     #[error("a serial number couldn't be looked up")]
     Unread,
+    /// A text is no beginning of a validity: it isn't 14 digits and a `Z`, or there is no such second
+    /// of such a day (9).
+    #[error("the beginning of the validity is none")]
+    BadNotBefore,
 }
 
 impl RangeFault {
-    /// The number of the fault, 1 to 8.
+    /// The number of the fault, 1 to 9.
     pub fn number(&self) -> u8
         ensures { result ≡ fault_number self.now }
     {
@@ -50,6 +54,7 @@ impl RangeFault {
             RangeFault::KeyBound => 6,
             RangeFault::OutOfMemory => 7,
             RangeFault::Unread => 8,
+            RangeFault::BadNotBefore => 9,
         }
     }
 }

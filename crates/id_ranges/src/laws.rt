@@ -1,5 +1,7 @@
 // What holds of ranges and their serial numbers.
-ghost use Rattle.id_ranges.specs.SerialLaws.{MeetsIsTested, TextsAreSerials, NumbersDiffer, WidthsDiffer, NextIsLeast, NoneIsLeft, CursorSkipsGiven};
+ghost use Rattle.id_ranges.specs.SerialLaws.{MeetsIsTested, TextsAreSerials, NumbersDiffer};
+ghost use Rattle.id_ranges.specs.SerialLaws.{WidthsDiffer, NextIsLeast, NoneIsLeft};
+ghost use Rattle.id_ranges.specs.SerialLaws.{CursorSkipsGiven};
 
 /// The test whether two ranges meet says whether they are of one prefix and width and have a number in
 /// common.

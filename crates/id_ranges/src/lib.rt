@@ -9,6 +9,7 @@ mod laws;
 mod look_up;
 mod mac;
 mod next;
+mod not_before;
 mod pool;
 mod serial_range;
 
@@ -20,5 +21,6 @@ pub use laws::{cursor_skips_given, meets_is_tested, next_is_least, serials_are_d
 pub use look_up::{Given, Unread};
 pub use mac::Mac;
 pub use next::{next_serial, next_serial_from};
+pub use not_before::NotBefore;
 pub use pool::{LARGEST_POOL, MacPool};
 pub use serial_range::SerialRange;

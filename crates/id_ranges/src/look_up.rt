@@ -42,19 +42,23 @@ pub trait Given<S> {
     fn is_given(&self, state: &mut S, serial: &Serial) -> Result<bool, Unread>
         ensures ok { OnOk result (looks self.now state.old state.new) }
         ensures err { OnErr result (fails self.now state.old state.new) }
-        ensures says { is_honest self.now state.new → IfOk result (λ given. given ≡ tells self.now state.old serial.now) };
+        ensures says { is_honest self.now state.new → IfOk result (λ given.
+            given ≡ tells self.now state.old serial.now) };
 
     /// To look nothing up leaves the state as it is.
     ghost none: { (g : Self) (s : S) → looks g s s };
 
     /// Look-ups and further ones are look-ups.
-    ghost more: { (g : Self) (old mid new : S) → looks g old mid → looks g mid new → looks g old new };
+    ghost more: { (g : Self) (old mid new : S) → looks g old mid → looks g mid new
+        → looks g old new };
 
     /// A state that is honest after look-ups was honest before them.
-    ghost was_honest: { (g : Self) (old new : S) → looks g old new → is_honest g new → is_honest g old };
+    ghost was_honest: { (g : Self) (old new : S) → looks g old new → is_honest g new
+        → is_honest g old };
 
     /// Look-ups don't change what is given.
-    ghost same: { (g : Self) (old new : S) → looks g old new → is_honest g new → tells g new ≡ tells g old };
+    ghost same: { (g : Self) (old new : S) → looks g old new → is_honest g new
+        → tells g new ≡ tells g old };
 }
 
 /// A set in memory answers each look-up, and needs no state.

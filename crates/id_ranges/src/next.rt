@@ -49,7 +49,8 @@ pub fn next_serial(
     range: &SerialRange,
     given: &BTreeSet<Serial>,
 ) -> Result<(u64, Serial), RangeFault>
-    ensures { result ≡ ok_or (spec.next_serial (contains (slice_cmp nat_cmp) given.now) range.now) RangeFault.Exhausted }
+    ensures { result ≡ ok_or (spec.next_serial (contains (slice_cmp nat_cmp) given.now) range.now)
+        RangeFault.Exhausted }
 {
     next_serial_from(range, 0, given, &mut ())
 }

@@ -1,7 +1,8 @@
 // Ranges of serial numbers.
 ghost use Rattle.std.specs.Prelude.{◌≡◌, ◌≤◌, ◌↔◌, IsTrue, true};
 ghost use Rattle.text_core.specs.Serial.{is_serial};
-ghost use Rattle.id_ranges.specs.Range.{Has, IsRange, Meets, SharesANumber, is_too_wide, meets, range_of, text_of};
+ghost use Rattle.id_ranges.specs.Range.{Has, IsRange, Meets, SharesANumber, is_too_wide, meets};
+ghost use Rattle.id_ranges.specs.Range.{range_of, text_of};
 
 use crate::fault::RangeFault;
 use itoa::Buffer;
@@ -24,11 +25,26 @@ impl Model for SerialRange {
 
     ghost Value = { Range };
 
-    ghost view = { λ r. record { prefix = r.prefix; width = r.width; first = r.first; quantity = r.quantity } };
+    ghost view = { λ r. record {
+      prefix = r.prefix;
+      width = r.width;
+      first = r.first;
+      quantity = r.quantity;
+    } };
 
-    ghost invariant = { λ r. IsRange (record { prefix = r.prefix; width = r.width; first = r.first; quantity = r.quantity }) };
+    ghost invariant = { λ r. IsRange (record {
+      prefix = r.prefix;
+      width = r.width;
+      first = r.first;
+      quantity = r.quantity;
+    }) };
 
-    ghost inverse = { λ r. record { prefix = r.prefix; width = r.width; first = r.first; quantity = r.quantity } };
+    ghost inverse = { λ r. record {
+      prefix = r.prefix;
+      width = r.width;
+      first = r.first;
+      quantity = r.quantity;
+    } };
 }
 
 impl SerialRange {

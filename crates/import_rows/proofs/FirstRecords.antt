@@ -1,5 +1,6 @@
 -- The records that a reader has given, as the first of its text.
-use Rattle.std.proofs.Common.{◌≡◌, ◌≤◌, ◌<◌, ◌+◌, ℕ, zero, suc, true, false, List, [], ◌∷◌, ◌++◌, length, take, take_all, Some, None, inl, inr, refl, sym, ap, subst, ◌∙◌, arith}
+use Rattle.std.proofs.Common.{◌≡◌, ◌≤◌, ◌<◌, ◌+◌, ℕ, zero, suc, true, false, List, [], ◌∷◌, ◌++◌, length, take, take_all, Some, None, inl, inr, refl, sym, ap}
+use Rattle.std.proofs.Common.{subst, ◌∙◌, arith}
 use Rattle.std.proofs.lemmas.Bool.{cases_Bool}
 use Rattle.std.proofs.lemmas.Bool.Decides.{nat_tests}
 use Rattle.std.proofs.lemmas.List.{append-nil}
@@ -37,9 +38,13 @@ record_leaves [] s fields field p h =
     ]
 record_leaves (c ∷ rest) s fields field p h =
     elim (cases_Bool (is_end (step default_config s c).1)) [
-      | inl ends ↦ leaves_same (suc (length rest)) (fields_after (step default_config s c).1 fields field, (step default_config s c).0, rest) p (rw ends at h) (omega arith, end_is_clear s c ends)
+      | inl ends ↦
+          leaves_same (suc (length rest)) (fields_after (step default_config s c).1 fields field, (step default_config s c).0, rest) p (rw ends at h)
+          (omega arith, end_is_clear s c ends)
       | inr on ↦
-          let left = record_leaves rest (step default_config s c).0 (fields_after (step default_config s c).1 fields field) (field_after (step default_config s c).1 c field) p (rw on at h) in
+          let left =
+          record_leaves rest (step default_config s c).0 (fields_after (step default_config s c).1 fields field)
+          (field_after (step default_config s c).1 c field) p (rw on at h) in
           (omega (arith, left.0), left.1)
     ]
 
@@ -51,10 +56,14 @@ record_shrinks [] s p clear h = absurd (let none : None ≡ Some p = rw clear at
 record_shrinks (c ∷ rest) s p clear h =
     elim (cases_Bool (is_end (step default_config s c).1)) [
       | inl ends ↦
-          let left = leaves_same (length rest) (fields_after (step default_config s c).1 [] [], (step default_config s c).0, rest) p (rw ends at h) (omega arith, end_is_clear s c ends) in
+          let left =
+          leaves_same (length rest) (fields_after (step default_config s c).1 [] [], (step default_config s c).0, rest) p (rw ends at h)
+          (omega arith, end_is_clear s c ends) in
           (omega (arith, left.0), left.1)
       | inr on ↦
-          let left = record_leaves rest (step default_config s c).0 (fields_after (step default_config s c).1 [] []) (field_after (step default_config s c).1 c []) p (rw on at h) in
+          let left =
+          record_leaves rest (step default_config s c).0 (fields_after (step default_config s c).1 [] []) (field_after (step default_config s c).1 c []) p
+          (rw on at h) in
           (omega (arith, left.0), left.1)
     ]
 
@@ -88,5 +97,6 @@ pub all_reached : (rows : List (List (List ℕ))) (most : ℕ) (s2 : State) (xs 
     → rows ≡ take most (records default_config xs)
 all_reached rows most s2 xs ys h ended count =
     let found = reached_first rows (length xs + 1) st.StartRecord s2 xs ys (omega arith) refl h in
-    let all : records default_config xs ≡ rows = found.1 ∙ ap (λ (more : List (List (List ℕ))). rows ++ more) (none_left found.0 s2 ys ended) ∙ append-nil rows in
+    let all : records default_config xs ≡ rows =
+    found.1 ∙ ap (λ (more : List (List (List ℕ))). rows ++ more) (none_left found.0 s2 ys ended) ∙ append-nil rows in
     sym (ap (take most) all ∙ take_all most rows count)

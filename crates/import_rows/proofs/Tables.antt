@@ -1,5 +1,6 @@
 -- Tables of rows, by their first rows and by how the rows were found.
-use Rattle.std.proofs.Common.{◌≡◌, ◌≤◌, ◌<◌, ℕ, zero, suc, List, [], ◌∷◌, length, map, take, take_all, length-take, nat_le, Bool, ◌&&◌, if◌then◌else◌, true, false, Option, Some, None, option_map, option_and_then, inl, inr, refl, ap, ◌∙◌, arith}
+use Rattle.std.proofs.Common.{◌≡◌, ◌≤◌, ◌<◌, ℕ, zero, suc, List, [], ◌∷◌, length, map, take, take_all, length-take, nat_le, Bool, ◌&&◌, if◌then◌else◌, true}
+use Rattle.std.proofs.Common.{false, Option, Some, None, option_map, option_and_then, inl, inr, refl, ap, ◌∙◌, arith}
 use Rattle.std.proofs.lemmas.Bool.{cases_Bool, le-leb, leb-true}
 use Rattle.std.proofs.lemmas.Bool.Decides.{nat_tests}
 use Rattle.std.specs.Str.{IsUtf8}

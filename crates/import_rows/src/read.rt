@@ -4,7 +4,8 @@ ghost use Rattle.csv.specs.Records.{fields_of};
 ghost use Rattle.text_core.specs.Digest.{digest_of_text};
 ghost use Rattle.text_core.specs.Options.{all_of};
 ghost use Rattle.text_core.specs.Serial.{serial_of_text};
-ghost use Rattle.import_rows.specs.Rows.{fields_of_row, is_header, row_with_serial, rows_of, table_of, two_fields};
+ghost use Rattle.import_rows.specs.Rows.{fields_of_row, is_header, row_with_serial, rows_of};
+ghost use Rattle.import_rows.specs.Rows.{table_of, two_fields};
 ghost use Rattle.import_rows.specs.Found.{found_row, with_serial};
 
 use crate::records::first_records;
@@ -40,7 +41,8 @@ fn read_records(
     alloc: Global,
     records: &[ByteRecord],
 ) -> Result<Option<Option<ImportRows>>, AllocError>
-    ensures { IfOk result (λ found. found ≡ option_map (all_of row_with_serial) (table_of (map fields_of records.now))) }
+    ensures { IfOk result (λ found. found ≡ option_map (all_of row_with_serial)
+        (table_of (map fields_of records.now))) }
 {
     let Some((first, rows)) = records.split_first() else {
         return Ok(None);
@@ -56,7 +58,8 @@ fn read_records(
 
 /// The rows under a header, as they were found.
 fn read_table(alloc: Global, rows: &[ByteRecord]) -> Result<Option<Vec<FoundRow>>, AllocError>
-    ensures { IfOk result (λ table. option_map (λ found. found.items) table ≡ option_map (map found_row) (all_of fields_of_row (map fields_of rows.now))) }
+    ensures { IfOk result (λ table. option_map (λ found. found.items) table
+        ≡ option_map (map found_row) (all_of fields_of_row (map fields_of rows.now))) }
 {
     read_all(alloc, rows, read_row)
 }
@@ -85,7 +88,8 @@ fn is_header(row: &ByteRecord) -> bool
 
 /// The two fields of a row that has two.
 fn two_fields(row: &ByteRecord) -> Option<(&[u8], &[u8])>
-    ensures { option_map (λ pair. (pair.0.now, pair.1.now)) result ≡ two_fields (fields_of row.now) }
+    ensures { option_map (λ pair. (pair.0.now, pair.1.now)) result
+        ≡ two_fields (fields_of row.now) }
 {
     if row.len() != 2 {
         return None;

@@ -13,7 +13,8 @@ pub(crate) fn first_records(
     text: &[u8],
     most: usize,
 ) -> Result<Vec<ByteRecord>, AllocError>
-    ensures { IfOk result (λ first. map fields_of first.items ≡ take most (records default_config (strip_bom text.now))) }
+    ensures { IfOk result (λ first. map fields_of first.items
+        ≡ take most (records default_config (strip_bom text.now))) }
 {
     let mut reader = ReaderBuilder::new()
         .has_headers(false)

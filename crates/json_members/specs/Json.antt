@@ -2,7 +2,7 @@
 use Rattle.std.specs.Prelude.{ℕ, List, [], ◌∷◌, length, ◌&&◌, nat_le, Option, Some, None, Result, option_and_then, option_map, if◌then◌else◌}
 use Rattle.std.specs.Option.{ok_or}
 use Rattle.std.specs.Str.{is_utf8}
-use Rattle.serde_json.specs.Data.{Data, Items, no_items, item}
+use Rattle.serde_json.specs.Data.{Data, null, string, Items, no_items, item}
 use Rattle.serde_json.specs.Read.{read}
 use Rattle.serde_json.specs.Find.{get, as_array, as_str, as_number, as_u64}
 use Rattle.text_core.specs.Chip.{chip_of_text}
@@ -31,6 +31,17 @@ whole_member name least greatest d =
 -- a member that is a text
 abbrev pub text_member : List ℕ → Data → Option (List ℕ)
 text_member name d = option_and_then as_str (get name d)
+
+-- a text that may be missing: none where there is nothing or null, and neither where there is anything else
+abbrev pub text_or_null : Option Data → Option (Option (List ℕ))
+text_or_null None = Some None
+text_or_null (Some null) = Some None
+text_or_null (Some (string text)) = Some (Some text)
+text_or_null (Some _) = None
+
+-- a member that is a text, null or not there
+abbrev pub text_if_member : List ℕ → Data → Option (Option (List ℕ))
+text_if_member name d = text_or_null (get name d)
 
 -- a member that is a name
 abbrev pub name_member : List ℕ → Data → Option (List ℕ)

@@ -67,6 +67,21 @@ pub fn text_member<'v>(value: &'v Value, name: &str) -> Option<&'v str>
     value.get(name)?.as_str()
 }
 
+/// A member that is a text, or an inner `None` where it is absent or null. `None` where it is anything
+/// else.
+pub fn text_if_member<'v>(value: &'v Value, name: &str) -> Option<Option<&'v str>>
+    ensures { option_map (λ found. option_map (λ text. text.now) found) result
+        ≡ json.text_if_member name.now (view value.now) }
+{
+    let Some(member) = value.get(name) else {
+        return Some(None);
+    };
+    if member.is_null() {
+        return Some(None);
+    }
+    Some(Some(member.as_str()?))
+}
+
 /// A member that is a name.
 pub fn name_member(value: &Value, name: &str) -> Option<Name>
     ensures { result ≡ json.name_member name.now (view value.now) }

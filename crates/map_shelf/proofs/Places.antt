@@ -6,7 +6,8 @@ use Rattle.std.proofs.lemmas.Bool.{ltb-true}
 use Rattle.std.proofs.lemmas.List.Sums.{passes_at_first}
 use Rattle.std.proofs.lemmas.Slice.Eq.{bytes_eq-Decides}
 
-at_first : {X : Type 0} (p : X → Bool) (xs : List X) (first place : ℕ) (d : X) (is_low : Bool) → first ≡ position_or_len p xs → nat_lt first (length xs) ≡ is_low → cond is_low (Some first) None ≡ Some place
+at_first : {X : Type 0} (p : X → Bool) (xs : List X) (first place : ℕ) (d : X) (is_low : Bool) → first ≡ position_or_len p xs
+    → nat_lt first (length xs) ≡ is_low → cond is_low (Some first) None ≡ Some place
     → p (get_or xs place d) ≡ true
 at_first p xs first place d true is low same =
     let at_first : nat_lt (position_or_len p xs) (length xs) ≡ true = ap (λ i. nat_lt i (length xs)) (sym is) ∙ low in

@@ -34,8 +34,10 @@ impl NumberShelf {
 
     /// The fuse map of a number. There is none where it isn't kept, or where memory ran out for it.
     pub fn find(&mut self, id: u64) -> Option<FuseMap>
-        ensures found { (map_of : ℕ → Option Map) → AreNumbered map_of self.old → IfSome result (λ map. map_of id ≡ Some map) }
-        ensures kept { (map_of : ℕ → Option Map) → AreNumbered map_of self.old → AreNumbered map_of self.new }
+        ensures found { (map_of : ℕ → Option Map) → AreNumbered map_of self.old
+            → IfSome result (λ map. map_of id ≡ Some map) }
+        ensures kept { (map_of : ℕ → Option Map) → AreNumbered map_of self.old
+            → AreNumbered map_of self.new }
     {
         let one = self.take(id)?;
         let map = one.map.copy().ok();
@@ -45,7 +47,8 @@ impl NumberShelf {
 
     /// Keeps the fuse map of a number, if there is memory for it.
     pub fn keep(&mut self, id: u64, map: &FuseMap)
-        ensures { (map_of : ℕ → Option Map) → AreNumbered map_of self.old → map_of id ≡ Some map.now → AreNumbered map_of self.new }
+        ensures { (map_of : ℕ → Option Map) → AreNumbered map_of self.old → map_of id ≡ Some map.now
+            → AreNumbered map_of self.new }
     {
         if let Ok(map) = map.copy() {
             self.put_first(NumberedMap { id, map });
@@ -55,8 +58,10 @@ impl NumberShelf {
     /// Takes the map of a number out, where it is kept.
     fn take(&mut self, id: u64) -> Option<NumberedMap>
         ensures number { IfSome result (λ one. one.id ≡ id) }
-        ensures taken { (map_of : ℕ → Option Map) → AreNumbered map_of self.old → IfSome result (IsNumbered map_of) }
-        ensures kept { (map_of : ℕ → Option Map) → AreNumbered map_of self.old → AreNumbered map_of self.new }
+        ensures taken { (map_of : ℕ → Option Map) → AreNumbered map_of self.old
+            → IfSome result (IsNumbered map_of) }
+        ensures kept { (map_of : ℕ → Option Map) → AreNumbered map_of self.old
+            → AreNumbered map_of self.new }
     {
         let place = place_of(self.kept.as_slice(), id)?;
         Some(self.kept.remove(place))
@@ -65,7 +70,8 @@ impl NumberShelf {
     /// Keeps a map before all others, and no more of them than the limit. Where there is no memory
     /// for it, it isn't kept.
     fn put_first(&mut self, one: NumberedMap)
-        ensures { (map_of : ℕ → Option Map) → AreNumbered map_of self.old → IsNumbered map_of one → AreNumbered map_of self.new }
+        ensures { (map_of : ℕ → Option Map) → AreNumbered map_of self.old → IsNumbered map_of one
+            → AreNumbered map_of self.new }
     {
         self.kept.truncate(KEPT_LIMIT - 1);
         let _unkept = self.kept.insert(0, one);

@@ -21,9 +21,11 @@ use Rattle.office_tables.specs.declared.rows.Reason.{Reason}
 use Rattle.office_tables.specs.declared.rows.Reason.TheVariants.{Lost, Stray, Key}
 use Rattle.office_commands.specs.Replies.{text_data}
 use Rattle.office_commands.specs.StepReplies.{outcome_data, plan_data}
-use Rattle.office_commands.specs.DeviceReplies.{items_of, word_data, word_list, bits_data, key_at, with_digest, with_keys, keys_data, work_data, reason_data, device_data, entry_by, entry_data, fields_of, image_by, ledger_data}
+use Rattle.office_commands.specs.DeviceReplies.{items_of, word_data, word_list, bits_data, key_at, with_digest, with_keys, keys_data, work_data, reason_data}
+use Rattle.office_commands.specs.DeviceReplies.{device_data, entry_by, entry_data, fields_of, image_by, ledger_data}
 
-in_words_shown : (is_zero : Bool) (d : Data) (ds : List Data) → has_float d ≡ false → items_have_float (items_of ds) ≡ false → items_have_float (items_of (if is_zero then ds else d ∷ ds)) ≡ false
+in_words_shown : (is_zero : Bool) (d : Data) (ds : List Data) → has_float d ≡ false → items_have_float (items_of ds) ≡ false
+    → items_have_float (items_of (if is_zero then ds else d ∷ ds)) ≡ false
 in_words_shown true d ds first others = others
 in_words_shown false d ds first others = or_from _ _ first others
 
@@ -34,7 +36,8 @@ in_words place (word ∷ words) = in_words_shown (word == 0) (word_data place wo
 in_bits : (bits : Positions) → has_float (bits_data bits) ≡ false
 in_bits bits = in_words 0 (words_of bits)
 
-in_put_at : (o : Ordering) (k l : List ℕ) (d e : Data) (ms : Members) → has_float d ≡ false → has_float e ≡ false → members_have_float ms ≡ false → members_have_float (put k d ms) ≡ false
+in_put_at : (o : Ordering) (k l : List ℕ) (d e : Data) (ms : Members) → has_float d ≡ false → has_float e ≡ false → members_have_float ms ≡ false
+    → members_have_float (put k d ms) ≡ false
     → members_have_float (match_ordering o (member k d (member l e ms)) (member l d ms) (member l e (put k d ms))) ≡ false
 in_put_at Less k l d e ms new old others later = or_from _ _ new (or_from _ _ old others)
 in_put_at Equal k l d e ms new old others later = or_from _ _ new others

@@ -3,10 +3,15 @@ use Rattle.std.proofs.Common.{◌≡◌, ◌+◌, ◌++◌, ◌∷◌, [], ℕ, 
 use Rattle.std.specs.Prelude.{codes, decimal}
 use Rattle.std.specs.Fmt.{digits}
 use Rattle.fuse_plan.specs.declared.fault.PlanFault.{PlanFault}
-use Rattle.fuse_plan.specs.declared.fault.PlanFault.TheVariants.{UnknownField, UnmappedBit, ValueTooWide, ClearsBurnt, Contradiction, WrongKind, OtherKey, WriteProtected, Hidden, NoLock}
+use Rattle.fuse_plan.specs.declared.fault.PlanFault.TheVariants.{UnknownField, UnmappedBit, ValueTooWide, ClearsBurnt, Contradiction, WrongKind, OtherKey}
+use Rattle.fuse_plan.specs.declared.fault.PlanFault.TheVariants.{WriteProtected, Hidden, NoLock}
 use Rattle.fuse_plan.specs.Plans.{fault_number}
 use Rattle.office_commands.specs.declared.refusal.Refusal.{Refusal}
-use Rattle.office_commands.specs.declared.refusal.Refusal.TheVariants.{UnknownToken, UnknownPath, WrongCaller, BadJson, BadMember, WrongNumber, OtherBody, UnknownMap, UnknownOrder, UnknownDevice, Exists, WrongState, QuantityReached, BadPlan, BadMap, BadSerial, NumberTooWide, Exhausted, NoMacRoom, RangeOverlap, KeyBound, CodingScheme, ForeignIssuer, ImportConflict, MapDigestTaken, Limit, BadReadback, Unkept}
+use Rattle.office_commands.specs.declared.refusal.Refusal.TheVariants.{UnknownToken, UnknownPath, WrongCaller, BadJson, BadMember, WrongNumber, OtherBody}
+use Rattle.office_commands.specs.declared.refusal.Refusal.TheVariants.{UnknownMap, UnknownOrder, UnknownDevice, Exists, WrongState, QuantityReached, BadPlan}
+use Rattle.office_commands.specs.declared.refusal.Refusal.TheVariants.{BadMap, BadSerial, NumberTooWide, Exhausted, NoMacRoom, RangeOverlap, KeyBound}
+use Rattle.office_commands.specs.declared.refusal.Refusal.TheVariants.{CodingScheme, ForeignIssuer, ImportConflict, MapDigestTaken, Limit, BadReadback}
+use Rattle.office_commands.specs.declared.refusal.Refusal.TheVariants.{BadNotBefore, Unkept}
 use Rattle.office_commands.specs.Refusals.{plan_fault_body, refusal_body, refusal_number, TellsNumber}
 
 -- a body that ends with the number
@@ -37,7 +42,8 @@ number_told UnknownPath = ends_with (refusal_body UnknownPath) (codes "{\"error\
 number_told WrongCaller = ends_with (refusal_body WrongCaller) (codes "{\"error\":\"wrong_caller\",") 8 refl
 number_told BadJson = ends_with (refusal_body BadJson) (codes "{\"error\":\"bad_json\",") 9 refl
 number_told BadMember = ends_with (refusal_body BadMember) (codes "{\"error\":\"bad_member\",") 10 refl
-number_told (WrongNumber expected) = ends_with (refusal_body (WrongNumber expected)) (codes "{\"error\":\"wrong_number\",\"expected\":" ++ (decimal expected ++ codes ",")) 11
+number_told (WrongNumber expected) =
+    ends_with (refusal_body (WrongNumber expected)) (codes "{\"error\":\"wrong_number\",\"expected\":" ++ (decimal expected ++ codes ",")) 11
     (joined (codes "{\"error\":\"wrong_number\",\"expected\":") (decimal expected) (codes ",") (codes "\"no\":11}"))
 number_told OtherBody = ends_with (refusal_body OtherBody) (codes "{\"error\":\"other_body\",") 12 refl
 number_told UnknownMap = ends_with (refusal_body UnknownMap) (codes "{\"error\":\"unknown_map\",") 13 refl
@@ -57,8 +63,10 @@ number_told RangeOverlap = ends_with (refusal_body RangeOverlap) (codes "{\"erro
 number_told KeyBound = ends_with (refusal_body KeyBound) (codes "{\"error\":\"key_bound\",") 35 refl
 number_told CodingScheme = ends_with (refusal_body CodingScheme) (codes "{\"error\":\"coding_scheme\",") 36 refl
 number_told ForeignIssuer = ends_with (refusal_body ForeignIssuer) (codes "{\"error\":\"foreign_issuer\",") 37 refl
-number_told (ImportConflict serial) = record { front = codes "{\"error\":\"import_conflict\","; next = 44; rest = codes "\"serial\":\"" ++ (serial ++ codes "\"}"); told = refl; ends = inl refl }
+number_told (ImportConflict serial) =
+    record { front = codes "{\"error\":\"import_conflict\","; next = 44; rest = codes "\"serial\":\"" ++ (serial ++ codes "\"}"); told = refl; ends = inl refl }
 number_told MapDigestTaken = ends_with (refusal_body MapDigestTaken) (codes "{\"error\":\"map_digest_taken\",") 39 refl
 number_told Limit = ends_with (refusal_body Limit) (codes "{\"error\":\"limit\",") 40 refl
 number_told BadReadback = ends_with (refusal_body BadReadback) (codes "{\"error\":\"bad_readback\",") 41 refl
+number_told BadNotBefore = ends_with (refusal_body BadNotBefore) (codes "{\"error\":\"bad_not_before\",") 42 refl
 number_told Unkept = ends_with (refusal_body Unkept) (codes "{\"error\":\"unkept\",") 50 refl

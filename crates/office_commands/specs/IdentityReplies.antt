@@ -6,7 +6,7 @@ use Rattle.hex.specs.Hex.{encode_lower}
 use Rattle.id_ranges.specs.Idevid.{Idevid}
 use Rattle.office_tables.specs.declared.rows.DeviceState.{DeviceState}
 use Rattle.office_tables.specs.Texts.{state_text}
-use Rattle.office_commands.specs.Replies.{mac_data, members_of, whole_data}
+use Rattle.office_commands.specs.Replies.{mac_data, members_of, text_data, whole_data}
 
 -- the record of a device's identity (IEEE 802.1AR), its members in byte order
 abbrev pub identity_data : List ℕ → Idevid → Data
@@ -16,6 +16,7 @@ identity_data chip i = object (members_of (
     (codes "key_sha256", string (encode_lower i.key)) ∷
     (codes "mac", mac_data i.mac) ∷
     (codes "not_after", string i.not_after) ∷
+    (codes "not_before", text_data i.not_before) ∷
     (codes "serial", string i.serial) ∷ []))
 
 -- the text of that

@@ -4,9 +4,14 @@ use Rattle.http_replies.specs.declared.Status.{Status}
 use Rattle.http_replies.specs.declared.Status.TheVariants.{BadRequest, Unauthorized, Forbidden, NotFound, Conflict, Unprocessable, Unavailable}
 use Rattle.fuse_plan.specs.Plans.{fault_number}
 use Rattle.fuse_plan.specs.declared.fault.PlanFault.{PlanFault}
-use Rattle.fuse_plan.specs.declared.fault.PlanFault.TheVariants.{UnknownField, UnmappedBit, ValueTooWide, ClearsBurnt, Contradiction, WrongKind, OtherKey, WriteProtected, Hidden, NoLock}
+use Rattle.fuse_plan.specs.declared.fault.PlanFault.TheVariants.{UnknownField, UnmappedBit, ValueTooWide, ClearsBurnt, Contradiction, WrongKind, OtherKey}
+use Rattle.fuse_plan.specs.declared.fault.PlanFault.TheVariants.{WriteProtected, Hidden, NoLock}
 use Rattle.office_commands.specs.declared.refusal.Refusal.{Refusal}
-use Rattle.office_commands.specs.declared.refusal.Refusal.TheVariants.{UnknownToken, UnknownPath, WrongCaller, BadJson, BadMember, WrongNumber, OtherBody, UnknownMap, UnknownOrder, UnknownDevice, Exists, WrongState, QuantityReached, BadPlan, BadMap, BadSerial, NumberTooWide, Exhausted, NoMacRoom, RangeOverlap, KeyBound, CodingScheme, ForeignIssuer, ImportConflict, MapDigestTaken, Limit, BadReadback, Unkept}
+use Rattle.office_commands.specs.declared.refusal.Refusal.TheVariants.{UnknownToken, UnknownPath, WrongCaller, BadJson, BadMember, WrongNumber, OtherBody}
+use Rattle.office_commands.specs.declared.refusal.Refusal.TheVariants.{UnknownMap, UnknownOrder, UnknownDevice, Exists, WrongState, QuantityReached, BadPlan}
+use Rattle.office_commands.specs.declared.refusal.Refusal.TheVariants.{BadMap, BadSerial, NumberTooWide, Exhausted, NoMacRoom, RangeOverlap, KeyBound}
+use Rattle.office_commands.specs.declared.refusal.Refusal.TheVariants.{CodingScheme, ForeignIssuer, ImportConflict, MapDigestTaken, Limit, BadReadback}
+use Rattle.office_commands.specs.declared.refusal.Refusal.TheVariants.{BadNotBefore, Unkept}
 
 -- the number of a refusal: the faults of wishes have the numbers from 19 on
 abbrev pub refusal_number : Refusal → ℕ
@@ -37,6 +42,7 @@ refusal_number (ImportConflict serial) = 38
 refusal_number MapDigestTaken = 39
 refusal_number Limit = 40
 refusal_number BadReadback = 41
+refusal_number BadNotBefore = 42
 refusal_number Unkept = 50
 
 -- the body has the number as its member `no`, which a comma or the closing brace follows
@@ -75,6 +81,7 @@ refusal_status (ImportConflict serial) = Conflict
 refusal_status MapDigestTaken = Conflict
 refusal_status Limit = Conflict
 refusal_status BadReadback = Unprocessable
+refusal_status BadNotBefore = Unprocessable
 refusal_status Unkept = Unavailable
 
 -- the faults of wishes have the numbers from 19 on
@@ -118,4 +125,5 @@ refusal_body (ImportConflict serial) = codes "{\"error\":\"import_conflict\",\"n
 refusal_body MapDigestTaken = codes "{\"error\":\"map_digest_taken\",\"no\":39}"
 refusal_body Limit = codes "{\"error\":\"limit\",\"no\":40}"
 refusal_body BadReadback = codes "{\"error\":\"bad_readback\",\"no\":41}"
+refusal_body BadNotBefore = codes "{\"error\":\"bad_not_before\",\"no\":42}"
 refusal_body Unkept = codes "{\"error\":\"unkept\",\"no\":50}"

@@ -43,6 +43,7 @@ order_data o next = object (members_of (
     (codes "macs", whole_data o.macs) ∷
     (codes "name", string o.name) ∷
     (codes "next", text_data next) ∷
+    (codes "not_before", text_data o.not_before) ∷
     (codes "prefix", string o.range.prefix) ∷
     (codes "quantity", whole_data o.range.quantity) ∷
     (codes "width", whole_data o.range.width) ∷ []))

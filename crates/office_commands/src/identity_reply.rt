@@ -4,7 +4,7 @@ ghost use Rattle.serde_json.specs.View.{view};
 ghost use Rattle.office_commands.specs.IdentityReplies as replies;
 ghost use Rattle.office_commands.specs.IdentityReplies.{identity_data, import_data, state_data};
 
-use crate::reply::mac_value;
+use crate::reply::{mac_value, start_value};
 use id_ranges::IdevidRecord;
 use office_tables::DeviceState;
 use serde_json::{Value, json};
@@ -16,12 +16,14 @@ fn identity_value(alloc: Global, chip: &Chip, idevid: &IdevidRecord) -> Result<V
 {
     let mac = mac_value(alloc, idevid.mac())?;
     let key = idevid.key().to_string(alloc)?;
+    let start = start_value(alloc, idevid.not_before())?;
     json!(in alloc; {
         "chip": chip.as_str(),
         "issuer": idevid.issuer().as_str(),
         "key_sha256": key.as_str(),
         "mac": mac,
         "not_after": idevid.not_after().as_str(),
+        "not_before": start,
         "serial": idevid.serial().as_str()
     })
 }

@@ -21,6 +21,8 @@ pub struct NewOrder {
     pub quantity: u64,
     /// The addresses of one device: 0 to 4.
     pub macs: u8,
+    /// The beginning of the validity of its records, where one was asked for, as it was read.
+    pub not_before: Option<Text>,
 }
 
 /// An order that is asked for, whose numbers are within their ranges.

@@ -1,6 +1,7 @@
 // Why a request is refused.
 ghost use Rattle.std.specs.Prelude.{◌≡◌};
-ghost use Rattle.office_commands.specs.Refusals.{TellsNumber, refusal_body, refusal_number, refusal_status};
+ghost use Rattle.office_commands.specs.Refusals.{TellsNumber, refusal_body, refusal_number};
+ghost use Rattle.office_commands.specs.Refusals.{refusal_status};
 
 use fuse_plan::PlanFault;
 use http_replies::Status;
@@ -94,6 +95,9 @@ pub enum Refusal {
     /// The read-back isn't of the map's shape, or shows what its own locks hide (41).
     #[error("the read-back is not of the map's shape, or shows what its own locks hide")]
     BadReadback,
+    /// What is asked for as a beginning of validity is none (42).
+    #[error("what is asked for as a beginning of validity is none")]
+    BadNotBefore,
     /// There is no memory for an answer, or the store failed (50).
     #[error("the request can't be kept")]
     Unkept,
@@ -132,6 +136,7 @@ impl Refusal {
             Refusal::MapDigestTaken => 39,
             Refusal::Limit => 40,
             Refusal::BadReadback => 41,
+            Refusal::BadNotBefore => 42,
             Refusal::Unkept => 50,
         }
     }
@@ -166,7 +171,8 @@ impl Refusal {
             | Refusal::NumberTooWide
             | Refusal::CodingScheme
             | Refusal::ForeignIssuer
-            | Refusal::BadReadback => Status::Unprocessable,
+            | Refusal::BadReadback
+            | Refusal::BadNotBefore => Status::Unprocessable,
             Refusal::Unkept => Status::Unavailable,
         }
     }

@@ -4,13 +4,14 @@ ghost use Rattle.serde_json.specs.View.{view};
 ghost use Rattle.http_replies.specs.Replies.{answer_of, bytes_of, kind_of};
 ghost use Rattle.http_replies.specs.declared.Kind.{Kind};
 ghost use Rattle.office_commands.specs.Refusals.{plan_fault_body, refusal_body};
-ghost use Rattle.office_commands.specs.Replies.{acceptance, refusal, text_data, mac_data, order_data, map_data};
+ghost use Rattle.office_commands.specs.Replies.{acceptance, refusal, text_data, mac_data};
+ghost use Rattle.office_commands.specs.Replies.{order_data, map_data};
 ghost use Rattle.office_commands.specs.Replies as replies;
 
 use crate::Refusal;
 use fuse_plan::PlanFault;
 use http_replies::{Body, Reply, Status};
-use id_ranges::Mac;
+use id_ranges::{Mac, NotBefore};
 use office_tables::Order;
 use serde_json::{Value, json};
 use std::alloc::{AllocError, Global};
@@ -121,6 +122,7 @@ fn refusal_text(alloc: Global, reason: Refusal) -> Result<Body, AllocError>
         Refusal::MapDigestTaken => "{\"error\":\"map_digest_taken\",\"no\":39}",
         Refusal::Limit => "{\"error\":\"limit\",\"no\":40}",
         Refusal::BadReadback => "{\"error\":\"bad_readback\",\"no\":41}",
+        Refusal::BadNotBefore => "{\"error\":\"bad_not_before\",\"no\":42}",
         Refusal::Unkept => "{\"error\":\"unkept\",\"no\":50}",
     }))
 }
@@ -143,11 +145,22 @@ pub(crate) fn mac_value(alloc: Global, mac: Option<Mac>) -> Result<Value, AllocE
     }
 }
 
+pub(crate) fn start_value(alloc: Global, start: Option<NotBefore>) -> Result<Value, AllocError>
+    ensures { IfOk result (λ v. view v ≡ text_data start) }
+{
+    match start {
+        Some(start) => Value::try_from_str(alloc, start.as_str()),
+        None => Ok(Value::Null),
+    }
+}
+
 fn order_value(alloc: Global, order: &Order, next: Option<&str>) -> Result<Value, AllocError>
-    ensures { IfOk result (λ v. view v ≡ order_data order.now (option_map (λ t. t.now) next.entry)) }
+    ensures { IfOk result (λ v. view v ≡ order_data order.now
+        (option_map (λ t. t.now) next.entry)) }
 {
     let mac = mac_value(alloc, order.mac)?;
     let next = text_value(alloc, next)?;
+    let start = start_value(alloc, order.not_before)?;
     json!(in alloc; {
         "first": order.range.first(),
         "issuer": order.issuer.as_str(),
@@ -155,6 +168,7 @@ fn order_value(alloc: Global, order: &Order, next: Option<&str>) -> Result<Value
         "macs": order.macs,
         "name": order.name.as_str(),
         "next": next,
+        "not_before": start,
         "prefix": order.range.prefix().as_str(),
         "quantity": order.range.quantity(),
         "width": order.range.width()
@@ -164,7 +178,8 @@ fn order_value(alloc: Global, order: &Order, next: Option<&str>) -> Result<Value
 /// The body that shows an order with its next serial number, if there is one.
 #[tactic(auto, unfolding(crate::specs::Replies::order_body))]
 pub fn order_body(alloc: Global, order: &Order, next: Option<&str>) -> Result<String, AllocError>
-    ensures { IfOk result (λ body. string_bytes body ≡ replies.order_body order.now (option_map (λ t. t.now) next.entry)) }
+    ensures { IfOk result (λ body. string_bytes body ≡ replies.order_body order.now
+        (option_map (λ t. t.now) next.entry)) }
 {
     order_value(alloc, order, next)?.to_string(alloc)
 }

@@ -35,7 +35,8 @@ impl RequestNumber {
 
     /// The request number that a number is, if it is one from 1 to 9007199254740991.
     pub fn new(value: u64) -> Option<RequestNumber>
-        ensures { result ≡ (if nat_le 1 value && nat_le value 9007199254740991 then Some value else None) }
+        ensures { result ≡ (if nat_le 1 value && nat_le value 9007199254740991 then Some value
+            else None) }
     {
         if 1 <= value && value <= LARGEST_WHOLE {
             Some(RequestNumber { value })

@@ -1,9 +1,11 @@
 -- Lists of requests and their replies.
-use Rattle.std.specs.Prelude.{List, map, zip}
+use Rattle.std.specs.Prelude.{List, [], ◌∷◌, map, zip}
+use Rattle.std.specs.List.{flat_map}
 use Rattle.http_replies.specs.Replies.{answer_of}
 use Rattle.http_replies.specs.declared.Reply.{Reply}
 use Rattle.site_core.specs.Caller.{section_at, seat_at}
-use Rattle.site_core.specs.Owners.{owners_of}
+use Rattle.site_core.specs.Growth.{IsGrowth}
+use Rattle.site_core.specs.Owners.{Owners, OwnersGrow, owners_of}
 use Rattle.site_core.specs.Section.{SiteValue}
 use Rattle.office_tables.specs.Keeping.{Stands}
 use Rattle.office_tables.specs.Tables.{Tables}
@@ -12,6 +14,7 @@ use Rattle.office_laws.specs.Sound.{IsSound}
 use Rattle.office_runs.specs.Exchanges.{Call, Exchange, IsRun, asks}
 use Rattle.office_runs.specs.Promises.{Promises}
 use Rattle.office_runs.specs.Stops.{LeavesAfter}
+use Rattle.office_core.specs.declared.requests.Part.{Part}
 use Rattle.office_core.specs.declared.requests.SeatRequest.{SeatRequest}
 
 -- the call of a request, with the site's section of its customer
@@ -26,14 +29,43 @@ calls_in site requests = map (call_of site) requests
 abbrev pub exchanges_in : SiteValue → List SeatRequest → List Reply → List Exchange
 exchanges_in site requests replies = zip (calls_in site requests) (map answer_of replies)
 
+-- each site is a growth of the one before it
+abbrev pub AreGrown : List SiteValue → Type 0
+AreGrown [] = Unit {0}
+AreGrown (site ∷ []) = Unit {0}
+AreGrown (site ∷ next ∷ sites) = IsGrowth site next × AreGrown (next ∷ sites)
+
+-- the owners of the first of them, if there is one, grew from these
+abbrev pub BeginGrown : Owners → List SiteValue → Type 0
+BeginGrown first [] = Unit {0}
+BeginGrown first (site ∷ sites) = OwnersGrow first (owners_of site)
+
+-- the owners of the last of them, or these where there is none
+abbrev pub last_of : Owners → List SiteValue → Owners
+last_of first [] = first
+last_of first (site ∷ sites) = last_of (owners_of site) sites
+
 -- these exchanges lead from the tables that stood to those that stand, and a crash after them leaves what a stop may leave
 pub record Answered {K : Type 0} (k : Ghosts K) (old new : K) (xs : List Exchange) (t t2 : Tables) : Type 0 where
   pub run : IsRun xs t t2
   pub crash : LeavesAfter xs (k.may_leave old) t (k.may_leave new) t2
   pub stands : Stands k.is_open k.tables new t2
 
--- so they do where the store is honest after them, and from tables that are sound for the site all is kept that is promised of a run
-abbrev pub KeepsPromises : {K : Type 0} → Ghosts K → SiteValue → K → K → List Exchange → Type 0
-KeepsPromises k site old new xs =
+-- so they do where the store is honest after them; and from tables that are sound for owners from which those of the first site grew, all is kept that is promised of a run
+abbrev pub KeepsPromises : {K : Type 0} → Ghosts K → List SiteValue → K → K → List Exchange → Type 0
+KeepsPromises k sites old new xs =
     k.is_honest new → (t : Tables) → Stands k.is_open k.tables old t
-    → (t2 : Tables) × Answered k old new xs t t2 × (IsSound (owners_of site) t → Promises (owners_of site) xs t t2)
+    → (t2 : Tables) × Answered k old new xs t t2
+    × ((first : Owners) → BeginGrown first sites → IsSound first t → Promises (last_of first sites) xs t t2)
+
+-- the sites of parts, in turn
+abbrev pub sites_of : List Part → List SiteValue
+sites_of parts = map (λ part. part.site.now) parts
+
+-- the calls of their requests, each with its own part's site's section of its customer
+abbrev pub calls_of_parts : List Part → List Call
+calls_of_parts parts = flat_map (λ part. calls_in part.site.now part.requests.now) parts
+
+-- each of them with its reply
+abbrev pub exchanges_of_parts : List Part → List Reply → List Exchange
+exchanges_of_parts parts replies = zip (calls_of_parts parts) (map answer_of replies)

@@ -1,7 +1,7 @@
 // What holds of a store that was stopped.
 ghost use Rattle.std.specs.Prelude.{◌++◌, List};
 ghost use Rattle.std.specs.List.{AllByRecursion};
-ghost use Rattle.site_core.specs.Owners.{AreApart, Owners};
+ghost use Rattle.site_core.specs.Owners.{AreApart, Owners, OwnersGrow};
 ghost use Rattle.office_tables.specs.Tables.{Tables};
 ghost use Rattle.office_laws.specs.Sound.{IsSound};
 ghost use Rattle.office_runs.specs.Exchanges.{Exchange, calls_of};
@@ -13,19 +13,20 @@ ghost use Rattle.office_core.specs.Restarting.{IsLife};
 
 use office_tables::Keep;
 
-/// A store that was stopped goes on as if it hadn't been. What a crash left of it are its tables, or
-/// those after one step more, of a request that was answered 503 since the last one that wasn't. Where
-/// a store is opened over what was left, all that was answered before the stop, that step, and what is
-/// answered after it are one run. From sound tables all that is promised of a run is promised of it:
-/// what was answered is there; a request that comes again, the one with that step too, acts once and
-/// gets the reply of its one execution; and nothing is given twice.
+/// A store that was stopped goes on as if it hadn't been, though the site may have grown in between.
+/// What a crash left of it are its tables, or those after one step more, of a request that was answered
+/// 503 since the last one that wasn't. Where a store is opened over what was left, all that was answered
+/// before the stop, that step, and what is answered after it are one run. From sound tables all that is
+/// promised of a run is promised of it: what was answered is there; a request that comes again, the one
+/// with that step too, acts once and gets the reply of its one execution; and nothing is given twice.
 pub fn stopped_stores_go_on<K: Keep, L: Keep>()
-    ensures { (site : Owners) (opened stopped : K) (again later : L)
+    ensures { (site grown : Owners) (opened stopped : K) (again later : L)
         (xs ys : List Exchange) (t t2 left t3 : Tables)
-        → AreApart site
-        → AllByRecursion (IsSeat site) (calls_of xs) → AllByRecursion (IsSeat site) (calls_of ys)
+        → OwnersGrow site grown → AreApart site → AreApart grown
+        → AllByRecursion (IsSeat site) (calls_of xs) → AllByRecursion (IsSeat grown) (calls_of ys)
         → IsLife K.Keep opened stopped xs t t2 left
         → Answered L.Keep again later ys left t3
         → (more : List Exchange) × IsLeft (IsUnsettled xs) t2 more left
-        × (IsSound site t → Promises site (xs ++ (more ++ ys)) t t3) }
+        × ((first : Owners) → OwnersGrow first site → IsSound first t
+        → Promises grown (xs ++ (more ++ ys)) t t3) }
 {}

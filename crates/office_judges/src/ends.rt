@@ -70,7 +70,9 @@ fn accept_end<K: Keep>(
     seat: &Name,
     step: &DeviceStep,
 ) -> Result<Accepted, Unkept>
-    ensures { Reading K.Keep keep.old keep.new result (λ t accepted. IsAccepted customer.now seat.now t step.now (state_body step.now.device.chip step.now.device.state) accepted) }
+    ensures { Reading K.Keep keep.old keep.new result (λ t accepted.
+        IsAccepted customer.now seat.now t step.now (state_body step.now.device.chip
+        step.now.device.state) accepted) }
 {
     let body = state_body(alloc, &step.device.chip, step.device.state)?;
     accept_step(alloc, keep, customer, seat, step, body)
@@ -86,7 +88,8 @@ pub(crate) fn judge_ship<K: Keep>(
     seat: &Name,
     chip: &Chip,
 ) -> Result<Judgement, Unkept>
-    ensures { Reading K.Keep keep.old keep.new result (λ t judgement. IsJudged customer.now seat.now t (Change.Ship chip.now) judgement) }
+    ensures { Reading K.Keep keep.old keep.new result (λ t judgement.
+        IsJudged customer.now seat.now t (Change.Ship chip.now) judgement) }
 {
     let Some(found) = find_placed(keep, customer, chip)? else {
         return Ok(Judgement::Refused(Refusal::UnknownDevice));
@@ -109,7 +112,8 @@ pub(crate) fn judge_scrap<K: Keep>(
     seat: &Name,
     chip: &Chip,
 ) -> Result<Judgement, Unkept>
-    ensures { Reading K.Keep keep.old keep.new result (λ t judgement. IsJudged customer.now seat.now t (Change.Scrap chip.now) judgement) }
+    ensures { Reading K.Keep keep.old keep.new result (λ t judgement.
+        IsJudged customer.now seat.now t (Change.Scrap chip.now) judgement) }
 {
     let Some(found) = find_placed(keep, customer, chip)? else {
         return Ok(Judgement::Refused(Refusal::UnknownDevice));

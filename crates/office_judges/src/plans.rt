@@ -84,7 +84,8 @@ fn with_work(map: &FuseMap, device: &Device, work: &Work) -> DeviceStep
 
 /// The work of some wishes, or the lowest refusal of them.
 fn judge_wishes(map: &FuseMap, device: &Device, wishes: &[Wish]) -> Result<Work, Refusal>
-    ensures { result ≡ unless_refused (lowest (plan_refusals wishes.now map.now device.now)) (work_of wishes.now map.now device.now) }
+    ensures { result ≡ unless_refused (lowest (plan_refusals wishes.now map.now device.now))
+        (work_of wishes.now map.now device.now) }
 {
     if !may_be_planned(device.state) {
         return Err(Refusal::WrongState);
@@ -105,7 +106,8 @@ pub(crate) fn judge_plan<K: Keep>(
     seat: &Name,
     plan: &NewPlan,
 ) -> Result<Judgement, Unkept>
-    ensures { Reading K.Keep keep.old keep.new result (λ t judgement. IsJudged customer.now seat.now t (Change.PlanDevice plan.now) judgement) }
+    ensures { Reading K.Keep keep.old keep.new result (λ t judgement.
+        IsJudged customer.now seat.now t (Change.PlanDevice plan.now) judgement) }
 {
     let Some(found) = find_placed(keep, customer, &plan.chip)? else {
         return Ok(Judgement::Refused(Refusal::UnknownDevice));

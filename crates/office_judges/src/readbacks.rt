@@ -40,7 +40,8 @@ fn is_awaited(state: DeviceState) -> bool
 
 /// What a read-back of a device shows, or the lowest refusal of it.
 fn judge_words(map: &FuseMap, device: &Device, words: &BlockWords) -> Result<ReadBack, Refusal>
-    ensures { result ≡ unless_refused (lowest (read_refusals words.now map.now device.now)) (redacted map.now words.now) }
+    ensures { result ≡ unless_refused (lowest (read_refusals words.now map.now device.now))
+        (redacted map.now words.now) }
 {
     if !is_awaited(device.state) {
         return Err(Refusal::WrongState);
@@ -224,7 +225,8 @@ pub(crate) fn judge_read_back<K: Keep>(
     seat: &Name,
     read: &NewReadBack,
 ) -> Result<Judgement, Unkept>
-    ensures { Reading K.Keep keep.old keep.new result (λ t judgement. IsJudged customer.now seat.now t (Change.ReadBack read.now) judgement) }
+    ensures { Reading K.Keep keep.old keep.new result (λ t judgement.
+        IsJudged customer.now seat.now t (Change.ReadBack read.now) judgement) }
 {
     let Some(found) = find_placed(keep, customer, &read.chip)? else {
         return Ok(Judgement::Refused(Refusal::UnknownDevice));

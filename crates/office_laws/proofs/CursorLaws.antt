@@ -1,5 +1,6 @@
 -- An order's new cursor is seen by nobody, and keeps the tables sound.
-use Rattle.std.proofs.Common.{◌≡◌, ◌≤◌, ◌+◌, ℕ, Bool, true, false, cond, List, [], ◌∷◌, map, Option, Some, None, Equal, Greater, Less, refl, sym, ap, ◌∙◌, subst}
+use Rattle.std.proofs.Common.{◌≡◌, ◌≤◌, ◌+◌, ℕ, Bool, true, false, cond, List, [], ◌∷◌, map, Option, Some, None, Equal, Greater, Less, refl, sym, ap, ◌∙◌}
+use Rattle.std.proofs.Common.{subst}
 use Rattle.std.specs.Prelude.{filter, find, is_some, IsSomeAnd}
 use Rattle.std.specs.List.{AllByRecursion}
 use Rattle.std.specs.Option.{option_map}
@@ -35,7 +36,8 @@ abbrev AreSame : List (Owned Order) → List (Owned Order) → Type 0
 AreSame xs ys = map row_at_first xs ≡ map row_at_first ys
 
 -- an order of the table takes its own place with another cursor
-moved_same : (p : Owned Order → Bool) (o : Owned Order) (n : ℕ) (rows : List (Owned Order)) → IsInOrder order_cmp rows → find p rows ≡ Some o → AreSame (placed order_cmp (moved n o) rows) rows
+moved_same : (p : Owned Order → Bool) (o : Owned Order) (n : ℕ) (rows : List (Owned Order)) → IsInOrder order_cmp rows → find p rows ≡ Some o
+    → AreSame (placed order_cmp (moved n o) rows) rows
 moved_same p o n [] order e = cc
 moved_same p o n (y ∷ ys) order e =
     elim (p y) as (λ b. cond b (Some y) (find p ys) ≡ Some o → AreSame (placed order_cmp (moved n o) (y ∷ ys)) (y ∷ ys)) [
@@ -63,7 +65,8 @@ all_at_first : (P : Owned Order → Type 0) (rows : List (Owned Order)) → AllB
 all_at_first P [] all = tt
 all_at_first P (o ∷ os) all = (all.0, all_at_first P os all.1)
 
-each_at_first : (P : Owned Order → Type 0) (rows : List (Owned Order)) → AllByRecursion P (map row_at_first rows) → AllByRecursion (λ o. P (row_at_first o)) rows
+each_at_first : (P : Owned Order → Type 0) (rows : List (Owned Order)) → AllByRecursion P (map row_at_first rows) → AllByRecursion (λ o.
+    P (row_at_first o)) rows
 each_at_first P [] all = tt
 each_at_first P (o ∷ os) all = (all.0, each_at_first P os all.1)
 
@@ -88,9 +91,11 @@ own_at_first c (y ∷ ys) =
 
 -- two tables of equal orders
 module _ (before after : List (Owned Order)) (same : AreSame after before) where
-  found_same : (customer name : List ℕ) → option_map row_at_first (find (is_order customer name) after) ≡ option_map row_at_first (find (is_order customer name) before)
+  found_same : (customer name : List ℕ) → option_map row_at_first (find (is_order customer name) after)
+      ≡ option_map row_at_first (find (is_order customer name) before)
   found_same customer name =
-      sym (find_map row_at_first (is_order customer name) after) ∙ (ap (find (is_order customer name)) same ∙ find_map row_at_first (is_order customer name) before)
+      sym (find_map row_at_first (is_order customer name) after)
+      ∙ (ap (find (is_order customer name)) same ∙ find_map row_at_first (is_order customer name) before)
 
   apart_same : EachApart before → EachApart after
   apart_same apart = apart_again after (subst EachApart (sym same) (apart_at_first before apart))
@@ -100,26 +105,30 @@ module _ (before after : List (Owned Order)) (same : AreSame after before) where
 
   there_same : (customer name : List ℕ) → is_some (find (is_order customer name) before) ≡ true → is_some (find (is_order customer name) after) ≡ true
   there_same customer name there =
-      sym (is_some_map row_at_first (find (is_order customer name) after)) ∙ (ap is_some (found_same customer name) ∙ (is_some_map row_at_first (find (is_order customer name) before) ∙ there))
+      sym (is_some_map row_at_first (find (is_order customer name) after))
+      ∙ (ap is_some (found_same customer name) ∙ (is_some_map row_at_first (find (is_order customer name) before) ∙ there))
 
   -- a record is that of its order still
   record_same : (g : Owned Given) (devices : List (Owned Device)) (chip : Option (List ℕ)) → IsRecordOf before devices g chip → IsRecordOf after devices g chip
   record_same g devices None is = is
   record_same g devices (Some chip) is = by (find (is_device g.customer chip) devices) is
     where
-      without : (found : Option (Owned Order)) → IsSomeAnd found (λ o. IsOfOrder o.row g.row) → IsSomeAnd (option_map row_at_first found) (λ o. IsOfOrder o.row g.row)
+      without : (found : Option (Owned Order)) → IsSomeAnd found (λ o. IsOfOrder o.row g.row) → IsSomeAnd (option_map row_at_first found) (λ o.
+          IsOfOrder o.row g.row)
       without None is = is
-      without (Some o) is = record { issuer = is.issuer; number = is.number; is_number = is.is_number; serial = is.serial; mac = is.mac }
+      without (Some o) is = record { issuer = is.issuer; number = is.number; is_number = is.is_number; serial = is.serial; mac = is.mac; start = is.start }
 
-      again : (found : Option (Owned Order)) → IsSomeAnd (option_map row_at_first found) (λ o. IsOfOrder o.row g.row) → IsSomeAnd found (λ o. IsOfOrder o.row g.row)
+      again : (found : Option (Owned Order)) → IsSomeAnd (option_map row_at_first found) (λ o. IsOfOrder o.row g.row) → IsSomeAnd found (λ o.
+          IsOfOrder o.row g.row)
       again None is = is
-      again (Some o) is = record { issuer = is.issuer; number = is.number; is_number = is.is_number; serial = is.serial; mac = is.mac }
+      again (Some o) is = record { issuer = is.issuer; number = is.number; is_number = is.is_number; serial = is.serial; mac = is.mac; start = is.start }
 
       by : (found : Option (Owned Device)) → IsSomeAnd found (IsOfDevice before g) → IsSomeAnd found (IsOfDevice after g)
       by None is = is
       by (Some d) is = (
         is.0,
-        again (find (is_order g.customer d.row.order) after) (subst (λ (found : Option (Owned Order)). IsSomeAnd found (λ o. IsOfOrder o.row g.row)) (sym (found_same g.customer d.row.order))
+        again (find (is_order g.customer d.row.order) after)
+            (subst (λ (found : Option (Owned Order)). IsSomeAnd found (λ o. IsOfOrder o.row g.row)) (sym (found_same g.customer d.row.order))
             (without (find (is_order g.customer d.row.order) before) is.1)),
       )
 
@@ -137,7 +146,14 @@ module _ {owners : Owners} {t : Tables} (sound : IsSound owners t) (c name : Lis
   moved_terms : o.row.range.first ≤ n → n ≤ o.row.range.first + o.row.range.quantity → IsOrder (record o.row { cursor = n })
   moved_terms least largest =
       let terms = holds (λ o. IsOrder o.row) sound.terms in
-      record { range = terms.range; largest_quantity = terms.largest_quantity; largest_macs = terms.largest_macs; mac = terms.mac; least_cursor = least; largest_cursor = largest }
+      record {
+        range = terms.range;
+        largest_quantity = terms.largest_quantity;
+        largest_macs = terms.largest_macs;
+        mac = terms.mac;
+        least_cursor = least;
+        largest_cursor = largest;
+      }
 
   moved_records : IsGivenBelow t.given (moved n o) → AreSoundRecords (placed order_cmp (moved n o) t.orders) t.devices t.given
   moved_records below = record {
@@ -149,13 +165,16 @@ module _ {owners : Owners} {t : Tables} (sound : IsSound owners t) (c name : Lis
     cursors = all_placed (IsGivenBelow t.given) order_cmp (moved n o) t.orders below sound.records.cursors;
   }
 
-  moved_sound : o.row.range.first ≤ n → n ≤ o.row.range.first + o.row.range.quantity → IsGivenBelow t.given (moved n o) → IsSound owners (with_order (moved n o) t)
+  moved_sound : o.row.range.first ≤ n → n ≤ o.row.range.first + o.row.range.quantity → IsGivenBelow t.given (moved n o)
+      → IsSound owners (with_order (moved n o) t)
   moved_sound least largest below = record {
     seats_in_order = sound.seats_in_order;
     orders_in_order = placed_in_order order_cmp orders_total (moved n o) t.orders sound.orders_in_order;
     given_in_order = sound.given_in_order;
     seats = sound.seats;
-    orders = all_placed (λ o. owners.issuer o.row.issuer ≡ Some o.customer) order_cmp (moved n o) t.orders (holds (λ o. owners.issuer o.row.issuer ≡ Some o.customer) sound.orders) sound.orders;
+    orders =
+        all_placed (λ o. owners.issuer o.row.issuer ≡ Some o.customer) order_cmp (moved n o) t.orders
+        (holds (λ o. owners.issuer o.row.issuer ≡ Some o.customer) sound.orders) sound.orders;
     given = sound.given;
     terms = all_placed (λ o. IsOrder o.row) order_cmp (moved n o) t.orders (moved_terms least largest) sound.terms;
     in_pools = all_placed (IsInPool owners) order_cmp (moved n o) t.orders (holds (IsInPool owners) sound.in_pools) sound.in_pools;
@@ -172,14 +191,16 @@ module _ {owners : Owners} {t : Tables} (sound : IsSound owners t) (c name : Lis
       ids_apart = sound.devices.ids_apart;
       customers = sound.devices.customers;
       referred = all_map (IsReferred t.orders t.links) (IsReferred (placed order_cmp (moved n o) t.orders) t.links)
-          (λ d r. record { order = there_same t.orders (placed order_cmp (moved n o) t.orders) orders_same d.customer d.row.order r.order; map = r.map }) t.devices sound.devices.referred;
+          (λ d r. record { order = there_same t.orders (placed order_cmp (moved n o) t.orders) orders_same d.customer d.row.order r.order; map = r.map })
+          t.devices sound.devices.referred;
       ledgers = sound.devices.ledgers;
       of_devices = sound.devices.of_devices;
     };
   }
 
   -- the tables stay sound, where every number below the new cursor is given
-  pub cursor_sound : o.row.range.first ≤ n → n ≤ o.row.range.first + o.row.range.quantity → IsGivenBelow t.given (record { customer = c; row = record o.row { cursor = n } })
+  pub cursor_sound : o.row.range.first ≤ n → n ≤ o.row.range.first + o.row.range.quantity
+      → IsGivenBelow t.given (record { customer = c; row = record o.row { cursor = n } })
       → IsSound owners (with_cursor (record { customer = c; row = record { order = name; number = n } }) t)
   cursor_sound least largest below = subst (IsSound owners) (sym placed_there) (moved_sound least largest below)
 
@@ -204,7 +225,8 @@ module _ {owners : Owners} {t : Tables} (sound : IsSound owners t) (c name : Lis
       record {
         devices = grows.devices;
         maps = grows.maps;
-        orders = λ customer called. order_moved (order_at customer called before) (order_at customer called t) (order_at customer called (with_order (moved n o) t))
+        orders =
+            λ customer called. order_moved (order_at customer called before) (order_at customer called t) (order_at customer called (with_order (moved n o) t))
             (found_same t.orders (placed order_cmp (moved n o) t.orders) orders_same customer called) (grows.orders customer called);
         given = grows.given;
       } in

@@ -12,7 +12,8 @@ use Rattle.office_tables.specs.declared.rows.Device.{Device}
 use Rattle.office_tables.specs.declared.rows.Entry.{Entry}
 use Rattle.office_tables.specs.declared.rows.NewEntry.{NewEntry}
 use Rattle.fusemap_core.specs.Map.{Map}
-use Rattle.office_tables.specs.Tables.{Tables, device_at, device_cmp, entry_cmp, entry_under, entry_with, greatest, has_entry_id, is_device, is_entry_of, is_of, last_number, link_at, order_at, own, placed, text_cmp, with_device, with_new_entry}
+use Rattle.office_tables.specs.Tables.{Tables, device_at, device_cmp, entry_cmp, entry_under, entry_with, greatest, has_entry_id, is_device, is_entry_of}
+use Rattle.office_tables.specs.Tables.{is_of, last_number, link_at, order_at, own, placed, text_cmp, with_device, with_new_entry}
 use Rattle.office_tables.proofs.Finding.{filter_none, filter_only, filter_other, none_passes, some_placed, still_there}
 use Rattle.office_tables.proofs.Placing.{all_map, all_placed, placed_in_order, placed_other, placed_own}
 use Rattle.office_rules.specs.DeviceSteps.{entry_of}
@@ -34,7 +35,9 @@ devices_total : IsTotalOrder device_cmp
 devices_total = then_total (on_total (λ o. o.customer) nat_list_cmp_total) (on_total (λ o. o.row.chip) nat_list_cmp_total)
 
 entries_total : IsTotalOrder entry_cmp
-entries_total = then_total (then_total (on_total (λ o. o.customer) nat_list_cmp_total) (on_total (λ o. o.row.chip) nat_list_cmp_total)) (on_total (λ o. o.row.number) nat_cmp_total)
+entries_total =
+    then_total (then_total (on_total (λ o. o.customer) nat_list_cmp_total) (on_total (λ o. o.row.chip) nat_list_cmp_total))
+    (on_total (λ o. o.row.number) nat_cmp_total)
 
 tied_customers : (c : List ℕ) {A : Type 0} (a b : Owned A) → is_of c a ≡ true → is_of c b ≡ true → text_cmp a.customer b.customer ≡ Equal
 tied_customers c a b p q =
@@ -48,7 +51,8 @@ abbrev entry_row_cmp : Entry → Entry → Ordering
 entry_row_cmp a b = ordering_then (text_cmp a.chip b.chip) (nat_cmp a.number b.number)
 
 entry_agree : (c : List ℕ) (a b : Owned Entry) → is_of c a ≡ true → is_of c b ≡ true → entry_cmp a b ≡ entry_row_cmp a.row b.row
-entry_agree c a b p q = ap (λ r. ordering_then (ordering_then r (text_cmp a.row.chip b.row.chip)) (nat_cmp a.row.number b.row.number)) (tied_customers c a b p q)
+entry_agree c a b p q =
+    ap (λ r. ordering_then (ordering_then r (text_cmp a.row.chip b.row.chip)) (nat_cmp a.row.number b.row.number)) (tied_customers c a b p q)
 
 -- a row whose place another has is the same customer's
 device_place : (d : Owned Device) (rows : List (Owned Device)) → AllByRecursion (λ y. device_cmp d y ≡ Equal → d.customer ≡ y.customer) rows
@@ -84,7 +88,8 @@ module _ {owners : Owners} {t : Tables} (sound : IsSound owners t) (c seat : Lis
   abbrev named : Named
   named = λ customer digest. map_named customer digest t
 
-  -- what a step asks for: its customer is the site's, its order and its map are there, its entry's number is new, it follows the device that was there, and its ledger is what its map asks for
+  -- what a step asks for: its customer is the site's, its order and its map are there, its entry's number is new, it follows the device that was there, and its
+  -- ledger is what its map asks for
   pub record IsLawful : Type 0 where
     pub mine : owners.customer c ≡ true
     pub order : is_some (order_at c step.device.order t) ≡ true
@@ -106,7 +111,9 @@ module _ {owners : Owners} {t : Tables} (sound : IsSound owners t) (c seat : Lis
             let parts = and_parts (bytes_eq y.customer c) (bytes_eq y.row.chip step.device.chip) its in
             let owner : y.customer ≡ c = same_text y.customer c parts.0 in
             let chip : y.row.chip ≡ step.device.chip = same_text y.row.chip step.device.chip parts.1 in
-            let passes : is_device c step.device.chip y ≡ true = and_from (bytes_eq c y.customer) (bytes_eq step.device.chip y.row.chip) (text_itself c y.customer (sym owner)) (text_itself step.device.chip y.row.chip (sym chip)) in
+            let passes : is_device c step.device.chip y ≡ true =
+            and_from (bytes_eq c y.customer) (bytes_eq step.device.chip y.row.chip) (text_itself c y.customer (sym owner))
+            (text_itself step.device.chip y.row.chip (sym chip)) in
             cc (passes, other)
         | false ↦ λ _. refl
       ] refl
@@ -122,8 +129,11 @@ module _ {owners : Owners} {t : Tables} (sound : IsSound owners t) (c seat : Lis
         each es,
       )
 
-  ledgers_after : (rows : List (Owned Device)) → AllByRecursion (HasLedger named t.ledger) rows → AllByRecursion (λ y. (device_cmp d y ≡ Equal → ⊥) → HasLedger named after.ledger y) rows
-  ledgers_after rows has = all_map (HasLedger named t.ledger) (λ y. (device_cmp d y ≡ Equal → ⊥) → HasLedger named after.ledger y) (λ y its other. old_ledger y (differs y other) its) rows has
+  ledgers_after : (rows : List (Owned Device)) → AllByRecursion (HasLedger named t.ledger) rows → AllByRecursion (λ y.
+      (device_cmp d y ≡ Equal → ⊥) → HasLedger named after.ledger y) rows
+  ledgers_after rows has =
+      all_map (HasLedger named t.ledger) (λ y. (device_cmp d y ≡ Equal → ⊥) → HasLedger named after.ledger y) (λ y its other.
+      old_ledger y (differs y other) its) rows has
     where
       differs : (y : Owned Device) → (device_cmp d y ≡ Equal → ⊥) → is_device c step.device.chip y ≡ false
       differs y other = elim (is_device c step.device.chip y) as (λ b. is_device c step.device.chip y ≡ b → b ≡ false) [
@@ -138,11 +148,15 @@ module _ {owners : Owners} {t : Tables} (sound : IsSound owners t) (c seat : Lis
     ids_apart = ids_apart_placed entry t.ledger (none_passes (has_entry_id id) t.ledger lawful.new_id) sound.devices.ids_apart;
     customers = all_placed (λ o. owners.customer o.customer ≡ true) device_cmp d t.devices lawful.mine sound.devices.customers;
     referred = all_placed (IsReferred t.orders t.links) device_cmp d t.devices (record { order = lawful.order; map = lawful.link }) sound.devices.referred;
-    ledgers = all_placed_apart device_cmp d (HasLedger named after.ledger) devices_total t.devices lawful.ledger sound.devices.devices_in_order (ledgers_after t.devices sound.devices.ledgers);
+    ledgers =
+        all_placed_apart device_cmp d (HasLedger named after.ledger) devices_total t.devices lawful.ledger sound.devices.devices_in_order
+        (ledgers_after t.devices sound.devices.ledgers);
     of_devices = all_placed (λ e. is_some (find (is_device e.customer e.row.chip) after.devices) ≡ true) entry_cmp entry t.ledger
         (some_placed (is_device c step.device.chip) device_cmp d t.devices (own_device d))
-        (all_map (λ e. is_some (find (is_device e.customer e.row.chip) t.devices) ≡ true) (λ e. is_some (find (is_device e.customer e.row.chip) after.devices) ≡ true)
-        (λ e there. still_there (is_device e.customer e.row.chip) device_cmp d t.devices (each_device e.customer e.row.chip d t.devices) there) t.ledger sound.devices.of_devices);
+        (all_map (λ e. is_some (find (is_device e.customer e.row.chip) t.devices) ≡ true) (λ e.
+        is_some (find (is_device e.customer e.row.chip) after.devices) ≡ true)
+        (λ e there. still_there (is_device e.customer e.row.chip) device_cmp d t.devices (each_device e.customer e.row.chip d t.devices) there) t.ledger
+        sound.devices.of_devices);
   }
 
   pub step_sound : IsLawful → IsSound owners after
@@ -173,10 +187,12 @@ module _ {owners : Owners} {t : Tables} (sound : IsSound owners t) (c seat : Lis
   }
 
   -- the ledger of a device that wasn't there
-  pub new_ledger : device_at c step.device.chip t ≡ None → ((m : Map) → named c step.device.map ≡ Some m → IsKept m step.device (entry ∷ [])) → HasLedger named after.ledger d
+  pub new_ledger : device_at c step.device.chip t ≡ None → ((m : Map) → named c step.device.map ≡ Some m → IsKept m step.device (entry ∷ []))
+      → HasLedger named after.ledger d
   new_ledger new kept =
       let only = filter_only (is_entry_of c step.device.chip) entry_cmp entry t.ledger (own_device d) no_entries in
-      let number : last_number c step.device.chip t + 1 ≡ 1 = ap (λ (rows : List (Owned Entry)). greatest (map (λ e. e.row.number) rows) + 1) (filter_none (is_entry_of c step.device.chip) t.ledger no_entries) in
+      let number : last_number c step.device.chip t + 1 ≡ 1 =
+      ap (λ (rows : List (Owned Entry)). greatest (map (λ e. e.row.number) rows) + 1) (filter_none (is_entry_of c step.device.chip) t.ledger no_entries) in
       record { numbered = subst (AreNumbered 1) (sym only) (number, tt); by_map = λ m is. subst (IsKept m step.device) (sym only) (kept m is) }
     where
       not_its : (e : Owned Entry) → is_some (find (is_device e.customer e.row.chip) t.devices) ≡ true → is_entry_of c step.device.chip e ≡ false
@@ -191,11 +207,14 @@ module _ {owners : Owners} {t : Tables} (sound : IsSound owners t) (c seat : Lis
       ] refl
 
       no_entries : AllByRecursion (λ e. is_entry_of c step.device.chip e ≡ false) t.ledger
-      no_entries = all_map (λ e. is_some (find (is_device e.customer e.row.chip) t.devices) ≡ true) (λ e. is_entry_of c step.device.chip e ≡ false) not_its t.ledger sound.devices.of_devices
+      no_entries =
+          all_map (λ e. is_some (find (is_device e.customer e.row.chip) t.devices) ≡ true) (λ e.
+          is_entry_of c step.device.chip e ≡ false) not_its t.ledger sound.devices.of_devices
 
   -- and that of a device that was there: one entry more at its end
   pub next_ledger : (old : Owned Device) → device_at c step.device.chip t ≡ Some old → step.device.map ≡ old.row.map
-      → ((m : Map) → named c old.row.map ≡ Some m → (es : List (Owned Entry)) → IsKept m old.row es → IsKept m step.device (es ++ entry ∷ [])) → HasLedger named after.ledger d
+      → ((m : Map) → named c old.row.map ≡ Some m → (es : List (Owned Entry)) → IsKept m old.row es → IsKept m step.device (es ++ entry ∷ []))
+      → HasLedger named after.ledger d
   next_ledger old there same_map kept =
       let found = find_holds (HasLedger named t.ledger) (is_device c step.device.chip) t.devices old sound.devices.ledgers there in
       let parts = and_parts (bytes_eq c old.customer) (bytes_eq step.device.chip old.row.chip) found.1 in
@@ -222,9 +241,13 @@ module _ {owners : Owners} {t : Tables} (sound : IsSound owners t) (c seat : Lis
     given = own c t.given;
     maps = map (own_map t) (own c t.links);
     devices = placed_own c device_cmp own_device_cmp devices_total (device_agree c) d (text_itself c c refl) t.devices sound.devices.devices_in_order
-        (all_map (λ y. device_cmp d y ≡ Equal → c ≡ y.customer) (λ y. device_cmp d y ≡ Equal → is_of c y ≡ true) (λ y f e. text_itself c y.customer (f e)) t.devices (device_place d t.devices)) i;
-    ledger = (ap (map own_entry) (placed_own c entry_cmp entry_row_cmp entries_total (entry_agree c) entry (text_itself c c refl) t.ledger sound.devices.ledger_in_order
-        (all_map (λ y. entry_cmp entry y ≡ Equal → c ≡ y.customer) (λ y. entry_cmp entry y ≡ Equal → is_of c y ≡ true) (λ y f e. text_itself c y.customer (f e)) t.ledger (entry_place entry t.ledger)))
+        (all_map (λ y. device_cmp d y ≡ Equal → c ≡ y.customer) (λ y. device_cmp d y ≡ Equal → is_of c y ≡ true) (λ y f e.
+        text_itself c y.customer (f e)) t.devices (device_place d t.devices)) i;
+    ledger =
+        (ap (map own_entry) (placed_own c entry_cmp entry_row_cmp entries_total (entry_agree c) entry
+        (text_itself c c refl) t.ledger sound.devices.ledger_in_order
+        (all_map (λ y. entry_cmp entry y ≡ Equal → c ≡ y.customer) (λ y. entry_cmp entry y ≡ Equal → is_of c y ≡ true) (λ y f e.
+        text_itself c y.customer (f e)) t.ledger (entry_place entry t.ledger)))
         ∙ (map_placed own_entry entry_row_cmp own_entry_cmp (λ _ _. refl) entry.row (own c t.ledger)
         ∙ ap (λ last. placed own_entry_cmp (entry_of seat (last + 1) step) (map own_entry (own c t.ledger))) (last_own c step.device.chip t))) i;
   }
@@ -236,7 +259,9 @@ module _ {owners : Owners} {t : Tables} (sound : IsSound owners t) (c seat : Lis
     given = own other t.given;
     maps = map (own_map t) (own other t.links);
     devices = placed_other other device_cmp d differs t.devices
-        (all_map (λ y. device_cmp d y ≡ Equal → c ≡ y.customer) (λ y. device_cmp d y ≡ Equal → is_of other y ≡ false) (λ y f e. subst (λ x. bytes_eq other x ≡ false) (f e) differs) t.devices (device_place d t.devices)) i;
+        (all_map (λ y. device_cmp d y ≡ Equal → c ≡ y.customer) (λ y. device_cmp d y ≡ Equal → is_of other y ≡ false) (λ y f e.
+        subst (λ x. bytes_eq other x ≡ false) (f e) differs) t.devices (device_place d t.devices)) i;
     ledger = map own_entry (placed_other other entry_cmp entry differs t.ledger
-        (all_map (λ y. entry_cmp entry y ≡ Equal → c ≡ y.customer) (λ y. entry_cmp entry y ≡ Equal → is_of other y ≡ false) (λ y f e. subst (λ x. bytes_eq other x ≡ false) (f e) differs) t.ledger (entry_place entry t.ledger)) i);
+        (all_map (λ y. entry_cmp entry y ≡ Equal → c ≡ y.customer) (λ y. entry_cmp entry y ≡ Equal → is_of other y ≡ false) (λ y f e.
+        subst (λ x. bytes_eq other x ≡ false) (f e) differs) t.ledger (entry_place entry t.ledger)) i);
   }

@@ -1,4 +1,5 @@
--- A new record of a serial number acts on the customer's view as on the customer's own machine, leaves each other view, keeps the tables sound, and forgets nothing.
+-- A new record of a serial number acts on the customer's view as on the customer's own machine, leaves each other view, keeps the tables sound, and forgets
+-- nothing.
 use Rattle.std.proofs.Common.{◌≡◌, ◌==◌, ℕ, arith, true, false, List, [], ◌∷◌, map, Option, Some, None, Less, Equal, Greater, refl, sym, ◌∙◌, subst}
 use Rattle.std.specs.Prelude.{bytes_eq, find, IfSome}
 use Rattle.std.specs.List.{AllByRecursion}
@@ -12,7 +13,8 @@ use Rattle.id_ranges.specs.Range.{text_of}
 use Rattle.office_tables.specs.declared.rows.Owned.{Owned}
 use Rattle.office_tables.specs.declared.rows.Given.{Given}
 use Rattle.office_tables.specs.declared.rows.Order.{Order}
-use Rattle.office_tables.specs.Tables.{Tables, IsAddressFree, given_at, given_by_key, given_cmp, has_address, is_address, is_bound, is_given, is_of, own, placed, with_given}
+use Rattle.office_tables.specs.Tables.{Tables, IsAddressFree, given_at, given_by_key, given_cmp, has_address, is_address, is_bound, is_given, is_of, own}
+use Rattle.office_tables.specs.Tables.{placed, with_given}
 use Rattle.office_tables.proofs.Finding.{none_passes, other_placed, still_there}
 use Rattle.office_tables.proofs.Placing.{all_map, all_placed, placed_in_order, placed_other, placed_own}
 use Rattle.office_rules.specs.Devices.{own_entry}
@@ -35,13 +37,16 @@ same_given issuer serial x y same passes =
     let named : x.row.serial ≡ y.row.serial = same_place x.row.serial y.row.serial (second_equal _ _ same) in
     rw (owner, named) passes
 
-pub each_given : (issuer serial : List ℕ) (x : Owned Given) (rows : List (Owned Given)) → AllByRecursion (λ y. given_cmp x y ≡ Equal → is_given issuer serial y ≡ true → is_given issuer serial x ≡ true) rows
+pub each_given : (issuer serial : List ℕ) (x : Owned Given) (rows : List (Owned Given)) → AllByRecursion (λ y.
+    given_cmp x y ≡ Equal → is_given issuer serial y ≡ true → is_given issuer serial x ≡ true) rows
 each_given issuer serial x [] = tt
 each_given issuer serial x (y ∷ ys) = (same_given issuer serial x y, each_given issuer serial x ys)
 
 -- the record that was added is found
 pub given_found : (g : Owned Given) (rows : List (Owned Given)) → find (is_given g.row.issuer g.row.serial) (placed given_cmp g rows) ≡ Some g
-given_found g rows = found_replaced given_cmp g (is_given g.row.issuer g.row.serial) rows (and_from _ _ (text_itself g.row.issuer g.row.issuer refl) (text_itself g.row.serial g.row.serial refl)) (tied rows)
+given_found g rows =
+    found_replaced given_cmp g (is_given g.row.issuer g.row.serial) rows
+    (and_from _ _ (text_itself g.row.issuer g.row.issuer refl) (text_itself g.row.serial g.row.serial refl)) (tied rows)
   where
     tied : (rows : List (Owned Given)) → AllByRecursion (λ y. is_given g.row.issuer g.row.serial y ≡ true → given_cmp g y ≡ Equal) rows
     tied [] = tt
@@ -61,13 +66,16 @@ bound_turned g y fails = elim (is_bound y.row.issuer y.row.key g) as (λ b. is_b
       let parts = and_parts (bytes_eq y.row.issuer g.row.issuer) (bytes_eq y.row.key g.row.key) its in
       let owner : g.row.issuer ≡ y.row.issuer = sym (same_text y.row.issuer g.row.issuer parts.0) in
       let key : g.row.key ≡ y.row.key = sym (same_text y.row.key g.row.key parts.1) in
-      let also : is_bound g.row.issuer g.row.key y ≡ true = and_from (bytes_eq g.row.issuer y.row.issuer) (bytes_eq g.row.key y.row.key) (text_itself g.row.issuer y.row.issuer owner) (text_itself g.row.key y.row.key key) in
+      let also : is_bound g.row.issuer g.row.key y ≡ true =
+      and_from (bytes_eq g.row.issuer y.row.issuer) (bytes_eq g.row.key y.row.key) (text_itself g.row.issuer y.row.issuer owner)
+      (text_itself g.row.key y.row.key key) in
       cc (also, fails)
   | false ↦ λ _. refl
 ] refl
 
 -- a new key among others
-keys_apart_placed : (g : Owned Given) (gs : List (Owned Given)) → AllByRecursion (λ other. is_bound g.row.issuer g.row.key other ≡ false) gs → AreKeysApart gs → AreKeysApart (placed given_cmp g gs)
+keys_apart_placed : (g : Owned Given) (gs : List (Owned Given)) → AllByRecursion (λ other.
+    is_bound g.row.issuer g.row.key other ≡ false) gs → AreKeysApart gs → AreKeysApart (placed given_cmp g gs)
 keys_apart_placed g [] all apart = (tt, tt)
 keys_apart_placed g (y ∷ ys) all apart =
     elim (given_cmp g y) as (λ o. AreKeysApart (match_ordering o (g ∷ y ∷ ys) (g ∷ ys) (y ∷ placed given_cmp g ys))) [
@@ -95,7 +103,8 @@ all_other None [] free = tt
 all_other None (y ∷ ys) free = (tt, all_other None ys tt)
 
 -- a new address among others
-addresses_apart_placed : (g : Owned Given) (gs : List (Owned Given)) → AllByRecursion (HasOther g.row.mac) gs → AreAddressesApart gs → AreAddressesApart (placed given_cmp g gs)
+addresses_apart_placed : (g : Owned Given) (gs : List (Owned Given)) → AllByRecursion (HasOther g.row.mac) gs → AreAddressesApart gs
+    → AreAddressesApart (placed given_cmp g gs)
 addresses_apart_placed g [] all apart = (tt, tt)
 addresses_apart_placed g (y ∷ ys) all apart =
     elim (given_cmp g y) as (λ o. AreAddressesApart (match_ordering o (g ∷ y ∷ ys) (g ∷ ys) (y ∷ placed given_cmp g ys))) [
@@ -109,7 +118,8 @@ addresses_apart_placed g (y ∷ ys) all apart =
 
 -- what is given below an order's cursor is given still
 below_after : (g : Owned Given) (gs : List (Owned Given)) (o : Owned Order) → IsGivenBelow gs o → IsGivenBelow (placed given_cmp g gs) o
-below_after g gs o is n least below = still_there (is_given o.row.issuer (text_of o.row.range n)) given_cmp g gs (each_given o.row.issuer (text_of o.row.range n) g gs) (is n least below)
+below_after g gs o is n least below =
+    still_there (is_given o.row.issuer (text_of o.row.range n)) given_cmp g gs (each_given o.row.issuer (text_of o.row.range n) g gs) (is n least below)
 
 -- a record of a serial number that nobody has, for a key that none has, with an address that none has
 module _ {owners : Owners} {t : Tables} (sound : IsSound owners t) (g : Owned Given) where
@@ -143,7 +153,8 @@ module _ {owners : Owners} {t : Tables} (sound : IsSound owners t) (g : Owned Gi
   -- a record whose place another has is the same customer's
   given_place : owners.issuer g.row.issuer ≡ Some g.customer → AllByRecursion (λ y. given_cmp g y ≡ Equal → g.customer ≡ y.customer) t.given
   given_place mine = all_map (λ o. owners.issuer o.row.issuer ≡ Some o.customer) (λ y. given_cmp g y ≡ Equal → g.customer ≡ y.customer)
-      (λ o owner e. owner_is owners.issuer g.row.issuer o.row.issuer g.customer o.customer mine owner (text_itself g.row.issuer o.row.issuer (same_place g.row.issuer o.row.issuer (first_equal _ _ e)))) t.given sound.given
+      (λ o owner e. owner_is owners.issuer g.row.issuer o.row.issuer g.customer o.customer mine owner
+      (text_itself g.row.issuer o.row.issuer (same_place g.row.issuer o.row.issuer (first_equal _ _ e)))) t.given sound.given
 
   pub given_view : owners.issuer g.row.issuer ≡ Some g.customer → view g.customer (with_given g t) ≡ with_own_given g.row (view g.customer t)
   given_view mine =
@@ -155,7 +166,8 @@ module _ {owners : Owners} {t : Tables} (sound : IsSound owners t) (g : Owned Gi
         devices = own c t.devices;
         ledger = map own_entry (own c t.ledger);
         given = placed_own c given_cmp own_given_cmp given_total (λ _ _ _ _. refl) g (text_itself c c refl) t.given sound.given_in_order
-            (all_map (λ y. given_cmp g y ≡ Equal → c ≡ y.customer) (λ y. given_cmp g y ≡ Equal → is_of c y ≡ true) (λ y f e. text_itself c y.customer (f e)) t.given (given_place mine)) i;
+            (all_map (λ y. given_cmp g y ≡ Equal → c ≡ y.customer) (λ y. given_cmp g y ≡ Equal → is_of c y ≡ true) (λ y f e.
+            text_itself c y.customer (f e)) t.given (given_place mine)) i;
       }
 
   pub given_hidden : owners.issuer g.row.issuer ≡ Some g.customer → (d : List ℕ) → bytes_eq d g.customer ≡ false → view d (with_given g t) ≡ view d t
@@ -166,7 +178,8 @@ module _ {owners : Owners} {t : Tables} (sound : IsSound owners t) (g : Owned Gi
     devices = own d t.devices;
     ledger = map own_entry (own d t.ledger);
     given = placed_other d given_cmp g other t.given
-        (all_map (λ y. given_cmp g y ≡ Equal → g.customer ≡ y.customer) (λ y. given_cmp g y ≡ Equal → is_of d y ≡ false) (λ y f e. subst (λ x. bytes_eq d x ≡ false) (f e) other) t.given (given_place mine)) i;
+        (all_map (λ y. given_cmp g y ≡ Equal → g.customer ≡ y.customer) (λ y. given_cmp g y ≡ Equal → is_of d y ≡ false) (λ y f e.
+        subst (λ x. bytes_eq d x ≡ false) (f e) other) t.given (given_place mine)) i;
   }
 
 -- a record under a serial number that nobody has, after what kept all
@@ -178,10 +191,12 @@ given_grows before t g new grows = record {
   given = λ issuer serial. by issuer serial (given_at issuer serial before) (grows.given issuer serial);
 }
   where
-    by : (issuer serial : List ℕ) (found : Option (Owned Given)) → IfSome found (λ old. given_at issuer serial t ≡ Some old) → IfSome found (λ old. given_at issuer serial (with_given g t) ≡ Some old)
+    by : (issuer serial : List ℕ) (found : Option (Owned Given)) → IfSome found (λ old. given_at issuer serial t ≡ Some old) → IfSome found (λ old.
+        given_at issuer serial (with_given g t) ≡ Some old)
     by issuer serial None is = tt
     by issuer serial (Some old) is =
-        other_placed (is_given issuer serial) given_cmp g t.given differs (others_fail given_cmp g (is_given issuer serial) t.given differs (each_given issuer serial g t.given)) ∙ is
+        other_placed (is_given issuer serial) given_cmp g t.given differs
+        (others_fail given_cmp g (is_given issuer serial) t.given differs (each_given issuer serial g t.given)) ∙ is
       where
         differs : is_given issuer serial g ≡ false
         differs = elim (is_given issuer serial g) as (λ b. is_given issuer serial g ≡ b → b ≡ false) [

@@ -36,7 +36,8 @@ pub above : (n : ℕ) (cs : List (Bool × Refusal)) → AscendFrom n cs → AllB
 above n [] up = tt
 above n (c ∷ cs) up = (up.0, all_above n (refusal_number c.1) cs up.0 (above (refusal_number c.1) cs up.1))
   where
-    all_above : (n m : ℕ) (cs : List (Bool × Refusal)) → n < m → AllByRecursion (λ c. m < refusal_number c.1) cs → AllByRecursion (λ c. n < refusal_number c.1) cs
+    all_above : (n m : ℕ) (cs : List (Bool × Refusal)) → n < m → AllByRecursion (λ c. m < refusal_number c.1) cs → AllByRecursion (λ c.
+        n < refusal_number c.1) cs
     all_above n m [] less up = tt
     all_above n m (c ∷ cs) less up = (omega (arith, less, up.0), all_above n m cs less up.1)
 
@@ -61,12 +62,14 @@ lowest_of_ascending n [] r up e = cc
 lowest_of_ascending n (c ∷ cs) r up e = first_is_lowest c.0 c.1 r cs up.1 (lowest_of_ascending (refusal_number c.1) cs r up.1) e
 
 -- the refusals of a map's text
-map_ascends : {A : Type 0} (fault : Option ℕ) (other : Bool) (found : Option A) (count : ℕ) → AscendFrom 12 (bad_map fault ++ refusals_of_text other found count)
+map_ascends : {A : Type 0} (fault : Option ℕ) (other : Bool) (found : Option A) (count : ℕ)
+    → AscendFrom 12 (bad_map fault ++ refusals_of_text other found count)
 map_ascends None other found count = (omega arith, (omega arith, tt))
 map_ascends (Some fault) other found count = (omega arith, (omega arith, (omega arith, tt)))
 
 -- those of a registration
-shown_ascends : (fit : Bool) (coding hidden : Bool × Refusal) (bad : Refusal) → 18 < refusal_number coding.1 → refusal_number coding.1 < refusal_number hidden.1 → 18 < refusal_number bad
+shown_ascends : (fit : Bool) (coding hidden : Bool × Refusal) (bad : Refusal) → 18 < refusal_number coding.1 → refusal_number coding.1 < refusal_number hidden.1
+    → 18 < refusal_number bad
     → AscendFrom 18 (if fit then coding ∷ hidden ∷ [] else (true, bad) ∷ [])
 shown_ascends true coding hidden bad first second other = (first, (second, tt))
 shown_ascends false coding hidden bad first second other = (other, tt)
@@ -76,7 +79,8 @@ readback_ascends None words = tt
 readback_ascends (Some m) words = shown_ascends (fits m words) _ _ _ (omega arith) (omega arith) (omega arith)
 
 -- those of a step of a device that was looked up
-step_ascends : (against : Map → Device → List (Bool × Refusal)) → ((m : Map) (d : Device) → AscendFrom 12 (against m d)) → (found : Option FoundDevice) → AscendFrom 12 (step_refusals against found)
+step_ascends : (against : Map → Device → List (Bool × Refusal)) → ((m : Map) (d : Device) → AscendFrom 12 (against m d)) → (found : Option FoundDevice)
+    → AscendFrom 12 (step_refusals against found)
 step_ascends against each None = (omega arith, tt)
 step_ascends against each (Some found) = with_map found.map found.device
   where
@@ -99,12 +103,27 @@ conflicts_ascend g (Some rows) = conflict_ascends (imported g rows)
 
 -- those of each command stand in the order of their numbers, after those of the retry rule
 pub refusals_ascend : (s : Section) (t : Tables) (c : Change) → AscendFrom 12 (refusals s t c)
-refusals_ascend s t (MakeOrder o) = (omega arith, (omega arith, (omega arith, (omega arith, (omega arith, (omega arith, (omega arith, tt)))))))
+refusals_ascend s t (MakeOrder o) = (omega arith, (omega arith, (omega arith, (omega arith, (omega arith, (omega arith, (omega arith, (omega arith, tt))))))))
 refusals_ascend s t (ImportMap text) =
     map_ascends (map_fault text) (is_other_text t text (link_at s.name (sha256 text) t)) (link_at s.name (sha256 text) t) (length (own s.name t.links))
 refusals_ascend s t (RegisterDevice d) = (omega arith, (omega arith, (omega arith, (omega arith, readback_ascends (map_named s.name d.map t) d.blocks))))
 refusals_ascend s t (PlanDevice p) =
-    step_ascends (plan_refusals p.wishes) (λ m d. (omega arith, (omega arith, (omega arith, (omega arith, (omega arith, (omega arith, (omega arith, (omega arith, (omega arith, (omega arith, (omega arith, tt)))))))))))) (device_found s p.chip t)
+    step_ascends (plan_refusals p.wishes) (λ m d. (
+      omega arith,
+      (
+        omega arith,
+        (
+          omega arith,
+          (
+            omega arith,
+            (
+              omega arith,
+              (omega arith, (omega arith, (omega arith, (omega arith, (omega arith, (omega arith, tt)))))),
+            ),
+          ),
+        ),
+      ),
+    )) (device_found s p.chip t)
 refusals_ascend s t (ReadBack r) = step_ascends (read_refusals r.blocks) (λ m d. (omega arith, (omega arith, tt))) (device_found s r.chip t)
 refusals_ascend s t (Identify i) = step_ascends _ (λ m d. identity_ascends t i.key (order_of s t d) m d) (device_found s i.chip t)
 refusals_ascend s t (Ship chip) = step_ascends ship_refusals (λ m d. (omega arith, tt)) (device_found s chip t)

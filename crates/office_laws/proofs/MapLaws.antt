@@ -38,7 +38,8 @@ link_place l [] = tt
 link_place l (y ∷ ys) = ((λ e. same_place l.customer y.customer (first_equal _ _ e)), link_place l ys)
 
 module _ {owners : Owners} {t : Tables} (sound : IsSound owners t) where
-  pub link_sound : (l : Owned Link) → owners.customer l.customer ≡ true → IsLinked t l → link_at l.customer l.row.digest t ≡ None → IsSound owners (with_link l t)
+  pub link_sound : (l : Owned Link) → owners.customer l.customer ≡ true → IsLinked t l → link_at l.customer l.row.digest t ≡ None
+      → IsSound owners (with_link l t)
   link_sound l mine linked none = record {
     seats_in_order = sound.seats_in_order;
     orders_in_order = sound.orders_in_order;
@@ -59,7 +60,8 @@ module _ {owners : Owners} {t : Tables} (sound : IsSound owners t) where
         (λ customer digest. map_named customer digest (with_link l t)) (λ d there. named_after_link t l none d.customer d.row.map there) l sound.devices;
   }
 
-  pub link_view : (l : Owned Link) → view l.customer (with_link l t) ≡ (let s = view l.customer t in record s { maps = placed own_map_cmp (own_map t l.row) s.maps })
+  pub link_view : (l : Owned Link) → view l.customer (with_link l t)
+      ≡ (let s = view l.customer t in record s { maps = placed own_map_cmp (own_map t l.row) s.maps })
   link_view l =
       let c = l.customer in
       λ i. record {
@@ -69,7 +71,8 @@ module _ {owners : Owners} {t : Tables} (sound : IsSound owners t) where
         devices = own c t.devices;
         ledger = map own_entry (own c t.ledger);
         maps = (ap (map (own_map t)) (placed_own c link_cmp own_link_cmp links_total (link_agree c) l (text_itself c c refl) t.links sound.links_in_order
-            (all_map (λ y. link_cmp l y ≡ Equal → c ≡ y.customer) (λ y. link_cmp l y ≡ Equal → is_of c y ≡ true) (λ y f e. text_itself c y.customer (f e)) t.links (link_place l t.links)))
+            (all_map (λ y. link_cmp l y ≡ Equal → c ≡ y.customer) (λ y. link_cmp l y ≡ Equal → is_of c y ≡ true) (λ y f e.
+            text_itself c y.customer (f e)) t.links (link_place l t.links)))
             ∙ map_placed (own_map t) own_link_cmp own_map_cmp (λ _ _. refl) l.row (own c t.links)) i;
       }
 
@@ -81,7 +84,8 @@ module _ {owners : Owners} {t : Tables} (sound : IsSound owners t) where
     devices = own d t.devices;
     ledger = map own_entry (own d t.ledger);
     maps = map (own_map t) (placed_other d link_cmp l other t.links
-        (all_map (λ y. link_cmp l y ≡ Equal → l.customer ≡ y.customer) (λ y. link_cmp l y ≡ Equal → is_of d y ≡ false) (λ y f e. subst (λ x. bytes_eq d x ≡ false) (f e) other) t.links (link_place l t.links)) i);
+        (all_map (λ y. link_cmp l y ≡ Equal → l.customer ≡ y.customer) (λ y. link_cmp l y ≡ Equal → is_of d y ≡ false) (λ y f e.
+        subst (λ x. bytes_eq d x ≡ false) (f e) other) t.links (link_place l t.links)) i);
   }
 
   -- a new map that nobody has a link to
@@ -103,7 +107,8 @@ module _ {owners : Owners} {t : Tables} (sound : IsSound owners t) where
     linked = all_map (IsLinked t) (IsLinked (with_map (record { id = id; body = body }) t)) (linked_after t id body fresh) t.links sound.linked;
     records = sound.records;
     devices = referred_after_map owners (λ customer digest. map_named customer digest t) t.orders t.links t.devices t.ledger
-        (λ customer digest. map_named customer digest (with_map (record { id = id; body = body }) t)) (λ d _. named_after_map t id body fresh sound.linked d.customer d.row.map) sound.devices;
+        (λ customer digest. map_named customer digest (with_map (record { id = id; body = body }) t)) (λ d _.
+        named_after_map t id body fresh sound.linked d.customer d.row.map) sound.devices;
   }
 
   pub map_hidden : (id : ℕ) (body : List ℕ) → map_at id t ≡ None → (d : List ℕ) → view d (with_map (record { id = id; body = body }) t) ≡ view d t

@@ -28,19 +28,24 @@ ghost use Rattle.office_laws.specs.Sound.{IsSound};
 /// is given stays; and an identity gives what was nobody's. As the own machine is a function of the
 /// view, equal views give equal replies.
 pub fn steps_are_the_customers_own()
-    ensures own { (owners : Owners) (s : Section) (seat : List ℕ) (t : Tables) (r : Request) (reply : Answer) (t2 : Tables)
+    ensures own { (owners : Owners) (s : Section) (seat : List ℕ) (t : Tables) (r : Request)
+        (reply : Answer) (t2 : Tables)
         → AreApart owners → IsSection owners s → owners.seat seat ≡ Some s.name → IsAsked r → IsSound owners t → Step s seat t r reply t2
         → (reply, view s.name t2) ≡ solo s seat (view s.name t) r }
-    ensures other { (owners : Owners) (s : Section) (seat : List ℕ) (t : Tables) (r : Request) (reply : Answer) (t2 : Tables)
+    ensures other { (owners : Owners) (s : Section) (seat : List ℕ) (t : Tables) (r : Request)
+        (reply : Answer) (t2 : Tables)
         → AreApart owners → IsSection owners s → owners.seat seat ≡ Some s.name → IsAsked r → IsSound owners t → Step s seat t r reply t2
         → (customer : List ℕ) → bytes_eq customer s.name ≡ false → view customer t2 ≡ view customer t }
-    ensures sound { (owners : Owners) (s : Section) (seat : List ℕ) (t : Tables) (r : Request) (reply : Answer) (t2 : Tables)
+    ensures sound { (owners : Owners) (s : Section) (seat : List ℕ) (t : Tables) (r : Request)
+        (reply : Answer) (t2 : Tables)
         → AreApart owners → IsSection owners s → owners.seat seat ≡ Some s.name → IsAsked r → IsSound owners t → Step s seat t r reply t2
         → IsSound owners t2 }
-    ensures grows { (owners : Owners) (s : Section) (seat : List ℕ) (t : Tables) (r : Request) (reply : Answer) (t2 : Tables)
+    ensures grows { (owners : Owners) (s : Section) (seat : List ℕ) (t : Tables) (r : Request)
+        (reply : Answer) (t2 : Tables)
         → AreApart owners → IsSection owners s → owners.seat seat ≡ Some s.name → IsAsked r → IsSound owners t → Step s seat t r reply t2
         → Grows t t2 }
-    ensures anew { (owners : Owners) (s : Section) (seat : List ℕ) (t : Tables) (number : ℕ) (digest : List ℕ) (i : NewIdentity) (reply : Answer) (t2 : Tables)
+    ensures anew { (owners : Owners) (s : Section) (seat : List ℕ) (t : Tables) (number : ℕ)
+        (digest : List ℕ) (i : NewIdentity) (reply : Answer) (t2 : Tables)
         → AreApart owners → IsSection owners s → owners.seat seat ≡ Some s.name → IsSound owners t → Step s seat t (asks_identity number digest i) reply t2
         → GivesAnew s seat number digest i t reply t2 }
 {}
@@ -53,7 +58,8 @@ pub fn no_rows_are_sound()
 /// From sound tables every request has a step: no key of a row stands in its way, and each device has
 /// its fuse map.
 pub fn always_a_step()
-    ensures { (owners : Owners) (s : Section) (seat : List ℕ) (t : Tables) (r : Request) → IsSound owners t → (reply : Answer) × (t2 : Tables) × Step s seat t r reply t2 }
+    ensures { (owners : Owners) (s : Section) (seat : List ℕ) (t : Tables) (r : Request)
+        → IsSound owners t → (reply : Answer) × (t2 : Tables) × Step s seat t r reply t2 }
 {}
 
 /// What the tables keep of a read-back is a function of what it shows and of the request's digest:
@@ -61,10 +67,13 @@ pub fn always_a_step()
 /// show the same under it, have the same steps, and so have read-backs of a device that is there. A
 /// key counts by its SHA-256 alone.
 pub fn only_the_redaction_is_kept()
-    ensures registration { (s : Section) (seat : List ℕ) (t : Tables) (m : Map) (number : ℕ) (digest : List ℕ) (d : NewDevice) (blocks : List (List ℕ)) (reply : Answer) (t2 : Tables)
+    ensures registration { (s : Section) (seat : List ℕ) (t : Tables) (m : Map) (number : ℕ)
+        (digest : List ℕ) (d : NewDevice) (blocks : List (List ℕ)) (reply : Answer) (t2 : Tables)
         → map_named s.name d.map t ≡ Some m → fits m d.blocks ≡ fits m blocks → redacted m d.blocks ≡ redacted m blocks
         → Step s seat t (registers number digest d) reply t2 → Step s seat t (registers number digest (record d { blocks = blocks })) reply t2 }
-    ensures readback { (s : Section) (seat : List ℕ) (t : Tables) (d : Owned Device) (m : Map) (number : ℕ) (digest : List ℕ) (r : NewReadBack) (blocks : List (List ℕ)) (reply : Answer) (t2 : Tables)
+    ensures readback { (s : Section) (seat : List ℕ) (t : Tables) (d : Owned Device) (m : Map)
+        (number : ℕ) (digest : List ℕ) (r : NewReadBack) (blocks : List (List ℕ)) (reply : Answer)
+        (t2 : Tables)
         → device_at s.name r.chip t ≡ Some d → map_named s.name d.row.map t ≡ Some m → fits m r.blocks ≡ fits m blocks → redacted m r.blocks ≡ redacted m blocks
         → Step s seat t (reads_back number digest r) reply t2 → Step s seat t (reads_back number digest (record r { blocks = blocks })) reply t2 }
 {}

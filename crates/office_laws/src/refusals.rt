@@ -13,7 +13,8 @@ ghost use Rattle.office_rules.specs.Rules.{lowest};
 /// Where several refusals of a command hold, the one that is answered has the lowest number. Each has
 /// a number above those of the retry rule, 11 and 12, which is judged before.
 pub fn lowest_number_is_answered()
-    ensures lowest { (s : Section) (t : Tables) (c : Change) (r : Refusal) → lowest (refusals s t c) ≡ Some r
+    ensures lowest { (s : Section) (t : Tables) (c : Change) (r : Refusal)
+        → lowest (refusals s t c) ≡ Some r
         → AllByRecursion (λ other. other.0 ≡ true → refusal_number r ≤ refusal_number other.1) (refusals s t c) }
     ensures after_retry { (s : Section) (t : Tables) (c : Change)
         → AllByRecursion (λ other. refusal_number OtherBody < refusal_number other.1) (refusals s t c) }

@@ -1,5 +1,6 @@
 -- Tests that at most one row passes.
-use Rattle.std.proofs.Common.{◌≡◌, ◌≤◌, ◌+◌, ◌∙◌, ℕ, arith, Bool, true, false, cond, List, [], ◌∷◌, length, Some, None, Ordering, Less, Equal, Greater, refl, sym, ap, subst}
+use Rattle.std.proofs.Common.{◌≡◌, ◌≤◌, ◌+◌, ◌∙◌, ℕ, arith, Bool, true, false, cond, List, [], ◌∷◌, length, Some, None, Ordering, Less, Equal, Greater, refl}
+use Rattle.std.proofs.Common.{sym, ap, subst}
 use Rattle.std.specs.Prelude.{filter, find}
 use Rattle.std.specs.Ordering.{is_eq, match_ordering}
 use Rattle.office_tables.specs.Tables.{placed}
@@ -11,41 +12,50 @@ module _ {A : Type 0} (test : A → Bool) where
   passing rows = length (filter test rows)
 
   first_passing : (y : A) (ys : List A) → passing (y ∷ ys) ≡ cond (test y) 1 0 + passing ys
-  first_passing y ys = elim (test y) as (λ b. length (cond b (y ∷ filter test ys) (filter test ys)) ≡ cond b 1 0 + passing ys) [ true ↦ omega arith | false ↦ omega arith ]
+  first_passing y ys =
+      elim (test y) as (λ b. length (cond b (y ∷ filter test ys) (filter test ys)) ≡ cond b 1 0 + passing ys) [ true ↦ omega arith | false ↦ omega arith ]
 
   -- where none passes, none is found, and the other way round
   pub none_passing : (rows : List A) → find test rows ≡ None → passing rows ≡ 0
   none_passing [] none = refl
   none_passing (y ∷ ys) none =
-      elim (test y) as (λ b. cond b (Some y) (find test ys) ≡ None → length (cond b (y ∷ filter test ys) (filter test ys)) ≡ 0) [ true ↦ λ miss. cc | false ↦ λ miss. none_passing ys miss ] none
+      elim (test y) as (λ b. cond b (Some y) (find test ys) ≡ None → length (cond b (y ∷ filter test ys) (filter test ys)) ≡ 0)
+      [ true ↦ λ miss. cc | false ↦ λ miss. none_passing ys miss ] none
 
   pub none_found : (rows : List A) → passing rows ≡ 0 → find test rows ≡ None
   none_found [] none = refl
   none_found (y ∷ ys) none =
-      elim (test y) as (λ b. length (cond b (y ∷ filter test ys) (filter test ys)) ≡ 0 → cond b (Some y) (find test ys) ≡ None) [ true ↦ λ miss. absurd (omega (arith, miss)) | false ↦ λ miss. none_found ys miss ] none
+      elim (test y) as (λ b. length (cond b (y ∷ filter test ys) (filter test ys)) ≡ 0 → cond b (Some y) (find test ys) ≡ None)
+      [ true ↦ λ miss. absurd (omega (arith, miss)) | false ↦ λ miss. none_found ys miss ] none
 
   -- a new row is placed
   module _ (cmp : A → A → Ordering) (x : A) where
     pub passing-placed : (rows : List A) → find (λ y. is_eq (cmp x y)) rows ≡ None → passing (placed cmp x rows) ≡ passing rows + cond (test x) 1 0
     passing-placed [] free = first_passing x [] ∙ omega arith
     passing-placed (y ∷ ys) free =
-        elim (cmp x y) as (λ o. cond (is_eq o) (Some y) (find (λ z. is_eq (cmp x z)) ys) ≡ None → passing (match_ordering o (x ∷ y ∷ ys) (x ∷ ys) (y ∷ placed cmp x ys)) ≡ passing (y ∷ ys) + cond (test x) 1 0) [
+        elim (cmp x y) as (λ o. cond (is_eq o) (Some y) (find (λ z. is_eq (cmp x z)) ys) ≡ None
+        → passing (match_ordering o (x ∷ y ∷ ys) (x ∷ ys) (y ∷ placed cmp x ys)) ≡ passing (y ∷ ys) + cond (test x) 1 0) [
           | Less ↦ λ none. let split = first_passing x (y ∷ ys) in omega (arith, split)
           | Equal ↦ λ none. cc
-          | Greater ↦ λ none. let split = first_passing y (placed cmp x ys) in let was = first_passing y ys in let later = passing-placed ys none in omega (arith, split, was, later)
+          | Greater ↦ λ none. let split = first_passing y (placed cmp x ys) in let was = first_passing y ys in let later =
+              passing-placed ys none in omega (arith, split, was, later)
         ] free
 
     -- it is found where it passes and none did, and else what was found
-    pub find-placed : (rows : List A) → find (λ y. is_eq (cmp x y)) rows ≡ None → (test x ≡ true → find test rows ≡ None) → find test (placed cmp x rows) ≡ cond (test x) (Some x) (find test rows)
+    pub find-placed : (rows : List A) → find (λ y. is_eq (cmp x y)) rows ≡ None → (test x ≡ true → find test rows ≡ None)
+        → find test (placed cmp x rows) ≡ cond (test x) (Some x) (find test rows)
     find-placed [] free alone = refl
     find-placed (y ∷ ys) free alone =
-        elim (cmp x y) as (λ o. cond (is_eq o) (Some y) (find (λ z. is_eq (cmp x z)) ys) ≡ None → find test (match_ordering o (x ∷ y ∷ ys) (x ∷ ys) (y ∷ placed cmp x ys)) ≡ cond (test x) (Some x) (find test (y ∷ ys))) [
+        elim (cmp x y) as (λ o. cond (is_eq o) (Some y) (find (λ z. is_eq (cmp x z)) ys) ≡ None
+        → find test (match_ordering o (x ∷ y ∷ ys) (x ∷ ys) (y ∷ placed cmp x ys)) ≡ cond (test x) (Some x) (find test (y ∷ ys))) [
           | Less ↦ λ none. refl
           | Equal ↦ λ none. cc
           | Greater ↦ λ none.
               elim (test y) as (λ b. test y ≡ b → cond b (Some y) (find test (placed cmp x ys)) ≡ cond (test x) (Some x) (cond b (Some y) (find test ys))) [
                 | true ↦ λ is. elim (test x) as (λ a. test x ≡ a → Some y ≡ cond a (Some x) (Some y)) [
-                  | true ↦ λ also. absurd (let miss : find test (y ∷ ys) ≡ None = alone also in let some : find test (y ∷ ys) ≡ Some y = rw is refl in let both : None ≡ Some y = sym miss ∙ some in cc)
+                  | true ↦
+                      λ also. absurd (let miss : find test (y ∷ ys) ≡ None = alone also in let some : find test (y ∷ ys)
+                      ≡ Some y = rw is refl in let both : None ≡ Some y = sym miss ∙ some in cc)
                   | false ↦ λ _. refl
                 ] refl
                 | false ↦ λ is. find-placed ys none (λ also. let miss : find test (y ∷ ys) ≡ None = alone also in rw is at miss)
@@ -58,8 +68,10 @@ module _ {A : Type 0} (test : A → Bool) where
     passing-without [] found = cc
     passing-without (y ∷ ys) found =
         elim (other y) as (λ b. cond b (Some y) (find other ys) ≡ Some x → passing (y ∷ ys) ≡ passing (cond b ys (y ∷ without other ys)) + cond (test x) 1 0) [
-          | true ↦ λ is. let same : y ≡ x = cc in let split = first_passing y ys in let one = ap {B = ℕ} (λ z. cond (test z) 1 0) same in omega (arith, split, one)
-          | false ↦ λ is. let split = first_passing y ys in let after = first_passing y (without other ys) in let later = passing-without ys is in omega (arith, split, after, later)
+          | true ↦ λ is. let same : y ≡ x = cc in let split = first_passing y ys in let one =
+              ap {B = ℕ} (λ z. cond (test z) 1 0) same in omega (arith, split, one)
+          | false ↦ λ is. let split = first_passing y ys in let after = first_passing y (without other ys) in let later =
+              passing-without ys is in omega (arith, split, after, later)
         ] found
 
     still_found : (rows : List A) → find other rows ≡ Some x → test x ≡ false → find test (without other rows) ≡ find test rows
@@ -99,13 +111,16 @@ module _ {A : Type 0} (test : A → Bool) where
         ] found
 
 -- at most one row passes, where none did whose place the new one takes
-pub still_alone : {A : Type 0} (cmp : A → A → Ordering) (test : A → Bool) (o : A) (rows : List A) → find (λ y. is_eq (cmp o y)) rows ≡ None → (test o ≡ true → find test rows ≡ None) → IsAlone test rows → IsAlone test (placed cmp o rows)
+pub still_alone : {A : Type 0} (cmp : A → A → Ordering) (test : A → Bool) (o : A) (rows : List A) → find (λ y.
+    is_eq (cmp o y)) rows ≡ None → (test o ≡ true → find test rows ≡ None) → IsAlone test rows → IsAlone test (placed cmp o rows)
 still_alone cmp test o rows free alone one =
     let more = passing-placed test cmp o rows free in
     elim (test o) as (λ b. test o ≡ b → IsAlone test (placed cmp o rows)) [
-      | true ↦ λ is. let none = none_passing test rows (alone is) in let this : ◌≡◌ {A = ℕ} (cond (test o) 1 0) 1 = rw is refl in omega (arith, more, none, this)
+      | true ↦ λ is. let none = none_passing test rows (alone is) in let this : ◌≡◌ {A = ℕ} (cond (test o) 1 0) 1 =
+          rw is refl in omega (arith, more, none, this)
       | false ↦ λ is. let this : ◌≡◌ {A = ℕ} (cond (test o) 1 0) 0 = rw is refl in omega (arith, more, one, this)
     ] refl
 
-pub alone_without : {A : Type 0} (test other : A → Bool) (o : A) (rows : List A) → find other rows ≡ Some o → IsAlone test rows → IsAlone test (without other rows)
+pub alone_without : {A : Type 0} (test other : A → Bool) (o : A) (rows : List A) → find other rows ≡ Some o → IsAlone test rows
+    → IsAlone test (without other rows)
 alone_without test other o rows found one = let less = passing-without test other o rows found in omega (arith, less, one)

@@ -17,9 +17,11 @@ pub same_from : (same differs : Bool) → differs ≡ not same → differs ≡ f
 same_from true differs is equal = refl
 same_from false differs is equal = cc
 
-module _ (row old : Owned Device) (rows : List (Owned Device)) (found : find (is_device row.customer row.row.chip) rows ≡ Some old) (same_order : bytes_eq old.row.order row.row.order ≡ true) where
+module _ (row old : Owned Device) (rows : List (Owned Device)) (found : find (is_device row.customer row.row.chip) rows ≡ Some old)
+    (same_order : bytes_eq old.row.order row.row.order ≡ true) where
   parts : (bytes_eq row.customer old.customer ≡ true) × (bytes_eq row.row.chip old.row.chip ≡ true)
-  parts = both_true (bytes_eq row.customer old.customer) (bytes_eq row.row.chip old.row.chip) (found_passes (is_device row.customer row.row.chip) old rows found)
+  parts =
+      both_true (bytes_eq row.customer old.customer) (bytes_eq row.row.chip old.row.chip) (found_passes (is_device row.customer row.row.chip) old rows found)
 
   customer : row.customer ≡ old.customer
   customer = (bytes_eq-Decides row.customer old.customer).0 parts.0
@@ -35,7 +37,8 @@ module _ (row old : Owned Device) (rows : List (Owned Device)) (found : find (is
   with_device-found = rw (found, same_order) refl
 
   -- the other one is put back
-  pub with_device-back : unplaced device_cmp row (Some old) (with_other (is_device row.customer row.row.chip) row rows) ≡ rows → with_device old (with_other (is_device row.customer row.row.chip) row rows) ≡ rows
+  pub with_device-back : unplaced device_cmp row (Some old) (with_other (is_device row.customer row.row.chip) row rows) ≡ rows
+      → with_device old (with_other (is_device row.customer row.row.chip) row rows) ≡ rows
   with_device-back back =
       let there : find (is_device old.customer old.row.chip) (with_other (is_device row.customer row.row.chip) row rows) ≡ Some row =
       rw (← customer, ← chip) (find_other (is_device row.customer row.row.chip) row old rows (itself row) found) in
@@ -50,7 +53,8 @@ module _ (row old : Owned Device) (rows : List (Owned Device)) (found : find (is
         kept row.customer row.row.order (rw (customer, ← order) was)
 
     -- and it has room for one more
-    pub room_again : ((c o : List ℕ) → count_at c o p1 ≡ count_at c o p - place_of c o old) → length rows < 2 ^ 63 → count_at row.customer row.row.order p1 < 2 ^ 63
+    pub room_again : ((c o : List ℕ) → count_at c o p1 ≡ count_at c o p - place_of c o old) → length rows < 2 ^ 63
+        → count_at row.customer row.row.order p1 < 2 ^ 63
     room_again less few =
         let l = less row.customer row.row.order in
         let right = counted.right row.customer row.row.order in
@@ -58,7 +62,8 @@ module _ (row old : Owned Device) (rows : List (Owned Device)) (found : find (is
         omega (arith, l, right, low, few)
 
     -- the numbers are right again
-    pub counted_again : (p2 : PlaceCounts) → ((c o : List ℕ) → count_at c o p1 ≡ count_at c o p - place_of c o old) → ((c o : List ℕ) → count_at c o p2 ≡ count_at c o p1 + place_of c o row) → KeepsCounts p1 p2
+    pub counted_again : (p2 : PlaceCounts) → ((c o : List ℕ) → count_at c o p1 ≡ count_at c o p - place_of c o old)
+        → ((c o : List ℕ) → count_at c o p2 ≡ count_at c o p1 + place_of c o row) → KeepsCounts p1 p2
         → AreCounted (with_other (is_device row.customer row.row.chip) row rows) p2
     counted_again p2 less more kept2 = record {
       right = λ c o.
@@ -68,6 +73,8 @@ module _ (row old : Owned Device) (rows : List (Owned Device)) (found : find (is
           let other = places_other c o (is_device row.customer row.row.chip) row old rows found in
           let without = places_without c o (is_device row.customer row.row.chip) old rows found in
           omega (arith, l, m, right, other, without);
-      there = all_other (λ d. is_counted d.customer d.row.order p2 ≡ true) (is_device row.customer row.row.chip) row rows (kept2 row.customer row.row.order there_again)
+      there =
+          all_other (λ d. is_counted d.customer d.row.order p2 ≡ true) (is_device row.customer row.row.chip) row rows
+          (kept2 row.customer row.row.order there_again)
           (all_kept p1 p2 kept2 rows (all_kept p p1 kept rows counted.there));
     }

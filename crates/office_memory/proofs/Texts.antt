@@ -20,7 +20,8 @@ use Rattle.office_memory.proofs.Keys.{find_map}
 abbrev pub WritesAt : {Y : Type 0} → BTreeMap (String Y) ℕ → BTreeMap (String Y) ℕ → List ℕ → Option ℕ → Type 0
 WritesAt ids n body w = (text : List ℕ) → get_by_text n text ≡ update bytes_eq (get_by_text ids) body w text
 
-number_of : (b : Bool) (x f : Option MapRow) → option_map (λ (m : MapRow). m.id) (cond b x f) ≡ cond b (option_map (λ (m : MapRow). m.id) x) (option_map (λ (m : MapRow). m.id) f)
+number_of : (b : Bool) (x f : Option MapRow) → option_map (λ (m : MapRow). m.id) (cond b x f)
+    ≡ cond b (option_map (λ (m : MapRow). m.id) x) (option_map (λ (m : MapRow). m.id) f)
 number_of true x f = refl
 number_of false x f = refl
 
@@ -34,7 +35,8 @@ same_text rows m free text is = rw ((bytes_eq-Decides text m.body).0 is) free
 
 module _ {Y : Type 0} (rows : List MapRow) (ids n : BTreeMap (String Y) ℕ) (found : AreFoundByText rows ids) (m : MapRow) where
   -- a new map is found by its text
-  pub found-placed : find (has_id m.id) rows ≡ None → find (has_body m.body) rows ≡ None → WritesAt ids n m.body (Some m.id) → AreFoundByText (placed map_cmp m rows) n
+  pub found-placed : find (has_id m.id) rows ≡ None → find (has_body m.body) rows ≡ None → WritesAt ids n m.body (Some m.id)
+      → AreFoundByText (placed map_cmp m rows) n
   found-placed free_id free_text writes =
       let free : find (λ y. is_eq (map_cmp m y)) rows ≡ None = find_map m.id rows ∙ free_id in
       record {

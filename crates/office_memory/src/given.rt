@@ -1,9 +1,11 @@
 // The records of serial numbers, over all customers.
-ghost use Rattle.std.specs.Prelude.{◌≡◌, ◌&&◌, ◌||◌, not, ℕ, List, [], Some, None, true, false, filter, find, if◌then◌else◌, OnOk, OnErr};
+ghost use Rattle.std.specs.Prelude.{◌≡◌, ◌&&◌, ◌||◌, not, ℕ, List, [], Some, None, true, false};
+ghost use Rattle.std.specs.Prelude.{filter, find, if◌then◌else◌, OnOk, OnErr};
 ghost use Rattle.std.specs.Option.{option_copied};
 ghost use Rattle.text_core.specs.Serial.{is_serial};
 ghost use Rattle.office_tables.specs.Keeping.{Visits};
-ghost use Rattle.office_tables.specs.Tables.{given_cmp, is_address, is_bound, is_given, is_of_issuer, placed, IsAddressFree};
+ghost use Rattle.office_tables.specs.Tables.{given_cmp, is_address, is_bound, is_given};
+ghost use Rattle.office_tables.specs.Tables.{is_of_issuer, placed, IsAddressFree};
 ghost use Rattle.office_memory.specs.Indexing.{has_mac, serial_of};
 ghost use Rattle.office_memory.specs.Unplaced.{without};
 
@@ -45,10 +47,15 @@ impl GivenIndex {
     fn add(&mut self, row: &GivenRow) -> Result<(), Unkept>
         requires free_key { serial_of row.now.row.issuer row.now.row.key self.old ≡ None }
         requires free_mac { has_mac row.now.row.mac self.old ≡ false }
-        ensures ok_serials { OnOk result ((issuer key : List ℕ) → serial_of issuer key self.new ≡ (if is_bound issuer key row.now then Some row.now.row.serial else serial_of issuer key self.old)) }
-        ensures ok_macs { OnOk result ((mac : ℕ) → has_mac (Some mac) self.new ≡ (is_address mac row.now.row.mac || has_mac (Some mac) self.old)) }
-        ensures err_serials { OnErr result ((issuer key : List ℕ) → serial_of issuer key self.new ≡ serial_of issuer key self.old) }
-        ensures err_macs { OnErr result ((mac : ℕ) → has_mac (Some mac) self.new ≡ has_mac (Some mac) self.old) }
+        ensures ok_serials { OnOk result ((issuer key : List ℕ)
+            → serial_of issuer key self.new ≡ (if is_bound issuer key row.now
+            then Some row.now.row.serial else serial_of issuer key self.old)) }
+        ensures ok_macs { OnOk result ((mac : ℕ) → has_mac (Some mac) self.new
+            ≡ (is_address mac row.now.row.mac || has_mac (Some mac) self.old)) }
+        ensures err_serials { OnErr result ((issuer key : List ℕ)
+            → serial_of issuer key self.new ≡ serial_of issuer key self.old) }
+        ensures err_macs { OnErr result ((mac : ℕ) → has_mac (Some mac) self.new
+            ≡ has_mac (Some mac) self.old) }
     {
         let key = (row.row.issuer, row.row.key);
         self.serials.insert(key, row.row.serial)?;
@@ -66,8 +73,10 @@ impl GivenIndex {
 
     /// Takes a record out again. This takes no memory.
     fn remove(&mut self, row: &GivenRow)
-        ensures serials { (issuer key : List ℕ) → serial_of issuer key self.new ≡ (if is_bound issuer key row.now then None else serial_of issuer key self.old) }
-        ensures macs { (mac : ℕ) → has_mac (Some mac) self.new ≡ (not (is_address mac row.now.row.mac) && has_mac (Some mac) self.old) }
+        ensures serials { (issuer key : List ℕ) → serial_of issuer key self.new
+            ≡ (if is_bound issuer key row.now then None else serial_of issuer key self.old) }
+        ensures macs { (mac : ℕ) → has_mac (Some mac) self.new
+            ≡ (not (is_address mac row.now.row.mac) && has_mac (Some mac) self.old) }
     {
         self.serials.remove(&(row.row.issuer, row.row.key));
         if let Some(mac) = row.row.mac {
@@ -133,7 +142,8 @@ impl GivenRows {
     pub(crate) fn add(&mut self, row: &GivenRow) -> Result<(), Unkept>
         ensures free { OnOk result (IsAddressFree row.now.row.mac self.old) }
         ensures placed { OnOk result (self.new ≡ placed given_cmp row.now self.old) }
-        ensures undone { OnOk result (without (is_given row.now.row.issuer row.now.row.serial) self.new ≡ self.old) }
+        ensures undone { OnOk result (without (is_given row.now.row.issuer row.now.row.serial)
+            self.new ≡ self.old) }
         ensures err { OnErr result (self.new ≡ self.old) }
     {
         if self.is_taken(row) {
@@ -151,8 +161,10 @@ impl GivenRows {
 
     /// Whether a record has the serial number or the key in its issuer, or the address.
     fn is_taken(&self, row: &GivenRow) -> bool
-        ensures serial { result ≡ false → find (is_given row.now.row.issuer row.now.row.serial) self.now ≡ None }
-        ensures key { result ≡ false → find (is_bound row.now.row.issuer row.now.row.key) self.now ≡ None }
+        ensures serial { result ≡ false → find (is_given row.now.row.issuer row.now.row.serial)
+            self.now ≡ None }
+        ensures key { result ≡ false → find (is_bound row.now.row.issuer row.now.row.key) self.now
+            ≡ None }
         ensures address { result ≡ false → IsAddressFree row.now.row.mac self.now }
         ensures is_serial { is_serial row.now.row.serial ≡ true }
     {

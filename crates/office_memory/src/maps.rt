@@ -59,7 +59,8 @@ impl MapRows {
     /// refused where a map has the text.
     pub(crate) fn add(&mut self, body: Text) -> Result<u64, Unkept>
         ensures free { IfOk result (λ id. find (has_id id) self.old ≡ None) }
-        ensures placed { IfOk result (λ id. self.new ≡ placed map_cmp (record { id = id; body = body }) self.old) }
+        ensures placed { IfOk result (λ id. self.new ≡ placed map_cmp
+            (record { id = id; body = body }) self.old) }
         ensures undone { IfOk result (λ id. without (has_id id) self.new ≡ self.old) }
         ensures err { OnErr result (self.new ≡ self.old) }
     {

@@ -51,9 +51,10 @@ pub struct Restarted<D: Disk> {
 ///
 /// Where the disks return what was written, what was answered before the crash is there after it, and
 /// so may be one step more, of a request that was answered 503 since the last one that wasn't. What was
-/// answered before, that step and what is answered after are one run: from sound tables all is promised
-/// of it that is promised of a run without a crash. So a request that was cut off is there whole or not
-/// at all, and where it is sent again it acts once, and gets the reply of its one execution.
+/// answered before, that step and what is answered after are one run: from tables that are sound for the
+/// site, or for one that it grew from, all is promised of it that is promised of a run without a crash.
+/// So a request that was cut off is there whole or not at all, and where it is sent again it acts once,
+/// and gets the reply of its one execution.
 ///
 /// # Errors
 ///

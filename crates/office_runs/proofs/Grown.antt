@@ -2,27 +2,24 @@
 use Rattle.std.proofs.Common.{◌≡◌, ◌*◌, ℕ, true, Option, Some, None}
 use Rattle.std.specs.Prelude.{Any, IfSome}
 use Rattle.id_ranges.specs.Blocks as blocks
-use Rattle.site_core.specs.Owners.{Owners}
+use Rattle.site_core.specs.Owners.{Owners, OwnersGrow}
 use Rattle.office_tables.specs.declared.rows.Order.{Order}
 use Rattle.office_tables.specs.declared.rows.Owned.{Owned}
 use Rattle.office_tables.specs.Tables.{Tables}
 use Rattle.office_tables.proofs.Placing.{all_map}
 use Rattle.office_laws.specs.Sound.{IsInPool, IsSound}
-use Rattle.office_runs.specs.Growth.{IsGrowth}
 
 -- a site as it was
-pub growth_itself : (site : Owners) → IsGrowth site site
-growth_itself site =
-    record {
-      customers = λ _ is. is;
-      issuers = λ _ _ is. is;
-      seats = λ _ _ is. is;
-      pools =
-          λ _ _ is. is;
-    }
+pub growth_itself : (site : Owners) → OwnersGrow site site
+growth_itself site = record {
+  customers = λ _ is. is;
+  issuers = λ _ _ is. is;
+  seats = λ _ _ is. is;
+  pools = λ _ _ is. is;
+}
 
 -- an order's addresses lie within a pool of its customer still
-pool_grown : (old new : Owners) → IsGrowth old new → (o : Owned Order) → IsInPool old o
+pool_grown : (old new : Owners) → OwnersGrow old new → (o : Owned Order) → IsInPool old o
     → IsInPool new o
 pool_grown old new growth o = by o.row.mac
   where
@@ -35,7 +32,7 @@ pool_grown old new growth o = by o.row.mac
     by (Some first) is = growth.pools o.customer (first, o.row.range.quantity * o.row.macs) is
 
 -- tables that are sound for a site are sound for one that grew from it
-pub sound_grown : (old new : Owners) (t : Tables) → IsGrowth old new → IsSound old t → IsSound new t
+pub sound_grown : (old new : Owners) (t : Tables) → OwnersGrow old new → IsSound old t → IsSound new t
 sound_grown old new t growth sound = record {
   seats_in_order = sound.seats_in_order;
   orders_in_order = sound.orders_in_order;
@@ -73,8 +70,8 @@ sound_grown old new t growth sound = record {
 }
 
 -- a growth of a growth
-pub growth_more : (first site last : Owners) → IsGrowth first site → IsGrowth site last
-    → IsGrowth first last
+pub growth_more : (first site last : Owners) → OwnersGrow first site → OwnersGrow site last
+    → OwnersGrow first last
 growth_more first site last one two = record {
   customers = λ customer is. two.customers customer (one.customers customer is);
   issuers = λ issuer customer is. two.issuers issuer customer (one.issuers issuer customer is);

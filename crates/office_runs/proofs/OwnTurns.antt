@@ -22,7 +22,7 @@ use Rattle.office_commands.specs.declared.command.Command.TheVariants.{Change, S
 use Rattle.office_commands.specs.declared.command.Request.{Request}
 use Rattle.office_commands.specs.declared.new_device.NewDevice.{NewDevice}
 use Rattle.office_commands.specs.declared.refusal.Refusal.{Refusal}
-use Rattle.office_commands.specs.declared.refusal.Refusal.TheVariants.{UnknownToken, UnknownPath, WrongCaller, BadJson, BadMember, WrongNumber, OtherBody, UnknownMap, UnknownOrder, UnknownDevice, Exists, WrongState, QuantityReached, BadPlan, BadMap, BadSerial, NumberTooWide, Exhausted, NoMacRoom, RangeOverlap, KeyBound, CodingScheme, ForeignIssuer, ImportConflict, MapDigestTaken, Limit, BadReadback, Unkept}
+use Rattle.office_commands.specs.declared.refusal.Refusal.TheVariants.{UnknownToken, UnknownPath, WrongCaller, BadJson, BadMember, WrongNumber, OtherBody, UnknownMap, UnknownOrder, UnknownDevice, Exists, WrongState, QuantityReached, BadPlan, BadMap, BadSerial, NumberTooWide, Exhausted, NoMacRoom, RangeOverlap, KeyBound, CodingScheme, ForeignIssuer, ImportConflict, MapDigestTaken, Limit, BadReadback, BadNotBefore, Unkept}
 use Rattle.office_commands.specs.Refusals.{refusal_status}
 use Rattle.office_commands.specs.Replies.{acceptance, refusal}
 use Rattle.office_rules.specs.EndRules.{scraps, ships}
@@ -71,6 +71,7 @@ not_success (ImportConflict serial) = refl
 not_success MapDigestTaken = refl
 not_success Limit = refl
 not_success BadReadback = refl
+not_success BadNotBefore = refl
 not_success Unkept = refl
 
 -- a change leaves the seats

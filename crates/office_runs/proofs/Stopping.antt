@@ -4,12 +4,12 @@ use Rattle.std.specs.Prelude.{IfSome, MatchBool}
 use Rattle.std.specs.List.{AllByRecursion}
 use Rattle.http_replies.specs.Replies.{is_unavailable}
 use Rattle.http_replies.proofs.RunLemmas.{runs_both}
-use Rattle.site_core.specs.Owners.{AreApart, Owners}
+use Rattle.site_core.specs.Owners.{AreApart, Owners, OwnersGrow}
 use Rattle.office_tables.specs.Tables.{Tables}
 use Rattle.office_commands.specs.declared.refusal.Refusal.TheVariants.{Unkept}
 use Rattle.office_commands.specs.Replies.{refusal}
 use Rattle.office_runs.specs.Exchanges.{Call, Exchange, IsRun, Meets, Passes, Wanted, asks, reports, refused, calls_of}
-use Rattle.office_runs.specs.Growth.{AreSeats, IsGrowth, IsSeat}
+use Rattle.office_runs.specs.Growth.{AreSeats, IsSeat}
 use Rattle.office_runs.specs.Stops.{AreSessions, IsLeft, IsPending, IsStoppedRun, Session, WasUnavailable, is_request}
 use Rattle.office_runs.proofs.Grown.{growth_itself, growth_more}
 use Rattle.office_runs.proofs.Served.{answers}
@@ -51,7 +51,7 @@ seats_joined site apart (c ∷ cs) ds last all later =
     (site, growth_itself site, apart, all.0, seats_joined site apart cs ds last all.1 later)
 
 -- the seats of a site that grew from one are reached from that one
-pub seats_grown : (first site : Owners) → IsGrowth first site → (cs : List Call) (last : Owners)
+pub seats_grown : (first site : Owners) → OwnersGrow first site → (cs : List Call) (last : Owners)
     → AreSeats site cs last → AreSeats first cs last
 seats_grown first site growth [] last seats = growth_more first site last growth seats
 seats_grown first site growth (c ∷ cs) last seats =

@@ -2,10 +2,10 @@
 use Rattle.std.specs.Prelude.{◌≡◌, ◌⊎◌, ◌&&◌, Bool, true, false, not, List, [], ◌∷◌, ◌++◌, Option, Some, IfSome}
 use Rattle.std.specs.List.{AllByRecursion}
 use Rattle.http_replies.specs.Replies.{is_unavailable}
-use Rattle.site_core.specs.Owners.{AreApart, Owners}
+use Rattle.site_core.specs.Owners.{AreApart, Owners, OwnersGrow}
 use Rattle.office_tables.specs.Tables.{Tables}
 use Rattle.office_runs.specs.Exchanges.{Call, Exchange, IsRun, Meets, Wanted, asks, calls_of}
-use Rattle.office_runs.specs.Growth.{IsGrowth, IsSeat}
+use Rattle.office_runs.specs.Growth.{IsSeat}
 
 -- what was answered from one stop to the next, and the call that the stop cut off, if there is one
 pub record Session : Type 0 where
@@ -42,8 +42,8 @@ IsStoppedRun (s ∷ ss) all t t2 =
 
 -- the callers of each session are seats of one site. The first site grows from this one, each from the one before it, and the last grows from the last of them
 abbrev pub AreSessions : Owners → List Session → Owners → Type 0
-AreSessions first [] last = IsGrowth first last
-AreSessions first (s ∷ ss) last = (site : Owners) × IsGrowth first site × AreApart site
+AreSessions first [] last = OwnersGrow first last
+AreSessions first (s ∷ ss) last = (site : Owners) × OwnersGrow first site × AreApart site
     × AllByRecursion (IsSeat site) (calls_of s.exchanges) × IfSome s.cut_off (IsSeat site) × AreSessions site ss last
 
 -- a request of the office was answered, and not with 503: nothing of those before it is left open

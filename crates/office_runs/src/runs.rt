@@ -1,6 +1,9 @@
 // Laws of whole runs, over the definitions alone.
 ghost use Rattle.std.specs.Prelude.{◌≡◌, ◌++◌, List, Some, ℕ};
-ghost use Rattle.site_core.specs.Owners.{Owners};
+ghost use Rattle.site_core.specs.Growth.{IsGrowth};
+ghost use Rattle.site_core.specs.Owners.{Owners, OwnersGrow, owners_of};
+ghost use Rattle.site_core.specs.Section.{SiteValue};
+ghost use Rattle.site_core.specs.Site.{IsSite};
 ghost use Rattle.office_tables.specs.Tables.{Tables, given_at};
 ghost use Rattle.office_tables.specs.declared.rows.Given.{Given};
 ghost use Rattle.office_tables.specs.declared.rows.Owned.{Owned};
@@ -95,4 +98,18 @@ pub fn stopped_runs_are_runs()
         → Promises last all t t2 }
     ensures crash { (s : Session) (t left : Tables)
         → Leaves s.exchanges t left → (more : List Exchange) × IsLeft (IsPending s) t more left }
+{}
+
+/// A site may grow: tables that are sound for a site are sound for each that grew from it. A site is a
+/// growth of itself, and a growth of a growth is one of the first. What a customer's own machine does
+/// takes the customer's section alone, so that a customer whose section stays as it was has the same
+/// replies and rows, whatever the site gained (`other_calls_make_no_difference`).
+pub fn sites_may_grow()
+    ensures sound { (old new : SiteValue) (t : Tables)
+        → IsSite new → IsGrowth old new → IsSound (owners_of old) t → IsSound (owners_of new) t }
+    ensures owners { (old new : Owners) (t : Tables)
+        → OwnersGrow old new → IsSound old t → IsSound new t }
+    ensures itself { (site : Owners) → OwnersGrow site site }
+    ensures again { (first site last : Owners)
+        → OwnersGrow first site → OwnersGrow site last → OwnersGrow first last }
 {}

@@ -3,38 +3,37 @@ use Rattle.std.proofs.Common.{◌≡◌, ℕ, List, [], false, sym, ap, subst, �
 use Rattle.sqlite.specs.declared.types.Value.TheVariants.{Null}
 use Rattle.sqlite_value.specs.declared.keys.Key.{Key}
 use Rattle.sqlite.specs.Order.{Row}
+use Rattle.sqlite.specs.Schema.{Schema}
 use Rattle.sqlite.specs.Term.{Term}
+use Rattle.sqlite.specs.Query.{Join, IsAnswer}
 use Rattle.sqlite.specs.Program.{overlay}
 use Rattle.sqlite.specs.Command.TheVariants.{Select}
 use Rattle.sqlite.specs.Listing.{understood, reads_listing}
 use Rattle.sqlite.specs.Clock.{timed}
 use Rattle.sqlite.specs.State.{State, HasCleanDisk, Survives, Shown, ShowsRows, IsUnchanged, IsRolledBack, IsNotRun, FailsToQuery, FailsToShow}
 use Rattle.sqlite.proofs.Callers.{IsPlain, command_of, reads_as}
-use Rattle.office_sql.specs.Schema.{office_schema}
 use Rattle.office_sql.proofs.Bare.{IsBare, bare_understood}
 use Rattle.std.specs.Prelude.{Vec}
 use Rattle.std.specs.declared.alloc.Global.{Global}
 use Rattle.sqlite.specs.declared.error.Error.{Error}
 use Rattle.office_sql.specs.Change.{Rests}
-use Rattle.office_sql.specs.Scan.{scan}
-use Rattle.office_sql.proofs.Scan.{Scanned, scanned}
+use Rattle.office_sql.specs.Joins.{over}
 
 pub was_clean : (old new : State) (P : _) → Survives old new P → HasCleanDisk new → HasCleanDisk old
 was_clean old new P s clean = omega (arith, s.clean)
 
-module _ (sql : List ℕ) (params : Row) (old new : State) (plain : IsPlain (understood office_schema sql)) where
-  pub leaves : old.now.schema ≡ office_schema → (rows : List Row) → Shown sql params old new rows → IsUnchanged old new
+module _ (schema : Schema) (sql : List ℕ) (params : Row) (old new : State) (plain : IsPlain (understood schema sql)) where
+  pub leaves : old.now.schema ≡ schema → (rows : List Row) → Shown sql params old new rows → IsUnchanged old new
   unfolding Shown
   leaves has rows h =
       let none = (subst IsPlain (sym (ap (λ o. understood o sql) has) ∙ h.1.is) plain).0 in
       (subst (ShowsRows old new sql h.0 (timed params h.0.formats h.1.now) rows) none h.2).3
 
-  module _ (tree : ℕ) (tests shown : List Term) (order : List (Term × Key)) (names : List (List ℕ))
-      (is : command_of (understood office_schema sql) ≡ Select (record { lets = []; body = scan tree tests shown order }) names) (unlisted : reads_listing office_schema sql ≡ false) where
-    pub reads_scan : old.now.schema ≡ office_schema → (rows : List Row) → Shown sql params old new rows → Scanned tests shown order params (overlay old.now.trees [] tree) rows
-    reads_scan has rows h =
-        scanned (overlay old.now.trees []) params tree tests shown order rows
-        ((reads_as sql params old new office_schema has (Select (record { lets = []; body = scan tree tests shown order }) names) is plain unlisted rows h).answer Null)
+  module _ (from : Join) (tests shown : List Term) (order : List (Term × Key)) (names : List (List ℕ))
+      (is : command_of (understood schema sql) ≡ Select (record { lets = []; body = over from tests shown order }) names) (unlisted : reads_listing schema sql ≡ false) where
+    pub reads_over : old.now.schema ≡ schema → (rows : List Row) → Shown sql params old new rows → IsAnswer (over from tests shown order) (overlay old.now.trees []) params rows
+    reads_over has rows h =
+        (reads_as sql params old new schema has (Select (record { lets = []; body = over from tests shown order }) names) is plain unlisted rows h).answer Null
 
 -- a query that was answered found the store open
 pub shown_open : (sql : List ℕ) (params : Row) (old new : State) (rows : List Row) → IsBare sql → Shown sql params old new rows → IsTrue old.is_open

@@ -16,10 +16,9 @@ use Rattle.sqlite_value.specs.Keys.{ascending}
 use Rattle.sqlite_value.proofs.OrderLemmas.{value_cmp_total, then-Equal}
 use Rattle.sqlite_keyed.specs.Lists.{sort_by}
 use Rattle.sqlite_trees.proofs.ListLemmas.{map-map}
-use Rattle.office_tables.specs.declared.rows.Owned.{Owned}
-use Rattle.office_tables.specs.declared.rows.Device.{Device}
 use Rattle.office_tables.specs.Tables.{device_cmp, is_device, is_of}
 pub use Rattle.office_tables.proofs.Places.{device_total}
+use Rattle.office_sql.specs.Schema.{office_schema}
 use Rattle.office_sql.specs.Rows.{device_in}
 use Rattle.office_sql.specs.Scan.{scan, is_given, env, passes}
 use Rattle.office_sql.specs.OrderStates.{order_state, order_state_in}
@@ -51,15 +50,15 @@ by_key = (col 1 1, ascending Binary) ∷ (col 1 2, ascending Binary) ∷ []
 abbrev names : List (List ℕ)
 names = codes "customer" ∷ codes "chip" ∷ codes "ord" ∷ codes "map" ∷ codes "state" ∷ codes "reason" ∷ codes "bits" ∷ codes "keys" ∷ codes "todo" ∷ codes "serial" ∷ []
 
-pub one_read : IsRead one_text 9 (is_given 1 0 ∷ is_given 2 1 ∷ []) shown by_key
+pub one_read : IsRead office_schema one_text 9 (is_given 1 0 ∷ is_given 2 1 ∷ []) shown by_key
 unfolding understood everything
 one_read = record { names = names; is = refl; plain = (refl, refl); unlisted = refl; bare = λ schema base. refl; there = λ db. refl }
 
-pub own_read : IsRead own_text 9 (is_given 1 0 ∷ []) shown by_key
+pub own_read : IsRead office_schema own_text 9 (is_given 1 0 ∷ []) shown by_key
 unfolding understood everything
 own_read = record { names = names; is = refl; plain = (refl, refl); unlisted = refl; bare = λ schema base. refl; there = λ db. refl }
 
-pub states_read : IsRead states_text 9 (is_given 1 0 ∷ []) states_shown by_key
+pub states_read : IsRead office_schema states_text 9 (is_given 1 0 ∷ []) states_shown by_key
 unfolding understood everything
 states_read = record { names = codes "ord" ∷ codes "state" ∷ codes "reason" ∷ []; is = refl; plain = (refl, refl); unlisted = refl; bare = λ schema base. refl; there = λ db. refl }
 

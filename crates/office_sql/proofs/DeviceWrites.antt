@@ -31,7 +31,7 @@ use Rattle.office_tables.specs.Texts.{state_text, reason_text, state_of_texts}
 use Rattle.office_tables.specs.Tables.{device_cmp, is_device, placed, IsFree}
 use Rattle.office_sql.specs.Change.{Adds, Wrote}
 use Rattle.office_sql.specs.Rows.{device_in, device_columns}
-use Rattle.office_sql.specs.Schema.{device_table}
+use Rattle.office_sql.specs.Schema.{device_table, office_schema}
 use Rattle.office_sql.specs.Scan.{is_given}
 use Rattle.office_sql.specs.Tables.{IsOffice, IsDeviceRow, tables_in, AreRows}
 use Rattle.office_sql.specs.Values.{state_in, text_if, text_value}
@@ -50,7 +50,7 @@ add_text = codes "INSERT INTO device (customer, chip, ord, map, state, reason, b
 abbrev pub add_terms : List Term
 add_terms = lit Null ∷ col 0 0 ∷ col 0 1 ∷ col 0 2 ∷ col 0 3 ∷ col 0 4 ∷ col 0 5 ∷ col 0 6 ∷ col 0 7 ∷ col 0 8 ∷ col 0 9 ∷ []
 
-pub add_insert : IsInsert add_text 5 device_table add_terms 11
+pub add_insert : IsInsert office_schema add_text 5 device_table add_terms 11
 unfolding understood everything
 add_insert = record { is = refl; plain = (refl, refl); there = refl; uncounted = refl; unstamped = refl; one = λ params. refl }
 
@@ -126,11 +126,11 @@ device_added d old new office free adds =
     let rows = old.trees 9 in
     let id = next_rowid rows in
     let is = device_back id d in
-    let it = row_added IsDeviceRow device_cmp device_total device_in (device_columns d) rows office.devices (refl, refl, refl)
+    let it = row_added IsDeviceRow device_cmp device_total device_in (device_columns d) rows office.rows.devices (refl, refl, refl)
     (subst (λ x. AllByRecursion (Apart device_cmp device_total x) (map device_in rows)) (sym is) (device_free d rows free.0)) in
     let changed = devices_changed old new office adds.schema adds.sound adds.others (subst (AreRows IsDeviceRow device_cmp device_in) (sym adds.row) it.0) (placed device_cmp d (sort_by device_cmp (map device_in rows)))
     (ap (λ l. sort_by device_cmp (map device_in l)) adds.row ∙ it.1 ∙ ap (λ x. placed device_cmp x (sort_by device_cmp (map device_in rows))) is) in
-    record { office = changed.0; made = changed.1; rows = adds; meta = adds.others.0 (λ e. cc) }
+    record { office = changed.0; made = changed.1; rows = adds; told = adds.others.0 (λ e. cc) }
 
 -- the columns of the row that takes the place of another
 abbrev put_columns : Owned Device → Row → Row
@@ -168,7 +168,7 @@ put_same d r typed passed =
 
 pub device_put : (d : Owned Device) (old new : State) (count : ℕ) → IsOffice old.now → Executes put_text (device_columns d) old new (Ok count) → count ≡ 1 → Wrote (PutDevice d) old.now new.now
 device_put d old new count office ran one =
-    elim (sets IsDeviceRow device_cmp device_total device_in (is_device d.customer d.row.chip) (device_ties d.customer d.row.chip) put_text 5 device_table put_tests put_shown put_update (device_columns d) (put_columns d) (put_set d) old new count office.schema office.devices ran) [
+    elim (sets IsDeviceRow device_cmp device_total device_in (is_device d.customer d.row.chip) (device_ties d.customer d.row.chip) put_text 5 device_table put_tests put_shown put_update (device_columns d) (put_columns d) (put_set d) old new count office.schema office.rows.devices ran) [
       | inl it ↦ absurd (omega (arith, it.counted))
       | inr it ↦ (
           let changed = devices_changed old.now new.now office it.replaced.schema it.replaced.sound it.replaced.others it.rows (placed device_cmp d (sort_by device_cmp (map device_in (old.now.trees 9))))
@@ -177,6 +177,6 @@ device_put d old new count office ran one =
             office = changed.0;
             made = changed.1;
             rows = remade IsDeviceRow device_cmp device_in (is_device d.customer d.row.chip) 9 (put_columns d) (λ _. device_columns d) old.now new.now count it (put_same d it.was it.one.typed it.one.passed);
-            meta = it.replaced.others.0 (λ e. cc);
+            told = it.replaced.others.0 (λ e. cc);
           })
     ]

@@ -53,6 +53,12 @@ alike Greater h = absurd (true≢false (sym h))
 pub texts_tied : (c a b : List ℕ) → bytes_eq c a ≡ true → bytes_eq c b ≡ true → slice_cmp nat_cmp a b ≡ Equal
 texts_tied c a b p q = alike _ (is_eq-slice_cmp a b ∙ sym (nat_list_eq_equiv.congr c a b p) ∙ q)
 
+pub texts_alike : (a b t : List ℕ) → bytes_eq a t ≡ true → bytes_eq b t ≡ true → slice_cmp nat_cmp a b ≡ Equal
+texts_alike a b t e f = texts_tied t a b (nat_list_eq_equiv.symm t a ∙ e) (nat_list_eq_equiv.symm t b ∙ f)
+
+pub same_bytes : (t : List ℕ) → bytes_eq t t ≡ true
+same_bytes t = (bytes_eq-Decides t t).1 refl
+
 module _ {A : Type 0} (cmp : A → A → Ordering) (total : IsTotalOrder cmp) (value : Row → A) (p : A → Bool) where
   -- the one row that passes is found
   pub only_found : (rows : List Row) (r : Row) → AreKeyed cmp (map value rows) → filter (λ x. p (value x)) rows ≡ r ∷ [] → find p (sort_by cmp (map value rows)) ≡ Some (value r)

@@ -1,12 +1,18 @@
 -- What the texts that read given serial numbers mean, and show.
-use Rattle.std.proofs.Common.{◌≡◌, ℕ, List, [], ◌∷◌, codes, refl, ap₂, ◌∙◌, map, filter, ◌&&◌, Bool, Ordering, Equal}
+use Rattle.std.proofs.Common.{◌≡◌, ℕ, List, [], ◌∷◌, ◌++◌, codes, refl, sym, ap, ap₂, ◌∙◌, map, filter, ◌&&◌, Bool, Ordering, Equal, is_eq}
 use Rattle.std.specs.Ordering.{on, ordering_then}
-use Rattle.std.specs.Cmp.{IsTotalOrder}
+use Rattle.std.specs.List.{list_all}
+use Rattle.std.specs.Cmp.{IsTotalOrder, tied_then}
 use Rattle.std.proofs.lemmas.Cmp.{on_total, then_total, nat_list_cmp_total}
-use Rattle.sqlite.specs.declared.types.Value.TheVariants.{Null, Text as Words, Blob as Bytes}
+use Rattle.std.proofs.lemmas.Map.Text.{is_eq-slice_cmp}
+use Rattle.sqlite.specs.declared.types.Value.TheVariants.{Text as Words, Blob as Bytes}
 use Rattle.sqlite.specs.Order.{Row, column}
-use Rattle.sqlite.specs.Term.{Term, col}
-use Rattle.sqlite.specs.Query.{key_cmp}
+use Rattle.sqlite.specs.Term.{Term, col, holds}
+use Rattle.sqlite.specs.Tree.{Trees}
+use Rattle.sqlite.specs.Ops.{binary, is_true}
+use Rattle.sqlite_sql.specs.declared.ops.CompareOp.TheVariants.{Eq}
+use Rattle.sqlite_sql.specs.declared.ops.BinaryOp.TheVariants.{Compare}
+use Rattle.sqlite.specs.Query.{key_cmp, IsAnswer, inner, end}
 use Rattle.sqlite.specs.Listing.{understood}
 use Rattle.sqlite.specs.Collation.TheVariants.{Binary}
 use Rattle.sqlite_tied.specs.Compute.{everything}
@@ -17,31 +23,33 @@ use Rattle.sqlite_keyed.specs.Lists.{sort_by}
 use Rattle.office_tables.specs.declared.rows.Owned.{Owned}
 use Rattle.office_tables.specs.declared.rows.Given.{Given}
 use Rattle.office_tables.specs.Tables.{given_cmp, is_given as is_serial_of, is_bound, is_of_issuer}
-use Rattle.office_sql.specs.Rows.{given_in}
+use Rattle.office_sql.specs.Schema.{office_schema}
+use Rattle.office_sql.specs.Rows.{given_in, starts_given, with_given_start, joined_given}
 use Rattle.office_sql.specs.Scan.{is_given, passes}
-use Rattle.office_sql.specs.Tables.{AreRows, IsGivenRow}
-use Rattle.office_sql.proofs.Kept.{shows_kept}
-use Rattle.office_sql.proofs.Reading.{IsRead}
-use Rattle.office_sql.proofs.Scan.{Scanned}
+use Rattle.office_sql.specs.Joins.{over, is_same, meets, pair, first_that}
+use Rattle.office_sql.specs.Tables.{AreRows, AreStarted, IsGivenRow, IsStartRow}
+use Rattle.office_sql.specs.Values.{text_if}
+use Rattle.office_sql.proofs.Kept.{shows_joined, start_is}
+use Rattle.office_sql.proofs.Reading.{IsJoined}
 use Rattle.office_sql.proofs.Values.{text_is, blob_is, texts_cmp, and_true}
 
 abbrev pub at_text : List ℕ
-at_text = codes "SELECT issuer, serial, customer, key, chip, mac, not_after FROM given WHERE issuer = ?1 AND serial = ?2 ORDER BY issuer, serial"
+at_text = codes "SELECT given.issuer, given.serial, customer, key, chip, mac, not_after, not_before FROM given JOIN given_start ON given_start.issuer = given.issuer AND given_start.serial = given.serial WHERE given.issuer = ?1 AND given.serial = ?2 ORDER BY given.issuer, given.serial"
 
 abbrev pub key_text : List ℕ
-key_text = codes "SELECT issuer, serial, customer, key, chip, mac, not_after FROM given WHERE issuer = ?1 AND key = ?2 ORDER BY issuer, serial"
+key_text = codes "SELECT given.issuer, given.serial, customer, key, chip, mac, not_after, not_before FROM given JOIN given_start ON given_start.issuer = given.issuer AND given_start.serial = given.serial WHERE given.issuer = ?1 AND key = ?2 ORDER BY given.issuer, given.serial"
 
 abbrev pub all_text : List ℕ
-all_text = codes "SELECT issuer, serial, customer, key, chip, mac, not_after FROM given WHERE issuer = ?1 ORDER BY issuer, serial"
+all_text = codes "SELECT given.issuer, given.serial, customer, key, chip, mac, not_after, not_before FROM given JOIN given_start ON given_start.issuer = given.issuer AND given_start.serial = given.serial WHERE given.issuer = ?1 ORDER BY given.issuer, given.serial"
 
 abbrev pub shown : List Term
-shown = col 1 1 ∷ col 1 2 ∷ col 1 3 ∷ col 1 4 ∷ col 1 5 ∷ col 1 6 ∷ col 1 7 ∷ []
+shown = col 1 1 ∷ col 1 2 ∷ col 1 3 ∷ col 1 4 ∷ col 1 5 ∷ col 1 6 ∷ col 1 7 ∷ col 2 3 ∷ []
 
 abbrev pub by_key : List (Term × Key)
 by_key = (col 1 1, ascending Binary) ∷ (col 1 2, ascending Binary) ∷ []
 
 abbrev pub names : List (List ℕ)
-names = codes "issuer" ∷ codes "serial" ∷ codes "customer" ∷ codes "key" ∷ codes "chip" ∷ codes "mac" ∷ codes "not_after" ∷ []
+names = codes "issuer" ∷ codes "serial" ∷ codes "customer" ∷ codes "key" ∷ codes "chip" ∷ codes "mac" ∷ codes "not_after" ∷ codes "not_before" ∷ []
 
 abbrev pub at_tests : List Term
 at_tests = is_given 1 0 ∷ is_given 2 1 ∷ []
@@ -52,17 +60,21 @@ key_tests = is_given 1 0 ∷ is_given 4 1 ∷ []
 abbrev pub all_tests : List Term
 all_tests = is_given 1 0 ∷ []
 
-pub at_read : IsRead at_text 11 at_tests shown by_key
-unfolding understood everything
-at_read = record { names = names; is = refl; plain = (refl, refl); unlisted = refl; bare = λ schema base. refl; there = λ db. refl }
+-- the columns of the row and of its start that are one key
+abbrev pub on_start : List Term
+on_start = is_same 1 1 ∷ is_same 2 2 ∷ []
 
-pub key_read : IsRead key_text 11 key_tests shown by_key
+pub at_read : IsJoined office_schema at_text (inner 11 (inner 19 end)) (on_start ++ at_tests) shown by_key
 unfolding understood everything
-key_read = record { names = names; is = refl; plain = (refl, refl); unlisted = refl; bare = λ schema base. refl; there = λ db. refl }
+at_read = record { names = names; is = refl; plain = (refl, refl); unlisted = refl; bare = λ schema base. refl }
 
-pub all_read : IsRead all_text 11 all_tests shown by_key
+pub key_read : IsJoined office_schema key_text (inner 11 (inner 19 end)) (on_start ++ key_tests) shown by_key
 unfolding understood everything
-all_read = record { names = names; is = refl; plain = (refl, refl); unlisted = refl; bare = λ schema base. refl; there = λ db. refl }
+key_read = record { names = names; is = refl; plain = (refl, refl); unlisted = refl; bare = λ schema base. refl }
+
+pub all_read : IsJoined office_schema all_text (inner 11 (inner 19 end)) (on_start ++ all_tests) shown by_key
+unfolding understood everything
+all_read = record { names = names; is = refl; plain = (refl, refl); unlisted = refl; bare = λ schema base. refl }
 
 pub given_total : IsTotalOrder given_cmp
 given_total = then_total (on_total (λ g. g.row.issuer) nat_list_cmp_total) (on_total (λ g. g.row.serial) nat_list_cmp_total)
@@ -79,6 +91,10 @@ by_serial_total = on_total (λ r. column r 1 ∷ column r 2 ∷ []) (then_total 
 ordered : (a b : Row) → IsGivenRow a → IsGivenRow b → by_serial a b ≡ given_cmp (given_in a) (given_in b)
 ordered a b e f = ap₂ ordering_then (texts_cmp (column a 1) (column b 1) e.0 f.0) (then-Equal _ ∙ texts_cmp (column a 2) (column b 2) e.1 f.1)
 
+-- records have one key where their issuers and their serial numbers are equal
+pub given_tied : (x y : Owned Given) → is_eq (given_cmp x y) ≡ is_serial_of x.row.issuer x.row.serial y
+given_tied x y = sym (tied_then _ _) ∙ ap₂ ◌&&◌ (is_eq-slice_cmp x.row.issuer y.row.issuer) (is_eq-slice_cmp x.row.serial y.row.serial)
+
 passes_at : (issuer serial : List ℕ) (r : Row) → IsGivenRow r → passes at_tests (Words issuer ∷ Words serial ∷ []) r ≡ is_serial_of issuer serial (given_in r)
 passes_at issuer serial r e = ap₂ ◌&&◌ (text_is (column r 1) issuer e.0) (and_true _ ∙ text_is (column r 2) serial e.1)
 
@@ -88,20 +104,41 @@ passes_key issuer key r e = ap₂ ◌&&◌ (text_is (column r 1) issuer e.0) (an
 passes_all : (issuer : List ℕ) (r : Row) → IsGivenRow r → passes all_tests (Words issuer ∷ []) r ≡ is_of_issuer issuer (given_in r)
 passes_all issuer r e = and_true _ ∙ text_is (column r 1) issuer e.0
 
--- a query that sorts by the key shows the records that pass its test
-pub kept_shown : (p : Owned Given → Bool) (tests : List Term) (params : Row) → ((r : Row) → IsGivenRow r → passes tests params r ≡ p (given_in r))
-    → (all rows : List Row) → AreRows IsGivenRow given_cmp given_in all → Scanned tests shown by_key params all rows
-    → map (λ r. given_in (Null ∷ r)) rows ≡ filter p (sort_by given_cmp (map given_in all))
-kept_shown p tests params is = shows_kept IsGivenRow given_cmp given_total given_in by_serial by_serial_total ordered p tests params is shown by_key (λ r. given_in (Null ∷ r)) (λ r. refl) (λ a b. refl)
+-- the start's key is the record's
+fits : (params r s : Row) → IsGivenRow r → IsStartRow s → meets on_start params r s ≡ starts_given (given_in r) s
+fits params r s e f =
+    ap₂ ◌&&◌ (ap (λ v. is_true (binary (Compare Eq Binary) (column s 1) v)) e.0 ∙ text_is (column s 1) _ f.0)
+    (and_true _ ∙ ap (λ v. is_true (binary (Compare Eq Binary) (column s 2) v)) e.1 ∙ text_is (column s 2) _ f.1)
 
-pub at_shown : (issuer serial : List ℕ) (all rows : List Row) → AreRows IsGivenRow given_cmp given_in all → Scanned at_tests shown by_key (Words issuer ∷ Words serial ∷ []) all rows
-    → map (λ r. given_in (Null ∷ r)) rows ≡ filter (is_serial_of issuer serial) (sort_by given_cmp (map given_in all))
-at_shown issuer serial = kept_shown (is_serial_of issuer serial) at_tests (Words issuer ∷ Words serial ∷ []) (passes_at issuer serial)
+-- with what a row of starts says
+abbrev with_row : Row → Owned Given → Owned Given
+with_row s g = record g { row = record g.row { not_before = text_if (column s 3) } }
 
-pub key_shown : (issuer key : List ℕ) (all rows : List Row) → AreRows IsGivenRow given_cmp given_in all → Scanned key_tests shown by_key (Words issuer ∷ Bytes key ∷ []) all rows
-    → map (λ r. given_in (Null ∷ r)) rows ≡ filter (is_bound issuer key) (sort_by given_cmp (map given_in all))
-key_shown issuer key = kept_shown (is_bound issuer key) key_tests (Words issuer ∷ Bytes key ∷ []) (passes_key issuer key)
+starts : (l : List Row) (all : List (Owned Given)) → map (λ g. with_row (first_that (starts_given g) l) g) all ≡ map (with_given_start l) all
+starts l all = ap (λ (f : Owned Given → Owned Given). map f all) (λ i g. record g { row = record g.row { not_before = start_is starts_given l g i } })
 
-pub all_shown : (issuer : List ℕ) (all rows : List Row) → AreRows IsGivenRow given_cmp given_in all → Scanned all_tests shown by_key (Words issuer ∷ []) all rows
-    → map (λ r. given_in (Null ∷ r)) rows ≡ filter (is_of_issuer issuer) (sort_by given_cmp (map given_in all))
-all_shown issuer = kept_shown (is_of_issuer issuer) all_tests (Words issuer ∷ []) (passes_all issuer)
+-- a query that sorts by the key shows the records that pass its tests, which read the first table alone
+pub kept_shown : (p : Owned Given → Bool) → ((s : Row) (g : Owned Given) → p (with_row s g) ≡ p g) → (tests : List Term) (params : Row) → ((r : Row) → IsGivenRow r → passes tests params r ≡ p (given_in r))
+    → ((r s : Row) → list_all (holds (pair params r s)) tests ≡ passes tests params r)
+    → (db : Trees) (rows : List Row) → AreRows IsGivenRow given_cmp given_in (db 11) → AreStarted starts_given given_in (db 11) (db 19)
+    → IsAnswer (over (inner 11 (inner 19 end)) (on_start ++ tests) shown by_key) db params rows
+    → map joined_given rows ≡ filter p (map (with_given_start (db 19)) (sort_by given_cmp (map given_in (db 11))))
+kept_shown p same tests params is blind db rows are started a =
+    shows_joined IsGivenRow given_cmp given_total given_in by_serial by_serial_total ordered p tests params is IsStartRow starts_given on_start (fits params) shown by_key joined_given with_row same
+    blind (λ r s. refl) (λ a b s t. refl) db 11 19 rows are started.typed started.one a
+    ∙ ap (filter p) (starts (db 19) _)
+
+pub at_shown : (issuer serial : List ℕ) (db : Trees) (rows : List Row) → AreRows IsGivenRow given_cmp given_in (db 11) → AreStarted starts_given given_in (db 11) (db 19)
+    → IsAnswer (over (inner 11 (inner 19 end)) (on_start ++ at_tests) shown by_key) db (Words issuer ∷ Words serial ∷ []) rows
+    → map joined_given rows ≡ filter (is_serial_of issuer serial) (map (with_given_start (db 19)) (sort_by given_cmp (map given_in (db 11))))
+at_shown issuer serial = kept_shown (is_serial_of issuer serial) (λ s g. refl) at_tests (Words issuer ∷ Words serial ∷ []) (passes_at issuer serial) (λ r s. refl)
+
+pub key_shown : (issuer key : List ℕ) (db : Trees) (rows : List Row) → AreRows IsGivenRow given_cmp given_in (db 11) → AreStarted starts_given given_in (db 11) (db 19)
+    → IsAnswer (over (inner 11 (inner 19 end)) (on_start ++ key_tests) shown by_key) db (Words issuer ∷ Bytes key ∷ []) rows
+    → map joined_given rows ≡ filter (is_bound issuer key) (map (with_given_start (db 19)) (sort_by given_cmp (map given_in (db 11))))
+key_shown issuer key = kept_shown (is_bound issuer key) (λ s g. refl) key_tests (Words issuer ∷ Bytes key ∷ []) (passes_key issuer key) (λ r s. refl)
+
+pub all_shown : (issuer : List ℕ) (db : Trees) (rows : List Row) → AreRows IsGivenRow given_cmp given_in (db 11) → AreStarted starts_given given_in (db 11) (db 19)
+    → IsAnswer (over (inner 11 (inner 19 end)) (on_start ++ all_tests) shown by_key) db (Words issuer ∷ []) rows
+    → map joined_given rows ≡ filter (is_of_issuer issuer) (map (with_given_start (db 19)) (sort_by given_cmp (map given_in (db 11))))
+all_shown issuer = kept_shown (is_of_issuer issuer) (λ s g. refl) all_tests (Words issuer ∷ []) (passes_all issuer) (λ r s. refl)

@@ -1,19 +1,17 @@
 -- What the texts that add a given serial number mean, and do.
-use Rattle.std.proofs.Common.{◌≡◌, ℕ, ℤ, ◌&&◌, Bool, true, false, List, [], ◌∷◌, map, filter, codes, length, arith, Option, Some, None, refl, sym, ap, ap₂, subst, ◌∙◌, is_eq, true≢false}
+use Rattle.std.proofs.Common.{◌≡◌, ℕ, ℤ, ◌&&◌, Bool, true, false, List, [], ◌∷◌, ◌++◌, map, filter, codes, length, arith, Option, Some, None, refl, sym, ap, ap₂, subst, subst₂, ◌∙◌, Equal, true≢false}
 use Rattle.std.specs.Option.{option_map, option_and_then}
-use Rattle.std.specs.List.{AllByRecursion}
+use Rattle.std.specs.Ordering.{ordering_then}
 use Rattle.std.specs.Str.{bytes_eq}
-use Rattle.std.specs.Cmp.{tied_then}
 use Rattle.std.proofs.lemmas.Bool.{eqb-true, eq-eqb}
-use Rattle.std.proofs.lemmas.Map.Text.{is_eq-slice_cmp}
 use Rattle.std.proofs.lemmas.Slice.Eq.{bytes_eq-Decides}
 use Rattle.sqlite.specs.declared.types.Value.{Value}
 use Rattle.sqlite.specs.declared.types.Value.TheVariants.{Null, Int, Text as Words}
-use Rattle.sqlite.specs.Kind.TheVariants.{Text}
-use Rattle.sqlite.specs.Values.{bound_value, or_null}
 use Rattle.sqlite.specs.Order.{Row, column, bytes}
 use Rattle.sqlite.specs.Ops.{binary, is_true}
-use Rattle.sqlite.specs.Cast.{cast, cast_row}
+use Rattle.sqlite.specs.Cast.{cast_row}
+use Rattle.sqlite.specs.Tree.{Trees, put_row}
+use Rattle.sqlite.specs.Query.{IsAnswer, inner, end}
 use Rattle.sqlite.specs.Collation.TheVariants.{Binary}
 use Rattle.sqlite.specs.Term.{Term, lit, col}
 use Rattle.sqlite.specs.Effect.{Database}
@@ -21,6 +19,7 @@ use Rattle.sqlite.specs.Listing.{understood}
 use Rattle.sqlite_sql.specs.declared.ops.CompareOp.TheVariants.{Eq}
 use Rattle.sqlite_sql.specs.declared.ops.BinaryOp.TheVariants.{Compare}
 use Rattle.sqlite_keyed.specs.Lists.{sort_by}
+use Rattle.sqlite_keyed.proofs.ListLemmas.{all_unmap}
 use Rattle.sqlite_keyed.proofs.SortLemmas.{IsPermutation-sort_by}
 use Rattle.sqlite_rules.specs.Edit.{next_rowid}
 use Rattle.sqlite_tied.specs.Compute.{everything}
@@ -33,33 +32,35 @@ use Rattle.office_tables.specs.declared.rows.Write.TheVariants.{AddGiven}
 use Rattle.office_tables.specs.Tables.{IsFree, IsAddressFree, is_address, has_address, given_cmp, is_given as is_serial_of, placed}
 use Rattle.office_tables.proofs.Finding.{none_passes}
 use Rattle.office_sql.specs.Change.{Adds, Wrote}
-use Rattle.office_sql.specs.Rows.{given_in, given_columns}
+use Rattle.office_sql.specs.Joins.{over}
+use Rattle.office_sql.specs.Rows.{given_in, given_columns, starts_given, given_start_columns, with_given_start, joined_given}
 use Rattle.office_sql.specs.Scan.{is_given, passes}
-use Rattle.office_sql.specs.Schema.{given_table}
-use Rattle.office_sql.specs.Tables.{AreRows, IsGivenRow, IsOffice, tables_in}
+use Rattle.office_sql.specs.Schema.{given_table, given_start_table, office_schema}
+use Rattle.office_sql.specs.Tables.{AreRows, AreStarted, IsGivenRow, IsOffice, tables_in}
 use Rattle.office_sql.specs.Values.{text_if, text_value, mac_if}
-use Rattle.office_sql.proofs.GivenReads.{shown, by_key, names, given_total, kept_shown}
+use Rattle.office_sql.proofs.Finding.{both_true, texts_alike, same_bytes}
+use Rattle.office_sql.proofs.GivenReads.{shown, by_key, names, on_start, given_total, given_tied, kept_shown}
 use Rattle.office_sql.proofs.Inserting.{IsInsert}
 use Rattle.office_sql.proofs.Kept.{found}
 use Rattle.office_sql.proofs.Keyed.{Apart}
-use Rattle.office_sql.proofs.Offices.{given_changed}
-use Rattle.office_sql.proofs.Reading.{IsRead}
-use Rattle.office_sql.proofs.Scan.{Scanned}
+use Rattle.office_sql.proofs.Missing.{text_cast, text_back}
+use Rattle.office_sql.proofs.Offices.{given_grown}
+use Rattle.office_sql.proofs.Reading.{IsJoined}
 use Rattle.office_sql.proofs.Stepping.{cast_null}
-use Rattle.office_sql.proofs.TableRows.{row_added}
+use Rattle.office_sql.proofs.StartedRows.{started_more}
 use Rattle.office_sql.proofs.Values.{text_is, and_true}
 
 -- ---- the rows with an address
 
 abbrev pub address_text : List ℕ
-address_text = codes "SELECT issuer, serial, customer, key, chip, mac, not_after FROM given WHERE mac = ?1 ORDER BY issuer, serial"
+address_text = codes "SELECT given.issuer, given.serial, customer, key, chip, mac, not_after, not_before FROM given JOIN given_start ON given_start.issuer = given.issuer AND given_start.serial = given.serial WHERE mac = ?1 ORDER BY given.issuer, given.serial"
 
 abbrev pub address_tests : List Term
 address_tests = is_given 6 0 ∷ []
 
-pub address_read : IsRead address_text 11 address_tests shown by_key
+pub address_read : IsJoined office_schema address_text (inner 11 (inner 19 end)) (on_start ++ address_tests) shown by_key
 unfolding understood everything
-address_read = record { names = names; is = refl; plain = (refl, refl); unlisted = refl; bare = λ schema base. refl; there = λ db. refl }
+address_read = record { names = names; is = refl; plain = (refl, refl); unlisted = refl; bare = λ schema base. refl }
 
 both_ways : (a b : Bool) → (a ≡ true → b ≡ true) → (b ≡ true → a ≡ true) → a ≡ b
 both_ways true b f h = sym (f refl)
@@ -96,14 +97,15 @@ mac_is mac text v is e = go (text_if v) refl
 passes_address : (mac : ℕ) (text : List ℕ) → mac_of_text text ≡ Some mac → (r : Row) → IsGivenRow r → passes address_tests (Words text ∷ []) r ≡ has_address mac (given_in r)
 passes_address mac text is r e = and_true _ ∙ mac_is mac text (column r 6) is e.3
 
-pub address_shown : (mac : ℕ) (text : List ℕ) → mac_of_text text ≡ Some mac → (all rows : List Row) → AreRows IsGivenRow given_cmp given_in all → Scanned address_tests shown by_key (Words text ∷ []) all rows
-    → map (λ r. given_in (Null ∷ r)) rows ≡ filter (has_address mac) (sort_by given_cmp (map given_in all))
-address_shown mac text is = kept_shown (has_address mac) address_tests (Words text ∷ []) (passes_address mac text is)
+pub address_shown : (mac : ℕ) (text : List ℕ) → mac_of_text text ≡ Some mac → (db : Trees) (rows : List Row) → AreRows IsGivenRow given_cmp given_in (db 11) → AreStarted starts_given given_in (db 11) (db 19)
+    → IsAnswer (over (inner 11 (inner 19 end)) (on_start ++ address_tests) shown by_key) db (Words text ∷ []) rows
+    → map joined_given rows ≡ filter (has_address mac) (map (with_given_start (db 19)) (sort_by given_cmp (map given_in (db 11))))
+address_shown mac text is = kept_shown (has_address mac) (λ s g. refl) address_tests (Words text ∷ []) (passes_address mac text is) (λ r s. refl)
 
 -- where no row is shown, no record has the address
-pub none_shown : (address : Option ℕ) (rows : List Row) (l : List (Owned Given)) → length rows ≡ 0 → ((mac : ℕ) → address ≡ Some mac → map (λ r. given_in (Null ∷ r)) rows ≡ filter (has_address mac) l) → IsAddressFree address l
+pub none_shown : (address : Option ℕ) (rows : List Row) (l : List (Owned Given)) → length rows ≡ 0 → ((mac : ℕ) → address ≡ Some mac → map joined_given rows ≡ filter (has_address mac) l) → IsAddressFree address l
 none_shown None rows l empty is = tt
-none_shown (Some mac) [] l empty is = sym (found (λ r. given_in (Null ∷ r)) (has_address mac) l [] (is mac refl))
+none_shown (Some mac) [] l empty is = sym (found joined_given (has_address mac) l [] (is mac refl))
 none_shown (Some mac) (r ∷ rows) l empty is = absurd (omega arith)
 
 -- ---- the insert
@@ -114,43 +116,68 @@ add_text = codes "INSERT INTO given (issuer, serial, customer, key, chip, mac, n
 abbrev pub add_terms : List Term
 add_terms = lit Null ∷ col 0 0 ∷ col 0 1 ∷ col 0 2 ∷ col 0 3 ∷ col 0 4 ∷ col 0 5 ∷ col 0 6 ∷ []
 
-pub add_insert : IsInsert add_text 6 given_table add_terms 8
+pub add_insert : IsInsert office_schema add_text 6 given_table add_terms 8
 unfolding understood everything
 add_insert = record { is = refl; plain = (refl, refl); there = refl; uncounted = refl; unstamped = refl; one = λ params. refl }
 
-cast_text : (o : Option (List ℕ)) → cast Text (text_value o) ≡ text_value o
-cast_text None = refl
-cast_text (Some t) = refl
-
 pub add_casts : (g : Owned Given) → cast_row given_table (Null ∷ given_columns g) ≡ Null ∷ given_columns g
-add_casts g = rw (cast_null, cast_text g.row.chip, cast_text (option_map mac_text g.row.mac)) refl
+add_casts g = rw (cast_null, text_cast g.row.chip, text_cast (option_map mac_text g.row.mac)) refl
 
--- a parameter that may be missing
-pub text_param : {X : Type 0} (f : X → List ℕ) (o : Option X) → bound_value (or_null (λ x. Words (f x)) o) ≡ text_value (option_map f o)
-text_param f None = refl
-text_param f (Some x) = refl
+-- ---- its beginning of validity
 
-text_back : (o : Option (List ℕ)) → text_if (text_value o) ≡ o
-text_back None = refl
-text_back (Some t) = refl
+abbrev pub start_text : List ℕ
+start_text = codes "INSERT INTO given_start (issuer, serial, not_before) VALUES (?1, ?2, ?3)"
 
-given_tied : (x y : Owned Given) → is_eq (given_cmp x y) ≡ is_serial_of x.row.issuer x.row.serial y
-given_tied x y = sym (tied_then _ _) ∙ ap₂ ◌&&◌ (is_eq-slice_cmp x.row.issuer y.row.issuer) (is_eq-slice_cmp x.row.serial y.row.serial)
+abbrev pub start_terms : List Term
+start_terms = lit Null ∷ col 0 0 ∷ col 0 1 ∷ col 0 2 ∷ []
+
+pub start_insert : IsInsert office_schema start_text 9 given_start_table start_terms 4
+unfolding understood everything
+start_insert = record { is = refl; plain = (refl, refl); there = refl; uncounted = refl; unstamped = refl; one = λ params. refl }
+
+pub start_casts : (g : Owned Given) → cast_row given_start_table (Null ∷ given_start_columns g) ≡ Null ∷ given_start_columns g
+start_casts g = rw (cast_null, text_cast g.row.not_before) refl
+
+-- ---- both
+
+-- two records with one start have one key
+given_ties : (a b : Owned Given) (s : Row) → starts_given a s ≡ true → starts_given b s ≡ true → given_cmp a b ≡ Equal
+given_ties a b s e f =
+    let p = both_true _ _ e in
+    let q = both_true _ _ f in
+    ap₂ ordering_then (texts_alike a.row.issuer b.row.issuer (bytes (column s 1)) p.0 q.0) (texts_alike a.row.serial b.row.serial (bytes (column s 2)) p.1 q.1)
+
+abbrev with_text : Option (List ℕ) → Owned Given → Owned Given
+with_text t g = record g { row = record g.row { not_before = t } }
+
+-- its own start is for it
+own_start : (g : Owned Given) (id : ℤ) → starts_given g (Int id ∷ given_start_columns g) ≡ true
+own_start g id = ap₂ ◌&&◌ (same_bytes g.row.issuer) (same_bytes g.row.serial)
 
 module _ (g : Owned Given) (address : option_and_then mac_of_text (option_map mac_text g.row.mac) ≡ g.row.mac) where
-  given_back : (id : ℤ) → given_in (Int id ∷ given_columns g) ≡ g
-  given_back id i =
-      record g { row = record g.row { chip = text_back g.row.chip i; mac = (ap (option_and_then mac_of_text) (text_back (option_map mac_text g.row.mac)) ∙ address) i } }
+  given_back : (id own : ℤ) → with_text (text_if (column (Int own ∷ given_start_columns g) 3)) (given_in (Int id ∷ given_columns g)) ≡ g
+  given_back id own i =
+      record g { row = record g.row { chip = text_back g.row.chip i; mac = (ap (option_and_then mac_of_text) (text_back (option_map mac_text g.row.mac)) ∙ address) i; not_before = text_back g.row.not_before i } }
 
-  -- a record that was added
-  pub given_wrote : (old new : Database) → IsOffice old → IsFree (AddGiven g) (tables_in old.trees) → IsAddressFree g.row.mac (tables_in old.trees).given → Adds 11 (given_columns g) old new → Wrote (AddGiven g) old new
-  given_wrote old new office free alone adds =
+  -- a record that was added, with its start
+  pub given_wrote : (old mid new : Database) → IsOffice old → IsFree (AddGiven g) (tables_in old.trees) → IsAddressFree g.row.mac (tables_in old.trees).given
+      → Adds 11 (given_columns g) old mid → Adds 19 (given_start_columns g) mid new → Wrote (AddGiven g) old new
+  given_wrote old mid new office free alone adds starts =
       let rows = old.trees 11 in
-      let is = given_back (next_rowid rows) in
-      let others = all-permutation (λ y. is_serial_of g.row.issuer g.row.serial y ≡ false) _ _ (IsPermutation-sort_by given_cmp given_total (map given_in rows)) (none_passes _ _ free.0) in
-      let apart = all_weaker _ (Apart given_cmp given_total g) (λ y e. given_tied g y ∙ e) (map given_in rows) others in
-      let made = row_added IsGivenRow given_cmp given_total given_in (given_columns g) rows office.given (refl, refl, refl, sym (ap text_value (text_back (option_map mac_text g.row.mac))))
-      (subst (λ x. AllByRecursion (Apart given_cmp given_total x) (map given_in rows)) (sym is) apart) in
-      let it = given_changed old new office adds.schema adds.sound adds.others (subst (AreRows IsGivenRow given_cmp given_in) (sym adds.row) made.0) _
-      (ap (λ l. sort_by given_cmp (map given_in l)) adds.row ∙ made.1 ∙ ap (λ x. placed given_cmp x (sort_by given_cmp (map given_in rows))) is) in
-      record { office = it.0; made = (alone, it.1); rows = adds; meta = adds.others.0 (λ e. cc) }
+      let id = next_rowid rows in
+      let new_row : Row = Int id ∷ given_columns g in
+      let own = next_rowid (old.trees 19) in
+      let own_row : Row = Int own ∷ given_start_columns g in
+      let meta : new.trees 0 ≡ old.trees 0 = starts.others.0 (λ e. cc) ∙ adds.others.0 (λ e. cc) in
+      let beside : mid.trees 19 ≡ old.trees 19 = adds.others.1.1.1.1.1.1.1.1.1.0 (λ e. cc) in
+      let others = all-permutation (λ y. is_serial_of g.row.issuer g.row.serial y ≡ false) _ _ (IsPermutation-sort_by given_cmp given_total (map given_in rows))
+      (all_unmap (λ y. is_serial_of g.row.issuer g.row.serial y ≡ false) (with_given_start (old.trees 19)) _ (none_passes _ _ free.0)) in
+      let apart = all_weaker _ (Apart given_cmp given_total (given_in new_row)) (λ y e. given_tied g y ∙ e) (map given_in rows) others in
+      let more = started_more IsGivenRow given_cmp given_total given_in starts_given with_text (λ t u a b. refl) given_ties
+      (given_columns g) (given_start_columns g) rows (old.trees 19) office.rows.given office.given_started
+      (refl, refl, refl, sym (ap text_value (text_back (option_map mac_text g.row.mac)))) (refl, refl) (own_start g own) apart in
+      let after : new.trees 19 ≡ put_row own_row (old.trees 19) = starts.row ∙ ap (λ l. put_row (Int (next_rowid l) ∷ given_start_columns g) l) beside in
+      let it = given_grown old new office starts.schema starts.sound mid.trees adds.others starts.others (subst (AreRows IsGivenRow given_cmp given_in) (sym adds.row) more.are)
+      (subst₂ (AreStarted starts_given given_in) (sym adds.row) (sym after) more.started) _
+      (ap₂ (λ l k. map (with_given_start k) (sort_by given_cmp (map given_in l))) adds.row after ∙ more.placed_is ∙ ap (λ x. placed given_cmp x (tables_in old.trees).given) (given_back id own)) in
+      record { office = it.0; made = (alone, it.1); rows = (mid, adds, starts); told = meta }

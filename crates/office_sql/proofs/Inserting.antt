@@ -11,6 +11,7 @@ use Rattle.sqlite.specs.Edit.{edit_of, edited, numbered}
 use Rattle.sqlite.specs.Rowids.TheVariants.{Chosen, Above}
 use Rattle.sqlite.specs.Does.{Tally, Does, AtPlace, OnRows}
 use Rattle.sqlite.specs.Rows.{Task, Counts, CountsIn, Gives, Edited, Written, count_of, higher, rowids_for, sequence}
+use Rattle.sqlite.specs.Schema.{Schema}
 use Rattle.sqlite.specs.Table.{Table}
 use Rattle.sqlite.specs.Tree.{Trees, put_row}
 use Rattle.sqlite.specs.Listing.{understood}
@@ -29,22 +30,22 @@ use Rattle.sqlite.specs.declared.error.Error.TheVariants.{SqliteFailure}
 use Rattle.sqlite.specs.declared.error.ErrorCode.TheVariants.{TransactionState}
 use Rattle.sqlite.specs.Store.{Ghosts}
 use Rattle.sqlite.specs.Held.{Held, state}
-use Rattle.office_sql.specs.Asking.{Changes, HasOffice}
+use Rattle.office_sql.specs.Asking.{Changes, HasOffice, HasSchema}
 use Rattle.office_sql.specs.Tables.{IsOffice}
 use Rattle.office_sql.proofs.Inside.{kept}
 use Rattle.office_sql.proofs.Stepping.{went, same_value}
 
--- what the text of an INSERT of one row means
-pub record IsInsert (text : List ℕ) (at : ℕ) (table : Table) (terms : List Term) (width : ℕ) : Type 0 where
-  pub is : command_of (understood office_schema text) ≡ Insert at (Values terms width)
-  pub plain : IsPlain (understood office_schema text)
-  pub there : slice_get office_schema.tables at ≡ Some table
+-- what the text of an INSERT of one row means where the database has this schema
+pub record IsInsert (schema : Schema) (text : List ℕ) (at : ℕ) (table : Table) (terms : List Term) (width : ℕ) : Type 0 where
+  pub is : command_of (understood schema text) ≡ Insert at (Values terms width)
+  pub plain : IsPlain (understood schema text)
+  pub there : slice_get schema.tables at ≡ Some table
   pub uncounted : table.is_counted ≡ false
   pub unstamped : table.stamps.terms ≡ []
   pub one : (params : Row) → value_rows params width (length terms / width) terms ≡ eval_all terms (params ∷ []) ∷ []
 
 -- a table that isn't counted counts nothing
-unmoved : (task : Task) (mid next : Trees) (c : Option Row) (top : ℤ) → task.table.is_counted ≡ false → Counts task mid c top (Ok next) → next ≡ mid
+pub unmoved : (task : Task) (mid next : Trees) (c : Option Row) (top : ℤ) → task.table.is_counted ≡ false → Counts task mid c top (Ok next) → next ≡ mid
 unmoved task mid next c top e h = same_value (subst (λ b. MatchBool (cond b (is_lt (int_cmp (count_of c) top)) false) (CountsIn task mid c top (sequence task.schema) (Ok next)) (Gives mid (Ok next))) e h)
 
 -- in a transaction the keys are enforced, and none may wait
@@ -54,7 +55,7 @@ enforced = record { keys = Enforced; in_doubt = false; may_wait = false }
 abbrev pub task_on : Option ℕ → Row → Table → Task
 task_on limit params table = record { limit = limit; keys = Enforced; schema = office_schema; table = table; params = params }
 
-module _ (text : List ℕ) (at : ℕ) (table : Table) (terms : List Term) (width : ℕ) (insert : IsInsert text at table terms width) (params columns : Row)
+module _ (text : List ℕ) (at : ℕ) (table : Table) (terms : List Term) (width : ℕ) (insert : IsInsert office_schema text at table terms width) (params columns : Row)
     (casts : cast_row table (eval_all terms (params ∷ [])) ≡ Null ∷ columns) where
   puts : (limit : Option ℕ) (old : Database) (out : Tally × Database) → IsDatabase out.1 → OnRows (task_on limit params table) enforced None (Insert at (Values terms width)) old.trees (Ok out) → Adds table.tree columns old out.1
   puts limit old out sound does =
@@ -124,8 +125,17 @@ module _ {S : Type 0} (g : Ghosts S) (text : List ℕ) (params values : Row) (bo
       → Survives (state g old) (state g new) (λ _. ⊥) → Changes g old new r Says
   changes has says = changed (λ count up ran. says count up (has up) ran)
 
+-- a call of `execute` with the text of an INSERT, where the schema is the office's, adds a row
+pub inserted : {S : Type 0} (g : Ghosts S) (text : List ℕ) (at : ℕ) (table : Table) (terms : List Term) (width : ℕ) (insert : IsInsert office_schema text at table terms width)
+    (params values columns : Row) → params ≡ values → cast_row table (eval_all terms (values ∷ [])) ≡ Null ∷ columns
+    → (old new : Held S) (r : Result ℕ Error) → HasSchema (state g old)
+    → (old.in_transaction ≡ false → (r ≡ Err (SqliteFailure TransactionState)) × (new ≡ old)) → (HasCleanDisk (state g new) → IsTrue old.in_transaction → ExecutesInside 0 text params (state g old) (state g new) r)
+    → Survives (state g old) (state g new) (λ _. ⊥) → Changes g old new r (λ x y _. Adds table.tree columns x y)
+inserted g text at table terms width insert params values columns bound casts old new r has =
+    changed g text params values bound old new r _ (λ count up ran. adds text at table terms width insert values columns casts (state g old) (state g new) count (has up) ran)
+
 -- a call of `execute` with the text of an INSERT, on the office's tables in a transaction, changes what the row that it adds means
-pub inserts : {S : Type 0} (g : Ghosts S) (text : List ℕ) (at : ℕ) (table : Table) (terms : List Term) (width : ℕ) (insert : IsInsert text at table terms width)
+pub inserts : {S : Type 0} (g : Ghosts S) (text : List ℕ) (at : ℕ) (table : Table) (terms : List Term) (width : ℕ) (insert : IsInsert office_schema text at table terms width)
     (params values columns : Row) → params ≡ values → cast_row table (eval_all terms (values ∷ [])) ≡ Null ∷ columns
     → (old new : Held S) (r : Result ℕ Error) (Says : Database → Database → ℕ → Type 0) → HasOffice (state g old)
     → ((count : ℕ) → IsTrue (state g old).is_open → IsOffice (state g old).now → Adds table.tree columns (state g old).now (state g new).now → Says (state g old).now (state g new).now count)

@@ -1,21 +1,28 @@
 mod Lists
 pub mod Scan
+pub mod Joined
 pub mod Asked
 pub mod Bare
 pub mod Stepping
 mod Inside
 pub mod Keyed
-mod TableRows
+pub mod TableRows
 pub mod Kept
 pub mod Reading
 mod Visiting
 pub mod Values
-mod Offices
+pub mod Offices
 mod Making
 pub mod Resting
 mod SeatReads
 pub mod Inserting
-mod Replacing
+pub mod Replacing
+pub mod Starts
+pub mod StartedRows
+pub mod Filled
+pub mod Filling
+pub mod Lacking
+pub mod Told
 mod Finding
 mod EntryReads
 pub mod LedgerAsked
@@ -30,11 +37,13 @@ mod MapIds
 mod MapWrites
 mod DeviceReads
 mod DeviceWrites
-mod GivenReads
+pub mod GivenReads
 mod Looking
 mod GivenWrites
 mod GivenFound
 mod SeatWrites
-mod OrderReads
+pub mod OrderReads
+pub mod StartsFilled
 mod ColumnKinds
 mod OrderWrites
+pub mod Missing

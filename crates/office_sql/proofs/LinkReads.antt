@@ -16,6 +16,7 @@ use Rattle.sqlite_value.specs.Keys.{ascending}
 use Rattle.sqlite_value.proofs.OrderLemmas.{then-Equal}
 use Rattle.sqlite_keyed.specs.Lists.{sort_by}
 use Rattle.office_tables.specs.Tables.{link_cmp, is_link, is_of}
+use Rattle.office_sql.specs.Schema.{office_schema}
 use Rattle.office_sql.specs.Rows.{link_in}
 use Rattle.office_sql.specs.Scan.{is_given, passes}
 use Rattle.office_sql.specs.Tables.{AreRows, IsLinkRow}
@@ -36,11 +37,11 @@ shown = col 1 1 ∷ col 1 2 ∷ col 1 3 ∷ []
 abbrev pub by_key : List (Term × Key)
 by_key = (col 1 1, ascending Binary) ∷ (col 1 2, ascending Binary) ∷ []
 
-pub one_read : IsRead one_text 5 (is_given 1 0 ∷ is_given 2 1 ∷ []) shown by_key
+pub one_read : IsRead office_schema one_text 5 (is_given 1 0 ∷ is_given 2 1 ∷ []) shown by_key
 unfolding understood everything
 one_read = record { names = codes "customer" ∷ codes "digest" ∷ codes "map" ∷ []; is = refl; plain = (refl, refl); unlisted = refl; bare = λ schema base. refl; there = λ db. refl }
 
-pub own_read : IsRead own_text 5 (is_given 1 0 ∷ []) shown by_key
+pub own_read : IsRead office_schema own_text 5 (is_given 1 0 ∷ []) shown by_key
 unfolding understood everything
 own_read = record { names = codes "customer" ∷ codes "digest" ∷ codes "map" ∷ []; is = refl; plain = (refl, refl); unlisted = refl; bare = λ schema base. refl; there = λ db. refl }
 

@@ -20,7 +20,7 @@ use Rattle.office_tables.specs.declared.rows.Link.{Link}
 use Rattle.office_tables.specs.declared.rows.Write.TheVariants.{AddLink}
 use Rattle.office_tables.specs.Tables.{link_cmp, is_link, IsFree}
 use Rattle.office_tables.proofs.Finding.{none_passes}
-use Rattle.office_sql.specs.Schema.{link_table}
+use Rattle.office_sql.specs.Schema.{link_table, office_schema}
 use Rattle.office_sql.specs.Rows.{link_in, link_columns}
 use Rattle.office_sql.specs.Change.{Adds, Wrote}
 use Rattle.office_sql.specs.Tables.{AreRows, IsLinkRow, IsOffice, tables_in}
@@ -37,7 +37,7 @@ add_text = codes "INSERT INTO link (customer, digest, map) VALUES (?1, ?2, ?3)"
 abbrev pub add_terms : List Term
 add_terms = lit Null ∷ col 0 0 ∷ col 0 1 ∷ col 0 2 ∷ []
 
-pub add_insert : IsInsert add_text 3 link_table add_terms 4
+pub add_insert : IsInsert office_schema add_text 3 link_table add_terms 4
 unfolding understood everything
 add_insert = record { is = refl; plain = (refl, refl); there = refl; uncounted = refl; unstamped = refl; one = λ params. refl }
 
@@ -62,6 +62,6 @@ free_apart x rows none =
 pub link_wrote : (l : Owned Link) (old new : Database) → IsOffice old → IsFree (AddLink l) (tables_in old.trees) → Adds 5 (link_columns l) old new → Wrote (AddLink l) old new
 link_wrote l old new office free adds =
     let rows = old.trees 5 in
-    let it = row_added IsLinkRow link_cmp link_total link_in (link_columns l) rows office.links (refl, refl) (free_apart l rows free.0) in
+    let it = row_added IsLinkRow link_cmp link_total link_in (link_columns l) rows office.rows.links (refl, refl) (free_apart l rows free.0) in
     let now = links_changed old new office adds.schema adds.sound adds.others (subst (AreRows IsLinkRow link_cmp link_in) (sym adds.row) it.0) _ (ap (λ l. sort_by link_cmp (map link_in l)) adds.row ∙ it.1) in
-    record { office = now.0; made = now.1; rows = adds; meta = adds.others.0 (λ e. cc) }
+    record { office = now.0; made = now.1; rows = adds; told = adds.others.0 (λ e. cc) }

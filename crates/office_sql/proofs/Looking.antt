@@ -1,42 +1,47 @@
 -- From what `query_all` promises in a transaction to what the functions of this crate do.
-use Rattle.std.proofs.Common.{◌≡◌, ℕ, List, inl, inr, subst₂, ◌⊎◌, Result, Ok, Err, IfOk, IfErr}
+use Rattle.std.proofs.Common.{◌≡◌, ℕ, List, [], inl, inr, subst, ◌⊎◌, Result, Ok, Err, IfOk, IfErr}
 use Rattle.std.specs.Prelude.{Vec}
 use Rattle.std.specs.declared.alloc.Global.{Global}
 use Rattle.std.proofs.lemmas.Result.{IfOk-weaker}
 use Rattle.sqlite_value.specs.declared.keys.Key.{Key}
 use Rattle.sqlite.specs.Order.{Row}
 use Rattle.sqlite.specs.Term.{Term}
+use Rattle.sqlite.specs.Program.{overlay}
+use Rattle.sqlite.specs.Query.{Join, IsAnswer}
 use Rattle.sqlite.specs.declared.error.Error.{Error}
 use Rattle.sqlite.specs.Store.{Ghosts}
 use Rattle.sqlite.specs.Held.{Held, state}
 use Rattle.sqlite.specs.State.{State, HasCleanDisk, Survives, Shown, IsUnchanged, FailsToQuery, IsTooLate, KeepsCommit}
 use Rattle.office_tables.specs.Tables.{Tables}
+use Rattle.office_sql.specs.Schema.{office_schema}
 use Rattle.office_sql.specs.Asking.{HasOffice}
 use Rattle.office_sql.specs.Change.{Rests}
+use Rattle.office_sql.specs.Joins.{over}
 use Rattle.office_sql.specs.Looking.{Looks, Stands}
 use Rattle.office_sql.specs.Tables.{IsOffice, tables_in}
-use Rattle.office_sql.proofs.Asked.{leaves, reads_scan, shown_open, shown_rests, failed_rests}
-use Rattle.office_sql.proofs.Reading.{IsRead}
-use Rattle.office_sql.proofs.Scan.{Scanned}
+use Rattle.office_sql.proofs.Asked.{leaves, reads_over, shown_open, shown_rests, failed_rests}
+use Rattle.office_sql.proofs.Reading.{IsJoined}
 
 rests_keeps : (old new : State) → Rests old new → KeepsCommit old new
 rests_keeps old new h = record { was_open = h.was_open; committed = h.committed }
 
-module _ {S : Type 0} (g : Ghosts S) (text : List ℕ) (tree : ℕ) (tests shown : List Term) (order : List (Term × Key)) (read : IsRead text tree tests shown order) (params values : Row) (bound : params ≡ values) (old new : Held S) where
+module _ {S : Type 0} (g : Ghosts S) (text : List ℕ) (from : Join) (tests shown : List Term) (order : List (Term × Key))
+    (read : IsJoined office_schema text from tests shown order) (params values : Row) (bound : params ≡ values) (old new : Held S) where
   -- a call of `query_all` in a transaction on the office's tables asks what its text means
   pub looked : (r : Result (Vec Row Global) Error) (Says : Tables → Vec Row Global → Type 0)
       → HasOffice (state g old)
-      → ((rows : Vec Row Global) → IsOffice (state g old).now → Scanned tests shown order values ((state g old).now.trees tree) rows.items → Says (tables_in (state g old).now.trees) rows)
+      → ((rows : Vec Row Global) → IsOffice (state g old).now → IsAnswer (over from tests shown order) (overlay (state g old).now.trees []) values rows.items → Says (tables_in (state g old).now.trees) rows)
       → (HasCleanDisk (state g new) → IfOk r (λ v. Shown text params (state g old) (state g new) v.items))
       → (HasCleanDisk (state g new) → IfErr r (λ e. FailsToQuery text params (state g old) (state g new) e ⊎ IsTooLate text params (state g old) (state g new) e))
       → Survives (state g old) (state g new) (λ _. ⊥) → Looks g old new r Says
   looked r Says has says ok err survives = record {
     says = λ clean. IfOk-weaker r _ _ (λ rows h.
         let office = has (shown_open text params (state g old) (state g new) rows.items read.bare h) in
-        says rows office (subst₂ (λ p l. Scanned tests shown order p l rows.items) bound (read.there (state g old).now.trees) (reads_scan text params (state g old) (state g new) read.plain tree tests shown order read.names read.is read.unlisted office.schema rows.items h))) (ok clean);
+        says rows office (subst (λ p. IsAnswer (over from tests shown order) (overlay (state g old).now.trees []) p rows.items) bound
+        (reads_over office_schema text params (state g old) (state g new) read.plain from tests shown order read.names read.is read.unlisted office.schema rows.items h))) (ok clean);
     stands = λ clean. IfOk-weaker r _ _ (λ rows h.
         let office = has (shown_open text params (state g old) (state g new) rows.items read.bare h) in
-        stands (leaves text params (state g old) (state g new) read.plain office.schema rows.items h)) (ok clean);
+        stands (leaves office_schema text params (state g old) (state g new) read.plain office.schema rows.items h)) (ok clean);
     kept = λ clean. keeps r (ok clean) (err clean);
     crash = survives;
   }

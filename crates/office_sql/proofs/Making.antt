@@ -27,7 +27,7 @@ made_more done w old mid new h step inside = record {
   written = record {
     tables = written_push done w (tables_in old.now.trees) (tables_in mid.now.trees) (tables_in new.now.trees) h.written.tables step.made;
     rows = rows_push done w old.now mid.now new.now h.written.rows step.rows;
-    meta = step.meta ∙ h.written.meta;
+    told = step.told ∙ h.written.told;
   };
   committed = inside.committed ∙ h.committed;
   was_open = λ _. h.was_open inside.was_open;

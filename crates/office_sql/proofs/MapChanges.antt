@@ -28,11 +28,12 @@ answered {S} {A} {B} {E} {F} g old new a r P Q it says = record { says = λ clea
     inside (Ok b) i = i
     inside (Err e) i = tt
 
--- one call after another
-pub changes_then : {S A B E : Type 0} (g : Ghosts S) (old mid new : Held S) (a : A) (r : Result B E) (P : Database → Database → A → Type 0) (Q R : Database → Database → B → Type 0)
-    → Changes {E = E} g old mid (Ok a) P → Changes g mid new r Q → ((x y z : Database) (b : B) → P x y a → Q y z b → R x z b) → Changes g old new r R
-changes_then {S} {A} {B} {E} g old mid new a r P Q R first second both = record {
-  says = λ clean. said r (first.says (before clean)) (second.says clean);
+-- one call after another, on an open store
+pub changes_here : {S A B E : Type 0} (g : Ghosts S) (old mid new : Held S) (a : A) (r : Result B E) (P : Database → Database → A → Type 0) (Q R : Database → Database → B → Type 0)
+    → Changes {E = E} g old mid (Ok a) P → Changes g mid new r Q
+    → ((b : B) → IsTrue (state g old).is_open → P (state g old).now (state g mid).now a → Q (state g mid).now (state g new).now b → R (state g old).now (state g new).now b) → Changes g old new r R
+changes_here {S} {A} {B} {E} g old mid new a r P Q R first second both = record {
+  says = λ clean. said r (first.inside (before clean)).was_open (first.says (before clean)) (second.says clean);
   inside = λ clean. inside r (first.inside (before clean)) (second.inside clean);
   kept = λ clean. still (first.kept (before clean)) (second.kept clean);
   crash = survives_then (state g old) (state g mid) (state g new) _ _ (λ _. ⊥) (λ _ db none. none) (λ _ db none. none) first.crash second.crash;
@@ -41,9 +42,9 @@ changes_then {S} {A} {B} {E} g old mid new a r P Q R first second both = record 
     before : HasCleanDisk (state g new) → HasCleanDisk (state g mid)
     before = was_clean (state g mid) (state g new) _ second.crash
 
-    said : (r : Result B E) → P (state g old).now (state g mid).now a → IfOk r (Q (state g mid).now (state g new).now) → IfOk r (R (state g old).now (state g new).now)
-    said (Ok b) p q = both _ _ _ b p q
-    said (Err e) p q = tt
+    said : (r : Result B E) → IsTrue (state g old).is_open → P (state g old).now (state g mid).now a → IfOk r (Q (state g mid).now (state g new).now) → IfOk r (R (state g old).now (state g new).now)
+    said (Ok b) up p q = both b up p q
+    said (Err e) up p q = tt
 
     inside : (r : Result B E) → IsInside (state g old) (state g mid) → OnOk r (IsInside (state g mid) (state g new)) → OnOk r (IsInside (state g old) (state g new))
     inside (Ok b) i j = record { was_open = i.was_open; is_open = j.is_open; committed = j.committed ∙ i.committed; began = i.began; goes_on = j.goes_on }
@@ -51,3 +52,8 @@ changes_then {S} {A} {B} {E} g old mid new a r P Q R first second both = record 
 
     still : KeepsCommit (state g old) (state g mid) → KeepsCommit (state g mid) (state g new) → KeepsCommit (state g old) (state g new)
     still i j = record { was_open = λ up. i.was_open (j.was_open up); committed = λ up. j.committed up ∙ i.committed (j.was_open up) }
+
+-- one call after another
+pub changes_then : {S A B E : Type 0} (g : Ghosts S) (old mid new : Held S) (a : A) (r : Result B E) (P : Database → Database → A → Type 0) (Q R : Database → Database → B → Type 0)
+    → Changes {E = E} g old mid (Ok a) P → Changes g mid new r Q → ((x y z : Database) (b : B) → P x y a → Q y z b → R x z b) → Changes g old new r R
+changes_then g old mid new a r P Q R first second both = changes_here g old mid new a r P Q R first second (λ b up p q. both _ _ _ b p q)

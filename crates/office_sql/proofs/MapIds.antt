@@ -22,7 +22,7 @@ use Rattle.office_sql.proofs.Inserting.{IsInsert}
 use Rattle.office_sql.proofs.Stepping.{went, same_value}
 
 -- it is the one that was next in the table
-pub last_is_next : (text : List ℕ) (at : ℕ) (table : Table) (terms : List Term) (width : ℕ) → IsInsert text at table terms width
+pub last_is_next : (text : List ℕ) (at : ℕ) (table : Table) (terms : List Term) (width : ℕ) → IsInsert office_schema text at table terms width
     → (params columns : Row) → cast_row table (eval_all terms (params ∷ [])) ≡ Null ∷ columns → (old new : State) (count : ℕ) → old.now.schema ≡ office_schema
     → Executes text params old new (Ok count) → new.last_rowid ≡ next_rowid (old.now.trees table.tree)
 last_is_next text at table terms width insert params columns casts old new count has h =

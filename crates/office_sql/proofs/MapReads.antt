@@ -18,6 +18,7 @@ use Rattle.sqlite_keyed.specs.Lists.{sort_by}
 use Rattle.office_tables.specs.declared.rows.MapRow.{MapRow}
 use Rattle.office_tables.specs.Tables.{map_cmp, has_id, has_body}
 use Rattle.std.specs.Option.{option_map}
+use Rattle.office_sql.specs.Schema.{office_schema}
 use Rattle.office_sql.specs.Values.{number_in}
 use Rattle.office_sql.specs.Rows.{map_in}
 use Rattle.office_sql.specs.Scan.{is_given, passes}
@@ -40,11 +41,11 @@ shown = col 1 0 ∷ col 1 2 ∷ []
 abbrev pub by_key : List (Term × Key)
 by_key = (col 1 0, ascending Binary) ∷ []
 
-pub one_read : IsRead one_text 3 (is_given 0 0 ∷ []) shown by_key
+pub one_read : IsRead office_schema one_text 3 (is_given 0 0 ∷ []) shown by_key
 unfolding understood everything
 one_read = record { names = codes "id" ∷ codes "body" ∷ []; is = refl; plain = (refl, refl); unlisted = refl; bare = λ schema base. refl; there = λ db. refl }
 
-pub body_read : IsRead body_text 3 (is_given 2 0 ∷ []) shown by_key
+pub body_read : IsRead office_schema body_text 3 (is_given 2 0 ∷ []) shown by_key
 unfolding understood everything
 body_read = record { names = codes "id" ∷ codes "body" ∷ []; is = refl; plain = (refl, refl); unlisted = refl; bare = λ schema base. refl; there = λ db. refl }
 

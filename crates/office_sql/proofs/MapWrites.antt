@@ -21,7 +21,7 @@ use Rattle.office_tables.specs.Tables.{map_cmp, has_id, map_at, link_at, with_ma
 use Rattle.office_tables.specs.declared.rows.Link.{Link}
 use Rattle.office_tables.specs.declared.rows.Write.TheVariants.{AddMap, AddLink}
 use Rattle.office_tables.proofs.Finding.{find_none, some_placed}
-use Rattle.office_sql.specs.Schema.{map_table}
+use Rattle.office_sql.specs.Schema.{map_table, office_schema}
 use Rattle.office_sql.specs.Values.{number_in}
 use Rattle.office_sql.specs.Rows.{map_in, map_columns}
 use Rattle.office_sql.specs.Change.{Adds, Wrote}
@@ -41,7 +41,7 @@ add_text = codes "INSERT INTO map (body, digest) VALUES (?1, ?2)"
 abbrev pub add_terms : List Term
 add_terms = lit Null ∷ lit Null ∷ col 0 0 ∷ col 0 1 ∷ []
 
-pub add_insert : IsInsert add_text 2 map_table add_terms 4
+pub add_insert : IsInsert office_schema add_text 2 map_table add_terms 4
 unfolding understood everything
 add_insert = record { is = refl; plain = (refl, refl); there = refl; uncounted = refl; unstamped = refl; one = λ params. refl }
 
@@ -79,9 +79,9 @@ pub map_gained : (m : Owned NewMap) (id : ℕ) (old new : Database) → IsOffice
 map_gained m id old new office is adds =
     let rows = old.trees 3 in
     let row : MapRow = record { id = id; body = m.row.body } in
-    let apart = next_apart id m.row.body rows office.maps is in
+    let apart = next_apart id m.row.body rows office.rows.maps is in
     let same : map_in (Int (next_rowid rows) ∷ Null ∷ map_columns m) ≡ row = ap (λ n. map_in (Int n ∷ Null ∷ map_columns m)) is in
-    let it = row_added IsMapRow map_cmp map_total map_in (Null ∷ map_columns m) rows office.maps (ap Int is ∙ ap (λ n. Int (pos (number_in (Int n)))) (sym is), refl)
+    let it = row_added IsMapRow map_cmp map_total map_in (Null ∷ map_columns m) rows office.rows.maps (ap Int is ∙ ap (λ n. Int (pos (number_in (Int n)))) (sym is), refl)
     (subst (λ x. AllByRecursion (Apart map_cmp map_total x) (map map_in rows)) (sym same) apart) in
     let now = maps_changed old new office adds.schema adds.sound adds.others (subst (AreRows IsMapRow map_cmp map_in) (sym adds.row) it.0) _ (ap (λ l. sort_by map_cmp (map map_in l)) adds.row ∙ it.1) in
     let none = all_weaker (Apart map_cmp map_total row) (λ y. has_id id y ≡ false) (λ y e. sym (tied id y.id) ∙ e) (map map_in rows) apart in
@@ -113,5 +113,5 @@ map_wrote m id old mid new gains wrote =
       office = wrote.office;
       made = (id, gains.free, wrote.made ∙ ap (with_link link) gains.made);
       rows = (mid, id, gains.number, gains.row, wrote.rows);
-      meta = wrote.meta ∙ gains.row.others.0 (λ e. cc);
+      told = wrote.told ∙ gains.row.others.0 (λ e. cc);
     }

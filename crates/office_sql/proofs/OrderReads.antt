@@ -1,12 +1,17 @@
 -- What the texts that read orders mean, and show.
-use Rattle.std.proofs.Common.{◌≡◌, ℕ, ◌&&◌, List, [], ◌∷◌, codes, refl, ap₂, ◌∙◌, map, filter, Ordering, Equal}
+use Rattle.std.proofs.Common.{◌≡◌, ℕ, ◌&&◌, List, [], ◌∷◌, ◌++◌, codes, refl, sym, ap, ap₂, ◌∙◌, map, filter, Ordering, Equal, is_eq}
 use Rattle.std.specs.Ordering.{on, ordering_then}
-use Rattle.std.specs.Cmp.{IsTotalOrder}
+use Rattle.std.specs.Cmp.{IsTotalOrder, tied_then}
 use Rattle.std.proofs.lemmas.Cmp.{on_total, then_total, nat_list_cmp_total}
-use Rattle.sqlite.specs.declared.types.Value.TheVariants.{Null, Text as Words}
+use Rattle.std.proofs.lemmas.Map.Text.{is_eq-slice_cmp}
+use Rattle.sqlite.specs.declared.types.Value.TheVariants.{Text as Words}
 use Rattle.sqlite.specs.Order.{Row, column}
 use Rattle.sqlite.specs.Term.{Term, col}
-use Rattle.sqlite.specs.Query.{key_cmp}
+use Rattle.sqlite.specs.Ops.{binary, is_true}
+use Rattle.sqlite_sql.specs.declared.ops.CompareOp.TheVariants.{Eq}
+use Rattle.sqlite_sql.specs.declared.ops.BinaryOp.TheVariants.{Compare}
+use Rattle.sqlite.specs.Query.{key_cmp, IsAnswer, inner, end}
+use Rattle.sqlite.specs.Tree.{Trees}
 use Rattle.sqlite.specs.Listing.{understood}
 use Rattle.sqlite.specs.Collation.TheVariants.{Binary}
 use Rattle.sqlite_tied.specs.Compute.{everything}
@@ -14,37 +19,51 @@ use Rattle.sqlite_value.specs.declared.keys.Key.{Key}
 use Rattle.sqlite_value.specs.Keys.{ascending}
 use Rattle.sqlite_value.proofs.OrderLemmas.{value_cmp_total, then-Equal}
 use Rattle.sqlite_keyed.specs.Lists.{sort_by}
+use Rattle.office_tables.specs.declared.rows.Owned.{Owned}
+use Rattle.office_tables.specs.declared.rows.Order.{Order}
 use Rattle.office_tables.specs.Tables.{order_cmp, is_of, is_order}
-use Rattle.office_sql.specs.Rows.{order_in}
+use Rattle.office_sql.specs.Schema.{office_schema}
+use Rattle.office_sql.specs.Rows.{order_in, starts_order, with_order_start, joined_order}
 use Rattle.office_sql.specs.Scan.{is_given, passes}
-use Rattle.office_sql.specs.Tables.{AreRows, IsOrderRow}
-use Rattle.office_sql.proofs.Kept.{shows_kept}
-use Rattle.office_sql.proofs.Reading.{IsRead}
-use Rattle.office_sql.proofs.Scan.{Scanned}
+use Rattle.office_sql.specs.Joins.{over, is_same, meets, first_that}
+use Rattle.office_sql.specs.Tables.{AreRows, AreStarted, IsOrderRow, IsStartRow}
+use Rattle.office_sql.specs.Values.{text_if}
+use Rattle.office_sql.proofs.Kept.{shows_joined, start_is}
+use Rattle.office_sql.proofs.Reading.{IsJoined}
 use Rattle.office_sql.proofs.Values.{text_is, texts_cmp, and_true}
 
 abbrev pub one_text : List ℕ
-one_text = codes "SELECT customer, name, issuer, prefix, width, first, quantity, macs, mac, cursor FROM orders WHERE customer = ?1 AND name = ?2 ORDER BY customer, name"
+one_text = codes "SELECT orders.customer, name, issuer, prefix, width, first, quantity, macs, mac, cursor, not_before FROM orders JOIN order_start ON order_start.customer = orders.customer AND ord = name WHERE orders.customer = ?1 AND name = ?2 ORDER BY orders.customer, name"
 
 abbrev pub own_text : List ℕ
-own_text = codes "SELECT customer, name, issuer, prefix, width, first, quantity, macs, mac, cursor FROM orders WHERE customer = ?1 ORDER BY customer, name"
+own_text = codes "SELECT orders.customer, name, issuer, prefix, width, first, quantity, macs, mac, cursor, not_before FROM orders JOIN order_start ON order_start.customer = orders.customer AND ord = name WHERE orders.customer = ?1 ORDER BY orders.customer, name"
 
 abbrev pub shown : List Term
-shown = col 1 1 ∷ col 1 2 ∷ col 1 3 ∷ col 1 4 ∷ col 1 5 ∷ col 1 6 ∷ col 1 7 ∷ col 1 8 ∷ col 1 9 ∷ col 1 10 ∷ []
+shown = col 1 1 ∷ col 1 2 ∷ col 1 3 ∷ col 1 4 ∷ col 1 5 ∷ col 1 6 ∷ col 1 7 ∷ col 1 8 ∷ col 1 9 ∷ col 1 10 ∷ col 2 3 ∷ []
 
 abbrev pub by_key : List (Term × Key)
 by_key = (col 1 1, ascending Binary) ∷ (col 1 2, ascending Binary) ∷ []
 
 abbrev pub names : List (List ℕ)
-names = codes "customer" ∷ codes "name" ∷ codes "issuer" ∷ codes "prefix" ∷ codes "width" ∷ codes "first" ∷ codes "quantity" ∷ codes "macs" ∷ codes "mac" ∷ codes "cursor" ∷ []
+names = codes "customer" ∷ codes "name" ∷ codes "issuer" ∷ codes "prefix" ∷ codes "width" ∷ codes "first" ∷ codes "quantity" ∷ codes "macs" ∷ codes "mac" ∷ codes "cursor" ∷ codes "not_before" ∷ []
 
-pub one_read : IsRead one_text 7 (is_given 1 0 ∷ is_given 2 1 ∷ []) shown by_key
-unfolding understood everything
-one_read = record { names = names; is = refl; plain = (refl, refl); unlisted = refl; bare = λ schema base. refl; there = λ db. refl }
+-- the columns of the row and of its start that are one key
+abbrev pub on_start : List Term
+on_start = is_same 1 1 ∷ is_same 2 2 ∷ []
 
-pub own_read : IsRead own_text 7 (is_given 1 0 ∷ []) shown by_key
+abbrev pub one_tests : List Term
+one_tests = is_given 1 0 ∷ is_given 2 1 ∷ []
+
+abbrev pub own_tests : List Term
+own_tests = is_given 1 0 ∷ []
+
+pub one_read : IsJoined office_schema one_text (inner 7 (inner 17 end)) (on_start ++ one_tests) shown by_key
 unfolding understood everything
-own_read = record { names = names; is = refl; plain = (refl, refl); unlisted = refl; bare = λ schema base. refl; there = λ db. refl }
+one_read = record { names = names; is = refl; plain = (refl, refl); unlisted = refl; bare = λ schema base. refl }
+
+pub own_read : IsJoined office_schema own_text (inner 7 (inner 17 end)) (on_start ++ own_tests) shown by_key
+unfolding understood everything
+own_read = record { names = names; is = refl; plain = (refl, refl); unlisted = refl; bare = λ schema base. refl }
 
 pub order_total : IsTotalOrder order_cmp
 order_total = then_total (on_total (λ o. o.customer) nat_list_cmp_total) (on_total (λ o. o.row.name) nat_list_cmp_total)
@@ -61,20 +80,43 @@ by_name_total = on_total (λ r. column r 1 ∷ column r 2 ∷ []) (then_total (o
 by_is : (a b : Row) → IsOrderRow a → IsOrderRow b → by_name a b ≡ order_cmp (order_in a) (order_in b)
 by_is a b e f = ap₂ ordering_then (texts_cmp (column a 1) (column b 1) e.0 f.0) (then-Equal _ ∙ texts_cmp (column a 2) (column b 2) e.1 f.1)
 
-pub passes_customer : (c : List ℕ) (r : Row) → IsOrderRow r → passes (is_given 1 0 ∷ []) (Words c ∷ []) r ≡ is_of c (order_in r)
-passes_customer c r e = and_true _ ∙ text_is (column r 1) c e.0
+-- orders have one key where their customers and their names are equal
+pub order_tied : (x y : Owned Order) → is_eq (order_cmp x y) ≡ is_order x.customer x.row.name y
+order_tied x y = sym (tied_then _ _) ∙ ap₂ ◌&&◌ (is_eq-slice_cmp x.customer y.customer) (is_eq-slice_cmp x.row.name y.row.name)
 
-pub passes_order : (c n : List ℕ) (r : Row) → IsOrderRow r → passes (is_given 1 0 ∷ is_given 2 1 ∷ []) (Words c ∷ Words n ∷ []) r ≡ is_order c n (order_in r)
+pub passes_order : (c n : List ℕ) (r : Row) → IsOrderRow r → passes one_tests (Words c ∷ Words n ∷ []) r ≡ is_order c n (order_in r)
 passes_order c n r e = ap₂ ◌&&◌ (text_is (column r 1) c e.0) (and_true _ ∙ text_is (column r 2) n e.1)
 
-pub one_shown : (c n : List ℕ) (all rows : List Row) → AreRows IsOrderRow order_cmp order_in all → Scanned (is_given 1 0 ∷ is_given 2 1 ∷ []) shown by_key (Words c ∷ Words n ∷ []) all rows
-    → map (λ r. order_in (Null ∷ r)) rows ≡ filter (is_order c n) (sort_by order_cmp (map order_in all))
-one_shown c n all rows are s =
-    shows_kept IsOrderRow order_cmp order_total order_in by_name by_name_total by_is (is_order c n) (is_given 1 0 ∷ is_given 2 1 ∷ []) (Words c ∷ Words n ∷ []) (passes_order c n)
-    shown by_key (λ r. order_in (Null ∷ r)) (λ r. refl) (λ a b. refl) all rows are s
+pub passes_customer : (c : List ℕ) (r : Row) → IsOrderRow r → passes own_tests (Words c ∷ []) r ≡ is_of c (order_in r)
+passes_customer c r e = and_true _ ∙ text_is (column r 1) c e.0
 
-pub own_shown : (c : List ℕ) (all rows : List Row) → AreRows IsOrderRow order_cmp order_in all → Scanned (is_given 1 0 ∷ []) shown by_key (Words c ∷ []) all rows
-    → map (λ r. order_in (Null ∷ r)) rows ≡ filter (is_of c) (sort_by order_cmp (map order_in all))
-own_shown c all rows are s =
-    shows_kept IsOrderRow order_cmp order_total order_in by_name by_name_total by_is (is_of c) (is_given 1 0 ∷ []) (Words c ∷ []) (passes_customer c)
-    shown by_key (λ r. order_in (Null ∷ r)) (λ r. refl) (λ a b. refl) all rows are s
+-- the start's key is the order's
+fits : (params r s : Row) → IsOrderRow r → IsStartRow s → meets on_start params r s ≡ starts_order (order_in r) s
+fits params r s e f =
+    ap₂ ◌&&◌ (ap (λ v. is_true (binary (Compare Eq Binary) (column s 1) v)) e.0 ∙ text_is (column s 1) _ f.0)
+    (and_true _ ∙ ap (λ v. is_true (binary (Compare Eq Binary) (column s 2) v)) e.1 ∙ text_is (column s 2) _ f.1)
+
+-- with what a row of starts says
+abbrev with_row : Row → Owned Order → Owned Order
+with_row s o = record o { row = record o.row { not_before = text_if (column s 3) } }
+
+starts : (l : List Row) (all : List (Owned Order)) → map (λ o. with_row (first_that (starts_order o) l) o) all ≡ map (with_order_start l) all
+starts l all = ap (λ (f : Owned Order → Owned Order). map f all) (λ i o. record o { row = record o.row { not_before = start_is starts_order l o i } })
+
+pub one_shown : (c n : List ℕ) (db : Trees) (rows : List Row) → AreRows IsOrderRow order_cmp order_in (db 7) → AreStarted starts_order order_in (db 7) (db 17)
+    → IsAnswer (over (inner 7 (inner 17 end)) (on_start ++ one_tests) shown by_key) db (Words c ∷ Words n ∷ []) rows
+    → map joined_order rows ≡ filter (is_order c n) (map (with_order_start (db 17)) (sort_by order_cmp (map order_in (db 7))))
+one_shown c n db rows are started a =
+    shows_joined IsOrderRow order_cmp order_total order_in by_name by_name_total by_is (is_order c n) one_tests (Words c ∷ Words n ∷ []) (passes_order c n)
+    IsStartRow starts_order on_start (fits (Words c ∷ Words n ∷ [])) shown by_key joined_order with_row (λ s o. refl) (λ r s. refl) (λ r s. refl) (λ a b s t. refl)
+    db 7 17 rows are started.typed started.one a
+    ∙ ap (filter (is_order c n)) (starts (db 17) _)
+
+pub own_shown : (c : List ℕ) (db : Trees) (rows : List Row) → AreRows IsOrderRow order_cmp order_in (db 7) → AreStarted starts_order order_in (db 7) (db 17)
+    → IsAnswer (over (inner 7 (inner 17 end)) (on_start ++ own_tests) shown by_key) db (Words c ∷ []) rows
+    → map joined_order rows ≡ filter (is_of c) (map (with_order_start (db 17)) (sort_by order_cmp (map order_in (db 7))))
+own_shown c db rows are started a =
+    shows_joined IsOrderRow order_cmp order_total order_in by_name by_name_total by_is (is_of c) own_tests (Words c ∷ []) (passes_customer c)
+    IsStartRow starts_order on_start (fits (Words c ∷ [])) shown by_key joined_order with_row (λ s o. refl) (λ r s. refl) (λ r s. refl) (λ a b s t. refl)
+    db 7 17 rows are started.typed started.one a
+    ∙ ap (filter (is_of c)) (starts (db 17) _)

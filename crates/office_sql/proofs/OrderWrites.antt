@@ -1,23 +1,22 @@
 -- What the texts that write an order mean, and do.
-use Rattle.std.proofs.Common.{◌≡◌, inl, inr, ℕ, ℤ, pos, true, ◌&&◌, List, [], ◌∷◌, codes, map, Bool, arith, refl, sym, ap, ap₂, subst, ◌∙◌, Ordering, Less, Equal, Greater, is_eq, Option, Some, None, Ok}
+use Rattle.std.proofs.Common.{◌≡◌, inl, inr, ℕ, ℤ, pos, true, false, ◌&&◌, List, [], ◌∷◌, codes, map, Bool, arith, refl, sym, ap, ap₂, subst, subst₂, ◌∙◌, Equal, Option, None, Ok}
 use Rattle.std.specs.Option.{option_map, option_and_then}
-use Rattle.std.specs.List.{AllByRecursion}
-use Rattle.std.specs.Ordering.{nat_cmp, ordering_then}
-use Rattle.std.specs.Cmp.Lexicographic.{slice_cmp}
+use Rattle.std.specs.Ordering.{ordering_then}
 use Rattle.std.proofs.lemmas.Cmp.{tied_itself, nat_list_cmp_total}
-use Rattle.std.proofs.lemmas.Map.Text.{is_eq-slice_cmp}
 use Rattle.sqlite.specs.declared.types.Value.TheVariants.{Null, Int, Text as Words}
 use Rattle.sqlite.specs.Order.{Row, column, bytes}
 use Rattle.sqlite.specs.Term.{Term, lit, col}
-use Rattle.sqlite.specs.Kind.TheVariants.{Text}
-use Rattle.sqlite.specs.Cast.{cast, cast_row}
+use Rattle.sqlite.specs.Cast.{cast_row}
+use Rattle.sqlite.specs.Tree.{put_row}
 use Rattle.sqlite.specs.Effect.{Database}
 use Rattle.sqlite.specs.Listing.{understood}
 use Rattle.sqlite.specs.State.{State, Executes}
-use Rattle.sqlite_schema.specs.Rules.{are_typed, is_of as is_of_kind}
+use Rattle.sqlite_schema.specs.Rules.{are_typed}
 use Rattle.sqlite_rules.specs.Edit.{next_rowid}
 use Rattle.sqlite_keyed.specs.Lists.{sort_by}
-use Rattle.sqlite_trees.proofs.ListLemmas.{all_weaker}
+use Rattle.sqlite_keyed.proofs.ListLemmas.{all_unmap}
+use Rattle.sqlite_keyed.proofs.SortLemmas.{IsPermutation-sort_by}
+use Rattle.sqlite_trees.proofs.ListLemmas.{all_weaker, all-permutation}
 use Rattle.sqlite_tied.specs.Compute.{everything}
 use Rattle.id_ranges.specs.Mac.{mac_text, mac_of_text}
 use Rattle.office_tables.specs.declared.rows.Owned.{Owned}
@@ -25,21 +24,22 @@ use Rattle.office_tables.specs.declared.rows.Order.{Order}
 use Rattle.office_tables.specs.declared.rows.Cursor.{Cursor}
 use Rattle.office_tables.specs.declared.rows.Write.TheVariants.{AddOrder, SetCursor}
 use Rattle.office_tables.specs.Tables.{is_order, order_at, order_cmp, placed, with_cursor_of}
-use Rattle.office_sql.specs.Schema.{orders_table}
+use Rattle.office_sql.specs.Schema.{orders_table, order_start_table, office_schema}
 use Rattle.office_sql.specs.Scan.{is_given}
-use Rattle.office_sql.specs.Values.{text_if, mac_if, text_value, mac_value, whole_value}
-use Rattle.office_sql.specs.Rows.{columns_with_cursor, order_in, order_columns}
-use Rattle.office_sql.specs.Tables.{AreRows, IsOffice, IsOrderRow, tables_in}
+use Rattle.office_sql.specs.Values.{text_if, mac_if, mac_value, whole_value}
+use Rattle.office_sql.specs.Rows.{columns_with_cursor, order_in, order_columns, starts_order, order_start_columns, with_order_start}
+use Rattle.office_sql.specs.Tables.{AreRows, AreStarted, IsOffice, IsOrderRow, tables_in}
 use Rattle.office_sql.specs.Change.{Adds, Wrote}
-use Rattle.office_sql.proofs.Finding.{unkeyed, only_found, both_true, texts_tied}
+use Rattle.office_sql.proofs.Finding.{find_none, only_found, both_true, texts_tied, texts_alike, same_bytes}
 use Rattle.office_sql.proofs.Inserting.{IsInsert}
 use Rattle.office_sql.proofs.Keyed.{Apart}
 use Rattle.office_sql.proofs.ColumnKinds.{AreOf, are_of, text_stays, number_stays}
-use Rattle.office_sql.proofs.Offices.{orders_changed}
-use Rattle.office_sql.proofs.OrderReads.{order_total, passes_order}
+use Rattle.office_sql.proofs.Missing.{text_cast, text_back, text_typed}
+use Rattle.office_sql.proofs.Offices.{orders_changed, orders_grown}
+use Rattle.office_sql.proofs.OrderReads.{order_total, order_tied, passes_order}
 use Rattle.office_sql.proofs.Replacing.{IsUpdate, IsSet, SetsOne, remade, sets}
 use Rattle.office_sql.proofs.Stepping.{cast_null, cast_int}
-use Rattle.office_sql.proofs.TableRows.{row_added}
+use Rattle.office_sql.proofs.StartedRows.{find_made, started_more, started_as_was, replaced_with_starts}
 
 -- ---- a new order
 
@@ -49,50 +49,68 @@ add_text = codes "INSERT INTO orders (customer, name, issuer, prefix, width, fir
 abbrev pub add_terms : List Term
 add_terms = lit Null ∷ col 0 0 ∷ col 0 1 ∷ col 0 2 ∷ col 0 3 ∷ col 0 4 ∷ col 0 5 ∷ col 0 6 ∷ col 0 7 ∷ col 0 8 ∷ col 0 9 ∷ []
 
-pub add_insert : IsInsert add_text 4 orders_table add_terms 11
+pub add_insert : IsInsert office_schema add_text 4 orders_table add_terms 11
 unfolding understood everything
 add_insert = record { is = refl; plain = (refl, refl); there = refl; uncounted = refl; unstamped = refl; one = λ params. refl }
-
-text_cast : (t : Option (List ℕ)) → cast Text (text_value t) ≡ text_value t
-text_cast None = refl
-text_cast (Some t) = refl
 
 pub add_casts : (o : Owned Order) → cast_row orders_table (Null ∷ order_columns o) ≡ Null ∷ order_columns o
 add_casts o =
     rw (cast_null, cast_int (pos o.row.range.width), cast_int (pos o.row.range.first), cast_int (pos o.row.range.quantity), cast_int (pos o.row.macs), text_cast (option_map mac_text o.row.mac), cast_int (pos o.row.cursor)) refl
 
-text_back : (t : Option (List ℕ)) → text_if (text_value t) ≡ t
-text_back None = refl
-text_back (Some t) = refl
-
 -- an address is read back where its text is
 pub address_back : (text : Option (List ℕ)) (mac : Option ℕ) → text ≡ option_map mac_text mac → option_and_then mac_of_text text ≡ mac → mac_if (mac_value mac) ≡ mac
 address_back text mac is back = ap (option_and_then mac_of_text) (text_back (option_map mac_text mac) ∙ sym is) ∙ back
 
-text_typed : (t : Option (List ℕ)) → is_of_kind Text (text_value t) ≡ true
-text_typed None = refl
-text_typed (Some t) = refl
+-- two orders with one start have one key
+order_ties : (a b : Owned Order) (s : Row) → starts_order a s ≡ true → starts_order b s ≡ true → order_cmp a b ≡ Equal
+order_ties a b s e f =
+    let p = both_true _ _ e in
+    let q = both_true _ _ f in
+    ap₂ ordering_then (texts_alike a.customer b.customer (bytes (column s 1)) p.0 q.0) (texts_alike a.row.name b.row.name (bytes (column s 2)) p.1 q.1)
 
-tied_both : (a b : Ordering) → (is_eq a && is_eq b) ≡ is_eq (ordering_then a b)
-tied_both Less b = refl
-tied_both Equal b = refl
-tied_both Greater b = refl
+abbrev with_text : Option (List ℕ) → Owned Order → Owned Order
+with_text t o = record o { row = record o.row { not_before = t } }
 
-pub order_tied : (x y : Owned Order) → is_eq (order_cmp x y) ≡ is_order x.customer x.row.name y
-order_tied x y =
-    sym (tied_both (slice_cmp nat_cmp x.customer y.customer) (slice_cmp nat_cmp x.row.name y.row.name)) ∙ ap₂ ◌&&◌ (is_eq-slice_cmp x.customer y.customer) (is_eq-slice_cmp x.row.name y.row.name)
+-- its own start is for it
+own_start : (o : Owned Order) (id : ℤ) → starts_order o (Int id ∷ order_start_columns o) ≡ true
+own_start o id = ap₂ ◌&&◌ (same_bytes o.customer) (same_bytes o.row.name)
 
-pub order_added : (o : Owned Order) → mac_if (mac_value o.row.mac) ≡ o.row.mac → (old new : Database) → IsOffice old → order_at o.customer o.row.name (tables_in old.trees) ≡ None → Adds 7 (order_columns o) old new → Wrote (AddOrder o) old new
-order_added o back old new office none adds =
+pub order_added : (o : Owned Order) → mac_if (mac_value o.row.mac) ≡ o.row.mac → (old mid new : Database) → IsOffice old → order_at o.customer o.row.name (tables_in old.trees) ≡ None
+    → Adds 7 (order_columns o) old mid → Adds 17 (order_start_columns o) mid new → Wrote (AddOrder o) old new
+order_added o back old mid new office none adds starts =
     let rows = old.trees 7 in
-    let is = λ (id : ℤ). let e : order_in (Int id ∷ order_columns o) ≡ o = ap (λ m. record o { row = record o.row { mac = m } }) back in e in
-    let apart = all_weaker _ (Apart order_cmp order_total o) (λ y e. order_tied o y ∙ e) (map order_in rows) (unkeyed order_cmp order_total (is_order o.customer o.row.name) (map order_in rows) none) in
     let id = next_rowid rows in
-    let made = row_added IsOrderRow order_cmp order_total order_in (order_columns o) rows office.orders (refl, refl, rw (text_typed (option_map mac_text o.row.mac)) refl)
-    (subst (λ x. AllByRecursion (Apart order_cmp order_total x) (map order_in rows)) (sym (is id)) apart) in
-    let it = orders_changed old new office adds.schema adds.sound adds.others (subst (AreRows IsOrderRow order_cmp order_in) (sym adds.row) made.0) _
-    (ap (λ l. sort_by order_cmp (map order_in l)) adds.row ∙ made.1 ∙ ap (λ x. placed order_cmp x (sort_by order_cmp (map order_in rows))) (is id)) in
-    record { office = it.0; made = it.1; rows = adds; meta = adds.others.0 (λ e. cc) }
+    let new_row : Row = Int id ∷ order_columns o in
+    let meta : new.trees 0 ≡ old.trees 0 = starts.others.0 (λ e. cc) ∙ adds.others.0 (λ e. cc) in
+    let beside : mid.trees 17 ≡ old.trees 17 = adds.others.1.1.1.1.1.1.1.1.0 (λ e. cc) in
+    let unkeyed = all-permutation (λ y. is_order o.customer o.row.name y ≡ false) _ _ (IsPermutation-sort_by order_cmp order_total (map order_in rows))
+    (all_unmap (λ y. is_order o.customer o.row.name y ≡ false) (with_order_start (old.trees 17)) _ (find_none _ _ none)) in
+    let apart = all_weaker _ (Apart order_cmp order_total (order_in new_row)) (λ y e. order_tied o y ∙ e) (map order_in rows) unkeyed in
+    let own_row : Row = Int (next_rowid (old.trees 17)) ∷ order_start_columns o in
+    let more = started_more IsOrderRow order_cmp order_total order_in starts_order with_text (λ t u a b. refl) order_ties
+    (order_columns o) (order_start_columns o) rows (old.trees 17) office.rows.orders office.orders_started
+    (refl, refl, rw (text_typed (option_map mac_text o.row.mac)) refl) (refl, refl) (own_start o (next_rowid (old.trees 17))) apart in
+    let after : new.trees 17 ≡ put_row own_row (old.trees 17) = starts.row ∙ ap (λ l. put_row (Int (next_rowid l) ∷ order_start_columns o) l) beside in
+    let is : with_text (text_if (column own_row 3)) (order_in new_row) ≡ o = λ i. record o { row = record o.row { mac = back i; not_before = text_back o.row.not_before i } } in
+    let it = orders_grown old new office starts.schema starts.sound mid.trees adds.others starts.others (subst (AreRows IsOrderRow order_cmp order_in) (sym adds.row) more.are)
+    (subst₂ (AreStarted starts_order order_in) (sym adds.row) (sym after) more.started) _
+    (ap₂ (λ l k. map (with_order_start k) (sort_by order_cmp (map order_in l))) adds.row after ∙ more.placed_is ∙ ap (λ x. placed order_cmp x (tables_in old.trees).orders) is) in
+    record { office = it.0; made = it.1; rows = (mid, adds, starts); told = meta }
+
+-- ---- its beginning of validity
+
+abbrev pub start_text : List ℕ
+start_text = codes "INSERT INTO order_start (customer, ord, not_before) VALUES (?1, ?2, ?3)"
+
+abbrev pub start_terms : List Term
+start_terms = lit Null ∷ col 0 0 ∷ col 0 1 ∷ col 0 2 ∷ []
+
+pub start_insert : IsInsert office_schema start_text 8 order_start_table start_terms 4
+unfolding understood everything
+start_insert = record { is = refl; plain = (refl, refl); there = refl; uncounted = refl; unstamped = refl; one = λ params. refl }
+
+pub start_casts : (o : Owned Order) → cast_row order_start_table (Null ∷ order_start_columns o) ≡ Null ∷ order_start_columns o
+start_casts o = rw (cast_null, text_cast o.row.not_before) refl
 
 -- ---- a new cursor
 
@@ -159,16 +177,24 @@ module _ (c : Owned Cursor) where
   -- where a cursor is set, it is the order's
   pub cursor_set : (old new : State) (count : ℕ) → IsOffice old.now → Executes set_text set_values old new (Ok count) → count ≡ 1 → Wrote (SetCursor c) old.now new.now
   cursor_set old new count office ran one =
-      elim (sets IsOrderRow order_cmp order_total order_in is_its ties set_text 4 orders_table (is_given 1 0 ∷ is_given 2 1 ∷ []) set_shown set_update set_values set_columns is_set old new count office.schema office.orders ran)
+      elim (sets IsOrderRow order_cmp order_total order_in is_its ties set_text 4 orders_table (is_given 1 0 ∷ is_given 2 1 ∷ []) set_shown set_update set_values set_columns is_set old new count office.schema office.rows.orders ran)
       [ inl none ↦ absurd (omega (arith, none.counted)) | inr one ↦ wrote one ]
     where
       wrote : SetsOne IsOrderRow order_cmp order_in is_its 7 set_columns old.now new.now count → Wrote (SetCursor c) old.now new.now
       wrote one =
-          let found = only_found order_cmp order_total order_in is_its (old.now.trees 7) one.was office.orders.keyed one.one.alone in
-          let it = orders_changed old.now new.now office one.replaced.schema one.replaced.sound one.replaced.others one.rows _ one.placed_is in
+          let rows = old.now.trees 7 in
+          let starts = old.now.trees 17 in
+          let found = find_made is_its (with_order_start starts) (λ o. refl) (sort_by order_cmp (map order_in rows))
+          ∙ ap (option_map (with_order_start starts)) (only_found order_cmp order_total order_in is_its rows one.was office.rows.orders.keyed one.one.alone) in
+          let started = started_as_was IsOrderRow order_cmp order_total order_in starts_order with_text (λ t u a b. refl) order_ties
+          one.id one.was (set_columns one.was) rows starts office.orders_started office.rows.orders.rising one.one.split (λ s. refl) in
+          let it = orders_changed old.now new.now office one.replaced.schema one.replaced.sound one.replaced.others one.rows
+          (subst (λ l. AreStarted starts_order order_in l starts) (sym one.replaced.row) started) _
+          (replaced_with_starts IsOrderRow order_cmp order_total order_in starts_order with_text (λ t u a b. refl) order_ties starts
+          (order_in (Int one.id ∷ set_columns one.was)) (map order_in rows) (map order_in (new.now.trees 7)) one.placed_is) in
           record {
             office = it.0;
             made = it.1 ∙ sym (ap (λ o. with_cursor_of o c.row.number (tables_in old.now.trees)) found);
             rows = remade IsOrderRow order_cmp order_in is_its 7 set_columns set_columns old.now new.now count one refl;
-            meta = one.replaced.others.0 (λ e. cc);
+            told = one.replaced.others.0 (λ e. cc);
           }

@@ -39,7 +39,7 @@ use Rattle.sqlite_trees.proofs.ListLemmas.{all_weaker, all-map, filter_all, filt
 use Rattle.sqlite_trees.proofs.TreeLemmas.{later_rowids}
 use Rattle.sqlite_value.proofs.OrderLemmas.{value_cmp_total}
 use Rattle.office_sql.specs.Scan.{passes}
-use Rattle.office_sql.specs.Tables.{AreRows, AreKeyed, IsOffice, IsSeatRow, IsMapRow, IsLinkRow, IsOrderRow, IsDeviceRow, IsGivenRow, IsEntryRow, tables_in}
+use Rattle.office_sql.specs.Tables.{AreRows, AreKeyed}
 use Rattle.office_sql.specs.Schema.{office_schema}
 use Rattle.office_sql.specs.Scan.{scan, env, passing}
 use Rattle.office_sql.specs.Change.{Remakes, Replaces, Stays, SameBut}
@@ -48,8 +48,7 @@ use Rattle.sqlite.specs.Command.{Command}
 use Rattle.office_sql.proofs.Scan.{scanned}
 use Rattle.office_sql.proofs.TableRows.{row_replaced}
 use Rattle.sqlite_keyed.specs.Lists.{sort_by}
-use Rattle.office_tables.specs.Tables.{placed, seat_cmp, order_cmp, map_cmp, link_cmp, device_cmp, given_cmp, entry_cmp}
-use Rattle.office_sql.specs.Rows.{seat_in, map_in, link_in, order_in, device_in, given_in, entry_in}
+use Rattle.office_tables.specs.Tables.{placed}
 use Rattle.office_sql.proofs.Stepping.{went, same_value}
 
 -- the references of the office act on nothing
@@ -95,7 +94,7 @@ module _ (text : List ℕ) (at : ℕ) (table : Table) (tests shown : List Term) 
       let end = went (went done.2).2 in
       let given = went done.1 in
       let written = went given.2 in
-      let s = scanned (overlay db []) params table.tree tests shown [] given.0 (given.1.answer Null) in
+      let s = scanned (overlay db []) params table.tree tests shown [] [] given.0 (given.1.answer Null) in
       let same : s.kept ≡ kept = alone s.kept (subst (λ k. IsPermutation k s.kept) (ap (passing tests params) (update.same db) ∙ passed) s.same) in
       let sources = map (λ r. eval_all shown (env params r)) kept in
       let rows : given.0 ≡ sources = s.shows ∙ ap (map (λ r. eval_all shown (env params r))) same in
@@ -255,35 +254,3 @@ module _ {A : Type 0} (Typed : Row → Type 0) (cmp : A → A → Ordering) (tot
           counted = it.1;
         }))
   ]
-
--- where no table changes, the office is as it was
-pub office_stays : (old new : Database) → IsOffice old → Stays old new → IsOffice new × (tables_in new.trees ≡ tables_in old.trees)
-office_stays old new office h =
-    let seats = h.tables.1.0 in
-    let maps = h.tables.1.1.0 in
-    let links = h.tables.1.1.1.0 in
-    let orders = h.tables.1.1.1.1.0 in
-    let devices = h.tables.1.1.1.1.1.0 in
-    let given = h.tables.1.1.1.1.1.1.0 in
-    let ledger = h.tables.1.1.1.1.1.1.1.0 in (
-      record {
-        schema = h.schema;
-        sound = h.sound;
-        seats = subst (AreRows IsSeatRow seat_cmp seat_in) (sym seats) office.seats;
-        maps = subst (AreRows IsMapRow map_cmp map_in) (sym maps) office.maps;
-        links = subst (AreRows IsLinkRow link_cmp link_in) (sym links) office.links;
-        orders = subst (AreRows IsOrderRow order_cmp order_in) (sym orders) office.orders;
-        devices = subst (AreRows IsDeviceRow device_cmp device_in) (sym devices) office.devices;
-        given = subst (AreRows IsGivenRow given_cmp given_in) (sym given) office.given;
-        ledger = subst (AreRows IsEntryRow entry_cmp entry_in) (sym ledger) office.ledger;
-      },
-      λ i. record {
-        seats = sort_by seat_cmp (map seat_in (seats i));
-        orders = sort_by order_cmp (map order_in (orders i));
-        devices = sort_by device_cmp (map device_in (devices i));
-        given = sort_by given_cmp (map given_in (given i));
-        maps = sort_by map_cmp (map map_in (maps i));
-        links = sort_by link_cmp (map link_in (links i));
-        ledger = sort_by entry_cmp (map entry_in (ledger i));
-      },
-    )

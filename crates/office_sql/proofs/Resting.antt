@@ -4,7 +4,7 @@ use Rattle.sqlite.specs.Effect.{Database}
 use Rattle.sqlite.specs.State.{State, IsUnchanged}
 use Rattle.office_sql.specs.Change.{IsMade, IsUndone, Rests}
 use Rattle.office_sql.specs.Keeping.{IsReady}
-use Rattle.office_sql.specs.Tables.{IsOffice, tables_in}
+use Rattle.office_sql.specs.Tables.{IsOffice, tables_in, told_in}
 
 pub same_now : (old new : State) → IsReady old → Rests old new → IsTrue new.is_open → new.now ≡ old.now
 same_now old new rest r up = elim (r.now up) [ inl e ↦ e | inr e ↦ e ∙ sym (rest.settled (r.was_open up)) ]
@@ -15,7 +15,7 @@ none_made old new ready same = record {
   was_open = same.0.was_open;
   is_open = same.0.is_open;
   office = subst IsOffice (sym same.0.now_is) (ready.office same.0.was_open);
-  written = record { tables = ap (λ (d : Database). tables_in d.trees) same.0.now_is; rows = same.0.now_is; meta = ap (λ (d : Database). d.trees 0) same.0.now_is };
+  written = record { tables = ap (λ (d : Database). tables_in d.trees) same.0.now_is; rows = same.0.now_is; told = ap (λ (d : Database). told_in d.trees) same.0.now_is };
   committed = same.0.committed_is ∙ sym (ready.settled same.0.was_open) ∙ sym same.0.now_is;
 }
 

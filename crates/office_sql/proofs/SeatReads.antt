@@ -15,6 +15,7 @@ use Rattle.sqlite_value.specs.Keys.{ascending}
 use Rattle.sqlite_value.proofs.OrderLemmas.{value_cmp_total, then-Equal}
 use Rattle.sqlite_keyed.specs.Lists.{sort_by}
 use Rattle.office_tables.specs.Tables.{seat_cmp, is_seat}
+use Rattle.office_sql.specs.Schema.{office_schema}
 use Rattle.office_sql.specs.Rows.{seat_in}
 use Rattle.office_sql.specs.Scan.{is_given, passes}
 use Rattle.office_sql.specs.Tables.{AreRows, IsSeatRow}
@@ -32,7 +33,7 @@ shown = col 1 1 ∷ col 1 2 ∷ col 1 3 ∷ col 1 4 ∷ col 1 5 ∷ []
 abbrev pub by_key : List (Term × Key)
 by_key = (col 1 1, ascending Binary) ∷ []
 
-pub one_read : IsRead one_text 1 (is_given 1 0 ∷ []) shown by_key
+pub one_read : IsRead office_schema one_text 1 (is_given 1 0 ∷ []) shown by_key
 unfolding understood everything
 one_read = record { names = codes "name" ∷ codes "customer" ∷ codes "last" ∷ codes "digest" ∷ codes "reply" ∷ []; is = refl; plain = (refl, refl); unlisted = refl; bare = λ schema base. refl; there = λ db. refl }
 

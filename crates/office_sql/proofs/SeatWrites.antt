@@ -31,8 +31,8 @@ use Rattle.office_sql.specs.Seats.{LacksSeat}
 use Rattle.office_sql.proofs.Finding.{unkeyed, unfound, same_text, texts_tied}
 use Rattle.office_sql.proofs.Inserting.{IsInsert}
 use Rattle.office_sql.proofs.Keyed.{Apart}
-use Rattle.office_sql.proofs.Offices.{seats_changed}
-use Rattle.office_sql.proofs.Replacing.{IsUpdate, IsSet, SetsNone, SetsOne, remade, sets, office_stays}
+use Rattle.office_sql.proofs.Offices.{office_stays, seats_changed}
+use Rattle.office_sql.proofs.Replacing.{IsUpdate, IsSet, SetsNone, SetsOne, remade, sets}
 use Rattle.office_sql.proofs.SeatReads.{seat_total, passes_seat}
 use Rattle.office_sql.proofs.Stepping.{cast_null, cast_int}
 use Rattle.office_sql.proofs.TableRows.{row_added}
@@ -43,7 +43,7 @@ add_text = codes "INSERT INTO seat (name, customer, last, digest, reply) VALUES 
 abbrev pub add_terms : List Term
 add_terms = lit Null ∷ col 0 0 ∷ col 0 1 ∷ col 0 2 ∷ col 0 3 ∷ col 0 4 ∷ []
 
-pub add_insert : IsInsert add_text 1 seat_table add_terms 6
+pub add_insert : IsInsert office_schema add_text 1 seat_table add_terms 6
 unfolding understood everything
 add_insert = record { is = refl; plain = (refl, refl); there = refl; uncounted = refl; unstamped = refl; one = λ params. refl }
 
@@ -80,10 +80,10 @@ module _ (s : Owned SeatState) where
   pub seat_set : (old new : State) (count : ℕ) → IsOffice old.now → Executes set_text (seat_columns s) old new (Ok count) → MatchBool (count == 0) (LacksSeat s.row.name old.now new.now) (Wrote (PutSeat s) old.now new.now)
   seat_set old new count office ran =
       elim (sets IsSeatRow seat_cmp seat_total seat_in (is_seat s.row.name) (λ a b e f. texts_tied s.row.name a.row.name b.row.name e f) set_text 1 seat_table (is_given 1 0 ∷ []) set_shown set_update (seat_columns s) set_columns is_set
-      old new count office.schema office.seats ran) [ inl none ↦ rw none.counted (lacks none) | inr one ↦ rw one.counted (wrote one) ]
+      old new count office.schema office.rows.seats ran) [ inl none ↦ rw none.counted (lacks none) | inr one ↦ rw one.counted (wrote one) ]
     where
       lacks : SetsNone seat_in (is_seat s.row.name) 1 old.now new.now count → LacksSeat s.row.name old.now new.now
-      lacks none = let it = office_stays old.now new.now office none.stays in
+      lacks none = let it = office_stays old.now new.now office none.stays.schema none.stays.sound none.stays.tables in
           record { office = it.0; stays = none.stays; same = it.1; lacks = ap (seat_at s.row.name) it.1 ∙ unfound seat_cmp seat_total (is_seat s.row.name) (map seat_in (old.now.trees 1)) none.none }
 
       wrote : SetsOne IsSeatRow seat_cmp seat_in (is_seat s.row.name) 1 set_columns old.now new.now count → Wrote (PutSeat s) old.now new.now
@@ -96,7 +96,7 @@ module _ (s : Owned SeatState) where
             office = it.0;
             made = it.1;
             rows = inr (remade IsSeatRow seat_cmp seat_in (is_seat s.row.name) 1 set_columns (λ _. seat_columns s) old.now new.now count one columns);
-            meta = one.replaced.others.0 (λ e. cc);
+            told = one.replaced.others.0 (λ e. cc);
           }
 
   -- a seat that had no row has one
@@ -104,9 +104,9 @@ module _ (s : Owned SeatState) where
   seat_added old new office none adds =
       let rows = old.trees 1 in
       let apart = all_weaker _ (Apart seat_cmp seat_total s) (λ y e. is_eq-slice_cmp s.row.name y.row.name ∙ e) (map seat_in rows) (unkeyed seat_cmp seat_total (is_seat s.row.name) (map seat_in rows) none) in
-      let made = row_added IsSeatRow seat_cmp seat_total seat_in (seat_columns s) rows office.seats refl apart in
+      let made = row_added IsSeatRow seat_cmp seat_total seat_in (seat_columns s) rows office.rows.seats refl apart in
       let it = seats_changed old new office adds.schema adds.sound adds.others (subst (AreRows IsSeatRow seat_cmp seat_in) (sym adds.row) made.0) _ (ap (λ l. sort_by seat_cmp (map seat_in l)) adds.row ∙ made.1) in
-      record { office = it.0; made = it.1; rows = inl adds; meta = adds.others.0 (λ e. cc) }
+      record { office = it.0; made = it.1; rows = inl adds; told = adds.others.0 (λ e. cc) }
 
   same_others : (old mid new : Database) → Stays old mid → SameBut 1 mid.trees new.trees → SameBut 1 old.trees new.trees
   same_others old mid new stays others =
@@ -139,5 +139,5 @@ module _ (s : Owned SeatState) where
     office = wrote.office;
     made = subst (λ t. Writes (PutSeat s) t (tables_in new.trees)) lacks.same wrote.made;
     rows = same_rows old mid new lacks.stays wrote.rows;
-    meta = wrote.meta ∙ lacks.stays.tables.0;
+    told = wrote.told ∙ lacks.stays.tables.0;
   }

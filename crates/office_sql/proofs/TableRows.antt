@@ -56,6 +56,21 @@ pub next_is_free : (rows : List Row) → IsTable rows → AllByRecursion (λ r. 
 next_is_free rows up whole =
     filter_all _ rows (all_weaker _ (λ r. not (has_rowid (next_rowid rows) r) ≡ true) (λ r e. ap (λ o. not (is_eq o)) e) rows (below_next (pos 1) rows up whole))
 
+-- the rows with a new one
+pub put_next : (columns : Row) (rows : List Row) → IsTable rows → AllByRecursion (λ r. IsTrue (is_int (rowid r))) rows
+    → IsPermutation (put_row (Int (next_rowid rows) ∷ columns) rows) ((Int (next_rowid rows) ∷ columns) ∷ rows)
+put_next columns rows up whole =
+    let new : Row = Int (next_rowid rows) ∷ columns in
+    subst (λ l. IsPermutation (put_row new rows) (new ∷ l)) (next_is_free rows up whole) (put_row_same (next_rowid rows) new refl rows up)
+
+-- the rows with one in place of that with its rowid
+pub put_in_place : (id : ℤ) (columns : Row) (rows : List Row) → IsTable rows → IsPermutation (put_row (Int id ∷ columns) (without_rowid id rows)) ((Int id ∷ columns) ∷ without_rowid id rows)
+put_in_place id columns rows up =
+    let new : Row = Int id ∷ columns in
+    let rest = without_rowid id rows in
+    subst (λ l. IsPermutation (put_row new rest) (new ∷ l)) (filter-filter (λ r. not (has_rowid id r)) (λ r. not (has_rowid id r)) (λ r h. h) rows)
+    (put_row_same id new refl rest (ascending-filter _ _ rows up))
+
 module _ {A : Type 0} (Typed : Row → Type 0) (cmp : A → A → Ordering) (total : IsTotalOrder cmp) (value : Row → A) where
   pub row_added : (columns : Row) (rows : List Row) → AreRows Typed cmp value rows → Typed (Int (next_rowid rows) ∷ columns)
       → AllByRecursion (Apart cmp total (value (Int (next_rowid rows) ∷ columns))) (map value rows)
@@ -64,8 +79,7 @@ module _ {A : Type 0} (Typed : Row → Type 0) (cmp : A → A → Ordering) (tot
   row_added columns rows are is_typed free =
       let id = next_rowid rows in
       let new : Row = Int id ∷ columns in
-      let same : IsPermutation (put_row new rows) (new ∷ rows) = subst (λ l. IsPermutation (put_row new rows) (new ∷ l)) (next_is_free rows are.rising are.numbered) (put_row_same id new refl rows are.rising) in
-      let there = IsPermutation-map value _ _ (IsPermutation-sym _ _ same) in
+      let there = IsPermutation-map value _ _ (IsPermutation-sym _ _ (put_next columns rows are.rising are.numbered)) in
       let it = gains cmp total (value new) (map value rows) (map value (put_row new rows)) (free, are.keyed) there in
       (record { rising = IsTable-put_row new rows are.rising; numbered = all-put_row _ new rows refl are.numbered; typed = all-put_row Typed new rows is_typed are.typed; keyed = it.0 }, it.1)
 
@@ -78,8 +92,6 @@ module _ {A : Type 0} (Typed : Row → Type 0) (cmp : A → A → Ordering) (tot
       let new : Row = Int id ∷ columns in
       let rest = without_rowid id rows in
       let rising = ascending-filter _ _ rows are.rising in
-      let same : IsPermutation (put_row new rest) (new ∷ rest) =
-      subst (λ l. IsPermutation (put_row new rest) (new ∷ l)) (filter-filter (λ r. not (has_rowid id r)) (λ r. not (has_rowid id r)) (λ r h. h) rows) (put_row_same id new refl rest rising) in
-      let there = IsPermutation-map value _ _ (IsPermutation-sym _ _ same) in
+      let there = IsPermutation-map value _ _ (IsPermutation-sym _ _ (put_in_place id columns rows are.rising)) in
       let it = replaces cmp total (value old) (value new) (map value rest) (map value rows) (map value (put_row new rest)) are.keyed (IsPermutation-map value _ _ was) there tie in
       (record { rising = IsTable-put_row new rest rising; numbered = all-put_row _ new rest refl (all-filter _ _ rows are.numbered); typed = all-put_row Typed new rest is_typed (all-filter Typed _ rows are.typed); keyed = it.0 }, it.1)

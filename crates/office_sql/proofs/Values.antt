@@ -1,18 +1,18 @@
 -- The tests of SQL on columns of one kind, and their order.
-use Rattle.std.proofs.Common.{◌≡◌, ℕ, Bool, true, false, ◌&&◌, List, refl, ap, ap₂, ◌∙◌, is_eq, Some}
+use Rattle.std.proofs.Common.{◌≡◌, ℕ, ℤ, Bool, true, false, ◌&&◌, List, refl, ap, ap₂, ◌∙◌, is_eq, Some}
 use Rattle.std.specs.Str.{bytes_eq}
 use Rattle.std.specs.Ordering.{nat_cmp}
 use Rattle.std.specs.Cmp.Lexicographic.{slice_cmp}
-use Rattle.std.proofs.lemmas.Cmp.{nat_list_eq_equiv}
+use Rattle.std.proofs.lemmas.Cmp.{nat_list_eq_equiv, tied_itself}
 use Rattle.std.proofs.lemmas.Map.Text.{is_eq-slice_cmp}
 use Rattle.sqlite.specs.declared.types.Value.{Value}
-use Rattle.sqlite.specs.declared.types.Value.TheVariants.{Text as Words, Blob as Bytes}
+use Rattle.sqlite.specs.declared.types.Value.TheVariants.{Null, Int, Text as Words, Blob as Bytes}
 use Rattle.sqlite.specs.Order.{bytes, value_cmp}
 use Rattle.sqlite.specs.Ops.{binary, is_true, from_truth}
 use Rattle.sqlite_sql.specs.declared.ops.CompareOp.TheVariants.{Eq}
-use Rattle.sqlite_sql.specs.declared.ops.BinaryOp.TheVariants.{Compare}
+use Rattle.sqlite_sql.specs.declared.ops.BinaryOp.TheVariants.{Compare, Is}
 use Rattle.sqlite.specs.Collation.TheVariants.{Binary}
-use Rattle.sqlite_value.proofs.OrderLemmas.{value_cmp-Text, value_cmp-Blob}
+use Rattle.sqlite_value.proofs.OrderLemmas.{value_cmp_total, value_cmp-apart, value_cmp-Text, value_cmp-Blob}
 
 told : (b : Bool) → is_true (from_truth (Some b)) ≡ b
 told true = refl
@@ -43,3 +43,16 @@ texts_cmp v w e f = ap₂ value_cmp e f ∙ value_cmp-Text _ _
 
 pub blobs_cmp : (v w : Value) → v ≡ Bytes (bytes v) → w ≡ Bytes (bytes w) → value_cmp v w ≡ slice_cmp nat_cmp (bytes v) (bytes w)
 blobs_cmp v w e f = ap₂ value_cmp e f ∙ value_cmp-Blob _ _
+
+-- the tests of a number that is written out, and of IS NULL
+pub is_itself : (n : ℤ) → is_true (binary (Compare Eq Binary) (Int n) (Int n)) ≡ true
+unfolding binary
+is_itself n = told _ ∙ ap is_eq (tied_itself value_cmp_total (Int n))
+
+pub null_is : is_true (binary (Is Binary) Null Null) ≡ true
+unfolding binary
+null_is = told _ ∙ ap is_eq (tied_itself value_cmp_total Null)
+
+pub text_is_there : (t : List ℕ) → is_true (binary (Is Binary) (Words t) Null) ≡ false
+unfolding binary
+text_is_there t = told _ ∙ ap is_eq (value_cmp-apart (Words t) Null (λ e. absurd cc))

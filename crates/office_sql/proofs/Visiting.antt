@@ -19,6 +19,7 @@ use Rattle.sqlite.specs.State.{State, HasCleanDisk, Survives, Shown, ShowsRows, 
 use Rattle.sqlite.specs.Store.{Ghosts}
 use Rattle.sqlite.specs.Term.{Term}
 use Rattle.sqlite.specs.Tree.{Trees}
+use Rattle.sqlite.specs.Query.{Join, inner, end, IsAnswer}
 use Rattle.sqlite.proofs.Callers.{command_of, EndsIn, begins_shown, unchanged_then}
 use Rattle.sqlite.proofs.StateLemmas.{survives_weaker}
 use Rattle.office_tables.specs.Keeping.{Visits}
@@ -26,12 +27,12 @@ use Rattle.office_tables.specs.Tables.{Tables}
 use Rattle.office_sql.specs.Asking.{Asks, HasOffice}
 use Rattle.office_sql.specs.Change.{Rests}
 use Rattle.office_sql.specs.Schema.{office_schema}
-use Rattle.office_sql.specs.Scan.{scan}
+use Rattle.office_sql.specs.Joins.{over}
 use Rattle.office_sql.specs.Tables.{IsOffice, tables_in}
 use Rattle.office_sql.specs.Visiting.{HasVisited}
-use Rattle.office_sql.proofs.Asked.{reads_scan, unchanged_rests, undone_rests}
+use Rattle.office_sql.proofs.Asked.{reads_over, unchanged_rests, undone_rests}
 use Rattle.office_sql.proofs.Bare.{IsBare, bare_understood}
-use Rattle.office_sql.proofs.Reading.{IsRead}
+use Rattle.office_sql.proofs.Reading.{IsJoined, IsRead, joined_of, scanned_of}
 use Rattle.office_sql.proofs.Scan.{Scanned}
 
 -- ---- a text without RETURNING
@@ -92,12 +93,12 @@ joined [] more row = refl
 joined (x ∷ given) more row = ap (λ l. x ∷ l) (joined given more row)
 
 module _ {K R : Type 0} (takes : K → R → Bool → K → Type 0) (reads : Row → R) (before mid : K) (given : List Row)
-    (so_far : (more : List Row) (end : K) → Visits takes mid (map reads more) end → Visits takes before (map reads (given ++ more)) end) where
+    (so_far : (more : List Row) (last : K) → Visits takes mid (map reads more) last → Visits takes before (map reads (given ++ more)) last) where
   -- a visit of more rows is one of those that were given, with this one, and more
-  pub one_more : (row : Row) (item : R) (goes_on : Bool) (next : K) → item ≡ reads row → takes mid item goes_on next → (more : List Row) (end : K)
-      → MatchBool goes_on (Visits takes next (map reads more) end) (end ≡ next) → Visits takes before (map reads ((given ++ row ∷ []) ++ more)) end
-  one_more row item goes_on next is took more end rest =
-      subst (λ l. Visits takes before (map reads l) end) (joined given more row) (so_far (row ∷ more) end (goes_on, next, subst (λ x. takes mid x goes_on next) is took, rest))
+  pub one_more : (row : Row) (item : R) (goes_on : Bool) (next : K) → item ≡ reads row → takes mid item goes_on next → (more : List Row) (last : K)
+      → MatchBool goes_on (Visits takes next (map reads more) last) (last ≡ next) → Visits takes before (map reads ((given ++ row ∷ []) ++ more)) last
+  one_more row item goes_on next is took more last rest =
+      subst (λ l. Visits takes before (map reads l) last) (joined given more row) (so_far (row ∷ more) last (goes_on, next, subst (λ x. takes mid x goes_on next) is took, rest))
 
   pub no_more : Visits takes before (map reads given) mid
   no_more = subst (λ l. Visits takes before (map reads l) mid) (append-nil given) (so_far [] mid refl)
@@ -109,38 +110,55 @@ still old new same = (
   refl,
 )
 
-module _ (text : List ℕ) (tree : ℕ) (tests shown : List Term) (order : List (Term × Key)) (read : IsRead text tree tests shown order) (params : Row) (old new : State)
+module _ (text : List ℕ) (from : Join) (tests shown : List Term) (order : List (Term × Key)) (read : IsJoined office_schema text from tests shown order) (params : Row) (old new : State)
     (has : old.now.schema ≡ office_schema) (same : IsUnchanged old new) where
-  scans : (first : State) → first.now ≡ old.now → (rows : List Row) → Shown text params first new rows → Scanned tests shown order params (old.now.trees tree) rows
-  scans first is rows h =
-      subst (λ l. Scanned tests shown order params l rows) (ap (λ (d : Database). overlay d.trees [] tree) is ∙ read.there old.now.trees)
-      (reads_scan text params first new read.plain tree tests shown order read.names read.is read.unlisted (ap (λ (d : Database). d.schema) is ∙ has) rows h)
+  abbrev Answers : List Row → Type 0
+  Answers rows = IsAnswer (over from tests shown order) (overlay old.now.trees []) params rows
+
+  answers : (first : State) → first.now ≡ old.now → (rows : List Row) → Shown text params first new rows → Answers rows
+  answers first is rows h =
+      subst (λ (d : Database). IsAnswer (over from tests shown order) (overlay d.trees []) params rows) is
+      (reads_over office_schema text params first new read.plain from tests shown order read.names read.is read.unlisted (ap (λ (d : Database). d.schema) is ∙ has) rows h)
 
   -- what a sink has visited are rows that the text means
   pub visited_rows : {K R : Type 0} (takes : K → R → Bool → K → Type 0) (reads : Row → R) (before after : K) → HasVisited takes reads text params old new before after
-      → (rows : List Row) × Scanned tests shown order params (old.now.trees tree) rows × Visits takes before (map reads rows) after
-  visited_rows takes reads before after (given, inl h) = (given, scans old refl given h.0, h.1)
+      → (rows : List Row) × Answers rows × Visits takes before (map reads rows) after
+  visited_rows takes reads before after (given, inl h) = (given, answers old refl given h.0, h.1)
   visited_rows takes reads before after (given, inr h) =
       let whole = begins_shown text params new new given h.0 (still old new same) (λ c db it source.
-      let is : c.command ≡ Select (record { lets = []; body = scan tree tests shown order }) read.names =
+      let is : c.command ≡ Select (record { lets = []; body = over from tests shown order }) read.names =
       ap command_of (sym it.is ∙ ap (λ s. understood s text) (ap (λ (d : Database). d.schema) same.0.now_is ∙ has)) ∙ read.is in
       subst (λ k. EndsIn k db (timed params c.formats it.now)) (sym is) tt) in
-      (given ++ whole.0, scans new same.0.now_is (given ++ whole.0) whole.1, h.1 whole.0)
+      (given ++ whole.0, answers new same.0.now_is (given ++ whole.0) whole.1, h.1 whole.0)
 
-module _ {S : Type 0} (g : Ghosts S) (text : List ℕ) (tree : ℕ) (tests shown : List Term) (order : List (Term × Key)) (read : IsRead text tree tests shown order) (params values : Row) (bound : params ≡ values) (old new : Held S) where
+module _ {S : Type 0} (g : Ghosts S) (text : List ℕ) (from : Join) (tests shown : List Term) (order : List (Term × Key))
+    (read : IsJoined office_schema text from tests shown order) (params values : Row) (bound : params ≡ values) (old new : Held S) where
   -- a sink that visits the office's database, with these values for the parameters, takes what the text means
+  pub visits_joined : {K R : Type 0} (takes : K → R → Bool → K → Type 0) (reads : Row → R) (r : Result (Unit {0}) Error) (before after : K) (kept : Tables → List R)
+      → HasOffice (state g old)
+      → ((rows : List Row) → IsOffice (state g old).now → IsAnswer (over from tests shown order) (overlay (state g old).now.trees []) values rows → map reads rows ≡ kept (tables_in (state g old).now.trees))
+      → (HasCleanDisk (state g new) → OnOk r (HasVisited takes reads text params (state g old) (state g new) before after)) → (HasCleanDisk (state g new) → OnOk r (IsUnchanged (state g old) (state g new)))
+      → (HasCleanDisk (state g new) → Rests (state g old) (state g new)) → (old.in_transaction ≡ false → new.in_transaction ≡ false) → Survives (state g old) (state g new) (λ _. ⊥)
+      → Asks g old new r (λ t _. Visits takes before (kept t) after)
+  visits_joined takes reads r before after kept has says visited same rests mode crash = record { says = λ clean. said r (visited clean) (same clean); same = same; rests = rests; mode = mode; crash = crash }
+    where
+      said : (r : Result (Unit {0}) Error) → OnOk r (HasVisited takes reads text params (state g old) (state g new) before after) → OnOk r (IsUnchanged (state g old) (state g new))
+          → IfOk r (λ _. Visits takes before (kept (tables_in (state g old).now.trees)) after)
+      said (Ok x) h s =
+          let office = has s.0.was_open in
+          let it = visited_rows text from tests shown order read params (state g old) (state g new) office.schema s takes reads before after h in
+          subst (λ l. Visits takes before l after) (says it.0 office (subst (λ p. IsAnswer (over from tests shown order) (overlay (state g old).now.trees []) p it.0) bound it.1)) it.2
+      said (Err e) h s = tt
+
+module _ {S : Type 0} (g : Ghosts S) (text : List ℕ) (tree : ℕ) (tests shown : List Term) (order : List (Term × Key))
+    (read : IsRead office_schema text tree tests shown order) (params values : Row) (bound : params ≡ values) (old new : Held S) where
+  -- and of one table
   pub visits : {K R : Type 0} (takes : K → R → Bool → K → Type 0) (reads : Row → R) (r : Result (Unit {0}) Error) (before after : K) (kept : Tables → List R)
       → HasOffice (state g old)
       → ((rows : List Row) → IsOffice (state g old).now → Scanned tests shown order values ((state g old).now.trees tree) rows → map reads rows ≡ kept (tables_in (state g old).now.trees))
       → (HasCleanDisk (state g new) → OnOk r (HasVisited takes reads text params (state g old) (state g new) before after)) → (HasCleanDisk (state g new) → OnOk r (IsUnchanged (state g old) (state g new)))
       → (HasCleanDisk (state g new) → Rests (state g old) (state g new)) → (old.in_transaction ≡ false → new.in_transaction ≡ false) → Survives (state g old) (state g new) (λ _. ⊥)
       → Asks g old new r (λ t _. Visits takes before (kept t) after)
-  visits takes reads r before after kept has says visited same rests mode crash = record { says = λ clean. said r (visited clean) (same clean); same = same; rests = rests; mode = mode; crash = crash }
-    where
-      said : (r : Result (Unit {0}) Error) → OnOk r (HasVisited takes reads text params (state g old) (state g new) before after) → OnOk r (IsUnchanged (state g old) (state g new))
-          → IfOk r (λ _. Visits takes before (kept (tables_in (state g old).now.trees)) after)
-      said (Ok x) h s =
-          let office = has s.0.was_open in
-          let it = visited_rows text tree tests shown order read params (state g old) (state g new) office.schema s takes reads before after h in
-          subst (λ l. Visits takes before l after) (says it.0 office (subst (λ p. Scanned tests shown order p ((state g old).now.trees tree) it.0) bound it.1)) it.2
-      said (Err e) h s = tt
+  visits takes reads r before after kept has says =
+      visits_joined g text (inner tree end) tests shown order (joined_of office_schema text tree tests shown order read) params values bound old new takes reads r before after kept has
+      (λ rows office a. says rows office (scanned_of office_schema text tree tests shown order read (state g old).now.trees values rows a))

@@ -6,11 +6,16 @@ use Rattle.sqlite.specs.Effect.{Database}
 use Rattle.sqlite.specs.State.{State, HasCleanDisk, IsUnchanged, KeepsCommit, Survives}
 use Rattle.office_tables.specs.Tables.{Tables}
 use Rattle.office_sql.specs.Change.{IsInside, Rests}
+use Rattle.office_sql.specs.Schema.{office_schema}
 use Rattle.office_sql.specs.Tables.{IsOffice, tables_in}
 
 -- an open connection has the tables of the office
 abbrev pub HasOffice : State → Type 0
 HasOffice s = IsTrue s.is_open → IsOffice s.now
+
+-- an open connection has the office's schema, whatever its rows
+abbrev pub HasSchema : State → Type 0
+HasSchema s = IsTrue s.is_open → s.now.schema ≡ office_schema
 
 -- a read: an answer says this of the tables, nothing is changed, and a crash leaves nothing new
 pub record Asks {S A E : Type 0} (g : Ghosts S) (old new : Held S) (result : Result A E) (Says : Tables → A → Type 0) : Type 0 where

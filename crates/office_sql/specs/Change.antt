@@ -14,8 +14,9 @@ use Rattle.office_tables.specs.declared.rows.Write.{Write}
 use Rattle.office_tables.specs.declared.rows.Write.TheVariants.{PutSeat, AddOrder, SetCursor, AddMap, AddLink, AddDevice, PutDevice, AddGiven, AddEntry}
 use Rattle.office_tables.specs.Tables.{Writes, Written, is_seat, is_order, is_device}
 use Rattle.office_sql.specs.Schema.{office_schema}
-use Rattle.office_sql.specs.Rows.{seat_in, order_in, device_in, seat_columns, map_columns, link_columns, order_columns, columns_with_cursor, device_columns, given_columns, entry_columns}
-use Rattle.office_sql.specs.Tables.{IsOffice, office_over, tables_in}
+use Rattle.office_sql.specs.Rows.{seat_in, order_in, device_in, seat_columns, map_columns, link_columns, order_columns, order_start_columns}
+use Rattle.office_sql.specs.Rows.{columns_with_cursor, device_columns, given_columns, given_start_columns, entry_columns}
+use Rattle.office_sql.specs.Tables.{IsOffice, office_over, tables_in, told_in}
 
 -- no other table changes
 abbrev pub SameBut : ℕ → Trees → Trees → Type 0
@@ -56,7 +57,8 @@ Remakes tree test columns old new =
 abbrev pub WritesRows : Write → Database → Database → Type 0
 WritesRows (PutSeat s) old new =
     Adds 1 (seat_columns s) old new ⊎ Remakes 1 (λ r. is_seat s.row.name (seat_in r)) (λ _. seat_columns s) old new
-WritesRows (AddOrder o) old new = Adds 7 (order_columns o) old new
+WritesRows (AddOrder o) old new =
+    (mid : Database) × Adds 7 (order_columns o) old mid × Adds 17 (order_start_columns o) mid new
 WritesRows (SetCursor c) old new =
     Remakes 7 (λ r. is_order c.customer c.row.order (order_in r)) (columns_with_cursor c.row.number) old new
 WritesRows (AddMap m) old new =
@@ -66,7 +68,8 @@ WritesRows (AddLink l) old new = Adds 5 (link_columns l) old new
 WritesRows (AddDevice d) old new = Adds 9 (device_columns d) old new
 WritesRows (PutDevice d) old new =
     Remakes 9 (λ r. is_device d.customer d.row.chip (device_in r)) (λ _. device_columns d) old new
-WritesRows (AddGiven g) old new = Adds 11 (given_columns g) old new
+WritesRows (AddGiven g) old new =
+    (mid : Database) × Adds 11 (given_columns g) old mid × Adds 19 (given_start_columns g) mid new
 WritesRows (AddEntry e) old new = Adds 15 (Null ∷ entry_columns e) old new
 
 -- by a list of writes, one after another
@@ -79,13 +82,13 @@ pub record Wrote (w : Write) (old new : Database) : Type 0 where
   pub office : IsOffice new
   pub made : Writes w (tables_in old.trees) (tables_in new.trees)
   pub rows : WritesRows w old new
-  pub meta : new.trees 0 ≡ old.trees 0
+  pub told : told_in new.trees ≡ told_in old.trees
 
 -- the writes are made, one after another, and nothing else
 pub record HasWritten (ws : List Write) (old new : Database) : Type 0 where
   pub tables : Written ws (tables_in old.trees) (tables_in new.trees)
   pub rows : WritesAllRows ws old new
-  pub meta : new.trees 0 ≡ old.trees 0
+  pub told : told_in new.trees ≡ told_in old.trees
 
 -- the transaction goes on, and the last commit stands
 pub record IsInside (old new : State) : Type 0 where

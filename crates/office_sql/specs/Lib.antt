@@ -1,6 +1,7 @@
 -- What the contracts of this crate are made of.
 pub mod Schema
 pub mod Scan
+pub mod Joins
 pub mod Values
 pub mod Rows
 pub mod OrderStates

@@ -1,6 +1,7 @@
 -- What the rows of the tables in SQL stand for, whatever stands in their columns, and the columns of each row. A row's rowid has place 0.
-use Rattle.std.specs.Prelude.{ℕ, [], ◌∷◌, option_map}
-use Rattle.sqlite.specs.declared.types.Value.TheVariants.{Text as Words, Blob as Bytes}
+use Rattle.std.specs.Prelude.{ℕ, Bool, ◌&&◌, List, [], ◌∷◌, find, Option, None, option_and_then, option_map}
+use Rattle.std.specs.Str.{bytes_eq}
+use Rattle.sqlite.specs.declared.types.Value.TheVariants.{Null, Text as Words, Blob as Bytes}
 use Rattle.sqlite.specs.Order.{Row, column, bytes}
 use Rattle.office_tables.specs.declared.rows.Owned.{Owned}
 use Rattle.office_tables.specs.declared.rows.SeatState.{SeatState}
@@ -15,6 +16,10 @@ use Rattle.office_tables.specs.declared.rows.NewEntry.{NewEntry}
 use Rattle.office_tables.specs.Quarantine.{reason_of}
 use Rattle.office_tables.specs.Texts.{state_text, reason_text, event_text, note_text}
 use Rattle.office_sql.specs.Values.{number_in, text_if, mac_if, state_in, event_in, text_value, mac_value, whole_value}
+
+-- the beginning of validity that the first row for this order or record has in its third column; none where there is no row
+abbrev pub start_of : {A : Type 0} → (A → Row → Bool) → List Row → A → Option (List ℕ)
+start_of is_for starts x = option_and_then (λ r. text_if (column r 3)) (find (is_for x) starts)
 
 -- seat: name, customer, last, digest, reply
 abbrev pub seat_in : Row → Owned SeatState
@@ -41,7 +46,7 @@ link_in r = record { customer = bytes (column r 1); row = record { digest = byte
 abbrev pub link_columns : Owned Link → Row
 link_columns l = Words l.customer ∷ Bytes l.row.digest ∷ whole_value l.row.map ∷ []
 
--- orders: customer, name, issuer, prefix, width, first, quantity, macs, mac, cursor
+-- orders: customer, name, issuer, prefix, width, first, quantity, macs, mac, cursor. Its beginning of validity stands in another table
 abbrev pub order_in : Row → Owned Order
 order_in r = record {
   customer = bytes (column r 1);
@@ -52,12 +57,28 @@ order_in r = record {
     macs = number_in (column r 8);
     mac = mac_if (column r 9);
     cursor = number_in (column r 10);
+    not_before = None;
   };
 }
 
 abbrev pub order_columns : Owned Order → Row
 order_columns o = Words o.customer ∷ Words o.row.name ∷ Words o.row.issuer ∷ Words o.row.range.prefix ∷ whole_value o.row.range.width ∷ whole_value o.row.range.first
     ∷ whole_value o.row.range.quantity ∷ whole_value o.row.macs ∷ mac_value o.row.mac ∷ whole_value o.row.cursor ∷ []
+
+-- order_start: customer, ord, not_before. The row is the order's
+abbrev pub starts_order : Owned Order → Row → Bool
+starts_order o r = bytes_eq o.customer (bytes (column r 1)) && bytes_eq o.row.name (bytes (column r 2))
+
+abbrev pub order_start_columns : Owned Order → Row
+order_start_columns o = Words o.customer ∷ Words o.row.name ∷ text_value o.row.not_before ∷ []
+
+-- an order with the beginning of validity that one of these rows has for it
+abbrev pub with_order_start : List Row → Owned Order → Owned Order
+with_order_start starts o = record o { row = record o.row { not_before = start_of starts_order starts o } }
+
+-- a row of orders, without its rowid, and behind it the third column of its row of order_start
+abbrev pub joined_order : Row → Owned Order
+joined_order r = let o = order_in (Null ∷ r) in record o { row = record o.row { not_before = text_if (column (Null ∷ r) 11) } }
 
 -- with another cursor, and the other columns as they stand
 abbrev pub columns_with_cursor : ℕ → Row → Row
@@ -84,7 +105,7 @@ abbrev pub device_columns : Owned Device → Row
 device_columns d = Words d.customer ∷ Words d.row.chip ∷ Words d.row.order ∷ Bytes d.row.map ∷ Words (state_text d.row.state)
     ∷ text_value (option_map reason_text (reason_of d.row.state)) ∷ Bytes d.row.bits ∷ Bytes d.row.keys ∷ Bytes d.row.todo ∷ text_value d.row.serial ∷ []
 
--- given: issuer, serial, customer, key, chip, mac, not_after
+-- given: issuer, serial, customer, key, chip, mac, not_after. Its beginning of validity stands in another table
 abbrev pub given_in : Row → Owned Given
 given_in r = record {
   customer = bytes (column r 3);
@@ -95,11 +116,27 @@ given_in r = record {
     chip = text_if (column r 5);
     mac = mac_if (column r 6);
     not_after = bytes (column r 7);
+    not_before = None;
   };
 }
 
 abbrev pub given_columns : Owned Given → Row
 given_columns g = Words g.row.issuer ∷ Words g.row.serial ∷ Words g.customer ∷ Bytes g.row.key ∷ text_value g.row.chip ∷ mac_value g.row.mac ∷ Words g.row.not_after ∷ []
+
+-- given_start: issuer, serial, not_before. The row is the record's
+abbrev pub starts_given : Owned Given → Row → Bool
+starts_given g r = bytes_eq g.row.issuer (bytes (column r 1)) && bytes_eq g.row.serial (bytes (column r 2))
+
+abbrev pub given_start_columns : Owned Given → Row
+given_start_columns g = Words g.row.issuer ∷ Words g.row.serial ∷ text_value g.row.not_before ∷ []
+
+-- a record with the beginning of validity that one of these rows has for it
+abbrev pub with_given_start : List Row → Owned Given → Owned Given
+with_given_start starts g = record g { row = record g.row { not_before = start_of starts_given starts g } }
+
+-- a row of given, without its rowid, and behind it the third column of its row of given_start
+abbrev pub joined_given : Row → Owned Given
+joined_given r = let g = given_in (Null ∷ r) in record g { row = record g.row { not_before = text_if (column (Null ∷ r) 8) } }
 
 -- ledger: id, customer, chip, n, event, note, seat, bits, keys. The id is the rowid
 abbrev pub entry_in : Row → Owned Entry

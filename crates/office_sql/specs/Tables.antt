@@ -1,5 +1,5 @@
 -- The tables of all customers that a database of the office holds.
-use Rattle.std.specs.Prelude.{◌≡◌, ℕ, pos, true, false, List, drop, map, None, IsTrue}
+use Rattle.std.specs.Prelude.{◌≡◌, ℕ, pos, Bool, true, false, List, [], ◌∷◌, drop, map, filter, find, is_some, None, IsTrue}
 use Rattle.sqlite_schema.specs.Rules.{are_typed}
 use Rattle.std.specs.List.{AllByRecursion}
 use Rattle.std.specs.Ordering.{is_eq}
@@ -13,19 +13,23 @@ use Rattle.sqlite_keyed.specs.Lists.{sort_by}
 use Rattle.office_tables.specs.Tables.{Tables, seat_cmp, order_cmp, map_cmp, link_cmp, device_cmp, given_cmp, entry_cmp}
 use Rattle.office_sql.specs.Schema.{office_schema, orders_table}
 use Rattle.office_sql.specs.Values.{number_in, text_if, text_value}
-use Rattle.office_sql.specs.Rows.{seat_in, map_in, link_in, order_in, device_in, given_in, entry_in}
+use Rattle.office_sql.specs.Rows.{seat_in, map_in, link_in, order_in, device_in, given_in, entry_in, starts_order, starts_given, with_order_start, with_given_start}
 
 -- the rows of each tree in the order of their keys; the trees are numbered as their tables and indexes are made
 abbrev pub tables_in : Trees → Tables
 tables_in db = record {
   seats = sort_by seat_cmp (map seat_in (db 1));
-  orders = sort_by order_cmp (map order_in (db 7));
+  orders = map (with_order_start (db 17)) (sort_by order_cmp (map order_in (db 7)));
   devices = sort_by device_cmp (map device_in (db 9));
-  given = sort_by given_cmp (map given_in (db 11));
+  given = map (with_given_start (db 19)) (sort_by given_cmp (map given_in (db 11)));
   maps = sort_by map_cmp (map map_in (db 3));
   links = sort_by link_cmp (map link_in (db 5));
   ledger = sort_by entry_cmp (map entry_in (db 15));
 }
+
+-- what the database tells of itself, which no write changes: the rows of meta
+abbrev pub told_in : Trees → List Row
+told_in db = db 0
 
 -- a column is a text, bytes, or a number that isn't below zero
 abbrev pub IsText : ℕ → Row → Type 0
@@ -79,14 +83,36 @@ IsGivenRow r = IsText 1 r × IsText 2 r × IsBlob 4 r × IsTextIf 6 r
 abbrev pub IsEntryRow : Row → Type 0
 IsEntryRow r = IsWhole 0 r × IsText 2 r × IsText 3 r × IsWhole 4 r
 
--- a database of the office: it lists its schema, and obeys it
+-- of the beginning of validity of an order, or of a record
+abbrev pub IsStartRow : Row → Type 0
+IsStartRow r = IsText 1 r × IsText 2 r
+
+-- the rows of each table of the office are as its columns and keys have it
+pub record AreOfficeRows (db : Trees) : Type 0 where
+  pub seats : AreRows IsSeatRow seat_cmp seat_in (db 1)
+  pub maps : AreRows IsMapRow map_cmp map_in (db 3)
+  pub links : AreRows IsLinkRow link_cmp link_in (db 5)
+  pub orders : AreRows IsOrderRow order_cmp order_in (db 7)
+  pub devices : AreRows IsDeviceRow device_cmp device_in (db 9)
+  pub given : AreRows IsGivenRow given_cmp given_in (db 11)
+  pub ledger : AreRows IsEntryRow entry_cmp entry_in (db 15)
+
+-- exactly one of the rows is for this order or record
+abbrev pub HasOne : {A : Type 0} → (A → Row → Bool) → List Row → A → Type 0
+HasOne is_for starts x = (r : Row) × (filter (is_for x) starts ≡ r ∷ [])
+
+-- each row has exactly one start beside it, and each start is one of a row
+pub record AreStarted {A : Type 0} (is_for : A → Row → Bool) (value : Row → A) (rows starts : List Row) : Type 0 where
+  pub rising : IsTable starts
+  pub numbered : AllByRecursion (λ r. IsTrue (is_int (rowid r))) starts
+  pub typed : AllByRecursion IsStartRow starts
+  pub one : AllByRecursion (λ r. HasOne is_for starts (value r)) rows
+  pub for_one : AllByRecursion (λ s. is_some (find (λ r. is_for (value r) s) rows) ≡ true) starts
+
+-- a database of the office: it lists its schema, and obeys it, and each order and each record has its beginning of validity told
 pub record IsOffice (db : Database) : Type 0 where
   pub schema : db.schema ≡ office_schema
   pub sound : IsDatabase db
-  pub seats : AreRows IsSeatRow seat_cmp seat_in (db.trees 1)
-  pub maps : AreRows IsMapRow map_cmp map_in (db.trees 3)
-  pub links : AreRows IsLinkRow link_cmp link_in (db.trees 5)
-  pub orders : AreRows IsOrderRow order_cmp order_in (db.trees 7)
-  pub devices : AreRows IsDeviceRow device_cmp device_in (db.trees 9)
-  pub given : AreRows IsGivenRow given_cmp given_in (db.trees 11)
-  pub ledger : AreRows IsEntryRow entry_cmp entry_in (db.trees 15)
+  pub rows : AreOfficeRows db.trees
+  pub orders_started : AreStarted starts_order order_in (db.trees 7) (db.trees 17)
+  pub given_started : AreStarted starts_given given_in (db.trees 11) (db.trees 19)

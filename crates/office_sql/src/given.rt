@@ -10,15 +10,18 @@ ghost use Rattle.id_ranges.specs.Mac.{mac_of_text};
 ghost use Rattle.office_sql.specs.Looking.{Looks};
 ghost use Rattle.sqlite.specs.Order.{column};
 ghost use Rattle.office_sql.specs.Values.{text_if, mac_if};
-ghost use Rattle.office_sql.specs.Rows.{given_in};
+ghost use Rattle.office_sql.specs.Rows.{joined_given, given_columns, given_start_columns};
 ghost use Rattle.office_sql.specs.Tables.{tables_in};
-ghost use Rattle.office_sql.specs.Change.{Wrote};
-ghost use Rattle.office_sql.specs.Asking.{Asks, Changes, HasOffice};
+ghost use Rattle.office_sql.specs.Change.{Adds, Wrote};
+ghost use Rattle.office_sql.specs.Asking.{Asks, Changes, HasOffice, HasSchema};
 
 use crate::address::address_text;
-use crate::read::{DAMAGED, chip_if_at, key_at, mac_if_at, name_at, serial_at, time_at};
+use crate::read::{
+    DAMAGED, chip_if_at, key_at, mac_if_at, name_at, serial_at, start_if_at, time_at,
+};
+use crate::start::start_text;
 use crate::visit::{ReadRow, visit_rows};
-use id_ranges::{KeyDigest, Mac};
+use id_ranges::{KeyDigest, Mac, NotBefore};
 use office_tables::{Given, GivenRow, Owned, Sink};
 use sqlite::{Alter, Connection, Error, Row, Transaction, params};
 use std::alloc::Global;
@@ -30,10 +33,10 @@ fn rows_at<S: Alter>(
     serial: &str,
 ) -> Result<Vec<Row>, Error>
     requires { HasOffice (state S.Store conn.old) }
-    ensures { Asks S.Store conn.old conn.new result (λ t rows. map (λ r. given_in (Null ∷ r)) rows.items ≡ filter (is_given issuer.now serial.now) t.given) }
+    ensures { Asks S.Store conn.old conn.new result (λ t rows. map joined_given rows.items ≡ filter (is_given issuer.now serial.now) t.given) }
 {
     conn.query_all(
-        "SELECT issuer, serial, customer, key, chip, mac, not_after FROM given WHERE issuer = ?1 AND serial = ?2 ORDER BY issuer, serial",
+        "SELECT given.issuer, given.serial, customer, key, chip, mac, not_after, not_before FROM given JOIN given_start ON given_start.issuer = given.issuer AND given_start.serial = given.serial WHERE given.issuer = ?1 AND given.serial = ?2 ORDER BY given.issuer, given.serial",
         params![issuer.as_str(), serial],
     )
 }
@@ -44,10 +47,10 @@ fn rows_by_key<S: Alter>(
     key: &KeyDigest,
 ) -> Result<Vec<Row>, Error>
     requires { HasOffice (state S.Store conn.old) }
-    ensures { Asks S.Store conn.old conn.new result (λ t rows. map (λ r. given_in (Null ∷ r)) rows.items ≡ filter (is_bound issuer.now key.now) t.given) }
+    ensures { Asks S.Store conn.old conn.new result (λ t rows. map joined_given rows.items ≡ filter (is_bound issuer.now key.now) t.given) }
 {
     conn.query_all(
-        "SELECT issuer, serial, customer, key, chip, mac, not_after FROM given WHERE issuer = ?1 AND key = ?2 ORDER BY issuer, serial",
+        "SELECT given.issuer, given.serial, customer, key, chip, mac, not_after, not_before FROM given JOIN given_start ON given_start.issuer = given.issuer AND given_start.serial = given.serial WHERE given.issuer = ?1 AND key = ?2 ORDER BY given.issuer, given.serial",
         params![issuer.as_str(), key.as_bytes().as_slice()],
     )
 }
@@ -58,11 +61,17 @@ fn device_at(row: &Row) -> Result<(Option<Chip>, Option<Mac>), Error>
     Ok((chip_if_at(row, 4)?, mac_if_at(row, 5)?))
 }
 
-// With what `device_at` answers for the row.
-fn read_given(row: &Row, chip: Option<Chip>, mac: Option<Mac>) -> Result<GivenRow, Error>
+// With what `device_at` answers for the row, and the beginning of validity that stands in it.
+fn read_given(
+    row: &Row,
+    chip: Option<Chip>,
+    mac: Option<Mac>,
+    not_before: Option<NotBefore>,
+) -> Result<GivenRow, Error>
     requires chip { chip ≡ text_if (column row.now 4) }
     requires mac { mac ≡ mac_if (column row.now 5) }
-    ensures { IfOk result (λ given. given ≡ given_in (Null ∷ row.now)) }
+    requires not_before { not_before ≡ text_if (column row.now 7) }
+    ensures { IfOk result (λ given. given ≡ joined_given row.now) }
 {
     Ok(Owned {
         customer: name_at(row, 2)?,
@@ -73,12 +82,13 @@ fn read_given(row: &Row, chip: Option<Chip>, mac: Option<Mac>) -> Result<GivenRo
             chip,
             mac,
             not_after: time_at(row, 6)?,
+            not_before,
         },
     })
 }
 
 fn first_given(rows: &[Row]) -> Result<Option<GivenRow>, Error>
-    ensures { IfOk result (λ given. given ≡ option_map (λ r. given_in (Null ∷ r)) (slice_get rows.now 0)) }
+    ensures { IfOk result (λ given. given ≡ option_map joined_given (slice_get rows.now 0)) }
 {
     match rows.first() {
         Some(row) => Ok(Some(GivenRow::read_row(row)?)),
@@ -113,11 +123,12 @@ pub fn given_by_key<S: Alter>(
 }
 
 impl ReadRow for GivenRow {
-    ghost reads = { λ r. given_in (Null ∷ r) };
+    ghost reads = { joined_given };
 
     fn read_row(row: &Row) -> Result<GivenRow, Error> {
         let (chip, mac) = device_at(row)?;
-        read_given(row, chip, mac)
+        let not_before = start_if_at(row, 7)?;
+        read_given(row, chip, mac, not_before)
     }
 }
 
@@ -132,7 +143,7 @@ pub fn visit_given<S: Alter, K: Sink<GivenRow>>(
 {
     visit_rows::<S, GivenRow, K>(
         conn,
-        "SELECT issuer, serial, customer, key, chip, mac, not_after FROM given WHERE issuer = ?1 ORDER BY issuer, serial",
+        "SELECT given.issuer, given.serial, customer, key, chip, mac, not_after, not_before FROM given JOIN given_start ON given_start.issuer = given.issuer AND given_start.serial = given.serial WHERE given.issuer = ?1 ORDER BY given.issuer, given.serial",
         params![issuer.as_str()],
         sink,
     )
@@ -141,10 +152,10 @@ pub fn visit_given<S: Alter, K: Sink<GivenRow>>(
 fn rows_with_address<S: Alter>(tx: &mut Transaction<'_, S>, text: &str) -> Result<Vec<Row>, Error>
     requires { HasOffice (state S.Store tx.old.conn.now) }
     ensures same_reference { tx.new.conn.ghost_name ≡ tx.old.conn.ghost_name }
-    ensures looks { Looks S.Store tx.old.conn.now tx.new.conn.now result (λ t rows. (mac : ℕ) → mac_of_text text.now ≡ Some mac → map (λ r. given_in (Null ∷ r)) rows.items ≡ filter (has_address mac) t.given) }
+    ensures looks { Looks S.Store tx.old.conn.now tx.new.conn.now result (λ t rows. (mac : ℕ) → mac_of_text text.now ≡ Some mac → map joined_given rows.items ≡ filter (has_address mac) t.given) }
 {
     tx.query_all(
-        "SELECT issuer, serial, customer, key, chip, mac, not_after FROM given WHERE mac = ?1 ORDER BY issuer, serial",
+        "SELECT given.issuer, given.serial, customer, key, chip, mac, not_after, not_before FROM given JOIN given_start ON given_start.issuer = given.issuer AND given_start.serial = given.serial WHERE mac = ?1 ORDER BY given.issuer, given.serial",
         params![text],
     )
 }
@@ -185,18 +196,16 @@ fn chip_text(chip: &Option<Chip>) -> Option<&str>
     }
 }
 
+// Adds the row of a record, with the text of its address.
 fn insert_given<S: Alter>(
     tx: &mut Transaction<'_, S>,
     given: &GivenRow,
     address: &Option<String>,
 ) -> Result<usize, Error>
-    requires office { HasOffice (state S.Store tx.old.conn.now) }
-    requires free { IsTrue (state S.Store tx.old.conn.now).is_open → IsFree (TheGiven given.now) (tables_in (state S.Store tx.old.conn.now).now.trees) }
+    requires schema { HasSchema (state S.Store tx.old.conn.now) }
     requires address_is { option_map (λ t. string_bytes t) address.now ≡ option_map spec.mac_text given.now.row.mac }
-    requires address_back { option_and_then mac_of_text (option_map (λ t. string_bytes t) address.now) ≡ given.now.row.mac }
-    requires address_free { IsTrue (state S.Store tx.old.conn.now).is_open → IsAddressFree given.now.row.mac (tables_in (state S.Store tx.old.conn.now).now.trees).given }
     ensures same_reference { tx.new.conn.ghost_name ≡ tx.old.conn.ghost_name }
-    ensures changes { Changes S.Store tx.old.conn.now tx.new.conn.now result (λ old new _. Wrote (TheGiven given.now) old new) }
+    ensures changes { Changes S.Store tx.old.conn.now tx.new.conn.now result (λ old new _. Adds 11 (given_columns given.now) old new) }
 {
     tx.execute(
         "INSERT INTO given (issuer, serial, customer, key, chip, mac, not_after) VALUES (?1, ?2, ?3, ?4, ?5, ?6, ?7)",
@@ -212,7 +221,46 @@ fn insert_given<S: Alter>(
     )
 }
 
-/// Adds the record of a serial number, unless another record has its address.
+// Adds the row of a record's beginning of validity.
+fn insert_given_start<S: Alter>(
+    tx: &mut Transaction<'_, S>,
+    given: &GivenRow,
+) -> Result<usize, Error>
+    requires { HasSchema (state S.Store tx.old.conn.now) }
+    ensures same_reference { tx.new.conn.ghost_name ≡ tx.old.conn.ghost_name }
+    ensures changes { Changes S.Store tx.old.conn.now tx.new.conn.now result (λ old new _. Adds 19 (given_start_columns given.now) old new) }
+{
+    tx.execute(
+        "INSERT INTO given_start (issuer, serial, not_before) VALUES (?1, ?2, ?3)",
+        params![
+            given.row.issuer.as_str(),
+            given.row.serial.as_str(),
+            start_text(&given.row.not_before)
+        ],
+    )
+}
+
+// Adds a record and its beginning of validity, with the text of its address.
+fn insert_record<S: Alter>(
+    tx: &mut Transaction<'_, S>,
+    given: &GivenRow,
+    address: &Option<String>,
+) -> Result<(), Error>
+    requires office { HasOffice (state S.Store tx.old.conn.now) }
+    requires free { IsTrue (state S.Store tx.old.conn.now).is_open → IsFree (TheGiven given.now) (tables_in (state S.Store tx.old.conn.now).now.trees) }
+    requires address_is { option_map (λ t. string_bytes t) address.now ≡ option_map spec.mac_text given.now.row.mac }
+    requires address_back { option_and_then mac_of_text (option_map (λ t. string_bytes t) address.now) ≡ given.now.row.mac }
+    requires address_free { IsTrue (state S.Store tx.old.conn.now).is_open → IsAddressFree given.now.row.mac (tables_in (state S.Store tx.old.conn.now).now.trees).given }
+    ensures same_reference { tx.new.conn.ghost_name ≡ tx.old.conn.ghost_name }
+    ensures changes { Changes S.Store tx.old.conn.now tx.new.conn.now result (λ old new _. Wrote (TheGiven given.now) old new) }
+{
+    insert_given(tx, given, address)?;
+    insert_given_start(tx, given)?;
+    Ok(())
+}
+
+/// Adds the record of a serial number and its beginning of validity, unless another record has its
+/// address.
 pub(crate) fn add_given<S: Alter>(
     alloc: Global,
     tx: &mut Transaction<'_, S>,
@@ -225,6 +273,5 @@ pub(crate) fn add_given<S: Alter>(
 {
     let address = address_text(alloc, given.row.mac)?;
     find_address_free(tx, &address)?;
-    insert_given(tx, given, &address)?;
-    Ok(())
+    insert_record(tx, given, &address)
 }

@@ -12,6 +12,7 @@ mod number;
 mod orders;
 mod read;
 mod seats;
+mod start;
 mod visit;
 mod write;
 

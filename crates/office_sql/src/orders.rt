@@ -8,17 +8,18 @@ ghost use Rattle.sqlite.specs.declared.types.Value.TheVariants.{Null};
 ghost use Rattle.office_tables.specs.Keeping.{Visits};
 ghost use Rattle.office_tables.specs.Tables.{is_of, is_order, order_at, IsFree};
 ghost use Rattle.office_tables.specs.declared.rows.Write.TheVariants.{AddOrder as TheOrder, SetCursor as TheCursor};
-ghost use Rattle.office_sql.specs.Asking.{Asks, Changes, HasOffice};
-ghost use Rattle.office_sql.specs.Change.{Wrote};
+ghost use Rattle.office_sql.specs.Asking.{Asks, Changes, HasOffice, HasSchema};
+ghost use Rattle.office_sql.specs.Change.{Adds, Wrote};
 ghost use Rattle.office_sql.specs.Tables.{tables_in};
-ghost use Rattle.office_sql.specs.Rows.{order_in};
-ghost use Rattle.office_sql.specs.Values.{mac_if, number_in};
+ghost use Rattle.office_sql.specs.Rows.{joined_order, order_columns, order_start_columns};
+ghost use Rattle.office_sql.specs.Values.{mac_if, number_in, text_if};
 
 use crate::address::address_text;
 use crate::number::whole;
-use crate::read::{DAMAGED, mac_if_at, name_at, text_at, whole_at};
+use crate::read::{DAMAGED, mac_if_at, name_at, start_if_at, text_at, whole_at};
+use crate::start::start_text;
 use crate::visit::{ReadRow, visit_rows};
-use id_ranges::{Mac, SerialRange};
+use id_ranges::{Mac, NotBefore, SerialRange};
 use office_tables::{Cursor, Order, OrderRow, Owned, Sink};
 use sqlite::{Alter, Connection, Error, Row, Transaction, params};
 use std::alloc::Global;
@@ -36,10 +37,10 @@ fn order_rows<S: Alter>(
     name: &Name,
 ) -> Result<Vec<Row>, Error>
     requires { HasOffice (state S.Store conn.old) }
-    ensures { Asks S.Store conn.old conn.new result (λ t rows. map (λ r. order_in (Null ∷ r)) rows.items ≡ filter (is_order customer.now name.now) t.orders) }
+    ensures { Asks S.Store conn.old conn.new result (λ t rows. map joined_order rows.items ≡ filter (is_order customer.now name.now) t.orders) }
 {
     conn.query_all(
-        "SELECT customer, name, issuer, prefix, width, first, quantity, macs, mac, cursor FROM orders WHERE customer = ?1 AND name = ?2 ORDER BY customer, name",
+        "SELECT orders.customer, name, issuer, prefix, width, first, quantity, macs, mac, cursor, not_before FROM orders JOIN order_start ON order_start.customer = orders.customer AND ord = name WHERE orders.customer = ?1 AND name = ?2 ORDER BY orders.customer, name",
         params![customer.as_str(), name.as_str()],
     )
 }
@@ -72,10 +73,11 @@ fn range(prefix: &str, width: u8, first: u64, quantity: u64) -> Result<SerialRan
     SerialRange::new(prefix, width, first, quantity).map_err(|_| DAMAGED)
 }
 
-// With the address that stands in the row.
-fn read_order(row: &Row, mac: Option<Mac>) -> Result<OrderRow, Error>
-    requires { mac ≡ mac_if (column row.now 8) }
-    ensures { IfOk result (λ order. order ≡ order_in (Null ∷ row.now)) }
+// With the address and the beginning of validity that stand in the row.
+fn read_order(row: &Row, mac: Option<Mac>, not_before: Option<NotBefore>) -> Result<OrderRow, Error>
+    requires mac { mac ≡ mac_if (column row.now 8) }
+    requires not_before { not_before ≡ text_if (column row.now 10) }
+    ensures { IfOk result (λ order. order ≡ joined_order row.now) }
 {
     Ok(Owned {
         customer: name_at(row, 0)?,
@@ -91,12 +93,13 @@ fn read_order(row: &Row, mac: Option<Mac>) -> Result<OrderRow, Error>
             macs: macs_at(row, 7)?,
             mac,
             cursor: whole_at(row, 9)?,
+            not_before,
         },
     })
 }
 
 fn first_order(rows: &[Row]) -> Result<Option<OrderRow>, Error>
-    ensures { IfOk result (λ order. order ≡ option_map (λ r. order_in (Null ∷ r)) (slice_get rows.now 0)) }
+    ensures { IfOk result (λ order. order ≡ option_map joined_order (slice_get rows.now 0)) }
 {
     match rows.first() {
         Some(row) => Ok(Some(OrderRow::read_row(row)?)),
@@ -118,11 +121,12 @@ pub fn order_row<S: Alter>(
 }
 
 impl ReadRow for OrderRow {
-    ghost reads = { λ r. order_in (Null ∷ r) };
+    ghost reads = { joined_order };
 
     fn read_row(row: &Row) -> Result<OrderRow, Error> {
         let mac = mac_if_at(row, 8)?;
-        read_order(row, mac)
+        let not_before = start_if_at(row, 10)?;
+        read_order(row, mac, not_before)
     }
 }
 
@@ -137,24 +141,22 @@ pub fn visit_orders<S: Alter, K: Sink<OrderRow>>(
 {
     visit_rows::<S, OrderRow, K>(
         conn,
-        "SELECT customer, name, issuer, prefix, width, first, quantity, macs, mac, cursor FROM orders WHERE customer = ?1 ORDER BY customer, name",
+        "SELECT orders.customer, name, issuer, prefix, width, first, quantity, macs, mac, cursor, not_before FROM orders JOIN order_start ON order_start.customer = orders.customer AND ord = name WHERE orders.customer = ?1 ORDER BY orders.customer, name",
         params![customer.as_str()],
         sink,
     )
 }
 
-// With the text of its address.
+// Adds the row of an order, with the text of its address.
 fn insert_order<S: Alter>(
     tx: &mut Transaction<'_, S>,
     order: &OrderRow,
     address: &Option<String>,
 ) -> Result<usize, Error>
-    requires office { HasOffice (state S.Store tx.old.conn.now) }
-    requires free { IsTrue (state S.Store tx.old.conn.now).is_open → IsFree (TheOrder order.now) (tables_in (state S.Store tx.old.conn.now).now.trees) }
+    requires schema { HasSchema (state S.Store tx.old.conn.now) }
     requires address_is { option_map (λ t. string_bytes t) address.now ≡ option_map spec.mac_text order.now.row.mac }
-    requires address_back { option_and_then mac_of_text (option_map (λ t. string_bytes t) address.now) ≡ order.now.row.mac }
     ensures same_reference { tx.new.conn.ghost_name ≡ tx.old.conn.ghost_name }
-    ensures changes { Changes S.Store tx.old.conn.now tx.new.conn.now result (λ old new _. Wrote (TheOrder order.now) old new) }
+    ensures changes { Changes S.Store tx.old.conn.now tx.new.conn.now result (λ old new _. Adds 7 (order_columns order.now) old new) }
 {
     let range = order.row.range;
     let prefix = range.prefix();
@@ -178,7 +180,26 @@ fn insert_order<S: Alter>(
     )
 }
 
-/// Adds an order.
+// Adds the row of an order's beginning of validity.
+fn insert_order_start<S: Alter>(
+    tx: &mut Transaction<'_, S>,
+    order: &OrderRow,
+) -> Result<usize, Error>
+    requires { HasSchema (state S.Store tx.old.conn.now) }
+    ensures same_reference { tx.new.conn.ghost_name ≡ tx.old.conn.ghost_name }
+    ensures changes { Changes S.Store tx.old.conn.now tx.new.conn.now result (λ old new _. Adds 17 (order_start_columns order.now) old new) }
+{
+    tx.execute(
+        "INSERT INTO order_start (customer, ord, not_before) VALUES (?1, ?2, ?3)",
+        params![
+            order.customer.as_str(),
+            order.row.name.as_str(),
+            start_text(&order.row.not_before)
+        ],
+    )
+}
+
+/// Adds an order, and its beginning of validity.
 pub(crate) fn add_order<S: Alter>(
     alloc: Global,
     tx: &mut Transaction<'_, S>,
@@ -191,6 +212,7 @@ pub(crate) fn add_order<S: Alter>(
 {
     let address = address_text(alloc, order.row.mac)?;
     insert_order(tx, order, &address)?;
+    insert_order_start(tx, order)?;
     Ok(())
 }
 

@@ -4,7 +4,7 @@ ghost use Rattle.std.specs.Prelude.{◌≡◌, IfOk, option_map};
 ghost use Rattle.sqlite.specs.Order.{column, bytes};
 ghost use Rattle.office_sql.specs.Values.{number_in, text_if, mac_if};
 
-use id_ranges::{KeyDigest, Mac};
+use id_ranges::{KeyDigest, Mac, NotBefore};
 use sqlite::types::ValueRef;
 use sqlite::{Error, ErrorCode, Row};
 use std::alloc::Global;
@@ -139,6 +139,18 @@ pub(crate) fn mac_if_at(row: &Row, at: usize) -> Result<Option<Mac>, Error>
         Some(text) => match Mac::parse(text) {
             Some(mac) => Ok(Some(mac)),
             None => Err(DAMAGED),
+        },
+        None => Ok(None),
+    }
+}
+
+pub(crate) fn start_if_at(row: &Row, at: usize) -> Result<Option<NotBefore>, Error>
+    ensures { IfOk result (λ start. start ≡ text_if (column row.now at)) }
+{
+    match text_if_at(row, at)? {
+        Some(text) => match NotBefore::read(text) {
+            Ok(start) => Ok(Some(start)),
+            Err(_) => Err(DAMAGED),
         },
         None => Ok(None),
     }

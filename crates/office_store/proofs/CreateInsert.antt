@@ -35,7 +35,7 @@ pub record PutsRow (tree : ℕ) (row : Row) (old new : Database) : Type 0 where
 unmoved : (task : Task) (mid next : Trees) (c : Option Row) (top : ℤ) → task.table.is_counted ≡ false → Counts task mid c top (Ok next) → next ≡ mid
 unmoved task mid next c top e h = same_value (subst (λ b. MatchBool (cond b (is_lt (int_cmp (count_of c) top)) false) (CountsIn task mid c top (sequence task.schema) (Ok next)) (Gives mid (Ok next))) e h)
 
-module _ (text : List ℕ) (at : ℕ) (table : Table) (terms : List Term) (width : ℕ) (insert : IsInsert text at table terms width) where
+module _ (text : List ℕ) (at : ℕ) (table : Table) (terms : List Term) (width : ℕ) (insert : IsInsert office_schema text at table terms width) where
   -- it puts the row that the table makes of the values, where that has a rowid
   pub puts_row : (params columns : Row) (id : ℤ) → cast_row table (eval_all terms (params ∷ [])) ≡ Int id ∷ columns → (old new : State) (count : ℕ) → old.now.schema ≡ office_schema
       → Executes text params old new (Ok count) → PutsRow table.tree (Int id ∷ columns) old.now new.now

@@ -36,10 +36,30 @@ grown schema next table old new is made h = record {
       (all-append (λ t. new.trees t.tree ≡ []) schema.tables _ (all_both (λ t. new.trees t.tree ≡ old.trees t.tree) (λ t. old.trees t.tree ≡ []) (λ t. new.trees t.tree ≡ []) (λ t e f. e ∙ f) schema.tables made.others h.empty) (made.empty, tt));
 }
 
-pub creates : {S A E : Type 0} (g : Ghosts S) (text : List ℕ) (schema next : Schema) (table : Table) → IsCreate text schema table next → (old new : Held S) (r : Result A E) (P : Database → Database → A → Type 0)
-    → Changes g old new r P → (HasCleanDisk (state g new) → OnOk r (HasRun text (state g old) (state g new))) → Changes g old new r (λ x y _. IsNew schema x → IsNew next y)
-creates {S} {A} {E} g text schema next table it old new r P ch runs = record { says = λ clean. said r (runs clean); inside = ch.inside; kept = ch.kept; crash = ch.crash }
+-- a statement is run
+abbrev Runs : {S A E : Type 0} → Ghosts S → List ℕ → Held S → Held S → Result A E → Type 0
+Runs g text old new r = HasCleanDisk (state g new) → OnOk r (HasRun text (state g old) (state g new))
+
+-- it makes the table
+abbrev MakesIn : Schema → Table → Database → Database → Type 0
+MakesIn schema table x y = x.schema ≡ schema → Makes schema (record table { tree = 0 }) x y
+
+pub creates_table : {S A E : Type 0} (g : Ghosts S) (text : List ℕ) (schema next : Schema) (table : Table) → IsCreate text schema table next → (old new : Held S) (r : Result A E)
+    → (P : Database → Database → A → Type 0) → Changes g old new r P → Runs g text old new r → Changes g old new r (λ x y _. MakesIn schema table x y)
+creates_table {S} {A} {E} g text schema next table it old new r P ch runs = record { says = λ clean. said r (runs clean); inside = ch.inside; kept = ch.kept; crash = ch.crash }
   where
-    said : (r : Result A E) → OnOk r (HasRun text (state g old) (state g new)) → IfOk r (λ _. IsNew schema (state g old).now → IsNew next (state g new).now)
-    said (Ok a) h = λ was. grown schema next _ _ _ it.is (makes text (state g old) (state g new) schema table h.0 was.is it.command it.statement it.plain it.defined it.uncounted h.1) was
+    said : (r : Result A E) → OnOk r (HasRun text (state g old) (state g new)) → IfOk r (λ _. MakesIn schema table (state g old).now (state g new).now)
+    said (Ok a) h = λ was. makes text (state g old) (state g new) schema table h.0 was it.command it.statement it.plain it.defined it.uncounted h.1
+    said (Err e) h = tt
+
+-- and so grows a database with no row
+pub creates : {S A E : Type 0} (g : Ghosts S) (text : List ℕ) (schema next : Schema) (table : Table) → IsCreate text schema table next → (old new : Held S) (r : Result A E)
+    → (P : Database → Database → A → Type 0) → Changes g old new r P → Runs g text old new r → Changes g old new r (λ x y _. IsNew schema x → IsNew next y)
+creates {S} {A} {E} g text schema next table it old new r P ch runs = record { says = λ clean. said r (made.says clean); inside = ch.inside; kept = ch.kept; crash = ch.crash }
+  where
+    made : Changes g old new r (λ x y _. MakesIn schema table x y)
+    made = creates_table g text schema next table it old new r P ch runs
+
+    said : (r : Result A E) → IfOk r (λ _. MakesIn schema table (state g old).now (state g new).now) → IfOk r (λ _. IsNew schema (state g old).now → IsNew next (state g new).now)
+    said (Ok a) h = λ was. grown schema next _ _ _ it.is (h was.is) was
     said (Err e) h = tt

@@ -1,12 +1,10 @@
 -- From what `query_all` promises to what the tests of a found file do.
-use Rattle.std.proofs.Common.{◌≡◌, ◌↔◌, sym, ℕ, List, [], false, subst, inl, inr, ◌∙◌, Result, Ok, Err, IfOk, IfErr, OnOk}
+use Rattle.std.proofs.Common.{◌≡◌, sym, ap, refl, ℕ, List, [], false, subst, inl, inr, ◌∙◌, Result, Ok, Err, IfOk, IfErr, OnOk, IsTrue}
 use Rattle.std.proofs.lemmas.Result.{IfOk-weaker}
 use Rattle.std.specs.Prelude.{Vec}
 use Rattle.std.specs.declared.alloc.Global.{Global}
-use Rattle.sqlite_value.specs.declared.keys.Key.{Key}
 use Rattle.sqlite.specs.Order.{Row}
 use Rattle.sqlite.specs.Tree.{Trees}
-use Rattle.sqlite.specs.Term.{Term}
 use Rattle.sqlite.specs.declared.error.Error.{Error}
 use Rattle.sqlite.specs.Store.{Ghosts}
 use Rattle.sqlite.specs.Held.{Held, state}
@@ -14,53 +12,63 @@ use Rattle.sqlite.specs.State.{State, HasCleanDisk, Survives, Shown, IsUnchanged
 use Rattle.sqlite.specs.Effect.{Database}
 use Rattle.sqlite.proofs.StateLemmas.{survives_then}
 use Rattle.office_sql.specs.Change.{Rests}
-use Rattle.office_store.specs.Found.{HasSchema, Tests}
-use Rattle.office_sql.specs.Keeping.{IsReady}
-use Rattle.office_sql.specs.Tables.{IsOffice}
+use Rattle.sqlite.specs.Query.{Query, IsAnswer}
+use Rattle.sqlite.specs.Schema.{Schema}
+use Rattle.office_store.specs.declared.version.Version.{Version}
+use Rattle.office_store.specs.Found.{IsFound, Tests}
+use Rattle.office_store.specs.Versions.{schema_of}
 use Rattle.office_sql.proofs.Asked.{was_clean, leaves, shown_open, query_rests}
-use Rattle.office_sql.proofs.Bare.{bare_commits_nothing}
-use Rattle.office_sql.proofs.LedgerAsked.{IsReadAs, scan_first}
-use Rattle.office_sql.specs.Scan.{passes}
-use Rattle.office_sql.specs.Schema.{office_schema}
-use Rattle.office_store.proofs.FoundReads.{first_passes}
+use Rattle.office_sql.proofs.Bare.{IsBare, bare_commits_nothing}
+use Rattle.office_sql.proofs.LedgerAsked.{IsReadAs}
 use Rattle.sqlite.proofs.Callers.{reads_as}
 use Rattle.sqlite.specs.Command.TheVariants.{Select}
 use Rattle.sqlite.specs.Program.{overlay}
 use Rattle.sqlite.specs.declared.types.Value.TheVariants.{Null}
-use Rattle.std.specs.List.{AllByRecursion}
 
-module _ {S : Type 0} (g : Ghosts S) (text : List ℕ) (tree : ℕ) (tests shown : List Term) (order : List (Term × Key)) (read : IsReadAs text (scan_first tree tests shown order)) (there : (db : Trees) → overlay db [] tree ≡ db tree) (old new : Held S) where
-  -- a query with no parameters, of a database whose schema is the office's
+-- what a text means under the schema of each version
+pub of_a_version : (text : List ℕ) (body : Query) → ((version : Version) → IsReadAs (schema_of version) text body)
+    → (schema : Schema) → (version : Version) × (schema ≡ schema_of version) → IsReadAs schema text body
+of_a_version text body read schema it = subst (λ s. IsReadAs s text body) (sym it.1) (read it.0)
+
+-- and under one schema
+pub read_under : (text : List ℕ) (body : Query) (of : Schema) → IsReadAs of text body → (schema : Schema) → schema ≡ of → IsReadAs schema text body
+read_under text body of read schema is = subst (λ s. IsReadAs s text body) (sym is) read
+
+module _ {S : Type 0} (g : Ghosts S) (text : List ℕ) (body : Query) (bare : IsBare text) (IsKnown : Schema → Type 0)
+    (read : (schema : Schema) → IsKnown schema → IsReadAs schema text body) (old new : Held S) where
+  -- a query with no parameters, of a database whose schema is one under which its text is known
   pub tested : (r : Result (Vec Row Global) Error) (Says : Trees → Vec Row Global → Type 0)
-      → HasSchema (state g old)
-      → ((rows : Vec Row Global) → (rows.items ≡ []) ↔ AllByRecursion (λ r. passes tests [] r ≡ false) ((state g old).now.trees tree) → Says (state g old).now.trees rows)
+      → (IsTrue (state g old).is_open → IsKnown (state g old).now.schema)
+      → ((rows : Vec Row Global) → IsTrue (state g old).is_open → IsAnswer body (overlay (state g old).now.trees []) [] rows.items → Says (state g old).now.trees rows)
       → (HasCleanDisk (state g new) → IfOk r (λ v. Shown text [] (state g old) (state g new) v.items)) → (HasCleanDisk (state g new) → IfErr r (FailsToQuery text [] (state g old) (state g new)))
       → (old.in_transaction ≡ false → new.in_transaction ≡ false) → Survives (state g old) (state g new) (CommitsShowing text [] (state g old))
       → Tests g old new r Says
-  tested r Says has says ok err mode survives = record {
+  tested r Says known says ok err mode survives = record {
     says = λ clean. IfOk-weaker r _ _ (λ rows h.
-        let schema = has (shown_open text [] (state g old) (state g new) rows.items read.bare h) in
-        let db = (state g old).now.trees in
-        let answer = (reads_as text [] (state g old) (state g new) office_schema schema (Select (record { lets = []; body = scan_first tree tests shown order }) read.names) read.is read.plain read.unlisted rows.items h).answer Null in
-        says rows (subst (λ l. (rows.items ≡ []) ↔ AllByRecursion (λ r. passes tests [] r ≡ false) l) (there db) (first_passes tree tests shown order (overlay db []) rows.items answer))) (ok clean);
+        let up = shown_open text [] (state g old) (state g new) rows.items bare h in
+        let schema = (state g old).now.schema in
+        let it = read schema (known up) in
+        says rows up ((reads_as text [] (state g old) (state g new) schema refl (Select (record { lets = []; body = body }) it.names) it.is it.plain it.unlisted rows.items h).answer Null)) (ok clean);
     same = λ clean. unchanged r (ok clean);
-    rests = λ clean. query_rests text [] (state g old) (state g new) r (λ v. v.items) read.bare (ok clean) (err clean);
+    rests = λ clean. query_rests text [] (state g old) (state g new) r (λ v. v.items) bare (ok clean) (err clean);
     mode = mode;
-    crash = bare_commits_nothing text [] (state g old) (state g new) read.bare survives;
+    crash = bare_commits_nothing text [] (state g old) (state g new) bare survives;
   }
     where
       unchanged : (r : Result (Vec Row Global) Error) → IfOk r (λ v. Shown text [] (state g old) (state g new) v.items) → OnOk r (IsUnchanged (state g old) (state g new))
-      unchanged (Ok v) h = leaves text [] (state g old) (state g new) read.plain (has (shown_open text [] (state g old) (state g new) v.items read.bare h)) v.items h
+      unchanged (Ok v) h =
+          let up = shown_open text [] (state g old) (state g new) v.items bare h in
+          leaves (state g old).now.schema text [] (state g old) (state g new) (read (state g old).now.schema (known up)).plain refl v.items h
       unchanged (Err e) h = tt
 
-unchanged_then : (old mid new : State) → IsUnchanged old mid → IsUnchanged mid new → IsUnchanged old new
+pub unchanged_then : (old mid new : State) → IsUnchanged old mid → IsUnchanged mid new → IsUnchanged old new
 unchanged_then old mid new h k = (
   record { was_open = h.0.was_open; is_open = k.0.is_open; now_is = k.0.now_is ∙ h.0.now_is; committed_is = k.0.committed_is ∙ h.0.committed_is; mode = k.0.mode ∙ h.0.mode },
   record { changes = k.1.changes ∙ h.1.changes; last_rowid = k.1.last_rowid ∙ h.1.last_rowid },
   k.2 ∙ h.2,
 )
 
-rests_then : (old mid new : State) → IsUnchanged old mid → Rests mid new → Rests old new
+pub rests_then : (old mid new : State) → IsUnchanged old mid → Rests mid new → Rests old new
 rests_then old mid new h k = record {
   was_open = λ up. h.0.was_open;
   now = λ up. elim (k.now up) [ inl e ↦ inl (e ∙ h.0.now_is) | inr e ↦ inr (e ∙ h.0.committed_is) ];
@@ -85,10 +93,16 @@ tests_then g old mid new a q d P Q R one two says same =
       crash = survives_then (state g old) (state g mid) (state g new) _ _ (λ _. ⊥) (λ _ db none. none) (λ _ db none. none) one.crash two.crash;
     }
 
--- what was ready is ready after a test
-pub still_ready : (old new : State) → IsReady old → IsUnchanged old new → IsReady new
-still_ready old new ready same = record {
-  mode = same.0.mode ∙ ready.mode;
-  office = λ up. subst IsOffice (sym same.0.now_is) (ready.office same.0.was_open);
-  settled = λ up. same.0.now_is ∙ ready.settled same.0.was_open ∙ sym same.0.committed_is;
-}
+-- what is said of an answer that is made of another
+pub tests_more : {S A B E F : Type 0} (g : Ghosts S) (old new : Held S) (r : Result A E) (q : Result B F) (P : Trees → A → Type 0) (Q : Trees → B → Type 0) → Tests g old new r P
+    → (IfOk r (P (state g old).now.trees) → IfOk q (Q (state g old).now.trees))
+    → (OnOk r (IsUnchanged (state g old) (state g new)) → OnOk q (IsUnchanged (state g old) (state g new))) → Tests g old new q Q
+tests_more g old new r q P Q it says same = record { says = λ clean. says (it.says clean); same = λ clean. same (it.same clean); rests = it.rests; mode = it.mode; crash = it.crash }
+
+-- a schema of a version is one after a test
+pub still_known : {old new : State} → IsUnchanged old new → (version : Version) × (old.now.schema ≡ schema_of version) → (version : Version) × (new.now.schema ≡ schema_of version)
+still_known same it = (it.0, ap (λ (d : Database). d.schema) same.0.now_is ∙ it.1)
+
+-- and so is what was found
+pub still_found : {old new : State} (version : Version) → IsUnchanged old new → IsFound version old.now → IsFound version new.now
+still_found version same it = subst (IsFound version) (sym same.0.now_is) it

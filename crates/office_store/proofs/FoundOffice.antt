@@ -1,5 +1,6 @@
--- A sound database of the office's schema, whose trees are in order, is one of the office, if no number of a map or of an entry is below zero. One lemma for each table.
-use Rattle.std.proofs.Common.{◌≡◌, ℕ, false, [], ◌∷◌, refl, sym, ap, subst, ◌∙◌, inl, inr, is_eq, Less, IsTrue}
+-- A sound database of a schema that begins with the first version's tables, whose trees are in order, has the office's rows,
+-- if no number of a map or of an entry is below zero. One lemma for each table.
+use Rattle.std.proofs.Common.{◌≡◌, ℕ, List, false, [], ◌∷◌, ◌++◌, refl, sym, ap, subst, ◌∙◌, inl, inr, is_eq, Less, IsTrue}
 use Rattle.std.specs.List.{AllByRecursion}
 use Rattle.sqlite.specs.Order.{Row, column, value_cmp}
 use Rattle.sqlite.specs.View.{IsShaped, IsOrdered, is_int}
@@ -7,6 +8,8 @@ use Rattle.sqlite.specs.Tree.{Trees, rowid}
 use Rattle.sqlite_trees.specs.declared.store.Shape.{Shape}
 use Rattle.sqlite_trees.specs.declared.store.Shape.TheVariants as shape
 use Rattle.sqlite_trees.specs.Objects.{catalog_tree, IsListed}
+use Rattle.sqlite_schema.specs.declared.schema.Index.{Index}
+use Rattle.sqlite_schema.specs.declared.schema.Schema.{Schema}
 use Rattle.sqlite_schema.specs.declared.schema.Table.{Table}
 use Rattle.sqlite_schema.specs.declared.schema.Constraint.TheVariants.{Datatype, NotNull, Unique}
 use Rattle.sqlite_schema.specs.Rules.{clashes}
@@ -16,10 +19,12 @@ use Rattle.sqlite_catalog.proofs.LayoutLemmas.{table_shape}
 use Rattle.sqlite_rules.specs.Lists.{Has}
 use Rattle.sqlite_trees.proofs.ListLemmas.{all_both, all_weaker, ascending-map}
 use Rattle.office_tables.specs.Tables.{seat_cmp, order_cmp, map_cmp, link_cmp, device_cmp, given_cmp, entry_cmp}
-use Rattle.office_sql.specs.Schema.{office_schema, seat_table, map_table, link_table, orders_table, device_table, given_table, ledger_table}
+use Rattle.office_sql.specs.Schema.{seat_table, map_table, link_table, orders_table, device_table, given_table, ledger_table}
 use Rattle.office_sql.specs.Rows.{seat_in, map_in, link_in, order_in, device_in, given_in, entry_in}
+use Rattle.office_store.specs.declared.version.Version.TheVariants.{First}
 use Rattle.office_store.specs.Found.{HasWhole, IsNotBelow}
-use Rattle.office_sql.specs.Tables.{IsOffice, AreRows, IsText, IsWhole, IsSeatRow, IsMapRow, IsLinkRow, IsOrderRow, IsDeviceRow, IsGivenRow, IsEntryRow}
+use Rattle.office_store.specs.Versions.{schema_of}
+use Rattle.office_sql.specs.Tables.{AreOfficeRows, AreRows, IsText, IsWhole, IsSeatRow, IsMapRow, IsLinkRow, IsOrderRow, IsDeviceRow, IsGivenRow, IsEntryRow}
 use Rattle.office_sql.proofs.Kept.{narrowed}
 use Rattle.office_sql.proofs.MapValues.{wholes_cmp}
 use Rattle.office_store.proofs.FoundRows.{both_true, not_true, text_at, blob_at, int_at, text_if_at, whole_of, texts_tie, blobs_tie, wholes_tie, then_ties, entry_ties, last_ties, rows_found}
@@ -28,11 +33,19 @@ use Rattle.office_store.proofs.FoundRows.{both_true, not_true, text_at, blob_at,
 maps_apart : (a b : Row) → IsMapRow a → IsMapRow b → value_cmp (rowid a) (rowid b) ≡ Less → is_eq (map_cmp (map_in a) (map_in b)) ≡ false
 maps_apart a b ka kb low = ap is_eq (sym (wholes_cmp (column a 0) (column b 0) ka.0 kb.0) ∙ low)
 
-module _ (shapes : ℕ → Shape) (reals : ℕ → ℕ) (trees : Trees) (sound : IsSound office_schema trees) (listed : IsListed (trees catalog_tree) shapes reals) (ordered : IsOrdered shapes trees) where
+-- the first version's tables and indexes, and more
+abbrev pub grown : List Table → List Index → Schema
+grown tables indexes = record { tables = (schema_of First).tables ++ tables; indexes = (schema_of First).indexes ++ indexes; views = [] }
+
+module _ (more_tables : List Table) (more_indexes : List Index) (shapes : ℕ → Shape) (reals : ℕ → ℕ) (trees : Trees)
+    (sound : IsSound (grown more_tables more_indexes) trees) (listed : IsListed (trees catalog_tree) shapes reals) (ordered : IsOrdered shapes trees) where
+  abbrev schema : Schema
+  schema = grown more_tables more_indexes
+
   rising : IsShaped shape.Table (trees catalog_tree)
   rising = subst (λ s. IsShaped s (trees catalog_tree)) listed.itself.0 (ordered catalog_tree)
 
-  shaped : (t : Table) → Has office_schema.tables t → IsShaped shape.Table (trees t.tree)
+  pub shaped : (t : Table) → Has schema.tables t → IsShaped shape.Table (trees t.tree)
   shaped t h = subst (λ s. IsShaped s (trees t.tree)) (table_shape listed rising.0 sound.lists.listed t h).0 (ordered t.tree)
 
   seats_found : AreRows IsSeatRow seat_cmp seat_in (trees 1)
@@ -41,7 +54,7 @@ module _ (shapes : ℕ → Shape) (reals : ℕ → ℕ) (trees : Trees) (sound :
       rows_found (1 ∷ []) IsSeatRow seat_cmp seat_in
       (λ a b e f. last_ties _ _ (texts_tie (column a 1) (column b 1) e f))
       rows (shaped seat_table (inr (inl refl)))
-      (all_both _ _ IsSeatRow (λ r d n. text_at office_schema trees seat_table r d n 0 (refl, refl, refl) (refl, refl)) rows (sound.obeys.rules Datatype).1.0 (sound.obeys.rules NotNull).1.0)
+      (all_both _ _ IsSeatRow (λ r d n. text_at schema trees seat_table r d n 0 (refl, refl, refl) (refl, refl)) rows (sound.obeys.rules Datatype).1.0 (sound.obeys.rules NotNull).1.0)
       (all_weaker _ (λ r. clashes plain (1 ∷ []) rows r ≡ false) (λ r h. not_true _ (both_true _ _ h).0) rows (sound.obeys.rules Unique).1.0)
 
   links_found : AreRows IsLinkRow link_cmp link_in (trees 5)
@@ -50,7 +63,7 @@ module _ (shapes : ℕ → Shape) (reals : ℕ → ℕ) (trees : Trees) (sound :
       rows_found (1 ∷ 2 ∷ []) IsLinkRow link_cmp link_in
       (λ a b e f. then_ties _ _ _ _ (texts_tie (column a 1) (column b 1) e.0 f.0) (last_ties _ _ (blobs_tie (column a 2) (column b 2) e.1 f.1)))
       rows (shaped link_table (inr (inr (inr (inl refl)))))
-      (all_both _ _ IsLinkRow (λ r d n. (text_at office_schema trees link_table r d n 0 (refl, refl, refl) (refl, refl), blob_at office_schema trees link_table r d n 1 (refl, refl, refl) (refl, refl)))
+      (all_both _ _ IsLinkRow (λ r d n. (text_at schema trees link_table r d n 0 (refl, refl, refl) (refl, refl), blob_at schema trees link_table r d n 1 (refl, refl, refl) (refl, refl)))
       rows (sound.obeys.rules Datatype).1.1.1.0 (sound.obeys.rules NotNull).1.1.1.0)
       (all_weaker _ (λ r. clashes plain (1 ∷ 2 ∷ []) rows r ≡ false) (λ r h. not_true _ (both_true _ _ h).0) rows (sound.obeys.rules Unique).1.1.1.0)
 
@@ -61,8 +74,8 @@ module _ (shapes : ℕ → Shape) (reals : ℕ → ℕ) (trees : Trees) (sound :
       (λ a b e f. then_ties _ _ _ _ (texts_tie (column a 1) (column b 1) e.0 f.0) (last_ties _ _ (texts_tie (column a 2) (column b 2) e.1 f.1)))
       rows (shaped orders_table (inr (inr (inr (inr (inl refl))))))
       (all_both _ _ IsOrderRow (λ r d n. (
-        text_at office_schema trees orders_table r d n 0 (refl, refl, refl) (refl, refl),
-        text_at office_schema trees orders_table r d n 1 (refl, refl, refl) (refl, refl),
+        text_at schema trees orders_table r d n 0 (refl, refl, refl) (refl, refl),
+        text_at schema trees orders_table r d n 1 (refl, refl, refl) (refl, refl),
         (both_true _ _ d).0,
       )) rows (sound.obeys.rules Datatype).1.1.1.1.0 (sound.obeys.rules NotNull).1.1.1.1.0)
       (all_weaker _ (λ r. clashes plain (1 ∷ 2 ∷ []) rows r ≡ false) (λ r h. not_true _ (both_true _ _ h).0) rows (sound.obeys.rules Unique).1.1.1.1.0)
@@ -74,9 +87,9 @@ module _ (shapes : ℕ → Shape) (reals : ℕ → ℕ) (trees : Trees) (sound :
       (λ a b e f. then_ties _ _ _ _ (texts_tie (column a 1) (column b 1) e.0 f.0) (last_ties _ _ (texts_tie (column a 2) (column b 2) e.1 f.1)))
       rows (shaped device_table (inr (inr (inr (inr (inr (inl refl)))))))
       (all_both _ _ IsDeviceRow (λ r d n. (
-        text_at office_schema trees device_table r d n 0 (refl, refl, refl) (refl, refl),
-        text_at office_schema trees device_table r d n 1 (refl, refl, refl) (refl, refl),
-        text_at office_schema trees device_table r d n 2 (refl, refl, refl) (refl, refl),
+        text_at schema trees device_table r d n 0 (refl, refl, refl) (refl, refl),
+        text_at schema trees device_table r d n 1 (refl, refl, refl) (refl, refl),
+        text_at schema trees device_table r d n 2 (refl, refl, refl) (refl, refl),
       )) rows (sound.obeys.rules Datatype).1.1.1.1.1.0 (sound.obeys.rules NotNull).1.1.1.1.1.0)
       (all_weaker _ (λ r. clashes plain (1 ∷ 2 ∷ []) rows r ≡ false) (λ r h. not_true _ (both_true _ _ h).0) rows (sound.obeys.rules Unique).1.1.1.1.1.0)
 
@@ -87,10 +100,10 @@ module _ (shapes : ℕ → Shape) (reals : ℕ → ℕ) (trees : Trees) (sound :
       (λ a b e f. then_ties _ _ _ _ (texts_tie (column a 1) (column b 1) e.0 f.0) (last_ties _ _ (texts_tie (column a 2) (column b 2) e.1 f.1)))
       rows (shaped given_table (inr (inr (inr (inr (inr (inr (inl refl))))))))
       (all_both _ _ IsGivenRow (λ r d n. (
-        text_at office_schema trees given_table r d n 0 (refl, refl, refl) (refl, refl),
-        text_at office_schema trees given_table r d n 1 (refl, refl, refl) (refl, refl),
-        blob_at office_schema trees given_table r d n 3 (refl, refl, refl) (refl, refl),
-        text_if_at office_schema trees given_table r d 5 (refl, refl, refl),
+        text_at schema trees given_table r d n 0 (refl, refl, refl) (refl, refl),
+        text_at schema trees given_table r d n 1 (refl, refl, refl) (refl, refl),
+        blob_at schema trees given_table r d n 3 (refl, refl, refl) (refl, refl),
+        text_if_at schema trees given_table r d 5 (refl, refl, refl),
       )) rows (sound.obeys.rules Datatype).1.1.1.1.1.1.0 (sound.obeys.rules NotNull).1.1.1.1.1.1.0)
       (all_weaker _ (λ r. clashes plain (1 ∷ 2 ∷ []) rows r ≡ false) (λ r h. not_true _ (both_true _ _ h).0) rows (sound.obeys.rules Unique).1.1.1.1.1.1.0)
 
@@ -101,7 +114,7 @@ module _ (shapes : ℕ → Shape) (reals : ℕ → ℕ) (trees : Trees) (sound :
         let s = shaped map_table (inr (inr (inl refl))) in
         let ids : AllByRecursion (IsWhole 0) rows = all_both _ (IsNotBelow 0) (IsWhole 0) (λ r i b. whole_of (column r 0) i b) rows s.1 whole.maps in
         let bodies : AllByRecursion (IsText 2) rows =
-        all_both _ _ (IsText 2) (λ r d n. text_at office_schema trees map_table r d n 1 (refl, refl, refl) (refl, refl)) rows (sound.obeys.rules Datatype).1.1.0 (sound.obeys.rules NotNull).1.1.0 in
+        all_both _ _ (IsText 2) (λ r d n. text_at schema trees map_table r d n 1 (refl, refl, refl) (refl, refl)) rows (sound.obeys.rules Datatype).1.1.0 (sound.obeys.rules NotNull).1.1.0 in
         let typed : AllByRecursion IsMapRow rows = all_both (IsWhole 0) (IsText 2) IsMapRow (λ r i b. (i, b)) rows ids bodies in
         record {
           rising = s.0;
@@ -119,9 +132,9 @@ module _ (shapes : ℕ → Shape) (reals : ℕ → ℕ) (trees : Trees) (sound :
         let ids : AllByRecursion (IsWhole 0) rows = all_both _ (IsNotBelow 0) (IsWhole 0) (λ r i b. whole_of (column r 0) i b) rows s.1 whole.entries in
         let texts : AllByRecursion (λ r. IsText 2 r × IsText 3 r) rows =
         all_both _ _ (λ r. IsText 2 r × IsText 3 r)
-        (λ r d n. (text_at office_schema trees ledger_table r d n 1 (refl, refl, refl) (refl, refl), text_at office_schema trees ledger_table r d n 2 (refl, refl, refl) (refl, refl))) rows datatypes required in
+        (λ r d n. (text_at schema trees ledger_table r d n 1 (refl, refl, refl) (refl, refl), text_at schema trees ledger_table r d n 2 (refl, refl, refl) (refl, refl))) rows datatypes required in
         let ints : AllByRecursion (λ r. IsTrue (is_int (column r 4))) rows =
-        all_both _ _ (λ r. IsTrue (is_int (column r 4))) (λ r d n. int_at office_schema trees ledger_table r d n 3 (refl, refl, refl) (refl, refl)) rows datatypes required in
+        all_both _ _ (λ r. IsTrue (is_int (column r 4))) (λ r d n. int_at schema trees ledger_table r d n 3 (refl, refl, refl) (refl, refl)) rows datatypes required in
         let numbers : AllByRecursion (IsWhole 4) rows = all_both _ (IsNotBelow 4) (IsWhole 4) (λ r i b. whole_of (column r 4) i b) rows ints whole.numbers in
         let half : AllByRecursion (λ r. IsWhole 0 r × IsText 2 r × IsText 3 r) rows = all_both (IsWhole 0) (λ r. IsText 2 r × IsText 3 r) (λ r. IsWhole 0 r × IsText 2 r × IsText 3 r) (λ r i t. (i, t.0, t.1)) rows ids texts in
         rows_found (2 ∷ 3 ∷ 4 ∷ []) IsEntryRow entry_cmp entry_in
@@ -130,6 +143,6 @@ module _ (shapes : ℕ → Shape) (reals : ℕ → ℕ) (trees : Trees) (sound :
         (all_both (λ r. IsWhole 0 r × IsText 2 r × IsText 3 r) (IsWhole 4) IsEntryRow (λ r h n. (h.0, h.1, h.2, n)) rows half numbers)
         (all_weaker _ (λ r. clashes plain (2 ∷ 3 ∷ 4 ∷ []) rows r ≡ false) (λ r h. not_true _ (both_true _ _ h).0) rows (sound.obeys.rules Unique).1.1.1.1.1.1.1.0)
 
-    -- the tables of a found database
-    pub office_found : IsOffice (record { schema = office_schema; trees = trees })
-    office_found = record { schema = refl; sound = sound; seats = seats_found; maps = maps_found; links = links_found; orders = orders_found; devices = devices_found; given = given_found; ledger = ledger_found }
+    -- the rows of a found database
+    pub rows_of_office : AreOfficeRows trees
+    rows_of_office = record { seats = seats_found; maps = maps_found; links = links_found; orders = orders_found; devices = devices_found; given = given_found; ledger = ledger_found }

@@ -14,7 +14,7 @@ use Rattle.office_tables.specs.Tables.{is_of, own, text_cmp}
 use Rattle.office_tables.proofs.Places.{same_both_ways, takes_no_other}
 use Rattle.office_sql.specs.declared.devices.OrderState.{OrderState}
 use Rattle.office_sql.specs.OrderStates.{order_state}
-use Rattle.office_store.specs.Counting.{count_at, number_at, takes, AgreeBut, AgreeOff, AreCounts}
+use Rattle.office_store.specs.Counting.{number_at, takes, AgreeBut, AgreeOff, AreCounts}
 use Rattle.office_store.specs.declared.places.OrderPlaces.{OrderPlaces}
 use Rattle.office_store.specs.declared.places.PlaceCounts.{PlaceCounts}
 

@@ -1,5 +1,6 @@
--- What a file that was found is asked before it counts as the office's: no identity and no number of an entry is below zero.
-use Rattle.std.specs.Prelude.{◌≡◌, ℕ, pos, Bool, false, not, ◌&&◌, IsTrue, Result, IfOk, OnOk}
+-- What a file that was found is asked before it counts as the office's: no identity and no number
+-- of an entry is below zero, and of each order and each record its beginning of validity is told.
+use Rattle.std.specs.Prelude.{◌≡◌, ℕ, pos, Bool, true, false, not, ◌&&◌, find, is_some, List, [], IsTrue, Result, IfOk, OnOk}
 use Rattle.std.specs.List.{AllByRecursion}
 use Rattle.sqlite.specs.declared.types.Value.{Value}
 use Rattle.sqlite.specs.declared.types.Value.TheVariants.{Int}
@@ -11,7 +12,12 @@ use Rattle.sqlite.specs.Store.{Ghosts}
 use Rattle.sqlite.specs.Held.{Held, state}
 use Rattle.sqlite.specs.State.{State, HasCleanDisk, IsUnchanged, Survives}
 use Rattle.office_sql.specs.Change.{Rests}
-use Rattle.office_sql.specs.Schema.{office_schema}
+use Rattle.sqlite.specs.Effect.{Database, IsDatabase}
+use Rattle.office_sql.specs.Rows.{order_in, given_in, starts_order, starts_given}
+use Rattle.office_sql.specs.Tables.{AreOfficeRows, IsOffice}
+use Rattle.office_store.specs.declared.version.Version.{Version}
+use Rattle.office_store.specs.declared.version.Version.TheVariants.{First, Second}
+use Rattle.office_store.specs.Versions.{schema_of}
 
 -- as SQL sees it
 abbrev pub is_below : Value → Bool
@@ -25,9 +31,38 @@ pub record HasWhole (trees : Trees) : Type 0 where
   pub entries : AllByRecursion (IsNotBelow 0) (trees 15)
   pub numbers : AllByRecursion (IsNotBelow 4) (trees 15)
 
--- an open connection has the schema of the office
+-- an open connection has the schema of a version
 abbrev pub HasSchema : State → Type 0
-HasSchema s = IsTrue s.is_open → s.now.schema ≡ office_schema
+HasSchema s = IsTrue s.is_open → (version : Version) × (s.now.schema ≡ schema_of version)
+
+-- one of the starts, at least, is for the row
+abbrev pub HasStart : {A : Type 0} → (A → Row → Bool) → (Row → A) → List Row → Row → Type 0
+HasStart is_for value starts r = is_some (find (is_for (value r)) starts) ≡ true
+
+abbrev pub HaveStarts : {A : Type 0} → (A → Row → Bool) → (Row → A) → List Row → List Row → Type 0
+HaveStarts is_for value rows starts = AllByRecursion (HasStart is_for value starts) rows
+
+-- each order and each record has its beginning of validity told
+pub record HasStarts (trees : Trees) : Type 0 where
+  pub orders : HaveStarts starts_order order_in (trees 7) (trees 17)
+  pub given : HaveStarts starts_given given_in (trees 11) (trees 19)
+
+-- beside the office's rows: in the first version no beginning of validity is told, and in the
+-- second, where none lacks, all is as the office has it
+abbrev pub AreStartsFound : Version → Database → Type 0
+AreStartsFound First db = (db.trees 17 ≡ []) × (db.trees 19 ≡ [])
+AreStartsFound Second db = HasStarts db.trees → IsOffice db
+
+-- a database of a version, with the office's rows
+pub record IsFound (version : Version) (db : Database) : Type 0 where
+  pub schema : db.schema ≡ schema_of version
+  pub sound : IsDatabase db
+  pub rows : AreOfficeRows db.trees
+  pub starts : AreStartsFound version db
+
+-- an open connection sees a database of which this is so
+abbrev pub Sees : (Database → Type 0) → State → Type 0
+Sees Says s = IsTrue s.is_open → Says s.now
 
 -- a test: an answer says this of the trees, nothing is changed, and a crash leaves nothing new
 pub record Tests {S A E : Type 0} (g : Ghosts S) (old new : Held S) (result : Result A E) (Says : Trees → A → Type 0) : Type 0 where

@@ -7,6 +7,8 @@ pub mod Written
 pub mod Faults
 pub mod Adopting
 pub mod Found
+pub mod Versions
 pub mod Meta
 pub mod Described
 pub mod Opening
+pub mod Upgrading

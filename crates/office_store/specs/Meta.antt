@@ -1,5 +1,5 @@
 -- What the table meta tells of a store, and a store whose tables are new.
-use Rattle.std.specs.Prelude.{◌≡◌, ◌≢◌, ℕ, length, take, List, [], ◌∷◌, Option, Some, None, map, IsPermutation, IsTrue, Ok}
+use Rattle.std.specs.Prelude.{◌≡◌, ◌≢◌, ℕ, length, List, [], ◌∷◌, Option, Some, None, map, IsPermutation, IsTrue, Ok}
 use Rattle.std.specs.List.{AllByRecursion}
 use Rattle.sqlite.specs.Order.{Row, column, bytes}
 use Rattle.sqlite.specs.Tree.{Trees}
@@ -8,7 +8,9 @@ use Rattle.sqlite.specs.Effect.{Database}
 use Rattle.sqlite.specs.State.{State, Executes}
 use Rattle.office_tables.specs.Tables.{no_rows}
 use Rattle.office_store.specs.declared.meta.Meta.{Meta}
-use Rattle.office_sql.specs.Schema.{office_schema}
+use Rattle.office_store.specs.declared.version.Version.{Version}
+use Rattle.office_store.specs.declared.version.Version.TheVariants.{Second}
+use Rattle.office_store.specs.Versions.{first_tables, number_of}
 use Rattle.office_sql.specs.Values.{number_in}
 use Rattle.office_sql.specs.Tables.{IsBlob, IsOffice, tables_in}
 
@@ -28,22 +30,27 @@ pub record ShowMeta (db : Trees) (rows : List Row) : Type 0 where
   pub metas : IsPermutation (metas_in db) (map meta_of rows)
   pub blobs : AllByRecursion (IsBlob 2) rows
 
+-- the row by which a store of a version tells of itself
+abbrev pub meta_of_version : Version → List ℕ → Meta
+meta_of_version version site = record { id = 1; schema = number_of version; site = site }
+
 -- the row that a new store has
 abbrev pub new_meta : List ℕ → Meta
-new_meta site = record { id = 1; schema = 1; site = site }
+new_meta = meta_of_version Second
 
--- whatever the site, which is 32 bytes, they aren't the one row of its store
-abbrev pub TellNoSite : List Meta → Type 0
-TellNoSite metas = (site : List ℕ) → length site ≡ 32 → metas ≢ new_meta site ∷ []
+-- the store has one row of meta, of this version and this site
+abbrev pub IsTold : Version → List ℕ → Trees → Type 0
+IsTold version site db = metas_in db ≡ meta_of_version version site ∷ []
+
+-- whatever the site, which is 32 bytes, they aren't the one row of its store of this version
+abbrev pub TellNoSite : Version → List Meta → Type 0
+TellNoSite version metas =
+    (site : List ℕ) → length site ≡ 32 → metas ≢ meta_of_version version site ∷ []
 
 -- what was read of them: the one row, or none where they tell no site
 abbrev pub IsMetaOf : List Meta → Option Meta → Type 0
 IsMetaOf metas (Some meta) = metas ≡ meta ∷ []
-IsMetaOf metas None = TellNoSite metas
-
--- the first tables of the office with their indexes
-abbrev pub first_tables : ℕ → ℕ → Schema
-first_tables tables indexes = record { tables = take tables office_schema.tables; indexes = take indexes office_schema.indexes; views = [] }
+IsMetaOf metas None = (version : Version) → TellNoSite version metas
 
 -- meta, seat, map and link
 abbrev pub half_schema : Schema

@@ -1,29 +1,28 @@
 // How a connection becomes a keeper.
-ghost use Rattle.std.specs.Prelude.{◌≡◌, ◌≢◌, ◌↔◌, ℕ, length, List, false, Some, IsTrue, IfOk, IfErr, OnOk};
-ghost use Rattle.sqlite.specs.State.{HasCleanDisk, Survives};
+ghost use Rattle.std.specs.Prelude.{◌≡◌, ◌≢◌, ◌↔◌, ℕ, length, List, Some, IsTrue, IfOk, IfErr, OnOk};
+ghost use Rattle.sqlite.specs.State.{HasCleanDisk};
 ghost use Rattle.sqlite.specs.Held.{state};
-ghost use Rattle.office_sql.specs.Schema.{no_schema, office_schema};
-ghost use Rattle.office_sql.specs.Keeping.{IsReady};
+ghost use Rattle.office_sql.specs.Schema.{no_schema};
 ghost use Rattle.office_sql.specs.Tables.{tables_in};
-ghost use Rattle.office_store.specs.Adopting.{CanSettle, HandedLeaves, HasOtherTables, IsHandedFor, IsOurs, LeavesAtMost, Settles};
-ghost use Rattle.office_store.specs.Meta.{new_meta};
+ghost use Rattle.office_store.specs.Adopting.{CanSettle, Examines, HandedKeeps, HandedLeaves, IsFoundAt, IsHandedFor, IsOurs, LeavesAtMost, Settles, StaysUnstarted};
+ghost use Rattle.office_store.specs.Found.{HasStarts, IsFound};
+ghost use Rattle.office_store.specs.Meta.{meta_of_version, IsTold};
+ghost use Rattle.office_store.specs.Upgrading.{CanUpgrade};
+ghost use Rattle.office_store.specs.Versions.{schema_of};
 ghost use Rattle.office_store.specs.declared.fault.OpenFault.TheVariants.{OtherSite as TheSite, OtherTables as TheTables};
+ghost use Rattle.office_store.specs.declared.version.Version.TheVariants.{First, Second};
 
 use crate::create::make_tables;
 use crate::fault::OpenFault;
-use crate::found::{has_whole_numbers, reread};
+use crate::found::{has_starts, has_whole_numbers, reread};
 use crate::keep::SqlKeep;
-use crate::meta::{Meta, meta_row};
-use crate::schema::{is_empty_schema, is_office};
+use crate::meta::{META_ID, Meta, meta_row};
+use crate::schema::{is_empty_schema, version_of};
+use crate::upgrade::upgrade_tables;
+use crate::version::Version;
 use sqlite::{Alter, Connection};
 use std::alloc::Global;
 use text_core::Digest;
-
-/// The number of the one row of `meta`.
-const META_ID: u64 = 1;
-
-/// The number of the tables' schema.
-const SCHEMA: u64 = 1;
 
 /// What is handed back with a fault.
 #[derive(Drop)]
@@ -34,24 +33,26 @@ pub enum Handed<S: Alter> {
     Store(S),
 }
 
-/// Whether what a store tells of itself is this schema.
-fn is_of_schema(meta: &Meta) -> bool
-    ensures { IsTrue result ↔ (meta.now ≡ new_meta meta.now.site) }
+/// Whether what a store tells of itself is this version.
+fn is_of_version(meta: &Meta, version: Version) -> bool
+    ensures { IsTrue result ↔ (meta.now ≡ meta_of_version version meta.now.site) }
 {
-    meta.id == META_ID && meta.schema == SCHEMA
+    meta.id == META_ID && meta.schema == u64::from(version.number())
 }
 
-/// Whether what a store tells of itself is this schema and this site.
-fn judge_meta(meta: Option<Meta>, site: &Digest) -> Result<(), OpenFault>
-    ensures ours { OnOk result (meta ≡ Some (new_meta site.now)) }
+/// Whether what a store tells of itself is this version and this site.
+fn judge_meta(meta: Option<Meta>, site: &Digest, version: Version) -> Result<(), OpenFault>
+    ensures ours { OnOk result (meta ≡ Some (meta_of_version version site.now)) }
     ensures other_site { IfErr result (λ fault. fault ≡ TheSite
-        → (other : List ℕ) × (length other ≡ 32) × (meta ≡ Some (new_meta other)) × (other ≢ site.now)) }
-    ensures other_tables { IfErr result (λ fault. fault ≡ TheTables → (other : List ℕ) → meta ≢ Some (new_meta other)) }
+        → (other : List ℕ) × (length other ≡ 32)
+        × (meta ≡ Some (meta_of_version version other)) × (other ≢ site.now)) }
+    ensures other_tables { IfErr result (λ fault. fault ≡ TheTables
+        → (other : List ℕ) → meta ≢ Some (meta_of_version version other)) }
 {
     let Some(meta) = meta else {
         return Err(OpenFault::OtherTables);
     };
-    if !is_of_schema(&meta) {
+    if !is_of_version(&meta, version) {
         return Err(OpenFault::OtherTables);
     }
     if meta.site != *site {
@@ -72,18 +73,11 @@ fn make<S: Alter>(conn: &mut Connection<S>, site: &Digest) -> Result<(), OpenFau
     }
 }
 
-/// Tests the numbers of a store that has the tables.
-fn test_numbers<S: Alter>(conn: &mut Connection<S>) -> Result<(), OpenFault>
+/// Tests the numbers of a store that has the tables of a version.
+fn test_numbers<S: Alter>(conn: &mut Connection<S>, version: Version) -> Result<(), OpenFault>
     requires can { CanSettle (state S.Store conn.old) }
-    requires has { (state S.Store conn.old).now.schema ≡ office_schema }
-    ensures mode { conn.new.in_transaction ≡ false }
-    ensures ready { HasCleanDisk (state S.Store conn.new) → OnOk result (IsTrue (state S.Store conn.new).is_open × IsReady (state S.Store conn.new)) }
-    ensures kept { HasCleanDisk (state S.Store conn.new) → OnOk result (tables_in (state S.Store conn.new).now.trees ≡ tables_in (state S.Store conn.old).now.trees) }
-    ensures schema { IsTrue (state S.Store conn.new).is_open → (state S.Store conn.new).now.schema ≡ office_schema }
-    ensures never { IfErr result (λ fault. fault ≢ TheSite) }
-    ensures other_tables { HasCleanDisk (state S.Store conn.new)
-        → IfErr result (λ fault. fault ≡ TheTables → HasOtherTables (state S.Store conn.new).now) }
-    ensures crash { Survives (state S.Store conn.old) (state S.Store conn.new) (λ _. ⊥) }
+    requires has { (state S.Store conn.old).now.schema ≡ schema_of version }
+    ensures { (site : List ℕ) → Examines S.Store site conn.old conn.new result (IsFound version) }
 {
     match has_whole_numbers(conn) {
         Ok(true) => Ok(()),
@@ -92,18 +86,86 @@ fn test_numbers<S: Alter>(conn: &mut Connection<S>) -> Result<(), OpenFault>
     }
 }
 
-/// Tests whose site a store that is ready is of.
-fn test_site<S: Alter>(conn: &mut Connection<S>, site: &Digest) -> Result<(), OpenFault>
-    requires ready { IsReady (state S.Store conn.old) }
-    ensures { Settles S.Store site.now conn.old conn.new result }
+/// Tests whose site a store of a version is of.
+fn test_site<S: Alter>(
+    conn: &mut Connection<S>,
+    site: &Digest,
+    version: Version,
+) -> Result<(), OpenFault>
+    requires found { IsFoundAt version (state S.Store conn.old) }
+    ensures { Examines S.Store site.now conn.old conn.new result
+        (λ db. IsTold version site.now db.trees) }
 {
     match meta_row(conn) {
-        Ok(meta) => judge_meta(meta, site),
+        Ok(meta) => judge_meta(meta, site, version),
         Err(_) => Err(OpenFault::Failed),
     }
 }
 
-/// Makes the tables of a store that has none, or tests those that are there.
+/// Tests a store that has the tables of a version: its numbers, and whose site it is of.
+fn test_tables<S: Alter>(
+    conn: &mut Connection<S>,
+    site: &Digest,
+    version: Version,
+) -> Result<(), OpenFault>
+    requires can { CanSettle (state S.Store conn.old) }
+    requires has { (state S.Store conn.old).now.schema ≡ schema_of version }
+    ensures { Examines S.Store site.now conn.old conn.new result
+        (λ db. IsFound version db × IsTold version site.now db.trees) }
+{
+    test_numbers(conn, version)?;
+    test_site(conn, site, version)
+}
+
+/// Tests that of each order and each record its beginning of validity is told.
+fn test_starts<S: Alter>(conn: &mut Connection<S>) -> Result<(), OpenFault>
+    requires { IsFoundAt Second (state S.Store conn.old) }
+    ensures { (site : List ℕ)
+        → (HasCleanDisk (state S.Store conn.old)
+        → IsTold Second site (state S.Store conn.old).now.trees)
+        → Examines S.Store site conn.old conn.new result (λ db. HasStarts db.trees) }
+{
+    match has_starts(conn) {
+        Ok(true) => Ok(()),
+        Ok(false) => Err(OpenFault::OtherTables),
+        Err(_) => Err(OpenFault::Failed),
+    }
+}
+
+/// Makes a store of the first version one of the second.
+fn upgrade<S: Alter>(conn: &mut Connection<S>) -> Result<(), OpenFault>
+    requires found { IsFoundAt First (state S.Store conn.old) }
+    requires can { CanUpgrade (state S.Store conn.old) }
+    ensures { (site : List ℕ)
+        → (HasCleanDisk (state S.Store conn.old)
+        → IsTold First site (state S.Store conn.old).now.trees)
+        → Settles S.Store site conn.old conn.new result }
+{
+    match upgrade_tables(conn) {
+        Ok(()) => Ok(()),
+        Err(_) => Err(OpenFault::Failed),
+    }
+}
+
+/// Tests a store that has the tables of a version, and upgrades one of the first.
+fn find<S: Alter>(
+    conn: &mut Connection<S>,
+    site: &Digest,
+    version: Version,
+) -> Result<(), OpenFault>
+    requires can { CanSettle (state S.Store conn.old) }
+    requires has { (state S.Store conn.old).now.schema ≡ schema_of version }
+    ensures { Settles S.Store site.now conn.old conn.new result }
+{
+    test_tables(conn, site, version)?;
+    match version {
+        Version::First => upgrade(conn),
+        Version::Second => test_starts(conn),
+    }
+}
+
+/// Makes the tables of a store that has none, or tests those that are there, and upgrades those of
+/// the first version.
 pub(crate) fn settle<S: Alter>(conn: &mut Connection<S>, site: &Digest) -> Result<(), OpenFault>
     requires { CanSettle (state S.Store conn.old) }
     ensures { Settles S.Store site.now conn.old conn.new result }
@@ -111,25 +173,15 @@ pub(crate) fn settle<S: Alter>(conn: &mut Connection<S>, site: &Digest) -> Resul
     if is_empty_schema(conn.schema()) {
         return make(conn, site);
     }
-    if !is_office(conn.schema()) {
-        return Err(OpenFault::OtherTables);
+    match version_of(conn.schema()) {
+        Some(version) => find(conn, site, version),
+        None => Err(OpenFault::OtherTables),
     }
-    find(conn, site)
-}
-
-/// Tests a store that has the tables.
-fn find<S: Alter>(conn: &mut Connection<S>, site: &Digest) -> Result<(), OpenFault>
-    requires can { CanSettle (state S.Store conn.old) }
-    requires has { (state S.Store conn.old).now.schema ≡ office_schema }
-    ensures { Settles S.Store site.now conn.old conn.new result }
-{
-    test_numbers(conn)?;
-    test_site(conn, site)
 }
 
 /// Makes a keeper of a connection to the store of a site, which the SHA-256 of its text names: it
-/// makes the tables of an empty store, in one transaction, and tests those of another. What isn't
-/// committed is lost.
+/// makes the tables of an empty store, in one transaction, and tests those of another. To those of
+/// the first version it adds what they lack, in one transaction too. What isn't committed is lost.
 ///
 /// # Errors
 ///
@@ -144,8 +196,12 @@ pub fn adopt<S: Alter + Drop>(
     ensures ours { IfOk result (λ keep. HasCleanDisk (state S.Store keep.conn) → IsOurs site.now (state S.Store keep.conn).now.trees) }
     ensures clean { IfOk result (λ keep. HasCleanDisk (state S.Store keep.conn) → HasCleanDisk (state S.Store conn)) }
     ensures kept { IfOk result (λ keep. HasCleanDisk (state S.Store keep.conn) → tables_in (state S.Store keep.conn).now.trees ≡ tables_in (state S.Store conn).committed.trees) }
+    ensures unstarted { IfOk result (λ keep. HasCleanDisk (state S.Store keep.conn)
+        → StaysUnstarted site.now (state S.Store conn).committed.trees
+        (tables_in (state S.Store keep.conn).now.trees)) }
     ensures crash { IfOk result (λ keep. HasCleanDisk (state S.Store keep.conn) → LeavesAtMost site.now (state S.Store conn) (state S.Store keep.conn)) }
     ensures refused { IfErr result (λ e. IsHandedFor S.Store site.now e.0 e.1) }
+    ensures unchanged { IfErr result (λ e. HandedKeeps S.Store (state S.Store conn) e.1) }
     ensures crash_left { IfErr result (λ e. HandedLeaves S.Store site.now (state S.Store conn) e.1) }
 {
     let mut conn = match reread(alloc, conn) {

@@ -10,7 +10,8 @@ pub enum OpenFault {
     /// The store is of another site.
     #[error("the store is of another site")]
     OtherSite,
-    /// The store has other tables than this schema's, or tells of another schema.
+    /// The store has other tables than those of a version, tells of another one, or doesn't tell
+    /// the beginning of validity of an order or a record.
     #[error("the store has other tables")]
     OtherTables,
     /// The store failed, or there is no memory.

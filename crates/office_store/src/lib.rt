@@ -13,6 +13,8 @@ mod opening;
 mod places;
 mod remembered;
 mod schema;
+mod upgrade;
+mod version;
 mod written;
 
 pub use adopting::{Handed, adopt};

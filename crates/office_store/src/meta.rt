@@ -3,14 +3,18 @@ ghost use Rattle.std.specs.Prelude.{◌≡◌, ◌≢◌, [], ◌∷◌, length,
 ghost use Rattle.std.specs.List.{AllByRecursion};
 ghost use Rattle.sqlite.specs.Held.{state};
 ghost use Rattle.sqlite.specs.Order.{bytes, column};
-ghost use Rattle.office_sql.specs.Asking.{Asks, HasOffice};
 ghost use Rattle.office_sql.specs.Tables.{IsBlob};
 ghost use Rattle.office_sql.specs.Values.{number_in};
+ghost use Rattle.office_store.specs.Found.{IsFound, Sees, Tests};
 ghost use Rattle.office_store.specs.Meta.{meta_of, metas_in, IsMetaOf, ShowMeta, TellNoSite};
+ghost use Rattle.office_store.specs.declared.version.Version.{Version};
 
 use sqlite::types::ValueRef;
 use sqlite::{Alter, Connection, Error, Row};
 use text_core::Digest;
+
+/// The number of the one row of `meta`.
+pub(crate) const META_ID: u64 = 1;
 
 /// What a store tells of itself: the row's own number, the number of the schema, and whose site it
 /// is of.
@@ -22,8 +26,8 @@ pub struct Meta {
 }
 
 fn meta_rows<S: Alter>(conn: &mut Connection<S>) -> Result<Vec<Row>, Error>
-    requires { HasOffice (state S.Store conn.old) }
-    ensures { Asks S.Store conn.old conn.new result (λ _ rows. ShowMeta (state S.Store conn.old).now.trees rows.items) }
+    requires { (version : Version) × Sees (IsFound version) (state S.Store conn.old) }
+    ensures { Tests S.Store conn.old conn.new result (λ db rows. ShowMeta db rows.items) }
 {
     conn.query_all("SELECT id, schema, site FROM meta ORDER BY id", &[])
 }
@@ -56,7 +60,8 @@ fn site_at(row: &Row, at: usize) -> Option<Digest>
 /// A row of `meta`, if each column is of its form.
 fn read_meta(row: &Row) -> Option<Meta>
     ensures some { IfSome result (λ meta. meta ≡ meta_of row.now) }
-    ensures none { IfNone result (IsBlob 2 row.now → TellNoSite (meta_of row.now ∷ [])) }
+    ensures none { IfNone result (IsBlob 2 row.now
+        → (version : Version) → TellNoSite version (meta_of row.now ∷ [])) }
 {
     Some(Meta {
         id: number_at(row, 0)?,
@@ -68,7 +73,8 @@ fn read_meta(row: &Row) -> Option<Meta>
 /// The row of `meta`, if there is one and no other, and each column is of its form.
 fn only_meta(rows: &[Row]) -> Option<Meta>
     ensures some { IfSome result (λ meta. map meta_of rows.now ≡ meta ∷ []) }
-    ensures none { IfNone result (AllByRecursion (IsBlob 2) rows.now → TellNoSite (map meta_of rows.now)) }
+    ensures none { IfNone result (AllByRecursion (IsBlob 2) rows.now
+        → (version : Version) → TellNoSite version (map meta_of rows.now)) }
 {
     match rows {
         [row] => read_meta(row),
@@ -78,8 +84,8 @@ fn only_meta(rows: &[Row]) -> Option<Meta>
 
 /// What the store tells of itself, if `meta` has one row, of which each column is of its form.
 pub fn meta_row<S: Alter>(conn: &mut Connection<S>) -> Result<Option<Meta>, Error>
-    requires { HasOffice (state S.Store conn.old) }
-    ensures { Asks S.Store conn.old conn.new result (λ _ meta. IsMetaOf (metas_in (state S.Store conn.old).now.trees) meta) }
+    requires { (version : Version) × Sees (IsFound version) (state S.Store conn.old) }
+    ensures { Tests S.Store conn.old conn.new result (λ db meta. IsMetaOf (metas_in db) meta) }
 {
     let rows = meta_rows(conn)?;
     Ok(only_meta(rows.as_slice()))

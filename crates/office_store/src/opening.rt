@@ -1,12 +1,12 @@
 // A store in files.
 ghost use Rattle.std.specs.Prelude.{◌≡◌, codes, IsTrue, IfOk};
-ghost use Rattle.sqlite.specs.Files.{file_state};
+ghost use Rattle.sqlite.specs.Files.{file_state, HoldsDatabase};
 ghost use Rattle.sqlite.specs.Tree.{Trees};
 ghost use Rattle.sqlite.specs.Held.{state};
 ghost use Rattle.sqlite.specs.State.{HasCleanDisk};
 ghost use Rattle.sqlite.specs.WalFiles.{image_at};
 ghost use Rattle.office_sql.specs.Tables.{tables_in};
-ghost use Rattle.office_store.specs.Adopting.{CanSettle, IsOurs};
+ghost use Rattle.office_store.specs.Adopting.{CanSettle, IsOurs, StaysUnstarted};
 ghost use Rattle.office_store.specs.Opening.{HasTablesOf};
 
 use crate::adopting::settle;
@@ -29,6 +29,9 @@ fn settle_or_close<S: Alter + Drop>(
     ensures ours { IfOk result (λ keep. HasCleanDisk (state S.Store keep.conn) → IsOurs site.now (state S.Store keep.conn).now.trees) }
     ensures clean { IfOk result (λ keep. HasCleanDisk (state S.Store keep.conn) → HasCleanDisk (state S.Store conn)) }
     ensures kept { IfOk result (λ keep. HasCleanDisk (state S.Store keep.conn) → tables_in (state S.Store keep.conn).now.trees ≡ tables_in (state S.Store conn).now.trees) }
+    ensures unstarted { IfOk result (λ keep. HasCleanDisk (state S.Store keep.conn)
+        → StaysUnstarted site.now (state S.Store conn).now.trees
+        (tables_in (state S.Store keep.conn).now.trees)) }
     ensures left { IfOk result (λ keep. HasCleanDisk (state S.Store keep.conn) → (db : Trees) → (state S.Store keep.conn).may_leave db → db ≡ (state S.Store keep.conn).now.trees) }
 {
     match settle(&mut conn, site) {
@@ -39,7 +42,8 @@ fn settle_or_close<S: Alter + Drop>(
 
 /// Opens the store of a site, which the SHA-256 of its text names: the database in the file at this
 /// path, with the log beside it in `<path>-wal`. Where there are no such files it makes them. An
-/// empty database gets the tables of the office, and one that has them must be of this site.
+/// empty database gets the tables of the office, and one that has them must be of this site; to
+/// those of the first version it adds what they lack.
 /// `start` stands for what the files held before, of which the clauses speak, and says how a crash
 /// is read: a program passes `Unknown`, which supposes that a torn write leaves each byte old or
 /// new, or `Wary`, which supposes less.
@@ -60,6 +64,9 @@ pub fn open<S: Start>(
     ensures open { IfOk result (λ keep. HasCleanDisk (file_state keep.conn) → IsTrue (file_state keep.conn).is_open) }
     ensures ours { IfOk result (λ keep. HasCleanDisk (file_state keep.conn) → IsOurs site.now (file_state keep.conn).now.trees) }
     ensures tables { IfOk result (λ keep. HasCleanDisk (file_state keep.conn) → HasTablesOf (image_at S.Start) (tables_in (file_state keep.conn).now.trees)) }
+    ensures unstarted { IfOk result (λ keep. HasCleanDisk (file_state keep.conn)
+        → (db : Trees) → HoldsDatabase (image_at S.Start) db
+        → StaysUnstarted site.now db (tables_in (file_state keep.conn).now.trees)) }
     ensures left { IfOk result (λ keep. HasCleanDisk (file_state keep.conn) → (db : Trees) → (file_state keep.conn).may_leave db → db ≡ (file_state keep.conn).now.trees) }
     ensures memory { path.now ≡ codes ":memory:" → result ≡ Err OpenFault.Failed }
 {

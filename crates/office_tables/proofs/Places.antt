@@ -1,6 +1,7 @@
 -- The places of an order, counted device by device, and the key under which they are counted.
 use mathlib.Core.Path.{fun_ext}
-use Rattle.std.proofs.Common.{◌≡◌, ◌+◌, ◌∙◌, ℕ, arith, true, false, Bool, cond, List, [], ◌∷◌, Option, Some, None, Ordering, Less, Equal, Greater, refl, sym, ap}
+use Rattle.std.proofs.Common.{◌≡◌, ◌+◌, ◌∙◌, ℕ, arith, true, false, Bool, cond, List, [], ◌∷◌, Option, Some, None, Ordering, Less, Equal, Greater, refl, sym}
+use Rattle.std.proofs.Common.{ap}
 use Rattle.std.specs.List.{AllByRecursion}
 use Rattle.std.specs.Prelude.{◌&&◌, bytes_eq, filter, find, map, not}
 use Rattle.std.specs.BTreeMap.{is_at}
@@ -42,11 +43,14 @@ same_both_ways a b =
     ] refl
 
 -- a row has a device's key where it is the customer's device of the chip
-pub same_device : (customer chip : List ℕ) → (λ (d : Owned Device). is_eq (ordering_then (text_cmp customer d.customer) (text_cmp chip d.row.chip))) ≡ is_device customer chip
-same_device customer chip = fun_ext (λ d. both_equal (text_cmp customer d.customer) (text_cmp chip d.row.chip) ∙ rw (texts_ties customer d.customer, texts_ties chip d.row.chip) refl)
+pub same_device : (customer chip : List ℕ) → (λ (d : Owned Device). is_eq (ordering_then (text_cmp customer d.customer) (text_cmp chip d.row.chip)))
+    ≡ is_device customer chip
+same_device customer chip =
+    fun_ext (λ d. both_equal (text_cmp customer d.customer) (text_cmp chip d.row.chip) ∙ rw (texts_ties customer d.customer, texts_ties chip d.row.chip) refl)
 
 -- the first row with a device's key
-pub find_device : (customer chip : List ℕ) (rows : List (Owned Device)) → find (λ d. is_eq (ordering_then (text_cmp customer d.customer) (text_cmp chip d.row.chip))) rows ≡ find (is_device customer chip) rows
+pub find_device : (customer chip : List ℕ) (rows : List (Owned Device)) → find (λ d.
+    is_eq (ordering_then (text_cmp customer d.customer) (text_cmp chip d.row.chip))) rows ≡ find (is_device customer chip) rows
 find_device customer chip rows = ap (λ (test : Owned Device → Bool). find test rows) (same_device customer chip)
 
 -- a key of two texts is found by both
@@ -56,7 +60,8 @@ at_key customer order c o =
     ∙ rw (← (texts_ties customer c), ← (texts_ties order o), same_both_ways c customer, same_both_ways o order) refl
 
 -- the order of a device stands at its key
-pub at_order : (d : Owned Device) (customer order : List ℕ) → is_at (text_pair_cmp (d.customer, d.row.order)) (customer, order) ≡ (is_of customer d && bytes_eq order d.row.order)
+pub at_order : (d : Owned Device) (customer order : List ℕ) → is_at (text_pair_cmp (d.customer, d.row.order)) (customer, order)
+    ≡ (is_of customer d && bytes_eq order d.row.order)
 at_order d customer order = at_key d.customer d.row.order customer order
 
 -- no place is taken by one that is given up
@@ -85,13 +90,15 @@ abbrev pub places : List ℕ → List ℕ → List (Owned Device) → ℕ
 places customer order rows = places_taken order (own customer rows)
 
 one : (is takes : Bool) (d : Device) (order : List ℕ) (later : List (Owned Device)) (customer : List ℕ) → takes_place order d ≡ takes
-    → places_taken order (map (λ (o : Owned Device). o.row) (cond is (record { customer = customer; row = d } ∷ later) later)) ≡ cond (is && takes) 1 0 + places_taken order (map (λ (o : Owned Device). o.row) later)
+    → places_taken order (map (λ (o : Owned Device). o.row) (cond is (record { customer = customer; row = d } ∷ later) later))
+    ≡ cond (is && takes) 1 0 + places_taken order (map (λ (o : Owned Device). o.row) later)
 one true true d order later customer e = rw e (omega arith)
 one true false d order later customer e = rw e (omega arith)
 one false takes d order later customer e = omega arith
 
 -- the first device and the others
-pub first_and_others : (customer order : List ℕ) (d : Owned Device) (rows : List (Owned Device)) → places customer order (d ∷ rows) ≡ place_of customer order d + places customer order rows
+pub first_and_others : (customer order : List ℕ) (d : Owned Device) (rows : List (Owned Device))
+    → places customer order (d ∷ rows) ≡ place_of customer order d + places customer order rows
 first_and_others customer order d rows = one (is_of customer d) (takes_place order d.row) d.row order (filter (is_of customer) rows) d.customer refl
 
 none_after : {A : Type 0} (cmp : A → A → Ordering) (x : A) (ys : List A) → AllByRecursion (λ y. cmp x y ≡ Less) ys → find (λ y. is_eq (cmp x y)) ys ≡ None
@@ -109,7 +116,8 @@ module _ (customer order : List ℕ) where
       → places customer order (placed cmp d rows) + taken_by (find (λ y. is_eq (cmp d y)) rows) ≡ places customer order rows + place_of customer order d
   places_put cmp total d [] o = let split = first_and_others customer order d [] in omega (arith, split)
   places_put cmp total d (y ∷ ys) o =
-      elim (cmp d y) as (λ r. cmp d y ≡ r → places customer order (match_ordering r (d ∷ y ∷ ys) (d ∷ ys) (y ∷ placed cmp d ys)) + taken_by (cond (is_eq r) (Some y) (find (λ z. is_eq (cmp d z)) ys))
+      elim (cmp d y) as (λ r. cmp d y ≡ r → places customer order (match_ordering r (d ∷ y ∷ ys) (d ∷ ys) (y ∷ placed cmp d ys)) + taken_by
+      (cond (is_eq r) (Some y) (find (λ z. is_eq (cmp d z)) ys))
       ≡ places customer order (y ∷ ys) + place_of customer order d) [
         | Less ↦ λ e.
             let none = none_after cmp d ys (all_map (λ z. cmp y z ≡ Less) (λ z. cmp d z ≡ Less) (λ z l. total.trans d y z e l) ys o.0) in

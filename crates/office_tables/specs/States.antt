@@ -2,7 +2,8 @@
 use Rattle.std.specs.Prelude.{◌==◌, ℕ, Bool, List}
 use Rattle.std.specs.List.{list_any}
 use Rattle.office_tables.specs.declared.rows.DeviceState.{DeviceState}
-use Rattle.office_tables.specs.declared.rows.DeviceState.TheVariants.{Registered, AwaitingFirst, AwaitingSecond, Settled, Identified, Shipped, Quarantined, Scrapped}
+use Rattle.office_tables.specs.declared.rows.DeviceState.TheVariants.{Registered, AwaitingFirst, AwaitingSecond, Settled, Identified, Shipped, Quarantined}
+use Rattle.office_tables.specs.declared.rows.DeviceState.TheVariants.{Scrapped}
 
 -- the place of a state among all, whatever the reason of a quarantine
 abbrev pub state_number : DeviceState → ℕ

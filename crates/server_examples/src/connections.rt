@@ -12,7 +12,7 @@ use std::test::Fail;
 
 /// The reply to the order on a connection that ends with it.
 pub const ORDERED_LAST: &str =
-    "HTTP/1.1 200 OK\r\nContent-Type: application/json\r\nContent-Length: 114\r\nConnection: close\r\n\r\n{\"first\":998,\"issuer\":\"acme-ca\",\"mac\":null,\"macs\":0,\"name\":\"o1\",\"next\":\"A998\",\"prefix\":\"A\",\"quantity\":2,\"width\":3}";
+    "HTTP/1.1 200 OK\r\nContent-Type: application/json\r\nContent-Length: 132\r\nConnection: close\r\n\r\n{\"first\":998,\"issuer\":\"acme-ca\",\"mac\":null,\"macs\":0,\"name\":\"o1\",\"next\":\"A998\",\"not_before\":null,\"prefix\":\"A\",\"quantity\":2,\"width\":3}";
 
 /// Makes two connections, writes a head that doesn't end to the first and an order that ends its
 /// connection to the second, has both served, and reads what each gets.

@@ -6,7 +6,7 @@ use base_examples::conversations::exchanges;
 use base_examples::samples::SITE;
 use office_core::Keep;
 use office_store::{Handed, SqlKeep, adopt};
-use sqlite::{Connection, FileStore, Files, Options};
+use sqlite::{Alter, Connection, FileStore, Files, Options};
 use sqlite_disk::{Crash, Disk, Fuse, Memory};
 use std::alloc::Global;
 use std::test::Fail;
@@ -90,11 +90,30 @@ pub trait InFiles: Keep {
     /// opening left.
     fn opened(alloc: Global, store: &Store, stop: Stop) -> Result<Result<Self, Store>, Fail>;
 
+    /// The number that a query tells of files of these bytes once they are changed by SQL, and the bytes
+    /// that they leave where they are closed. Nothing else opens them.
+    fn changed(
+        alloc: Global,
+        store: &Store,
+        change: &str,
+        query: &str,
+    ) -> Result<(i64, Store), Fail>;
+
     /// The bytes that it leaves where it is closed, or none where that fails.
     fn closed(self, alloc: Global) -> Option<Store>;
 
     /// The bytes that it leaves where it is stopped, all that was written or what was synced alone.
     fn stopped(self, alloc: Global, loses_unsynced: bool) -> Option<Store>;
+}
+
+/// The number that a query tells of a database once it is changed by SQL.
+fn number_after<S: Alter>(
+    conn: &mut Connection<S>,
+    change: &str,
+    query: &str,
+) -> Result<i64, Fail> {
+    conn.execute_batch(change)?;
+    Ok(conn.query_row(query, &[])?.get(0)?)
 }
 
 /// What is left of a store to which no keeper is had.
@@ -124,6 +143,27 @@ impl InFiles for SqlFiles {
             Err((_, left)) => Store::left_of(alloc, left.into_files(), stop.loses_unsynced),
         };
         Ok(Err(left.ok_or("no memory for what is left")?))
+    }
+
+    fn changed(
+        alloc: Global,
+        store: &Store,
+        change: &str,
+        query: &str,
+    ) -> Result<(i64, Store), Fail> {
+        let files = Files {
+            log: file_of(alloc, store.log.as_slice(), NO_STOP.log_calls)?,
+            db: file_of(alloc, store.file.as_slice(), NO_STOP.file_calls)?,
+        };
+        let Ok(mut conn) = Connection::open_files(alloc, files, Options::new(7)) else {
+            return Err(Fail::from("the files aren't opened"));
+        };
+        let number = number_after(&mut conn, change, query);
+        let left = match conn.close_files() {
+            Ok(files) => Store::of(alloc, &files),
+            Err((_, store)) => Store::of(alloc, &store.close()),
+        };
+        Ok((number?, left.ok_or("no memory for what is left")?))
     }
 
     fn closed(self, alloc: Global) -> Option<Store> {

@@ -23,9 +23,9 @@ a1 POST /v1/map {"nr":1,"text":"$MAP"}
 b1 POST /v1/map {"nr":1,"text":"$MAP"}
 200 {"map":"$DIGEST"}
 a1 POST /v1/order {"nr":2,"name":"o1","issuer":"acme-ca","prefix":"A","width":3,"first":998,"quantity":2,"macs":0}
-200 {"first":998,"issuer":"acme-ca","mac":null,"macs":0,"name":"o1","next":"A998","prefix":"A","quantity":2,"width":3}
+200 {"first":998,"issuer":"acme-ca","mac":null,"macs":0,"name":"o1","next":"A998","not_before":null,"prefix":"A","quantity":2,"width":3}
 b1 POST /v1/order {"nr":2,"name":"o1","issuer":"bolt-ca","prefix":"B","width":3,"first":998,"quantity":2,"macs":0}
-200 {"first":998,"issuer":"bolt-ca","mac":null,"macs":0,"name":"o1","next":"B998","prefix":"B","quantity":2,"width":3}
+200 {"first":998,"issuer":"bolt-ca","mac":null,"macs":0,"name":"o1","next":"B998","not_before":null,"prefix":"B","quantity":2,"width":3}
 a1 POST /v1/device {"nr":3,"chip":"00000000000a","order":"o1","map":"$DIGEST","blocks":<>}
 200 {"bits":[],"chip":"00000000000a","keys":{},"map":"$DIGEST","order":"o1","pending":{"batch1":$NONE,"batch2":$NONE},"reason":null,"serial":null,"state":"registered"}
 b1 POST /v1/device {"nr":3,"chip":"00000000000b","order":"o1","map":"$DIGEST","blocks":<3.7=80000000>}
@@ -46,7 +46,7 @@ const ORDER_LIMIT: u64 = 4096;
 /// An order of acme's, in which `#` stands for its number.
 const NUMBERED: &str = r#"
 a1 POST /v1/order {"nr":#,"name":"o#","issuer":"acme-ca","prefix":"A#","width":1,"first":0,"quantity":1,"macs":0}
-200 {"first":0,"issuer":"acme-ca","mac":null,"macs":0,"name":"o#","next":"A#0","prefix":"A#","quantity":1,"width":1}
+200 {"first":0,"issuer":"acme-ca","mac":null,"macs":0,"name":"o#","next":"A#0","not_before":null,"prefix":"A#","quantity":1,"width":1}
 "#;
 
 /// The order that is one too many.
@@ -58,7 +58,7 @@ a1 POST /v1/order {"nr":4097,"name":"o4097","issuer":"acme-ca","prefix":"A4097",
 /// The first order of bolt's.
 const FIRST_OF_BOLT: &str = r#"
 b1 POST /v1/order {"nr":1,"name":"o1","issuer":"bolt-ca","prefix":"A1","width":1,"first":0,"quantity":1,"macs":0}
-200 {"first":0,"issuer":"bolt-ca","mac":null,"macs":0,"name":"o1","next":"A10","prefix":"A1","quantity":1,"width":1}
+200 {"first":0,"issuer":"bolt-ca","mac":null,"macs":0,"name":"o1","next":"A10","not_before":null,"prefix":"A1","quantity":1,"width":1}
 "#;
 
 /// The conversation in which acme makes as many orders as a customer may have, each of a name and of

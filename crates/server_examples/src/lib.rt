@@ -17,6 +17,8 @@ mod digests;
 #[cfg(test)]
 mod disks;
 #[cfg(test)]
+mod growths;
+#[cfg(test)]
 mod isolation;
 #[cfg(test)]
 mod jobs;
@@ -30,6 +32,8 @@ mod parts;
 mod replays;
 #[cfg(test)]
 mod restarts;
+#[cfg(test)]
+mod schema_one;
 #[cfg(test)]
 mod seats;
 #[cfg(test)]

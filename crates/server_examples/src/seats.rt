@@ -16,6 +16,14 @@ pub const LAST_REQUESTS: &[(&str, &str)] = &[
         "3eac0b093a1ae65ba8ac3214046041aa5dab6af419af989d8f198e1e1635826f",
     ),
     (
+        BEGUN,
+        "70e40c467ed124f09c668a3e6e2e6c36c0ffb9b269e64759c22c85091ccb0a81",
+    ),
+    (
+        NOT_BEGUN,
+        "0ff4db4b78492e7f745bcf5db2335443c1c95defff72dda77b490dd8f063227b",
+    ),
+    (
         ACME,
         "90a60a1b85be03b1cb00ae1743784486aa4373a6ee6e03d8a6c08c64216e3c72",
     ),
@@ -24,7 +32,18 @@ pub const LAST_REQUESTS: &[(&str, &str)] = &[
 /// An order.
 const ORDERED: &str = r#"
 a1 POST /v1/order {"nr":1,"name":"o1","issuer":"acme-ca","prefix":"A","width":3,"first":998,"quantity":2,"macs":0}
-200 {"first":998,"issuer":"acme-ca","mac":null,"macs":0,"name":"o1","next":"A998","prefix":"A","quantity":2,"width":3}
+200 {"first":998,"issuer":"acme-ca","mac":null,"macs":0,"name":"o1","next":"A998","not_before":null,"prefix":"A","quantity":2,"width":3}
+"#;
+
+/// The same with a beginning of validity, and with one that is null: three requests.
+const BEGUN: &str = r#"
+a1 POST /v1/order {"nr":1,"name":"o1","issuer":"acme-ca","prefix":"A","width":3,"first":998,"quantity":2,"macs":0,"not_before":"20240229120000Z"}
+200 {"first":998,"issuer":"acme-ca","mac":null,"macs":0,"name":"o1","next":"A998","not_before":"20240229120000Z","prefix":"A","quantity":2,"width":3}
+"#;
+
+const NOT_BEGUN: &str = r#"
+a1 POST /v1/order {"nr":1,"name":"o1","issuer":"acme-ca","prefix":"A","width":3,"first":998,"quantity":2,"macs":0,"not_before":null}
+200 {"first":998,"issuer":"acme-ca","mac":null,"macs":0,"name":"o1","next":"A998","not_before":null,"prefix":"A","quantity":2,"width":3}
 "#;
 
 /// The number before the greatest.
@@ -35,7 +54,7 @@ const GREATEST: &str = r#"
 a1 POST /v1/order {"nr":1,"name":"o1","issuer":"acme-ca","prefix":"A","width":3,"first":998,"quantity":2,"macs":0}
 409 {"error":"wrong_number","expected":9007199254740991,"no":11}
 a1 POST /v1/order {"nr":9007199254740991,"name":"o1","issuer":"acme-ca","prefix":"A","width":3,"first":998,"quantity":2,"macs":0}
-200 {"first":998,"issuer":"acme-ca","mac":null,"macs":0,"name":"o1","next":"A998","prefix":"A","quantity":2,"width":3}
+200 {"first":998,"issuer":"acme-ca","mac":null,"macs":0,"name":"o1","next":"A998","not_before":null,"prefix":"A","quantity":2,"width":3}
 a1 POST /v1/order {"nr":9007199254740992,"name":"o2","issuer":"acme-ca","prefix":"B","width":3,"first":998,"quantity":2,"macs":0}
 400 {"error":"bad_member","no":10}
 a1 POST /v1/order {"nr":9007199254740990,"name":"o2","issuer":"acme-ca","prefix":"B","width":3,"first":998,"quantity":2,"macs":0}
@@ -45,7 +64,7 @@ a1 POST /v1/order {"nr":1,"name":"o2","issuer":"acme-ca","prefix":"B","width":3,
 a1 POST /v1/order {"nr":9007199254740991,"name":"o2","issuer":"acme-ca","prefix":"B","width":3,"first":998,"quantity":2,"macs":0}
 409 {"error":"other_body","no":12}
 a1 POST /v1/order {"nr":9007199254740991,"name":"o1","issuer":"acme-ca","prefix":"A","width":3,"first":998,"quantity":2,"macs":0}
-200 {"first":998,"issuer":"acme-ca","mac":null,"macs":0,"name":"o1","next":"A998","prefix":"A","quantity":2,"width":3}
+200 {"first":998,"issuer":"acme-ca","mac":null,"macs":0,"name":"o1","next":"A998","not_before":null,"prefix":"A","quantity":2,"width":3}
 "#;
 
 /// Holds a conversation: what differs first, or the digest in the row of the seat `a1` at its end.

@@ -10,7 +10,7 @@ use std::test::Fail;
 /// and its shipping.
 pub const RUN: &str = r#"
 a1 POST /v1/order {"nr":1,"name":"o1","issuer":"acme-ca","prefix":"A","width":3,"first":998,"quantity":2,"macs":1}
-200 {"first":998,"issuer":"acme-ca","mac":"020000000010","macs":1,"name":"o1","next":"A998","prefix":"A","quantity":2,"width":3}
+200 {"first":998,"issuer":"acme-ca","mac":"020000000010","macs":1,"name":"o1","next":"A998","not_before":null,"prefix":"A","quantity":2,"width":3}
 a1 POST /v1/map {"nr":2,"text":"$MAP"}
 200 {"map":"$DIGEST"}
 a1 POST /v1/device {"nr":3,"chip":"00000000000a","order":"o1","map":"$DIGEST","blocks":<>}
@@ -20,7 +20,7 @@ a1 POST /v1/plan {"nr":4,"chip":"00000000000a","wishes":[{"kind":"bit","field":"
 a1 POST /v1/readback {"nr":5,"chip":"00000000000a","blocks":<0.6=00000040>}
 200 {"outcome":"match","rest":$NONE,"state":"settled"}
 a1 POST /v1/identity {"nr":6,"chip":"00000000000a","public_key":"616263"}
-200 {"chip":"00000000000a","issuer":"acme-ca","key_sha256":"ba7816bf8f01cfea414140de5dae2223b00361a396177a9cb410ff61f20015ad","mac":"020000000010","not_after":"99991231235959Z","serial":"A998"}
+200 {"chip":"00000000000a","issuer":"acme-ca","key_sha256":"ba7816bf8f01cfea414140de5dae2223b00361a396177a9cb410ff61f20015ad","mac":"020000000010","not_after":"99991231235959Z","not_before":null,"serial":"A998"}
 a1 POST /v1/ship {"nr":7,"chip":"00000000000a"}
 200 {"chip":"00000000000a","state":"shipped"}
 "#;
@@ -28,17 +28,17 @@ a1 POST /v1/ship {"nr":7,"chip":"00000000000a"}
 /// What the books show after it: each event once, and one serial number given.
 pub const BOOKS: &str = r#"
 a1 GET /v1/order?name=o1
-200 {"first":998,"issuer":"acme-ca","mac":"020000000010","macs":1,"name":"o1","next":"A999","prefix":"A","quantity":2,"width":3}
+200 {"first":998,"issuer":"acme-ca","mac":"020000000010","macs":1,"name":"o1","next":"A999","not_before":null,"prefix":"A","quantity":2,"width":3}
 a1 GET /v1/device?chip=00000000000a
 200 {"bits":[{"block":0,"mask":"00000040","word":6}],"chip":"00000000000a","keys":{},"map":"$DIGEST","order":"o1","pending":{"batch1":$NONE,"batch2":$NONE},"reason":null,"serial":"A998","state":"shipped"}
 a1 GET /v1/ledger?chip=00000000000a
 200 {"chip":"00000000000a","entries":[{"bits":[],"event":"registered","keys":{},"n":1,"note":"","seat":"a1"},{"bits":[],"event":"planned","keys":{},"n":2,"note":"","seat":"a1"},{"bits":[{"block":0,"mask":"00000040","word":6}],"event":"read","keys":{},"n":3,"note":"match","seat":"a1"},{"bits":[],"event":"identified","keys":{},"n":4,"note":"A998","seat":"a1"},{"bits":[],"event":"shipped","keys":{},"n":5,"note":"","seat":"a1"}]}
 a1 POST /v1/order {"nr":8,"name":"o2","issuer":"acme-ca","prefix":"B","width":3,"first":1,"quantity":2,"macs":1}
-200 {"first":1,"issuer":"acme-ca","mac":"020000000012","macs":1,"name":"o2","next":"B001","prefix":"B","quantity":2,"width":3}
+200 {"first":1,"issuer":"acme-ca","mac":"020000000012","macs":1,"name":"o2","next":"B001","not_before":null,"prefix":"B","quantity":2,"width":3}
 "#;
 
 /// More calls than a run makes.
-const CALL_LIMIT: u64 = 20_000;
+pub const CALL_LIMIT: u64 = 20_000;
 
 /// Of how many stops one has a second stop, at each call of the opening after it.
 const STOPS_OF_SECOND: u64 = 16;
@@ -51,7 +51,7 @@ pub enum Counted {
 }
 
 /// The stop after so many calls of a file.
-fn stop_after(calls: u64, counted: Counted, loses_unsynced: bool) -> Stop {
+pub fn stop_after(calls: u64, counted: Counted, loses_unsynced: bool) -> Stop {
     match counted {
         Counted::File => Stop {
             file_calls: calls,
@@ -69,11 +69,11 @@ fn stop_after(calls: u64, counted: Counted, loses_unsynced: bool) -> Stop {
 /// What became of a run over a store that was stopped: how many of its requests got their replies, what
 /// another one got that was answered, and what is left.
 #[derive(Drop)]
-struct Stopped {
-    is_opened: bool,
-    replies: usize,
-    found: String,
-    left: Store,
+pub struct Stopped {
+    pub is_opened: bool,
+    pub replies: usize,
+    pub found: String,
+    pub left: Store,
 }
 
 /// Makes exchanges until a request isn't answered: how many got their replies, and what the last got
@@ -96,7 +96,7 @@ fn answered<K: Keep>(
 }
 
 /// Makes exchanges over a store with a stop to come, and stops it behind them.
-fn stopped_in<K: InFiles>(
+pub fn stopped_in<K: InFiles>(
     alloc: Global,
     store: &Store,
     run: &[(&str, &str)],

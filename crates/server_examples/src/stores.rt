@@ -1,6 +1,7 @@
 //! What a store is when it is adopted, and what stands in its columns.
 use crate::conversation::{exchange, first_difference, is_unanswered};
 use crate::keepers::{Fresh, SqlMemory, adopted};
+use base_examples::conversations::beginnings::RECORD;
 use base_examples::conversations::exchanges;
 use base_examples::conversations::plans::A_BIT_AND_ITS_LOCK;
 use base_examples::samples::SITE;
@@ -9,7 +10,7 @@ use std::alloc::Global;
 use std::test::Fail;
 
 /// The text of a site that isn't the sample.
-const OTHER_SITE: &str = "customer = []\n";
+pub const OTHER_SITE: &str = "customer = []\n";
 
 /// Changes of a store that was adopted for the sample site, by SQL, the text of the site for which it
 /// is adopted then, and the number of the fault, 0 where there is none.
@@ -22,12 +23,15 @@ pub const CHANGED: &[(&str, &str, u8)] = &[
     ("UPDATE meta SET schema = 7", SITE, 2),
     ("UPDATE meta SET schema = 7", OTHER_SITE, 2),
     ("UPDATE meta SET schema = -1", SITE, 2),
+    // The number of another schema of this program, or of none.
+    ("UPDATE meta SET schema = 1", SITE, 2),
+    ("UPDATE meta SET schema = 3", SITE, 2),
     ("UPDATE meta SET site = X'00'", SITE, 2),
     ("UPDATE meta SET id = 2", SITE, 2),
     ("UPDATE meta SET id = 2", OTHER_SITE, 2),
     ("DELETE FROM meta", SITE, 2),
     (
-        "INSERT INTO meta (id, schema, site) VALUES (2, 1, X'00')",
+        "INSERT INTO meta (id, schema, site) VALUES (2, 2, X'00')",
         SITE,
         2,
     ),
@@ -37,6 +41,54 @@ pub const CHANGED: &[(&str, &str, u8)] = &[
     (
         "INSERT INTO map (id, body, digest) VALUES (-1, '', X'00')",
         SITE,
+        2,
+    ),
+    // An order and a record with their starts, and without them.
+    (
+        "INSERT INTO orders VALUES ('acme', 'o1', 'acme-ca', 'A', 3, 1, 1, 0, NULL, 1); INSERT INTO order_start VALUES ('acme', 'o1', NULL)",
+        SITE,
+        0,
+    ),
+    (
+        "INSERT INTO orders VALUES ('acme', 'o1', 'acme-ca', 'A', 3, 1, 1, 0, NULL, 1); INSERT INTO order_start VALUES ('acme', 'o1', NULL); DELETE FROM order_start",
+        SITE,
+        2,
+    ),
+    (
+        "INSERT INTO orders VALUES ('acme', 'o1', 'acme-ca', 'A', 3, 1, 1, 0, NULL, 1)",
+        OTHER_SITE,
+        1,
+    ),
+    (
+        "INSERT INTO given VALUES ('acme-ca', 'Z1', 'acme', X'00', NULL, NULL, '99991231235959Z'); INSERT INTO given_start VALUES ('acme-ca', 'Z1', NULL)",
+        SITE,
+        0,
+    ),
+    (
+        "INSERT INTO given VALUES ('acme-ca', 'Z1', 'acme', X'00', NULL, NULL, '99991231235959Z')",
+        SITE,
+        2,
+    ),
+    ("DROP TABLE given_start", SITE, 2),
+];
+
+/// How many starts stand in a store after the conversation on records, and how many of them say nothing.
+const STARTS: &[(&str, i64)] = &[
+    (
+        "SELECT count(*) FROM order_start WHERE not_before = '20240229120000Z'",
+        1,
+    ),
+    (
+        "SELECT count(*) FROM order_start WHERE not_before IS NULL",
+        1,
+    ),
+    (
+        "SELECT count(*) FROM given_start WHERE not_before = '20240229120000Z'",
+        2,
+    ),
+    // An identity under the other order, and an import.
+    (
+        "SELECT count(*) FROM given_start WHERE not_before IS NULL",
         2,
     ),
 ];
@@ -88,6 +140,24 @@ pub fn first_difference_in_few_steps(alloc: Global, conversation: &str) -> Resul
             return Ok(found);
         }
         keep = adopted(alloc, keep.into_connection(), SITE)?;
+    }
+    Ok(String::new(alloc))
+}
+
+/// Holds the conversation on records, and counts the starts in the store: the first request that doesn't get
+/// its reply, or the first other count.
+pub fn first_other_start(alloc: Global) -> Result<String, Fail> {
+    let mut keep = SqlMemory::fresh(alloc)?;
+    let found = first_difference(alloc, &mut keep, RECORD)?;
+    if !found.is_empty() {
+        return Ok(found);
+    }
+    let mut conn = keep.into_connection();
+    for row in STARTS {
+        let number: i64 = conn.query_row(row.0, &[])?.get(0)?;
+        if number != row.1 {
+            return Ok(format!(in alloc; "{}: {number}", row.0)?);
+        }
     }
     Ok(String::new(alloc))
 }

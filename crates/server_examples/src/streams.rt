@@ -19,7 +19,7 @@ pub const ORDER: &str =
 
 /// The reply to it.
 pub const ORDERED: &str =
-    "HTTP/1.1 200 OK\r\nContent-Type: application/json\r\nContent-Length: 114\r\n\r\n{\"first\":998,\"issuer\":\"acme-ca\",\"mac\":null,\"macs\":0,\"name\":\"o1\",\"next\":\"A998\",\"prefix\":\"A\",\"quantity\":2,\"width\":3}";
+    "HTTP/1.1 200 OK\r\nContent-Type: application/json\r\nContent-Length: 132\r\n\r\n{\"first\":998,\"issuer\":\"acme-ca\",\"mac\":null,\"macs\":0,\"name\":\"o1\",\"next\":\"A998\",\"not_before\":null,\"prefix\":\"A\",\"quantity\":2,\"width\":3}";
 
 /// The request without its last byte.
 pub const CUT_ORDER: &str =
@@ -75,11 +75,11 @@ pub const TAKEN: &[u32] = &[0, 10, 72, 100];
 /// number is refused.
 const STANDING: &str = r#"
 a1 GET /v1/order?name=o1
-200 {"first":998,"issuer":"acme-ca","mac":null,"macs":0,"name":"o1","next":"A998","prefix":"A","quantity":2,"width":3}
+200 {"first":998,"issuer":"acme-ca","mac":null,"macs":0,"name":"o1","next":"A998","not_before":null,"prefix":"A","quantity":2,"width":3}
 a1 POST /v1/order {"nr":1,"name":"o1","issuer":"acme-ca","prefix":"A","width":3,"first":998,"quantity":1,"macs":0}
 409 {"error":"other_body","no":12}
 a1 POST /v1/order {"nr":1,"name":"o1","issuer":"acme-ca","prefix":"A","width":3,"first":998,"quantity":2,"macs":0}
-200 {"first":998,"issuer":"acme-ca","mac":null,"macs":0,"name":"o1","next":"A998","prefix":"A","quantity":2,"width":3}
+200 {"first":998,"issuer":"acme-ca","mac":null,"macs":0,"name":"o1","next":"A998","not_before":null,"prefix":"A","quantity":2,"width":3}
 "#;
 
 /// The text of a stream or of what is written.

@@ -6,6 +6,7 @@ use crate::counting::CountingKeep;
 use crate::damage::{DAMAGES, first_lost_of, refuses_another_head};
 use crate::digests::has_taken_digest;
 use crate::disks::{SqlFiles, first_difference_opened_anew};
+use crate::growths::{first_difference_of_growths, replies_to_no_parts};
 use crate::isolation::{TURNS, first_beside_orders, first_of_shared_map, first_of_turns};
 use crate::jobs::{
     BROKEN, FILES, LINE_LENGTH, LINES, LONG_ENDS, LONG_FILES, SITE_NAMES, UNREAD, WRITE_FAILED,
@@ -16,11 +17,14 @@ use crate::keepers::{Fresh, SqlMemory};
 use crate::parts::{first_of_parts, first_strange_part};
 use crate::replays::{RUNS, is_written, make_files_of_runs, make_folder};
 use crate::restarts::first_difference_at_crashes;
+use crate::schema_one::{
+    CHANGED_ONE, fault_of_changed_one, first_difference_of_one, first_lost_of_one,
+};
 use crate::seats::{LAST_REQUESTS, digest_after, first_after_greatest};
 use crate::stops::first_lost_at_stops;
 use crate::stores::{
     CHANGED, FOREIGN, columns_of_device, fault_after, fault_of_foreign,
-    first_difference_in_few_steps, settled_columns,
+    first_difference_in_few_steps, first_other_start, settled_columns,
 };
 use crate::streams::{
     BAD_HEAD, ORDER, STEPS, STREAMS, TAKEN, ends_at_the_limit, ends_so,
@@ -28,6 +32,7 @@ use crate::streams::{
     stops_where_the_reader_fails, stops_where_the_writer_does,
 };
 use crate::visits::{VISITS, first_unanswered_commit, visits_of_each_kind};
+use base_examples::conversations::beginnings::BEGINNINGS;
 use base_examples::conversations::devices::{ACME, DEVICES};
 use base_examples::conversations::identities::IDENTITIES;
 use base_examples::conversations::maps::MAPS;
@@ -40,9 +45,6 @@ use station_api::Served;
 use std::alloc::Global;
 use std::fs;
 use std::test::Fail;
-
-/// The conversations, each under its name, but for those of tests of their own.
-const ALL: &[&[(&str, &str)]] = &[ORDERS, MAPS, DEVICES];
 
 /// Holds conversations, each over a keeper without rows: what differs first, behind the name of its
 /// conversation.
@@ -66,16 +68,31 @@ fn first_of_each(alloc: Global, table: &[(&str, &str)]) -> Result<String, Fail> 
     first_of::<SqlMemory>(alloc, table)
 }
 
+/// Each table of conversations has a test of its own, or few share one, since the prover sets a bound to all
+/// the texts of one test.
 #[test]
-fn conversations_get_their_replies(rt: HostRuntime) -> Result<(), Fail> {
-    for table in ALL {
+fn orders_get_their_replies(rt: HostRuntime) -> Result<(), Fail> {
+    let found = first_of_each(rt.alloc(), ORDERS)?;
+    assert_eq!(rt; found.as_str(), "");
+    Ok(())
+}
+
+#[test]
+fn beginnings_get_their_replies(rt: HostRuntime) -> Result<(), Fail> {
+    let found = first_of_each(rt.alloc(), BEGINNINGS)?;
+    assert_eq!(rt; found.as_str(), "");
+    Ok(())
+}
+
+#[test]
+fn maps_and_devices_get_their_replies(rt: HostRuntime) -> Result<(), Fail> {
+    for table in &[MAPS, DEVICES] {
         let found = first_of_each(rt.alloc(), table)?;
         assert_eq!(rt; found.as_str(), "");
     }
     Ok(())
 }
 
-/// Apart from the others, since the prover sets a bound to all the texts of one test.
 #[test]
 fn plans_and_read_backs_get_their_replies(rt: HostRuntime) -> Result<(), Fail> {
     let found = first_of_each(rt.alloc(), PLANS)?;
@@ -350,6 +367,15 @@ fn a_run_goes_on_after_a_power_cut(rt: HostRuntime) -> Result<(), Fail> {
     Ok(())
 }
 
+/// One list in two parts, where the site grew in between; and no parts, which get no replies.
+#[test]
+fn sites_grow_between_requests(rt: HostRuntime) -> Result<(), Fail> {
+    let found = first_difference_of_growths(rt.alloc())?;
+    assert_eq!(rt; found.as_str(), "");
+    assert_eq!(rt; replies_to_no_parts(rt.alloc())?, 0);
+    Ok(())
+}
+
 /// A list of requests, a crash of the files and a list that begins with the last request again: what was
 /// replied is there, and the repeat gets its reply.
 #[test]
@@ -376,6 +402,54 @@ fn stores_of_others_are_refused(rt: HostRuntime) -> Result<(), Fail> {
     for sql in FOREIGN {
         assert_eq!(rt; fault_of_foreign(rt.alloc(), sql)?, 2, "{sql}");
     }
+    Ok(())
+}
+
+#[test]
+fn starts_stand_beside_their_rows(rt: HostRuntime) -> Result<(), Fail> {
+    assert_eq!(rt; first_other_start(rt.alloc())?.as_str(), "");
+    Ok(())
+}
+
+/// A store of schema 1 is taken to schema 2: its books show what they showed, without a beginning, its kept
+/// replies are as they were kept, and it goes on.
+#[test]
+fn stores_of_schema_one_go_on(rt: HostRuntime) -> Result<(), Fail> {
+    assert_eq!(rt; first_difference_of_one(rt.alloc())?.as_str(), "");
+    Ok(())
+}
+
+#[test]
+fn changed_stores_of_schema_one_are_refused(rt: HostRuntime) -> Result<(), Fail> {
+    for row in CHANGED_ONE {
+        assert_eq!(rt;
+            fault_of_changed_one(rt.alloc(), row.0, row.1)?,
+            row.2,
+            "{}",
+            row.0
+        );
+    }
+    Ok(())
+}
+
+/// Their upgrade is stopped at each call of either file: the store has schema 1 or 2, and the next opening
+/// ends in schema 2, with the same books.
+#[test]
+fn a_killed_upgrade_goes_on(rt: HostRuntime) -> Result<(), Fail> {
+    assert_eq!(rt;
+        first_lost_of_one::<SqlFiles>(rt.alloc(), false)?.as_str(),
+        ""
+    );
+    Ok(())
+}
+
+/// The same, where what wasn't synced is lost at each stop.
+#[test]
+fn an_upgrade_goes_on_after_a_power_cut(rt: HostRuntime) -> Result<(), Fail> {
+    assert_eq!(rt;
+        first_lost_of_one::<SqlFiles>(rt.alloc(), true)?.as_str(),
+        ""
+    );
     Ok(())
 }
 

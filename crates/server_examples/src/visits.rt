@@ -23,7 +23,7 @@ pub const VISITS: &[(&str, &str, u64)] = &[
 /// its maps.
 const BEGINNING: &str = r#"
 a1 POST /v1/order {"nr":1,"name":"o1","issuer":"acme-ca","prefix":"A","width":3,"first":998,"quantity":2,"macs":0}
-200 {"first":998,"issuer":"acme-ca","mac":null,"macs":0,"name":"o1","next":"A998","prefix":"A","quantity":2,"width":3}
+200 {"first":998,"issuer":"acme-ca","mac":null,"macs":0,"name":"o1","next":"A998","not_before":null,"prefix":"A","quantity":2,"width":3}
 a1 POST /v1/map {"nr":2,"text":"$MAP"}
 200 {"map":"$DIGEST"}
 "#;
@@ -40,7 +40,7 @@ a1 POST /v1/readback {"nr":5,"chip":"00000000000a","blocks":<0.6=00000040>}
 a1 POST /v1/readback {"nr":5,"chip":"00000000000a","blocks":<0.6=00000040>}
 200 {"outcome":"match","rest":$NONE,"state":"settled"}
 a1 POST /v1/identity {"nr":6,"chip":"00000000000a","public_key":"616263"}
-200 {"chip":"00000000000a","issuer":"acme-ca","key_sha256":"ba7816bf8f01cfea414140de5dae2223b00361a396177a9cb410ff61f20015ad","mac":null,"not_after":"99991231235959Z","serial":"A998"}
+200 {"chip":"00000000000a","issuer":"acme-ca","key_sha256":"ba7816bf8f01cfea414140de5dae2223b00361a396177a9cb410ff61f20015ad","mac":null,"not_after":"99991231235959Z","not_before":null,"serial":"A998"}
 a1 POST /v1/ship {"nr":7,"chip":"00000000000a"}
 200 {"chip":"00000000000a","state":"shipped"}
 a1 POST /v1/device {"nr":8,"chip":"00000000000b","order":"o1","map":"$DIGEST","blocks":<>}
@@ -50,7 +50,7 @@ a1 POST /v1/scrap {"nr":9,"chip":"00000000000b"}
 a1 GET /v1/device?chip=00000000000a
 200 {"bits":[{"block":0,"mask":"00000040","word":6}],"chip":"00000000000a","keys":{},"map":"$DIGEST","order":"o1","pending":{"batch1":$NONE,"batch2":$NONE},"reason":null,"serial":"A998","state":"shipped"}
 a1 GET /v1/order?name=o1
-200 {"first":998,"issuer":"acme-ca","mac":null,"macs":0,"name":"o1","next":"A999","prefix":"A","quantity":2,"width":3}
+200 {"first":998,"issuer":"acme-ca","mac":null,"macs":0,"name":"o1","next":"A999","not_before":null,"prefix":"A","quantity":2,"width":3}
 "#;
 
 /// The entries of a device.

@@ -20,7 +20,8 @@ Decides-no_breach breach P kept none = (λ e. kept (not-true breach e), λ p. no
 repeats_decided : (site : SiteValue) → Decides (not (has_repeat site)) (HasNoRepeat site)
 repeats_decided site =
     Decides-no_breach (has_repeat site) (HasNoRepeat site)
-    (λ once. let kinds = none_of (has_pair bytes_eq (names_of site)) (has_pair bytes_eq (issuers_of site)) (has_pair bytes_eq (seat_names_of site)) (has_pair bytes_eq (tokens_of site)) once in
+    (λ once. let kinds = none_of (has_pair bytes_eq (names_of site)) (has_pair bytes_eq (issuers_of site)) (has_pair bytes_eq (seat_names_of site))
+    (has_pair bytes_eq (tokens_of site)) once in
     record {
       customers = IsDistinct-from_has_pair bytes_eq (names_of site) kinds.0;
       issuers = IsDistinct-from_has_pair bytes_eq (issuers_of site) kinds.1;
@@ -38,13 +39,15 @@ pools_decided : (pools : List Pool) → Decides (not (has_pair pools_meet pools)
 pools_decided pools =
     Decides-no_breach (has_pair pools_meet pools) (AllPairs ArePoolsApart pools)
     (λ none i j d before low mac in_one in_other.
-    both_ways _ (apart_from_distinct pools_meet pools i j d (IsDistinct-from_has_pair pools_meet pools none) before low) (meets-from_IsIn _ _ mac in_one in_other))
+    both_ways _ (apart_from_distinct pools_meet pools i j d (IsDistinct-from_has_pair pools_meet pools none) before low)
+    (meets-from_IsIn _ _ mac in_one in_other))
     (λ apart. has_pair-from_IsDistinct pools_meet pools
     (IsDistinct-from_apart pools_meet pools (λ i j d before low.
     false_from_ne_true _ (λ met. let shared = IsIn-from_meets _ _ met in apart i j d before low shared.0 shared.1 shared.2))))
 
 -- the rules of all faults below a number, by the rules of those that have one
-rules_below : (site : SiteValue) (n : ℕ) → (3 < n → KeepsRule Repeated site) → (4 < n → KeepsRule PoolsMeet site) → (5 < n → KeepsRule BadPool site) → (6 < n → KeepsRule OverLimit site)
+rules_below : (site : SiteValue) (n : ℕ) → (3 < n → KeepsRule Repeated site) → (4 < n → KeepsRule PoolsMeet site) → (5 < n → KeepsRule BadPool site)
+    → (6 < n → KeepsRule OverLimit site)
     → (other : SiteFault) → fault_number other < n → KeepsRule other site
 rules_below site n once apart good within NotToml low = tt
 rules_below site n once apart good within BadMember low = tt
@@ -60,20 +63,38 @@ broken_by d holds = false≢true (d.1 holds)
 
 -- the fault that four tests tell is that of the first that finds a breach
 lowest_of_tests : (site : SiteValue) (fault : SiteFault) (repeat meet bad over : Bool)
-    → Decides (not repeat) (KeepsRule Repeated site) → Decides (not meet) (KeepsRule PoolsMeet site) → Decides (not bad) (KeepsRule BadPool site) → Decides (not over) (KeepsRule OverLimit site)
-    → (if repeat then Err Repeated else if meet then Err PoolsMeet else if bad then Err BadPool else if over then Err OverLimit else Ok site) ≡ Err fault → IsLowestBroken fault site
+    → Decides (not repeat) (KeepsRule Repeated site) → Decides (not meet) (KeepsRule PoolsMeet site) → Decides (not bad) (KeepsRule BadPool site)
+    → Decides (not over) (KeepsRule OverLimit site)
+    → (if repeat then Err Repeated else if meet then Err PoolsMeet else if bad then Err BadPool else if over then Err OverLimit else Ok site) ≡ Err fault
+    → IsLowestBroken fault site
 lowest_of_tests site fault true meet bad over d3 d4 d5 d6 e =
     let same : Repeated ≡ fault = cc in
-    rw (← same) (record { broken = broken_by d3; lower = rules_below site 3 (λ l. absurd (omega (arith, l))) (λ l. absurd (omega (arith, l))) (λ l. absurd (omega (arith, l))) (λ l. absurd (omega (arith, l))) })
+    rw (← same) (record {
+      broken = broken_by d3;
+      lower = rules_below site 3 (λ l. absurd (omega (arith, l))) (λ l. absurd (omega (arith, l))) (λ l.
+          absurd (omega (arith, l))) (λ l. absurd (omega (arith, l)));
+    })
 lowest_of_tests site fault false true bad over d3 d4 d5 d6 e =
     let same : PoolsMeet ≡ fault = cc in
-    rw (← same) (record { broken = broken_by d4; lower = rules_below site 4 (λ _. d3.0 refl) (λ l. absurd (omega (arith, l))) (λ l. absurd (omega (arith, l))) (λ l. absurd (omega (arith, l))) })
+    rw (← same) (record {
+      broken = broken_by d4;
+      lower = rules_below site 4 (λ _. d3.0 refl) (λ l. absurd (omega (arith, l))) (λ l.
+          absurd (omega (arith, l))) (λ l. absurd (omega (arith, l)));
+    })
 lowest_of_tests site fault false false true over d3 d4 d5 d6 e =
     let same : BadPool ≡ fault = cc in
-    rw (← same) (record { broken = broken_by d5; lower = rules_below site 5 (λ _. d3.0 refl) (λ _. d4.0 refl) (λ l. absurd (omega (arith, l))) (λ l. absurd (omega (arith, l))) })
+    rw (← same) (record {
+      broken = broken_by d5;
+      lower = rules_below site 5 (λ _. d3.0 refl) (λ _. d4.0 refl) (λ l. absurd (omega (arith, l))) (λ l.
+          absurd (omega (arith, l)));
+    })
 lowest_of_tests site fault false false false true d3 d4 d5 d6 e =
     let same : OverLimit ≡ fault = cc in
-    rw (← same) (record { broken = broken_by d6; lower = rules_below site 6 (λ _. d3.0 refl) (λ _. d4.0 refl) (λ _. d5.0 refl) (λ l. absurd (omega (arith, l))) })
+    rw (← same) (record {
+      broken = broken_by d6;
+      lower = rules_below site 6 (λ _. d3.0 refl) (λ _. d4.0 refl) (λ _. d5.0 refl) (λ l.
+          absurd (omega (arith, l)));
+    })
 lowest_of_tests site fault false false false false d3 d4 d5 d6 e = cc
 
 pub IsLowestBroken-from_judged : (site : SiteValue) (fault : SiteFault) → judged site ≡ Err fault → IsLowestBroken fault site

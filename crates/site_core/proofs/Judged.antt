@@ -47,9 +47,12 @@ none_of a b c d none =
     (two.0, two.1, three.1, all.1)
 
 -- a site in which no fault is found
-pub IsSite-from_faultless : (site : SiteValue) → has_repeat site ≡ false → has_pair pools_meet (pools_of site) ≡ false → has_bad_pool site.customers ≡ false → is_over_limit site ≡ false → IsSite site
+pub IsSite-from_faultless : (site : SiteValue) → has_repeat site ≡ false → has_pair pools_meet (pools_of site) ≡ false → has_bad_pool site.customers ≡ false
+    → is_over_limit site ≡ false → IsSite site
 IsSite-from_faultless site once apart good within =
-    let kinds = none_of (has_pair bytes_eq (names_of site)) (has_pair bytes_eq (issuers_of site)) (has_pair bytes_eq (seat_names_of site)) (has_pair bytes_eq (tokens_of site)) once in
+    let kinds =
+    none_of (has_pair bytes_eq (names_of site)) (has_pair bytes_eq (issuers_of site)) (has_pair bytes_eq (seat_names_of site))
+    (has_pair bytes_eq (tokens_of site)) once in
     record {
       names = IsDistinct-from_has_pair bytes_eq (names_of site) kinds.0;
       issuers = IsDistinct-from_has_pair bytes_eq (issuers_of site) kinds.1;
@@ -66,7 +69,8 @@ has_bad_pool-at before after s bad =
     rw (flat_map-append (λ (c : Section). c.pools) before (s ∷ after), list_any-append is_bad_pool, list_any-append is_bad_pool, bad) (or-true _)
 
 -- the fault of one customer is the fault of all
-customers_fault : (bad : Bool) (s : Section) (others : List Section) (fault : SiteFault) → (bad ≡ true → has_bad_pool others ≡ true) → GivesUnless {T = Section} OutOfMemory (Err fault) (if bad then Err BadPool else Ok s)
+customers_fault : (bad : Bool) (s : Section) (others : List Section) (fault : SiteFault) → (bad ≡ true → has_bad_pool others ≡ true)
+    → GivesUnless {T = Section} OutOfMemory (Err fault) (if bad then Err BadPool else Ok s)
     → GivesUnless {T = List Section} OutOfMemory (Err fault) (if has_bad_pool others then Err BadPool else Ok others)
 customers_fault true s others fault all (inl e) = let same : fault ≡ BadPool = cc in rw (all refl, same) (inl refl)
 customers_fault true s others fault all (inr e) = inr cc
@@ -74,20 +78,23 @@ customers_fault false s others fault all (inl e) = cc
 customers_fault false s others fault all (inr e) = inr cc
 
 -- where one of the customers has a fault, it is the fault of all
-pub fault-at : (before after : List Section) (s : Section) (fault : SiteFault) → GivesUnless {T = Section} OutOfMemory (Err fault) (if list_any is_bad_pool s.pools then Err BadPool else Ok s)
+pub fault-at : (before after : List Section) (s : Section) (fault : SiteFault)
+    → GivesUnless {T = Section} OutOfMemory (Err fault) (if list_any is_bad_pool s.pools then Err BadPool else Ok s)
     → GivesUnless {T = List Section} OutOfMemory (Err fault) (if has_bad_pool (before ++ s ∷ after) then Err BadPool else Ok (before ++ s ∷ after))
 fault-at before after s fault answer =
     customers_fault (list_any is_bad_pool s.pools) s (before ++ s ∷ after) fault (has_bad_pool-at before after s) answer
 
 -- customers that were made have no bad pool, and are those that were read
-pub made_are_good : (bad : Bool) (made read : List Section) → GivesUnless {T = List Section} OutOfMemory (Ok made) (if bad then Err BadPool else Ok read) → (bad ≡ false) × (made ≡ read)
+pub made_are_good : (bad : Bool) (made read : List Section) → GivesUnless {T = List Section} OutOfMemory (Ok made) (if bad then Err BadPool else Ok read)
+    → (bad ≡ false) × (made ≡ read)
 made_are_good true made read (inl e) = cc
 made_are_good true made read (inr e) = cc
 made_are_good false made read (inl e) = (refl, cc)
 made_are_good false made read (inr e) = cc
 
 -- what a judgement that finds no fault says of its four tests
-no_fault : (repeat meet bad over : Bool) (site found : SiteValue) → (if repeat then Err Repeated else if meet then Err PoolsMeet else if bad then Err BadPool else if over then Err OverLimit else Ok site) ≡ Ok found
+no_fault : (repeat meet bad over : Bool) (site found : SiteValue)
+    → (if repeat then Err Repeated else if meet then Err PoolsMeet else if bad then Err BadPool else if over then Err OverLimit else Ok site) ≡ Ok found
     → (repeat ≡ false) × (meet ≡ false) × (bad ≡ false) × (over ≡ false) × (site ≡ found)
 no_fault true meet bad over site found e = cc
 no_fault false true bad over site found e = cc
@@ -118,12 +125,15 @@ judged-from_IsSite site is =
     rw (names, issuers, seats, tokens, apart, good, is.within) refl
 
 -- a site whose parts passed the tests, where its customers were made of those that were read
-pub IsSite-from_tests : (draft : SiteValue) (read made : List Section) (manager : Option (List ℕ)) → record { customers = read; manager = manager } ≡ draft → GivesUnless {T = List Section} OutOfMemory (Ok made) (if has_bad_pool read then Err BadPool else Ok read)
-    → has_repeat draft ≡ false → has_pair pools_meet (flat_map (λ s. s.pools) read) ≡ false → (nat_lt 64 (length made) || list_any is_section_over made) ≡ false → IsSite (record { customers = made; manager = manager })
+pub IsSite-from_tests : (draft : SiteValue) (read made : List Section) (manager : Option (List ℕ)) → record { customers = read; manager = manager } ≡ draft
+    → GivesUnless {T = List Section} OutOfMemory (Ok made) (if has_bad_pool read then Err BadPool else Ok read)
+    → has_repeat draft ≡ false → has_pair pools_meet (flat_map (λ s. s.pools) read) ≡ false → (nat_lt 64 (length made) || list_any is_section_over made) ≡ false
+    → IsSite (record { customers = made; manager = manager })
 IsSite-from_tests draft read made manager is answer once apart within =
     let known = made_are_good (has_bad_pool read) made read answer in
     let site_with : List Section → SiteValue = λ customers. record { customers = customers; manager = manager } in
-    let passes : has_repeat (site_with made) ≡ false = ap (λ (customers : List Section). has_repeat (site_with customers)) known.1 ∙ (ap has_repeat is ∙ once) in
+    let passes : has_repeat (site_with made) ≡ false =
+    ap (λ (customers : List Section). has_repeat (site_with customers)) known.1 ∙ (ap has_repeat is ∙ once) in
     IsSite-from_faultless (site_with made) passes (rw known.1 apart) (rw known.1 known.0) within
 
 -- an error under a map of what it isn't

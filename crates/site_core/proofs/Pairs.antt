@@ -9,7 +9,8 @@ use Rattle.std.specs.Set.{distinct_count, unique_keys}
 use Rattle.site_core.specs.SiteFaults.{has_pair}
 
 -- one more element, which is there already or not
-counted : {A : Type 0} (there : Bool) (x : A) (unique : List A) (n : ℕ) (pair : Bool) → length unique ≤ n → ltb (length unique) n ≡ pair → ltb (length (cond there unique (x ∷ unique))) (suc n) ≡ (there || pair)
+counted : {A : Type 0} (there : Bool) (x : A) (unique : List A) (n : ℕ) (pair : Bool) → length unique ≤ n → ltb (length unique) n ≡ pair
+    → ltb (length (cond there unique (x ∷ unique))) (suc n) ≡ (there || pair)
 counted true x unique n pair few rest = grind (arith, nat_tests)
 counted false x unique n pair few rest = grind (arith, nat_tests)
 

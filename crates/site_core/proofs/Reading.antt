@@ -1,5 +1,6 @@
 -- The site that a text is, by its definition and by its relation.
-use Rattle.std.proofs.Common.{◌≡◌, ◌≢◌, ℕ, Bool, true, false, nat_lt, List, length, Option, Some, None, Result, Ok, Err, IfOk, IfErr, inl, inr, refl, sym, ◌∙◌, arith}
+use Rattle.std.proofs.Common.{◌≡◌, ◌≢◌, ℕ, Bool, true, false, nat_lt, List, length, Option, Some, None, Result, Ok, Err, IfOk, IfErr, inl, inr, refl, sym, ◌∙◌}
+use Rattle.std.proofs.Common.{arith}
 use Rattle.std.specs.Prelude.{if◌then◌else◌}
 use Rattle.std.specs.Option.{ok_or}
 use Rattle.std.proofs.lemmas.Bool.{ltb-false}
@@ -37,7 +38,8 @@ judged-from_document None site e is = cc
 judged-from_document (Some d) site e is = rw e (judged-from_IsSite site is)
 
 -- a text is read where it isn't over its limit
-read-from_limit : (over : Bool) (read : Result SiteValue SiteFault) (site : SiteValue) → (if over then Err OverLimit else read) ≡ Ok site → (over ≡ false) × (read ≡ Ok site)
+read-from_limit : (over : Bool) (read : Result SiteValue SiteFault) (site : SiteValue) → (if over then Err OverLimit else read) ≡ Ok site
+    → (over ≡ false) × (read ≡ Ok site)
 read-from_limit true read site e = cc
 read-from_limit false read site e = (refl, e)
 
@@ -61,7 +63,8 @@ valid_from_exact text (Ok site) (inr e) = cc
 valid_from_exact text (Err fault) exact = tt
 
 -- where a fault is answered the text has no site
-pub refused_from_exact : (text : List ℕ) (answer : Result SiteValue SiteFault) → GivesUnless OutOfMemory answer (site_read text) → IfErr answer (λ fault. fault ≢ OutOfMemory → (site : SiteValue) → ¬ IsSiteText text site)
+pub refused_from_exact : (text : List ℕ) (answer : Result SiteValue SiteFault) → GivesUnless OutOfMemory answer (site_read text) → IfErr answer (λ fault.
+    fault ≢ OutOfMemory → (site : SiteValue) → ¬ IsSiteText text site)
 refused_from_exact text (Ok site) exact = tt
 refused_from_exact text (Err fault) (inl e) = λ other site is. let read = read-from_IsSiteText text site is in cc
 refused_from_exact text (Err fault) (inr e) = λ other site is. other cc
@@ -77,7 +80,8 @@ read_of_members text site has =
     rw under (judged_of_members (document_of text) site has.members)
 
 -- a fault that is answered is that of a broken rule, and no lower rule is broken
-pub lowest_from_exact : (text : List ℕ) (answer : Result SiteValue SiteFault) → GivesUnless OutOfMemory answer (site_read text) → IfErr answer (λ fault. fault ≢ OutOfMemory → (site : SiteValue) → HasMembers text site → IsLowestBroken fault site)
+pub lowest_from_exact : (text : List ℕ) (answer : Result SiteValue SiteFault) → GivesUnless OutOfMemory answer (site_read text) → IfErr answer (λ fault.
+    fault ≢ OutOfMemory → (site : SiteValue) → HasMembers text site → IsLowestBroken fault site)
 lowest_from_exact text (Ok site) exact = tt
 lowest_from_exact text (Err fault) (inl e) = λ other site has. IsLowestBroken-from_judged site fault (sym (read_of_members text site has) ∙ sym e)
 lowest_from_exact text (Err fault) (inr e) = λ other site has. absurd (other cc)

@@ -42,3 +42,10 @@ pub record IsSection (owners : Owners) (s : Section) : Type 0 where
 abbrev pub AreApart : Owners → Type 0
 AreApart owners = (one other : List ℕ) → bytes_eq one other ≡ false → (a b : ℕ × ℕ)
     → Any (IsWithin a) (owners.pools one) → Any (IsWithin b) (owners.pools other) → IsApart a b
+
+-- what was a customer's stays the customer's
+pub record OwnersGrow (old new : Owners) : Type 0 where
+  pub customers : (customer : List ℕ) → old.customer customer ≡ true → new.customer customer ≡ true
+  pub issuers : (issuer customer : List ℕ) → old.issuer issuer ≡ Some customer → new.issuer issuer ≡ Some customer
+  pub seats : (seat customer : List ℕ) → old.seat seat ≡ Some customer → new.seat seat ≡ Some customer
+  pub pools : (customer : List ℕ) (block : ℕ × ℕ) → Any (IsWithin block) (old.pools customer) → Any (IsWithin block) (new.pools customer)

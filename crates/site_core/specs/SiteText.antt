@@ -76,3 +76,9 @@ abbrev pub site_read : List ℕ → Result SiteValue SiteFault
 site_read text =
     if nat_lt 1048576 (length text) then Err OverLimit
     else result_and_then (λ d. result_and_then judged (ok_or (site_of d) BadMember)) (ok_or (document_of text) NotToml)
+
+-- a text, the site that it is, and the SHA-256 of its bytes
+pub record TextOfSite : Type 0 where
+  pub text : List ℕ
+  pub site : SiteValue
+  pub digest : List ℕ

@@ -1,6 +1,7 @@
 // A customer's section of a site.
 ghost use Rattle.std.specs.Prelude.{◌≡◌, bytes_eq};
 ghost use Rattle.std.specs.List.{list_any, position};
+ghost use Rattle.site_core.specs.Growth as growth;
 ghost use Rattle.site_core.specs.Section.{has_token};
 
 use id_ranges::MacPool;
@@ -62,6 +63,13 @@ impl Seat {
     {
         self.token == *digest
     }
+
+    /// Whether the seats have one name and one token.
+    pub(crate) fn is_same_seat(&self, other: &Seat) -> bool
+        ensures { result ≡ growth.is_same_seat self.now other.now }
+    {
+        self.name == other.name && self.token == other.token
+    }
 }
 
 /// A customer: its name, the issuers of the serial numbers that it may order, the pools that its
@@ -79,7 +87,12 @@ impl Model for Customer {
 
     ghost Value = { Section };
 
-    ghost view = { λ c. record { name = c.name; issuers = c.issuers.items; pools = c.pools.items; seats = c.seats.items } };
+    ghost view = { λ c. record {
+      name = c.name;
+      issuers = c.issuers.items;
+      pools = c.pools.items;
+      seats = c.seats.items;
+    } };
 }
 
 impl Customer {
@@ -90,7 +103,12 @@ impl Customer {
         pools: Vec<MacPool>,
         seats: Vec<Seat>,
     ) -> Customer
-        ensures { result ≡ record { name = name; issuers = issuers.items; pools = pools.items; seats = seats.items } }
+        ensures { result ≡ record {
+          name = name;
+          issuers = issuers.items;
+          pools = pools.items;
+          seats = seats.items;
+        } }
     {
         Customer {
             name,
@@ -133,6 +151,13 @@ impl Customer {
         ensures { result.now ≡ self.now.seats }
     {
         self.seats.as_slice()
+    }
+
+    /// Whether a seat, with its token, is one of the customer's.
+    pub(crate) fn has_seat(&self, seat: &Seat) -> bool
+        ensures { result ≡ list_any (growth.is_same_seat seat.now) self.now.seats }
+    {
+        self.seats.iter().any(|own| seat.is_same_seat(own))
     }
 
     /// Whether some seat has a token with this SHA-256.

@@ -39,7 +39,12 @@ impl Model for CustomerDraft {
 
     ghost Value = { Section };
 
-    ghost view = { λ c. record { name = c.name; issuers = c.issuers.items; pools = c.pools.items; seats = c.seats.items } };
+    ghost view = { λ c. record {
+      name = c.name;
+      issuers = c.issuers.items;
+      pools = c.pools.items;
+      seats = c.seats.items;
+    } };
 }
 
 /// A site as a text gives it, which may have faults.

@@ -6,7 +6,8 @@ ghost use Rattle.text_core.specs.Answer.{GivesUnless, result_map};
 ghost use Rattle.site_core.specs.Section.{with_token};
 ghost use Rattle.site_core.specs.Site as site;
 ghost use Rattle.site_core.specs.Site.{is_section_over};
-ghost use Rattle.site_core.specs.SiteFaults.{has_pair, has_repeat, is_bad_pool, has_bad_pool, judged};
+ghost use Rattle.site_core.specs.SiteFaults.{has_pair, has_repeat, is_bad_pool, has_bad_pool};
+ghost use Rattle.site_core.specs.SiteFaults.{judged};
 
 use crate::customer::{Customer, ISSUER_LIMIT, POOL_LIMIT, SEAT_LIMIT, Seat};
 use crate::draft::{CustomerDraft, PoolDraft, SiteDraft};

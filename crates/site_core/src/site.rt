@@ -1,12 +1,16 @@
 // Sites, and whose a token is.
-ghost use Rattle.std.specs.Prelude.{◌≡◌, ◌<◌, IfSome, is_some, length, bytes_eq};
+ghost use Rattle.std.specs.Prelude.{◌≡◌, ◌<◌, ◌↔◌, IfSome, IsTrue, is_some, length, bytes_eq};
 ghost use Rattle.std.specs.List.{list_any, position};
 ghost use Rattle.sha2.specs.Sha256.{sha256};
-ghost use Rattle.site_core.specs.Caller.{IsSeatCaller, IsCaller, HoldsToken, caller_of, seat_caller_with, manager_with, has_seat_with, seat_at, seat_of, section_at, section_in};
+ghost use Rattle.site_core.specs.Caller.{IsSeatCaller, IsCaller, HoldsToken, caller_of};
+ghost use Rattle.site_core.specs.Caller.{seat_caller_with, manager_with, has_seat_with, seat_at};
+ghost use Rattle.site_core.specs.Caller.{seat_of, section_at, section_in};
+ghost use Rattle.site_core.specs.Growth.{IsGrowth};
 ghost use Rattle.site_core.specs.Section.{tokens_of};
 ghost use Rattle.site_core.specs.Site.{IsSite};
 
 use crate::customer::Customer;
+use crate::growth::{are_kept, keeps_manager};
 use std::marker::Model;
 use text_core::{Digest, Name};
 
@@ -72,6 +76,13 @@ impl Site {
         self.manager.is_some()
     }
 
+    /// The SHA-256 of the manager's token.
+    fn manager(&self) -> Option<Digest>
+        ensures { result ≡ self.now.manager }
+    {
+        self.manager
+    }
+
     /// The caller whose token this is: the seat whose token has the same SHA-256, or the manager if
     /// the manager's has. It takes no memory.
     pub fn who(&self, token: &[u8]) -> Option<Caller>
@@ -80,7 +91,8 @@ impl Site {
 
         // The caller holds the token, and where there is none nobody does.
         ensures holder { IfSome result (HoldsToken (sha256 token.now) self.now) }
-        ensures known { is_some result ≡ list_any (bytes_eq (sha256 token.now)) (tokens_of self.now) }
+        ensures known { is_some result ≡ list_any (bytes_eq (sha256 token.now))
+            (tokens_of self.now) }
     {
         let digest = Digest::of(token);
         match seat_caller_with(self.customers.as_slice(), &digest) {
@@ -104,6 +116,15 @@ impl Site {
         ensures { result ≡ seat_at self.now caller }
     {
         self.customer(caller).seats()[caller.seat].name()
+    }
+
+    /// Whether the new site grew from this one: each customer keeps the name, the issuers, the seats
+    /// with their tokens, and the pools in front of any others; and the manager, where there is one,
+    /// keeps the token. A site is a growth of itself. It takes no memory.
+    pub fn is_growth(&self, new: &Site) -> bool
+        ensures { IsTrue result ↔ IsGrowth self.now new.now }
+    {
+        are_kept(self.customers(), new.customers()) && keeps_manager(self.manager(), new.manager())
     }
 }
 

@@ -5,7 +5,8 @@ ghost use Rattle.text_core.specs.Answer.{GivesUnless};
 ghost use Rattle.site_core.specs.Section.{SiteValue};
 ghost use Rattle.site_core.specs.SiteFaults.{IsLowestBroken};
 ghost use Rattle.site_core.specs.SiteText as site_text;
-ghost use Rattle.site_core.specs.SiteText.{HasMembers, IsSiteText, customer_in, manager_in, pool_in, seat_in, site_of, site_read};
+ghost use Rattle.site_core.specs.SiteText.{HasMembers, IsSiteText, customer_in, manager_in};
+ghost use Rattle.site_core.specs.SiteText.{pool_in, seat_in, site_of, site_read};
 
 use crate::customer::Seat;
 use crate::draft::{CustomerDraft, PoolDraft, SiteDraft};

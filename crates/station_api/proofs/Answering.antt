@@ -10,7 +10,7 @@ use Rattle.site_core.specs.declared.site.Caller.{Caller}
 use Rattle.site_core.specs.declared.site.Caller.TheVariants.{Seat, Manager}
 use Rattle.office_tables.specs.Tables.{Tables}
 use Rattle.office_commands.specs.declared.refusal.Refusal.{Refusal}
-use Rattle.office_commands.specs.declared.refusal.Refusal.TheVariants.{UnknownToken, UnknownPath, WrongCaller, BadJson, BadMember, WrongNumber, OtherBody, UnknownMap, UnknownOrder, UnknownDevice, WrongState, BadPlan, QuantityReached, CodingScheme, BadReadback, Exists, BadMap, BadSerial, NumberTooWide, Exhausted, NoMacRoom, RangeOverlap, KeyBound, ForeignIssuer, ImportConflict, MapDigestTaken, Limit, Unkept}
+use Rattle.office_commands.specs.declared.refusal.Refusal.TheVariants.{UnknownToken, UnknownPath, WrongCaller, BadJson, BadMember, WrongNumber, OtherBody, UnknownMap, UnknownOrder, UnknownDevice, WrongState, BadPlan, QuantityReached, CodingScheme, BadReadback, BadNotBefore, Exists, BadMap, BadSerial, NumberTooWide, Exhausted, NoMacRoom, RangeOverlap, KeyBound, ForeignIssuer, ImportConflict, MapDigestTaken, Limit, Unkept}
 use Rattle.office_commands.specs.Refusals.{refusal_status}
 use Rattle.office_commands.specs.Replies.{refusal}
 use Rattle.office_tables.specs.Reading.{Reading}
@@ -39,6 +39,7 @@ unavailable_is_unkept (BadPlan fault) e = cc
 unavailable_is_unkept QuantityReached e = cc
 unavailable_is_unkept CodingScheme e = cc
 unavailable_is_unkept BadReadback e = cc
+unavailable_is_unkept BadNotBefore e = cc
 unavailable_is_unkept UnknownOrder e = cc
 unavailable_is_unkept Exists e = cc
 unavailable_is_unkept (BadMap fault) e = cc

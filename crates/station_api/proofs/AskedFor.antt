@@ -13,7 +13,7 @@ use Rattle.hex.proofs.HexLemmas.{decode_pairs-ok}
 use Rattle.text_core.specs.Answer.{result_and_then, result_map}
 use Rattle.text_core.specs.Digest.{digest_of_text}
 use Rattle.text_core.specs.Options.{◌>>=◌, all_of}
-use Rattle.json_members.specs.Json.{chip_member, digest_member, json_of, name_member, text_member, whole_member, within}
+use Rattle.json_members.specs.Json.{chip_member, digest_member, json_of, name_member, text_if_member, text_member, whole_member, within}
 use Rattle.http_fields.specs.Fields.{path_of, query_of}
 use Rattle.http_frames.specs.Frames.{Request as HttpRequest}
 use Rattle.http_replies.specs.Replies.{is_unavailable}
@@ -81,14 +81,15 @@ order_within d =
     each_gives IsNewOrder (whole_member (codes "width") 1 9 d) _ (λ width width_is.
     each_gives IsNewOrder (whole_member (codes "first") 0 largest_whole d) _ (λ first first_is.
     each_gives IsNewOrder (whole_member (codes "quantity") 1 largest_whole d) _ (λ quantity quantity_is.
-    each_gives IsNewOrder (whole_member (codes "macs") 0 4 d) _ (λ macs macs_is. record {
+    each_gives IsNewOrder (whole_member (codes "macs") 0 4 d) _ (λ macs macs_is.
+    each_gives IsNewOrder (text_if_member (codes "not_before") d) _ (λ not_before _. record {
       least_width = (member_bounds (codes "width") 1 9 width d width_is).0;
       largest_width = (member_bounds (codes "width") 1 9 width d width_is).1;
       largest_first = (member_bounds (codes "first") 0 largest_whole first d first_is).1;
       least_quantity = (member_bounds (codes "quantity") 1 largest_whole quantity d quantity_is).0;
       largest_quantity = (member_bounds (codes "quantity") 1 largest_whole quantity d quantity_is).1;
       largest_macs = (member_bounds (codes "macs") 0 4 macs d macs_is).1;
-    })))))))
+    }))))))))
 
 -- and so is the request for it
 make_order_within : (d : Data) → IfSome (make_order_of d) IsAsked

@@ -4,7 +4,7 @@ use Rattle.http_frames.specs.Frames.{Request as HttpRequest}
 use Rattle.http_replies.specs.Replies.{Answer}
 use Rattle.http_replies.specs.Runs.{Runs}
 use Rattle.site_core.specs.Caller.{section_in}
-use Rattle.site_core.specs.Owners.{owners_of}
+use Rattle.site_core.specs.Owners.{Owners, OwnersGrow, owners_of}
 use Rattle.site_core.specs.Section.{SiteValue}
 use Rattle.office_tables.specs.Keeping.{Stands}
 use Rattle.office_tables.specs.Tables.{Tables}
@@ -24,11 +24,11 @@ pub record IsKept (site : SiteValue) (t : Tables) (turns : List (HttpRequest × 
   pub isolated : (place : ℕ) → place < length site.customers
       → IsAlone (section_in site.customers place).name (own_exchanges (section_in site.customers place) turns) t t2
 
--- what some requests, answered in turn, make of the tables in a keeper: where its disk is honest after them, the tables that stood lead to those that stand, a crash leaves what a stop may leave after them, and from sound tables the books are kept
+-- what some requests, answered in turn, make of the tables in a keeper: where its disk is honest after them, the tables that stood lead to those that stand, a crash leaves what a stop may leave after them, and from tables that are sound for the site, or for one that it grew from, the books are kept
 abbrev pub Leads : {K : Type 0} → Ghosts K → SiteValue → K → K → List (HttpRequest × Answer) → Type 0
 Leads k site old new turns =
     k.is_honest new → (t : Tables) → Stands k.is_open k.tables old t
     → (t2 : Tables) × Runs (StationAnswers site) t turns t2
     × LeavesAfter (exchanges_in site turns) (k.may_leave old) t (k.may_leave new) t2
     × Stands k.is_open k.tables new t2
-    × (IsSound (owners_of site) t → IsKept site t turns t2)
+    × ((first : Owners) → OwnersGrow first (owners_of site) → IsSound first t → IsKept site t turns t2)

@@ -4,7 +4,7 @@ ghost use Rattle.http_frames.specs.Frames.{Request as HttpRequest};
 ghost use Rattle.http_replies.specs.Replies.{Answer, is_unavailable};
 ghost use Rattle.http_replies.specs.Runs.{Runs};
 ghost use Rattle.site_core.specs.Caller.{section_in};
-ghost use Rattle.site_core.specs.Owners.{owners_of};
+ghost use Rattle.site_core.specs.Owners.{Owners, OwnersGrow, owners_of};
 ghost use Rattle.site_core.specs.Section.{Section, SiteValue};
 ghost use Rattle.site_core.specs.Site.{IsSite};
 ghost use Rattle.office_laws.specs.Sound.{IsSound};
@@ -15,13 +15,16 @@ ghost use Rattle.station_api.specs.Books.{IsKept};
 ghost use Rattle.station_api.specs.Machine.{StationAnswers};
 ghost use Rattle.station_api.specs.Own.{own_exchanges};
 
-/// Requests that are answered in turn from sound tables keep the books: all that is promised of a
-/// run holds of their exchanges with the site's seats. Each customer's own exchanges are those whose
+/// Requests that are answered in turn, from tables that are sound for the site or for one that it
+/// grew from, keep the books: all that is promised of a run holds of their exchanges with the site's
+/// seats. Each customer's own exchanges are those whose
 /// requests carry the token of one of the customer's seats, but for those answered 503; the replies
 /// in them and the customer's rows are those of the customer's own machine, run on them alone.
 pub fn requests_keep_the_books()
-    ensures { (site : SiteValue) (turns : List (HttpRequest × Answer)) (t t2 : Tables)
-        → IsSite site → IsSound (owners_of site) t → Runs (StationAnswers site) t turns t2
+    ensures { (first : Owners) (site : SiteValue) (turns : List (HttpRequest × Answer))
+        (t t2 : Tables)
+        → IsSite site → OwnersGrow first (owners_of site) → IsSound first t
+        → Runs (StationAnswers site) t turns t2
         → IsKept site t turns t2 }
 {}
 

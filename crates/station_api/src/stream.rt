@@ -23,10 +23,10 @@ use std::alloc::Global;
 /// Where the store's disk is honest, each request is answered by a step of the office, by a report or
 /// by 503 with the tables as they were; the tables are those after these steps; and a crash leaves
 /// them, or those after one step more, of a request that was answered 503 since a request of the
-/// office was last answered otherwise. From sound tables, the tables stay sound; each customer's
-/// replies and rows are those of the customer's own machine, run on the customer's own requests
-/// alone; nothing that was burnt is forgotten, and what is given stays; no identity gives what
-/// another gave; and a request that comes again acts once.
+/// office was last answered otherwise. From tables that are sound for the site, or for one that it
+/// grew from, the tables stay sound; each customer's replies and rows are those of the customer's own
+/// machine, run on the customer's own requests alone; nothing that was burnt is forgotten, and what
+/// is given stays; no identity gives what another gave; and a request that comes again acts once.
 pub fn serve_stream<K: Keep, R: Source, W: Drain>(
     alloc: Global,
     keep: &mut K,

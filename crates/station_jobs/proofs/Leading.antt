@@ -6,8 +6,10 @@ use Rattle.http_replies.specs.Replies.{Answer}
 use Rattle.http_replies.proofs.RunLemmas.{runs_both}
 use Rattle.office_runs.specs.Exchanges.{Exchange}
 use Rattle.office_runs.specs.Stops.{LeavesAfter}
+use Rattle.office_runs.proofs.Grown.{sound_grown}
 use Rattle.office_runs.proofs.Leaving.{leaves_joined, leaves_none}
 use Rattle.office_tables.specs.declared.keep.Keep.{Ghosts}
+use Rattle.site_core.specs.Owners.{owners_of}
 use Rattle.site_core.specs.Section.{SiteValue}
 use Rattle.site_core.specs.Site.{IsSite}
 use Rattle.station_api.specs.Machine.{AreSaid, StationAnswers}
@@ -22,7 +24,7 @@ said_both site (turn ∷ turns) second one other = (one.0, said_both site turns 
 -- no stream leads to the tables that stood
 pub leads_itself : {K : Type 0} (k : Ghosts K) (site : SiteValue) (keep : K) → LeadsOn k site keep keep
 leads_itself k site keep =
-    ([], tt, (λ honest t stands. (t, refl, leaves_none (k.may_leave keep) t, stands, (λ sound. kept_none site t sound))))
+    ([], tt, (λ honest t stands. (t, refl, leaves_none (k.may_leave keep) t, stands, (λ first growth sound. kept_none site t (sound_grown first (owners_of site) t growth sound)))))
 
 -- streams, and then others
 pub leads_both : {K : Type 0} (k : Ghosts K) (site : SiteValue) (old middle new : K) → IsSite site
@@ -42,6 +44,7 @@ leads_both k site old middle new w was_honest first second = (
             (leaves_joined (exchanges_in site first.0) (exchanges_in site second.0) (k.may_leave old)
             (k.may_leave middle) (k.may_leave new) t before.0 after.0 before.2 after.2),
         after.3,
-        (λ sound. kept site w (first.0 ++ second.0) t after.0 sound run),
+        (λ owners growth sound.
+            kept site w (first.0 ++ second.0) t after.0 (sound_grown owners (owners_of site) t growth sound) run),
       )),
 )

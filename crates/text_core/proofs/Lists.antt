@@ -1,5 +1,6 @@
 -- What a reader gives of each item of a list.
-use Rattle.std.proofs.Common.{◌≡◌, ℕ, zero, suc, ◌+◌, ◌<◌, List, [], ◌∷◌, ◌++◌, length, get_or, take, map, Option, Some, None, option_map, option_and_then, refl, sym, ap, ◌∙◌, arith}
+use Rattle.std.proofs.Common.{◌≡◌, ℕ, zero, suc, ◌+◌, ◌<◌, List, [], ◌∷◌, ◌++◌, length, get_or, take, map, Option, Some, None, option_map, option_and_then}
+use Rattle.std.proofs.Common.{refl, sym, ap, ◌∙◌, arith}
 use Rattle.std.proofs.lemmas.List.{take_more}
 use Rattle.text_core.specs.Options.{all_of}
 
@@ -11,7 +12,8 @@ abbrev with_first : {B : Type 0} → Option (List B) → B → Option (List B)
 with_first rest y = option_map (λ ys. y ∷ ys) rest
 
 first_and_last : {B : Type 0} (first : Option B) (middle : Option (List B)) (last : Option B)
-    → option_and_then (with_first (option_and_then (with_last last) middle)) first ≡ option_and_then (with_last last) (option_and_then (with_first middle) first)
+    → option_and_then (with_first (option_and_then (with_last last) middle)) first
+    ≡ option_and_then (with_last last) (option_and_then (with_first middle) first)
 first_and_last None middle last = refl
 first_and_last (Some y) None last = refl
 first_and_last (Some y) (Some ys) None = refl

@@ -6,7 +6,8 @@ use Rattle.std.proofs.lemmas.List.{drop-replicate, length-replicate}
 use Rattle.std.proofs.Math.Seq.{drop-append_seam, take-append_seam}
 use Rattle.text_core.specs.ShortText.{IsShortText}
 
-pub IsShortText-copied : (size : ℕ) (text : List ℕ) → IsUtf8 text → length text ≤ size → IsShortText size (text ++ drop (length text) (replicate size 0)) (length text)
+pub IsShortText-copied : (size : ℕ) (text : List ℕ) → IsUtf8 text → length text ≤ size
+    → IsShortText size (text ++ drop (length text) (replicate size 0)) (length text)
 IsShortText-copied size text utf8 low =
     let zeros : drop (length text) (replicate size 0) ≡ replicate (size - length text) 0 = drop-replicate (length text) size 0 in
     record {

@@ -6,7 +6,8 @@ use Rattle.text_core.specs.InPlace.{AreAtFront}
 pub length_again : {X : Type 0} (size : ℕ) (blank : X) (array : List X) (len : ℕ) → AreAtFront size blank array len → length (take len array) ≡ len
 length_again size blank array len h = length-take-le len array (omega (arith, h.room, h.within))
 
-pub array_again : {X : Type 0} (size : ℕ) (blank : X) (array : List X) (len : ℕ) → AreAtFront size blank array len → take len array ++ replicate (size - length (take len array)) blank ≡ array
+pub array_again : {X : Type 0} (size : ℕ) (blank : X) (array : List X) (len : ℕ) → AreAtFront size blank array len
+    → take len array ++ replicate (size - length (take len array)) blank ≡ array
 array_again size blank array len h =
     ap (λ n. take len array ++ replicate (size - n) blank) (length_again size blank array len h)
     ∙ (ap (λ rest. take len array ++ rest) (sym h.blanks) ∙ take-append-drop len array)

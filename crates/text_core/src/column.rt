@@ -26,7 +26,10 @@ impl<const N: usize> Model for Column<N> {
 
     ghost inverse = { λ bytes. record { array = bytes ++ replicate (N - length bytes) 0; len = length bytes } };
 
-    ghost inverse_ok = { λ a h i. record { array = array_again N 0 a.array a.len h i; len = length_again N 0 a.array a.len h i } };
+    ghost inverse_ok = { λ a h i. record {
+      array = array_again N 0 a.array a.len h i;
+      len = length_again N 0 a.array a.len h i;
+    } };
 }
 
 impl<const N: usize> Column<N> {

@@ -1,7 +1,8 @@
 // Short texts that lie in place.
 ghost use Rattle.std.specs.Prelude.{◌≡◌, ◌≤◌, length, Some, nat_eq, refl};
 ghost use Rattle.std.specs.Cmp.{partial_equiv_from_equiv};
-ghost use Rattle.std.specs.Cmp.Lexicographic.{pointwise, slice_cmp, nat_list_cmp_total, nat_list_eq_equiv, texts_po, texts_ties};
+ghost use Rattle.std.specs.Cmp.Lexicographic.{pointwise, slice_cmp, nat_list_cmp_total};
+ghost use Rattle.std.specs.Cmp.Lexicographic.{nat_list_eq_equiv, texts_po, texts_ties};
 ghost use Rattle.std.specs.Ordering.{nat_cmp};
 
 use std::cmp::Ordering;
@@ -30,7 +31,10 @@ impl<const N: usize> Model for ShortText<N> {
 
     ghost inverse = { λ text. record { bytes = text ++ replicate (N - length text) 0; len = length text } };
 
-    ghost inverse_ok = { λ a h i. record { bytes = array_again N 0 a.bytes a.len h.front i; len = length_again N 0 a.bytes a.len h.front i } };
+    ghost inverse_ok = { λ a h i. record {
+      bytes = array_again N 0 a.bytes a.len h.front i;
+      len = length_again N 0 a.bytes a.len h.front i;
+    } };
 }
 
 impl<const N: usize> ShortText<N> {

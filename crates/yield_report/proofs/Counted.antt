@@ -29,7 +29,8 @@ make quantity registered planned settled identified shipped quarantined scrapped
 }
 
 -- numbers that are equal one by one
-pub same_yield : (a b : Yield) → a.quantity ≡ b.quantity → a.registered ≡ b.registered → a.planned ≡ b.planned → a.settled ≡ b.settled → a.identified ≡ b.identified
+pub same_yield : (a b : Yield) → a.quantity ≡ b.quantity → a.registered ≡ b.registered → a.planned ≡ b.planned → a.settled ≡ b.settled
+    → a.identified ≡ b.identified
     → a.shipped ≡ b.shipped → a.quarantined ≡ b.quarantined → a.scrapped ≡ b.scrapped → a.serials_left ≡ b.serials_left → a ≡ b
 same_yield a b quantity registered planned settled identified shipped quarantined scrapped serials_left =
     ap (λ n. make n a.registered a.planned a.settled a.identified a.shipped a.quarantined a.scrapped a.serials_left) quantity
@@ -43,7 +44,8 @@ same_yield a b quantity registered planned settled identified shipped quarantine
     ∙ (ap (λ n. make b.quantity b.registered b.planned b.settled b.identified b.shipped b.quarantined b.scrapped n) serials_left))))))))
 
 -- the first of the rows that pass two tests, and the rest of them
-one_and_rest : {A : Type 0} (p q : A → Bool) (x : A) (xs : List A) → length (filter p (filter q (x ∷ []))) + length (filter p (filter q xs)) ≡ length (filter p (filter q (x ∷ xs)))
+one_and_rest : {A : Type 0} (p q : A → Bool) (x : A) (xs : List A)
+    → length (filter p (filter q (x ∷ []))) + length (filter p (filter q xs)) ≡ length (filter p (filter q (x ∷ xs)))
 one_and_rest p q x xs = grind (arith, nat_tests)
 
 plus_both : (a x y z : ℕ) → x + y ≡ z → (a + x) + y ≡ a + z
@@ -88,7 +90,8 @@ pub devices_counted : (old : DeviceScan) (rows : List (Owned Device)) (new : Dev
     → new.lines.items ≡ map (counted (devices_in rows)) old.lines.items
 devices_counted old [] new v room = ap (λ (s : DeviceScan). s.lines.items) v ∙ sym (map_counted_none old.lines.items)
 devices_counted old (row ∷ rows) new (true, mid, taken, later) room =
-    devices_counted mid rows new later room ∙ (ap (map (counted (devices_in rows))) (taken.lines refl) ∙ map_counted_more row.row (devices_in rows) old.lines.items)
+    devices_counted mid rows new later room ∙ (ap (map (counted (devices_in rows))) (taken.lines refl)
+    ∙ map_counted_more row.row (devices_in rows) old.lines.items)
 devices_counted old (row ∷ rows) new (false, mid, taken, later) room =
     let over : new.is_over ≡ true = ap (λ (s : DeviceScan). s.is_over) later ∙ taken.over refl in
     cc

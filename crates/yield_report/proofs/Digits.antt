@@ -1,5 +1,6 @@
 -- The digits of a range's serial numbers, and the numbers that they write.
-use Rattle.std.proofs.Common.{◌≡◌, ◌≢◌, ℕ, zero, suc, ◌+◌, ◌-◌, ◌*◌, ◌^◌, ◌<◌, ◌≤◌, Bool, true, false, List, ◌++◌, length, take, drop, get_or, replicate, decimal, Some, None, inl, inr, refl, sym, ap, ◌∙◌, arith}
+use Rattle.std.proofs.Common.{◌≡◌, ◌≢◌, ℕ, zero, suc, ◌+◌, ◌-◌, ◌*◌, ◌^◌, ◌<◌, ◌≤◌, Bool, true, false, List, ◌++◌, length, take, drop, get_or, replicate}
+use Rattle.std.proofs.Common.{decimal, Some, None, inl, inr, refl, sym, ap, ◌∙◌, arith}
 use Rattle.std.specs.Str.{bytes_eq}
 use Rattle.std.specs.Str.Parse.{digits_value, AllDigits}
 use Rattle.std.specs.List.{list_any, range_with_len}
@@ -59,7 +60,8 @@ pub front_of_text : (r : Range) (n : ℕ) (serial : List ℕ) → serial ≡ tex
 front_of_text r n serial is = ap (take (length r.prefix)) is ∙ take_at r.prefix (zero_padded r.width (decimal n)) (length r.prefix) refl
 
 -- the number that they write is the serial number's
-pub value_of_text : (r : Range) → IsRange r → (n : ℕ) → Has r n → (serial : List ℕ) → serial ≡ text_of r n → (digits : List ℕ) → digits ≡ drop (length r.prefix) serial
+pub value_of_text : (r : Range) → IsRange r → (n : ℕ) → Has r n → (serial : List ℕ) → serial ≡ text_of r n → (digits : List ℕ)
+    → digits ≡ drop (length r.prefix) serial
     → (value : ℕ) → (AllDigits 10 digits → value ≡ digits_value 10 digits) → value ≡ n
 value_of_text r is n has serial text digits cut value says =
     let same : digits ≡ zero_padded r.width (decimal n) = cut ∙ digits_of_text r n serial text in
@@ -95,16 +97,19 @@ has_none r serial none =
     (λ n low high. false_from_ne_true _ (λ t. none n (low, high) ((bytes_eq-Decides serial (text_of r n)).0 t)))
 
 -- the number of the digits that are read after the prefix
-pub number_is : (r : Range) → IsRange r → (n : ℕ) → Has r n → (serial : List ℕ) → serial ≡ text_of r n → (front bytes : List ℕ) → front ≡ r.prefix → bytes ≡ serial
+pub number_is : (r : Range) → IsRange r → (n : ℕ) → Has r n → (serial : List ℕ) → serial ≡ text_of r n → (front bytes : List ℕ) → front ≡ r.prefix
+    → bytes ≡ serial
     → (value : ℕ)
-    → (AllDigits 10 (take (length bytes - length front) (drop (length front) bytes)) → value ≡ digits_value 10 (take (length bytes - length front) (drop (length front) bytes)))
+    → (AllDigits 10 (take (length bytes - length front) (drop (length front) bytes))
+    → value ≡ digits_value 10 (take (length bytes - length front) (drop (length front) bytes)))
     → value ≡ n
 number_is r is n has serial text front bytes front_is bytes_is value says =
     value_of_text r is n has serial text (take (length bytes - length front) (drop (length front) bytes))
     (take_rest bytes (length front) ∙ (ap (λ (f : List ℕ). drop (length f) bytes) front_is ∙ ap (drop (length r.prefix)) bytes_is)) value says
 
 -- the test by the one number that it may be
-pub has_by : (r : Range) (serial : List ℕ) (n : ℕ) → Has r n → ((k : ℕ) → Has r k → serial ≡ text_of r k → Some n ≡ Some k) → (e : Bool) → e ≡ bytes_eq (text_of r n) serial
+pub has_by : (r : Range) (serial : List ℕ) (n : ℕ) → Has r n → ((k : ℕ) → Has r k → serial ≡ text_of r k → Some n ≡ Some k) → (e : Bool)
+    → e ≡ bytes_eq (text_of r n) serial
     → e ≡ has_serial r serial
 has_by r serial n has only true e = sym (has_at r serial n has (sym ((bytes_eq-Decides (text_of r n) serial).0 (sym e))))
 has_by r serial n has only false e =

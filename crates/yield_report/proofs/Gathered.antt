@@ -16,7 +16,8 @@ pub lines_gathered : (old : OrderScan) (rows : List (Owned Order)) (new : OrderS
     → new.lines.items ≡ old.lines.items ++ lines_in rows
 lines_gathered old [] new v room = ap (λ (s : OrderScan). s.lines.items) v ∙ sym (append-nil old.lines.items)
 lines_gathered old (row ∷ rows) new (true, mid, taken, later) room =
-    lines_gathered mid rows new later room ∙ (ap (λ lines. lines ++ lines_in rows) (taken.lines refl) ∙ append_assoc old.lines.items (first_line row.row ∷ []) (lines_in rows))
+    lines_gathered mid rows new later room ∙ (ap (λ lines. lines ++ lines_in rows) (taken.lines refl)
+    ∙ append_assoc old.lines.items (first_line row.row ∷ []) (lines_in rows))
 lines_gathered old (row ∷ rows) new (false, mid, taken, later) room =
     let full : new.is_full ≡ true = ap (λ (s : OrderScan). s.is_full) later ∙ taken.full refl in
     cc

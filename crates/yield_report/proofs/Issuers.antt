@@ -1,5 +1,6 @@
 -- One walk for each issuer leaves each line what isn't given in its own.
-use Rattle.std.proofs.Common.{Option, ◌≡◌, ℕ, ◌+◌, ◌<◌, Bool, true, false, not, List, [], ◌∷◌, ◌++◌, map, length, take, get_or, None, Some, inl, inr, refl, sym, ap, ap₂, ◌∙◌, subst, arith, cond}
+use Rattle.std.proofs.Common.{Option, ◌≡◌, ℕ, ◌+◌, ◌<◌, Bool, true, false, not, List, [], ◌∷◌, ◌++◌, map, length, take, get_or, None, Some, inl, inr, refl}
+use Rattle.std.proofs.Common.{sym, ap, ap₂, ◌∙◌, subst, arith, cond}
 use Rattle.std.specs.Prelude.{◌||◌, bytes_eq, if◌then◌else◌, option_and_then, option_map, slice_get}
 use Rattle.std.specs.List.{list_any, AllByRecursion}
 use Rattle.std.proofs.lemmas.Bool.{or_left, or_right}
@@ -20,7 +21,8 @@ use Rattle.yield_report.specs.declared.lines.OrderLine.{OrderLine}
 use Rattle.yield_report.proofs.RisingSerials.{given_is_listed, left_count}
 
 -- as many records are of the line's range as its serial numbers are given
-pub counted_is_given : (t : Tables) (line : OrderLine) → IsRange line.range → AreRising None (serials_of line.issuer t) → count_of_range line (serials_of line.issuer t) ≡ given_of (has_given_in t) line
+pub counted_is_given : (t : Tables) (line : OrderLine) → IsRange line.range → AreRising None (serials_of line.issuer t)
+    → count_of_range line (serials_of line.issuer t) ≡ given_of (has_given_in t) line
 counted_is_given t line is rising =
     let all = left_count line.range is None (serials_of line.issuer t) rising in
     let same = ap length (filter_agree _ (is_unused (has_given_in t line.issuer) line.range)
@@ -43,14 +45,17 @@ or_none true = refl
 or_none false = refl
 
 -- whether a line is met by one line more
-met_more : (lines : List OrderLine) (next line : OrderLine) → is_met (lines ++ next ∷ []) line ≡ (is_met lines line || (bytes_eq next.issuer line.issuer || false))
+met_more : (lines : List OrderLine) (next line : OrderLine) → is_met (lines ++ next ∷ []) line
+    ≡ (is_met lines line || (bytes_eq next.issuer line.issuer || false))
 met_more lines next line = list_any-append (λ (l : OrderLine). bytes_eq l.issuer line.issuer) lines (next ∷ [])
 
 met_like : (lines : List OrderLine) (line other : OrderLine) → bytes_eq line.issuer other.issuer ≡ true → is_met lines line ≡ is_met lines other
-met_like lines line other same = ap (λ issuer. list_any (λ (l : OrderLine). bytes_eq l.issuer issuer) lines) ((bytes_eq-Decides line.issuer other.issuer).0 same)
+met_like lines line other same =
+    ap (λ issuer. list_any (λ (l : OrderLine). bytes_eq l.issuer issuer) lines) ((bytes_eq-Decides line.issuer other.issuer).0 same)
 
 -- the walk over the records of an issuer that wasn't met yet
-first_step : (t : Tables) (lines : List OrderLine) (next line : OrderLine) → IsRange line.range → is_met lines next ≡ false → AreRising None (serials_of next.issuer t)
+first_step : (t : Tables) (lines : List OrderLine) (next line : OrderLine) → IsRange line.range → is_met lines next ≡ false
+    → AreRising None (serials_of next.issuer t)
     → taken next.issuer (serials_of next.issuer t) (left_so_far (has_given_in t) lines line) ≡ left_so_far (has_given_in t) (lines ++ next ∷ []) line
 first_step t lines next line is new rising =
     elim (bytes_eq line.issuer next.issuer) as (λ b. bytes_eq line.issuer next.issuer ≡ b
@@ -67,12 +72,14 @@ first_step t lines next line is new rising =
       | false ↦ λ e.
           let same : is_met (lines ++ next ∷ []) line ≡ is_met lines line =
           met_more lines next line ∙ rw (nat_list_eq_equiv.symm next.issuer line.issuer, e) (or_none (is_met lines line)) in
-          taken_other next.issuer (serials_of next.issuer t) (left_so_far (has_given_in t) lines line) (ap (λ issuer. bytes_eq issuer next.issuer) (same_issuer (has_given_in t) lines line) ∙ e)
+          taken_other next.issuer (serials_of next.issuer t) (left_so_far (has_given_in t) lines line)
+          (ap (λ issuer. bytes_eq issuer next.issuer) (same_issuer (has_given_in t) lines line) ∙ e)
           ∙ ap (λ (b : Bool). cond b (left_in (has_given_in t) line) line) (sym same)
     ] refl
 
 -- a line of an issuer that was met changes nothing
-other_step : (given : HasGiven) (lines : List OrderLine) (next line : OrderLine) → is_met lines next ≡ true → left_so_far given lines line ≡ left_so_far given (lines ++ next ∷ []) line
+other_step : (given : HasGiven) (lines : List OrderLine) (next line : OrderLine) → is_met lines next ≡ true
+    → left_so_far given lines line ≡ left_so_far given (lines ++ next ∷ []) line
 other_step given lines next line met =
     ap (λ (b : Bool). cond b (left_in given line) line) (
     elim (bytes_eq line.issuer next.issuer) as (λ b. bytes_eq line.issuer next.issuer ≡ b → is_met lines line ≡ is_met (lines ++ next ∷ []) line) [
@@ -94,7 +101,8 @@ met_issuer false next none = absurd (none-some next (sym none))
 
 map_first_step : (t : Tables) (lines : List OrderLine) (next : OrderLine) (all : List OrderLine) → AllByRecursion IsLine all
     → is_met lines next ≡ false → AreRising None (serials_of next.issuer t)
-    → map (taken next.issuer (serials_of next.issuer t)) (map (left_so_far (has_given_in t) lines) all) ≡ map (left_so_far (has_given_in t) (lines ++ next ∷ [])) all
+    → map (taken next.issuer (serials_of next.issuer t)) (map (left_so_far (has_given_in t) lines) all)
+    ≡ map (left_so_far (has_given_in t) (lines ++ next ∷ [])) all
 map_first_step t lines next [] are new rising = refl
 map_first_step t lines next (line ∷ all) are new rising =
     ap₂ (λ (l : OrderLine) (ls : List OrderLine). l ∷ ls) (first_step t lines next line are.0.0 new rising) (map_first_step t lines next all are.1 new rising)
@@ -124,14 +132,17 @@ map_all_met given all = all_met given [] all
 
 -- whether the issuer of a place was met, by the lines as they are now
 met_now : (given : HasGiven) (lines : List OrderLine) (issuer : List ℕ) (front : List OrderLine)
-    → list_any (λ (l : OrderLine). bytes_eq l.issuer issuer) (map (left_so_far given lines) front) ≡ list_any (λ (l : OrderLine). bytes_eq l.issuer issuer) front
+    → list_any (λ (l : OrderLine). bytes_eq l.issuer issuer) (map (left_so_far given lines) front)
+    ≡ list_any (λ (l : OrderLine). bytes_eq l.issuer issuer) front
 met_now given lines issuer [] = refl
 met_now given lines issuer (line ∷ front) =
     rw (same_issuer given lines line, met_now given lines issuer front) refl
 
 -- the issuer of a place that no line before it has
-pub new_issuer_at : (lines : List OrderLine) (place : ℕ) (line : OrderLine) (issuer : List ℕ) → place < length lines → line ≡ get_or lines place line → issuer ≡ line.issuer
-    → (met : Bool) → met ≡ list_any (λ (l : OrderLine). bytes_eq l.issuer issuer) (take place lines) → (if met then None else Some issuer) ≡ new_issuer lines place
+pub new_issuer_at : (lines : List OrderLine) (place : ℕ) (line : OrderLine) (issuer : List ℕ) → place < length lines → line ≡ get_or lines place line
+    → issuer ≡ line.issuer
+    → (met : Bool) → met ≡ list_any (λ (l : OrderLine). bytes_eq l.issuer issuer) (take place lines)
+    → (if met then None else Some issuer) ≡ new_issuer lines place
 new_issuer_at lines place line issuer within here is met says =
     rw (slice_get_read lines (length lines) place line refl within here)
     (ap (λ (b : Bool). if b then None else Some issuer) (says ∙ ap (λ i. list_any (λ (l : OrderLine). bytes_eq l.issuer i) (take place lines)) is)
@@ -161,22 +172,26 @@ place_taken t before lines left place issuer within ranges is found rising takes
       | inl here ↦
           let next : OrderLine = here.0 in
           let now = sym (ap (λ (ls : List OrderLine). new_issuer ls place) is ∙ issuer_now (has_given_in t) before place next here.2) ∙ found in
-          let more : take (place + 1) before ≡ take place before ++ next ∷ [] = take_more before place next within ∙ ap (λ (l : OrderLine). take place before ++ l ∷ []) here.3 in
+          let more : take (place + 1) before ≡ take place before ++ next ∷ [] =
+          take_more before place next within ∙ ap (λ (l : OrderLine). take place before ++ l ∷ []) here.3 in
           let new = unmet_issuer (is_met (take place before) next) next.issuer issuer now in
           takes ∙ (ap (map (taken issuer (serials_of issuer t))) is
-          ∙ rw (sym new.1, more) (map_first_step t (take place before) next before ranges new.0 (subst (λ i. AreRising None (serials_of i t)) (sym new.1) rising)))
+          ∙ rw (sym new.1, more) (map_first_step t (take place before) next before ranges new.0
+          (subst (λ i. AreRising None (serials_of i t)) (sym new.1) rising)))
       | inr past ↦ absurd (omega (arith, within, past.0))
     ]
 
 -- one place more, where a line before it has its issuer
 pub place_met : (given : HasGiven) (before lines : List OrderLine) (place : ℕ) → place < length before
-    → lines ≡ map (left_so_far given (take place before)) before → new_issuer lines place ≡ None → lines ≡ map (left_so_far given (take (place + 1) before)) before
+    → lines ≡ map (left_so_far given (take place before)) before → new_issuer lines place ≡ None
+    → lines ≡ map (left_so_far given (take (place + 1) before)) before
 place_met given before lines place within is none =
     elim (slice_get_cases before place).1 [
       | inl here ↦
           let next : OrderLine = here.0 in
           let now = sym (ap (λ (ls : List OrderLine). new_issuer ls place) is ∙ issuer_now given before place next here.2) ∙ none in
-          let more : take (place + 1) before ≡ take place before ++ next ∷ [] = take_more before place next within ∙ ap (λ (l : OrderLine). take place before ++ l ∷ []) here.3 in
+          let more : take (place + 1) before ≡ take place before ++ next ∷ [] =
+          take_more before place next within ∙ ap (λ (l : OrderLine). take place before ++ l ∷ []) here.3 in
           is ∙ rw more (map_other_step given (take place before) next before (met_issuer (is_met (take place before) next) next.issuer now))
       | inr past ↦ absurd (omega (arith, within, past.0))
     ]

@@ -10,7 +10,8 @@ abbrev pub IsPassed : {A : Type 0} → (A → A → Ordering) → A → List A �
 IsPassed cmp x xs i = placed cmp x xs ≡ take i xs ++ placed cmp x (drop i xs)
 
 -- a name that is equal takes the place
-pub placed_over : {A : Type 0} (cmp : A → A → Ordering) (x : A) (xs : List A) (i : ℕ) (y : A) → i < length xs → y ≡ get_or xs i y → cmp x y ≡ Equal → IsPassed cmp x xs i
+pub placed_over : {A : Type 0} (cmp : A → A → Ordering) (x : A) (xs : List A) (i : ℕ) (y : A) → i < length xs → y ≡ get_or xs i y → cmp x y ≡ Equal
+    → IsPassed cmp x xs i
     → take i xs ++ x ∷ drop (suc i) xs ≡ placed cmp x xs
 placed_over {A} cmp x xs i y within here equal passed =
     let cut : drop i xs ≡ y ∷ drop (i + 1) xs = drop_more xs i y within ∙ ap (λ (z : A). z ∷ drop (i + 1) xs) (sym here) in
@@ -27,6 +28,7 @@ name_before customers i c within here =
     let place : length customers - 1 - i ≡ k = omega arith in
     let next : k + 1 ≡ length customers - i = omega arith in
     let names : List (List ℕ) = map (λ s. s.name) customers in
-    let is : get_or names k c.name ≡ c.name = get_or-map (λ s. s.name) customers k c c.name (omega arith) ∙ ap (λ s. s.name) (sym (here ∙ ap (λ j. get_or customers j c) place)) in
+    let is : get_or names k c.name ≡ c.name =
+    get_or-map (λ s. s.name) customers k c c.name (omega arith) ∙ ap (λ s. s.name) (sym (here ∙ ap (λ j. get_or customers j c) place)) in
     drop_more names k c.name (let size = length-map customers (λ s. s.name) in omega (arith, size))
     ∙ (ap (λ x. x ∷ drop (k + 1) names) is ∙ ap (λ j. c.name ∷ drop j names) next)

@@ -1,5 +1,6 @@
 -- How many serial numbers of a range are left, where the given ones rise.
-use Rattle.std.proofs.Common.{◌≡◌, ℕ, zero, suc, ◌+◌, ◌<◌, ◌≤◌, Bool, true, false, not, List, [], ◌∷◌, length, Option, Some, Ordering, Less, Equal, Greater, inl, inr, refl, sym, ap, ◌∙◌, arith, cond}
+use Rattle.std.proofs.Common.{◌≡◌, ℕ, zero, suc, ◌+◌, ◌<◌, ◌≤◌, Bool, true, false, not, List, [], ◌∷◌, length, Option, Some, Ordering, Less, Equal, Greater}
+use Rattle.std.proofs.Common.{inl, inr, refl, sym, ap, ◌∙◌, arith, cond}
 use Rattle.std.specs.Prelude.{◌||◌, filter, find, is_some}
 use Rattle.std.specs.List.{list_any, range_with_len}
 use Rattle.std.specs.Ordering.{is_eq, is_lt}
@@ -50,7 +51,8 @@ rest_same p q first zero none = refl
 rest_same p q first (suc count) none =
     let here = none first (omega arith) (omega arith) in
     let rest = rest_same p q (first + 1) count (λ n low high. none n (omega arith) (omega arith)) in
-    elim (p first) as (λ b. length (cond (not (q first || b)) (first ∷ filter (λ n. not (q n || p n)) (range_with_len (first + 1) count)) (filter (λ n. not (q n || p n)) (range_with_len (first + 1) count)))
+    elim (p first) as (λ b. length (cond (not (q first || b)) (first ∷ filter (λ n. not (q n || p n)) (range_with_len (first + 1) count))
+    (filter (λ n. not (q n || p n)) (range_with_len (first + 1) count)))
     ≡ length (cond (not b) (first ∷ filter (λ n. not (p n)) (range_with_len (first + 1) count)) (filter (λ n. not (p n)) (range_with_len (first + 1) count)))) [
       | true ↦ rw here rest
       | false ↦ rw here (ap suc rest)
@@ -59,7 +61,8 @@ rest_same p q first (suc count) none =
 -- one number of a range is passed over
 one_less : (p q : ℕ → Bool) (first count : ℕ) → ((m n : ℕ) → first ≤ m → m < n → n < first + count → q m ≡ true → q n ≡ false)
     → ((n : ℕ) → first ≤ n → n < first + count → q n ≡ true → p n ≡ false)
-    → length (filter (λ n. not (q n || p n)) (range_with_len first count)) + cond (list_any q (range_with_len first count)) 1 0 ≡ length (filter (λ n. not (p n)) (range_with_len first count))
+    → length (filter (λ n. not (q n || p n)) (range_with_len first count)) + cond (list_any q (range_with_len first count)) 1 0
+    ≡ length (filter (λ n. not (p n)) (range_with_len first count))
 one_less p q first zero unique apart = refl
 one_less p q first (suc count) unique apart =
     elim (cases_Bool (q first)) [
@@ -68,10 +71,14 @@ one_less p q first (suc count) unique apart =
           let rest = rest_same p q (first + 1) count (λ n low high. unique first n (omega arith) (omega arith) (omega arith) passes) in
           rw (passes, free) (omega (arith, rest))
       | inr fails ↦
-          let rest = one_less p q (first + 1) count (λ m n low less high. unique m n (omega arith) less (omega arith)) (λ n low high. apart n (omega arith) (omega arith)) in
-          elim (p first) as (λ b. length (cond (not (q first || b)) (first ∷ filter (λ n. not (q n || p n)) (range_with_len (first + 1) count)) (filter (λ n. not (q n || p n)) (range_with_len (first + 1) count)))
+          let rest =
+          one_less p q (first + 1) count (λ m n low less high. unique m n (omega arith) less (omega arith)) (λ n low high.
+          apart n (omega arith) (omega arith)) in
+          elim (p first) as (λ b. length (cond (not (q first || b)) (first ∷ filter (λ n. not (q n || p n)) (range_with_len (first + 1) count))
+          (filter (λ n. not (q n || p n)) (range_with_len (first + 1) count)))
           + cond (q first || list_any q (range_with_len (first + 1) count)) 1 0
-          ≡ length (cond (not b) (first ∷ filter (λ n. not (p n)) (range_with_len (first + 1) count)) (filter (λ n. not (p n)) (range_with_len (first + 1) count)))) [
+          ≡ length (cond (not b) (first ∷ filter (λ n. not (p n)) (range_with_len (first + 1) count))
+          (filter (λ n. not (p n)) (range_with_len (first + 1) count)))) [
             | true ↦ rw fails rest
             | false ↦ rw fails (omega (arith, rest))
           ]
@@ -102,8 +109,10 @@ left_count r is last (s ∷ ss) rising =
     (λ n low high passes.
     let one = (bytes_eq-Decides (text_of r n) s).0 passes in
     rw one (rises_apart s ss rising.1)) in
-    let tested : has_serial r s ≡ list_any q (numbers r) = any_same (λ n. bytes_eq s (text_of r n)) q (λ n. nat_list_eq_equiv.symm s (text_of r n)) (numbers r) in
-    elim (has_serial r s) as (λ b. has_serial r s ≡ b → length (filter (is_new (s ∷ ss) r) (numbers r)) + length (cond b (s ∷ filter (has_serial r) ss) (filter (has_serial r) ss)) ≡ r.quantity) [
+    let tested : has_serial r s ≡ list_any q (numbers r) =
+    any_same (λ n. bytes_eq s (text_of r n)) q (λ n. nat_list_eq_equiv.symm s (text_of r n)) (numbers r) in
+    elim (has_serial r s) as (λ b. has_serial r s ≡ b → length (filter (is_new (s ∷ ss) r) (numbers r)) + length
+    (cond b (s ∷ filter (has_serial r) ss) (filter (has_serial r) ss)) ≡ r.quantity) [
       | true ↦ λ e. let t = rw (sym tested ∙ e) at step in omega (arith, t, rest)
       | false ↦ λ e. let t = rw (sym tested ∙ e) at step in omega (arith, t, rest)
     ] refl

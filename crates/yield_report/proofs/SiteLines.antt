@@ -19,10 +19,14 @@ use Rattle.yield_report.proofs.Counted.{same_yield}
 use Rattle.yield_report.proofs.WholeLines.{report_more}
 
 added_none : (y : Yield) → added no_yield y ≡ added y no_yield
-added_none y = same_yield (added no_yield y) (added y no_yield) (omega arith) (omega arith) (omega arith) (omega arith) (omega arith) (omega arith) (omega arith) (omega arith) (omega arith)
+added_none y =
+    same_yield (added no_yield y) (added y no_yield) (omega arith) (omega arith) (omega arith) (omega arith) (omega arith) (omega arith) (omega arith)
+    (omega arith) (omega arith)
 
 added_assoc : (a b c : Yield) → added a (added b c) ≡ added (added a b) c
-added_assoc a b c = same_yield (added a (added b c)) (added (added a b) c) (omega arith) (omega arith) (omega arith) (omega arith) (omega arith) (omega arith) (omega arith) (omega arith) (omega arith)
+added_assoc a b c =
+    same_yield (added a (added b c)) (added (added a b) c) (omega arith) (omega arith) (omega arith) (omega arith) (omega arith) (omega arith) (omega arith)
+    (omega arith) (omega arith)
 
 -- the sum with one line more
 total_last : (ys : List Yield) (y : Yield) → total (ys ++ y ∷ []) ≡ added (total ys) y
@@ -31,15 +35,36 @@ total_last (z ∷ ys) y = ap (added z) (total_last ys y) ∙ added_assoc z (tota
 
 -- the sum of two lists
 total_both : (xs ys : List Yield) → total (xs ++ ys) ≡ added (total xs) (total ys)
-total_both [] ys = sym (added_none (total ys) ∙ same_yield (added (total ys) no_yield) (total ys) (omega arith) (omega arith) (omega arith) (omega arith) (omega arith) (omega arith) (omega arith) (omega arith) (omega arith))
+total_both [] ys =
+    sym (added_none (total ys) ∙ same_yield (added (total ys) no_yield) (total ys) (omega arith) (omega arith) (omega arith) (omega arith) (omega arith)
+    (omega arith) (omega arith) (omega arith) (omega arith))
 total_both (x ∷ xs) ys = ap (added x) (total_both xs ys) ∙ added_assoc x (total xs) (total ys)
 
 -- where the tables have room for a sum they have for its first part
 first_fits : (a b : Yield) → AreStorable (numbers_of (added a b)) → AreStorable (numbers_of a)
-first_fits a b h = (omega (arith, h.0), (omega (arith, h.1.0), (omega (arith, h.1.1.0), (omega (arith, h.1.1.1.0), (omega (arith, h.1.1.1.1.0), (omega (arith, h.1.1.1.1.1.0), (omega (arith, h.1.1.1.1.1.1.0), (omega (arith, h.1.1.1.1.1.1.1.0), (omega (arith, h.1.1.1.1.1.1.1.1.0), tt)))))))))
+first_fits a b h = (
+  omega (arith, h.0),
+  (
+    omega (arith, h.1.0),
+    (
+      omega (arith, h.1.1.0),
+      (
+        omega (arith, h.1.1.1.0),
+        (
+          omega (arith, h.1.1.1.1.0),
+          (
+            omega (arith, h.1.1.1.1.1.0),
+            (omega (arith, h.1.1.1.1.1.1.0), (omega (arith, h.1.1.1.1.1.1.1.0), (omega (arith, h.1.1.1.1.1.1.1.1.0), tt))),
+          ),
+        ),
+      ),
+    ),
+  ),
+)
 
 -- the sum with the line at a place
-pub next_sum : (lines : List OrderLine) (i : ℕ) (line : OrderLine) (sums : Yield) → i < length lines → line ≡ get_or lines i line → sums ≡ total (numbers_in (take i lines))
+pub next_sum : (lines : List OrderLine) (i : ℕ) (line : OrderLine) (sums : Yield) → i < length lines → line ≡ get_or lines i line
+    → sums ≡ total (numbers_in (take i lines))
     → added sums line.numbers ≡ total (numbers_in (take (i + 1) lines))
 next_sum lines i line sums within here is =
     let more : numbers_in (take (i + 1) lines) ≡ numbers_in (take i lines) ++ line.numbers ∷ [] =
@@ -47,7 +72,8 @@ next_sum lines i line sums within here is =
     ap (λ (y : Yield). added y line.numbers) is ∙ (sym (total_last (numbers_in (take i lines)) line.numbers) ∙ ap total (sym more))
 
 -- where the tables have room for the sum of all lines they have for that of the lines up to a place
-pub front_fits : (lines : List OrderLine) (i : ℕ) → AreStorable (numbers_of (total (numbers_in lines))) → AreStorable (numbers_of (total (numbers_in (take i lines))))
+pub front_fits : (lines : List OrderLine) (i : ℕ) → AreStorable (numbers_of (total (numbers_in lines)))
+    → AreStorable (numbers_of (total (numbers_in (take i lines))))
 front_fits lines i fit =
     let all : numbers_in lines ≡ numbers_in (take i lines) ++ numbers_in (drop i lines) =
     ap numbers_in (sym (take-append-drop i lines)) ∙ map-append (λ l. l.numbers) (take i lines) (drop i lines) in
@@ -55,14 +81,16 @@ front_fits lines i fit =
     first_fits (total (numbers_in (take i lines))) (total (numbers_in (drop i lines))) (subst (λ (y : Yield). AreStorable (numbers_of y)) sums fit)
 
 -- the numbers of the lines of orders
-pub numbers_of_lines : (given : HasGiven) (devices : List Device) (orders : List Order) → map (λ line. line.numbers) (map (whole_line given devices) orders) ≡ map (yield_of given devices) orders
+pub numbers_of_lines : (given : HasGiven) (devices : List Device) (orders : List Order) → map (λ line.
+    line.numbers) (map (whole_line given devices) orders) ≡ map (yield_of given devices) orders
 numbers_of_lines given devices [] = refl
 numbers_of_lines given devices (o ∷ os) = ap (λ (ys : List Yield). yield_of given devices o ∷ ys) (numbers_of_lines given devices os)
 
 -- the line of a customer, and that the tables have room for its numbers
 pub customer_is : (customer : List ℕ) (t : Tables) (lines : List OrderLine) (sums : Yield) (count : ℕ) (before after : List ℕ)
     → AreWhole customer t lines → sums ≡ total (numbers_in lines) → count ≡ length lines → count ≤ 9223372036854775807 → AreStorable (numbers_of sums)
-    → after ≡ with_row before (named_numbers customer (count ∷ numbers_of sums)) → (after ≡ with_row before (customer_line_in t customer)) × FitsCustomer t customer
+    → after ≡ with_row before (named_numbers customer (count ∷ numbers_of sums))
+    → (after ≡ with_row before (customer_line_in t customer)) × FitsCustomer t customer
 customer_is customer t lines sums count before after is summed counted low fit text =
     let given = has_given_in t in
     let orders = own customer t.orders in

@@ -35,7 +35,9 @@ taken_more : (issuer s : List ℕ) (ss : List (List ℕ)) (line : OrderLine) →
 taken_more issuer s ss line =
     elim (bytes_eq line.issuer issuer) as (λ b. bytes_eq line.issuer issuer ≡ b
     → taken issuer ss (cond b (less (count_of_range line (s ∷ [])) line) line) ≡ cond b (less (count_of_range line (s ∷ ss)) line) line) [
-      | true ↦ λ e. rw e (less_more (count_of_range line (s ∷ [])) (count_of_range line ss) (count_of_range line (s ∷ ss)) line (one_and_rest (has_serial line.range) s ss))
+      | true ↦
+          λ e. rw e (less_more (count_of_range line (s ∷ [])) (count_of_range line ss) (count_of_range line (s ∷ ss)) line
+          (one_and_rest (has_serial line.range) s ss))
       | false ↦ λ e. rw e refl
     ] refl
 
@@ -43,15 +45,18 @@ map_taken_none : (issuer : List ℕ) (lines : List OrderLine) → map (taken iss
 map_taken_none issuer [] = refl
 map_taken_none issuer (line ∷ lines) = ap₂ (λ (l : OrderLine) (ls : List OrderLine). l ∷ ls) (taken_none issuer line) (map_taken_none issuer lines)
 
-map_taken_more : (issuer s : List ℕ) (ss : List (List ℕ)) (lines : List OrderLine) → map (taken issuer ss) (map (taken issuer (s ∷ [])) lines) ≡ map (taken issuer (s ∷ ss)) lines
+map_taken_more : (issuer s : List ℕ) (ss : List (List ℕ)) (lines : List OrderLine)
+    → map (taken issuer ss) (map (taken issuer (s ∷ [])) lines) ≡ map (taken issuer (s ∷ ss)) lines
 map_taken_more issuer s ss [] = refl
-map_taken_more issuer s ss (line ∷ lines) = ap₂ (λ (l : OrderLine) (ls : List OrderLine). l ∷ ls) (taken_more issuer s ss line) (map_taken_more issuer s ss lines)
+map_taken_more issuer s ss (line ∷ lines) =
+    ap₂ (λ (l : OrderLine) (ls : List OrderLine). l ∷ ls) (taken_more issuer s ss line) (map_taken_more issuer s ss lines)
 
 unordered_since : (mid new : GivenScan) → new ≡ mid → mid.is_unordered ≡ true → new.is_unordered ≡ false → true ≡ false
 unordered_since mid new same one other = sym one ∙ (sym (ap (λ (s : GivenScan). s.is_unordered) same) ∙ other)
 
 -- a walk that wasn't broken off met serial numbers that rise
-pub serials_rise : (old : GivenScan) (rows : List (Owned Given)) (new : GivenScan) → Visits TakesSerial old rows new → new.is_unordered ≡ false → AreRising old.last (serials_in rows)
+pub serials_rise : (old : GivenScan) (rows : List (Owned Given)) (new : GivenScan) → Visits TakesSerial old rows new → new.is_unordered ≡ false
+    → AreRising old.last (serials_in rows)
 serials_rise old [] new v ordered = tt
 serials_rise old (row ∷ rows) new (true, mid, takes, later) ordered =
     (takes.rises refl, subst (λ last. AreRising last (serials_in rows)) (takes.last refl) (serials_rise mid rows new later ordered))

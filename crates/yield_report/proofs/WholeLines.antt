@@ -35,7 +35,8 @@ filter_short p (x ∷ xs) =
 line_whole : (given : HasGiven) (devices : List Device) (o : Order) → left_in given (counted devices (first_line o)) ≡ whole_line given devices o
 line_whole given devices o =
     let unused : ℕ = length (filter (is_unused (given o.issuer) o.range) (numbers o.range)) in
-    let few : unused ≤ o.range.quantity = let short = filter_short (is_unused (given o.issuer) o.range) (numbers o.range) in omega (arith, short, length-range_with_len o.range.first o.range.quantity) in
+    let few : unused ≤ o.range.quantity = let short =
+    filter_short (is_unused (given o.issuer) o.range) (numbers o.range) in omega (arith, short, length-range_with_len o.range.first o.range.quantity) in
     ap (λ y. record { name = o.name; issuer = o.issuer; range = o.range; numbers = y })
     (same_yield (left_in given (counted devices (first_line o))).numbers (yield_of given devices o)
     (omega arith) (none_plus _) (none_plus _) (none_plus _) (none_plus _) (none_plus _) (none_plus _) (none_plus _) (omega (arith, few)))
@@ -45,7 +46,8 @@ pub lines_whole : (given : HasGiven) (devices : List Device) (orders : List Orde
 lines_whole given devices [] = refl
 lines_whole given devices (o ∷ os) = ap₂ (λ (l : OrderLine) (ls : List OrderLine). l ∷ ls) (line_whole given devices o) (lines_whole given devices os)
 
-fields_of_lines : (given : HasGiven) (devices : List Device) (orders : List Order) → map line_fields (map (whole_line given devices) orders) ≡ map (order_line given devices) orders
+fields_of_lines : (given : HasGiven) (devices : List Device) (orders : List Order)
+    → map line_fields (map (whole_line given devices) orders) ≡ map (order_line given devices) orders
 fields_of_lines given devices [] = refl
 fields_of_lines given devices (o ∷ os) = ap (λ (ls : List (List (List ℕ))). order_line given devices o ∷ ls) (fields_of_lines given devices os)
 
@@ -56,7 +58,8 @@ numbers_fit given devices (o ∷ os) are = (are.0.1, numbers_fit given devices o
 
 -- the report of these lines
 pub report_of_lines : (customer : List ℕ) (t : Tables) (lines : List OrderLine) (text : List ℕ)
-    → lines ≡ map (whole_line (has_given_in t) (own customer t.devices)) (own customer t.orders) → AreLines lines → text ≡ lines_text lines → IsOrderReport customer t text
+    → lines ≡ map (whole_line (has_given_in t) (own customer t.devices)) (own customer t.orders) → AreLines lines → text ≡ lines_text lines
+    → IsOrderReport customer t text
 report_of_lines customer t lines text is are says =
     let given = has_given_in t in
     let devices = own customer t.devices in (
@@ -65,9 +68,12 @@ report_of_lines customer t lines text is are says =
     )
 
 -- a report with one row more
-pub report_more : (first : List (List ℕ)) (rows : List (List (List ℕ))) (row : List (List ℕ)) → report_text (first ∷ rows) ++ row_text default_writer row ≡ report_text (first ∷ (rows ++ row ∷ []))
+pub report_more : (first : List (List ℕ)) (rows : List (List (List ℕ))) (row : List (List ℕ))
+    → report_text (first ∷ rows) ++ row_text default_writer row ≡ report_text (first ∷ (rows ++ row ∷ []))
 report_more first rows row = flat_map_more (row_text default_writer) (row_text default_writer first) rows row
 
-pub lines_text_more : (lines : List OrderLine) (line : OrderLine) → lines_text lines ++ row_text default_writer (line_fields line) ≡ lines_text (lines ++ line ∷ [])
+pub lines_text_more : (lines : List OrderLine) (line : OrderLine)
+    → lines_text lines ++ row_text default_writer (line_fields line) ≡ lines_text (lines ++ line ∷ [])
 lines_text_more lines line =
-    report_more order_header (map line_fields lines) (line_fields line) ∙ ap (λ (rows : List (List (List ℕ))). report_text (order_header ∷ rows)) (sym (map_push line_fields lines line))
+    report_more order_header (map line_fields lines) (line_fields line)
+    ∙ ap (λ (rows : List (List (List ℕ))). report_text (order_header ∷ rows)) (sym (map_push line_fields lines line))

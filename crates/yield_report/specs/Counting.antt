@@ -1,7 +1,8 @@
 -- How the numbers of a line are counted, up to what the tables have room for.
 use Rattle.std.specs.Prelude.{ℕ, ◌+◌, Option, Some, None, nat_le, nat_lt, if◌then◌else◌, option_map}
 use Rattle.office_tables.specs.declared.rows.DeviceState.{DeviceState}
-use Rattle.office_tables.specs.declared.rows.DeviceState.TheVariants.{Registered, AwaitingFirst, AwaitingSecond, Settled, Identified, Shipped, Quarantined, Scrapped}
+use Rattle.office_tables.specs.declared.rows.DeviceState.TheVariants.{Registered, AwaitingFirst, AwaitingSecond, Settled, Identified, Shipped, Quarantined}
+use Rattle.office_tables.specs.declared.rows.DeviceState.TheVariants.{Scrapped}
 use Rattle.yield_report.specs.declared.yields.Yield.{Yield}
 
 -- one more, where the tables have room for it

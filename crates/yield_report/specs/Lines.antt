@@ -1,5 +1,6 @@
 -- The lines of a report while its rows are read: what one row adds to them, and what all rows leave.
-use Rattle.std.specs.Prelude.{◌≡◌, ℕ, ◌-◌, ◌++◌, Bool, true, false, List, [], ◌∷◌, Option, Some, None, bytes_eq, filter, length, map, is_some, not, option_and_then, option_map, slice_get, take, if◌then◌else◌}
+use Rattle.std.specs.Prelude.{◌≡◌, ℕ, ◌-◌, ◌++◌, Bool, true, false, List, [], ◌∷◌, Option, Some, None, bytes_eq, filter, length, map, is_some, not}
+use Rattle.std.specs.Prelude.{option_and_then, option_map, slice_get, take, if◌then◌else◌}
 use Rattle.std.specs.List.{All, list_any}
 use Rattle.id_ranges.specs.NextSerial.{is_unused}
 use Rattle.id_ranges.specs.Range.{numbers, IsRange}
@@ -7,7 +8,8 @@ use Rattle.office_tables.specs.declared.rows.Owned.{Owned}
 use Rattle.office_tables.specs.declared.rows.Order.{Order}
 use Rattle.office_tables.specs.declared.rows.Device.{Device}
 use Rattle.office_tables.specs.declared.rows.Given.{Given}
-use Rattle.office_tables.specs.declared.rows.DeviceState.TheVariants.{Registered, AwaitingFirst, AwaitingSecond, Settled, Identified, Shipped, Quarantined, Scrapped}
+use Rattle.office_tables.specs.declared.rows.DeviceState.TheVariants.{Registered, AwaitingFirst, AwaitingSecond, Settled, Identified, Shipped, Quarantined}
+use Rattle.office_tables.specs.declared.rows.DeviceState.TheVariants.{Scrapped}
 use Rattle.office_tables.specs.declared.rows.Reason.TheVariants.{Lost, Stray, Key}
 use Rattle.yield_report.specs.Counting.{with_device}
 use Rattle.yield_report.specs.Counts.{HasGiven, added, count_in, devices_of, yield_of, yield_with}

@@ -40,5 +40,6 @@ site_report_in site t = report_text (site_header ∷ map (customer_line_in t) (c
 abbrev pub IsSiteReport : SiteValue → Tables → List ℕ → Type 0
 IsSiteReport site t text =
     (text ≡ site_report_in site t)
-    × AllByRecursion (λ customer. AreStorable (length (own customer t.orders) ∷ numbers_of (customer_total (has_given_in t) (own customer t.orders) (own customer t.devices))))
+    × AllByRecursion (λ customer. AreStorable (length (own customer t.orders)
+    ∷ numbers_of (customer_total (has_given_in t) (own customer t.orders) (own customer t.devices))))
     (customers_in_order site)

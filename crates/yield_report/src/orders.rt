@@ -18,7 +18,8 @@ pub(crate) fn whole_lines<K: Keep>(
     keep: &mut K,
     customer: &Name,
 ) -> Result<Vec<OrderLine>, Unkept>
-    ensures { Reading K.Keep keep.old keep.new result (λ t lines. AreWhole customer.now t lines.items) }
+    ensures { Reading K.Keep keep.old keep.new result (λ t lines.
+        AreWhole customer.now t lines.items) }
 {
     let orders = order_lines(alloc, keep, customer)?;
     let counted = count_devices(keep, customer, orders)?;
@@ -49,7 +50,8 @@ pub fn order_report<K: Keep>(
     keep: &mut K,
     customer: &Name,
 ) -> Result<Vec<u8>, Unkept>
-    ensures { Reading K.Keep keep.old keep.new result (λ t text. IsOrderReport customer.now t text.items) }
+    ensures { Reading K.Keep keep.old keep.new result (λ t text.
+        IsOrderReport customer.now t text.items) }
 {
     let lines = whole_lines(alloc, keep, customer)?;
     Ok(order_text(alloc, lines.as_slice())?)

@@ -88,7 +88,8 @@ fn append_line<K: Keep>(
 /// `Err` is want of memory, a keeper's fault, records of an issuer that aren't in the order of
 /// their serial numbers, or a number past 9223372036854775807, and nothing else.
 pub fn site_report<K: Keep>(alloc: Global, keep: &mut K, site: &Site) -> Result<Vec<u8>, Unkept>
-    ensures { Reading K.Keep keep.old keep.new result (λ t text. IsSiteReport site.now t text.items) }
+    ensures { Reading K.Keep keep.old keep.new result (λ t text.
+        IsSiteReport site.now t text.items) }
 {
     ask_open(keep)?;
     let names = customer_names(alloc, site)?;

@@ -12,7 +12,7 @@ pub const DEVICES: &[(&str, &str)] = &[
 /// A seat's order, its map, a blank chip, and then the chip's ledger.
 pub const ACME: &str =
     r#"a1 POST /v1/order {"nr":1,"name":"o1","issuer":"acme-ca","prefix":"A","width":3,"first":998,"quantity":2,"macs":0}
-200 {"first":998,"issuer":"acme-ca","mac":null,"macs":0,"name":"o1","next":"A998","prefix":"A","quantity":2,"width":3}
+200 {"first":998,"issuer":"acme-ca","mac":null,"macs":0,"name":"o1","next":"A998","not_before":null,"prefix":"A","quantity":2,"width":3}
 a1 POST /v1/map {"nr":2,"text":"$MAP"}
 200 {"map":"$DIGEST"}
 a1 POST /v1/device {"nr":3,"chip":"00000000000a","order":"o1","map":"$DIGEST","blocks":<>}
@@ -24,7 +24,7 @@ a1 GET /v1/ledger?chip=00000000000a
 /// The same of a seat of another customer, whose chip has the same name.
 pub const BOLT: &str =
     r#"b1 POST /v1/order {"nr":1,"name":"o1","issuer":"bolt-ca","prefix":"B","width":3,"first":998,"quantity":2,"macs":0}
-200 {"first":998,"issuer":"bolt-ca","mac":null,"macs":0,"name":"o1","next":"B998","prefix":"B","quantity":2,"width":3}
+200 {"first":998,"issuer":"bolt-ca","mac":null,"macs":0,"name":"o1","next":"B998","not_before":null,"prefix":"B","quantity":2,"width":3}
 b1 POST /v1/map {"nr":2,"text":"$MAP"}
 200 {"map":"$DIGEST"}
 b1 POST /v1/device {"nr":3,"chip":"00000000000a","order":"o1","map":"$DIGEST","blocks":<>}
@@ -37,7 +37,7 @@ b1 GET /v1/ledger?chip=00000000000a
 /// to the order's quantity: no refusal took a number. The digest is that of a byte 1 and 31 zeros.
 pub const READ_BACKS: &str = r#"
 a1 POST /v1/order {"nr":1,"name":"o1","issuer":"acme-ca","prefix":"A","width":3,"first":998,"quantity":2,"macs":0}
-200 {"first":998,"issuer":"acme-ca","mac":null,"macs":0,"name":"o1","next":"A998","prefix":"A","quantity":2,"width":3}
+200 {"first":998,"issuer":"acme-ca","mac":null,"macs":0,"name":"o1","next":"A998","not_before":null,"prefix":"A","quantity":2,"width":3}
 a1 POST /v1/map {"nr":2,"text":"$MAP"}
 200 {"map":"$DIGEST"}
 a1 POST /v1/map {"nr":3,"text":"$MAP~bit = 192\ncount = 2\n~bit = 192\ncount = 2\nread = 3\n~"}
@@ -71,7 +71,7 @@ a1 GET /v1/ledger?chip=00000000000b
 /// Registrations under what isn't there or of what is, each with the lowest refusal that holds.
 const REFERENCES: &str = r#"
 a1 POST /v1/order {"nr":1,"name":"o1","issuer":"acme-ca","prefix":"A","width":3,"first":998,"quantity":2,"macs":0}
-200 {"first":998,"issuer":"acme-ca","mac":null,"macs":0,"name":"o1","next":"A998","prefix":"A","quantity":2,"width":3}
+200 {"first":998,"issuer":"acme-ca","mac":null,"macs":0,"name":"o1","next":"A998","not_before":null,"prefix":"A","quantity":2,"width":3}
 a1 POST /v1/map {"nr":2,"text":"$MAP"}
 200 {"map":"$DIGEST"}
 a1 POST /v1/device {"nr":3,"chip":"00000000000a","order":"o1","map":"$LOCKED","blocks":<>}
@@ -116,7 +116,7 @@ a1 POST /v1/device {"nr":7,"chip":"00000000000a","order":"o1","map":"$DIGEST","b
 /// Another word is another body, and so is another case of the map's digest.
 const REPEAT: &str = r#"
 a1 POST /v1/order {"nr":1,"name":"o1","issuer":"acme-ca","prefix":"A","width":3,"first":998,"quantity":2,"macs":0}
-200 {"first":998,"issuer":"acme-ca","mac":null,"macs":0,"name":"o1","next":"A998","prefix":"A","quantity":2,"width":3}
+200 {"first":998,"issuer":"acme-ca","mac":null,"macs":0,"name":"o1","next":"A998","not_before":null,"prefix":"A","quantity":2,"width":3}
 a1 POST /v1/map {"nr":2,"text":"$MAP"}
 200 {"map":"$DIGEST"}
 a1 POST /v1/device {"nr":3,"chip":"00000000000a","order":"o1","map":"$DIGEST","blocks":<3.7=800000ab>}

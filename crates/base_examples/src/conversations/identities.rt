@@ -16,7 +16,7 @@ pub const IDENTITIES: &[(&str, &str)] = &[
 /// as a key may be.
 const AN_IDENTITY: &str = r#"
 a1 POST /v1/order {"nr":1,"name":"o1","issuer":"acme-ca","prefix":"A","width":3,"first":998,"quantity":2,"macs":0}
-200 {"first":998,"issuer":"acme-ca","mac":null,"macs":0,"name":"o1","next":"A998","prefix":"A","quantity":2,"width":3}
+200 {"first":998,"issuer":"acme-ca","mac":null,"macs":0,"name":"o1","next":"A998","not_before":null,"prefix":"A","quantity":2,"width":3}
 a1 POST /v1/map {"nr":2,"text":"$MAP"}
 200 {"map":"$DIGEST"}
 a1 POST /v1/identity {"nr":3,"chip":"00000000000a","public_key":"616263"}
@@ -34,16 +34,16 @@ a1 POST /v1/ship {"nr":4,"chip":"00000000000a"}
 a1 POST /v1/plan {"nr":4,"chip":"00000000000a","wishes":[]}
 200 {"batch1":$NONE,"batch2":$NONE,"state":"settled"}
 a1 POST /v1/identity {"nr":5,"chip":"00000000000a","public_key":"616263"}
-200 {"chip":"00000000000a","issuer":"acme-ca","key_sha256":"ba7816bf8f01cfea414140de5dae2223b00361a396177a9cb410ff61f20015ad","mac":null,"not_after":"99991231235959Z","serial":"A998"}
+200 {"chip":"00000000000a","issuer":"acme-ca","key_sha256":"ba7816bf8f01cfea414140de5dae2223b00361a396177a9cb410ff61f20015ad","mac":null,"not_after":"99991231235959Z","not_before":null,"serial":"A998"}
 # a repeat, and the same number with the key in another case of letters
 a1 POST /v1/identity {"nr":5,"chip":"00000000000a","public_key":"616263"}
-200 {"chip":"00000000000a","issuer":"acme-ca","key_sha256":"ba7816bf8f01cfea414140de5dae2223b00361a396177a9cb410ff61f20015ad","mac":null,"not_after":"99991231235959Z","serial":"A998"}
+200 {"chip":"00000000000a","issuer":"acme-ca","key_sha256":"ba7816bf8f01cfea414140de5dae2223b00361a396177a9cb410ff61f20015ad","mac":null,"not_after":"99991231235959Z","not_before":null,"serial":"A998"}
 a1 POST /v1/identity {"nr":6,"chip":"00000000000a","public_key":"6162630"}
 400 {"error":"bad_member","no":10}
 a1 GET /v1/device?chip=00000000000a
 200 {"bits":[],"chip":"00000000000a","keys":{},"map":"$DIGEST","order":"o1","pending":{"batch1":$NONE,"batch2":$NONE},"reason":null,"serial":"A998","state":"identified"}
 a1 GET /v1/order?name=o1
-200 {"first":998,"issuer":"acme-ca","mac":null,"macs":0,"name":"o1","next":"A999","prefix":"A","quantity":2,"width":3}
+200 {"first":998,"issuer":"acme-ca","mac":null,"macs":0,"name":"o1","next":"A999","not_before":null,"prefix":"A","quantity":2,"width":3}
 a1 POST /v1/identity {"nr":6,"chip":"00000000000a","public_key":"00"}
 409 {"error":"wrong_state","no":17}
 a1 POST /v1/device {"nr":6,"chip":"00000000000b","order":"o1","map":"$DIGEST","blocks":<>}
@@ -62,7 +62,7 @@ a1 POST /v1/scrap {"nr":9,"chip":"00000000000a"}
 a1 POST /v1/identity {"nr":9,"chip":"00000000000b","public_key":"$TIMES~1025~ab~"}
 400 {"error":"bad_member","no":10}
 a1 POST /v1/identity {"nr":9,"chip":"00000000000b","public_key":"$TIMES~1024~ab~"}
-200 {"chip":"00000000000b","issuer":"acme-ca","key_sha256":"4555555dc68d872c2270ba89ecc5f6f094812f65372b37e50071fe5168031c49","mac":null,"not_after":"99991231235959Z","serial":"A999"}
+200 {"chip":"00000000000b","issuer":"acme-ca","key_sha256":"4555555dc68d872c2270ba89ecc5f6f094812f65372b37e50071fe5168031c49","mac":null,"not_after":"99991231235959Z","not_before":null,"serial":"A999"}
 a1 GET /v1/ledger?chip=00000000000a
 200 {"chip":"00000000000a","entries":[{"bits":[],"event":"registered","keys":{},"n":1,"note":"","seat":"a1"},{"bits":[],"event":"planned","keys":{},"n":2,"note":"","seat":"a1"},{"bits":[],"event":"identified","keys":{},"n":3,"note":"A998","seat":"a1"},{"bits":[],"event":"shipped","keys":{},"n":4,"note":"","seat":"a1"}]}
 "#;
@@ -70,7 +70,7 @@ a1 GET /v1/ledger?chip=00000000000a
 /// A scrapped device keeps its serial number and gives its place back.
 const SCRAPPED: &str = r#"
 a1 POST /v1/order {"nr":1,"name":"o1","issuer":"acme-ca","prefix":"A","width":3,"first":998,"quantity":2,"macs":0}
-200 {"first":998,"issuer":"acme-ca","mac":null,"macs":0,"name":"o1","next":"A998","prefix":"A","quantity":2,"width":3}
+200 {"first":998,"issuer":"acme-ca","mac":null,"macs":0,"name":"o1","next":"A998","not_before":null,"prefix":"A","quantity":2,"width":3}
 a1 POST /v1/map {"nr":2,"text":"$MAP"}
 200 {"map":"$DIGEST"}
 a1 POST /v1/device {"nr":3,"chip":"00000000000a","order":"o1","map":"$DIGEST","blocks":<>}
@@ -78,7 +78,7 @@ a1 POST /v1/device {"nr":3,"chip":"00000000000a","order":"o1","map":"$DIGEST","b
 a1 POST /v1/plan {"nr":4,"chip":"00000000000a","wishes":[]}
 200 {"batch1":$NONE,"batch2":$NONE,"state":"settled"}
 a1 POST /v1/identity {"nr":5,"chip":"00000000000a","public_key":"00"}
-200 {"chip":"00000000000a","issuer":"acme-ca","key_sha256":"6e340b9cffb37a989ca544e6bb780a2c78901d3fb33738768511a30617afa01d","mac":null,"not_after":"99991231235959Z","serial":"A998"}
+200 {"chip":"00000000000a","issuer":"acme-ca","key_sha256":"6e340b9cffb37a989ca544e6bb780a2c78901d3fb33738768511a30617afa01d","mac":null,"not_after":"99991231235959Z","not_before":null,"serial":"A998"}
 a1 POST /v1/scrap {"nr":6,"chip":"00000000000a"}
 200 {"chip":"00000000000a","state":"scrapped"}
 a1 POST /v1/scrap {"nr":7,"chip":"00000000000a"}
@@ -92,9 +92,9 @@ a1 POST /v1/plan {"nr":8,"chip":"00000000000b","wishes":[]}
 a1 POST /v1/identity {"nr":9,"chip":"00000000000b","public_key":"00"}
 409 {"error":"key_bound","no":35}
 a1 POST /v1/identity {"nr":9,"chip":"00000000000b","public_key":"01"}
-200 {"chip":"00000000000b","issuer":"acme-ca","key_sha256":"4bf5122f344554c53bde2ebb8cd2b7e3d1600ad631c385a5d7cce23c7785459a","mac":null,"not_after":"99991231235959Z","serial":"A999"}
+200 {"chip":"00000000000b","issuer":"acme-ca","key_sha256":"4bf5122f344554c53bde2ebb8cd2b7e3d1600ad631c385a5d7cce23c7785459a","mac":null,"not_after":"99991231235959Z","not_before":null,"serial":"A999"}
 a1 GET /v1/order?name=o1
-200 {"first":998,"issuer":"acme-ca","mac":null,"macs":0,"name":"o1","next":null,"prefix":"A","quantity":2,"width":3}
+200 {"first":998,"issuer":"acme-ca","mac":null,"macs":0,"name":"o1","next":null,"not_before":null,"prefix":"A","quantity":2,"width":3}
 a1 POST /v1/device {"nr":10,"chip":"00000000000c","order":"o1","map":"$DIGEST","blocks":<>}
 200 {"bits":[],"chip":"00000000000c","keys":{},"map":"$DIGEST","order":"o1","pending":{"batch1":$NONE,"batch2":$NONE},"reason":null,"serial":null,"state":"registered"}
 a1 POST /v1/plan {"nr":11,"chip":"00000000000c","wishes":[]}
@@ -119,7 +119,7 @@ a1 GET /v1/ledger?chip=00000000000d
 /// Each number of an order owns addresses of its own, the first of which is shown.
 const ADDRESSES: &str = r#"
 a1 POST /v1/order {"nr":1,"name":"p","issuer":"acme-ca","prefix":"P","width":3,"first":1,"quantity":2,"macs":2}
-200 {"first":1,"issuer":"acme-ca","mac":"020000000010","macs":2,"name":"p","next":"P001","prefix":"P","quantity":2,"width":3}
+200 {"first":1,"issuer":"acme-ca","mac":"020000000010","macs":2,"name":"p","next":"P001","not_before":null,"prefix":"P","quantity":2,"width":3}
 a1 POST /v1/map {"nr":2,"text":"$MAP"}
 200 {"map":"$DIGEST"}
 a1 POST /v1/device {"nr":3,"chip":"00000000000a","order":"p","map":"$DIGEST","blocks":<>}
@@ -131,15 +131,15 @@ a1 POST /v1/device {"nr":5,"chip":"00000000000b","order":"p","map":"$DIGEST","bl
 a1 POST /v1/plan {"nr":6,"chip":"00000000000b","wishes":[]}
 200 {"batch1":$NONE,"batch2":$NONE,"state":"settled"}
 a1 POST /v1/identity {"nr":7,"chip":"00000000000a","public_key":"00"}
-200 {"chip":"00000000000a","issuer":"acme-ca","key_sha256":"6e340b9cffb37a989ca544e6bb780a2c78901d3fb33738768511a30617afa01d","mac":"020000000010","not_after":"99991231235959Z","serial":"P001"}
+200 {"chip":"00000000000a","issuer":"acme-ca","key_sha256":"6e340b9cffb37a989ca544e6bb780a2c78901d3fb33738768511a30617afa01d","mac":"020000000010","not_after":"99991231235959Z","not_before":null,"serial":"P001"}
 a1 POST /v1/identity {"nr":8,"chip":"00000000000b","public_key":"01"}
-200 {"chip":"00000000000b","issuer":"acme-ca","key_sha256":"4bf5122f344554c53bde2ebb8cd2b7e3d1600ad631c385a5d7cce23c7785459a","mac":"020000000012","not_after":"99991231235959Z","serial":"P002"}
+200 {"chip":"00000000000b","issuer":"acme-ca","key_sha256":"4bf5122f344554c53bde2ebb8cd2b7e3d1600ad631c385a5d7cce23c7785459a","mac":"020000000012","not_after":"99991231235959Z","not_before":null,"serial":"P002"}
 "#;
 
 /// The next serial number is the least that nobody gave.
 const SKIPPED: &str = r#"
 a1 POST /v1/order {"nr":1,"name":"q","issuer":"acme-ca","prefix":"A","width":3,"first":1,"quantity":3,"macs":0}
-200 {"first":1,"issuer":"acme-ca","mac":null,"macs":0,"name":"q","next":"A001","prefix":"A","quantity":3,"width":3}
+200 {"first":1,"issuer":"acme-ca","mac":null,"macs":0,"name":"q","next":"A001","not_before":null,"prefix":"A","quantity":3,"width":3}
 a1 POST /v1/map {"nr":2,"text":"$MAP"}
 200 {"map":"$DIGEST"}
 a1 POST /v1/import {"nr":3,"issuer":"acme-ca","csv":"serial,key_sha256\nA002,ba7816bf8f01cfea414140de5dae2223b00361a396177a9cb410ff61f20015ad\n"}
@@ -159,13 +159,13 @@ a1 POST /v1/plan {"nr":9,"chip":"00000000000c","wishes":[]}
 a1 POST /v1/identity {"nr":10,"chip":"00000000000a","public_key":"616263"}
 409 {"error":"key_bound","no":35}
 a1 POST /v1/identity {"nr":10,"chip":"00000000000a","public_key":"00"}
-200 {"chip":"00000000000a","issuer":"acme-ca","key_sha256":"6e340b9cffb37a989ca544e6bb780a2c78901d3fb33738768511a30617afa01d","mac":null,"not_after":"99991231235959Z","serial":"A001"}
+200 {"chip":"00000000000a","issuer":"acme-ca","key_sha256":"6e340b9cffb37a989ca544e6bb780a2c78901d3fb33738768511a30617afa01d","mac":null,"not_after":"99991231235959Z","not_before":null,"serial":"A001"}
 a1 GET /v1/order?name=q
-200 {"first":1,"issuer":"acme-ca","mac":null,"macs":0,"name":"q","next":"A003","prefix":"A","quantity":3,"width":3}
+200 {"first":1,"issuer":"acme-ca","mac":null,"macs":0,"name":"q","next":"A003","not_before":null,"prefix":"A","quantity":3,"width":3}
 a1 POST /v1/identity {"nr":11,"chip":"00000000000b","public_key":"01"}
-200 {"chip":"00000000000b","issuer":"acme-ca","key_sha256":"4bf5122f344554c53bde2ebb8cd2b7e3d1600ad631c385a5d7cce23c7785459a","mac":null,"not_after":"99991231235959Z","serial":"A003"}
+200 {"chip":"00000000000b","issuer":"acme-ca","key_sha256":"4bf5122f344554c53bde2ebb8cd2b7e3d1600ad631c385a5d7cce23c7785459a","mac":null,"not_after":"99991231235959Z","not_before":null,"serial":"A003"}
 a1 GET /v1/order?name=q
-200 {"first":1,"issuer":"acme-ca","mac":null,"macs":0,"name":"q","next":null,"prefix":"A","quantity":3,"width":3}
+200 {"first":1,"issuer":"acme-ca","mac":null,"macs":0,"name":"q","next":null,"not_before":null,"prefix":"A","quantity":3,"width":3}
 a1 POST /v1/identity {"nr":12,"chip":"00000000000c","public_key":"02"}
 409 {"error":"exhausted","no":32}
 "#;
@@ -173,7 +173,7 @@ a1 POST /v1/identity {"nr":12,"chip":"00000000000c","public_key":"02"}
 /// Bodies that aren't of their forms.
 const BODIES: &str = r#"
 a1 POST /v1/order {"nr":1,"name":"o1","issuer":"acme-ca","prefix":"A","width":3,"first":998,"quantity":2,"macs":0}
-200 {"first":998,"issuer":"acme-ca","mac":null,"macs":0,"name":"o1","next":"A998","prefix":"A","quantity":2,"width":3}
+200 {"first":998,"issuer":"acme-ca","mac":null,"macs":0,"name":"o1","next":"A998","not_before":null,"prefix":"A","quantity":2,"width":3}
 a1 POST /v1/map {"nr":2,"text":"$MAP"}
 200 {"map":"$DIGEST"}
 a1 POST /v1/device {"nr":3,"chip":"00000000000a","order":"o1","map":"$DIGEST","blocks":<>}
@@ -197,10 +197,10 @@ a1 POST /v1/ship {"nr":5,"chip":1}
 a1 POST /v1/scrap {"nr":5}
 400 {"error":"bad_member","no":10}
 a1 POST /v1/identity {"nr":5,"chip":"00000000000a","public_key":"0aFF"}
-200 {"chip":"00000000000a","issuer":"acme-ca","key_sha256":"428f6d7e89a1b345221f88db8af74389653730f048724e0dabece69990d6b7be","mac":null,"not_after":"99991231235959Z","serial":"A998"}
+200 {"chip":"00000000000a","issuer":"acme-ca","key_sha256":"428f6d7e89a1b345221f88db8af74389653730f048724e0dabece69990d6b7be","mac":null,"not_after":"99991231235959Z","not_before":null,"serial":"A998"}
 # the key as it was read tells a repeat
 a1 POST /v1/identity {"nr":5,"chip":"00000000000a","public_key":"0aFF"}
-200 {"chip":"00000000000a","issuer":"acme-ca","key_sha256":"428f6d7e89a1b345221f88db8af74389653730f048724e0dabece69990d6b7be","mac":null,"not_after":"99991231235959Z","serial":"A998"}
+200 {"chip":"00000000000a","issuer":"acme-ca","key_sha256":"428f6d7e89a1b345221f88db8af74389653730f048724e0dabece69990d6b7be","mac":null,"not_after":"99991231235959Z","not_before":null,"serial":"A998"}
 a1 POST /v1/identity {"nr":5,"chip":"00000000000a","public_key":"0aff"}
 409 {"error":"other_body","no":12}
 a1 POST /v1/import {"nr":6,"csv":"serial,key_sha256\n"}
@@ -227,21 +227,21 @@ a1 POST /v1/ship {"nr":99,"chip":"00000000000a"}
 /// An import of a serial number that an order would give, under another prefix.
 const BEFORE: &str = r#"
 a1 POST /v1/order {"nr":1,"name":"o1","issuer":"acme-ca","prefix":"A","width":3,"first":998,"quantity":2,"macs":0}
-200 {"first":998,"issuer":"acme-ca","mac":null,"macs":0,"name":"o1","next":"A998","prefix":"A","quantity":2,"width":3}
+200 {"first":998,"issuer":"acme-ca","mac":null,"macs":0,"name":"o1","next":"A998","not_before":null,"prefix":"A","quantity":2,"width":3}
 a1 POST /v1/map {"nr":2,"text":"$MAP"}
 200 {"map":"$DIGEST"}
 a1 POST /v1/order {"nr":3,"name":"o5","issuer":"acme-ca","prefix":"A1","width":3,"first":5,"quantity":2,"macs":0}
-200 {"first":5,"issuer":"acme-ca","mac":null,"macs":0,"name":"o5","next":"A1005","prefix":"A1","quantity":2,"width":3}
+200 {"first":5,"issuer":"acme-ca","mac":null,"macs":0,"name":"o5","next":"A1005","not_before":null,"prefix":"A1","quantity":2,"width":3}
 a1 POST /v1/import {"nr":4,"issuer":"acme-ca","csv":"serial,key_sha256\nA1005,ba7816bf8f01cfea414140de5dae2223b00361a396177a9cb410ff61f20015ad\n"}
 200 {"added":1,"present":0}
 a1 GET /v1/order?name=o5
-200 {"first":5,"issuer":"acme-ca","mac":null,"macs":0,"name":"o5","next":"A1006","prefix":"A1","quantity":2,"width":3}
+200 {"first":5,"issuer":"acme-ca","mac":null,"macs":0,"name":"o5","next":"A1006","not_before":null,"prefix":"A1","quantity":2,"width":3}
 a1 POST /v1/device {"nr":5,"chip":"00000000000a","order":"o5","map":"$DIGEST","blocks":<>}
 200 {"bits":[],"chip":"00000000000a","keys":{},"map":"$DIGEST","order":"o5","pending":{"batch1":$NONE,"batch2":$NONE},"reason":null,"serial":null,"state":"registered"}
 a1 POST /v1/plan {"nr":6,"chip":"00000000000a","wishes":[]}
 200 {"batch1":$NONE,"batch2":$NONE,"state":"settled"}
 a1 POST /v1/identity {"nr":7,"chip":"00000000000a","public_key":"00"}
-200 {"chip":"00000000000a","issuer":"acme-ca","key_sha256":"6e340b9cffb37a989ca544e6bb780a2c78901d3fb33738768511a30617afa01d","mac":null,"not_after":"99991231235959Z","serial":"A1006"}
+200 {"chip":"00000000000a","issuer":"acme-ca","key_sha256":"6e340b9cffb37a989ca544e6bb780a2c78901d3fb33738768511a30617afa01d","mac":null,"not_after":"99991231235959Z","not_before":null,"serial":"A1006"}
 a1 POST /v1/import {"nr":8,"issuer":"acme-ca","csv":"serial,key_sha256\nA1005,ba7816bf8f01cfea414140de5dae2223b00361a396177a9cb410ff61f20015ad\n"}
 200 {"added":0,"present":1}
 a1 POST /v1/import {"nr":9,"issuer":"acme-ca","csv":"serial,key_sha256\nA1005,2cf24dba5fb0a30e26e83b2ac5b9e29e1b161e5c1fa7425e73043362938b9824\n"}

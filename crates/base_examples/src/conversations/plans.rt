@@ -12,7 +12,7 @@ pub const PLANS: &[(&str, &str)] = &[
 /// A bit of a chip and then its lock, each read back, and the same wishes once both are burnt.
 pub const A_BIT_AND_ITS_LOCK: &str = r#"
 a1 POST /v1/order {"nr":1,"name":"o1","issuer":"acme-ca","prefix":"A","width":3,"first":998,"quantity":2,"macs":0}
-200 {"first":998,"issuer":"acme-ca","mac":null,"macs":0,"name":"o1","next":"A998","prefix":"A","quantity":2,"width":3}
+200 {"first":998,"issuer":"acme-ca","mac":null,"macs":0,"name":"o1","next":"A998","not_before":null,"prefix":"A","quantity":2,"width":3}
 a1 POST /v1/map {"nr":2,"text":"$MAP"}
 200 {"map":"$DIGEST"}
 a1 POST /v1/plan {"nr":3,"chip":"00000000000a","wishes":[]}
@@ -52,7 +52,7 @@ a1 GET /v1/ledger?chip=00000000000a
 /// burnt. The digest is that of the bytes 0 to 31.
 const A_KEY_AND_ITS_LOCK: &str = r#"
 a1 POST /v1/order {"nr":1,"name":"o1","issuer":"acme-ca","prefix":"A","width":3,"first":998,"quantity":2,"macs":0}
-200 {"first":998,"issuer":"acme-ca","mac":null,"macs":0,"name":"o1","next":"A998","prefix":"A","quantity":2,"width":3}
+200 {"first":998,"issuer":"acme-ca","mac":null,"macs":0,"name":"o1","next":"A998","not_before":null,"prefix":"A","quantity":2,"width":3}
 a1 POST /v1/map {"nr":2,"text":"$MAP"}
 200 {"map":"$DIGEST"}
 a1 POST /v1/device {"nr":3,"chip":"00000000000a","order":"o1","map":"$DIGEST","blocks":<>}
@@ -81,7 +81,7 @@ a1 GET /v1/device?chip=00000000000b
 /// order is free again. What was read stays known.
 const QUARANTINE: &str = r#"
 a1 POST /v1/order {"nr":1,"name":"o1","issuer":"acme-ca","prefix":"A","width":3,"first":998,"quantity":2,"macs":0}
-200 {"first":998,"issuer":"acme-ca","mac":null,"macs":0,"name":"o1","next":"A998","prefix":"A","quantity":2,"width":3}
+200 {"first":998,"issuer":"acme-ca","mac":null,"macs":0,"name":"o1","next":"A998","not_before":null,"prefix":"A","quantity":2,"width":3}
 a1 POST /v1/map {"nr":2,"text":"$MAP"}
 200 {"map":"$DIGEST"}
 a1 POST /v1/device {"nr":3,"chip":"00000000000a","order":"o1","map":"$DIGEST","blocks":<>}
@@ -119,7 +119,7 @@ a1 GET /v1/device?chip=00000000000b
 /// Zeros of the coding scheme are there already.
 const WISHES: &str = r#"
 a1 POST /v1/order {"nr":1,"name":"o1","issuer":"acme-ca","prefix":"A","width":3,"first":1,"quantity":20,"macs":0}
-200 {"first":1,"issuer":"acme-ca","mac":null,"macs":0,"name":"o1","next":"A001","prefix":"A","quantity":20,"width":3}
+200 {"first":1,"issuer":"acme-ca","mac":null,"macs":0,"name":"o1","next":"A001","not_before":null,"prefix":"A","quantity":20,"width":3}
 a1 POST /v1/map {"nr":2,"text":"$MAP"}
 200 {"map":"$DIGEST"}
 a1 POST /v1/device {"nr":3,"chip":"000000000001","order":"o1","map":"$DIGEST","blocks":<>}
@@ -180,7 +180,7 @@ a1 POST /v1/plan {"nr":17,"chip":"00000000000d","wishes":[{"kind":"bit","field":
 /// wishes as there may be.
 const BODIES: &str = r#"
 a1 POST /v1/order {"nr":1,"name":"o1","issuer":"acme-ca","prefix":"A","width":3,"first":998,"quantity":2,"macs":0}
-200 {"first":998,"issuer":"acme-ca","mac":null,"macs":0,"name":"o1","next":"A998","prefix":"A","quantity":2,"width":3}
+200 {"first":998,"issuer":"acme-ca","mac":null,"macs":0,"name":"o1","next":"A998","not_before":null,"prefix":"A","quantity":2,"width":3}
 a1 POST /v1/map {"nr":2,"text":"$MAP"}
 200 {"map":"$DIGEST"}
 a1 POST /v1/device {"nr":3,"chip":"00000000000a","order":"o1","map":"$DIGEST","blocks":<>}

@@ -11,6 +11,8 @@ pub loop-span-preserved : goal.loop-span-preserved
 loop-span-preserved c =
     let named = c.is_same_ignoring_case-is_named.ensures ∙ ap (λ n. same_ignoring_case n c.args.name.now) c.of.ensures in
     let more =
-    values_named_more c.args.name.now c.args.buf.now c.args.spans.now c.loop-span.span-index _ _ c.of-in-loop-span.result c.loop-span-test.true named c.of-in-loop-span.ensures
+    values_named_more c.args.name.now c.args.buf.now c.args.spans.now c.loop-span.span-index _ _ c.of-in-loop-span.result c.loop-span-test.true named
+    c.of-in-loop-span.ensures
     in
-    subst (λ (values : List (List ℕ)). IsOccurrence values c.found_more-found.result) more (rw c.then_some.ensures at (c.found_more-found.ensures _ c.loop-span.invariant))
+    subst (λ (values : List (List ℕ)). IsOccurrence values c.found_more-found.result) more
+    (rw c.then_some.ensures at (c.found_more-found.ensures _ c.loop-span.invariant))

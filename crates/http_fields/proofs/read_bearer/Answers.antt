@@ -23,12 +23,14 @@ pub returns-then-is_empty : goal.returns-then-is_empty
 returns-then-is_empty c =
     let token = simp take_rest at c.after_spaces-token.ensures in
     let none : length c.after_spaces-token.result.now ≡ 0 = grind (arith, nat_tests) in
-    sym (bearer_token_by c.args.value.now true true (sym c.is_same_ignoring_case.ensures ∙ c.if-not-is_same_ignoring_case.false) (eq-eqb _ _ c.if-value-ne32.false)
+    sym (bearer_token_by c.args.value.now true true (sym c.is_same_ignoring_case.ensures ∙ c.if-not-is_same_ignoring_case.false)
+    (eq-eqb _ _ c.if-value-ne32.false)
     ∙ ap some_token (sym token) ∙ no_token_empty c.after_spaces-token.result.now none)
 
 pub returns : goal.returns
 returns c =
     let token = simp take_rest at c.after_spaces-token.ensures in
     let some : 0 < length c.after_spaces-token.result.now = grind (arith, nat_tests) in
-    sym (bearer_token_by c.args.value.now true true (sym c.is_same_ignoring_case.ensures ∙ c.if-not-is_same_ignoring_case.false) (eq-eqb _ _ c.if-value-ne32.false)
+    sym (bearer_token_by c.args.value.now true true (sym c.is_same_ignoring_case.ensures ∙ c.if-not-is_same_ignoring_case.false)
+    (eq-eqb _ _ c.if-value-ne32.false)
     ∙ ap some_token (sym token) ∙ some_token_of c.after_spaces-token.result.now some)

@@ -10,8 +10,10 @@ returns-in-Some-clause-run g c =
     let seen = c.loop-served.invariant.run in
     let turn = c.in-Some.ensures.turn in (
       seen.0 ++ turn.0,
-      turning_both (Some c.in-Some.served) seen.0 turn.0 [] (unread c.loop-served.buffer) (unread c.serve_turn.new.buffer) (g.R.Source.left c.args.reader.now) (g.R.Source.left c.loop-served.reader)
-          (g.R.Source.left c.serve_turn.new.reader) (g.W.Drain.written c.args.writer.now) (g.W.Drain.written c.loop-served.writer) (g.W.Drain.written c.serve_turn.new.writer)
+      turning_both (Some c.in-Some.served) seen.0 turn.0 [] (unread c.loop-served.buffer) (unread c.serve_turn.new.buffer) (g.R.Source.left c.args.reader.now)
+          (g.R.Source.left c.loop-served.reader)
+          (g.R.Source.left c.serve_turn.new.reader) (g.W.Drain.written c.args.writer.now) (g.W.Drain.written c.loop-served.writer)
+          (g.W.Drain.written c.serve_turn.new.writer)
           c.in-Some.ensures.no_memory seen.1 turn.2,
       runs_on (g.V.Service.steps c.args.service.now) c.args.state.now seen.0 c.loop-served.state turn.0 c.serve_turn.new.state seen.2 turn.3,
     )
@@ -23,10 +25,13 @@ loop-served-preserved g c =
     record {
       run = (
         seen.run.0 ++ turn.turn.0,
-        turning_both None seen.run.0 turn.turn.0 [] (unread c.loop-served.buffer) (unread c.serve_turn.new.buffer) (g.R.Source.left c.args.reader.now) (g.R.Source.left c.loop-served.reader)
-            (g.R.Source.left c.serve_turn.new.reader) (g.W.Drain.written c.args.writer.now) (g.W.Drain.written c.loop-served.writer) (g.W.Drain.written c.serve_turn.new.writer)
+        turning_both None seen.run.0 turn.turn.0 [] (unread c.loop-served.buffer) (unread c.serve_turn.new.buffer) (g.R.Source.left c.args.reader.now)
+            (g.R.Source.left c.loop-served.reader)
+            (g.R.Source.left c.serve_turn.new.reader) (g.W.Drain.written c.args.writer.now) (g.W.Drain.written c.loop-served.writer)
+            (g.W.Drain.written c.serve_turn.new.writer)
             turn.no_memory seen.run.1 turn.turn.2,
-        runs_on (g.V.Service.steps c.args.service.now) c.args.state.now seen.run.0 c.loop-served.state turn.turn.0 c.serve_turn.new.state seen.run.2 turn.turn.3,
+        runs_on (g.V.Service.steps c.args.service.now) c.args.state.now seen.run.0 c.loop-served.state turn.turn.0 c.serve_turn.new.state seen.run.2
+            turn.turn.3,
       );
       calls = omega (arith, seen.calls, turn.calls);
       reader = omega (arith, seen.reader, turn.reader_calls);

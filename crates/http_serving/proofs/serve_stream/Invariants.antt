@@ -10,7 +10,8 @@ use Rattle.http_serving.proofs.serve_stream.Given as goal
 abbrev pub invariant-loop-served : goal.invariant-loop-served
 invariant-loop-served g l = record {
   run : (pieces : List Piece)
-      × Turning [] (g.R.Source.left l.fn.reader) (unread l.buffer) (g.R.Source.left l.reader) (g.W.Drain.written l.fn.writer) (g.W.Drain.written l.writer) None pieces
+      × Turning [] (g.R.Source.left l.fn.reader) (unread l.buffer) (g.R.Source.left l.reader) (g.W.Drain.written l.fn.writer)
+      (g.W.Drain.written l.writer) None pieces
       × Runs (g.V.Service.steps l.fn.service) l.fn.state (turns_of pieces) l.state;
   calls : g.R.Source.calls l.reader + g.W.Drain.calls l.writer ≡ g.R.Source.calls l.fn.reader + g.W.Drain.calls l.fn.writer + l.buffer.calls;
   reader : g.R.Source.calls l.fn.reader ≤ g.R.Source.calls l.reader;

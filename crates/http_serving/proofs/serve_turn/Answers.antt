@@ -13,7 +13,8 @@ pub returns-in-Cut-clause-turn : goal.returns-in-Cut-clause-turn
 returns-in-Cut-clause-turn g c = (
   [],
   omega arith,
-  turn_cut (unread c.args.buffer.now) c.read_request.new.buffer.window (unread c.read_request.new.buffer) (g.R.Source.left c.args.reader.now) (g.R.Source.left c.read_request.new.reader)
+  turn_cut (unread c.args.buffer.now) c.read_request.new.buffer.window (unread c.read_request.new.buffer) (g.R.Source.left c.args.reader.now)
+      (g.R.Source.left c.read_request.new.reader)
       (g.W.Drain.written c.args.writer.now) c.in-Cut.ensures.bytes c.in-Cut.ensures.framed,
   refl {a = c.args.state.now},
 )
@@ -22,7 +23,8 @@ pub returns-in-ReadFault-clause-turn : goal.returns-in-ReadFault-clause-turn
 returns-in-ReadFault-clause-turn g c = (
   [],
   omega arith,
-  turn_fault (unread c.args.buffer.now) c.read_request.new.buffer.window (unread c.read_request.new.buffer) (g.R.Source.left c.args.reader.now) (g.R.Source.left c.read_request.new.reader)
+  turn_fault (unread c.args.buffer.now) c.read_request.new.buffer.window (unread c.read_request.new.buffer) (g.R.Source.left c.args.reader.now)
+      (g.R.Source.left c.read_request.new.reader)
       (g.W.Drain.written c.args.writer.now) c.in-ReadFault.ensures.bytes c.in-ReadFault.ensures.framed,
   refl {a = c.args.state.now},
 )
@@ -31,7 +33,8 @@ pub returns-in-TurnLimit-clause-turn : goal.returns-in-TurnLimit-clause-turn
 returns-in-TurnLimit-clause-turn g c = (
   [],
   omega arith,
-  turn_limit (unread c.args.buffer.now) c.read_request.new.buffer.window (unread c.read_request.new.buffer) (g.R.Source.left c.args.reader.now) (g.R.Source.left c.read_request.new.reader)
+  turn_limit (unread c.args.buffer.now) c.read_request.new.buffer.window (unread c.read_request.new.buffer) (g.R.Source.left c.args.reader.now)
+      (g.R.Source.left c.read_request.new.reader)
       (g.W.Drain.written c.args.writer.now) c.in-TurnLimit.ensures.bytes c.in-TurnLimit.ensures.framed.0,
   refl {a = c.args.state.now},
 )
@@ -40,14 +43,17 @@ pub returns-in-Refused-clause-turn : goal.returns-in-Refused-clause-turn
 returns-in-Refused-clause-turn g c =
     let text = reply_same _ _ c.in-Refused.is_head _ true _ c.refusal_reply-reply.ensures refl refl in
     let sends =
-    subst (λ (s : List ℕ). Sending (g.W.Drain.written c.args.writer.now) (g.W.Drain.written c.write_reply.new.writer) s c.write_reply.result) text c.write_reply.ensures.sent
+    subst (λ (s : List ℕ). Sending (g.W.Drain.written c.args.writer.now) (g.W.Drain.written c.write_reply.new.writer) s c.write_reply.result) text
+    c.write_reply.ensures.sent
     in
     let piece = refused c.in-Refused.refusal c.in-Refused.is_head in
     rw c.outcome.ensures (
       piece ∷ [],
       is_turn c.write_reply.result true piece,
-      turn_refused (unread c.args.buffer.now) c.read_request.new.buffer.window (unread c.write_reply.new.buffer) (g.R.Source.left c.args.reader.now) (g.R.Source.left c.read_request.new.reader)
-          (g.W.Drain.written c.args.writer.now) (g.W.Drain.written c.write_reply.new.writer) c.in-Refused.refusal c.in-Refused.is_head c.write_reply.result c.in-Refused.ensures.bytes
+      turn_refused (unread c.args.buffer.now) c.read_request.new.buffer.window (unread c.write_reply.new.buffer) (g.R.Source.left c.args.reader.now)
+          (g.R.Source.left c.read_request.new.reader)
+          (g.W.Drain.written c.args.writer.now) (g.W.Drain.written c.write_reply.new.writer) c.in-Refused.refusal c.in-Refused.is_head c.write_reply.result
+          c.in-Refused.ensures.bytes
           c.in-Refused.ensures.framed sends,
       refl {a = c.args.state.now},
     )
@@ -60,19 +66,23 @@ returns-in-Request-clause-turn g c =
     let reply = c.answer-reply.result in
     let text = reply_same (answer_of reply) (answer_of reply) _ _ _ _ refl framed.1.is_head framed.1.is_last in
     let sends =
-    subst (λ (s : List ℕ). Sending (g.W.Drain.written c.args.writer.now) (g.W.Drain.written c.write_reply-in-Request.new.writer) s c.write_reply-in-Request.result) text
+    subst (λ (s : List ℕ). Sending (g.W.Drain.written c.args.writer.now)
+    (g.W.Drain.written c.write_reply-in-Request.new.writer) s c.write_reply-in-Request.result) text
     c.write_reply-in-Request.ensures.sent
     in
     let piece = whole framed.0 (answer_of reply) in
     let turn =
-    turn_whole (unread c.args.buffer.now) window (drop c.in-Request.frame.end window) (g.R.Source.left c.args.reader.now) (g.R.Source.left c.read_request.new.reader)
+    turn_whole (unread c.args.buffer.now) window (drop c.in-Request.frame.end window) (g.R.Source.left c.args.reader.now)
+    (g.R.Source.left c.read_request.new.reader)
     (g.W.Drain.written c.args.writer.now) (g.W.Drain.written c.write_reply-in-Request.new.writer) framed.0 (answer_of reply) c.in-Request.frame.is_last
     c.write_reply-in-Request.result c.in-Request.ensures.bytes framed.1.whole framed.1.is_last sends
     in
     rw c.outcome-in-Request.ensures (
       piece ∷ [],
       is_turn c.write_reply-in-Request.result c.in-Request.frame.is_last piece,
-      subst (λ (s : List ℕ). Turning (unread c.args.buffer.now) (g.R.Source.left c.args.reader.now) s (g.R.Source.left c.read_request.new.reader) (g.W.Drain.written c.args.writer.now)
-          (g.W.Drain.written c.write_reply-in-Request.new.writer) (outcome_of c.write_reply-in-Request.result c.in-Request.frame.is_last) (piece ∷ [])) (sym next) turn,
+      subst (λ (s : List ℕ). Turning (unread c.args.buffer.now) (g.R.Source.left c.args.reader.now) s (g.R.Source.left c.read_request.new.reader)
+          (g.W.Drain.written c.args.writer.now)
+          (g.W.Drain.written c.write_reply-in-Request.new.writer) (outcome_of c.write_reply-in-Request.result c.in-Request.frame.is_last) (piece ∷ []))
+          (sym next) turn,
       (c.answer-reply.new.state, c.answer-reply.ensures framed.0 framed.1, refl {a = c.answer-reply.new.state}),
     )

@@ -13,7 +13,8 @@ pub append-requires : goal.append-requires
 append-requires c =
     let done : List ℕ = bytes_of_words c.args.words.now c.args.block c.loop-word.word in
     let size : length c.loop-word.column ≡ length c.args.column.now + 4 * c.loop-word.word =
-    ap length c.loop-word.invariant ∙ (length-append c.args.column.now done ∙ ap (λ k. length c.args.column.now + k) (length-bytes_of_words c.args.words.now c.args.block c.loop-word.word)) in
+    ap length c.loop-word.invariant ∙ (length-append c.args.column.now done ∙ ap (λ k.
+    length c.args.column.now + k) (length-bytes_of_words c.args.words.now c.args.block c.loop-word.word)) in
     let four : length c.to_le_bytes.result ≡ 4 = ap length c.to_le_bytes.ensures in
     let low : c.loop-word.word < c.args.count = omega (arith, c.loop-word-test.true, c.from-word-end.ensures) in
     (omega arith, omega (arith, size, four, low, c.requires.room))

@@ -13,7 +13,8 @@ loop-block-preserved c =
     let piece : List ℕ = bytes_of_words words block count in
     let short : count ≤ 8 = c.requires.short block 0 c.loop-block-test.true in
     let size : length c.append_block.new.column ≡ length c.loop-block.column + 4 * count =
-    ap length c.append_block.ensures ∙ (length-append c.loop-block.column piece ∙ ap (λ k. length c.loop-block.column + k) (length-bytes_of_words words block count)) in
+    ap length c.append_block.ensures ∙ (length-append c.loop-block.column piece ∙ ap (λ k.
+    length c.loop-block.column + k) (length-bytes_of_words words block count)) in
     record {
       value =
           c.append_block.ensures

@@ -2,7 +2,8 @@
 use Rattle.std.proofs.Common.{sym}
 use Rattle.fuse_columns.proofs.KeyBytes.{key_of-short, key_of-other}
 use Rattle.fuse_columns.proofs.keys.key_of.Goals as goal
-use Rattle.fuse_columns.proofs.keys.key_of.Goals.{then-bytes-lt-KEY_LENGTH-via-then-bytes-lt-KEY_LENGTH, then-bytes-lt-KEY_LENGTH-via-else-bytes-lt-KEY_LENGTH+then-bytes-ne1}
+use Rattle.fuse_columns.proofs.keys.key_of.Goals.{then-bytes-lt-KEY_LENGTH-via-then-bytes-lt-KEY_LENGTH}
+use Rattle.fuse_columns.proofs.keys.key_of.Goals.{then-bytes-lt-KEY_LENGTH-via-else-bytes-lt-KEY_LENGTH+then-bytes-ne1}
 
 pub returns-then-bytes-lt-KEY_LENGTH : goal.returns-then-bytes-lt-KEY_LENGTH
 returns-then-bytes-lt-KEY_LENGTH c = elim c.then-bytes-lt-KEY_LENGTH.branch [

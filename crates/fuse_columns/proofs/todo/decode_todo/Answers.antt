@@ -16,7 +16,9 @@ returns-clause-same c =
     let first = c.read_bits.ensures ∙ ap (bits_in m) c.as_bytes-first.ensures.same in
     let rest = c.after-second.ensures ∙ ap₂ (λ (k : ℕ) (bs : List ℕ). drop k bs) c.bits_length-length.ensures c.as_bytes-first.ensures.same in
     let second = c.read_bits-2.ensures ∙ ap (bits_in m) rest in
-    let keys = c.read_keys.ensures ∙ ap (keys_in m) (c.after-keys.ensures ∙ (ap₂ (λ (k : ℕ) (bs : List ℕ). drop k bs) c.bits_length-length.ensures rest ∙ drop-drop n n bytes)) in
+    let keys =
+    c.read_keys.ensures ∙ ap (keys_in m) (c.after-keys.ensures
+    ∙ (ap₂ (λ (k : ℕ) (bs : List ℕ). drop k bs) c.bits_length-length.ensures rest ∙ drop-drop n n bytes)) in
     λ i. record { first = first i; second = second i; keys = keys i }
 
 pub returns-clause-work : goal.returns-clause-work

@@ -5,4 +5,5 @@ use Rattle.fuse_image.proofs.bits.joined.Goals as goal
 
 pub loop-word-preserved : goal.loop-word-preserved
 loop-word-preserved c =
-    AreChanged-more _ c.args.own.now c.loop-word.words c.loop-word.word c.loop-word.word _ c.loop-word.invariant refl (omega (arith, c.loop-word.invariant.count)) refl
+    AreChanged-more _ c.args.own.now c.loop-word.words c.loop-word.word c.loop-word.word _ c.loop-word.invariant refl
+    (omega (arith, c.loop-word.invariant.count)) refl

@@ -15,7 +15,8 @@ loop-field-init c = c.empty-positions.ensures ∙ positions_in-none (has_burnt_l
 
 pub is_burnt-requires : goal.is_burnt-requires
 is_burnt-requires c =
-    rw c.lock_of.ensures (lock_in_fields c.args.map.now c.fields-fields.ensures.map c.fields-fields.result.now c.fields-fields.ensures.same c.args.lock c.loop-field.field-index c.field-item.result c.loop-field-test.true c.field-item.is)
+    rw c.lock_of.ensures (lock_in_fields c.args.map.now c.fields-fields.ensures.map c.fields-fields.result.now c.fields-fields.ensures.same c.args.lock
+    c.loop-field.field-index c.field-item.result c.loop-field-test.true c.field-item.is)
 
 pub loop-field-preserved : goal.loop-field-preserved
 loop-field-preserved c =

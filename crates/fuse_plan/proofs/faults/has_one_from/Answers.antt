@@ -10,5 +10,6 @@ pub returns : goal.returns
 returns c =
     let past : Positions = run (record { block = 0; bit = c.args.start }) (256 - c.args.start) in
     c.meets.ensures
-    ∙ (ap₂ (λ (s t : Positions). meets s t) c.ones_from-ones.ensures (c.with_run.ensures ∙ (ap (λ (s : Positions). set.union s past) c.empty.ensures ∙ union-empty past))
+    ∙ (ap₂ (λ (s t : Positions). meets s t) c.ones_from-ones.ensures
+    (c.with_run.ensures ∙ (ap (λ (s : Positions). set.union s past) c.empty.ensures ∙ union-empty past))
     ∙ meets-from c.args.value.now c.args.start c.requires)

@@ -16,7 +16,12 @@ overflow_mul-value c =
 pub overflow_add-value : goal.overflow_add-value
 overflow_add-value c =
     let i = c.loop-digit.digit-index in
-    omega (arith, c.loop-digit.invariant, c.digit_value.ensures, fits-more c.args.digits.now i (slice_index c.args.digits.now i) c.loop-digit-test.true c.requires)
+    omega (
+      arith,
+      c.loop-digit.invariant,
+      c.digit_value.ensures,
+      fits-more c.args.digits.now i (slice_index c.args.digits.now i) c.loop-digit-test.true c.requires,
+    )
 
 pub loop-digit-preserved : goal.loop-digit-preserved
 loop-digit-preserved c =

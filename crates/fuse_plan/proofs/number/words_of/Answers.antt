@@ -25,7 +25,9 @@ loop-index-preserved c =
     ∙ ap (λ (n : ℕ). number_word n index) (digits_value-padded c.args.digits.now))) in
     record {
       count = length-set words index c.value_of.result ∙ c.loop-index.invariant.count;
-      done = one_word_more (λ k word. word ≡ number_word value k) words index c.value_of.result (omega (arith, c.loop-index.invariant.count, c.loop-index-test.true)) c.loop-index.invariant.done here;
+      done =
+          one_word_more (λ k word. word ≡ number_word value k) words index c.value_of.result
+          (omega (arith, c.loop-index.invariant.count, c.loop-index-test.true)) c.loop-index.invariant.done here;
     }
 
 pub returns : goal.returns

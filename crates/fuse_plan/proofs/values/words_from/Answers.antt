@@ -18,5 +18,7 @@ loop-word-preserved c =
     one_word_more right words word c.word_from.result within (λ k low bit small. c.loop-word.invariant.done k bit low small) c.word_from.ensures in
     record {
       count = length-set words c.from.result c.word_from.result ∙ c.loop-word.invariant.count;
-      done = λ k bit low small. subst (λ (n : ℕ). (bit_at (slice_index (set words n c.word_from.result) k) bit == 1) ≡ is_one_from c.args.value.now c.args.first (place_of k bit)) (sym c.from.ensures) (more k low bit small);
+      done =
+          λ k bit low small. subst (λ (n : ℕ). (bit_at (slice_index (set words n c.word_from.result) k) bit == 1)
+          ≡ is_one_from c.args.value.now c.args.first (place_of k bit)) (sym c.from.ensures) (more k low bit small);
     }

@@ -7,4 +7,5 @@ use Rattle.fuse_plan.proofs.wants.ones_named.Goals as goal
 
 pub returns-in-None : goal.returns-in-None
 returns-in-None c =
-    c.empty.ensures ∙ in_no_field (λ f p. holds f p && has_one c.args.value.now (p.bit - f.bit)) (field_named c.args.name.now c.args.map.now.fields) (sym c.field_named.ensures.value ∙ c.in-None.is)
+    c.empty.ensures ∙ in_no_field (λ f p. holds f p && has_one c.args.value.now (p.bit - f.bit)) (field_named c.args.name.now c.args.map.now.fields)
+    (sym c.field_named.ensures.value ∙ c.in-None.is)

@@ -8,4 +8,5 @@ returns-clause-still g c = unmoved c.args.bytes.now c.read_behind.new.bytes c.ar
 
 pub returns-clause-bytes : goal.returns-clause-bytes
 returns-clause-bytes g c =
-    kept c.args.bytes.now c.read_behind.new.bytes c.args.len c.read_behind.result _ _ c.read_behind.ensures.before c.requires.room (omega arith) c.read_behind.ensures.bytes
+    kept c.args.bytes.now c.read_behind.new.bytes c.args.len c.read_behind.result _ _ c.read_behind.ensures.before c.requires.room
+    (omega arith) c.read_behind.ensures.bytes

@@ -10,7 +10,8 @@ pub returns-in_default : goal.returns-in_default
 returns-in_default c =
     let passes = free_from_none c.args.reserved.now c.loop-start.start c.args.count (sym c.meeting.ensures ∙ c.in_default.is) in
     rw c.new.ensures
-    (sym (find-range_some (is_free c.args.reserved.now c.args.count) c.args.pool.now.first (c.args.pool.now.count + 1 - c.args.count) c.loop-start.start c.loop-start.invariant.0 (omega arith) passes c.loop-start.invariant.1))
+    (sym (find-range_some (is_free c.args.reserved.now c.args.count) c.args.pool.now.first
+    (c.args.pool.now.count + 1 - c.args.count) c.loop-start.start c.loop-start.invariant.0 (omega arith) passes c.loop-start.invariant.1))
 
 pub loop-start-smaller : goal.loop-start-smaller
 loop-start-smaller c =
@@ -31,4 +32,5 @@ loop-start-preserved c =
 
 pub returns : goal.returns
 returns c =
-    sym (find-range_none (is_free c.args.reserved.now c.args.count) c.args.pool.now.first (c.args.pool.now.count + 1 - c.args.count) (λ j above below. c.loop-start.invariant.1 j above (omega arith)))
+    sym (find-range_none (is_free c.args.reserved.now c.args.count) c.args.pool.now.first (c.args.pool.now.count + 1 - c.args.count) (λ j above below.
+    c.loop-start.invariant.1 j above (omega arith)))

@@ -13,6 +13,7 @@ returns c =
     elim (c.next_serial_from.ensures.exact tt) [
       | inl same ↦
           same
-          ∙ ap (λ next. ok_or next Exhausted) (cursor_skips 0 (contains (slice_cmp nat_cmp) c.args.given.now) c.args.range.now (λ n has low. absurd (omega arith)))
+          ∙ ap (λ next. ok_or next Exhausted) (cursor_skips 0 (contains (slice_cmp nat_cmp) c.args.given.now) c.args.range.now (λ n has low.
+          absurd (omega arith)))
       | inr unread ↦ let none = rw unread at c.next_serial_from.ensures.looked in absurd none.2
     ]

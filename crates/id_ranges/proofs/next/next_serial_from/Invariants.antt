@@ -7,5 +7,6 @@ use Rattle.id_ranges.proofs.next.next_serial_from.Given as goal
 abbrev pub invariant-loop-number : goal.invariant-loop-number
 invariant-loop-number g l = record {
   looked : g.G.Given.looks l.given l.fn.state l.state;
-  passed : g.G.Given.is_honest l.given l.state → (k : ℕ) → l.range.first ≤ k → l.cursor ≤ k → k < l.number → g.G.Given.tells l.given l.fn.state (text_of l.range k) ≡ true;
+  passed : g.G.Given.is_honest l.given l.state → (k : ℕ) → l.range.first ≤ k → l.cursor ≤ k → k < l.number
+      → g.G.Given.tells l.given l.fn.state (text_of l.range k) ≡ true;
 }

@@ -25,7 +25,8 @@ loop-turn-preserved c =
     let old = c.loop-turn.invariant in
     let read = rw c.if-not-found.false at (c.in-Ok.ensures.reads old.trim old.ready) in
     let more = rows-more (λ (s : Bor (List ℕ)). Some s.now) c.loop-turn.reader c.read_byte_record.new.self (fields_of c.read_byte_record.new.row)
-    default_config st.StartRecord (strip_bom c.args.text.now) old.reached.0 (map fields_of c.loop-turn.first.items) old.config old.reached.1 old.reached.2 read in
+    default_config st.StartRecord (strip_bom c.args.text.now) old.reached.0 (map fields_of c.loop-turn.first.items) old.config old.reached.1 old.reached.2 read
+    in
     record {
       trim = read.3 ∙ old.trim;
       ready = inl (c.in-Ok.ensures.ready old.trim);

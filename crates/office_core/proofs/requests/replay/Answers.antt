@@ -7,6 +7,7 @@ use Rattle.site_core.proofs.Owners.{owners_apart}
 use Rattle.site_core.specs.Owners.{owners_of}
 use Rattle.office_runs.proofs.Promising.{promises}
 use Rattle.office_runs.proofs.Seats.{IsSeatOf, all_seats}
+use Rattle.office_runs.proofs.Stopping.{seats_grown}
 use Rattle.office_runs.specs.Growth.{IsSeat}
 use Rattle.office_core.specs.Replaying.{call_of, calls_in, exchanges_in}
 use Rattle.office_core.proofs.Replaying.{exchanges_calls}
@@ -19,7 +20,7 @@ returns-clause-count g c =
     ap length is ∙ run.2
 
 pub returns-clause-apart : goal.returns-clause-apart
-returns-clause-apart g c = owners_apart c.args.site.now c.customers-customers.ensures.site
+returns-clause-apart g c = owners_apart c.args.site.now c.answer_all.ensures.site
 
 pub returns-clause-seats : goal.returns-clause-seats
 returns-clause-seats g c =
@@ -37,5 +38,6 @@ returns-clause-run g c = λ honest t stands.
     let each = exchanges_calls calls run.0 (run.2 ∙ sym (length-map c.args.requests.now (call_of site))) in (
       made.0,
       rw is made.1,
-      (λ sound. rw is (promises owners (exchanges_in site c.args.requests.now run.0) owners t made.0 sound (rw each (all_seats owners calls c.answer_all.ensures.seats)) made.1.run)),
+      λ first begun sound.
+          rw is (promises first (exchanges_in site c.args.requests.now run.0) owners t made.0 sound (rw each (seats_grown first owners begun calls owners (all_seats owners calls c.answer_all.ensures.seats))) made.1.run),
     )

@@ -19,11 +19,18 @@ returns g c = record {
       let p = c.in-Some.found in
       let before = c.accept_step.ensures.reads.was_open is in
       let found : FindsPlaced s c.args.plan.now.chip t (Some p) = rw c.in-Some.is at (c.in_ok-found.ensures.says before) in
-      let judged : Ok c.in-Ok.work ≡ unless_refused (lowest (plan_refusals ws p.map p.device)) (work_of ws p.map p.device) = rw c.as_slice.ensures at (sym c.in-Ok.is ∙ c.judge_wishes.ensures) in
+      let judged : Ok c.in-Ok.work ≡ unless_refused (lowest (plan_refusals ws p.map p.device)) (work_of ws p.map p.device) =
+      rw c.as_slice.ensures at (sym c.in-Ok.is ∙ c.judge_wishes.ensures) in
       let free : lowest (plan_refusals ws p.map p.device) ≡ None = refused_by_none _ _ _ judged in
       let work : c.in-Ok.work ≡ work_of ws p.map p.device = made_of _ _ _ judged in
       let accepted : IsAccepted s seat t (plans ws p.map p.device).0 (plans ws p.map p.device).1 c.in_ok-accepted.accepted =
-      rw (c.find_placed.ensures.reads.same before, c.with_work-step.ensures, c.in_ok-body.ensures, c.state_with.ensures, work) at (c.in_ok-accepted.ensures.says is) in
+      rw (
+        c.find_placed.ensures.reads.same before,
+        c.with_work-step.ensures,
+        c.in_ok-body.ensures,
+        c.state_with.ensures,
+        work,
+      ) at (c.in_ok-accepted.ensures.says is) in
       let made = step_accepted s seat t c.args.plan.now.chip p (plans ws) c.in_ok-accepted.accepted found refl refl refl accepted in
       (rw found.0 free, made.0, made.1);
 }

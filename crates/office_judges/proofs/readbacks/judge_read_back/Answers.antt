@@ -14,7 +14,8 @@ returns-in-Err g c = record {
   stays_open = search rules;
   says = λ is.
       let p = c.in-Some.found in
-      let found : FindsPlaced c.args.customer.now c.args.read.now.chip (g.K.Keep.tables c.args.keep.now) (Some p) = rw c.in-Some.is at (c.in_ok-found.ensures.says is) in
+      let found : FindsPlaced c.args.customer.now c.args.read.now.chip (g.K.Keep.tables c.args.keep.now) (Some p) =
+      rw c.in-Some.is at (c.in_ok-found.ensures.says is) in
       let refused = refused_by _ _ _ (sym c.in-Err.is ∙ c.judge_words.ensures) in
       rw found.0 refused;
 }
@@ -31,11 +32,20 @@ returns g c = record {
       let p = c.in-Some.found in
       let before = c.accept_step.ensures.reads.was_open is in
       let found : FindsPlaced s c.args.read.now.chip t (Some p) = rw c.in-Some.is at (c.in_ok-found.ensures.says before) in
-      let judged : Ok c.in-Ok.readback ≡ unless_refused (lowest (read_refusals words p.map p.device)) (redacted p.map words) = sym c.in-Ok.is ∙ c.judge_words.ensures in
+      let judged : Ok c.in-Ok.readback ≡ unless_refused (lowest (read_refusals words p.map p.device)) (redacted p.map words) =
+      sym c.in-Ok.is ∙ c.judge_words.ensures in
       let free : lowest (read_refusals words p.map p.device) ≡ None = refused_by_none _ _ _ judged in
       let shown : c.in-Ok.readback ≡ redacted p.map words = made_of _ _ _ judged in
       let accepted : IsAccepted s seat t (reads words p.map p.device).0 (reads words p.map p.device).1 c.in_ok-accepted.accepted =
-      rw (c.find_placed.ensures.reads.same before, c.in_ok-body.ensures, c.outcome_of-outcome.ensures, c.rest_of-rest.ensures, c.read_step-step.ensures.step, c.read_step-step.ensures.verdict, shown) at (c.in_ok-accepted.ensures.says is) in
+      rw (
+        c.find_placed.ensures.reads.same before,
+        c.in_ok-body.ensures,
+        c.outcome_of-outcome.ensures,
+        c.rest_of-rest.ensures,
+        c.read_step-step.ensures.step,
+        c.read_step-step.ensures.verdict,
+        shown,
+      ) at (c.in_ok-accepted.ensures.says is) in
       let made = step_accepted s seat t c.args.read.now.chip p (reads words) c.in_ok-accepted.accepted found refl refl refl accepted in
       (rw found.0 free, made.0, made.1);
 }

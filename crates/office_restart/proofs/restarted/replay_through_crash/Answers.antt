@@ -11,6 +11,7 @@ use Rattle.site_core.specs.Owners.{owners_of}
 use Rattle.site_core.specs.Section.{SiteValue}
 use Rattle.office_runs.specs.Exchanges.{Call, calls_of}
 use Rattle.office_runs.specs.Growth.{IsSeat}
+use Rattle.office_runs.proofs.Grown.{growth_itself}
 use Rattle.office_core.specs.Replaying.{call_of, calls_in, exchanges_in}
 use Rattle.office_core.specs.declared.requests.SeatRequest.{SeatRequest}
 use Rattle.office_store.specs.Keeping.{tables_of}
@@ -39,9 +40,10 @@ returns-in-Ok-clause-run g c = λ honest.
     let first = tables_of over_files c.in_ok-opened.opened.conn in
     let before = c.in_ok-before.ensures.run calm first (λ _. refl) in
     let after = c.in-Ok.ensures.run honest left (λ _. refl) in
-    let law = c.stopped_stores_go_on.ensures (owners_of site) c.in_ok-opened.opened c.replay-before.new.keep c.in_ok-keep.keep c.replay.new.keep
+    let owners = owners_of site in
+    let law = c.stopped_stores_go_on.ensures owners owners c.in_ok-opened.opened c.replay-before.new.keep c.in_ok-keep.keep c.replay.new.keep
     (exchanges_in site c.args.first.now c.in_ok-before.before.items) (exchanges_in site c.args.second.now c.in-Ok.after.items) first before.0 left after.0
-    c.in_ok-before.ensures.apart
+    (growth_itself owners) c.in_ok-before.ensures.apart c.in_ok-before.ensures.apart
     (seats_of site c.args.first.now c.in_ok-before.before.items c.in_ok-before.ensures.count c.in_ok-before.ensures.seats)
     (seats_of site c.args.second.now c.in-Ok.after.items c.in-Ok.ensures.count c.in-Ok.ensures.seats)
     (record { fresh = c.in_ok-opened.ensures.settled start; answered = before.1; leaves = may }) after.1 in

@@ -1,6 +1,5 @@
 use Rattle.std.proofs.Common.{[], subst, sym}
 use Rattle.std.specs.Prelude.{⊤}
-use Rattle.sqlite.specs.Held.{state}
 use Rattle.office_sql.specs.Asking.{Asks}
 use Rattle.office_sql.proofs.Asked.{not_run_rests, unchanged_rests}
 use Rattle.office_sql.proofs.ask.ask_open.Goals as goal

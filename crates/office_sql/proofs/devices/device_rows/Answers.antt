@@ -13,5 +13,5 @@ returns g c =
     let chip = c.args.chip.now in
     asked g.S.Store one_text 9 (is_given 1 0 ∷ is_given 2 1 ∷ []) shown by_key one_read _ (Text customer ∷ Text chip ∷ [])
     (rw (c.params-to_sql.ensures, c.params-to_sql-2.ensures, c.as_str.ensures.same, c.as_str-2.ensures.same) refl) c.args.conn.now c.query_all.new.self c.query_all.result _ c.requires
-    (λ rows office s. one_shown customer chip ((state g.S.Store c.args.conn.now).now.trees 9) rows.items office.devices s)
+    (λ rows office s. one_shown customer chip ((state g.S.Store c.args.conn.now).now.trees 9) rows.items office.rows.devices s)
     c.query_all.ensures.ok c.query_all.ensures.err c.query_all.ensures.mode c.query_all.ensures.survives

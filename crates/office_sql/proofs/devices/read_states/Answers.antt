@@ -1,5 +1,5 @@
 -- One row more is read.
-use Rattle.std.proofs.Common.{◌≡◌, ◌∙◌, ◌<◌, length, arith}
+use Rattle.std.proofs.Common.{◌∙◌, ◌<◌, length, arith}
 use Rattle.office_sql.specs.OrderStates.{order_state_in}
 use Rattle.office_sql.proofs.DeviceReads.{one_more}
 use Rattle.office_sql.proofs.devices.read_states.Goals as goal

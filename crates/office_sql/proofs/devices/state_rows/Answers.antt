@@ -11,5 +11,5 @@ pub returns : goal.returns
 returns g c =
     let customer = c.args.customer.now in
     asked g.S.Store states_text 9 (is_given 1 0 ∷ []) states_shown by_key states_read _ (Text customer ∷ []) (rw (c.params-to_sql.ensures, c.as_str.ensures.same) refl) c.args.conn.now c.query_all.new.self c.query_all.result _ c.requires
-    (λ rows office s. states_shown_are customer ((state g.S.Store c.args.conn.now).now.trees 9) rows.items office.devices s)
+    (λ rows office s. states_shown_are customer ((state g.S.Store c.args.conn.now).now.trees 9) rows.items office.rows.devices s)
     c.query_all.ensures.ok c.query_all.ensures.err c.query_all.ensures.mode c.query_all.ensures.survives

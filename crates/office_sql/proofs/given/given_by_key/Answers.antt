@@ -1,8 +1,7 @@
-use Rattle.std.proofs.Common.{rules, ◌∷◌, ◌∙◌}
+use Rattle.std.proofs.Common.{rules, ◌∙◌}
 use Rattle.std.proofs.lemmas.Result.{IfOk-weaker}
-use Rattle.sqlite.specs.declared.types.Value.TheVariants.{Null}
 use Rattle.office_tables.specs.Tables.{is_bound}
-use Rattle.office_sql.specs.Rows.{given_in}
+use Rattle.office_sql.specs.Rows.{joined_given}
 use Rattle.office_sql.proofs.Kept.{found}
 use Rattle.office_sql.proofs.Reading.{asks_more}
 use Rattle.office_sql.proofs.given.given_by_key.Goals as goal
@@ -10,5 +9,5 @@ use Rattle.office_sql.proofs.given.given_by_key.Goals as goal
 pub returns : goal.returns
 returns g c =
     asks_more g.S.Store c.args.conn.now c.rows_by_key.new.conn c.rows_by_key.result c.first_given.result _ _ c.rows_by_key.ensures
-    (λ t is. IfOk-weaker c.first_given.result _ _ (λ row e. e ∙ found (λ r. given_in (Null ∷ r)) (is_bound c.args.issuer.now c.args.key.now) t.given _ (search rules)) c.first_given.ensures)
+    (λ t is. IfOk-weaker c.first_given.result _ _ (λ row e. e ∙ found joined_given (is_bound c.args.issuer.now c.args.key.now) t.given _ (search rules)) c.first_given.ensures)
     (search rules)

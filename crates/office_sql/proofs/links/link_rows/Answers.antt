@@ -11,5 +11,5 @@ returns g c =
     let customer = c.args.customer.now in
     let digest = c.args.digest.now in
     asked g.S.Store one_text 5 (is_given 1 0 ∷ is_given 2 1 ∷ []) shown by_key one_read _ (Text customer ∷ Blob digest ∷ []) (search rules) c.args.conn.now c.query_all.new.self c.query_all.result _ c.requires
-    (λ rows office s. one_shown customer digest ((state g.S.Store c.args.conn.now).now.trees 5) rows.items office.links s)
+    (λ rows office s. one_shown customer digest ((state g.S.Store c.args.conn.now).now.trees 5) rows.items office.rows.links s)
     c.query_all.ensures.ok c.query_all.ensures.err c.query_all.ensures.mode c.query_all.ensures.survives

@@ -16,5 +16,5 @@ returns g c =
     let customer = c.args.customer.now in
     visits g.S.Store own_text 5 (is_given 1 0 ∷ []) shown by_key own_read _ (Text customer ∷ []) (search rules) c.args.conn.now c.visit_rows.new.conn
     g.K.Sink.takes (λ r. link_in (Null ∷ r)) c.visit_rows.result c.args.sink.now c.visit_rows.new.sink (λ t. filter (is_of customer) t.links) c.requires
-    (λ rows office s. own_shown customer ((state g.S.Store c.args.conn.now).now.trees 5) rows office.links s)
+    (λ rows office s. own_shown customer ((state g.S.Store c.args.conn.now).now.trees 5) rows office.rows.links s)
     c.visit_rows.ensures.visited c.visit_rows.ensures.same c.visit_rows.ensures.rests c.visit_rows.ensures.mode c.visit_rows.ensures.crash

@@ -10,5 +10,5 @@ pub returns : goal.returns
 returns g c =
     let body = c.args.body.now in
     asked g.S.Store body_text 3 (is_given 2 0 ∷ []) shown by_key body_read _ (Text body ∷ []) (search rules) c.args.conn.now c.query_all.new.self c.query_all.result _ c.requires
-    (λ rows office s. body_shown body ((state g.S.Store c.args.conn.now).now.trees 3) rows.items office.maps s)
+    (λ rows office s. body_shown body ((state g.S.Store c.args.conn.now).now.trees 3) rows.items office.rows.maps s)
     c.query_all.ensures.ok c.query_all.ensures.err c.query_all.ensures.mode c.query_all.ensures.survives

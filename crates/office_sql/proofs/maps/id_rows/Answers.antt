@@ -10,5 +10,5 @@ pub returns : goal.returns
 returns g c =
     let id = c.args.id in
     asked g.S.Store one_text 3 (is_given 0 0 ∷ []) shown by_key one_read _ (Int (pos id) ∷ []) (search rules) c.args.conn.now c.query_all.new.self c.query_all.result _ c.requires
-    (λ rows office s. one_shown id ((state g.S.Store c.args.conn.now).now.trees 3) rows.items office.maps s)
+    (λ rows office s. one_shown id ((state g.S.Store c.args.conn.now).now.trees 3) rows.items office.rows.maps s)
     c.query_all.ensures.ok c.query_all.ensures.err c.query_all.ensures.mode c.query_all.ensures.survives

@@ -1,8 +1,7 @@
-use Rattle.std.proofs.Common.{rules, ◌∷◌, ◌∙◌}
+use Rattle.std.proofs.Common.{rules, ◌∙◌}
 use Rattle.std.proofs.lemmas.Result.{IfOk-weaker}
-use Rattle.sqlite.specs.declared.types.Value.TheVariants.{Null}
 use Rattle.office_tables.specs.Tables.{is_order}
-use Rattle.office_sql.specs.Rows.{order_in}
+use Rattle.office_sql.specs.Rows.{joined_order}
 use Rattle.office_sql.proofs.Kept.{found}
 use Rattle.office_sql.proofs.Reading.{asks_more}
 use Rattle.office_sql.proofs.orders.order_row.Goals as goal
@@ -10,5 +9,5 @@ use Rattle.office_sql.proofs.orders.order_row.Goals as goal
 pub returns : goal.returns
 returns g c =
     asks_more g.S.Store c.args.conn.now c.order_rows.new.conn c.order_rows.result c.first_order.result _ _ c.order_rows.ensures
-    (λ t is. IfOk-weaker c.first_order.result _ _ (λ row e. e ∙ found (λ r. order_in (Null ∷ r)) (is_order c.args.customer.now c.args.name.now) t.orders _ (search rules)) c.first_order.ensures)
+    (λ t is. IfOk-weaker c.first_order.result _ _ (λ row e. e ∙ found joined_order (is_order c.args.customer.now c.args.name.now) t.orders _ (search rules)) c.first_order.ensures)
     (search rules)

@@ -10,5 +10,5 @@ pub returns : goal.returns
 returns g c =
     let name = c.args.name.now in
     asked g.S.Store one_text 1 (is_given 1 0 ∷ []) shown by_key one_read _ (Text name ∷ []) (search rules) c.args.conn.now c.query_all.new.self c.query_all.result _ c.requires
-    (λ rows office s. one_shown name ((state g.S.Store c.args.conn.now).now.trees 1) rows.items office.seats s)
+    (λ rows office s. one_shown name ((state g.S.Store c.args.conn.now).now.trees 1) rows.items office.rows.seats s)
     c.query_all.ensures.ok c.query_all.ensures.err c.query_all.ensures.mode c.query_all.ensures.survives

@@ -1,5 +1,5 @@
 use Rattle.sqlite.proofs.StateLemmas.{clean_if_open}
-use Rattle.office_store.proofs.Refusals.{made, unmade}
+use Rattle.office_store.proofs.Settling.{made, unmade}
 use Rattle.office_store.proofs.adopting.make.Goals as goal
 
 pub make_tables-requires-clause-settled : goal.make_tables-requires-clause-settled
@@ -12,11 +12,11 @@ returns-in-Err g c =
     let conn = c.make_tables.new.conn in
     let it = c.in-Err.ensures in
     unmade g.S.Store c.args.site.now c.args.conn.now conn (clean_if_open (g.S.Store.view conn.store) (g.met.S.Store.shut_if_dirty conn.store))
-    c.requires.can c.requires.bare it.mode it.err it.crash
+    c.requires.can c.requires.bare it.mode it.crash it.err
 
 pub returns-in-Ok : goal.returns-in-Ok
 returns-in-Ok g c =
     let conn = c.make_tables.new.conn in
     let it = c.in-Ok.ensures in
     made g.S.Store c.args.site.now c.args.conn.now conn (clean_if_open (g.S.Store.view conn.store) (g.met.S.Store.shut_if_dirty conn.store))
-    c.requires.can c.requires.bare it.mode it.ok it.crash
+    c.requires.can c.requires.bare it.mode it.crash it.ok

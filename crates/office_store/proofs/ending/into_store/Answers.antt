@@ -1,5 +1,5 @@
 -- What a crash leaves opens again, as the kit's store says, and the keeper says what that is.
-use Rattle.std.proofs.Common.{◌≡◌, arith, subst}
+use Rattle.std.proofs.Common.{arith, subst}
 use Rattle.std.proofs.Math.Logic.{∥∥₁_map}
 use Rattle.sqlite.specs.Files.{over_files, HoldsDatabase}
 use Rattle.sqlite.specs.Tree.{Trees}

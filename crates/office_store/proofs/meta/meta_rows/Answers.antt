@@ -1,11 +1,15 @@
-use Rattle.std.proofs.Common.{[], refl}
+use Rattle.std.proofs.Common.{[]}
 use Rattle.sqlite.specs.Held.{state}
+use Rattle.office_sql.specs.Scan.{scan}
+use Rattle.office_store.proofs.FoundAsked.{of_a_version, tested}
 use Rattle.office_store.proofs.MetaShows.{row_text, row_shown, row_order, row_read, shows_meta}
-use Rattle.office_sql.proofs.Reading.{asked}
+use Rattle.office_store.specs.declared.version.Version.TheVariants.{First}
 use Rattle.office_store.proofs.meta.meta_rows.Goals as goal
 
 pub returns : goal.returns
 returns g c =
-    asked g.S.Store row_text 0 [] row_shown row_order row_read _ [] refl c.args.conn.now c.query_all.new.self c.query_all.result _ c.requires
-    (λ rows office s. shows_meta (state g.S.Store c.args.conn.now).now rows.items office s)
+    tested g.S.Store row_text (scan 0 [] row_shown row_order) (row_read First).bare _ (of_a_version row_text (scan 0 [] row_shown row_order) row_read)
+    c.args.conn.now c.query_all.new.self c.query_all.result _
+    (λ up. (c.requires.0, (c.requires.1 up).schema))
+    (λ rows up a. shows_meta c.requires.0 (state g.S.Store c.args.conn.now).now rows.items (c.requires.1 up) a)
     c.query_all.ensures.ok c.query_all.ensures.err c.query_all.ensures.mode c.query_all.ensures.survives

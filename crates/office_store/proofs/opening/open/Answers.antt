@@ -1,8 +1,10 @@
-use Rattle.std.proofs.Common.{ap, ◌∙◌}
+use Rattle.std.proofs.Common.{ap, subst, sym, ◌∙◌}
 use Rattle.sqlite.specs.Files.{file_state}
 use Rattle.sqlite.specs.Effect.{Database}
 use Rattle.sqlite.specs.WalFiles.{image_at}
 use Rattle.office_sql.specs.Tables.{tables_in}
+use Rattle.office_store.specs.declared.version.Version.TheVariants.{First}
+use Rattle.office_store.specs.Meta.{IsTold}
 use Rattle.office_store.proofs.FoundFiles.{can_settle}
 use Rattle.office_store.proofs.FoundResults.{both_of}
 use Rattle.office_store.proofs.opening.open.Goals as goal
@@ -20,3 +22,11 @@ returns-in-Ok-clause-tables g c =
 
 pub settle_or_close-requires : goal.settle_or_close-requires
 settle_or_close-requires g c = can_settle (image_at g.S.Start) (file_state c.in-Ok.conn) c.in-Ok.ensures.fresh.autocommit c.in-Ok.ensures.opened c.in-Ok.ensures.found
+
+pub returns-in-Ok-clause-unstarted : goal.returns-in-Ok-clause-unstarted
+returns-in-Ok-clause-unstarted g c =
+    both_of c.settle_or_close.result _ _ _ (λ keep calm unstarted clean db holds told.
+    let found = c.in-Ok.ensures.found (calm clean) in
+    let same = ap (λ (d : Database). d.trees) (c.in-Ok.ensures.opened (calm clean)).0.clean ∙ found.holds db holds in
+    unstarted clean (subst (IsTold First c.args.site.now) (sym same) told))
+    c.settle_or_close.ensures.clean c.settle_or_close.ensures.unstarted

@@ -11,5 +11,6 @@ pub returns : goal.returns
 returns g c =
     let made : IfOk c.collect.result (IsFromIterResult g.T.Ord.cmp c.args.items.now) = search rules in
     let there : IsFromIterResult g.T.Ord.cmp c.args.items.now c.in_ok-distinct.distinct = rw c.in_ok-distinct.was at made in
-    let size : c.len.result ≡ distinct_count (eq_by_cmp g.T.Ord.cmp) c.args.items.now = c.len.ensures.len ∙ btree_set_len-from_list g.met.T.Ord.total c.args.items.now c.in_ok-distinct.distinct there in
+    let size : c.len.result ≡ distinct_count (eq_by_cmp g.T.Ord.cmp) c.args.items.now =
+    c.len.ensures.len ∙ btree_set_len-from_list g.met.T.Ord.total c.args.items.now c.in_ok-distinct.distinct there in
     rw size (has_pair-from_count (eq_by_cmp g.T.Ord.cmp) c.args.items.now)

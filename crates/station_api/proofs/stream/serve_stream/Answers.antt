@@ -1,5 +1,7 @@
 -- Why `stream::serve_stream` meets its contract, where that has to be said.
 use Rattle.http_serving.specs.Streams.{turns_of}
+use Rattle.site_core.specs.Owners.{owners_of}
+use Rattle.office_runs.proofs.Grown.{sound_grown}
 use Rattle.station_api.specs.Machine.{Says, StationAnswers}
 use Rattle.station_api.specs.Own.{exchange_in}
 use Rattle.station_api.proofs.KeptRuns.{kept}
@@ -25,5 +27,5 @@ returns-clause-run g c =
       runs_said k (Says site) (exchange_in site) (StationAnswers site) turns old new made.2,
       (λ honest t stands.
           let over = runs_tables k (Says site) (exchange_in site) (StationAnswers site) turns old new made.2 honest t stands in
-          (over.0, over.1, over.2, over.3, (λ sound. kept site c.customers-customers.ensures.site turns t over.0 sound over.1))),
+          (over.0, over.1, over.2, over.3, (λ first growth sound. kept site c.customers-customers.ensures.site turns t over.0 (sound_grown first (owners_of site) t growth sound) over.1))),
     )

@@ -1,5 +1,7 @@
 -- Why `running::replay` meets its contract, where that has to be said.
 use Rattle.std.proofs.Common.{IfOk, rules}
+use Rattle.site_core.specs.Owners.{owners_of}
+use Rattle.office_runs.proofs.Grown.{growth_itself}
 use Rattle.office_tables.specs.Tables.{no_rows}
 use Rattle.station_jobs.specs.Replaying.{Replays}
 use Rattle.station_jobs.specs.SiteFile.{site_in}
@@ -24,9 +26,10 @@ returns-clause-served g c =
     let written_old = g.W.Drain.written c.args.writer.now in
     let written_new = g.W.Drain.written c.serve.new.writer in
     let served = c.serve.ensures.served in
+    let owners = owners_of c.in_ok-site.site in
     of_bytes c.args.file c.in_ok-bytes.bytes
     (λ bytes. IfOk (site_in c.args.name bytes.items) (λ site. Replays site no_rows left_old left_new written_old written_new c.serve.result))
     c.in_ok-bytes.ensures.read
     (replays_site (site_in c.args.name c.in_ok-bytes.bytes.items) c.in_ok-site.site no_rows left_old left_new written_old written_new c.serve.result
     (rw c.as_slice.ensures.value at c.in_ok-site.ensures)
-    (let led = served.5 tt no_rows (λ _. c.new-keep.ensures) in (served.0, served.1, served.2, served.3, served.4, led.0, led.1, led.4)))
+    (let led = served.5 tt no_rows (λ _. c.new-keep.ensures) in (served.0, served.1, served.2, served.3, served.4, led.0, led.1, λ sound. led.4 owners (growth_itself owners) sound)))

@@ -15,9 +15,11 @@ loop-i-preserved c =
     let within : i < length items = omega (arith, c.loop-i-test.true, inv.end, inv.same) in
     record {
       lines = ap (slice_set items i) (c.count_in_line.ensures.line done)
-          ∙ map_over_more (counted (c.args.device.now ∷ [])) c.args.lines.now.items items i c.index_mut.result.now (omega (arith, within, inv.same)) inv.lines c.index_mut.ensures.value;
+          ∙ map_over_more (counted (c.args.device.now ∷ [])) c.args.lines.now.items items i c.index_mut.result.now
+          (omega (arith, within, inv.same)) inv.lines c.index_mut.ensures.value;
       are_lines = λ fit. All-set IsLine items i _
-          (c.count_in_line.ensures.is_line done (subst IsLine (sym c.index_mut.ensures.value) (All-get_or IsLine items i c.index_mut.result.now within (inv.are_lines fit)))) (inv.are_lines fit);
+          (c.count_in_line.ensures.is_line done (subst IsLine (sym c.index_mut.ensures.value)
+          (All-get_or IsLine items i c.index_mut.result.now within (inv.are_lines fit)))) (inv.are_lines fit);
       end = inv.end;
       same = length-set items i c.count_in_line.new.line ∙ inv.same;
     }

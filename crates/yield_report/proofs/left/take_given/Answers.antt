@@ -23,12 +23,15 @@ loop-place-preserved-in_default g c =
     let inv = c.loop-place.invariant in
     let lines = c.loop-place.left.items in
     let place = c.loop-place.place in
-    let none : new_issuer lines place ≡ None = said_of lines c.as_slice.result.now place c.new_issuer.result None c.as_slice.ensures.value c.new_issuer.ensures c.in_default.is in
+    let none : new_issuer lines place ≡ None =
+    said_of lines c.as_slice.result.now place c.new_issuer.result None c.as_slice.ensures.value c.new_issuer.ensures c.in_default.is in
     let within : c.loop-place.place < length c.args.lines.items = omega (arith, c.loop-place-test.true, inv.end) in
     record {
       reads = inv.reads;
       stays_open = inv.stays_open;
-      taken = λ is are. place_met (has_given_in (g.K.Keep.tables c.args.keep.now)) c.args.lines.items c.loop-place.left.items c.loop-place.place within (inv.taken is are)
+      taken =
+          λ is are. place_met (has_given_in (g.K.Keep.tables c.args.keep.now)) c.args.lines.items c.loop-place.left.items c.loop-place.place within
+          (inv.taken is are)
           none;
       are_lines = inv.are_lines;
       end = inv.end;
@@ -39,7 +42,8 @@ loop-place-preserved g c =
     let inv = c.loop-place.invariant in
     let lines = c.loop-place.left.items in
     let place = c.loop-place.place in
-    let some : new_issuer lines place ≡ Some c.in-Some.issuer = said_of lines c.as_slice.result.now place c.new_issuer.result (Some c.in-Some.issuer) c.as_slice.ensures.value c.new_issuer.ensures c.in-Some.is in
+    let some : new_issuer lines place ≡ Some c.in-Some.issuer =
+    said_of lines c.as_slice.result.now place c.new_issuer.result (Some c.in-Some.issuer) c.as_slice.ensures.value c.new_issuer.ensures c.in-Some.is in
     let within : c.loop-place.place < length c.args.lines.items = omega (arith, c.loop-place-test.true, inv.end) in
     record {
       reads = reads_more inv.reads c.take_of_issuer.ensures.reads;
@@ -48,7 +52,8 @@ loop-place-preserved g c =
           let was = c.take_of_issuer.ensures.reads.was_open is in
           let same = inv.reads.same was in
           let says = c.in_ok-left.ensures.says is in
-          place_taken (g.K.Keep.tables c.args.keep.now) c.args.lines.items c.loop-place.left.items c.in_ok-left.left.items c.loop-place.place c.in-Some.issuer within
+          place_taken (g.K.Keep.tables c.args.keep.now) c.args.lines.items c.loop-place.left.items c.in_ok-left.left.items c.loop-place.place c.in-Some.issuer
+          within
           (recursion_from_All IsLine c.args.lines.items are) (inv.taken was are)
           some
           (rw same at says.0) (rw same at says.1);
@@ -64,6 +69,8 @@ returns g c =
       stays_open = search rules;
       says = λ is are.
           let given = has_given_in (g.K.Keep.tables c.args.keep.now) in
-          let all = take_all c.loop-place.place c.args.lines.items (omega (arith, c.loop-place-test.false, inv.end)) in
-          (inv.taken is are ∙ (ap (λ (ls : List OrderLine). map (left_so_far given ls) c.args.lines.items) all ∙ map_all_met given c.args.lines.items), inv.are_lines is are);
+          let all = take_all c.loop-place.place c.args.lines.items (omega (arith, c.loop-place-test.false, inv.end)) in (
+            inv.taken is are ∙ (ap (λ (ls : List OrderLine). map (left_so_far given ls) c.args.lines.items) all ∙ map_all_met given c.args.lines.items),
+            inv.are_lines is are,
+          );
     }

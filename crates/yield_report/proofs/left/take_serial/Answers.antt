@@ -14,9 +14,11 @@ loop-i-preserved c =
     let within : i < length items = omega (arith, c.loop-i-test.true, inv.end, inv.same) in
     record {
       lines = ap (slice_set items i) c.take_from_line.ensures.line
-          ∙ map_over_more (taken c.args.issuer.now (c.args.serial.now ∷ [])) c.args.lines.now.items items i c.index_mut.result.now (omega (arith, within, inv.same)) inv.lines c.index_mut.ensures.value;
+          ∙ map_over_more (taken c.args.issuer.now (c.args.serial.now ∷ [])) c.args.lines.now.items items i c.index_mut.result.now
+          (omega (arith, within, inv.same)) inv.lines c.index_mut.ensures.value;
       are_lines = λ fit. All-set IsLine items i _
-          (c.take_from_line.ensures.is_line (subst IsLine (sym c.index_mut.ensures.value) (All-get_or IsLine items i c.index_mut.result.now within (inv.are_lines fit)))) (inv.are_lines fit);
+          (c.take_from_line.ensures.is_line (subst IsLine (sym c.index_mut.ensures.value)
+          (All-get_or IsLine items i c.index_mut.result.now within (inv.are_lines fit)))) (inv.are_lines fit);
       end = inv.end;
       same = length-set items i c.take_from_line.new.line ∙ inv.same;
     }

@@ -10,6 +10,8 @@ returns g c = record {
   reads = search rules;
   stays_open = search rules;
   says = λ is.
-      let visits = c.in_ok-visit_orders.ensures.says is in
-      (rw c.new.ensures.items at (lines_gathered _ _ _ visits c.if-scan.false), lines_fit _ _ _ visits c.if-scan.false (rw c.new.ensures.items (All-nil IsLine)));
+      let visits = c.in_ok-visit_orders.ensures.says is in (
+        rw c.new.ensures.items at (lines_gathered _ _ _ visits c.if-scan.false),
+        lines_fit _ _ _ visits c.if-scan.false (rw c.new.ensures.items (All-nil IsLine)),
+      );
 }

@@ -14,5 +14,6 @@ returns-in-Equal c =
     let within : i < length before = omega (arith, c.loop-i-test.true, inv.end) in
     ap (λ (xs : List (List ℕ)). slice_set xs i name) inv.same
     ∙ (set_split before i name within
-    ∙ placed_over text_cmp name before i c.index.result.now within (c.index.ensures ∙ ap (λ (xs : List (List ℕ)). slice_index_or xs i c.index.result.now) inv.same)
+    ∙ placed_over text_cmp name before i c.index.result.now within
+    (c.index.ensures ∙ ap (λ (xs : List (List ℕ)). slice_index_or xs i c.index.result.now) inv.same)
     (sym c.cmp.ensures ∙ c.in-Equal.is) inv.passed)

@@ -30,7 +30,8 @@ pub returns-then-number-first-clause-found : goal.returns-then-number-first-clau
 returns-then-number-first-clause-found c = λ n has text.
     let r = c.args.range.now in
     let is = number_is r c.width.ensures.range n has c.args.serial.now text _ _
-    (c.as_bytes-front.ensures.value ∙ (c.as_str.ensures.same ∙ c.prefix-prefix.ensures)) (c.as_bytes-bytes.ensures.value ∙ c.as_str-2.ensures.same) _ c.number_of-number.ensures in
+    (c.as_bytes-front.ensures.value ∙ (c.as_str.ensures.same ∙ c.prefix-prefix.ensures))
+    (c.as_bytes-bytes.ensures.value ∙ c.as_str-2.ensures.same) _ c.number_of-number.ensures in
     elim c.then-number-first.branch [
       | then-number-first-via-then-number-first w ↦ absurd (omega (arith, is, has.0, has.1))
       | then-number-first-via-else-number-first+then-number-first-2 w ↦ absurd (omega (arith, is, has.0, has.1))
@@ -39,4 +40,5 @@ returns-then-number-first-clause-found c = λ n has text.
 pub returns-clause-found : goal.returns-clause-found
 returns-clause-found c = λ n has text.
     ap Some (number_is c.args.range.now c.width.ensures.range n has c.args.serial.now text _ _
-    (c.as_bytes-front.ensures.value ∙ (c.as_str.ensures.same ∙ c.prefix-prefix.ensures)) (c.as_bytes-bytes.ensures.value ∙ c.as_str-2.ensures.same) _ c.number_of-number.ensures)
+    (c.as_bytes-front.ensures.value ∙ (c.as_str.ensures.same ∙ c.prefix-prefix.ensures))
+    (c.as_bytes-bytes.ensures.value ∙ c.as_str-2.ensures.same) _ c.number_of-number.ensures)

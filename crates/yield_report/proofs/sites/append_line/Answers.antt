@@ -14,9 +14,12 @@ returns g c = record {
   stays_open = search rules;
   says = λ is.
       let items = c.in_ok-lines.lines.items in
-      let sums : c.in-Some.sums ≡ total (numbers_in items) = c.in-Some.ensures.sums ∙ ap (λ (ls : List OrderLine). total (numbers_in ls)) c.as_slice.ensures.value in
+      let sums : c.in-Some.sums ≡ total (numbers_in items) =
+      c.in-Some.ensures.sums ∙ ap (λ (ls : List OrderLine). total (numbers_in ls)) c.as_slice.ensures.value in
       let count : c.len-count.result ≡ length items = c.len-count.ensures ∙ c.in_ok-lines.lines.ok.0 in
-      let fit : AreStorable (numbers_of c.in-Some.sums) = subst (λ (y : Yield). AreStorable (numbers_of y)) (sym c.in-Some.ensures.sums) (c.in-Some.ensures.fits.0 (search rules)) in
-      customer_is c.args.customer.now (g.K.Keep.tables c.args.keep.now) items c.in-Some.sums c.len-count.result c.args.text.now.items _ (c.in_ok-lines.ensures.says is) sums count
+      let fit : AreStorable (numbers_of c.in-Some.sums) =
+      subst (λ (y : Yield). AreStorable (numbers_of y)) (sym c.in-Some.ensures.sums) (c.in-Some.ensures.fits.0 (search rules)) in
+      customer_is c.args.customer.now (g.K.Keep.tables c.args.keep.now) items c.in-Some.sums c.len-count.result c.args.text.now.items _
+      (c.in_ok-lines.ensures.says is) sums count
       (omega (arith, c.if-count-gt-LARGEST_NUMBER.false)) fit c.in_ok-append_customer.ensures;
 }

@@ -9,13 +9,18 @@ pub loop-line-preserved : goal.loop-line-preserved
 loop-line-preserved c =
     let made = c.in-Some.ensures.sums in
     record {
-      sums = made ∙ next_sum c.args.lines.now c.loop-line.line-index c.line-item.result c.loop-line.sums c.loop-line-test.true c.line-item.is c.loop-line.invariant.sums;
+      sums =
+          made ∙ next_sum c.args.lines.now c.loop-line.line-index c.line-item.result c.loop-line.sums c.loop-line-test.true c.line-item.is
+          c.loop-line.invariant.sums;
       fit = subst (λ (y : Yield). AreStorable (numbers_of y)) (sym made) (c.in-Some.ensures.fits.0 (search rules));
     }
 
 pub returns-in_default-clause-fits : goal.returns-in_default-clause-fits
 returns-in_default-clause-fits c =
-    let next = next_sum c.args.lines.now c.loop-line.line-index c.line-item.result c.loop-line.sums c.loop-line-test.true c.line-item.is c.loop-line.invariant.sums in (
+    let next =
+    next_sum c.args.lines.now c.loop-line.line-index c.line-item.result c.loop-line.sums c.loop-line-test.true c.line-item.is c.loop-line.invariant.sums
+    in (
       λ none. absurd (search (rules, none)),
-      λ fit. c.in_default.ensures.fits.1 (subst (λ (y : Yield). AreStorable (numbers_of y)) (sym next) (front_fits c.args.lines.now (c.loop-line.line-index + 1) fit)),
+      λ fit. c.in_default.ensures.fits.1 (subst (λ (y : Yield). AreStorable (numbers_of y)) (sym next)
+          (front_fits c.args.lines.now (c.loop-line.line-index + 1) fit)),
     )

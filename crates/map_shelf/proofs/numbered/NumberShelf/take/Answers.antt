@@ -13,4 +13,5 @@ returns-clause-number c =
     let place = c.in_ok-place.place in
     let test = λ (one : NumberedMap). nat_eq id one.id in
     let found = ap (λ (ones : List NumberedMap). position test ones) (sym c.as_slice.ensures.value) ∙ sym c.in_ok-place.ensures in
-    ap (λ (one : NumberedMap). one.id) c.remove.ensures.value ∙ sym (eqb-true id (get_or kept place c.remove.result).id (passes_at_place test kept place c.remove.result found))
+    ap (λ (one : NumberedMap). one.id) c.remove.ensures.value
+    ∙ sym (eqb-true id (get_or kept place c.remove.result).id (passes_at_place test kept place c.remove.result found))

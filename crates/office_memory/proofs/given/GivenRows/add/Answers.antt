@@ -12,7 +12,8 @@ invariant_of-self-in-Ok c =
     let free_serial : find (is_given row.row.issuer row.row.serial) rows ≡ None = rw (← c.self.view_is) at (c.is_taken.ensures.serial c.if-is_taken.false) in
     let free_key : find (is_bound row.row.issuer row.row.key) rows ≡ None = rw (← c.self.view_is) at (c.is_taken.ensures.key c.if-is_taken.false) in
     let free_mac : IsAddressFree row.row.mac rows = rw (← c.self.view_is) at (c.is_taken.ensures.address c.if-is_taken.false) in
-    rw c.in-Ok.ensures.placed (indexed-placed rows c.self.inside.index c.add.new.self c.self.invariant row free_serial free_key free_mac c.is_taken.ensures.is_serial c.in_ok-add.ensures.ok_serials c.in_ok-add.ensures.ok_macs)
+    rw c.in-Ok.ensures.placed (indexed-placed rows c.self.inside.index c.add.new.self c.self.invariant row free_serial free_key free_mac
+    c.is_taken.ensures.is_serial c.in_ok-add.ensures.ok_serials c.in_ok-add.ensures.ok_macs)
 
 pub returns-in-Ok-clause-undone : goal.returns-in-Ok-clause-undone
 returns-in-Ok-clause-undone c =

@@ -14,10 +14,15 @@ invariant_of-self c =
     c.remove-in-Some.ensures.serials c.remove-in-Some.ensures.macs)
 
 pub invariant_of-self-in_default : goal.invariant_of-self-in_default
-invariant_of-self-in_default c = rw c.remove.ensures.others (rw (without_none _ c.self.inside.rows (sym c.remove.ensures.removed ∙ c.in_default.is)) c.self.invariant)
+invariant_of-self-in_default c =
+    rw c.remove.ensures.others (rw (without_none _ c.self.inside.rows (sym c.remove.ensures.removed ∙ c.in_default.is)) c.self.invariant)
 
 pub returns-in-Some : goal.returns-in-Some
-returns-in-Some c = rw (c.remove.ensures.others, ← c.self.view_is, c.given_key-key.ensures) (without_given c.args.row.now.row.issuer c.args.row.now.row.serial c.self.inside.rows)
+returns-in-Some c =
+    rw (c.remove.ensures.others, ← c.self.view_is, c.given_key-key.ensures)
+    (without_given c.args.row.now.row.issuer c.args.row.now.row.serial c.self.inside.rows)
 
 pub returns-in_default : goal.returns-in_default
-returns-in_default c = rw (c.remove.ensures.others, ← c.self.view_is, c.given_key-key.ensures) (without_given c.args.row.now.row.issuer c.args.row.now.row.serial c.self.inside.rows)
+returns-in_default c =
+    rw (c.remove.ensures.others, ← c.self.view_is, c.given_key-key.ensures)
+    (without_given c.args.row.now.row.issuer c.args.row.now.row.serial c.self.inside.rows)

@@ -18,20 +18,29 @@ invariant_of-self-in-Ok c =
     let free_text : find (has_body body) rows ≡ None = no_map (find (has_body body) rows) (rw (c.as_str.ensures, ← c.self.view_is) at c.in-None.ensures) in
     let free_id : find (has_id id) rows ≡ None = rw (← c.self.view_is) at c.in-Some.ensures in
     let key : string_bytes c.into_string-key.result ≡ body = c.into_string-key.ensures ∙ c.in_ok-copy.ensures in
-    let writes : WritesAt c.self.inside.ids c.insert-2.new.self body (Some id) = rw key at (btree_map_updates_text (string_bytes c.into_string-key.result) c.self.inside.ids c.insert-2.new.self (Some id) c.in-Ok.ensures.updates) in
-    rw c.in_ok-insert.ensures.placed (found-placed rows c.self.inside.ids c.insert-2.new.self c.self.invariant (record { id = id; body = body }) free_id free_text writes)
+    let writes : WritesAt c.self.inside.ids c.insert-2.new.self body (Some id) =
+    rw key at (btree_map_updates_text (string_bytes c.into_string-key.result) c.self.inside.ids c.insert-2.new.self (Some id) c.in-Ok.ensures.updates) in
+    rw c.in_ok-insert.ensures.placed (found-placed rows c.self.inside.ids c.insert-2.new.self c.self.invariant
+    (record { id = id; body = body }) free_id free_text writes)
 
 pub invariant_of-self-in-Err : goal.invariant_of-self-in-Err
 invariant_of-self-in-Err c =
     let rows = c.self.inside.rows in
     let free_id : find (has_id c.in-Some.id) rows ≡ None = rw (← c.self.view_is) at c.in-Some.ensures in
-    rw (c.remove.ensures.others, without_map c.in-Some.id c.insert.new.self, c.in_ok-insert.ensures.placed, without-placed_map (record { id = c.in-Some.id; body = c.args.body }) rows free_id)
+    rw (
+      c.remove.ensures.others,
+      without_map c.in-Some.id c.insert.new.self,
+      c.in_ok-insert.ensures.placed,
+      without-placed_map (record { id = c.in-Some.id; body = c.args.body }) rows free_id,
+    )
     (found_same rows c.self.inside.ids c.insert-2.new.self c.self.invariant c.in-Err.ensures.err)
 
 pub returns-clause-undone : goal.returns-clause-undone
 returns-clause-undone c =
     elim c.match-insert.branch [
-      | in-Ok w ↦ rw (w.result-is, w.self-is, c.in_ok-insert.ensures.placed, ← c.self.view_is) (without-placed_map (record { id = c.in-Some.id; body = c.args.body }) c.self.inside.rows (rw (← c.self.view_is) at c.in-Some.ensures))
+      | in-Ok w ↦
+          rw (w.result-is, w.self-is, c.in_ok-insert.ensures.placed, ← c.self.view_is)
+          (without-placed_map (record { id = c.in-Some.id; body = c.args.body }) c.self.inside.rows (rw (← c.self.view_is) at c.in-Some.ensures))
       | in-Err w ↦ rw w.result-is tt
     ]
 
@@ -42,5 +51,12 @@ returns-clause-err c =
       | in-Err w ↦
           let rows = c.self.inside.rows in
           let free_id : find (has_id c.in-Some.id) rows ≡ None = rw (← c.self.view_is) at c.in-Some.ensures in
-          rw (w.result-is, w.self-is, w.remove.ensures.others, without_map c.in-Some.id c.insert.new.self, c.in_ok-insert.ensures.placed, without-placed_map (record { id = c.in-Some.id; body = c.args.body }) rows free_id) c.self.view_is
+          rw (
+            w.result-is,
+            w.self-is,
+            w.remove.ensures.others,
+            without_map c.in-Some.id c.insert.new.self,
+            c.in_ok-insert.ensures.placed,
+            without-placed_map (record { id = c.in-Some.id; body = c.args.body }) rows free_id,
+          ) c.self.view_is
     ]

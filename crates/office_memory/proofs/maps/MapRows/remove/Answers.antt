@@ -15,4 +15,5 @@ invariant_of-self c =
     (btree_map_updates_text c.in-Some.map.body c.self.inside.ids c.remove-in-Some.new.self None (rw c.as_str.ensures at c.remove-in-Some.ensures.updates)))
 
 pub invariant_of-self-in_default : goal.invariant_of-self-in_default
-invariant_of-self-in_default c = rw c.remove.ensures.others (rw (without_none _ c.self.inside.rows (sym c.remove.ensures.removed ∙ c.in_default.is)) c.self.invariant)
+invariant_of-self-in_default c =
+    rw c.remove.ensures.others (rw (without_none _ c.self.inside.rows (sym c.remove.ensures.removed ∙ c.in_default.is)) c.self.invariant)

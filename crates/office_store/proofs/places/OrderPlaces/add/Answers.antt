@@ -1,6 +1,5 @@
-use Rattle.std.proofs.Common.{◌≡◌, ◌+◌, ◌∙◌, ap, sym}
-use Rattle.office_store.specs.Counting.{number_at}
-use Rattle.office_store.proofs.Numbers.{none_counted, one_counted}
+use Rattle.std.proofs.Common.{◌∙◌, sym}
+use Rattle.office_store.proofs.Numbers.{none_counted}
 use Rattle.office_store.proofs.places.OrderPlaces.add.Goals as goal
 
 pub returns-then-is_given_up : goal.returns-then-is_given_up

@@ -1,5 +1,4 @@
 use Rattle.office_store.proofs.Numbers.{number_set}
-use Rattle.office_store.specs.declared.places.OrderPlaces.{OrderPlaces}
 use Rattle.office_store.proofs.places.OrderPlaces.set.Goals as goal
 
 pub returns-in-Ok : goal.returns-in-Ok

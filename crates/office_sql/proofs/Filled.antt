@@ -1,0 +1,130 @@
+-- What rows that are made of a table's rows, one of each, are to it.
+use Rattle.std.proofs.Common.{◌≡◌, ℤ, suc, Bool, true, false, cond, List, [], ◌∷◌, ◌++◌, map, filter, find, length, Some, refl, sym, ap, subst, ◌∙◌, Ordering, is_eq, IsPermutation, IsTrue, arith}
+use Rattle.std.specs.Prelude.{is_some}
+use Rattle.std.specs.List.{AllByRecursion}
+use Rattle.std.specs.Cmp.{IsTotalOrder}
+use Rattle.std.proofs.lemmas.Cmp.{tied_itself}
+use Rattle.std.proofs.lemmas.List.Sorted.{length_permutation, IsPermutation-refl, IsPermutation-sym, IsPermutation-trans, IsPermutation-append, IsPermutation-middle}
+use Rattle.sqlite.specs.declared.types.Value.TheVariants.{Null, Int}
+use Rattle.sqlite.specs.Order.{Row}
+use Rattle.sqlite.specs.View.{is_int}
+use Rattle.sqlite.specs.Tree.{IsTable, rowid, put_row}
+use Rattle.sqlite.specs.Edit.{numbered}
+use Rattle.sqlite.specs.Rowids.TheVariants.{Chosen}
+use Rattle.sqlite_rules.specs.Edit.{next_rowid, put_all}
+use Rattle.sqlite_keyed.proofs.ListLemmas.{all_unmap}
+use Rattle.sqlite_trees.proofs.ListLemmas.{all_weaker, all_both, all-permutation, IsPermutation-filter}
+use Rattle.sqlite_trees.proofs.TreeLemmas.{IsTable-put_row, all-put_row}
+use Rattle.office_sql.specs.Tables.{AreRows, AreKeyed, AreStarted, HasOne, IsText}
+use Rattle.office_sql.proofs.Keyed.{apart_back}
+use Rattle.office_sql.proofs.TableRows.{put_next}
+
+-- each has a rowid and the columns that are made of a row, in turn
+abbrev pub AreMade : (Row → Row) → List Row → List Row → Type 0
+AreMade columns [] [] = Unit {0}
+AreMade columns [] (s ∷ news) = ⊥
+AreMade columns (r ∷ rows) [] = ⊥
+AreMade columns (r ∷ rows) (s ∷ news) = ((id : ℤ) × (s ≡ Int id ∷ columns r)) × AreMade columns rows news
+
+-- the rows that a statement puts into a table that has some
+abbrev pub news_of : (Row → Row) → List Row → List Row → List Row
+news_of columns rows kept = numbered Chosen rows (map (λ r. Null ∷ columns r) kept)
+
+pub numbered_made : (columns : Row → Row) (rows kept : List Row) → AreMade columns kept (news_of columns rows kept)
+numbered_made columns rows [] = tt
+numbered_made columns rows (r ∷ kept) = ((next_rowid rows, refl), numbered_made columns (put_row (Int (next_rowid rows) ∷ columns r) rows) kept)
+
+pub record Grows (rows news : List Row) : Type 0 where
+  pub rising : IsTable (put_all rows news)
+  pub numbered : AllByRecursion (λ r. IsTrue (is_int (rowid r))) (put_all rows news)
+  pub same : IsPermutation (put_all rows news) (news ++ rows)
+
+pub grows : (columns : Row → Row) (kept rows : List Row) → IsTable rows → AllByRecursion (λ r. IsTrue (is_int (rowid r))) rows → Grows rows (news_of columns rows kept)
+grows columns [] rows up whole = record { rising = up; numbered = whole; same = IsPermutation-refl _ }
+grows columns (r ∷ kept) rows up whole =
+    let new : Row = Int (next_rowid rows) ∷ columns r in
+    let it = grows columns kept (put_row new rows) (IsTable-put_row new rows up) (all-put_row _ new rows refl whole) in
+    let more = news_of columns (put_row new rows) kept in
+    record {
+      rising = it.rising;
+      numbered = it.numbered;
+      same = IsPermutation-trans _ _ _ it.same (IsPermutation-trans _ _ _ (IsPermutation-append more more _ _ (IsPermutation-refl more) (put_next (columns r) rows up whole)) (IsPermutation-middle more new rows));
+    }
+
+only : (l : List Row) → length l ≡ 1 → (s : Row) × (l ≡ s ∷ [])
+only [] e = absurd (omega (arith, e))
+only (s ∷ []) e = (s, refl)
+only (s ∷ t ∷ l) e = absurd (omega (arith, e))
+
+none_kept : (p : Row → Bool) (rows : List Row) → AllByRecursion (λ r. p r ≡ false) rows → filter p rows ≡ []
+none_kept p [] all = refl
+none_kept p (r ∷ rows) all = rw all.0 (none_kept p rows all.1)
+
+finds_itself : (rows : List Row) → AllByRecursion (λ r. (p : Row → Bool) → p r ≡ true → is_some (find p rows) ≡ true) rows
+finds_itself [] = tt
+finds_itself (r ∷ rows) =
+    (λ p e. rw e refl, all_weaker (λ x. (p : Row → Bool) → p x ≡ true → is_some (find p rows) ≡ true) _ (λ x h p e. later p (h p e)) rows (finds_itself rows))
+  where
+    later : (p : Row → Bool) → is_some (find p rows) ≡ true → is_some (cond (p r) (Some r) (find p rows)) ≡ true
+    later p h = elim (p r) as (λ b. is_some (cond b (Some r) (find p rows)) ≡ true) [ true ↦ refl | false ↦ h ]
+
+made_all : (columns : Row → Row) (P : Row → Type 0) (kept news : List Row) → AreMade columns kept news → AllByRecursion (λ r. (id : ℤ) → P (Int id ∷ columns r)) kept → AllByRecursion P news
+made_all columns P [] [] made all = tt
+made_all columns P [] (s ∷ news) made all = absurd made
+made_all columns P (r ∷ kept) [] made all = absurd made
+made_all columns P (r ∷ kept) (s ∷ news) made all = (subst P (sym made.0.1) (all.0 made.0.0), made_all columns P kept news made.1 all.1)
+
+module _ {A : Type 0} (Typed : Row → Type 0) (cmp : A → A → Ordering) (total : IsTotalOrder cmp) (value : Row → A) (is_for : A → Row → Bool) (columns : Row → Row)
+    (tied : (a : A) (id : ℤ) (r : Row) → Typed r → is_for a (Int id ∷ columns r) ≡ is_eq (cmp a (value r)))
+    (texts : (id : ℤ) (r : Row) → Typed r → IsText 1 (Int id ∷ columns r) × IsText 2 (Int id ∷ columns r)) where
+  counted : (a : A) (kept news : List Row) → AreMade columns kept news → AllByRecursion Typed kept → length (filter (is_for a) news) ≡ length (filter (λ r. is_eq (cmp a (value r))) kept)
+  counted a [] [] made all = refl
+  counted a [] (s ∷ news) made all = absurd made
+  counted a (r ∷ kept) [] made all = absurd made
+  counted a (r ∷ kept) (s ∷ news) made all =
+      let more = counted a kept news made.1 all.1 in
+      let same : is_for a s ≡ is_eq (cmp a (value r)) = ap (is_for a) made.0.1 ∙ tied a made.0.0 r all.0 in
+      ap (λ b. length (cond b (s ∷ filter (is_for a) news) (filter (is_for a) news))) same
+      ∙ elim (is_eq (cmp a (value r))) as (λ b. length (cond b (s ∷ filter (is_for a) news) (filter (is_for a) news)) ≡ length (cond b (r ∷ filter (λ x. is_eq (cmp a (value x))) kept) (filter (λ x. is_eq (cmp a (value x))) kept)))
+      [ true ↦ ap suc more | false ↦ more ]
+
+  -- of rows whose keys differ each has its key alone
+  alone : (rows : List Row) → AreKeyed cmp (map value rows) → AllByRecursion (λ r. length (filter (λ x. is_eq (cmp (value r) (value x))) rows) ≡ 1) rows
+  alone [] keyed = tt
+  alone (r ∷ rows) keyed =
+      let apart : AllByRecursion (λ x. is_eq (cmp (value r) (value x)) ≡ false) rows = all_unmap (λ b. is_eq (cmp (value r) b) ≡ false) value rows keyed.0 in
+      let rest : filter (λ x. is_eq (cmp (value r) (value x))) rows ≡ [] = none_kept _ rows apart in (
+        ap (λ o. length (cond (is_eq o) (r ∷ filter (λ x. is_eq (cmp (value r) (value x))) rows) (filter (λ x. is_eq (cmp (value r) (value x))) rows))) (tied_itself total (value r)) ∙ ap (λ l. suc (length l)) rest,
+        all_both (λ x. is_eq (cmp (value r) (value x)) ≡ false) (λ x. length (filter (λ y. is_eq (cmp (value x) (value y))) rows) ≡ 1) _
+            (λ x e h. ap (λ b. length (cond b (r ∷ filter (λ y. is_eq (cmp (value x) (value y))) rows) (filter (λ y. is_eq (cmp (value x) (value y))) rows))) (apart_back cmp total (value r) (value x) e) ∙ h) rows apart (alone rows keyed.1),
+      )
+
+  -- rows that are made of all rows of a table, one of each, start them
+  pub started : (rows kept news starts : List Row) → AreRows Typed cmp value rows → IsPermutation rows kept → AreMade columns kept news
+      → IsTable starts → AllByRecursion (λ r. IsTrue (is_int (rowid r))) starts → IsPermutation starts news → AreStarted is_for value rows starts
+  started rows kept news starts are along made up whole same =
+      let typed = all-permutation Typed rows kept along are.typed in
+      let back = IsPermutation-sym starts news same in
+      record {
+        rising = up;
+        numbered = whole;
+        typed = all-permutation (λ s. IsText 1 s × IsText 2 s) news starts back
+            (made_all columns (λ s. IsText 1 s × IsText 2 s) kept news made (all_weaker Typed _ (λ r t id. texts id r t) kept typed));
+        one = all_weaker _ (λ r. HasOne is_for starts (value r))
+            (λ r e. only (filter (is_for (value r)) starts) (sym (length_permutation _ _ (IsPermutation-filter (is_for (value r)) starts news same)) ∙ counted (value r) kept news made typed
+            ∙ length_permutation _ _ (IsPermutation-filter (λ x. is_eq (cmp (value r) (value x))) rows kept along) ∙ e)) rows (alone rows are.keyed);
+        for_one = all-permutation (λ s. is_some (find (λ r. is_for (value r) s) rows) ≡ true) news starts back
+            (made_all columns (λ s. is_some (find (λ r. is_for (value r) s) rows) ≡ true) kept news made
+            (all-permutation (λ r. (id : ℤ) → is_some (find (λ x. is_for (value x) (Int id ∷ columns r)) rows) ≡ true) rows kept along
+            (all_both Typed (λ r. (p : Row → Bool) → p r ≡ true → is_some (find p rows) ≡ true) _
+            (λ r t h id. h (λ x. is_for (value x) (Int id ∷ columns r)) (tied (value r) id r t ∙ ap is_eq (tied_itself total (value r)))) rows are.typed (finds_itself rows))));
+      }
+
+-- what holds of each that is made
+pub each_made : (columns : Row → Row) (P : Row → Type 0) (kept news starts : List Row) → AreMade columns kept news → IsPermutation starts news → ((id : ℤ) (r : Row) → P (Int id ∷ columns r)) → AllByRecursion P starts
+each_made columns P kept news starts made same is =
+    all-permutation P news starts (IsPermutation-sym starts news same) (made_all columns P kept news made (each kept))
+  where
+    each : (rows : List Row) → AllByRecursion (λ r. (id : ℤ) → P (Int id ∷ columns r)) rows
+    each [] = tt
+    each (r ∷ rows) = (λ id. is id r, each rows)

@@ -1,0 +1,110 @@
+-- What is left of the starts by the texts that fill them.
+use Rattle.std.proofs.Common.{◌≡◌, ℕ, ℤ, Bool, true, false, cond, Some, None, find, List, [], ◌∷◌, codes, Ok, refl, sym, ap, subst, append-nil, Ordering}
+use Rattle.std.specs.Prelude.{option_and_then}
+use Rattle.std.specs.List.{AllByRecursion}
+use Rattle.std.specs.Cmp.{IsTotalOrder}
+use Rattle.std.specs.Ordering.{is_eq}
+use Rattle.std.proofs.lemmas.List.Sorted.{IsPermutation-trans}
+use Rattle.sqlite.specs.declared.types.Value.TheVariants.{Null, Int}
+use Rattle.sqlite.specs.Order.{Row, column}
+use Rattle.sqlite.specs.Term.{Term, lit, col, eval_all}
+use Rattle.sqlite.specs.Query.{inner, end}
+use Rattle.sqlite.specs.Collation.{Collation}
+use Rattle.sqlite.specs.Collation.TheVariants.{Binary}
+use Rattle.sqlite.specs.Effect.{Database, IsDatabase}
+use Rattle.sqlite.specs.Listing.{understood}
+use Rattle.sqlite.specs.State.{State, Executes}
+use Rattle.sqlite_rules.specs.Cast.{cast_row}
+use Rattle.sqlite_tied.specs.Compute.{everything}
+use Rattle.sqlite_trees.proofs.ListLemmas.{IsPermutation-same}
+use Rattle.office_tables.specs.Tables.{order_cmp, given_cmp}
+use Rattle.office_sql.specs.Schema.{office_schema, order_start_table, given_start_table}
+use Rattle.office_sql.specs.Scan.{env}
+use Rattle.office_sql.specs.Joins.{over_by}
+use Rattle.office_sql.specs.Change.{SameBut}
+use Rattle.office_sql.specs.Rows.{order_in, given_in, start_of, starts_order, starts_given}
+use Rattle.office_sql.specs.Values.{text_if}
+use Rattle.office_sql.specs.Tables.{AreRows, AreStarted, IsText, IsOrderRow, IsGivenRow}
+use Rattle.office_sql.proofs.Filled.{news_of, numbered_made, grows, started, each_made}
+use Rattle.office_sql.proofs.Filling.{Fills, IsFill, fills}
+use Rattle.office_sql.proofs.OrderReads.{order_total, order_tied}
+use Rattle.office_sql.proofs.GivenReads.{given_total, given_tied}
+use Rattle.office_sql.proofs.Stepping.{cast_null}
+
+-- each row has its start, which says nothing, and no other table changes
+pub record Starts {A : Type 0} (value : Row → A) (is_for : A → Row → Bool) (tree side : ℕ) (old new : Database) : Type 0 where
+  pub schema : new.schema ≡ office_schema
+  pub sound : IsDatabase new
+  pub started : AreStarted is_for value (old.trees tree) (new.trees side)
+  pub silent : AllByRecursion (λ s. column s 3 ≡ Null) (new.trees side)
+  pub others : SameBut side old.trees new.trees
+
+-- starts that say nothing give none
+pub silent_start : {A : Type 0} (is_for : A → Row → Bool) (starts : List Row) (x : A) → AllByRecursion (λ s. column s 3 ≡ Null) starts → start_of is_for starts x ≡ None
+silent_start is_for [] x silent = refl
+silent_start is_for (s ∷ starts) x silent =
+    elim (is_for x s) as (λ b. option_and_then (λ r. text_if (column r 3)) (cond b (Some s) (find (is_for x) starts)) ≡ None) [ true ↦ ap text_if silent.0 | false ↦ silent_start is_for starts x silent.1 ]
+
+-- the key of a row, and no beginning of validity
+abbrev pub start_columns : Row → Row
+start_columns r = column r 1 ∷ column r 2 ∷ Null ∷ []
+
+abbrev fill_shown : List Term
+fill_shown = lit Null ∷ col 1 1 ∷ col 1 2 ∷ lit Null ∷ []
+
+abbrev plainly : List Collation
+plainly = Binary ∷ Binary ∷ Binary ∷ Binary ∷ []
+
+-- where the table of starts is filled with the rows' keys
+filled : {A : Type 0} (Typed : Row → Type 0) (cmp : A → A → Ordering) (total : IsTotalOrder cmp) (value : Row → A) (is_for : A → Row → Bool)
+    → ((a : A) (id : ℤ) (r : Row) → Typed r → is_for a (Int id ∷ start_columns r) ≡ is_eq (cmp a (value r))) → ((r : Row) → Typed r → IsText 1 r × IsText 2 r)
+    → (tree side : ℕ) (old new : Database) → AreRows Typed cmp value (old.trees tree) → Fills start_columns tree side old new → Starts value is_for tree side old new
+filled Typed cmp total value is_for tied texts tree side old new are it =
+    let news = news_of start_columns [] it.kept in
+    let grown = grows start_columns it.kept [] tt tt in
+    let made = numbered_made start_columns [] it.kept in
+    let same = IsPermutation-trans _ _ _ grown.same (IsPermutation-same _ _ (append-nil news)) in
+    record {
+      schema = it.schema;
+      sound = it.sound;
+      started = subst (AreStarted is_for value (old.trees tree)) (sym it.rows)
+          (started Typed cmp total value is_for start_columns tied (λ id r e. texts r e) (old.trees tree) it.kept news _ are it.along made grown.rising grown.numbered same);
+      silent = subst (AllByRecursion (λ s. column s 3 ≡ Null)) (sym it.rows) (each_made start_columns (λ s. column s 3 ≡ Null) it.kept news _ made same (λ id r. refl));
+      others = it.others;
+    }
+
+-- ---- the starts of orders
+
+abbrev pub order_fill_text : List ℕ
+order_fill_text = codes "INSERT INTO order_start (customer, ord, not_before) SELECT customer, name, NULL FROM orders"
+
+order_fill : IsFill order_fill_text 8 order_start_table (over_by plainly (inner 7 end) [] fill_shown [])
+unfolding understood everything
+order_fill = record { is = refl; plain = (refl, refl); there = refl; uncounted = refl; unstamped = refl }
+
+order_casts : (r : Row) → IsOrderRow r → cast_row order_start_table (eval_all fill_shown (env [] r)) ≡ Null ∷ start_columns r
+order_casts r e = rw (cast_null, e.0, e.1) refl
+
+pub orders_filled : (old new : State) (count : ℕ) → old.now.schema ≡ office_schema → AreRows IsOrderRow order_cmp order_in (old.now.trees 7) → old.now.trees 17 ≡ []
+    → Executes order_fill_text [] old new (Ok count) → Starts order_in starts_order 7 17 old.now new.now
+orders_filled old new count has are empty ran =
+    filled IsOrderRow order_cmp order_total order_in starts_order (λ a id r e. sym (order_tied a (order_in r))) (λ r e. (e.0, e.1)) 7 17 old.now new.now are
+    (fills order_fill_text 8 order_start_table 7 plainly fill_shown order_fill (λ db. refl) [] IsOrderRow start_columns order_casts old new count has empty are.typed ran)
+
+-- ---- the starts of records
+
+abbrev pub given_fill_text : List ℕ
+given_fill_text = codes "INSERT INTO given_start (issuer, serial, not_before) SELECT issuer, serial, NULL FROM given"
+
+given_fill : IsFill given_fill_text 9 given_start_table (over_by plainly (inner 11 end) [] fill_shown [])
+unfolding understood everything
+given_fill = record { is = refl; plain = (refl, refl); there = refl; uncounted = refl; unstamped = refl }
+
+given_casts : (r : Row) → IsGivenRow r → cast_row given_start_table (eval_all fill_shown (env [] r)) ≡ Null ∷ start_columns r
+given_casts r e = rw (cast_null, e.0, e.1) refl
+
+pub given_filled : (old new : State) (count : ℕ) → old.now.schema ≡ office_schema → AreRows IsGivenRow given_cmp given_in (old.now.trees 11) → old.now.trees 19 ≡ []
+    → Executes given_fill_text [] old new (Ok count) → Starts given_in starts_given 11 19 old.now new.now
+given_filled old new count has are empty ran =
+    filled IsGivenRow given_cmp given_total given_in starts_given (λ a id r e. sym (given_tied a (given_in r))) (λ r e. (e.0, e.1)) 11 19 old.now new.now are
+    (fills given_fill_text 9 given_start_table 11 plainly fill_shown given_fill (λ db. refl) [] IsGivenRow start_columns given_casts old new count has empty are.typed ran)

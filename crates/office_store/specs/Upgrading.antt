@@ -1,0 +1,88 @@
+-- How a database of the first version comes to have the tables of the second, in one transaction.
+use Rattle.std.specs.Prelude.{◌≡◌, ◌≢◌, ℕ, Bool, List, [], IsTrue}
+use Rattle.std.specs.List.{AllByRecursion}
+use Rattle.sqlite.specs.declared.types.Value.TheVariants.{Null}
+use Rattle.sqlite.specs.Order.{Row, column}
+use Rattle.sqlite.specs.Table.{Table}
+use Rattle.sqlite.specs.Tree.{Trees}
+use Rattle.sqlite.specs.Change.{KeepsRows}
+use Rattle.sqlite.specs.Effect.{Database, IsDatabase}
+use Rattle.sqlite.specs.State.{State}
+use Rattle.office_tables.specs.Tables.{order_cmp, given_cmp}
+use Rattle.office_sql.specs.Change.{SameBut}
+use Rattle.office_sql.specs.Schema.{office_schema}
+use Rattle.office_sql.specs.Rows.{order_in, given_in, starts_order, starts_given}
+use Rattle.office_sql.specs.Tables.{AreRows, AreStarted, IsGivenRow, IsOffice, IsOrderRow, tables_in}
+use Rattle.office_store.specs.declared.version.Version.TheVariants.{First, Second}
+use Rattle.office_store.specs.Found.{IsFound, Sees}
+use Rattle.office_store.specs.Meta.{IsTold}
+use Rattle.office_store.specs.Versions.{schema_of}
+
+-- the rows of these tables stand, but for those of one tree
+abbrev pub KeepsAllBut : ℕ → List Table → Trees → Trees → Type 0
+KeepsAllBut tree tables old new =
+    AllByRecursion (λ t. t.tree ≢ tree → new t.tree ≡ old t.tree) tables
+
+-- the tables of beginnings of validity are made, with no row, and each other table stays
+pub record GainsStarts (old new : Database) : Type 0 where
+  pub schema : new.schema ≡ office_schema
+  pub orders : new.trees 17 ≡ []
+  pub given : new.trees 19 ≡ []
+  pub others : KeepsRows (schema_of First).tables old.trees new.trees
+
+-- orders, of none of which a beginning of validity is told
+pub record LacksOrderStarts (db : Database) : Type 0 where
+  pub schema : db.schema ≡ office_schema
+  pub rows : AreRows IsOrderRow order_cmp order_in (db.trees 7)
+  pub none : db.trees 17 ≡ []
+
+-- the same of records
+pub record LacksGivenStarts (db : Database) : Type 0 where
+  pub schema : db.schema ≡ office_schema
+  pub rows : AreRows IsGivenRow given_cmp given_in (db.trees 11)
+  pub none : db.trees 19 ≡ []
+
+-- of each row it is told that it has no beginning of validity, and no other table changes
+pub record GainsNone {A : Type 0} (is_for : A → Row → Bool) (value : Row → A) (tree side : ℕ)
+    (old new : Database) : Type 0 where
+  pub schema : new.schema ≡ office_schema
+  pub started : AreStarted is_for value (old.trees tree) (new.trees side)
+  pub silent : AllByRecursion (λ s. column s 3 ≡ Null) (new.trees side)
+  pub others : SameBut side old.trees new.trees
+
+-- of orders, and then of records
+pub record GainsNoStart (old new : Database) : Type 0 where
+  pub mid : Database
+  pub orders : GainsNone starts_order order_in 7 17 old mid
+  pub given : GainsNone starts_given given_in 11 19 mid new
+
+-- of the same site the second version is told where the first was, and no other table changes
+pub record TellsSecond (old new : Database) : Type 0 where
+  pub schema : new.schema ≡ office_schema
+  pub sound : IsDatabase new
+  pub told : (site : List ℕ) → IsTold First site old.trees → IsTold Second site new.trees
+  pub others : SameBut 0 old.trees new.trees
+
+-- a store of the first version tells of itself, whatever its site
+abbrev pub IsFirst : Trees → Type 0
+IsFirst db = (site : List ℕ) × IsTold First site db
+
+-- each row but that of meta stands, and the tables say what they said; the second version is told
+-- of the same site; and all is as the office has it
+pub record IsUpgrade (old : Trees) (new : Database) : Type 0 where
+  pub rows : KeepsAllBut 0 (schema_of First).tables old new.trees
+  pub tables : tables_in new.trees ≡ tables_in old
+  pub told : (site : List ℕ) → IsTold First site old → IsTold Second site new.trees
+  pub office : IsOffice new
+
+-- an open connection sees a database of the first version, which tells of itself
+pub record CanUpgrade (s : State) : Type 0 where
+  pub found : Sees (IsFound First) s
+  pub told : Sees (λ db. IsFirst db.trees) s
+
+-- it was made, and was committed
+pub record IsUpgraded (old new : State) : Type 0 where
+  pub was_open : IsTrue old.is_open
+  pub is_open : IsTrue new.is_open
+  pub upgrade : IsUpgrade old.now.trees new.now
+  pub committed : new.committed ≡ new.now

@@ -1,0 +1,27 @@
+-- The schemas that a database of the office may have, and the numbers by which a store tells them.
+use Rattle.std.specs.Prelude.{◌≢◌, ℕ, [], take}
+use Rattle.sqlite.specs.Schema.{Schema}
+use Rattle.office_sql.specs.Schema.{office_schema}
+use Rattle.office_store.specs.declared.version.Version.{Version}
+use Rattle.office_store.specs.declared.version.Version.TheVariants.{First, Second}
+
+abbrev pub number_of : Version → ℕ
+number_of First = 1
+number_of Second = 2
+
+-- the first tables of the office with their indexes
+abbrev pub first_tables : ℕ → ℕ → Schema
+first_tables tables indexes = record {
+  tables = take tables office_schema.tables;
+  indexes = take indexes office_schema.indexes;
+  views = [];
+}
+
+-- the schema of a version: the first has no table of beginnings of validity
+abbrev pub schema_of : Version → Schema
+schema_of First = first_tables 8 9
+schema_of Second = office_schema
+
+-- a schema that no version has
+abbrev pub IsOfNoVersion : Schema → Type 0
+IsOfNoVersion schema = (version : Version) → schema ≢ schema_of version

@@ -1,0 +1,97 @@
+// How a store of the first version comes to have the tables of the second.
+ghost use Rattle.std.specs.Prelude.{◌≡◌, false, IsTrue, OnOk, OnErr};
+ghost use Rattle.sqlite.specs.State.{HasCleanDisk, Survives};
+ghost use Rattle.sqlite.specs.Held.{state};
+ghost use Rattle.office_sql.specs.Asking.{Changes};
+ghost use Rattle.office_sql.specs.Change.{IsUndone};
+ghost use Rattle.office_sql.specs.Rows.{order_in, given_in, starts_order, starts_given};
+ghost use Rattle.office_sql.specs.Schema.{office_schema};
+ghost use Rattle.office_sql.specs.Tables.{office_over};
+ghost use Rattle.office_store.specs.Found.{Sees};
+ghost use Rattle.office_store.specs.Upgrading.{CanUpgrade, GainsNone, GainsNoStart, IsFirst, IsUpgrade, IsUpgraded, LacksGivenStarts, LacksOrderStarts, TellsSecond};
+
+use crate::create::make_starts;
+use sqlite::{Alter, Connection, Error, Transaction};
+
+/// Tells of each order that it has no beginning of validity.
+fn fill_order_starts<S: Alter>(tx: &mut Transaction<'_, S>) -> Result<(), Error>
+    requires { Sees LacksOrderStarts (state S.Store tx.old.conn.now) }
+    ensures same_reference { tx.new.conn.ghost_name ≡ tx.old.conn.ghost_name }
+    ensures changes { Changes S.Store tx.old.conn.now tx.new.conn.now result
+        (λ old new _. GainsNone starts_order order_in 7 17 old new) }
+{
+    tx.execute(
+        "INSERT INTO order_start (customer, ord, not_before) SELECT customer, name, NULL FROM orders",
+        &[],
+    )?;
+    Ok(())
+}
+
+/// Tells of each record that it has none.
+fn fill_given_starts<S: Alter>(tx: &mut Transaction<'_, S>) -> Result<(), Error>
+    requires { Sees LacksGivenStarts (state S.Store tx.old.conn.now) }
+    ensures same_reference { tx.new.conn.ghost_name ≡ tx.old.conn.ghost_name }
+    ensures changes { Changes S.Store tx.old.conn.now tx.new.conn.now result
+        (λ old new _. GainsNone starts_given given_in 11 19 old new) }
+{
+    tx.execute(
+        "INSERT INTO given_start (issuer, serial, not_before) SELECT issuer, serial, NULL FROM given",
+        &[],
+    )?;
+    Ok(())
+}
+
+fn fill_starts<S: Alter>(tx: &mut Transaction<'_, S>) -> Result<(), Error>
+    requires orders { Sees LacksOrderStarts (state S.Store tx.old.conn.now) }
+    requires given { Sees LacksGivenStarts (state S.Store tx.old.conn.now) }
+    ensures same_reference { tx.new.conn.ghost_name ≡ tx.old.conn.ghost_name }
+    ensures changes { Changes S.Store tx.old.conn.now tx.new.conn.now result
+        (λ old new _. GainsNoStart old new) }
+{
+    fill_order_starts(tx)?;
+    fill_given_starts(tx)
+}
+
+/// Tells that the store is of the second version.
+fn tell_schema<S: Alter>(tx: &mut Transaction<'_, S>) -> Result<(), Error>
+    requires has { Sees (λ db. db.schema ≡ office_schema) (state S.Store tx.old.conn.now) }
+    requires told { Sees (λ db. IsFirst db.trees) (state S.Store tx.old.conn.now) }
+    ensures same_reference { tx.new.conn.ghost_name ≡ tx.old.conn.ghost_name }
+    ensures changes { Changes S.Store tx.old.conn.now tx.new.conn.now result
+        (λ old new _. TellsSecond old new) }
+{
+    tx.execute("UPDATE meta SET schema = 2 WHERE id = 1", &[])?;
+    Ok(())
+}
+
+fn change_all<S: Alter>(tx: &mut Transaction<'_, S>) -> Result<(), Error>
+    requires { CanUpgrade (state S.Store tx.old.conn.now) }
+    ensures same_reference { tx.new.conn.ghost_name ≡ tx.old.conn.ghost_name }
+    ensures changes { Changes S.Store tx.old.conn.now tx.new.conn.now result
+        (λ old new _. IsUpgrade old.trees new) }
+{
+    make_starts(tx)?;
+    fill_starts(tx)?;
+    tell_schema(tx)
+}
+
+/// Makes the tables that a store of the first version lacks, tells of each order and record that it
+/// has no beginning of validity, and tells the second version, all in one transaction.
+pub fn upgrade_tables<S: Alter>(conn: &mut Connection<S>) -> Result<(), Error>
+    requires can { CanUpgrade (state S.Store conn.old) }
+    requires mode { conn.old.in_transaction ≡ false }
+    requires settled { IsTrue (state S.Store conn.old).is_open
+        → (state S.Store conn.old).now ≡ (state S.Store conn.old).committed }
+    ensures mode { conn.new.in_transaction ≡ false }
+    ensures ok { HasCleanDisk (state S.Store conn.new)
+        → OnOk result (IsUpgraded (state S.Store conn.old) (state S.Store conn.new)) }
+    ensures err { HasCleanDisk (state S.Store conn.new)
+        → OnErr result (IsUndone (state S.Store conn.old) (state S.Store conn.new)) }
+    ensures crash { Survives (state S.Store conn.old) (state S.Store conn.new)
+        (λ trees. IsTrue (state S.Store conn.old).is_open
+        × IsUpgrade (state S.Store conn.old).now.trees (office_over trees)) }
+{
+    let mut tx = conn.transaction();
+    change_all(&mut tx)?;
+    tx.commit()
+}

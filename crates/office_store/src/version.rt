@@ -1,0 +1,24 @@
+// The schemas that a database of the office may have.
+ghost use Rattle.std.specs.Prelude.{◌≡◌};
+ghost use Rattle.office_store.specs.Versions.{number_of};
+
+/// A schema that a database of the office may have.
+#[derive(Clone, Copy)]
+pub enum Version {
+    /// That of an earlier program, with no beginnings of validity.
+    First,
+    /// This program's.
+    Second,
+}
+
+impl Version {
+    /// The number by which a store tells it.
+    pub(crate) fn number(self) -> u32
+        ensures { result ≡ number_of self }
+    {
+        match self {
+            Version::First => 1,
+            Version::Second => 2,
+        }
+    }
+}
