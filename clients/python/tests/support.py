@@ -1,0 +1,231 @@
+"""The program on a scratch store and a free port, a proxy that fails, and the life of a chip, for the tests."""
+
+from __future__ import annotations
+
+import hashlib
+import http.client
+import json
+import os
+import re
+import select
+import socket
+import subprocess
+import sys
+import tempfile
+import threading
+import time
+import unittest
+from pathlib import Path
+
+from simulated_chip import SimulatedChip
+
+ROOT = Path(__file__).resolve().parents[3]
+sys.path.insert(0, str(ROOT / "clients" / "python"))
+
+from wanekupo_station import KeyFile, Station, bit, blocks_of, chip_of, commands, key, rlock, wlock  # noqa: E402
+
+PROGRAM = os.environ.get("STATION_PROGRAM", str(ROOT / "crates" / "station" / "out" / "station"))
+SITE = ROOT / "crates" / "station" / "data" / "site.toml"
+MAP = (ROOT / "maps" / "esp32.toml").read_text(encoding="utf-8")
+DIGEST = hashlib.sha256(MAP.encode()).hexdigest()
+
+HOST = "127.0.0.1"
+MAC = "240ac4000001"
+FLASH_KEY = bytes(range(32))
+FLASH_DIGEST = hashlib.sha256(FLASH_KEY[::-1]).hexdigest()
+PUBLIC_KEY = bytes.fromhex("302a300506032b6570032100d75a980182b10ab7d54bfed3c964073a0ee172f3daa62325af021a68f707511a")
+ORDER = {"name": "o1", "issuer": "acme-ca", "prefix": "A", "width": 3, "first": 998, "quantity": 2, "macs": 1}
+WISHES = [bit("JTAG_DISABLE", 0), key("BLOCK1", FLASH_DIGEST), wlock("BLOCK1"), rlock("BLOCK1")]
+
+
+def free_port():
+    with socket.socket() as listener:
+        listener.bind((HOST, 0))
+        return listener.getsockname()[1]
+
+
+class Program:
+    """`station serve` over a store in a folder. It has one port, also when it is started again."""
+
+    def __init__(self, folder):
+        self.db, self.port, self.process = Path(folder) / "books.db", free_port(), None
+        self.start()
+
+    def start(self):
+        words = [PROGRAM, "serve", "--site", str(SITE), "--db", str(self.db), "--port", str(self.port)]
+        words += ["--connections", "1000000"]
+        self.process = subprocess.Popen(words, stdout=subprocess.PIPE, stdin=subprocess.DEVNULL)
+        ready, _, _ = select.select([self.process.stdout], [], [], 60)
+        line = self.process.stdout.readline() if ready else b""
+        if line != b"listening on 127.0.0.1:%d\n" % self.port:
+            self.kill()
+            raise RuntimeError(f"{PROGRAM} doesn't serve: {line!r}")
+
+    def kill(self):
+        self.process.kill()
+        self.process.wait()
+        self.process.stdout.close()
+
+    @property
+    def url(self):
+        return f"http://{HOST}:{self.port}"
+
+
+class Proxy:
+    """Passes requests on, one connection after another; each of `faults`, in turn, befalls one of them.
+
+    | lost request | the request isn't passed on, and gets no reply |
+    | cut request  | its first half is passed on, and it gets no reply |
+    | 502          | it isn't passed on, and gets a page of the proxy's |
+    | lost reply   | it is done, and gets no reply |
+    | cut reply    | it is done, and gets the first half of the reply |
+    | cut head     | it is done, and gets the first bytes of the head |
+    | 504          | it is done, and gets a page of the proxy's |
+    | late         | it is done, and gets its reply after LATE seconds |
+    | kill         | the program is killed some milliseconds after it has the request, and started again |
+    """
+
+    FAULTS = ["lost request", "cut request", "502", "lost reply", "cut reply", "cut head", "504", "late", "kill"]
+    LATE = 0.5
+    SOONEST, LATEST = 0.0, 0.04
+
+    def __init__(self, program, faults=()):
+        self.program, self.faults, self.seen = program, list(faults), []
+        self.listener = socket.create_server((HOST, 0))
+        self.url = f"http://{HOST}:{self.listener.getsockname()[1]}"
+        threading.Thread(target=self.serve, daemon=True).start()
+
+    def serve(self):
+        while True:
+            try:
+                client = self.listener.accept()[0]
+            except OSError:
+                return
+            with client:
+                try:
+                    self.pass_on(client)
+                except OSError:
+                    pass
+
+    def pass_on(self, client):
+        request = whole(client)
+        fault = self.faults.pop(0) if self.faults else None
+        self.seen.append((fault, request))
+        page = b"HTTP/1.1 %s Bad\r\nContent-Type: text/html\r\nContent-Length: 6\r\nConnection: close\r\n\r\n<html>"
+        reply = b""
+        if fault not in ("lost request", "502"):
+            with socket.create_connection((HOST, self.program.port)) as server:
+                server.sendall(request[: len(request) // 2] if fault == "cut request" else request)
+                server.shutdown(socket.SHUT_WR)
+                if fault == "kill":
+                    self.kill()
+                    return
+                while some := server.recv(65536):
+                    reply += some
+        if fault in ("502", "504"):
+            reply = page % fault.encode()
+        elif fault in ("lost request", "cut request", "lost reply"):
+            reply = b""
+        elif fault == "cut reply":
+            reply = reply[: -len(reply) // 2]
+        elif fault == "cut head":
+            reply = reply[:30]
+        elif fault == "late":
+            time.sleep(self.LATE)
+        client.sendall(reply)
+
+    def kill(self):
+        """At a moment that goes on from kill to kill, before the request is done or after it."""
+        kills = [fault for fault, _ in self.seen].count("kill")
+        time.sleep(self.SOONEST + kills * 0.007 % (self.LATEST - self.SOONEST))
+        self.program.kill()
+        self.program.start()
+
+    def close(self):
+        self.listener.close()
+
+
+def whole(client):
+    """A request, as far as its Content-Length says."""
+    data = b""
+    while True:
+        head, end, body = data.partition(b"\r\n\r\n")
+        length = re.search(rb"content-length: ([0-9]+)", head, re.IGNORECASE)
+        if end and len(body) >= int(length[1] if length else 0):
+            return data
+        some = client.recv(65536)
+        if not some:
+            return data
+        data += some
+
+
+class Held:
+    """A simulated chip in the place of `Espefuse`: it takes the same batches, in this process."""
+
+    def __init__(self, chip, keys):
+        self.chip, self.keys = chip, keys
+
+    def read(self):
+        return blocks_of(self.chip.dump())
+
+    def burn(self, work):
+        for words in commands(work, self.keys):
+            if words[0] == "burn_bit":
+                self.chip.burn(int(words[1][-1]), sum(1 << int(place) for place in words[2:]))
+            else:
+                self.chip.burn_key(words[2], Path(words[3]).read_bytes(), words[1] != "--no-protect-key")
+
+
+def life(station, chip_io, public_key=PUBLIC_KEY, order=ORDER["name"]):
+    """From a chip to a shipped device, as in the client's README. It goes on wherever it was stopped."""
+    station.finish()
+    chip = chip_of(chip_io.read())
+    device = station.find_device(chip) or station.register(chip, order, DIGEST, chip_io.read())
+    if device.state == "registered":
+        station.plan(chip, WISHES)
+    device = station.settle(chip, chip_io)
+    if device.state == "settled":
+        station.identify(chip, public_key)
+    if station.device(chip).state == "identified":
+        station.ship(chip)
+    return station.device(chip)
+
+
+class StationCase(unittest.TestCase):
+    """A folder with a program, a key's file, and a seat with an order and the map."""
+
+    def setUp(self):
+        folder = tempfile.TemporaryDirectory()
+        self.addCleanup(folder.cleanup)
+        self.folder = Path(folder.name)
+        self.program = Program(self.folder)
+        self.addCleanup(lambda: self.program.kill())
+        (self.folder / "flash.key").write_bytes(FLASH_KEY)
+        self.keys = {"BLOCK1": KeyFile(str(self.folder / "flash.key"), "flash_encryption")}
+
+    def station(self, url=None, token="abc", file="a1.json", **options):
+        station = Station(url or self.program.url, token, self.folder / file, **options)
+        self.addCleanup(station.close)
+        return station
+
+    def proxy(self, faults=()):
+        proxy = Proxy(self.program, faults)
+        self.addCleanup(proxy.close)
+        return proxy
+
+    def chip(self, mac=MAC, file=None):
+        return Held(SimulatedChip(bytes.fromhex(mac), file), self.keys)
+
+    def asked(self, method, target, body=None, token="abc"):
+        """The status and the body of a reply, past the client that is tested."""
+        connection = http.client.HTTPConnection(HOST, self.program.port, timeout=60)
+        text = None if body is None else json.dumps(body)
+        connection.request(method, target, text, {"Authorization": f"Bearer {token}", "Connection": "close"})
+        reply = connection.getresponse()
+        data = reply.read().decode()
+        connection.close()
+        return reply.status, json.loads(data) if reply.headers.get_content_type() == "application/json" else data
+
+    def ledger(self, chip=MAC):
+        """The events of a device's ledger, with their notes."""
+        return [(entry["event"], entry["note"]) for entry in self.asked("GET", f"/v1/ledger?chip={chip}")[1]["entries"]]

@@ -1,0 +1,770 @@
+#!/usr/bin/env python3
+"""The station's side of the protocol of docs/CLIENT.md: a seat whose requests are each done once, and espefuse's words.
+
+A `Station` is one seat of the site file. Its state file has the number of the next request, the request under way and
+the last one that was accepted, with its reply. It is synced before a request is sent, so that a station that loses its
+power sends the same request again: `finish` does that, before anything else is asked for.
+
+`Espefuse` reads and burns a chip by espefuse.py; `commands` are the words of it that burn a batch. Python 3.9 or later,
+standard library alone.
+"""
+
+from __future__ import annotations
+
+import argparse
+import csv
+import hashlib
+import http.client
+import io
+import json
+import os
+import re
+import shlex
+import subprocess
+import sys
+import time
+from dataclasses import dataclass, fields
+from pathlib import Path
+from typing import Any, Callable, Iterable, Iterator, Mapping, Optional, Sequence
+from urllib.parse import quote, urlsplit
+
+try:
+    import fcntl
+except ImportError:  # Windows, where nothing keeps two processes from one state file
+    fcntl = None  # type: ignore[assignment]
+
+# What a chip shows: its blocks, each a list of words of eight hexadecimal digits, block 0 and word 0 first.
+Blocks = list[list[str]]
+
+# The longest body that the server reads, and a number that no seat comes to.
+LONGEST_BODY = 65_536
+FAR = 2**53 - 1
+
+# Answers that say nothing of the request: it is sent again. The pauses between, in seconds, double.
+RETRIED = (502, 503, 504)
+FIRST_PAUSE, LONGEST_PAUSE = 0.1, 10.0
+
+# Refusals: a number that isn't the next, and one that was accepted with another request. Up to these, a refusal says
+# nothing of what became of the same request when it was sent before.
+WRONG_NUMBER, OTHER_BODY, UNKNOWN_DEVICE = 11, 12, 15
+
+# The keys that espefuse burns with the bytes of their file in reverse order.
+REVERSED = ("flash_encryption", "secure_boot_v1")
+
+DUMPED = re.compile(r"^BLOCK(\d+) .*\[\d+ *\] read_regs:((?: [0-9a-f]{8})+) *$", re.MULTILINE)
+
+
+class StationError(Exception):
+    """What a station can't do by itself."""
+
+
+class Refused(StationError):
+    """A refusal of docs/FORMATS.md: `no` and `name` are those of the table, `more` is what else the body says."""
+
+    def __init__(self, status: int, body: Mapping[str, Any]):
+        self.status, self.no, self.name = status, body["no"], body["error"]
+        self.more = {name: value for name, value in body.items() if name not in ("no", "error")}
+        super().__init__(" ".join([f"{self.no} {self.name}", *(f"{name} {self.more[name]}" for name in self.more)]))
+
+
+class NoReply(StationError):
+    """No reply within the station's patience. A POST is still under way, and `finish` sends it again."""
+
+
+class NotTheServer(StationError):
+    """A reply that isn't one of the server's, such as a proxy's page. A POST is still under way."""
+
+
+class UnderWay(StationError):
+    """Another request is under way: `finish` it first."""
+
+
+class BadStateFile(StationError):
+    """The state file is in use, another seat's, or damaged."""
+
+
+@dataclass(frozen=True)
+class Word:
+    """Burnt or awaited bits of one word."""
+
+    block: int
+    word: int
+    mask: int
+
+
+@dataclass(frozen=True)
+class Work:
+    """Bits, and keys by the names of their fields, which are known by their SHA-256."""
+
+    bits: tuple[Word, ...]
+    keys: dict[str, str]
+
+    def __bool__(self) -> bool:
+        return bool(self.bits or self.keys)
+
+
+@dataclass(frozen=True)
+class Order:
+    name: str
+    issuer: str
+    prefix: str
+    width: int
+    first: int
+    quantity: int
+    macs: int
+    mac: Optional[str]
+    next: Optional[str]
+    not_before: Optional[str] = None
+
+
+@dataclass(frozen=True)
+class Device:
+    """A device; `batch1` and `batch2` are what is still to be burnt."""
+
+    chip: str
+    order: str
+    map: str
+    state: str
+    reason: Optional[str]
+    serial: Optional[str]
+    burnt: Work
+    batch1: Work
+    batch2: Work
+
+
+@dataclass(frozen=True)
+class Plan:
+    state: str
+    batch1: Work
+    batch2: Work
+
+
+@dataclass(frozen=True)
+class Verdict:
+    """What a read-back came to: lost, stray, key, short or match, and what is still awaited where it is short."""
+
+    outcome: str
+    state: str
+    rest: Work
+
+
+@dataclass(frozen=True)
+class Identity:
+    chip: str
+    issuer: str
+    serial: str
+    key_sha256: str
+    mac: Optional[str]
+    not_after: str
+    not_before: Optional[str] = None
+
+
+@dataclass(frozen=True)
+class Imported:
+    added: int
+    present: int
+
+
+@dataclass(frozen=True)
+class Entry:
+    """A step of a device, with what it added to what is known to be burnt."""
+
+    n: int
+    event: str
+    note: str
+    seat: str
+    added: Work
+
+
+@dataclass(frozen=True)
+class Done:
+    """The last request of the seat that was accepted."""
+
+    path: str
+    members: dict[str, Any]
+    reply: dict[str, Any]
+
+
+def _made(kind: type, data: Mapping[str, Any], **others: Any) -> Any:
+    """An object of a reply's members. Those that the class doesn't name, as of a later server, are passed over."""
+    names = {field.name for field in fields(kind)}
+    return kind(**{**{name: value for name, value in data.items() if name in names}, **others})
+
+
+def work_of(data: Mapping[str, Any]) -> Work:
+    """The bits and keys of a reply."""
+    bits = (Word(word["block"], word["word"], int(word["mask"], 16)) for word in data["bits"])
+    return Work(tuple(bits), dict(data["keys"]))
+
+
+def device_of(data: Mapping[str, Any]) -> Device:
+    pending = {name: work_of(data["pending"][name]) for name in ("batch1", "batch2")}
+    return _made(Device, data, burnt=work_of(data), **pending)
+
+
+def identity_of(data: Mapping[str, Any]) -> Identity:
+    return _made(Identity, data)
+
+
+# The wishes of a plan.
+
+
+def bit(field: str, index: int) -> dict[str, Any]:
+    return {"kind": "bit", "field": field, "index": index}
+
+
+def value(field: str, digits: str) -> dict[str, Any]:
+    """Hexadecimal digits, the highest first."""
+    return {"kind": "value", "field": field, "value": digits}
+
+
+def key(field: str, key_sha256: str) -> dict[str, Any]:
+    """A key by the SHA-256 of its bytes as they stand in the block: `KeyFile.digest`."""
+    return {"kind": "key", "field": field, "key_sha256": key_sha256}
+
+
+def wlock(field: str) -> dict[str, Any]:
+    return {"kind": "wlock", "field": field}
+
+
+def rlock(field: str) -> dict[str, Any]:
+    return {"kind": "rlock", "field": field}
+
+
+# espefuse.
+
+
+@dataclass(frozen=True)
+class KeyFile:
+    """A file of 32 bytes, and what espefuse burns it as: a name of `burn_key`, as `BLOCK1` or `flash_encryption`."""
+
+    path: str
+    burnt_as: str
+
+    def digest(self) -> str:
+        """The SHA-256 of the bytes as they stand in the block."""
+        data = Path(self.path).read_bytes()
+        if len(data) != 32:
+            raise ValueError(f"{self.path} has {len(data)} bytes, and not 32")
+        return hashlib.sha256(data[::-1] if self.burnt_as in REVERSED else data).hexdigest()
+
+
+def blocks_of(dump: str) -> Blocks:
+    """The words that `espefuse.py dump` prints."""
+    found = DUMPED.findall(dump)
+    if not found or [int(number) for number, _ in found] != list(range(len(found))):
+        raise ValueError("this isn't what `espefuse.py dump` prints")
+    return [words.split() for _, words in found]
+
+
+def crc8(data: bytes) -> int:
+    """The CRC of a factory MAC, as in the ROM of the ESP32."""
+    crc = 0
+    for byte in data:
+        crc ^= byte
+        for _ in range(8):
+            crc = crc >> 1 ^ (0x8C if crc & 1 else 0)
+    return crc
+
+
+def chip_of(blocks: Blocks) -> str:
+    """The name of an ESP32: its factory MAC, whose CRC has to be right."""
+    low, high = (int(word, 16) for word in blocks[0][1:3])
+    mac = ((high & 0xFFFF) << 32 | low).to_bytes(6, "big")
+    if not any(mac) or crc8(mac) != high >> 16 & 0xFF:
+        raise ValueError(f"block 0 shows no factory MAC: words 1 and 2 are {blocks[0][1]} {blocks[0][2]}")
+    return mac.hex()
+
+
+def checked(chip: str, blocks: Blocks) -> Blocks:
+    """The same blocks, where they are this chip's: those of another, or misread ones, would quarantine it for good."""
+    if chip_of(blocks) != chip:
+        raise ValueError(f"this is the chip {chip_of(blocks)}, and not {chip}")
+    return blocks
+
+
+def bytes_of(block: Sequence[str]) -> bytes:
+    """A block's bytes, the lowest of each word first."""
+    return b"".join(bytes.fromhex(word)[::-1] for word in block)
+
+
+def shows(blocks: Blocks, work: Work) -> bool:
+    """Whether a chip shows all bits and keys of a batch."""
+    shown = {hashlib.sha256(bytes_of(block)).hexdigest() for block in blocks}
+    bits = all(int(blocks[it.block][it.word], 16) & it.mask == it.mask for it in work.bits)
+    return bits and shown.issuperset(work.keys.values())
+
+
+def commands(work: Work, keys: Mapping[str, KeyFile]) -> Iterator[list[str]]:
+    """The words of espefuse that burn a batch, keys first and block 0 last; `keys` are files by their fields."""
+    for field, digest in work.keys.items():
+        file = keys.get(field)
+        if file is None or file.digest() != digest:
+            raise ValueError(f"no file of the key that {field} awaits")
+        # Never without --no-protect-key: the locks come in the second batch, and burnt now they are `stray`.
+        yield ["burn_key", "--no-protect-key", file.burnt_as, file.path]
+    for block in sorted({it.block for it in work.bits}, reverse=True):
+        words = [it for it in work.bits if it.block == block]
+        bits = [32 * it.word + place for it in words for place in range(32) if it.mask >> place & 1]
+        yield ["burn_bit", f"BLOCK{block}", *map(str, bits)]
+
+
+class Espefuse:
+    """A chip behind espefuse: `tool` is its command with the port, and with --do-not-confirm where nobody is asked."""
+
+    def __init__(self, tool: Sequence[str], keys: Mapping[str, KeyFile]):
+        self.tool, self.keys = list(tool), keys
+
+    def read(self) -> Blocks:
+        done = subprocess.run([*self.tool, "dump"], check=True, capture_output=True, text=True)
+        return blocks_of(done.stdout)
+
+    def burn(self, work: Work) -> None:
+        """Burns a batch. What of it is burnt already stays as it is, so that this may be done again."""
+        for words in list(commands(work, self.keys)):
+            subprocess.run([*self.tool, *words], check=True, stdout=subprocess.DEVNULL)
+
+
+def answer_of(status: int, kind: str, data: bytes) -> Any:
+    """The members of an accepted reply, or a report's text; a refusal is raised."""
+    if status == 200 and kind == "text/csv":
+        return data.decode("ascii")
+    try:
+        body = json.loads(data) if kind == "application/json" else None
+    except ValueError:
+        body = None
+    if isinstance(body, dict) and status == 200:
+        return body
+    if isinstance(body, dict) and isinstance(body.get("no"), int) and isinstance(body.get("error"), str):
+        raise Refused(status, body)
+    raise NotTheServer(f"status {status}, {kind}: {data[:60]!r}")
+
+
+class Station:
+    """A seat: one process and one request at a time. `patience` is how many seconds it asks for a reply."""
+
+    def __init__(
+        self,
+        url: str,
+        token: str,
+        file: str | os.PathLike[str],
+        patience: float = 120,
+        timeout: float = 90,
+        context: Any = None,
+    ):
+        parts = urlsplit(url)
+        self._connect: Callable[[], http.client.HTTPConnection]
+        if parts.scheme == "https":
+            self._connect = lambda: http.client.HTTPSConnection(parts.netloc, timeout=timeout, context=context)
+        else:
+            self._connect = lambda: http.client.HTTPConnection(parts.netloc, timeout=timeout)
+        self._path = parts.path.rstrip("/")
+        self._fields = {"Authorization": f"Bearer {token}", "Connection": "close"}
+        self._patience = patience
+        self._file = Path(file)
+        self._lock = self._locked()
+        try:
+            self._state = self._read(hashlib.sha256(token.encode()).hexdigest())
+        except BadStateFile:
+            self.close()
+            raise
+
+    def __enter__(self) -> Station:
+        return self
+
+    def __exit__(self, *_: Any) -> None:
+        self.close()
+
+    def close(self) -> None:
+        """Lets another process have the state file."""
+        self._lock.close()
+
+    # The state file.
+
+    def _locked(self) -> io.TextIOWrapper:
+        lock = open(f"{self._file}.lock", "w", encoding="ascii")
+        try:
+            if fcntl:
+                fcntl.flock(lock, fcntl.LOCK_EX | fcntl.LOCK_NB)
+        except OSError as error:
+            lock.close()
+            raise BadStateFile(f"{self._file} is another process's") from error
+        return lock
+
+    def _read(self, token: str) -> dict[str, Any]:
+        """The state. Without a file the number isn't known, and is asked for."""
+        try:
+            state = json.loads(self._file.read_bytes())
+            if state["token"] != token:
+                raise BadStateFile(f"{self._file} is another seat's")
+            return {name: state[name] for name in ("token", "next", "under_way", "last")}
+        except FileNotFoundError:
+            return {"token": token, "next": None, "under_way": None, "last": None}
+        except (ValueError, KeyError, TypeError) as error:
+            raise BadStateFile(f"{self._file} is no state file: {error!r}") from error
+
+    def _keep(self, **changes: Any) -> None:
+        """Changes the state, in the file first: whole or not at all, whenever the power fails."""
+        state, new = {**self._state, **changes}, f"{self._file}.new"
+        with open(os.open(new, os.O_WRONLY | os.O_CREAT | os.O_TRUNC, 0o600), "w", encoding="ascii") as out:
+            json.dump(state, out)
+            out.flush()
+            os.fsync(out.fileno())
+        os.replace(new, self._file)
+        if os.name == "posix":
+            folder = os.open(self._file.parent, os.O_RDONLY)
+            try:
+                os.fsync(folder)
+            finally:
+                os.close(folder)
+        self._state = state
+
+    # Requests.
+
+    def _once(self, method: str, target: str, body: Optional[bytes]) -> tuple[int, str, bytes]:
+        """What one sending gets: a whole reply, or an error."""
+        connection = self._connect()
+        try:
+            connection.request(method, self._path + target, body, self._fields)
+            reply = connection.getresponse()
+            data = reply.read()
+        finally:
+            connection.close()
+        if reply.headers.get("Content-Length") != str(len(data)):
+            raise http.client.IncompleteRead(data)
+        return reply.status, reply.headers.get_content_type(), data
+
+    def _asked(self, method: str, target: str, body: Optional[bytes] = None) -> tuple[int, str, bytes, bool]:
+        """A reply, asked for until it comes, and whether it was asked for more than once."""
+        end, pause, again = time.monotonic() + self._patience, FIRST_PAUSE, False
+        while True:
+            try:
+                reply = self._once(method, target, body)
+                if reply[0] not in RETRIED:
+                    return (*reply, again)
+                fault = f"status {reply[0]}"
+            except (OSError, http.client.HTTPException) as error:
+                fault = repr(error)
+            if time.monotonic() + pause > end:
+                raise NoReply(f"{method} {target}: {fault}")
+            time.sleep(pause)
+            pause, again = min(2 * pause, LONGEST_PAUSE), True
+
+    def get(self, path: str, **parameters: str) -> Any:
+        """What is shown: a reply's members, or a report's text."""
+        query = "&".join(f"{name}={quote(text, safe='')}" for name, text in parameters.items())
+        status, kind, data, _ = self._asked("GET", f"{path}?{query}" if query else path)
+        return answer_of(status, kind, data)
+
+    def post(self, path: str, members: Mapping[str, Any]) -> dict[str, Any]:
+        """Has a request done, once, and gives its reply. The same request goes on where it is under way."""
+        under_way = self._state["under_way"]
+        if not under_way:
+            self._begin(path, members)
+        elif (under_way["path"], _members_of(under_way)) != (path, json.loads(json.dumps(members))):
+            raise UnderWay(f"{under_way['path']} {under_way['body'][:80]}")
+        return self._complete(is_repeat=bool(under_way))
+
+    def _begin(self, path: str, members: Mapping[str, Any]) -> None:
+        number = self._state["next"] or self.expected_number()
+        body = json.dumps({"nr": number, **members}, separators=(",", ":"))
+        if len(body) > LONGEST_BODY:
+            raise ValueError(f"a body of {len(body)} bytes: the server reads {LONGEST_BODY}")
+        self._keep(next=number, under_way={"path": path, "body": body})
+
+    def _complete(self, is_repeat: bool) -> dict[str, Any]:
+        """Sends the request under way until its reply is there, and keeps that."""
+        asked = self._state["under_way"]
+        status, kind, data, again = self._asked("POST", asked["path"], asked["body"].encode("ascii"))
+        is_repeat = is_repeat or again
+        try:
+            reply = answer_of(status, kind, data)
+        except Refused as refused:
+            if refused.no == WRONG_NUMBER and not is_repeat:
+                self._keep(next=refused.more["expected"], under_way=None)
+                self._begin(asked["path"], _members_of(asked))
+                return self._complete(is_repeat=True)
+            if refused.no > OTHER_BODY or not is_repeat:
+                self._keep(under_way=None)
+            raise
+        self._keep(next=self._state["next"] + 1, under_way=None, last={**asked, "reply": reply})
+        return reply
+
+    def finish(self) -> Optional[Done]:
+        """Sends what is under way again, as it was, and gives the last request that was accepted, if there is one."""
+        if self._state["under_way"]:
+            self._complete(is_repeat=True)
+        last = self._state["last"]
+        return Done(last["path"], _members_of(last), last["reply"]) if last else None
+
+    def expected_number(self) -> int:
+        """The number that the server expects of the seat. Nothing is changed."""
+        body = json.dumps({"nr": FAR, "chip": 12 * "0"}).encode("ascii")
+        try:
+            answer_of(*self._asked("POST", "/v1/ship", body)[:3])
+        except Refused as refused:
+            if refused.no == WRONG_NUMBER:
+                return refused.more["expected"]
+            raise
+        raise NotTheServer(f"number {FAR} was accepted")
+
+    def resynchronize(self) -> None:
+        """Forgets the request under way, and goes on with the number that is expected: after a restore of the store,
+        or where a repeat was refused as 11 or 12. Whether that request was done, its device says."""
+        self._keep(next=self.expected_number(), under_way=None)
+
+    # Commands.
+
+    def make_order(
+        self,
+        name: str,
+        issuer: str,
+        prefix: str,
+        width: int,
+        first: int,
+        quantity: int,
+        macs: int = 0,
+        not_before: Optional[str] = None,
+    ) -> Order:
+        """`not_before`, as 20260101000000Z, is for servers that know it: others leave it out of the order."""
+        members = {"name": name, "issuer": issuer, "prefix": prefix, "width": width, "first": first}
+        start = {} if not_before is None else {"not_before": not_before}
+        return _made(Order, self.post("/v1/order", {**members, "quantity": quantity, "macs": macs, **start}))
+
+    def import_map(self, text: str) -> str:
+        """The map's digest, by which devices are registered."""
+        return self.post("/v1/map", {"text": text})["map"]
+
+    def register(self, chip: str, order: str, map: str, blocks: Blocks) -> Device:
+        shown = {"map": map, "blocks": checked(chip, blocks)}
+        return device_of(self.post("/v1/device", {"chip": chip, "order": order, **shown}))
+
+    def plan(self, chip: str, wishes: Sequence[Mapping[str, Any]]) -> Plan:
+        data = self.post("/v1/plan", {"chip": chip, "wishes": list(wishes)})
+        return Plan(data["state"], work_of(data["batch1"]), work_of(data["batch2"]))
+
+    def read_back(self, chip: str, blocks: Blocks) -> Verdict:
+        data = self.post("/v1/readback", {"chip": chip, "blocks": checked(chip, blocks)})
+        return Verdict(data["outcome"], data["state"], work_of(data["rest"]))
+
+    def identify(self, chip: str, public_key: bytes) -> Identity:
+        return identity_of(self.post("/v1/identity", {"chip": chip, "public_key": public_key.hex()}))
+
+    def ship(self, chip: str) -> str:
+        return self.post("/v1/ship", {"chip": chip})["state"]
+
+    def scrap(self, chip: str) -> str:
+        return self.post("/v1/scrap", {"chip": chip})["state"]
+
+    def import_serials(self, issuer: str, rows: Iterable[tuple[str, str]]) -> Imported:
+        """Serial numbers that were handed out elsewhere, with the SHA-256 of their keys; 500 at the most."""
+        lines = ["serial,key_sha256", *(f"{serial},{digest}" for serial, digest in rows), ""]
+        return _made(Imported, self.post("/v1/import", {"issuer": issuer, "csv": "\n".join(lines)}))
+
+    def order(self, name: str) -> Order:
+        return _made(Order, self.get("/v1/order", name=name))
+
+    def device(self, chip: str) -> Device:
+        return device_of(self.get("/v1/device", chip=chip))
+
+    def find_device(self, chip: str) -> Optional[Device]:
+        """The device, or None where the customer has none of the chip."""
+        try:
+            return self.device(chip)
+        except Refused as refused:
+            if refused.no == UNKNOWN_DEVICE:
+                return None
+            raise
+
+    def ledger(self, chip: str) -> list[Entry]:
+        entries = self.get("/v1/ledger", chip=chip)["entries"]
+        return [_made(Entry, entry, added=work_of(entry)) for entry in entries]
+
+    def report(self, path: str = "/v1/report") -> dict[str, dict[str, int]]:
+        """The counts of each order, by its name."""
+        rows = csv.reader(io.StringIO(self.get(path)))
+        _, *names = next(rows)
+        return {name: dict(zip(names, map(int, counts))) for name, *counts in rows}
+
+    def site_report(self) -> dict[str, dict[str, int]]:
+        """The counts of each customer, by its name; the manager's alone."""
+        return self.report("/v1/site/report")
+
+    def settle(self, chip: str, chip_io: Espefuse, tries: int = 3) -> Device:
+        """Burns and reads back what a device awaits. It is then settled or quarantined, or still awaits what the chip
+        doesn't take in so many tries.
+
+        A batch is burnt before it is read back, also where it may be burnt already, and until the chip shows all of
+        it: a read-back of a half burnt key would quarantine the device for good. Another chip isn't burnt."""
+        while True:
+            device = self.device(chip)
+            if device.state not in ("awaiting1", "awaiting2"):
+                return device
+            work = device.batch1 if device.state == "awaiting1" else device.batch2
+            checked(chip, chip_io.read())
+            for _ in range(tries):
+                chip_io.burn(work)
+                blocks = chip_io.read()
+                if shows(blocks, work):
+                    break
+            if self.read_back(chip, blocks).outcome == "short":
+                return self.device(chip)
+
+
+def _members_of(asked: Mapping[str, str]) -> dict[str, Any]:
+    """The members of a kept request, without its number."""
+    members = json.loads(asked["body"])
+    del members["nr"]
+    return members
+
+
+# The command line.
+
+
+def _key_file(word: str) -> tuple[str, KeyFile]:
+    field, path = _pair(word)
+    path, _, name = path.partition(":")
+    return field, KeyFile(path, name or field)
+
+
+def _pair(word: str) -> tuple[str, str]:
+    field, found, text = word.partition("=")
+    if not found:
+        raise argparse.ArgumentTypeError(f"{word} has no =")
+    return field, text
+
+
+def _text_of(file: str) -> str:
+    return sys.stdin.read() if file == "-" else Path(file).read_text(encoding="utf-8")
+
+
+def _order(station: Station, args: argparse.Namespace) -> None:
+    range_of = (args.prefix, args.width, args.first, args.quantity)
+    station.make_order(args.name, args.issuer, *range_of, args.macs, args.not_before)
+
+
+def _register(station: Station, args: argparse.Namespace) -> None:
+    blocks = blocks_of(_text_of(args.dump))
+    station.register(chip_of(blocks), args.order, args.map, blocks)
+
+
+def _plan(station: Station, args: argparse.Namespace) -> None:
+    wishes = [bit(field, int(index)) for field, index in args.bit]
+    wishes += [value(field, digits) for field, digits in args.value]
+    wishes += [key(field, file.digest()) for field, file in args.key]
+    station.plan(args.chip, [*wishes, *map(wlock, args.wlock), *map(rlock, args.rlock)])
+
+
+def _burn(station: Station, args: argparse.Namespace) -> str:
+    device = station.device(args.chip)
+    work = device.batch2 if device.state == "awaiting2" else device.batch1
+    return "".join(f"{args.tool} {shlex.join(words)}\n" for words in commands(work, dict(args.key)))
+
+
+def _settle(station: Station, args: argparse.Namespace) -> Any:
+    station.settle(args.chip, Espefuse(shlex.split(args.tool), dict(args.key)))
+    return station.get("/v1/device", chip=args.chip)
+
+
+def _import(station: Station, args: argparse.Namespace) -> None:
+    station.post("/v1/import", {"issuer": args.issuer, "csv": _text_of(args.file)})
+
+
+def _finish(station: Station, _: argparse.Namespace) -> Any:
+    done = station.finish()
+    return {"path": done.path, "reply": done.reply} if done else {}
+
+
+def _number(station: Station, args: argparse.Namespace) -> Any:
+    if args.resynchronize:
+        station.resynchronize()
+    return {"expected": station.expected_number()}
+
+
+# Each command with its words, what it does, and what is said of it. One that answers nothing has its reply printed.
+COMMANDS: list[tuple[str, str, Callable[..., Any], str]] = [
+    ("order", "name issuer prefix", _order, "make an order"),
+    ("map", "file", lambda it, args: it.import_map(_text_of(args.file)) and None, "import a map"),
+    ("register", "order map dump", _register, "register a chip, by the file of a dump, or - for standard input"),
+    ("plan", "chip", _plan, "plan a chip"),
+    ("burn", "chip", _burn, "print espefuse's commands for the batch that a chip awaits"),
+    (
+        "readback",
+        "chip dump",
+        lambda it, args: it.read_back(args.chip, blocks_of(_text_of(args.dump))) and None,
+        "send what a chip shows, by the file of a dump, or - for standard input",
+    ),
+    ("settle", "chip", _settle, "burn and read back what a chip awaits"),
+    (
+        "identity",
+        "chip public_key",
+        lambda it, args: it.identify(args.chip, bytes.fromhex(args.public_key)) and None,
+        "give a device its identity, by its public key's hexadecimal digits",
+    ),
+    ("ship", "chip", lambda it, args: it.ship(args.chip) and None, "ship a device"),
+    ("scrap", "chip", lambda it, args: it.scrap(args.chip) and None, "scrap a device"),
+    ("import", "issuer file", _import, "import serial numbers"),
+    ("show-order", "name", lambda it, args: it.get("/v1/order", name=args.name), "show an order"),
+    ("device", "chip", lambda it, args: it.get("/v1/device", chip=args.chip), "show a device"),
+    ("ledger", "chip", lambda it, args: it.get("/v1/ledger", chip=args.chip), "show a device's ledger"),
+    ("report", "", lambda it, _: it.get("/v1/report"), "show the customer's report"),
+    ("site-report", "", lambda it, _: it.get("/v1/site/report"), "show the site's report, with the manager's token"),
+    ("finish", "", _finish, "send what is under way again, and show the last request's reply"),
+    ("number", "", _number, "show the number that the server expects of the seat"),
+]
+
+
+def _parser() -> argparse.ArgumentParser:
+    parser = argparse.ArgumentParser(prog="wanekupo_station", description="A seat's requests, each done once.")
+    parser.add_argument("--url", default="http://127.0.0.1:8080", help="where the server is")
+    parser.add_argument("--token", required=True, metavar="FILE", help="a file with the seat's token")
+    parser.add_argument("--state", required=True, metavar="FILE", help="the seat's state file")
+    parser.add_argument("--patience", type=float, default=120, help="how many seconds a reply is asked for")
+    subparsers = parser.add_subparsers(dest="command", required=True)
+    made = {}
+    for name, words, run, said in COMMANDS:
+        made[name] = subparsers.add_parser(name, help=said, description=said)
+        made[name].set_defaults(run=run)
+        for word in words.split():
+            made[name].add_argument(word)
+    for name in ("width", "first", "quantity"):
+        made["order"].add_argument(f"--{name}", type=int, required=True)
+    made["order"].add_argument("--macs", type=int, default=0, help="addresses for each serial number")
+    made["order"].add_argument("--not-before", help="as 20260101000000Z, where the server knows it")
+    for kind, form in (("bit", "FIELD=INDEX"), ("value", "FIELD=DIGITS")):
+        made["plan"].add_argument(f"--{kind}", action="append", default=[], type=_pair, metavar=form)
+    for kind in ("wlock", "rlock"):
+        made["plan"].add_argument(f"--{kind}", action="append", default=[], metavar="FIELD")
+    for name in ("plan", "burn", "settle"):
+        said = "a key's file, and what espefuse burns it as, where that isn't FIELD"
+        form = "FIELD=FILE[:NAME]"
+        made[name].add_argument("--key", action="append", default=[], type=_key_file, metavar=form, help=said)
+    for name in ("burn", "settle"):
+        made[name].add_argument("--tool", default="espefuse.py", help="espefuse's command, with its port")
+    made["number"].add_argument("--resynchronize", action="store_true", help="forget what is under way, and go on")
+    return parser
+
+
+def main(words: Optional[Sequence[str]] = None) -> int:
+    """Status 0 for a reply, which is printed, 1 for a refusal, 2 for what can't be sent, 3 where no reply came, 4 where
+    the device is quarantined."""
+    args = _parser().parse_args(words)
+    try:
+        token = Path(args.token).read_text(encoding="ascii").strip()
+        with Station(args.url, token, args.state, args.patience) as station:
+            reply = args.run(station, args)
+            if reply is None:
+                reply = station.finish().reply  # type: ignore[union-attr]
+    except Refused as refused:
+        print(f"refused: {refused}", file=sys.stderr)
+        return 1
+    except (StationError, ValueError, OSError, subprocess.CalledProcessError) as error:
+        print(f"{type(error).__name__}: {error}", file=sys.stderr)
+        return 3 if isinstance(error, (NoReply, NotTheServer)) else 2
+    is_text = isinstance(reply, str)
+    print(reply if is_text else json.dumps(reply, sort_keys=True, separators=(",", ":")), end="" if is_text else "\n")
+    return 4 if not is_text and reply.get("state") == "quarantined" else 0
+
+
+if __name__ == "__main__":
+    sys.exit(main())
