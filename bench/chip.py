@@ -21,7 +21,9 @@ SITE = DATA / "site.toml"
 MAP = DATA / "map.toml"
 PAGE = ROOT / "docs" / "WALK.md"
 
-CHIP = "00000000000a"
+# A chip by its factory MAC, and block 0 as the factory leaves it: the MAC with its CRC, a revision, a calibration.
+CHIP = "240ac4000001"
+BLANK = ["00000000", "c4000001", "00be240a", "00008000", "00000b00", "00000000", "00000000"]
 ZEROS = ["00000000"] * 8
 KEY = bytes(range(32))
 PUBLIC_KEY = "302a300506032b6570032100d75a980182b10ab7d54bfed3c964073a0ee172f3daa62325af021a68f707511a"
@@ -60,7 +62,7 @@ def steps():
     """The path and the members of each request of the run."""
     text = MAP.read_text(encoding="utf-8")
     digest = hashlib.sha256(text.encode()).hexdigest()
-    burnt = ZEROS[:6] + ["00000040"]
+    burnt = BLANK[:6] + ["00000040"]
     wishes = [
         {"kind": "bit", "field": "JTAG_DISABLE", "index": 0},
         {"kind": "key", "field": "BLOCK1", "key_sha256": hashlib.sha256(KEY).hexdigest()},
@@ -68,10 +70,11 @@ def steps():
         {"kind": "rlock", "field": "BLOCK1"},
     ]
     order = {"name": "o1", "issuer": "acme-ca", "prefix": "A", "width": 3, "first": 998, "quantity": 2, "macs": 1}
+    order |= {"not_before": "20260101000000Z"}
     asked = [
         ("map", {"text": text}),
         ("order", order),
-        ("device", {"chip": CHIP, "order": "o1", "map": digest, "blocks": [ZEROS[:7], ZEROS, ZEROS, ZEROS]}),
+        ("device", {"chip": CHIP, "order": "o1", "map": digest, "blocks": [BLANK, ZEROS, ZEROS, ZEROS]}),
         ("plan", {"chip": CHIP, "wishes": wishes}),
         ("readback", {"chip": CHIP, "blocks": [burnt, words_of(KEY), ZEROS, ZEROS]}),
         ("readback", {"chip": CHIP, "blocks": [["00010080", *burnt[1:]], ZEROS, ZEROS, ZEROS]}),

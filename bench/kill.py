@@ -57,8 +57,10 @@ TABLES = {
     "map": "body, digest",
     "link": "customer, digest",
     "orders": "*",
+    "order_start": "*",
     "device": "*",
     "given": "*",
+    "given_start": "*",
     "ledger": "customer, chip, n, event, note, seat, bits, keys",
 }
 

@@ -65,8 +65,9 @@ STATEMENTS = {
     ),
     "map": ("SELECT id, body FROM map WHERE id = ?1 ORDER BY id", "link.map"),
     "order": (
-        "SELECT customer, name, issuer, prefix, width, first, quantity, macs, mac, cursor FROM orders"
-        " WHERE customer = ?1 AND name = ?2 ORDER BY customer, name",
+        "SELECT orders.customer, name, issuer, prefix, width, first, quantity, macs, mac, cursor, not_before FROM orders"
+        " JOIN order_start ON order_start.customer = orders.customer AND ord = name"
+        " WHERE orders.customer = ?1 AND name = ?2 ORDER BY orders.customer, name",
         "device.customer device.ord",
     ),
     "places": (
@@ -78,13 +79,15 @@ STATEMENTS = {
         "device.customer device.chip",
     ),
     "given by serial": (
-        "SELECT issuer, serial, customer, key, chip, mac, not_after FROM given"
-        " WHERE issuer = ?1 AND serial = ?2 ORDER BY issuer, serial",
+        "SELECT given.issuer, given.serial, customer, key, chip, mac, not_after, not_before FROM given"
+        " JOIN given_start ON given_start.issuer = given.issuer AND given_start.serial = given.serial"
+        " WHERE given.issuer = ?1 AND given.serial = ?2 ORDER BY given.issuer, given.serial",
         "given.issuer given.serial",
     ),
     "given by key": (
-        "SELECT issuer, serial, customer, key, chip, mac, not_after FROM given"
-        " WHERE issuer = ?1 AND key = ?2 ORDER BY issuer, serial",
+        "SELECT given.issuer, given.serial, customer, key, chip, mac, not_after, not_before FROM given"
+        " JOIN given_start ON given_start.issuer = given.issuer AND given_start.serial = given.serial"
+        " WHERE given.issuer = ?1 AND key = ?2 ORDER BY given.issuer, given.serial",
         "given.issuer given.key",
     ),
     "given by mac": (
@@ -111,6 +114,10 @@ STATEMENTS = {
         "INSERT INTO given (issuer, serial, customer, key, chip, mac, not_after) VALUES (?1, ?2, ?3, ?4, ?5, ?6, ?7)",
         "given.issuer given.serial given.customer given.key given.chip given.mac given.not_after",
     ),
+    "add given start": (
+        "INSERT INTO given_start (issuer, serial, not_before) VALUES (?1, ?2, ?3)",
+        "given.issuer given.serial given_start.not_before",
+    ),
     "set cursor": (
         "UPDATE orders SET cursor = ?3 WHERE customer = ?1 AND name = ?2",
         "device.customer device.ord orders.cursor",
@@ -131,7 +138,7 @@ REQUESTS = {
     "readback": STEP,
     "identity": [
         *["seat", "device", "link", "order", "given by serial", "given by key", "last entry"],
-        *["put device", "add entry", "given by mac", "add given", "set cursor", "put seat"],
+        *["put device", "add entry", "given by mac", "add given", "add given start", "set cursor", "put seat"],
     ],
     "ship": STEP,
 }
@@ -236,6 +243,7 @@ class Books:
         """Fails unless it has the rows of the lives."""
         counts = {"meta": 1, "seat": 1, "map": 1, "link": 1, "orders": -(-self.size // LARGEST_ORDER)}
         counts |= {"device": self.size, "given": self.size, "ledger": STEPS * self.size}
+        counts |= {"order_start": counts["orders"], "given_start": self.size}
         for table, count in counts.items():
             rows = self.run(f"SELECT count(*) FROM {table}").fetchone()[0]
             if rows != count:
@@ -251,14 +259,15 @@ class Books:
         device = self.run("SELECT * FROM device WHERE customer = ? AND chip = ?", key).fetchone()
         by_serial = "SELECT * FROM given WHERE issuer = 'acme-ca' AND serial = ?"
         given = self.run(by_serial, (device["serial"],)).fetchone()
+        start = self.run(by_serial.replace("given", "given_start"), (device["serial"],)).fetchone()
         entries = self.run("SELECT * FROM ledger WHERE customer = ? AND chip = ? ORDER BY n", key).fetchall()
         others = {"link.map": 1, "orders.cursor": number + 1}
-        values = columns_of("device", device) | columns_of("given", given) | others
+        values = columns_of("device", device) | columns_of("given", given) | columns_of("given_start", start) | others
         return values, [columns_of("ledger", entry) for entry in entries]
 
     def test_same(self, peer):
         """Fails unless the peer's rows are the same; but for the seat's, where digests and replies are made up."""
-        for table in ("meta", "map", "link", "orders", "device", "given", "ledger"):
+        for table in ("meta", "map", "link", "orders", "order_start", "device", "given", "given_start", "ledger"):
             query = f"SELECT * FROM {table} ORDER BY rowid"
             for row, other in zip_longest(self.run(query), peer.execute(query)):
                 if row is None or other is None or tuple(row) != other:
@@ -289,7 +298,7 @@ def new_peer(path, books):
         peer.execute(f"PRAGMA {line}").fetchall()
     for row in books.run("SELECT sql FROM sqlite_master WHERE sql IS NOT NULL ORDER BY rowid"):
         peer.execute(row[0])
-    for table in ("meta", "seat", "map", "link", "orders"):
+    for table in ("meta", "seat", "map", "link", "orders", "order_start"):
         for row in books.run(f"SELECT * FROM {table}"):
             peer.execute(f"INSERT INTO {table} VALUES ({','.join('?' * len(row))})", tuple(row))
     peer.execute("UPDATE orders SET cursor = first")
