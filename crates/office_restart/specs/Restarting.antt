@@ -15,8 +15,8 @@ use Rattle.office_runs.specs.Stops.{IsLeft, IsUnsettled}
 use Rattle.office_store.specs.Keeping.{is_open_at, tables_of}
 use Rattle.office_store.specs.Opening.{HasTablesOf}
 
--- The files held the first tables. What was answered before the crash led from them to those that stood; the crash left these, or those after one step more, of a request that was answered 503 since the last one that wasn't; and what was answered after it led from what was left to the last, which stand. All of it is one run: from tables that were sound for the site, or for one that it grew from, all is promised of it that is promised of a run.
-pub record GoesOn {D : Type 0} (g : Ghosts D) (site : Owners) (files : Files D) (before after : List Exchange) (store : Held (FileStore D g)) : Type 0 where
+-- The files held the first tables. What was answered before the crash led from them to those that stood; the crash left these, or those after one step more, of a request that was answered 503 since the last one that wasn't; and what was answered after it led from what was left to the last, which stand. All of it is one run: from tables that were sound for the first site, or for one that it grew from, all is promised of it that is promised of a run under the second.
+pub record GoesOn {D : Type 0} (g : Ghosts D) (site grown : Owners) (files : Files D) (before after : List Exchange) (store : Held (FileStore D g)) : Type 0 where
   pub first : Tables
   pub stood : Tables
   pub more : List Exchange
@@ -27,4 +27,4 @@ pub record GoesOn {D : Type 0} (g : Ghosts D) (site : Owners) (files : Files D) 
   pub leaves : IsLeft (IsUnsettled before) stood more left
   pub answered_after : IsRun after left last
   pub stands : Stands (is_open_at over_files) (tables_of over_files) store last
-  pub promises : (older : Owners) → OwnersGrow older site → IsSound older first → Promises site (before ++ (more ++ after)) first last
+  pub promises : (older : Owners) → OwnersGrow older site → IsSound older first → Promises grown (before ++ (more ++ after)) first last

@@ -1,27 +1,34 @@
 // A keeper over files of any disk.
 ghost use Rattle.std.specs.Prelude.{◌≡◌, IsTrue, IfOk};
-ghost use Rattle.sqlite.specs.Files.{image_of, over_files};
+ghost use Rattle.sqlite.specs.Files.{HoldsDatabase, image_of, over_files};
 ghost use Rattle.sqlite.specs.Held.{state};
 ghost use Rattle.sqlite.specs.State.{HasCleanDisk};
+ghost use Rattle.sqlite.specs.Tree.{Trees};
 ghost use Rattle.sqlite_wal.specs.Reads.{AreClean};
 ghost use Rattle.office_tables.specs.Tables.{Tables};
+ghost use Rattle.office_store.specs.Adopting.{TakesGrowth};
 ghost use Rattle.office_store.specs.Keeping.{is_honest_at, is_open_at, may_leave_at, tables_of};
 ghost use Rattle.office_store.specs.Opening.{HasTablesOf};
+ghost use Rattle.office_store.specs.Texts.{HoldsText};
 
 use office_store::{Handed, OpenFault, SqlKeep, adopt};
+use site_core::SiteText;
 use sqlite::{Alter, Connection, FileStore, Files, Options};
 use sqlite_disk::Disk;
 use std::alloc::Global;
-use text_core::Digest;
 
 /// A keeper of a connection to the store of a site. A fault comes with the store.
 fn adopted<S: Alter + Drop>(
     alloc: Global,
     conn: Connection<S>,
-    site: &Digest,
+    site: &SiteText,
 ) -> Result<SqlKeep<S>, (OpenFault, S)>
     requires { HasCleanDisk (state S.Store conn) → is_open_at S.Store conn }
-    ensures site { IfOk result (λ keep. keep.site ≡ site.now) }
+    ensures site { IfOk result (λ keep. keep.site ≡ site.now.digest) }
+    ensures text { IfOk result (λ keep. is_honest_at S.Store keep.conn
+        → HoldsText site.now.text (state S.Store keep.conn).now.trees) }
+    ensures grown { IfOk result (λ keep. is_honest_at S.Store keep.conn
+        → TakesGrowth site.now.site (state S.Store conn).committed.trees) }
     ensures open { IfOk result (λ keep. is_honest_at S.Store keep.conn → is_open_at S.Store keep.conn) }
     ensures was_honest { IfOk result (λ keep.
         is_honest_at S.Store keep.conn → is_honest_at S.Store conn) }
@@ -37,8 +44,9 @@ fn adopted<S: Alter + Drop>(
     }
 }
 
-/// Opens the store of a site, which the SHA-256 of its text names, in files of any disk: a database
-/// and its log. It makes the tables of an empty store, and tests those of another.
+/// Opens the store of a site in files of any disk: a database and its log. It makes the tables of an
+/// empty store, and tests those of another, as `office_store::open` does. The site must be a growth of
+/// the one whose text the store holds, which then holds this text.
 ///
 /// # Errors
 ///
@@ -49,11 +57,15 @@ pub fn open_files<D: Disk + Drop>(
     alloc: Global,
     files: Files<D>,
     options: Options,
-    site: &Digest,
+    site: &SiteText,
 ) -> Result<SqlKeep<FileStore<D>>, OpenFault>
     requires log { IsTrue (D.Disk.is_usable files.log) }
     requires db { IsTrue (D.Disk.is_usable files.db) }
-    ensures site { IfOk result (λ keep. keep.site ≡ site.now) }
+    ensures site { IfOk result (λ keep. keep.site ≡ site.now.digest) }
+    ensures text { IfOk result (λ keep. is_honest_at over_files keep.conn
+        → HoldsText site.now.text (state over_files keep.conn).now.trees) }
+    ensures grown { IfOk result (λ keep. is_honest_at over_files keep.conn
+        → (db : Trees) → HoldsDatabase (image_of D.Disk files) db → TakesGrowth site.now.site db) }
     ensures open { IfOk result (λ keep. is_honest_at over_files keep.conn → is_open_at over_files keep.conn) }
     ensures was_honest { IfOk result (λ keep.
         is_honest_at over_files keep.conn → AreClean D.Disk files.log files.db) }

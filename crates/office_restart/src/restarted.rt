@@ -1,22 +1,25 @@
 // Requests to a store in files, before a crash and after it.
-ghost use Rattle.std.specs.Prelude.{◌≡◌, All, length, IsTrue, IfOk};
+ghost use Rattle.std.specs.Prelude.{◌≡◌, ◌∷◌, [], All, length, IsTrue, IfOk};
+ghost use Rattle.std.specs.List.{AllByRecursion};
 ghost use Rattle.sqlite.specs.Files.{over_files};
 ghost use Rattle.site_core.specs.Caller.{IsSeatCaller};
-ghost use Rattle.site_core.specs.Owners.{owners_of};
-ghost use Rattle.office_core.specs.Replaying.{exchanges_in};
+ghost use Rattle.site_core.specs.Growth.{IsGrowth};
+ghost use Rattle.site_core.specs.Owners.{AreApart, owners_of};
+ghost use Rattle.site_core.specs.Site.{IsSite};
+ghost use Rattle.office_runs.specs.Growth.{IsSeat};
+ghost use Rattle.office_core.specs.Replaying.{KeepsPromises, calls_in, exchanges_in};
 ghost use Rattle.office_store.specs.Keeping.{is_honest_at};
 ghost use Rattle.office_restart.specs.Restarting.{GoesOn};
 
 use crate::crashing::crash;
 use crate::opening::open_files;
 use http_replies::Reply;
-use office_core::{SeatRequest, Unkept, replay, stopped_stores_go_on};
+use office_core::{Keep, SeatRequest, Unkept, replay, stopped_stores_go_on};
 use office_store::{OpenFault, SqlKeep};
-use site_core::Site;
+use site_core::SiteText;
 use sqlite::{FileStore, Files, Options};
 use sqlite_disk::{Crash, Disk};
 use std::alloc::Global;
-use text_core::Digest;
 use thiserror::Error;
 
 /// Why requests weren't answered.
@@ -46,13 +49,35 @@ pub struct Restarted<D: Disk> {
     pub keep: SqlKeep<FileStore<D>>,
 }
 
-/// Answers requests of a site's seats over the store in files, until these crash; opens what is left,
-/// and answers more requests over it.
+/// Answers requests of the seats of a text's site, one after another.
+fn replay_text<K: Keep>(
+    alloc: Global,
+    keep: &mut K,
+    site: &SiteText,
+    requests: &[SeatRequest],
+) -> Result<Vec<Reply>, Unkept>
+    requires { All (λ asked. IsSeatCaller site.now.site asked.caller) requests.now }
+    ensures site { IsSite site.now.site }
+    ensures was_honest { K.is_honest keep.new → K.is_honest keep.old }
+    ensures count { IfOk result (λ replies. length replies.items ≡ length requests.now) }
+    ensures apart { IfOk result (λ _. AreApart (owners_of site.now.site)) }
+    ensures seats { IfOk result (λ _.
+        AllByRecursion (IsSeat (owners_of site.now.site)) (calls_in site.now.site requests.now)) }
+    ensures run { IfOk result (λ replies.
+        KeepsPromises K.Keep (site.now.site ∷ []) keep.old keep.new
+        (exchanges_in site.now.site requests.now replies.items)) }
+{
+    replay(alloc, keep, site.site(), requests)
+}
+
+/// Answers requests of a site's seats over the store in files, until these crash; opens what is left
+/// for the site as it stands then, which may have grown, and answers more requests over it.
 ///
 /// Where the disks return what was written, what was answered before the crash is there after it, and
 /// so may be one step more, of a request that was answered 503 since the last one that wasn't. What was
 /// answered before, that step and what is answered after are one run: from tables that are sound for the
-/// site, or for one that it grew from, all is promised of it that is promised of a run without a crash.
+/// first site, or for one that it grew from, all is promised of it that is promised of a run without a
+/// crash.
 /// So a request that was cut off is there whole or not at all, and where it is sent again it acts once,
 /// and gets the reply of its one execution.
 ///
@@ -64,28 +89,29 @@ pub fn replay_through_crash<D: Crash + Drop>(
     alloc: Global,
     files: Files<D>,
     options: Options,
-    digest: &Digest,
-    site: &Site,
+    site: &SiteText,
     first: &[SeatRequest],
+    grown: &SiteText,
     second: &[SeatRequest],
 ) -> Result<Restarted<D>, Unserved>
     requires log { IsTrue (D.Disk.is_usable files.log) }
     requires db { IsTrue (D.Disk.is_usable files.db) }
-    requires first { All (λ asked. IsSeatCaller site.now asked.caller) first.now }
-    requires second { All (λ asked. IsSeatCaller site.now asked.caller) second.now }
+    requires first { All (λ asked. IsSeatCaller site.now.site asked.caller) first.now }
+    requires second { All (λ asked. IsSeatCaller grown.now.site asked.caller) second.now }
+    requires grown { IsGrowth site.now.site grown.now.site }
     ensures count { IfOk result (λ done. (length done.before.items ≡ length first.now)
         × (length done.after.items ≡ length second.now)) }
     ensures run { IfOk result (λ done. is_honest_at over_files done.keep.conn
-        → ∥ GoesOn D.Disk (owners_of site.now) files
-        (exchanges_in site.now first.now done.before.items)
-        (exchanges_in site.now second.now done.after.items) done.keep.conn ∥₁) }
+        → ∥ GoesOn D.Disk (owners_of site.now.site) (owners_of grown.now.site) files
+        (exchanges_in site.now.site first.now done.before.items)
+        (exchanges_in grown.now.site second.now done.after.items) done.keep.conn ∥₁) }
 {
-    let mut opened = open_files(alloc, files, options, digest)?;
-    let before = replay(alloc, &mut opened, site, first);
+    let mut opened = open_files(alloc, files, options, site)?;
+    let before = replay_text(alloc, &mut opened, site, first);
     let left = crash(opened);
     let before = before?;
-    let mut keep = open_files(alloc, left, options, digest)?;
-    match replay(alloc, &mut keep, site, second) {
+    let mut keep = open_files(alloc, left, options, grown)?;
+    match replay_text(alloc, &mut keep, grown, second) {
         Ok(after) => {
             stopped_stores_go_on::<SqlKeep<FileStore<D>>, SqlKeep<FileStore<D>>>();
             Ok(Restarted {

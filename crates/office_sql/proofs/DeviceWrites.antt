@@ -39,7 +39,7 @@ use Rattle.office_sql.proofs.DeviceReads.{device_total, passes_device}
 use Rattle.office_sql.proofs.Finding.{both_true, same_text, texts_tied, unkeyed}
 use Rattle.office_sql.proofs.Inserting.{IsInsert}
 use Rattle.office_sql.proofs.Keyed.{Apart}
-use Rattle.office_sql.proofs.Offices.{devices_changed}
+use Rattle.office_sql.proofs.Offices.{devices_changed, told_stays}
 use Rattle.office_sql.proofs.Replacing.{IsUpdate, IsSet, remade, sets}
 use Rattle.office_sql.proofs.Stepping.{cast_null, cast_int}
 use Rattle.office_sql.proofs.TableRows.{row_added}
@@ -130,7 +130,7 @@ device_added d old new office free adds =
     (subst (λ x. AllByRecursion (Apart device_cmp device_total x) (map device_in rows)) (sym is) (device_free d rows free.0)) in
     let changed = devices_changed old new office adds.schema adds.sound adds.others (subst (AreRows IsDeviceRow device_cmp device_in) (sym adds.row) it.0) (placed device_cmp d (sort_by device_cmp (map device_in rows)))
     (ap (λ l. sort_by device_cmp (map device_in l)) adds.row ∙ it.1 ∙ ap (λ x. placed device_cmp x (sort_by device_cmp (map device_in rows))) is) in
-    record { office = changed.0; made = changed.1; rows = adds; told = adds.others.0 (λ e. cc) }
+    record { office = changed.0; made = changed.1; rows = adds; told = told_stays 9 old.trees new.trees (λ e. cc) (λ e. cc) adds.others }
 
 -- the columns of the row that takes the place of another
 abbrev put_columns : Owned Device → Row → Row
@@ -177,6 +177,6 @@ device_put d old new count office ran one =
             office = changed.0;
             made = changed.1;
             rows = remade IsDeviceRow device_cmp device_in (is_device d.customer d.row.chip) 9 (put_columns d) (λ _. device_columns d) old.now new.now count it (put_same d it.was it.one.typed it.one.passed);
-            told = it.replaced.others.0 (λ e. cc);
+            told = told_stays 9 old.now.trees new.now.trees (λ e. cc) (λ e. cc) it.replaced.others;
           })
     ]

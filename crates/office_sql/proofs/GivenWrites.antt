@@ -31,12 +31,12 @@ use Rattle.office_tables.specs.declared.rows.Given.{Given}
 use Rattle.office_tables.specs.declared.rows.Write.TheVariants.{AddGiven}
 use Rattle.office_tables.specs.Tables.{IsFree, IsAddressFree, is_address, has_address, given_cmp, is_given as is_serial_of, placed}
 use Rattle.office_tables.proofs.Finding.{none_passes}
-use Rattle.office_sql.specs.Change.{Adds, Wrote}
+use Rattle.office_sql.specs.Change.{Adds, SameBut, Wrote}
 use Rattle.office_sql.specs.Joins.{over}
 use Rattle.office_sql.specs.Rows.{given_in, given_columns, starts_given, given_start_columns, with_given_start, joined_given}
 use Rattle.office_sql.specs.Scan.{is_given, passes}
 use Rattle.office_sql.specs.Schema.{given_table, given_start_table, office_schema}
-use Rattle.office_sql.specs.Tables.{AreRows, AreStarted, IsGivenRow, IsOffice, tables_in}
+use Rattle.office_sql.specs.Tables.{AreRows, AreStarted, IsGivenRow, IsOffice, tables_in, told_in}
 use Rattle.office_sql.specs.Values.{text_if, text_value, mac_if}
 use Rattle.office_sql.proofs.Finding.{both_true, texts_alike, same_bytes}
 use Rattle.office_sql.proofs.GivenReads.{shown, by_key, names, on_start, given_total, given_tied, kept_shown}
@@ -44,7 +44,7 @@ use Rattle.office_sql.proofs.Inserting.{IsInsert}
 use Rattle.office_sql.proofs.Kept.{found}
 use Rattle.office_sql.proofs.Keyed.{Apart}
 use Rattle.office_sql.proofs.Missing.{text_cast, text_back}
-use Rattle.office_sql.proofs.Offices.{given_grown}
+use Rattle.office_sql.proofs.Offices.{given_grown, told_stays}
 use Rattle.office_sql.proofs.Reading.{IsJoined}
 use Rattle.office_sql.proofs.Stepping.{cast_null}
 use Rattle.office_sql.proofs.StartedRows.{started_more}
@@ -154,6 +154,10 @@ with_text t g = record g { row = record g.row { not_before = t } }
 own_start : (g : Owned Given) (id : ℤ) → starts_given g (Int id ∷ given_start_columns g) ≡ true
 own_start g id = ap₂ ◌&&◌ (same_bytes g.row.issuer) (same_bytes g.row.serial)
 
+-- a record and its beginning leave what the database tells of itself
+told_after : (old mid new : Trees) → SameBut 11 old mid → SameBut 19 mid new → told_in new ≡ told_in old
+told_after old mid new adds starts = told_stays 19 mid new (λ e. cc) (λ e. cc) starts ∙ told_stays 11 old mid (λ e. cc) (λ e. cc) adds
+
 module _ (g : Owned Given) (address : option_and_then mac_of_text (option_map mac_text g.row.mac) ≡ g.row.mac) where
   given_back : (id own : ℤ) → with_text (text_if (column (Int own ∷ given_start_columns g) 3)) (given_in (Int id ∷ given_columns g)) ≡ g
   given_back id own i =
@@ -168,7 +172,6 @@ module _ (g : Owned Given) (address : option_and_then mac_of_text (option_map ma
       let new_row : Row = Int id ∷ given_columns g in
       let own = next_rowid (old.trees 19) in
       let own_row : Row = Int own ∷ given_start_columns g in
-      let meta : new.trees 0 ≡ old.trees 0 = starts.others.0 (λ e. cc) ∙ adds.others.0 (λ e. cc) in
       let beside : mid.trees 19 ≡ old.trees 19 = adds.others.1.1.1.1.1.1.1.1.1.0 (λ e. cc) in
       let others = all-permutation (λ y. is_serial_of g.row.issuer g.row.serial y ≡ false) _ _ (IsPermutation-sort_by given_cmp given_total (map given_in rows))
       (all_unmap (λ y. is_serial_of g.row.issuer g.row.serial y ≡ false) (with_given_start (old.trees 19)) _ (none_passes _ _ free.0)) in
@@ -180,4 +183,4 @@ module _ (g : Owned Given) (address : option_and_then mac_of_text (option_map ma
       let it = given_grown old new office starts.schema starts.sound mid.trees adds.others starts.others (subst (AreRows IsGivenRow given_cmp given_in) (sym adds.row) more.are)
       (subst₂ (AreStarted starts_given given_in) (sym adds.row) (sym after) more.started) _
       (ap₂ (λ l k. map (with_given_start k) (sort_by given_cmp (map given_in l))) adds.row after ∙ more.placed_is ∙ ap (λ x. placed given_cmp x (tables_in old.trees).given) (given_back id own)) in
-      record { office = it.0; made = (alone, it.1); rows = (mid, adds, starts); told = meta }
+      record { office = it.0; made = (alone, it.1); rows = (mid, adds, starts); told = told_after old.trees mid.trees new.trees adds.others starts.others }

@@ -27,7 +27,7 @@ use Rattle.office_sql.specs.Tables.{AreRows, IsLinkRow, IsOffice, tables_in}
 use Rattle.office_sql.proofs.Inserting.{IsInsert}
 use Rattle.office_sql.proofs.Keyed.{Apart}
 use Rattle.office_sql.proofs.LinkReads.{link_total}
-use Rattle.office_sql.proofs.Offices.{links_changed}
+use Rattle.office_sql.proofs.Offices.{links_changed, told_stays}
 use Rattle.office_sql.proofs.Stepping.{cast_null, cast_int}
 use Rattle.office_sql.proofs.TableRows.{row_added}
 
@@ -64,4 +64,4 @@ link_wrote l old new office free adds =
     let rows = old.trees 5 in
     let it = row_added IsLinkRow link_cmp link_total link_in (link_columns l) rows office.rows.links (refl, refl) (free_apart l rows free.0) in
     let now = links_changed old new office adds.schema adds.sound adds.others (subst (AreRows IsLinkRow link_cmp link_in) (sym adds.row) it.0) _ (ap (λ l. sort_by link_cmp (map link_in l)) adds.row ∙ it.1) in
-    record { office = now.0; made = now.1; rows = adds; told = adds.others.0 (λ e. cc) }
+    record { office = now.0; made = now.1; rows = adds; told = told_stays 5 old.trees new.trees (λ e. cc) (λ e. cc) adds.others }

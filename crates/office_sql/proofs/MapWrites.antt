@@ -31,7 +31,7 @@ use Rattle.office_sql.proofs.Inserting.{IsInsert}
 use Rattle.office_sql.proofs.Keyed.{Apart, apart_back, all_sorted}
 use Rattle.office_sql.proofs.MapReads.{map_total}
 use Rattle.office_sql.proofs.MapValues.{wholes_cmp}
-use Rattle.office_sql.proofs.Offices.{maps_changed}
+use Rattle.office_sql.proofs.Offices.{maps_changed, told_stays}
 use Rattle.office_sql.proofs.Stepping.{cast_null}
 use Rattle.office_sql.proofs.TableRows.{next_is_free, row_added}
 
@@ -113,5 +113,5 @@ map_wrote m id old mid new gains wrote =
       office = wrote.office;
       made = (id, gains.free, wrote.made ∙ ap (with_link link) gains.made);
       rows = (mid, id, gains.number, gains.row, wrote.rows);
-      told = wrote.told ∙ gains.row.others.0 (λ e. cc);
+      told = wrote.told ∙ told_stays 3 old.trees mid.trees (λ e. cc) (λ e. cc) gains.row.others;
     }

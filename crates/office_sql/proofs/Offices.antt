@@ -20,7 +20,7 @@ use Rattle.office_tables.specs.Tables.{seat_cmp, order_cmp, map_cmp, link_cmp, d
 use Rattle.office_sql.specs.Schema.{office_schema}
 use Rattle.office_sql.specs.Change.{SameBut}
 use Rattle.office_sql.specs.Rows.{seat_in, map_in, link_in, order_in, device_in, given_in, entry_in, starts_order, starts_given, with_order_start, with_given_start}
-use Rattle.office_sql.specs.Tables.{AreOfficeRows, AreRows, AreStarted, IsOffice, IsSeatRow, IsMapRow, IsLinkRow, IsOrderRow, IsDeviceRow, IsGivenRow, IsEntryRow, tables_in}
+use Rattle.office_sql.specs.Tables.{AreOfficeRows, AreRows, AreStarted, IsOffice, IsSeatRow, IsMapRow, IsLinkRow, IsOrderRow, IsDeviceRow, IsGivenRow, IsEntryRow, tables_in, told_in}
 
 -- the trees of the listed tables, and no other
 abbrev listed_of : List Table → Trees → Trees
@@ -59,6 +59,15 @@ pub along : (old new : Trees) → AllByRecursion (λ t. new t.tree ≡ old t.tre
 along old new agree holds =
     let same : listed new ≡ listed old = λ i n. same_listed office_schema.tables old new agree n i in
     (of_listed new (subst HoldsOffice (sym same) (to_listed old holds)), ap tables_in same)
+
+-- a change of another table leaves what the database tells of itself
+pub told_stays : (tree : ℕ) (old new : Trees) → 0 ≢ tree → 21 ≢ tree → SameBut tree old new → told_in new ≡ told_in old
+told_stays tree old new meta texts others =
+    ap₂ (λ first last. record { meta = first; texts = last }) (others.0 meta) (others.1.1.1.1.1.1.1.1.1.1.0 texts)
+
+-- and no change leaves it
+pub told_same : (old new : Trees) → AllByRecursion (λ t. new t.tree ≡ old t.tree) office_schema.tables → told_in new ≡ told_in old
+told_same old new agree = ap₂ (λ first last. record { meta = first; texts = last }) agree.0 agree.1.1.1.1.1.1.1.1.1.1.0
 
 pub held : (db : Database) → IsOffice db → HoldsOffice db.trees
 held db office = record { rows = office.rows; orders_started = office.orders_started; given_started = office.given_started }
@@ -99,6 +108,21 @@ module _ (old new : Database) (office : IsOffice old) (schema : new.schema ≡ o
       (all_both (λ (t : Table). t.tree ≢ tree → mid t.tree ≡ old.trees t.tree) (λ t. t.tree ≢ side → new.trees t.tree ≡ mid t.tree)
       (λ t. new.trees t.tree ≡ with_tree side (new.trees side) (with_tree tree (mid tree) old.trees) t.tree)
       (λ t f s. with_its_rows side mid new.trees t s ∙ ap (λ rows. cond (t.tree == side) (new.trees side) rows) (with_its_rows tree old.trees mid t f)) office_schema.tables first second)
+
+  -- what the database tells of itself is no part of the office: its row of meta, and the text of its site
+  pub meta_changed : SameBut 0 old.trees new.trees → IsOffice new × (tables_in new.trees ≡ tables_in old.trees)
+  meta_changed others = changed 0 others (record {
+    rows = record { seats = office.rows.seats; maps = office.rows.maps; links = office.rows.links; orders = office.rows.orders; devices = office.rows.devices; given = office.rows.given; ledger = office.rows.ledger };
+    orders_started = office.orders_started;
+    given_started = office.given_started;
+  })
+
+  pub text_changed : SameBut 21 old.trees new.trees → IsOffice new × (tables_in new.trees ≡ tables_in old.trees)
+  text_changed others = changed 21 others (record {
+    rows = record { seats = office.rows.seats; maps = office.rows.maps; links = office.rows.links; orders = office.rows.orders; devices = office.rows.devices; given = office.rows.given; ledger = office.rows.ledger };
+    orders_started = office.orders_started;
+    given_started = office.given_started;
+  })
 
   pub seats_changed : SameBut 1 old.trees new.trees → AreRows IsSeatRow seat_cmp seat_in (new.trees 1) → (l : List (Owned SeatState)) → sort_by seat_cmp (map seat_in (new.trees 1)) ≡ l
       → IsOffice new × (tables_in new.trees ≡ record (tables_in old.trees) { seats = l })

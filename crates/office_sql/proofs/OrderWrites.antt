@@ -28,14 +28,14 @@ use Rattle.office_sql.specs.Schema.{orders_table, order_start_table, office_sche
 use Rattle.office_sql.specs.Scan.{is_given}
 use Rattle.office_sql.specs.Values.{text_if, mac_if, mac_value, whole_value}
 use Rattle.office_sql.specs.Rows.{columns_with_cursor, order_in, order_columns, starts_order, order_start_columns, with_order_start}
-use Rattle.office_sql.specs.Tables.{AreRows, AreStarted, IsOffice, IsOrderRow, tables_in}
+use Rattle.office_sql.specs.Tables.{AreRows, AreStarted, IsOffice, IsOrderRow, tables_in, told_in}
 use Rattle.office_sql.specs.Change.{Adds, Wrote}
 use Rattle.office_sql.proofs.Finding.{find_none, only_found, both_true, texts_tied, texts_alike, same_bytes}
 use Rattle.office_sql.proofs.Inserting.{IsInsert}
 use Rattle.office_sql.proofs.Keyed.{Apart}
 use Rattle.office_sql.proofs.ColumnKinds.{AreOf, are_of, text_stays, number_stays}
 use Rattle.office_sql.proofs.Missing.{text_cast, text_back, text_typed}
-use Rattle.office_sql.proofs.Offices.{orders_changed, orders_grown}
+use Rattle.office_sql.proofs.Offices.{orders_changed, orders_grown, told_stays}
 use Rattle.office_sql.proofs.OrderReads.{order_total, order_tied, passes_order}
 use Rattle.office_sql.proofs.Replacing.{IsUpdate, IsSet, SetsOne, remade, sets}
 use Rattle.office_sql.proofs.Stepping.{cast_null, cast_int}
@@ -81,7 +81,7 @@ order_added o back old mid new office none adds starts =
     let rows = old.trees 7 in
     let id = next_rowid rows in
     let new_row : Row = Int id ∷ order_columns o in
-    let meta : new.trees 0 ≡ old.trees 0 = starts.others.0 (λ e. cc) ∙ adds.others.0 (λ e. cc) in
+    let told : told_in new.trees ≡ told_in old.trees = told_stays 17 mid.trees new.trees (λ e. cc) (λ e. cc) starts.others ∙ told_stays 7 old.trees mid.trees (λ e. cc) (λ e. cc) adds.others in
     let beside : mid.trees 17 ≡ old.trees 17 = adds.others.1.1.1.1.1.1.1.1.0 (λ e. cc) in
     let unkeyed = all-permutation (λ y. is_order o.customer o.row.name y ≡ false) _ _ (IsPermutation-sort_by order_cmp order_total (map order_in rows))
     (all_unmap (λ y. is_order o.customer o.row.name y ≡ false) (with_order_start (old.trees 17)) _ (find_none _ _ none)) in
@@ -95,7 +95,7 @@ order_added o back old mid new office none adds starts =
     let it = orders_grown old new office starts.schema starts.sound mid.trees adds.others starts.others (subst (AreRows IsOrderRow order_cmp order_in) (sym adds.row) more.are)
     (subst₂ (AreStarted starts_order order_in) (sym adds.row) (sym after) more.started) _
     (ap₂ (λ l k. map (with_order_start k) (sort_by order_cmp (map order_in l))) adds.row after ∙ more.placed_is ∙ ap (λ x. placed order_cmp x (tables_in old.trees).orders) is) in
-    record { office = it.0; made = it.1; rows = (mid, adds, starts); told = meta }
+    record { office = it.0; made = it.1; rows = (mid, adds, starts); told = told }
 
 -- ---- its beginning of validity
 
@@ -196,5 +196,5 @@ module _ (c : Owned Cursor) where
             office = it.0;
             made = it.1 ∙ sym (ap (λ o. with_cursor_of o c.row.number (tables_in old.now.trees)) found);
             rows = remade IsOrderRow order_cmp order_in is_its 7 set_columns set_columns old.now new.now count one refl;
-            told = one.replaced.others.0 (λ e. cc);
+            told = told_stays 7 old.now.trees new.now.trees (λ e. cc) (λ e. cc) one.replaced.others;
           }

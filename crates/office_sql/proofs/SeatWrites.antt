@@ -31,7 +31,7 @@ use Rattle.office_sql.specs.Seats.{LacksSeat}
 use Rattle.office_sql.proofs.Finding.{unkeyed, unfound, same_text, texts_tied}
 use Rattle.office_sql.proofs.Inserting.{IsInsert}
 use Rattle.office_sql.proofs.Keyed.{Apart}
-use Rattle.office_sql.proofs.Offices.{office_stays, seats_changed}
+use Rattle.office_sql.proofs.Offices.{office_stays, seats_changed, told_same, told_stays}
 use Rattle.office_sql.proofs.Replacing.{IsUpdate, IsSet, SetsNone, SetsOne, remade, sets}
 use Rattle.office_sql.proofs.SeatReads.{seat_total, passes_seat}
 use Rattle.office_sql.proofs.Stepping.{cast_null, cast_int}
@@ -96,7 +96,7 @@ module _ (s : Owned SeatState) where
             office = it.0;
             made = it.1;
             rows = inr (remade IsSeatRow seat_cmp seat_in (is_seat s.row.name) 1 set_columns (λ _. seat_columns s) old.now new.now count one columns);
-            told = one.replaced.others.0 (λ e. cc);
+            told = told_stays 1 old.now.trees new.now.trees (λ e. cc) (λ e. cc) one.replaced.others;
           }
 
   -- a seat that had no row has one
@@ -106,7 +106,7 @@ module _ (s : Owned SeatState) where
       let apart = all_weaker _ (Apart seat_cmp seat_total s) (λ y e. is_eq-slice_cmp s.row.name y.row.name ∙ e) (map seat_in rows) (unkeyed seat_cmp seat_total (is_seat s.row.name) (map seat_in rows) none) in
       let made = row_added IsSeatRow seat_cmp seat_total seat_in (seat_columns s) rows office.rows.seats refl apart in
       let it = seats_changed old new office adds.schema adds.sound adds.others (subst (AreRows IsSeatRow seat_cmp seat_in) (sym adds.row) made.0) _ (ap (λ l. sort_by seat_cmp (map seat_in l)) adds.row ∙ made.1) in
-      record { office = it.0; made = it.1; rows = inl adds; told = adds.others.0 (λ e. cc) }
+      record { office = it.0; made = it.1; rows = inl adds; told = told_stays 1 old.trees new.trees (λ e. cc) (λ e. cc) adds.others }
 
   same_others : (old mid new : Database) → Stays old mid → SameBut 1 mid.trees new.trees → SameBut 1 old.trees new.trees
   same_others old mid new stays others =
@@ -139,5 +139,5 @@ module _ (s : Owned SeatState) where
     office = wrote.office;
     made = subst (λ t. Writes (PutSeat s) t (tables_in new.trees)) lacks.same wrote.made;
     rows = same_rows old mid new lacks.stays wrote.rows;
-    told = wrote.told ∙ lacks.stays.tables.0;
+    told = wrote.told ∙ told_same old.trees mid.trees lacks.stays.tables;
   }

@@ -27,9 +27,14 @@ tables_in db = record {
   ledger = sort_by entry_cmp (map entry_in (db 15));
 }
 
--- what the database tells of itself, which no write changes: the rows of meta
-abbrev pub told_in : Trees → List Row
-told_in db = db 0
+-- what a database tells of itself: the rows of meta, and those of its site's text
+pub record Told : Type 0 where
+  pub meta : List Row
+  pub texts : List Row
+
+-- what the database tells of itself, which no write changes
+abbrev pub told_in : Trees → Told
+told_in db = record { meta = db 0; texts = db 21 }
 
 -- a column is a text, bytes, or a number that isn't below zero
 abbrev pub IsText : ℕ → Row → Type 0

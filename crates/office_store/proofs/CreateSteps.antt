@@ -7,7 +7,7 @@ use Rattle.sqlite.specs.Command.TheVariants.{CreateTable}
 use Rattle.sqlite.specs.Compile.{table_defined_by}
 use Rattle.sqlite.specs.Change.{created}
 use Rattle.sqlite.specs.Does.{lacks_sequence}
-use Rattle.sqlite.specs.Effect.{Database}
+use Rattle.sqlite.specs.Effect.{Database, IsDatabase}
 use Rattle.sqlite.specs.Listing.{understood}
 use Rattle.sqlite.specs.Store.{Ghosts}
 use Rattle.sqlite.specs.Held.{Held, state}
@@ -17,7 +17,7 @@ use Rattle.sqlite_trees.proofs.ListLemmas.{all-append, all_both}
 use Rattle.office_sql.specs.Asking.{Changes}
 use Rattle.office_sql.specs.Change.{Makes}
 use Rattle.office_store.specs.Meta.{HasRun, IsNew}
-use Rattle.office_store.proofs.Creates.{makes}
+use Rattle.office_store.proofs.Creates.{makes, makes_sound}
 
 -- what the text of a CREATE TABLE means, and the schema after it
 pub record IsCreate (text : List ℕ) (schema : Schema) (table : Table) (next : Schema) : Type 0 where
@@ -40,16 +40,19 @@ grown schema next table old new is made h = record {
 abbrev Runs : {S A E : Type 0} → Ghosts S → List ℕ → Held S → Held S → Result A E → Type 0
 Runs g text old new r = HasCleanDisk (state g new) → OnOk r (HasRun text (state g old) (state g new))
 
--- it makes the table
-abbrev MakesIn : Schema → Table → Database → Database → Type 0
-MakesIn schema table x y = x.schema ≡ schema → Makes schema (record table { tree = 0 }) x y
+-- it makes the table, and leaves a database
+abbrev pub MakesIn : Schema → Table → Database → Database → Type 0
+MakesIn schema table x y = x.schema ≡ schema → IsDatabase y × Makes schema (record table { tree = 0 }) x y
 
 pub creates_table : {S A E : Type 0} (g : Ghosts S) (text : List ℕ) (schema next : Schema) (table : Table) → IsCreate text schema table next → (old new : Held S) (r : Result A E)
     → (P : Database → Database → A → Type 0) → Changes g old new r P → Runs g text old new r → Changes g old new r (λ x y _. MakesIn schema table x y)
 creates_table {S} {A} {E} g text schema next table it old new r P ch runs = record { says = λ clean. said r (runs clean); inside = ch.inside; kept = ch.kept; crash = ch.crash }
   where
     said : (r : Result A E) → OnOk r (HasRun text (state g old) (state g new)) → IfOk r (λ _. MakesIn schema table (state g old).now (state g new).now)
-    said (Ok a) h = λ was. makes text (state g old) (state g new) schema table h.0 was it.command it.statement it.plain it.defined it.uncounted h.1
+    said (Ok a) h = λ was. (
+      makes_sound text (state g old) (state g new) schema h.0 was it.command it.plain h.1,
+      makes text (state g old) (state g new) schema table h.0 was it.command it.statement it.plain it.defined it.uncounted h.1,
+    )
     said (Err e) h = tt
 
 -- and so grows a database with no row
@@ -61,5 +64,5 @@ creates {S} {A} {E} g text schema next table it old new r P ch runs = record { s
     made = creates_table g text schema next table it old new r P ch runs
 
     said : (r : Result A E) → IfOk r (λ _. MakesIn schema table (state g old).now (state g new).now) → IfOk r (λ _. IsNew schema (state g old).now → IsNew next (state g new).now)
-    said (Ok a) h = λ was. grown schema next _ _ _ it.is (h was.is) was
+    said (Ok a) h = λ was. grown schema next _ _ _ it.is (h was.is).1 was
     said (Err e) h = tt

@@ -6,7 +6,7 @@ use Rattle.sqlite.specs.Command.TheVariants.{CreateTable}
 use Rattle.sqlite.specs.Compile.{table_defined_by}
 use Rattle.sqlite.specs.Change.{created, next_tree, KeepsRows}
 use Rattle.sqlite.specs.Does.{Tally, lacks_sequence}
-use Rattle.sqlite.specs.Effect.{Database}
+use Rattle.sqlite.specs.Effect.{Database, IsDatabase}
 use Rattle.sqlite.specs.Listing.{understood}
 use Rattle.sqlite.specs.State.{State, Writes, Executes}
 use Rattle.sqlite.proofs.Callers.{IsPlain, command_of, statement_of, runs_as}
@@ -32,3 +32,9 @@ makes sql old new schema table count has command statement plain defined uncount
       empty = ap (λ (d : Database). d.trees (next_tree schema)) now ∙ subst (λ s. first.0.trees (next_tree s) ≡ []) has made.empty;
       others = subst (λ (d : Database). KeepsRows schema.tables old.now.trees d.trees) (sym now) (subst (λ s. KeepsRows s.tables old.now.trees first.0.trees) has made.others);
     }
+
+-- and it leaves a database
+pub makes_sound : (sql : List ℕ) (old new : State) (schema : Schema) (count : ℕ) → old.now.schema ≡ schema
+    → command_of (understood schema sql) ≡ CreateTable → IsPlain (understood schema sql)
+    → Executes sql [] old new (Ok count) → IsDatabase new.now
+makes_sound sql old new schema count has command plain h = (runs_as sql [] old new schema has CreateTable command plain count h).sound

@@ -1,5 +1,5 @@
 -- From what `query_all` promises to what the tests of a found file do.
-use Rattle.std.proofs.Common.{◌≡◌, sym, ap, refl, ℕ, List, [], false, subst, inl, inr, ◌∙◌, Result, Ok, Err, IfOk, IfErr, OnOk, IsTrue}
+use Rattle.std.proofs.Common.{◌≡◌, ◌≢◌, sym, ap, refl, ℕ, List, [], false, subst, inl, inr, ◌∙◌, Result, Ok, Err, IfOk, IfErr, OnOk, IsTrue}
 use Rattle.std.proofs.lemmas.Result.{IfOk-weaker}
 use Rattle.std.specs.Prelude.{Vec}
 use Rattle.std.specs.declared.alloc.Global.{Global}
@@ -15,7 +15,8 @@ use Rattle.office_sql.specs.Change.{Rests}
 use Rattle.sqlite.specs.Query.{Query, IsAnswer}
 use Rattle.sqlite.specs.Schema.{Schema}
 use Rattle.office_store.specs.declared.version.Version.{Version}
-use Rattle.office_store.specs.Found.{IsFound, Tests}
+use Rattle.office_store.specs.declared.version.Version.TheVariants.{First}
+use Rattle.office_store.specs.Found.{IsFound, IsFoundLater, Tests}
 use Rattle.office_store.specs.Versions.{schema_of}
 use Rattle.office_sql.proofs.Asked.{was_clean, leaves, shown_open, query_rests}
 use Rattle.office_sql.proofs.Bare.{IsBare, bare_commits_nothing}
@@ -29,6 +30,11 @@ use Rattle.sqlite.specs.declared.types.Value.TheVariants.{Null}
 pub of_a_version : (text : List ℕ) (body : Query) → ((version : Version) → IsReadAs (schema_of version) text body)
     → (schema : Schema) → (version : Version) × (schema ≡ schema_of version) → IsReadAs schema text body
 of_a_version text body read schema it = subst (λ s. IsReadAs s text body) (sym it.1) (read it.0)
+
+-- under that of each in which beginnings of validity are told
+pub of_a_later : (text : List ℕ) (body : Query) → ((version : Version) → version ≢ First → IsReadAs (schema_of version) text body)
+    → (schema : Schema) → (version : Version) × (version ≢ First) × (schema ≡ schema_of version) → IsReadAs schema text body
+of_a_later text body read schema it = subst (λ s. IsReadAs s text body) (sym it.2) (read it.0 it.1)
 
 -- and under one schema
 pub read_under : (text : List ℕ) (body : Query) (of : Schema) → IsReadAs of text body → (schema : Schema) → schema ≡ of → IsReadAs schema text body
@@ -106,3 +112,7 @@ still_known same it = (it.0, ap (λ (d : Database). d.schema) same.0.now_is ∙ 
 -- and so is what was found
 pub still_found : {old new : State} (version : Version) → IsUnchanged old new → IsFound version old.now → IsFound version new.now
 still_found version same it = subst (IsFound version) (sym same.0.now_is) it
+
+-- in a version in which beginnings of validity are told
+pub still_later : {old new : State} → IsUnchanged old new → IsFoundLater old.now → IsFoundLater new.now
+still_later same it = subst IsFoundLater (sym same.0.now_is) it

@@ -18,16 +18,15 @@ use Rattle.sqlite_store.specs.Listing.{all_shapes, all_reals, file_trees, IsOurs
 use Rattle.sqlite_store.specs.Listed.{catalog_rows, is_listed}
 use Rattle.sqlite_store.proofs.ListingLemmas.{all_ordered}
 use Rattle.sqlite_catalog.specs.Listing.{IsSound}
-use Rattle.office_tables.specs.Tables.{no_rows}
 use Rattle.office_sql.specs.Schema.{no_schema}
 use Rattle.office_sql.specs.Rows.{order_in, given_in, starts_order, starts_given}
-use Rattle.office_sql.specs.Tables.{AreOfficeRows, tables_in}
 use Rattle.office_store.specs.declared.version.Version.{Version}
-use Rattle.office_store.specs.declared.version.Version.TheVariants.{First, Second}
+use Rattle.office_store.specs.declared.version.Version.TheVariants.{First, Second, Third}
 use Rattle.office_store.specs.Versions.{schema_of}
 use Rattle.office_store.specs.Adopting.{CanSettle}
-use Rattle.office_store.specs.Found.{AreStartsFound, HasWhole, IsFound}
-use Rattle.office_store.proofs.FoundNothing.{no_office_rows, no_rows_in, no_starts, nothing_found}
+use Rattle.office_store.specs.Found.{AreAllStarted, AreStartsFound, HasWhole, IsFound}
+use Rattle.office_store.specs.Meta.{HasNothing}
+use Rattle.office_store.proofs.FoundNothing.{no_office_rows, no_starts, nothing_found, has_nothing}
 use Rattle.office_store.proofs.FoundVersion.{over, version_found}
 
 -- the trees have the shapes that their list gives
@@ -43,34 +42,36 @@ file_order size wanted pages ours = (
 )
 
 -- ---- an empty database
+none_started : (db : Trees) → IsEmpty db → AreAllStarted db
+none_started db none = record {
+  orders = no_starts starts_order order_in (db 7) (db 17) (none.0 7 (omega arith)) (none.0 17 (omega arith));
+  given = no_starts starts_given given_in (db 11) (db 19) (none.0 11 (omega arith)) (none.0 19 (omega arith));
+}
+
 empty_found : (version : Version) (db : Trees) → IsSound (schema_of version) db → IsEmpty db → IsFound version (over version db)
 empty_found version db sound none =
     let at = λ (t : ℕ) (low : t < 2 ^ 32). none.0 t low in
     let rows = no_office_rows db (at 1 (omega arith)) (at 3 (omega arith)) (at 5 (omega arith)) (at 7 (omega arith)) (at 9 (omega arith)) (at 11 (omega arith)) (at 15 (omega arith)) in
-    record { schema = refl; sound = sound; rows = rows; starts = starts version sound rows }
+    record { schema = refl; sound = sound; rows = rows; starts = starts version }
   where
-    starts : (version : Version) → IsSound (schema_of version) db → AreOfficeRows db → AreStartsFound version (over version db)
-    starts First sound rows = (none.0 17 (omega arith), none.0 19 (omega arith))
-    starts Second sound rows = λ _. record {
-      schema = refl;
-      sound = sound;
-      rows = rows;
-      orders_started = no_starts starts_order order_in (db 7) (db 17) (none.0 7 (omega arith)) (none.0 17 (omega arith));
-      given_started = no_starts starts_given given_in (db 11) (db 19) (none.0 11 (omega arith)) (none.0 19 (omega arith));
-    }
+    starts : (version : Version) → AreStartsFound version (over version db)
+    starts First = (none.0 17 (omega arith), none.0 19 (omega arith))
+    starts Second = λ _. none_started db none
+    starts Third = λ _. none_started db none
 
-empty_tables : (db : Trees) → IsEmpty db → tables_in db ≡ no_rows
-empty_tables db none =
-    no_rows_in db (none.0 1 (omega arith)) (none.0 3 (omega arith)) (none.0 5 (omega arith)) (none.0 7 (omega arith)) (none.0 9 (omega arith)) (none.0 11 (omega arith)) (none.0 15 (omega arith))
+empty_nothing : (db : Trees) → IsEmpty db → HasNothing db
+empty_nothing db none =
+    has_nothing db (none.0 0 (omega arith)) (none.0 1 (omega arith)) (none.0 3 (omega arith)) (none.0 5 (omega arith))
+    (none.0 7 (omega arith)) (none.0 9 (omega arith)) (none.0 11 (omega arith)) (none.0 15 (omega arith))
 
 -- ---- what the files held
 version_in : (image : Image) (version : Version) (db : Trees) → AreFoundIn image db → IsSound (schema_of version) db → HasWhole db → IsFound version (over version db)
 version_in image version db (inl h) sound whole = let it = subst AreInOrder (sym h.5) (file_order h.0 h.2 h.1 h.4) in version_found version it.0 it.1 db sound it.2 it.3 whole
 version_in image version db (inr h) sound whole = empty_found version db sound h.1
 
-nothing_in : (image : Image) (db : Trees) → AreFoundIn image db → IsSound no_schema db → tables_in db ≡ no_rows
+nothing_in : (image : Image) (db : Trees) → AreFoundIn image db → IsSound no_schema db → HasNothing db
 nothing_in image db (inl h) sound = let it = subst AreInOrder (sym h.5) (file_order h.0 h.2 h.1 h.4) in nothing_found it.0 it.1 db it.2 it.3 sound
-nothing_in image db (inr h) sound = empty_tables db h.1
+nothing_in image db (inr h) sound = empty_nothing db h.1
 
 -- a store in files that was opened can be settled
 pub can_settle : (image : Image) (s : State) → s.in_transaction ≡ false → (HasCleanDisk s → Opens s × IsLive s) → (HasCleanDisk s → FindsIn image s) → CanSettle s

@@ -1,5 +1,5 @@
--- A database without tables has no rows, and of the first version no starts.
-use Rattle.std.proofs.Common.{◌≡◌, ℕ, ◌≢◌, ◌==◌, Bool, true, false, true≢false, List, [], map, refl, subst, sym, ◌∙◌, inl, inr, Ordering, arith}
+-- A database without tables has nothing, and of the first version no starts.
+use Rattle.std.proofs.Common.{◌≡◌, ℕ, ◌≢◌, ◌==◌, Bool, true, false, true≢false, List, [], map, refl, ap, subst, sym, ◌∙◌, inl, inr, Ordering, arith}
 use Rattle.std.specs.List.{list_any}
 use Rattle.sqlite.specs.Order.{Row}
 use Rattle.sqlite.specs.Tree.{Trees}
@@ -20,6 +20,7 @@ use Rattle.sqlite_rules.proofs.ListLemmas.{some_from}
 use Rattle.office_sql.specs.Rows.{seat_in, map_in, link_in, order_in, device_in, given_in, entry_in, with_order_start, with_given_start}
 use Rattle.office_sql.specs.Tables.{AreOfficeRows, AreRows, AreStarted, tables_in}
 use Rattle.office_store.specs.declared.version.Version.TheVariants.{First}
+use Rattle.office_store.specs.Meta.{meta_in, HasNothing}
 use Rattle.office_store.specs.Versions.{schema_of}
 
 no_row : {A : Type 0} (Typed : Row → Type 0) (cmp : A → A → Ordering) (value : Row → A) (rows : List Row) → rows ≡ [] → AreRows Typed cmp value rows
@@ -49,7 +50,14 @@ no_rows_in db seats maps links orders devices given ledger = λ i. record {
   ledger = sort_by entry_cmp (map entry_in (ledger i));
 }
 
--- and neither has starts that lack
+-- and with no row of meta they have nothing
+pub has_nothing : (db : Trees) → db 0 ≡ [] → db 1 ≡ [] → db 3 ≡ [] → db 5 ≡ [] → db 7 ≡ [] → db 9 ≡ [] → db 11 ≡ [] → db 15 ≡ [] → HasNothing db
+has_nothing db meta seats maps links orders devices given ledger = record {
+  tables = no_rows_in db seats maps links orders devices given ledger;
+  silent = ap (map meta_in) meta;
+}
+
+-- trees without rows have no starts that lack
 pub no_starts : {A : Type 0} (is_for : A → Row → Bool) (value : Row → A) (rows starts : List Row) → rows ≡ [] → starts ≡ [] → AreStarted is_for value rows starts
 no_starts is_for value rows starts no_row none =
     subst (λ l. AreStarted is_for value l starts) (sym no_row) (subst (AreStarted is_for value []) (sym none) (record { rising = tt; numbered = tt; typed = tt; one = tt; for_one = tt }))
@@ -73,12 +81,12 @@ module _ (schema : Schema) (shapes : ℕ → Shape) (reals : ℕ → ℕ) (trees
       itself n e = grind arith
 
 module _ (shapes : ℕ → Shape) (reals : ℕ → ℕ) (trees : Trees) (listed : IsListed (trees catalog_tree) shapes reals) (ordered : IsOrdered shapes trees) where
-  -- trees of which none is listed have no rows
-  pub nothing_found : IsSound no_schema trees → tables_in trees ≡ no_rows
+  -- trees of which none is listed have nothing
+  pub nothing_found : IsSound no_schema trees → HasNothing trees
   nothing_found sound =
       let none : (t : ℕ) → t ≢ catalog_tree → t ≢ version_tree → trees t ≡ [] = λ t other apart. empty_at no_schema shapes reals trees sound listed ordered t other apart refl refl refl in
-      no_rows_in trees (none 1 (λ e. cc) (λ e. cc)) (none 3 (λ e. cc) (λ e. cc)) (none 5 (λ e. cc) (λ e. cc)) (none 7 (λ e. cc) (λ e. cc))
-      (none 9 (λ e. cc) (λ e. cc)) (none 11 (λ e. cc) (λ e. cc)) (none 15 (λ e. cc) (λ e. cc))
+      has_nothing trees (none 0 (λ e. cc) (λ e. cc)) (none 1 (λ e. cc) (λ e. cc)) (none 3 (λ e. cc) (λ e. cc)) (none 5 (λ e. cc) (λ e. cc))
+      (none 7 (λ e. cc) (λ e. cc)) (none 9 (λ e. cc) (λ e. cc)) (none 11 (λ e. cc) (λ e. cc)) (none 15 (λ e. cc) (λ e. cc))
 
   -- and the first version lists no starts
   pub no_starts_found : IsSound (schema_of First) trees → (trees 17 ≡ []) × (trees 19 ≡ [])

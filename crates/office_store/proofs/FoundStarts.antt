@@ -1,16 +1,20 @@
--- The starts of a sound database whose trees are in order: each is one of an order or a record, and where none of these lacks one, each has exactly one.
-use Rattle.std.proofs.Common.{◌≡◌, ℕ, List, [], ◌∷◌, ◌&&◌, ◌||◌, codes, map, filter, find, drop, Bool, true, false, Some, refl, sym, ap, subst, ◌∙◌, inl, inr, Ordering, is_eq, true≢false, slice_get}
+-- The starts of a sound database of a schema that begins with the second version's tables, whose trees are in order: each is
+-- one of an order or a record, and where none of these lacks one, each has exactly one.
+use Rattle.std.proofs.Common.{◌≡◌, ◌≢◌, ℕ, List, [], ◌∷◌, ◌&&◌, ◌||◌, codes, map, filter, find, Bool, true, false, Some, refl, sym, ap, subst, ◌∙◌, inl, inr, Ordering, is_eq, true≢false, slice_get}
 use Rattle.std.specs.Prelude.{is_some}
 use Rattle.std.specs.List.{AllByRecursion}
 use Rattle.sqlite.specs.declared.types.Value.TheVariants.{Null, Text as Words}
 use Rattle.sqlite.specs.Order.{Row, column}
 use Rattle.sqlite.specs.Tree.{Trees, IsAscending}
+use Rattle.sqlite.specs.Effect.{Database}
 use Rattle.sqlite.specs.View.{IsOrdered}
 use Rattle.sqlite_trees.specs.declared.store.Shape.{Shape}
 use Rattle.sqlite_trees.specs.Objects.{catalog_tree, IsListed}
 use Rattle.sqlite_catalog.specs.Listing.{IsSound}
 use Rattle.sqlite_schema.specs.declared.schema.Constraint.TheVariants.{ForeignKey, Unique}
+use Rattle.sqlite_schema.specs.declared.schema.Index.{Index}
 use Rattle.sqlite_schema.specs.declared.schema.Reference.{Reference}
+use Rattle.sqlite_schema.specs.declared.schema.Table.{Table}
 use Rattle.sqlite_schema.specs.Names.{same_name}
 use Rattle.sqlite_schema.specs.Rules.{agree, clashes, has_null, is_held, parent_key}
 use Rattle.sqlite_value.specs.Keys.{plain, joined}
@@ -20,13 +24,15 @@ use Rattle.sqlite_keyed.proofs.ListLemmas.{slice_get-filter, ascending_from_map}
 use Rattle.sqlite_trees.proofs.ListLemmas.{all_weaker, all_both, ascending-filter}
 use Rattle.office_tables.specs.Tables.{order_cmp, given_cmp}
 use Rattle.office_sql.specs.Rows.{order_in, given_in, starts_order, starts_given}
-use Rattle.office_sql.specs.Schema.{office_schema, order_start_table, given_start_table, to}
+use Rattle.office_sql.specs.Schema.{order_start_table, given_start_table, index_at, to}
 use Rattle.office_sql.specs.Tables.{AreKeyed, AreOfficeRows, AreRows, AreStarted, HasOne, IsGivenRow, IsOffice, IsOrderRow, IsStartRow, IsText}
 use Rattle.office_sql.proofs.Values.{and_true}
 use Rattle.office_sql.proofs.OrderReads.{order_tied}
 use Rattle.office_sql.proofs.GivenReads.{given_tied}
-use Rattle.office_store.specs.Found.{HasStarts, HaveStarts}
-use Rattle.office_store.proofs.FoundLacks.{order_starts_typed, given_starts_typed}
+use Rattle.office_store.specs.declared.version.Version.{Version}
+use Rattle.office_store.specs.declared.version.Version.TheVariants.{First, Second, Third}
+use Rattle.office_store.specs.Found.{AreAllStarted, HasStarts, HaveStarts, IsFound}
+use Rattle.office_store.proofs.FoundLacks.{started, order_starts_typed, given_starts_typed}
 use Rattle.office_store.proofs.FoundOffice.{shaped}
 use Rattle.office_store.proofs.FoundRows.{both_true, not_true, texts_tie, then_ties, last_ties, rows_found}
 use Rattle.office_store.proofs.StartKeys.{agrees_its, any_found, is_its, its_twice}
@@ -68,10 +74,10 @@ there : (s : Row) → IsStartRow s → has_null (1 ∷ 2 ∷ []) s ≡ false
 there s f = rw (f.0, f.1) refl
 
 -- a reference to the first two columns of a tree, where these are texts
-parented : (db : Trees) (tree : ℕ) (ref : Reference) → parent_key office_schema.tables ref ≡ Some (tree, 1 ∷ 2 ∷ [], plain)
+parented : (tables : List Table) (db : Trees) (tree : ℕ) (ref : Reference) → parent_key tables ref ≡ Some (tree, 1 ∷ 2 ∷ [], plain)
     → AllByRecursion (λ r. IsText 1 r × IsText 2 r) (db tree) → (s : Row) → IsStartRow s
-    → ((has_null (1 ∷ 2 ∷ []) s || is_held db (1 ∷ 2 ∷ []) s (parent_key office_schema.tables ref)) && true) ≡ true → is_some (find (λ r. is_its r s) (db tree)) ≡ true
-parented db tree ref pointed typed s f h =
+    → ((has_null (1 ∷ 2 ∷ []) s || is_held db (1 ∷ 2 ∷ []) s (parent_key tables ref)) && true) ≡ true → is_some (find (λ r. is_its r s) (db tree)) ≡ true
+parented tables db tree ref pointed typed s f h =
     let held : is_held db (1 ∷ 2 ∷ []) s (Some (tree, 1 ∷ 2 ∷ [], plain)) ≡ true =
     ap (λ b. b || is_held db (1 ∷ 2 ∷ []) s (Some (tree, 1 ∷ 2 ∷ [], plain))) (sym (there s f))
     ∙ ap (λ k. has_null (1 ∷ 2 ∷ []) s || is_held db (1 ∷ 2 ∷ []) s k) (sym pointed) ∙ sym (and_true _) ∙ h in
@@ -83,29 +89,34 @@ to_orders = to (1 ∷ 2 ∷ []) (codes "orders") (codes "customer" ∷ codes "na
 abbrev to_given : Reference
 to_given = to (1 ∷ 2 ∷ []) (codes "given") (codes "issuer" ∷ codes "serial" ∷ [])
 
-orders_pointed : parent_key office_schema.tables to_orders ≡ Some (7, 1 ∷ 2 ∷ [], plain)
+orders_pointed : (more : List Table) → parent_key (started more).tables to_orders ≡ Some (7, 1 ∷ 2 ∷ [], plain)
 unfolding same_name joined
-orders_pointed = refl
+orders_pointed more = refl
 
-given_pointed : parent_key office_schema.tables to_given ≡ Some (11, 1 ∷ 2 ∷ [], plain)
+given_pointed : (more : List Table) → parent_key (started more).tables to_given ≡ Some (11, 1 ∷ 2 ∷ [], plain)
 unfolding same_name joined
-given_pointed = refl
+given_pointed more = refl
 
 -- ---- the tables of a found database
+
+-- the indexes of the starts' keys
+abbrev later_indexes : List Index
+later_indexes = index_at 18 (codes "sqlite_autoindex_order_start_1") 17 (1 ∷ 2 ∷ []) ∷ index_at 20 (codes "sqlite_autoindex_given_start_1") 19 (1 ∷ 2 ∷ []) ∷ []
 
 -- a row with these two columns
 abbrev key_of : List ℕ → List ℕ → Row
 key_of first second = Null ∷ Words first ∷ Words second ∷ []
 
-module _ (shapes : ℕ → Shape) (reals : ℕ → ℕ) (trees : Trees)
-    (sound : IsSound office_schema trees) (listed : IsListed (trees catalog_tree) shapes reals) (ordered : IsOrdered shapes trees) (rows : AreOfficeRows trees) where
+module _ (more : List Table) (shapes : ℕ → Shape) (reals : ℕ → ℕ) (trees : Trees)
+    (sound : IsSound (started more) trees) (listed : IsListed (trees catalog_tree) shapes reals) (ordered : IsOrdered shapes trees)
+    (rows : AreOfficeRows trees) where
   order_starts : AreRows IsStartRow order_cmp order_in (trees 17)
   order_starts =
       let starts = trees 17 in
       rows_found (1 ∷ 2 ∷ []) IsStartRow order_cmp order_in
       (λ a b e f. then_ties _ _ _ _ (texts_tie (column a 1) (column b 1) e.0 f.0) (last_ties _ _ (texts_tie (column a 2) (column b 2) e.1 f.1)))
-      starts (shaped (drop 8 office_schema.tables) (drop 9 office_schema.indexes) shapes reals trees sound listed ordered
-      order_start_table (inr (inr (inr (inr (inr (inr (inr (inr (inl refl)))))))))) (order_starts_typed trees sound)
+      starts (shaped (order_start_table ∷ given_start_table ∷ more) later_indexes shapes reals trees sound listed ordered
+      order_start_table (inr (inr (inr (inr (inr (inr (inr (inr (inl refl)))))))))) (order_starts_typed more trees sound)
       (all_weaker _ (λ r. clashes plain (1 ∷ 2 ∷ []) starts r ≡ false) (λ r h. not_true _ (both_true _ _ h).0) starts (sound.obeys.rules Unique).1.1.1.1.1.1.1.1.0)
 
   given_starts : AreRows IsStartRow given_cmp given_in (trees 19)
@@ -113,29 +124,40 @@ module _ (shapes : ℕ → Shape) (reals : ℕ → ℕ) (trees : Trees)
       let starts = trees 19 in
       rows_found (1 ∷ 2 ∷ []) IsStartRow given_cmp given_in
       (λ a b e f. then_ties _ _ _ _ (texts_tie (column a 1) (column b 1) e.0 f.0) (last_ties _ _ (texts_tie (column a 2) (column b 2) e.1 f.1)))
-      starts (shaped (drop 8 office_schema.tables) (drop 9 office_schema.indexes) shapes reals trees sound listed ordered
-      given_start_table (inr (inr (inr (inr (inr (inr (inr (inr (inr (inl refl))))))))))) (given_starts_typed trees sound)
+      starts (shaped (order_start_table ∷ given_start_table ∷ more) later_indexes shapes reals trees sound listed ordered
+      given_start_table (inr (inr (inr (inr (inr (inr (inr (inr (inr (inl refl))))))))))) (given_starts_typed more trees sound)
       (all_weaker _ (λ r. clashes plain (1 ∷ 2 ∷ []) starts r ≡ false) (λ r h. not_true _ (both_true _ _ h).0) starts (sound.obeys.rules Unique).1.1.1.1.1.1.1.1.1.0)
 
   -- each start is one of an order, or of a record
   orders_back : AllByRecursion (λ s. is_some (find (λ r. is_its r s) (trees 7)) ≡ true) (trees 17)
   orders_back = all_both IsStartRow _ (λ s. is_some (find (λ r. is_its r s) (trees 7)) ≡ true)
-      (λ s f h. parented trees 7 to_orders orders_pointed (all_weaker IsOrderRow _ (λ r e. (e.0, e.1)) (trees 7) rows.orders.typed) s f h)
-      (trees 17) (order_starts_typed trees sound) (sound.obeys.rules ForeignKey).1.1.1.1.1.1.1.1.0
+      (λ s f h. parented (started more).tables trees 7 to_orders (orders_pointed more)
+      (all_weaker IsOrderRow _ (λ r e. (e.0, e.1)) (trees 7) rows.orders.typed) s f h)
+      (trees 17) (order_starts_typed more trees sound) (sound.obeys.rules ForeignKey).1.1.1.1.1.1.1.1.0
 
   given_back : AllByRecursion (λ s. is_some (find (λ r. is_its r s) (trees 11)) ≡ true) (trees 19)
   given_back = all_both IsStartRow _ (λ s. is_some (find (λ r. is_its r s) (trees 11)) ≡ true)
-      (λ s f h. parented trees 11 to_given given_pointed (all_weaker IsGivenRow _ (λ r e. (e.0, e.1)) (trees 11) rows.given.typed) s f h)
-      (trees 19) (given_starts_typed trees sound) (sound.obeys.rules ForeignKey).1.1.1.1.1.1.1.1.1.0
+      (λ s f h. parented (started more).tables trees 11 to_given (given_pointed more)
+      (all_weaker IsGivenRow _ (λ r e. (e.0, e.1)) (trees 11) rows.given.typed) s f h)
+      (trees 19) (given_starts_typed more trees sound) (sound.obeys.rules ForeignKey).1.1.1.1.1.1.1.1.1.0
 
-  -- it is the office's, where no order and no record lacks its start
-  pub office_of : HasStarts trees → IsOffice (record { schema = office_schema; trees = trees })
-  office_of has = record {
-    schema = refl;
-    sound = sound;
-    rows = rows;
-    orders_started = each_started order_cmp order_in starts_order
+  -- each has exactly one, where no order and no record lacks its start
+  pub all_started : HasStarts trees → AreAllStarted trees
+  all_started has = record {
+    orders = each_started order_cmp order_in starts_order
         (λ a s t e f. order_tied (order_in s) (order_in t) ∙ its_twice (key_of a.customer a.row.name) s t e f) (trees 7) (trees 17) order_starts has.orders orders_back;
-    given_started = each_started given_cmp given_in starts_given
+    given = each_started given_cmp given_in starts_given
         (λ a s t e f. given_tied (given_in s) (given_in t) ∙ its_twice (key_of a.row.issuer a.row.serial) s t e f) (trees 11) (trees 19) given_starts has.given given_back;
   }
+
+-- so it is in each version that has starts
+pub later_started : (version : Version) → version ≢ First → (db : Database) → IsFound version db → HasStarts db.trees → AreAllStarted db.trees
+later_started First later db found has = absurd (later refl)
+later_started Second later db found has = found.starts has
+later_started Third later db found has = found.starts has
+
+-- and a database of the third is the office's, where no order and no record lacks its start
+pub office_of : (db : Database) → IsFound Third db → HasStarts db.trees → IsOffice db
+office_of db found has =
+    let all = later_started Third (λ e. cc) db found has in
+    record { schema = found.schema; sound = found.sound; rows = found.rows; orders_started = all.orders; given_started = all.given }

@@ -1,19 +1,19 @@
 -- A sound database whose trees are in order is found to be of the version that its schema is, if no number of a map or of an entry is below zero.
-use Rattle.std.proofs.Common.{ℕ, [], drop, refl}
+use Rattle.std.proofs.Common.{ℕ, [], ◌∷◌, drop, refl}
 use Rattle.sqlite.specs.Effect.{Database}
 use Rattle.sqlite.specs.Tree.{Trees}
 use Rattle.sqlite.specs.View.{IsOrdered}
 use Rattle.sqlite_trees.specs.declared.store.Shape.{Shape}
 use Rattle.sqlite_trees.specs.Objects.{catalog_tree, IsListed}
 use Rattle.sqlite_catalog.specs.Listing.{IsSound}
-use Rattle.office_sql.specs.Schema.{office_schema}
+use Rattle.office_sql.specs.Schema.{office_schema, site_text_table}
 use Rattle.office_store.specs.declared.version.Version.{Version}
-use Rattle.office_store.specs.declared.version.Version.TheVariants.{First, Second}
+use Rattle.office_store.specs.declared.version.Version.TheVariants.{First, Second, Third}
 use Rattle.office_store.specs.Found.{HasWhole, IsFound}
 use Rattle.office_store.specs.Versions.{schema_of}
 use Rattle.office_store.proofs.FoundNothing.{no_starts_found}
 use Rattle.office_store.proofs.FoundOffice.{rows_of_office}
-use Rattle.office_store.proofs.FoundStarts.{office_of}
+use Rattle.office_store.proofs.FoundStarts.{all_started}
 
 -- a database of a version
 abbrev pub over : Version → Trees → Database
@@ -29,5 +29,8 @@ version_found First shapes reals trees sound listed ordered whole = record {
   starts = no_starts_found shapes reals trees listed ordered sound;
 }
 version_found Second shapes reals trees sound listed ordered whole =
+    let rows = rows_of_office (drop 8 (schema_of Second).tables) (drop 9 (schema_of Second).indexes) shapes reals trees sound listed ordered whole in
+    record { schema = refl; sound = sound; rows = rows; starts = all_started [] shapes reals trees sound listed ordered rows }
+version_found Third shapes reals trees sound listed ordered whole =
     let rows = rows_of_office (drop 8 office_schema.tables) (drop 9 office_schema.indexes) shapes reals trees sound listed ordered whole in
-    record { schema = refl; sound = sound; rows = rows; starts = office_of shapes reals trees sound listed ordered rows }
+    record { schema = refl; sound = sound; rows = rows; starts = all_started (site_text_table ∷ []) shapes reals trees sound listed ordered rows }

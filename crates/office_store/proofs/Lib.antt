@@ -1,5 +1,6 @@
 mod Texts
 mod Creates
+mod Changing
 mod Answers
 mod MadeAnswers
 mod Numbers
@@ -23,9 +24,11 @@ mod CreateStarts
 mod CreateInsert
 mod CreateRow
 mod MetaShows
+mod TextShows
 mod Schemas
 mod Upgrades
 mod UpgradeMeta
 mod Refusals
 mod Settling
 mod Settled
+mod Telling

@@ -19,7 +19,7 @@ use Rattle.office_sql.specs.Scan.{env, passes, scan}
 use Rattle.sqlite.specs.Program.{overlay}
 use Rattle.sqlite.specs.Query.{IsAnswer}
 use Rattle.office_store.specs.declared.version.Version.{Version}
-use Rattle.office_store.specs.declared.version.Version.TheVariants.{First, Second}
+use Rattle.office_store.specs.declared.version.Version.TheVariants.{First, Second, Third}
 use Rattle.office_store.specs.Found.{IsFound}
 use Rattle.office_store.specs.Meta.{meta_in, meta_of, meta_of_version, metas_in, IsMetaOf, ShowMeta, TellNoSite}
 use Rattle.office_store.specs.Versions.{schema_of}
@@ -43,6 +43,7 @@ pub row_read : (version : Version) → IsReadAs (schema_of version) row_text (sc
 unfolding understood everything
 row_read First = record { names = codes "id" ∷ codes "schema" ∷ codes "site" ∷ []; is = refl; plain = (refl, refl); unlisted = refl; bare = λ schema base. refl }
 row_read Second = record { names = codes "id" ∷ codes "schema" ∷ codes "site" ∷ []; is = refl; plain = (refl, refl); unlisted = refl; bare = λ schema base. refl }
+row_read Third = record { names = codes "id" ∷ codes "schema" ∷ codes "site" ∷ []; is = refl; plain = (refl, refl); unlisted = refl; bare = λ schema base. refl }
 
 -- meta, in some order
 shows_metas : (all rows : List Row) → Scanned [] row_shown row_order [] all rows → IsPermutation (map meta_in all) (map meta_of rows)
@@ -58,6 +59,8 @@ sites_are_blobs First db sound =
     all_both _ _ (IsBlob 3) (λ r d n. blob_at (schema_of First) db meta_table r d n 2 (refl, refl, refl) (refl, refl)) (db 0) (sound.obeys.rules Datatype).0 (sound.obeys.rules NotNull).0
 sites_are_blobs Second db sound =
     all_both _ _ (IsBlob 3) (λ r d n. blob_at (schema_of Second) db meta_table r d n 2 (refl, refl, refl) (refl, refl)) (db 0) (sound.obeys.rules Datatype).0 (sound.obeys.rules NotNull).0
+sites_are_blobs Third db sound =
+    all_both _ _ (IsBlob 3) (λ r d n. blob_at (schema_of Third) db meta_table r d n 2 (refl, refl, refl) (refl, refl)) (db 0) (sound.obeys.rules Datatype).0 (sound.obeys.rules NotNull).0
 
 -- and so is each that is shown
 shows_blobs : (all rows : List Row) → AllByRecursion (IsBlob 3) all → Scanned [] row_shown row_order [] all rows → AllByRecursion (IsBlob 2) rows

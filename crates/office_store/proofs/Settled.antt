@@ -1,5 +1,5 @@
 -- What a crash leaves of a connection that was settled.
-use Rattle.std.proofs.Common.{◌≡◌, ℕ, List, map, sym, ap, subst, ◌∙◌, IsTrue}
+use Rattle.std.proofs.Common.{◌≡◌, ℕ, List, sym, ap, subst, ◌∙◌, IsTrue}
 use Rattle.sqlite.specs.Effect.{Database}
 use Rattle.sqlite.specs.Held.{Held, state}
 use Rattle.sqlite.specs.Store.{Ghosts}
@@ -7,7 +7,6 @@ use Rattle.sqlite.specs.Tree.{Trees}
 use Rattle.office_sql.specs.Keeping.{IsReady}
 use Rattle.office_sql.specs.Tables.{IsOffice, office_over}
 use Rattle.office_store.specs.Adopting.{IsOfSite, IsOurs}
-use Rattle.office_store.specs.Meta.{meta_in}
 
 -- it is a store of the site, since it is what the connection shows
 pub settled_left : {S : Type 0} (g : Ghosts S) (site : List ℕ) (conn : Held S) → ((db : Trees) → IsTrue (state g conn).is_open → (state g conn).may_leave db → db ≡ (state g conn).committed.trees)
@@ -16,4 +15,4 @@ settled_left g site conn settled up ready ours db may =
     let office = ready.office up in
     let is : db ≡ (state g conn).now.trees = settled db up may ∙ sym (ap (λ (d : Database). d.trees) (ready.settled up)) in
     let same : office_over db ≡ (state g conn).now = λ i. record { schema = sym office.schema i; trees = is i } in
-    (subst IsOffice (sym same) office, ap (λ (t : Trees). map meta_in (t 0)) is ∙ ours)
+    (subst IsOffice (sym same) office, subst (IsOurs site) (sym is) ours)

@@ -1,19 +1,22 @@
--- What the text that tells the second version makes of meta.
-use Rattle.std.proofs.Common.{◌≡◌, ℕ, pos, negsuc, List, [], ◌∷◌, map, true, Ok, refl, sym, ap, ◌∙◌, is_eq}
+-- What the texts that tell of a store anew make of meta and of the site's text, where each has one row.
+use Rattle.std.proofs.Common.{◌≡◌, ◌≢◌, ℕ, pos, negsuc, List, [], ◌∷◌, map, true, Ok, refl, sym, ap, ◌∙◌, is_eq}
 use Rattle.std.proofs.lemmas.Cmp.{tied_itself}
 use Rattle.sqlite.specs.declared.types.Value.{Value}
 use Rattle.sqlite.specs.declared.types.Value.TheVariants.{Null, Int, Real, Text as Words, Blob as Bytes}
 use Rattle.sqlite.specs.Order.{Row, column, bytes, value_cmp}
-use Rattle.sqlite.specs.Tree.{has_rowid, put_row, rowid, without_rowid}
+use Rattle.sqlite.specs.Tree.{Trees, has_rowid, put_row, rowid, without_rowid}
 use Rattle.sqlite.specs.State.{State, Executes}
 use Rattle.sqlite_value.proofs.OrderLemmas.{value_cmp_total}
 use Rattle.office_sql.specs.Schema.{office_schema}
 use Rattle.office_sql.specs.Values.{number_in}
-use Rattle.office_sql.proofs.Told.{tell_text, told}
+use Rattle.office_sql.proofs.Told.{tell_text, told, name_text, named, write_text, written}
 use Rattle.office_store.specs.declared.meta.Meta.{Meta}
-use Rattle.office_store.specs.declared.version.Version.TheVariants.{First, Second}
-use Rattle.office_store.specs.Meta.{meta_in, meta_of_version}
-use Rattle.office_store.specs.Upgrading.{IsFirst, TellsSecond}
+use Rattle.office_store.specs.declared.version.Version.{Version}
+use Rattle.office_store.specs.declared.version.Version.TheVariants.{Third}
+use Rattle.office_store.specs.Growing.{ReplacesName}
+use Rattle.office_store.specs.Meta.{meta_in, meta_of_version, IsTold}
+use Rattle.office_store.specs.Texts.{HoldsText}
+use Rattle.office_store.specs.Upgrading.{PutsText, TellsItself, TellsThird}
 
 -- the row that is there alone
 abbrev IsAlone : List Row → Meta → Type 0
@@ -24,14 +27,14 @@ alone [] m is = absurd (let none = is in cc)
 alone (r ∷ []) m is = (r, refl, cc)
 alone (r ∷ s ∷ rows) m is = absurd (let two = is in cc)
 
--- the number 1 stands for itself alone
-first_id : (v : Value) → number_in v ≡ 1 → v ≡ Int (pos 1)
-first_id (Int (pos n)) e = ap (λ n. Int (pos n)) e
-first_id (Int (negsuc n)) e = absurd (cc)
-first_id Null e = absurd (cc)
-first_id (Real x) e = absurd (cc)
-first_id (Words t) e = absurd (cc)
-first_id (Bytes b) e = absurd (cc)
+-- a number stands for itself alone, unless it is 0
+the_number : (n : ℕ) → n ≢ 0 → (v : Value) → number_in v ≡ n → v ≡ Int (pos n)
+the_number n some (Int (pos m)) e = ap (λ k. Int (pos k)) e
+the_number n some (Int (negsuc m)) e = absurd (some (sym e))
+the_number n some Null e = absurd (some (sym e))
+the_number n some (Real x) e = absurd (some (sym e))
+the_number n some (Words t) e = absurd (some (sym e))
+the_number n some (Bytes b) e = absurd (some (sym e))
 
 -- the row in place of the one
 replaced : (r new : Row) → rowid r ≡ Int (pos 1) → put_row new (without_rowid (pos 1) (r ∷ [])) ≡ new ∷ []
@@ -43,20 +46,52 @@ abbrev site_in : List Meta → List ℕ
 site_in [] = []
 site_in (m ∷ _) = m.site
 
-pub tells_second : (old new : State) (count : ℕ) → old.now.schema ≡ office_schema → IsFirst old.now.trees → Executes tell_text [] old new (Ok count) → TellsSecond old.now new.now
-tells_second old new count has first ran =
-    let it = alone (old.now.trees 0) (meta_of_version First first.0) first.1 in
+-- the row of meta that tells of a store
+abbrev IsMetaRow : Version → List ℕ → List Row → Type 0
+IsMetaRow version site rows = (r : Row) × (rows ≡ r ∷ []) × (rowid r ≡ Int (pos 1)) × (meta_in r ≡ meta_of_version version site)
+
+meta_row : (version : Version) (site : List ℕ) (db : Trees) → IsTold version site db → IsMetaRow version site (db 0)
+meta_row version site db is =
+    let it = alone (db 0) (meta_of_version version site) is in
+    (it.0, it.1, the_number 1 (λ e. cc) (column it.0 0) (ap (λ (m : Meta). m.id) it.2), it.2)
+
+-- the third version is told of the same site
+pub tells_third : (old new : State) (count : ℕ) → old.now.schema ≡ office_schema
+    → (version : Version) → TellsItself version old.now.trees → Executes tell_text [] old new (Ok count) → TellsThird old.now new.now
+tells_third old new count has version itself ran =
+    let it = meta_row version itself.0 old.now.trees itself.1 in
     let r = it.0 in
-    let id : rowid r ≡ Int (pos 1) = first_id (column r 0) (ap (λ (m : Meta). m.id) it.2) in
-    let made = (told r old new count has it.1 id ran).0 in
-    let row : Row = Int (pos 1) ∷ Null ∷ Int (pos 2) ∷ column r 3 ∷ [] in
-    let is : new.now.trees 0 ≡ row ∷ [] = made.row ∙ ap (λ l. put_row row (without_rowid (pos 1) l)) it.1 ∙ replaced r row id in
+    let made = (told r old new count has it.1 it.2 ran).0 in
+    let row : Row = Int (pos 1) ∷ Null ∷ Int (pos 3) ∷ column r 3 ∷ [] in
+    let is : new.now.trees 0 ≡ row ∷ [] = made.row ∙ ap (λ l. put_row row (without_rowid (pos 1) l)) it.1 ∙ replaced r row it.2 in
     record {
       schema = made.schema;
       sound = made.sound;
-      told = λ site was.
-          let same : meta_in r ∷ [] ≡ meta_of_version First site ∷ [] = sym (ap (map meta_in) it.1) ∙ was in
+      told = λ earlier site was.
+          let same : meta_in r ∷ [] ≡ meta_of_version earlier site ∷ [] = sym (ap (map meta_in) it.1) ∙ was in
           let of_site : bytes (column r 3) ≡ site = ap (λ (l : List Meta). site_in l) same in
-          ap (map meta_in) is ∙ ap (λ s. meta_of_version Second s ∷ []) of_site;
+          ap (map meta_in) is ∙ ap (λ s. meta_of_version Third s ∷ []) of_site;
       others = made.others;
     }
+
+-- another site is told
+pub names_site : (site : List ℕ) (old new : State) (count : ℕ) → old.now.schema ≡ office_schema → (older : List ℕ) → IsTold Third older old.now.trees
+    → Executes name_text (Bytes site ∷ []) old new (Ok count) → ReplacesName site old.now new.now
+names_site site old new count has older itself ran =
+    let it = meta_row Third older old.now.trees itself in
+    let r = it.0 in
+    let number : column r 2 ≡ Int (pos 3) = the_number 3 (λ e. cc) (column r 2) (ap (λ (m : Meta). m.schema) it.3) in
+    let made = (named r 3 site old new count has it.1 it.2 number ran).0 in
+    let row : Row = Int (pos 1) ∷ Null ∷ Int (pos 3) ∷ Bytes site ∷ [] in
+    let is : new.now.trees 0 ≡ row ∷ [] = made.row ∙ ap (λ l. put_row row (without_rowid (pos 1) l)) it.1 ∙ replaced r row it.2 in
+    record { schema = made.schema; sound = made.sound; told = ap (map meta_in) is; others = made.others }
+
+-- another text is held
+pub writes_text : (text : List ℕ) (old new : State) (count : ℕ) → old.now.schema ≡ office_schema → (older : List ℕ) → HoldsText older old.now.trees
+    → Executes write_text (Words text ∷ []) old new (Ok count) → PutsText text old.now new.now
+writes_text text old new count has older it ran =
+    let r = it.0 in
+    let made = (written r text old new count has it.1 it.2.id ran).0 in
+    let row : Row = Int (pos 1) ∷ Null ∷ Words text ∷ [] in
+    let is : new.now.trees 21 ≡ row ∷ [] = made.row ∙ ap (λ l. put_row row (without_rowid (pos 1) l)) it.1 ∙ replaced r row it.2.id in
+    record { schema = made.schema; sound = made.sound; holds = (row, is, record { id = refl; body = refl }); others = made.others }

@@ -1,46 +1,78 @@
--- What the statements of an upgrade make of a database of the first version, one after another.
-use Rattle.std.proofs.Common.{◌≡◌, ℕ, Bool, List, [], map, refl, sym, ap, subst, subst₂, ◌∙◌, Result, Ok, Err, IfOk, OnOk, IsTrue}
+-- What the statements of an upgrade, and those of a growth, make of a database of the office, one after another.
+use Rattle.std.proofs.Common.{◌≡◌, ◌≢◌, ◌==◌, ℕ, Bool, false, List, [], ◌∷◌, map, refl, sym, ap, subst, subst₂, ◌∙◌}
 use Rattle.std.specs.List.{AllByRecursion}
+use Rattle.std.proofs.lemmas.Bool.{eqb-false}
 use Rattle.sqlite.specs.declared.types.Value.TheVariants.{Null}
+use Rattle.sqlite.specs.Change.{KeepsRows}
 use Rattle.sqlite.specs.Order.{Row, column}
 use Rattle.sqlite.specs.Effect.{Database}
-use Rattle.sqlite.specs.Held.{Held, state}
-use Rattle.sqlite.specs.Store.{Ghosts}
+use Rattle.sqlite.specs.Table.{Table}
+use Rattle.sqlite.specs.Tree.{Trees}
 use Rattle.sqlite_keyed.specs.Lists.{sort_by}
+use Rattle.sqlite_trees.proofs.ListLemmas.{all_both}
 use Rattle.office_tables.specs.Tables.{seat_cmp, order_cmp, map_cmp, link_cmp, device_cmp, given_cmp, entry_cmp}
-use Rattle.office_sql.specs.Asking.{Changes}
-use Rattle.office_sql.specs.Change.{IsInside}
 use Rattle.office_sql.specs.Rows.{seat_in, map_in, link_in, order_in, device_in, given_in, entry_in, start_of, starts_order, starts_given, with_order_start, with_given_start}
-use Rattle.office_sql.specs.Tables.{AreRows, AreStarted, IsSeatRow, IsMapRow, IsLinkRow, IsOrderRow, IsDeviceRow, IsGivenRow, IsEntryRow, tables_in}
+use Rattle.office_sql.specs.Schema.{office_schema, order_start_table, given_start_table, site_text_table}
+use Rattle.office_sql.specs.Tables.{AreOfficeRows, AreRows, AreStarted, IsOffice, IsSeatRow, IsMapRow, IsLinkRow, IsOrderRow, IsDeviceRow, IsGivenRow, IsEntryRow, tables_in}
+use Rattle.office_sql.proofs.Offices.{meta_changed, text_changed}
 use Rattle.office_sql.proofs.StartsFilled.{Starts, silent_start}
-use Rattle.office_store.specs.declared.version.Version.TheVariants.{First}
-use Rattle.office_store.specs.Found.{IsFound}
-use Rattle.office_store.specs.Meta.{meta_in}
-use Rattle.office_store.specs.Upgrading.{GainsNone, GainsNoStart, GainsStarts, IsFirst, IsUpgrade, LacksGivenStarts, LacksOrderStarts, TellsSecond}
+use Rattle.sha2.specs.Sha256.{sha256}
+use Rattle.office_store.specs.declared.version.Version.{Version}
+use Rattle.office_store.specs.declared.version.Version.TheVariants.{First, Second, Third}
+use Rattle.office_store.specs.Found.{HasStarts, IsFound}
+use Rattle.office_store.specs.Growing.{IsGrown, ReplacesName}
+use Rattle.office_store.specs.Meta.{meta_in, IsTold}
+use Rattle.office_store.specs.Texts.{IsOnlyText}
+use Rattle.office_store.specs.Upgrading.{GainsLater, GainsNone, GainsNoStart, GainsText, IsFilled, IsUpgrade, KeepsAllBut, LacksGivenStarts, LacksOrderStarts, PutsText, TellsItself, TellsThird}
+use Rattle.office_store.specs.Versions.{schema_of}
+use Rattle.office_store.proofs.CreateStarts.{all_front}
 
 -- what was filled says nothing
 pub gains_none : {A : Type 0} (is_for : A → Row → Bool) (value : Row → A) (tree side : ℕ) (old new : Database) → Starts value is_for tree side old new → GainsNone is_for value tree side old new
-gains_none is_for value tree side old new it = record { schema = it.schema; started = it.started; silent = it.silent; others = it.others }
-
--- what is said of a call where its database is as is asked is said where an open connection has such a database
-pub said_if_open : {S A E : Type 0} (g : Ghosts S) (old new : Held S) (r : Result A E) (IsSo : Database → Type 0) (Says : Database → Database → A → Type 0)
-    → (IsTrue (state g old).is_open → IsSo (state g old).now) → Changes g old new r (λ x y a. IsSo x → Says x y a) → Changes g old new r Says
-said_if_open {S} {A} {E} g old new r IsSo Says so it = record { says = λ clean. said r (it.inside clean) (it.says clean); inside = it.inside; kept = it.kept; crash = it.crash }
-  where
-    said : (r : Result A E) → OnOk r (IsInside (state g old) (state g new))
-        → IfOk r (λ a. IsSo (state g old).now → Says (state g old).now (state g new).now a) → IfOk r (Says (state g old).now (state g new).now)
-    said (Ok a) inside h = h (so inside.was_open)
-    said (Err e) inside h = tt
+gains_none is_for value tree side old new it = record { schema = it.schema; sound = it.sound; started = it.started; silent = it.silent; others = it.others }
 
 -- records are not filled with orders
 pub still_lacks_given : (y mid : Database) → GainsNone starts_order order_in 7 17 y mid → LacksGivenStarts y → LacksGivenStarts mid
 still_lacks_given y mid orders lacks = record {
   schema = orders.schema;
-  rows = subst (AreRows IsGivenRow given_cmp given_in) (sym (orders.others.1.1.1.1.1.1.0 (λ e. cc))) lacks.rows;
-  none = orders.others.1.1.1.1.1.1.1.1.1.0 (λ e. cc) ∙ lacks.none;
+  rows = subst (AreRows IsGivenRow given_cmp given_in) (sym (orders.others.1.1.1.1.1.1.0 (eqb-false _ _ refl))) lacks.rows;
+  none = orders.others.1.1.1.1.1.1.1.1.1.0 (eqb-false _ _ refl) ∙ lacks.none;
 }
 
-module _ (x y : Database) (found : IsFound First x) (gains : GainsStarts x y) where
+-- where the rows of the first version's tables stand
+module _ (old new : Trees) (same : KeepsRows (schema_of First).tables old new) where
+  -- they are as the office has them
+  office_rows : AreOfficeRows old → AreOfficeRows new
+  office_rows rows = record {
+    seats = subst (AreRows IsSeatRow seat_cmp seat_in) (sym same.1.0) rows.seats;
+    maps = subst (AreRows IsMapRow map_cmp map_in) (sym same.1.1.0) rows.maps;
+    links = subst (AreRows IsLinkRow link_cmp link_in) (sym same.1.1.1.0) rows.links;
+    orders = subst (AreRows IsOrderRow order_cmp order_in) (sym same.1.1.1.1.0) rows.orders;
+    devices = subst (AreRows IsDeviceRow device_cmp device_in) (sym same.1.1.1.1.1.0) rows.devices;
+    given = subst (AreRows IsGivenRow given_cmp given_in) (sym same.1.1.1.1.1.1.0) rows.given;
+    ledger = subst (AreRows IsEntryRow entry_cmp entry_in) (sym same.1.1.1.1.1.1.1.0) rows.ledger;
+  }
+
+  -- and say what they said, if the beginnings of validity do
+  tables_same : with_order_start (new 17) ≡ with_order_start (old 17) → with_given_start (new 19) ≡ with_given_start (old 19) → tables_in new ≡ tables_in old
+  tables_same of_orders of_given i = record {
+    seats = sort_by seat_cmp (map seat_in (same.1.0 i));
+    orders = map (of_orders i) (sort_by order_cmp (map order_in (same.1.1.1.1.0 i)));
+    devices = sort_by device_cmp (map device_in (same.1.1.1.1.1.0 i));
+    given = map (of_given i) (sort_by given_cmp (map given_in (same.1.1.1.1.1.1.0 i)));
+    maps = sort_by map_cmp (map map_in (same.1.1.0 i));
+    links = sort_by link_cmp (map link_in (same.1.1.1.0 i));
+    ledger = sort_by entry_cmp (map entry_in (same.1.1.1.1.1.1.1.0 i));
+  }
+
+-- starts that say nothing say as much as none
+as_none : {A : Type 0} (is_for : A → Row → Bool) (starts none : List Row) (a : A) → AllByRecursion (λ s. column s 3 ≡ Null) starts
+    → none ≡ [] → start_of is_for starts a ≡ start_of is_for none a
+as_none is_for starts none a silent empty = silent_start is_for starts a silent ∙ sym (ap (λ l. start_of is_for l a) empty)
+
+-- ---- a database of the first version
+
+module _ (x y : Database) (found : IsFound First x) (gains : GainsLater x y) where
   -- once the tables are made, they can be filled
   pub lacks_orders : LacksOrderStarts y
   lacks_orders = record { schema = gains.schema; rows = subst (AreRows IsOrderRow order_cmp order_in) (sym gains.others.1.1.1.1.0) found.rows.orders; none = gains.orders }
@@ -58,91 +90,144 @@ module _ (x y : Database) (found : IsFound First x) (gains : GainsStarts x y) wh
     abbrev given : GainsNone starts_given given_in 11 19 mid z
     given = fills.given
 
-    -- the store tells of itself what it told
-    same_meta : z.trees 0 ≡ x.trees 0
-    same_meta = given.others.0 (λ e. cc) ∙ orders.others.0 (λ e. cc) ∙ gains.others.0
+    rows_stand : KeepsRows (schema_of First).tables x.trees z.trees
+    rows_stand = (
+      given.others.0 (eqb-false _ _ refl) ∙ orders.others.0 (eqb-false _ _ refl) ∙ gains.others.0,
+      (
+        given.others.1.0 (eqb-false _ _ refl) ∙ orders.others.1.0 (eqb-false _ _ refl) ∙ gains.others.1.0,
+        (
+          given.others.1.1.0 (eqb-false _ _ refl) ∙ orders.others.1.1.0 (eqb-false _ _ refl) ∙ gains.others.1.1.0,
+          (
+            given.others.1.1.1.0 (eqb-false _ _ refl) ∙ orders.others.1.1.1.0 (eqb-false _ _ refl) ∙ gains.others.1.1.1.0,
+            (
+              given.others.1.1.1.1.0 (eqb-false _ _ refl) ∙ orders.others.1.1.1.1.0 (eqb-false _ _ refl) ∙ gains.others.1.1.1.1.0,
+              (
+                given.others.1.1.1.1.1.0 (eqb-false _ _ refl) ∙ orders.others.1.1.1.1.1.0 (eqb-false _ _ refl) ∙ gains.others.1.1.1.1.1.0,
+                (
+                  given.others.1.1.1.1.1.1.0 (eqb-false _ _ refl) ∙ orders.others.1.1.1.1.1.1.0 (eqb-false _ _ refl) ∙ gains.others.1.1.1.1.1.1.0,
+                  (given.others.1.1.1.1.1.1.1.0 (eqb-false _ _ refl) ∙ orders.others.1.1.1.1.1.1.1.0 (eqb-false _ _ refl) ∙ gains.others.1.1.1.1.1.1.1.0, tt),
+                ),
+              ),
+            ),
+          ),
+        ),
+      ),
+    )
 
-    pub still_first : IsFirst x.trees → IsFirst z.trees
-    still_first told = (told.0, ap (map meta_in) same_meta ∙ told.1)
+    order_starts : z.trees 17 ≡ mid.trees 17
+    order_starts = given.others.1.1.1.1.1.1.1.1.0 (eqb-false _ _ refl)
 
-    module _ (w : Database) (tells : TellsSecond z w) where
-      seats : w.trees 1 ≡ x.trees 1
-      seats = tells.others.1.0 (λ e. cc) ∙ given.others.1.0 (λ e. cc) ∙ orders.others.1.0 (λ e. cc) ∙ gains.others.1.0
+    no_order_starts : with_order_start (z.trees 17) ≡ with_order_start (x.trees 17)
+    no_order_starts i o =
+        let silent = subst (AllByRecursion (λ s. column s 3 ≡ Null)) (sym order_starts) orders.silent in
+        record o { row = record o.row { not_before = as_none starts_order (z.trees 17) (x.trees 17) o silent found.starts.0 i } }
 
-      maps : w.trees 3 ≡ x.trees 3
-      maps = tells.others.1.1.0 (λ e. cc) ∙ given.others.1.1.0 (λ e. cc) ∙ orders.others.1.1.0 (λ e. cc) ∙ gains.others.1.1.0
+    no_given_starts : with_given_start (z.trees 19) ≡ with_given_start (x.trees 19)
+    no_given_starts i o = record o { row = record o.row { not_before = as_none starts_given (z.trees 19) (x.trees 19) o given.silent found.starts.1 i } }
 
-      links : w.trees 5 ≡ x.trees 5
-      links = tells.others.1.1.1.0 (λ e. cc) ∙ given.others.1.1.1.0 (λ e. cc) ∙ orders.others.1.1.1.0 (λ e. cc) ∙ gains.others.1.1.1.0
+    -- all is as the office has it, and says what it said
+    pub first_filled : IsFilled First x z
+    first_filled = record {
+      office = record {
+        schema = given.schema;
+        sound = given.sound;
+        rows = office_rows x.trees z.trees rows_stand found.rows;
+        orders_started = subst₂ (AreStarted starts_order order_in)
+            (sym (given.others.1.1.1.1.0 (eqb-false _ _ refl) ∙ orders.others.1.1.1.1.0 (eqb-false _ _ refl))) (sym order_starts) orders.started;
+        given_started = subst (λ l. AreStarted starts_given given_in l (z.trees 19)) (sym (given.others.1.1.1.1.1.1.0 (eqb-false _ _ refl))) given.started;
+      };
+      tables = tables_same x.trees z.trees rows_stand no_order_starts no_given_starts;
+      rows = rows_stand;
+      none = given.others.1.1.1.1.1.1.1.1.1.1.0 (eqb-false _ _ refl) ∙ orders.others.1.1.1.1.1.1.1.1.1.1.0 (eqb-false _ _ refl) ∙ gains.texts;
+    }
 
-      orders_since : w.trees 7 ≡ y.trees 7
-      orders_since = tells.others.1.1.1.1.0 (λ e. cc) ∙ given.others.1.1.1.1.0 (λ e. cc) ∙ orders.others.1.1.1.1.0 (λ e. cc)
+-- ---- one of the second
 
-      orders_same : w.trees 7 ≡ x.trees 7
-      orders_same = orders_since ∙ gains.others.1.1.1.1.0
+pub second_filled : (x z : Database) → IsFound Second x → HasStarts x.trees → GainsText x z → IsFilled Second x z
+second_filled x z found starts gains =
+    let same = gains.others in
+    let first = all_front (λ t. z.trees t.tree ≡ x.trees t.tree) (schema_of First).tables (order_start_table ∷ given_start_table ∷ []) same in
+    let started = found.starts starts in
+    record {
+      office = record {
+        schema = gains.schema;
+        sound = gains.sound;
+        rows = office_rows x.trees z.trees first found.rows;
+        orders_started = subst₂ (AreStarted starts_order order_in) (sym same.1.1.1.1.0) (sym same.1.1.1.1.1.1.1.1.0) started.orders;
+        given_started = subst₂ (AreStarted starts_given given_in) (sym same.1.1.1.1.1.1.0) (sym same.1.1.1.1.1.1.1.1.1.0) started.given;
+      };
+      tables = tables_same x.trees z.trees first (ap with_order_start same.1.1.1.1.1.1.1.1.0) (ap with_given_start same.1.1.1.1.1.1.1.1.1.0);
+      rows = same;
+      none = gains.none;
+    }
 
-      devices : w.trees 9 ≡ x.trees 9
-      devices = tells.others.1.1.1.1.1.0 (λ e. cc) ∙ given.others.1.1.1.1.1.0 (λ e. cc) ∙ orders.others.1.1.1.1.1.0 (λ e. cc) ∙ gains.others.1.1.1.1.1.0
+-- ---- and what the store tells of itself then
 
-      given_since : w.trees 11 ≡ mid.trees 11
-      given_since = tells.others.1.1.1.1.1.1.0 (λ e. cc) ∙ given.others.1.1.1.1.1.1.0 (λ e. cc)
+-- a store that is filled tells of itself what it told
+meta_stands : (version : Version) (x z : Database) → IsFilled version x z → z.trees 0 ≡ x.trees 0
+meta_stands First x z filled = filled.rows.0
+meta_stands Second x z filled = filled.rows.0
+meta_stands Third x z filled = filled.rows.0
 
-      given_same : w.trees 11 ≡ x.trees 11
-      given_same = given_since ∙ orders.others.1.1.1.1.1.1.0 (λ e. cc) ∙ gains.others.1.1.1.1.1.1.0
+-- and so does one that holds the text of its site
+module _ (version : Version) (x z u : Database) (filled : IsFilled version x z) (text : List ℕ) (puts : PutsText text z u) where
+  meta_same : u.trees 0 ≡ x.trees 0
+  meta_same = puts.others.0 (eqb-false _ _ refl) ∙ meta_stands version x z filled
 
-      ledger : w.trees 15 ≡ x.trees 15
-      ledger = tells.others.1.1.1.1.1.1.1.0 (λ e. cc) ∙ given.others.1.1.1.1.1.1.1.0 (λ e. cc) ∙ orders.others.1.1.1.1.1.1.1.0 (λ e. cc) ∙ gains.others.1.1.1.1.1.1.1.0
+  pub tells_still : TellsItself version x.trees → TellsItself version u.trees
+  tells_still told = (told.0, ap (map meta_in) meta_same ∙ told.1)
 
-      order_starts : w.trees 17 ≡ mid.trees 17
-      order_starts = tells.others.1.1.1.1.1.1.1.1.0 (λ e. cc) ∙ given.others.1.1.1.1.1.1.1.1.0 (λ e. cc)
+  told_before : (site : List ℕ) → IsTold version site x.trees → IsTold version site u.trees
+  told_before site told = ap (map meta_in) meta_same ∙ told
 
-      given_starts : w.trees 19 ≡ z.trees 19
-      given_starts = tells.others.1.1.1.1.1.1.1.1.1.0 (λ e. cc)
+-- what a text, a number and what was made before leave
+stands : (x z u w : Trees) (tables : List Table) → AllByRecursion (λ t. (t.tree == 21) ≡ false) tables
+    → AllByRecursion (λ t. t.tree ≢ 21 → u t.tree ≡ z t.tree) tables
+    → AllByRecursion (λ t. t.tree ≢ 0 → w t.tree ≡ u t.tree) tables → KeepsRows tables x z → KeepsAllBut 0 tables x w
+stands x z u w [] apart puts tells same = tt
+stands x z u w (t ∷ tables) apart puts tells same =
+    (λ other. tells.0 other ∙ puts.0 (eqb-false _ _ apart.0) ∙ same.0, stands x z u w tables apart.1 puts.1 tells.1 same.1)
 
-      -- starts that say nothing say as much as none
-      as_none : {A : Type 0} (is_for : A → Row → Bool) (starts none : List Row) (a : A) → AllByRecursion (λ s. column s 3 ≡ Null) starts → none ≡ [] → start_of is_for starts a ≡ start_of is_for none a
-      as_none is_for starts none a silent empty = silent_start is_for starts a silent ∙ sym (ap (λ l. start_of is_for l a) empty)
+rows_upgraded : (version : Version) → version ≢ Third → (x z u w : Database) → IsFilled version x z
+    → (text : List ℕ) → PutsText text z u → TellsThird u w → KeepsAllBut 0 (schema_of version).tables x.trees w.trees
+rows_upgraded First earlier x z u w filled text puts tells =
+    let rest = order_start_table ∷ given_start_table ∷ site_text_table ∷ [] in
+    let tables = (schema_of First).tables in
+    stands x.trees z.trees u.trees w.trees tables (refl, (refl, (refl, (refl, (refl, (refl, (refl, (refl, tt))))))))
+    (all_front (λ t. t.tree ≢ 21 → u.trees t.tree ≡ z.trees t.tree) tables rest puts.others)
+    (all_front (λ t. t.tree ≢ 0 → w.trees t.tree ≡ u.trees t.tree) tables rest tells.others) filled.rows
+rows_upgraded Second earlier x z u w filled text puts tells =
+    let rest = site_text_table ∷ [] in
+    let tables = (schema_of Second).tables in
+    stands x.trees z.trees u.trees w.trees tables (refl, (refl, (refl, (refl, (refl, (refl, (refl, (refl, (refl, (refl, tt))))))))))
+    (all_front (λ t. t.tree ≢ 21 → u.trees t.tree ≡ z.trees t.tree) tables rest puts.others)
+    (all_front (λ t. t.tree ≢ 0 → w.trees t.tree ≡ u.trees t.tree) tables rest tells.others) filled.rows
+rows_upgraded Third earlier x z u w filled text puts tells = absurd (earlier refl)
 
-      no_order_starts : with_order_start (w.trees 17) ≡ with_order_start (x.trees 17)
-      no_order_starts i o =
-          let silent = subst (AllByRecursion (λ s. column s 3 ≡ Null)) (sym order_starts) orders.silent in
-          record o { row = record o.row { not_before = as_none starts_order (w.trees 17) (x.trees 17) o silent found.starts.0 i } }
+-- all is as the office has it, and says what it said
+pub upgraded : (version : Version) → version ≢ Third → (x z u w : Database) → IsFilled version x z
+    → (text : List ℕ) → PutsText text z u → TellsThird u w → IsUpgrade version text x.trees w
+upgraded version earlier x z u w filled text puts tells =
+    let held = text_changed z u filled.office puts.schema puts.sound puts.others in
+    let told = meta_changed u w held.0 tells.schema tells.sound tells.others in
+    record {
+      rows = rows_upgraded version earlier x z u w filled text puts tells;
+      tables = told.1 ∙ held.1 ∙ filled.tables;
+      told = λ site was. tells.told version site (told_before version x z u filled text puts site was);
+      holds = subst (IsOnlyText 2 text) (sym (tells.others.1.1.1.1.1.1.1.1.1.1.0 (eqb-false _ _ refl))) puts.holds;
+      office = told.0;
+    }
 
-      no_given_starts : with_given_start (w.trees 19) ≡ with_given_start (x.trees 19)
-      no_given_starts i o =
-          let silent = subst (AllByRecursion (λ s. column s 3 ≡ Null)) (sym given_starts) given.silent in
-          record o { row = record o.row { not_before = as_none starts_given (w.trees 19) (x.trees 19) o silent found.starts.1 i } }
+-- ---- a growth
 
-      tables_same : tables_in w.trees ≡ tables_in x.trees
-      tables_same i = record {
-        seats = sort_by seat_cmp (map seat_in (seats i));
-        orders = map (no_order_starts i) (sort_by order_cmp (map order_in (orders_same i)));
-        devices = sort_by device_cmp (map device_in (devices i));
-        given = map (no_given_starts i) (sort_by given_cmp (map given_in (given_same i)));
-        maps = sort_by map_cmp (map map_in (maps i));
-        links = sort_by link_cmp (map link_in (links i));
-        ledger = sort_by entry_cmp (map entry_in (ledger i));
-      }
-
-      -- all is as the office has it, and says what it said
-      pub upgraded : IsUpgrade x.trees w
-      upgraded = record {
-        rows = (λ other. absurd (other refl), (λ _. seats, (λ _. maps, (λ _. links, (λ _. orders_same, (λ _. devices, (λ _. given_same, (λ _. ledger, tt))))))));
-        tables = tables_same;
-        told = λ site told. tells.told site (ap (map meta_in) same_meta ∙ told);
-        office = record {
-          schema = tells.schema;
-          sound = tells.sound;
-          rows = record {
-            seats = subst (AreRows IsSeatRow seat_cmp seat_in) (sym seats) found.rows.seats;
-            maps = subst (AreRows IsMapRow map_cmp map_in) (sym maps) found.rows.maps;
-            links = subst (AreRows IsLinkRow link_cmp link_in) (sym links) found.rows.links;
-            orders = subst (AreRows IsOrderRow order_cmp order_in) (sym orders_same) found.rows.orders;
-            devices = subst (AreRows IsDeviceRow device_cmp device_in) (sym devices) found.rows.devices;
-            given = subst (AreRows IsGivenRow given_cmp given_in) (sym given_same) found.rows.given;
-            ledger = subst (AreRows IsEntryRow entry_cmp entry_in) (sym ledger) found.rows.ledger;
-          };
-          orders_started = subst₂ (AreStarted starts_order order_in) (sym orders_since) (sym order_starts) orders.started;
-          given_started = subst₂ (AreStarted starts_given given_in) (sym given_since) (sym given_starts) given.started;
-        };
-      }
+pub grown : (text : List ℕ) (x y z : Database) → IsOffice x → PutsText text x y → ReplacesName (sha256 text) y z → IsGrown text x.trees z
+grown text x y z office puts names =
+    let held = text_changed x y office puts.schema puts.sound puts.others in
+    let told = meta_changed y z held.0 names.schema names.sound names.others in
+    record {
+      rows = all_both (λ (t : Table). t.tree ≢ 21 → y.trees t.tree ≡ x.trees t.tree) (λ t. t.tree ≢ 0 → z.trees t.tree ≡ y.trees t.tree)
+          (λ t. t.tree ≢ 0 → t.tree ≢ 21 → z.trees t.tree ≡ x.trees t.tree) (λ t f s meta text. s meta ∙ f text) office_schema.tables puts.others names.others;
+      tables = told.1 ∙ held.1;
+      tells = record { holds = subst (IsOnlyText 2 text) (sym (names.others.1.1.1.1.1.1.1.1.1.1.0 (eqb-false _ _ refl))) puts.holds; named = names.told };
+      office = told.0;
+    }

@@ -1,6 +1,11 @@
 -- How a connection comes to have the tables of the office.
-use Rattle.std.specs.Prelude.{◌≡◌, ◌≢◌, ◌⊎◌, ⊤, false, ℕ, length, List, None, IsTrue, Result, OnOk, IfErr}
+use Rattle.std.specs.Prelude.{◌≡◌, ◌≢◌, ◌⊎◌, ⊤, false, ℕ, length, List, Option, Some, None, IsTrue, Result, OnOk, IfErr}
 use Rattle.std.specs.List.{AllByRecursion}
+use Rattle.std.specs.Str.{IsUtf8}
+use Rattle.sha2.specs.Sha256.{sha256}
+use Rattle.site_core.specs.Section.{SiteValue}
+use Rattle.site_core.specs.SiteText.{TextOfSite}
+use Rattle.sqlite.specs.Order.{Row}
 use Rattle.sqlite.specs.Tree.{Trees}
 use Rattle.sqlite.specs.Schema.{Schema}
 use Rattle.sqlite.specs.Effect.{Database}
@@ -17,9 +22,12 @@ use Rattle.office_store.specs.declared.adopting.Handed.TheVariants as handed
 use Rattle.office_store.specs.declared.fault.OpenFault.{OpenFault}
 use Rattle.office_store.specs.declared.fault.OpenFault.TheVariants.{OtherSite, OtherTables, Failed}
 use Rattle.office_store.specs.declared.version.Version.{Version}
-use Rattle.office_store.specs.declared.version.Version.TheVariants.{First, Second}
+use Rattle.office_store.specs.declared.version.Version.TheVariants.{First, Second, Third}
 use Rattle.office_store.specs.Found.{HasStarts, HasWhole, IsFound}
-use Rattle.office_store.specs.Meta.{metas_in, IsBegun, IsTold, TellNoSite}
+use Rattle.office_store.specs.Meta.{metas_in, HasNothing, HoldsSite, IsBegun, IsTold, TellNoSite, new_meta}
+use Rattle.office_store.specs.Growing.{IsGrown}
+use Rattle.office_store.specs.Texts.{IsGrownFrom, IsOnlyText}
+use Rattle.office_store.specs.declared.meta.Meta.{Meta}
 use Rattle.office_store.specs.Upgrading.{IsUpgrade}
 use Rattle.office_store.specs.Versions.{schema_of, IsOfNoVersion}
 
@@ -34,7 +42,7 @@ pub record CanSettle (s : State) : Type 0 where
   pub mode : s.in_transaction ≡ false
   pub settled : HasCleanDisk s → s.now ≡ s.committed
   pub found : HasCleanDisk s → FindsVersion s.now
-  pub bare : HasCleanDisk s → s.now.schema ≡ no_schema → tables_in s.now.trees ≡ no_rows
+  pub bare : HasCleanDisk s → s.now.schema ≡ no_schema → HasNothing s.now.trees
 
 -- the same once its numbers were tested
 pub record IsFoundAt (version : Version) (s : State) : Type 0 where
@@ -42,34 +50,61 @@ pub record IsFoundAt (version : Version) (s : State) : Type 0 where
   pub settled : HasCleanDisk s → s.now ≡ s.committed
   pub found : HasCleanDisk s → IsFound version s.now
 
--- the store has one row of meta, of this schema and this site
-abbrev pub IsOurs : List ℕ → Trees → Type 0
-IsOurs = IsTold Second
+-- the store tells of a text that has this SHA-256
+pub record IsOurs (site : List ℕ) (db : Trees) : Type 0 where
+  pub text : List ℕ
+  pub tells : HoldsSite text db
+  pub named : sha256 text ≡ site
 
--- a store of the site: a database of the office, with its row of meta
+-- a store of the site: a database of the office, with its row of meta and its text
 abbrev pub IsOfSite : List ℕ → Trees → Type 0
 IsOfSite site db = IsOffice (office_over db) × IsOurs site db
 
--- the store has one row of meta, of the version that its schema is and of another site, which is 32
--- bytes too
-abbrev pub IsOfOtherSite : List ℕ → Database → Type 0
+-- meta tells this version and another site, which is 32 bytes too
+abbrev pub TellsOther : Version → List ℕ → Trees → Type 0
+TellsOther version site db =
+    (other : List ℕ) × (length other ≡ 32) × IsTold version other db × (other ≢ site)
+
+-- the store tells of a text of which the site is no growth
+abbrev pub HoldsOther : SiteValue → Trees → Type 0
+HoldsOther site db = (text : List ℕ) × HoldsSite text db × ¬ IsGrownFrom text site
+
+-- a store of another site, by its version
+abbrev pub IsOther : TextOfSite → Version → Trees → Type 0
+IsOther site First db = TellsOther First (sha256 site.text) db
+IsOther site Second db = TellsOther Second (sha256 site.text) db
+IsOther site Third db = HoldsOther site.site db
+
+abbrev pub IsOfOtherSite : TextOfSite → Database → Type 0
 IsOfOtherSite site db =
-    (version : Version) × (db.schema ≡ schema_of version)
-    × ((other : List ℕ) × (length other ≡ 32) × IsTold version other db.trees × (other ≢ site))
+    (version : Version) × (db.schema ≡ schema_of version) × IsOther site version db.trees
 
 -- a schema that is neither none nor a version's
 abbrev pub IsOtherSchema : Schema → Type 0
 IsOtherSchema schema = (schema ≢ no_schema) × IsOfNoVersion schema
 
--- a store of the site and the second version, in which not every beginning of validity is told
+-- the beginnings of validity are asked for in a store of the second version and this site, and of
+-- the third
+abbrev pub AreStartsAsked : List ℕ → Version → Trees → Type 0
+AreStartsAsked site First db = ⊥
+AreStartsAsked site Second db = IsTold Second site db
+AreStartsAsked site Third db = ⊤
+
+-- and not each is told
 abbrev pub LacksStarts : List ℕ → Version → Trees → Type 0
-LacksStarts site version db = (version ≡ Second) × IsTold Second site db × ¬ HasStarts db
+LacksStarts site version db = AreStartsAsked site version db × ¬ HasStarts db
+
+-- a store of the third version tells of no text of its site
+abbrev pub LacksText : Version → Trees → Type 0
+LacksText Third db = (text : List ℕ) → IsUtf8 text → ¬ HoldsSite text db
+LacksText _ db = ⊥
 
 -- rows that aren't a version's: with a number of a map or of an entry below zero, with a meta that
--- tells no site, or without a beginning of validity
+-- tells no site, without a beginning of validity, or without the site's text
 abbrev pub HasOtherRows : List ℕ → Version → Trees → Type 0
 HasOtherRows site version db =
     (¬ HasWhole db) ⊎ TellNoSite version (metas_in db) ⊎ LacksStarts site version db
+    ⊎ LacksText version db
 
 -- the tables are other ones: by their schema, or by the rows in a schema of a version
 abbrev pub HasOtherTables : List ℕ → Database → Type 0
@@ -79,14 +114,14 @@ HasOtherTables site db =
 
 -- what a refused connection shows: the fault of another site comes with such a row of meta alone,
 -- that of other tables with other tables alone, and another schema is refused for its tables
-pub record IsRefusedFor (site : List ℕ) (s : State) (fault : OpenFault) : Type 0 where
+pub record IsRefusedFor (site : TextOfSite) (s : State) (fault : OpenFault) : Type 0 where
   pub other_site : HasCleanDisk s → fault ≡ OtherSite → IsOfOtherSite site s.now
-  pub other_tables : HasCleanDisk s → fault ≡ OtherTables → HasOtherTables site s.now
+  pub other_tables : HasCleanDisk s → fault ≡ OtherTables → HasOtherTables (sha256 site.text) s.now
   pub other_schema : IsTrue s.is_open → IsOtherSchema s.now.schema → fault ≡ OtherTables
 
 -- a test of a found store: where it is passed this is so of the database; nothing is changed, and a
 -- crash leaves nothing new
-pub record Examines {S : Type 0} (g : Ghosts S) (site : List ℕ) (old new : Held S)
+pub record Examines {S : Type 0} (g : Ghosts S) (site : TextOfSite) (old new : Held S)
     (result : Result (Unit {0}) OpenFault) (Says : Database → Type 0) : Type 0 where
   pub says : HasCleanDisk (state g new) → OnOk result (Says (state g old).now)
   pub same : HasCleanDisk (state g new) → OnOk result (IsUnchanged (state g old) (state g new))
@@ -95,18 +130,33 @@ pub record Examines {S : Type 0} (g : Ghosts S) (site : List ℕ) (old new : Hel
   pub refused : IfErr result (IsRefusedFor site (state g new))
   pub crash : Survives (state g old) (state g new) (λ _. ⊥)
 
--- the tables of a store that had none, whole: all of them, with no row but that of meta
+-- the tables of a store that had none, whole: all of them, with no row but those that tell of the text
 abbrev pub IsMadeFor : List ℕ → State → Trees → Type 0
-IsMadeFor site before db = (tables_in before.committed.trees ≡ no_rows) × IsBegun site (office_over db)
+IsMadeFor text before db = (tables_in before.committed.trees ≡ no_rows) × IsBegun text (office_over db)
 
--- the tables of a store of the first version and this site, upgraded, whole
+-- the tables of a store of an earlier version and this site, upgraded, whole
 abbrev pub IsUpgradedFor : List ℕ → State → Trees → Type 0
-IsUpgradedFor site before db =
-    IsTold First site before.committed.trees × IsUpgrade before.committed.trees (office_over db)
+IsUpgradedFor text before db =
+    (version : Version) × (version ≢ Third) × IsTold version (sha256 text) before.committed.trees
+    × IsUpgrade version text before.committed.trees (office_over db)
+
+-- the store told of a text of which the site is a growth
+abbrev pub CanTake : SiteValue → Trees → Type 0
+CanTake site db = (text : List ℕ) × HoldsSite text db × IsGrownFrom text site
+
+-- and each beginning of validity is told
+abbrev pub IsGrowable : SiteValue → Database → Type 0
+IsGrowable site db = HasStarts db.trees × CanTake site db.trees
+
+-- the tables of a store that told of a text of which the site is a growth, with the new text, whole
+abbrev pub IsGrownFor : TextOfSite → State → Trees → Type 0
+IsGrownFor site before db =
+    CanTake site.site before.committed.trees × IsGrown site.text before.committed.trees (office_over db)
 
 -- what the one transaction may leave
-abbrev pub IsSettledFor : List ℕ → State → Trees → Type 0
-IsSettledFor site before db = IsMadeFor site before db ⊎ IsUpgradedFor site before db
+abbrev pub IsSettledFor : TextOfSite → State → Trees → Type 0
+IsSettledFor site before db =
+    IsMadeFor site.text before db ⊎ IsUpgradedFor site.text before db ⊎ IsGrownFor site before db
 
 -- no order and no record has a beginning of validity
 abbrev pub AreUnstarted : Tables → Type 0
@@ -114,35 +164,51 @@ AreUnstarted t =
     AllByRecursion (λ o. o.row.not_before ≡ None) t.orders
     × AllByRecursion (λ g. g.row.not_before ≡ None) t.given
 
--- of a store of the first version and this site there are none in these tables
-abbrev pub StaysUnstarted : List ℕ → Trees → Tables → Type 0
-StaysUnstarted site before t = IsTold First site before → AreUnstarted t
+-- of a store of the first version there are none in these tables
+abbrev pub StaysUnstarted : Trees → Tables → Type 0
+StaysUnstarted before t = (site : List ℕ) → IsTold First site before → AreUnstarted t
+
+-- rows that show this text alone, beside a row of meta that names it
+abbrev pub IsShownText : List ℕ → List Row → Option Meta → Type 0
+IsShownText text rows meta = IsOnlyText 1 text rows × (meta ≡ Some (new_meta (sha256 text)))
+
+-- where a store told of a text, the site is a growth of the one that it is
+abbrev pub TakesGrowth : SiteValue → Trees → Type 0
+TakesGrowth site before = (older : List ℕ) → HoldsSite older before → IsGrownFrom older site
+
+-- where a store of an earlier version told of itself, it told the SHA-256 of this text
+abbrev pub TakesOwn : List ℕ → Trees → Type 0
+TakesOwn text before =
+    (version : Version) (other : List ℕ) → version ≢ Third → IsTold version other before → other ≡ sha256 text
 
 -- an answer leaves the connection open and ready, with the tables that it had, and of the first
--- version with no beginning of validity; a fault leaves what was committed; and a crash leaves what
--- it left before, or what the one transaction makes
-pub record Settles {S : Type 0} (g : Ghosts S) (site : List ℕ) (old new : Held S)
+-- version with no beginning of validity; the store tells of the site's text, and told of none of
+-- which the site is no growth, and in an earlier version of this one; a fault leaves what was
+-- committed; and a crash leaves what it left before, or what the one transaction makes
+pub record Settles {S : Type 0} (g : Ghosts S) (site : TextOfSite) (old new : Held S)
     (result : Result (Unit {0}) OpenFault) : Type 0 where
   pub mode : new.in_transaction ≡ false
   pub ready : HasCleanDisk (state g new) → OnOk result (IsTrue (state g new).is_open × IsReady (state g new))
-  pub ours : HasCleanDisk (state g new) → OnOk result (IsOurs site (state g new).now.trees)
+  pub tells : HasCleanDisk (state g new) → OnOk result (HoldsSite site.text (state g new).now.trees)
+  pub grown : HasCleanDisk (state g new) → OnOk result (TakesGrowth site.site (state g old).now.trees)
+  pub own : HasCleanDisk (state g new) → OnOk result (TakesOwn site.text (state g old).now.trees)
   pub kept : HasCleanDisk (state g new) → OnOk result (tables_in (state g new).now.trees ≡ tables_in (state g old).now.trees)
   pub unstarted : HasCleanDisk (state g new) → OnOk result
-      (StaysUnstarted site (state g old).now.trees (tables_in (state g new).now.trees))
+      (StaysUnstarted (state g old).now.trees (tables_in (state g new).now.trees))
   pub refused : IfErr result (IsRefusedFor site (state g new))
   pub unchanged : HasCleanDisk (state g new)
       → IfErr result (λ _. KeepsCommit (state g old) (state g new))
   pub crash : Survives (state g old) (state g new) (IsSettledFor site (state g old))
 
 -- a crash after leaves what one before left, or what the one transaction makes: the tables of a
--- store that had none, or those of an upgraded one, whole
-abbrev pub LeavesAtMost : List ℕ → State → State → Type 0
+-- store that had none, those of an upgraded one, or those of one with a new text, whole
+abbrev pub LeavesAtMost : TextOfSite → State → State → Type 0
 LeavesAtMost site before after =
     (db : Trees) → after.may_leave db → before.may_leave db ⊎ IsSettledFor site before db
 
 module _ {S : Type 0} (g : Ghosts S) where
   -- the same of a connection that is handed back; a store that is handed back leaves what was left before
-  abbrev pub HandedLeaves : List ℕ → State → Handed S → Type 0
+  abbrev pub HandedLeaves : TextOfSite → State → Handed S → Type 0
   HandedLeaves site before (handed.Connection c) = HasCleanDisk (state g c) → LeavesAtMost site before (state g c)
   HandedLeaves site before (handed.Store store) = (db : Trees) → g.recovers store db → before.may_leave db
 
@@ -154,6 +220,6 @@ module _ {S : Type 0} (g : Ghosts S) where
   HandedKeeps before (handed.Store store) = ⊤
 
   -- a connection is handed back for what it shows, and a store because it failed
-  abbrev pub IsHandedFor : List ℕ → OpenFault → Handed S → Type 0
+  abbrev pub IsHandedFor : TextOfSite → OpenFault → Handed S → Type 0
   IsHandedFor site fault (handed.Connection c) = IsRefusedFor site (state g c) fault
   IsHandedFor site fault (handed.Store store) = fault ≡ Failed

@@ -1,6 +1,6 @@
 -- What a file that was found is asked before it counts as the office's: no identity and no number
 -- of an entry is below zero, and of each order and each record its beginning of validity is told.
-use Rattle.std.specs.Prelude.{◌≡◌, ℕ, pos, Bool, true, false, not, ◌&&◌, find, is_some, List, [], IsTrue, Result, IfOk, OnOk}
+use Rattle.std.specs.Prelude.{◌≡◌, ◌≢◌, ℕ, pos, Bool, true, false, not, ◌&&◌, find, is_some, List, [], IsTrue, Result, IfOk, OnOk}
 use Rattle.std.specs.List.{AllByRecursion}
 use Rattle.sqlite.specs.declared.types.Value.{Value}
 use Rattle.sqlite.specs.declared.types.Value.TheVariants.{Int}
@@ -14,9 +14,9 @@ use Rattle.sqlite.specs.State.{State, HasCleanDisk, IsUnchanged, Survives}
 use Rattle.office_sql.specs.Change.{Rests}
 use Rattle.sqlite.specs.Effect.{Database, IsDatabase}
 use Rattle.office_sql.specs.Rows.{order_in, given_in, starts_order, starts_given}
-use Rattle.office_sql.specs.Tables.{AreOfficeRows, IsOffice}
+use Rattle.office_sql.specs.Tables.{AreOfficeRows, AreStarted}
 use Rattle.office_store.specs.declared.version.Version.{Version}
-use Rattle.office_store.specs.declared.version.Version.TheVariants.{First, Second}
+use Rattle.office_store.specs.declared.version.Version.TheVariants.{First, Second, Third}
 use Rattle.office_store.specs.Versions.{schema_of}
 
 -- as SQL sees it
@@ -47,11 +47,17 @@ pub record HasStarts (trees : Trees) : Type 0 where
   pub orders : HaveStarts starts_order order_in (trees 7) (trees 17)
   pub given : HaveStarts starts_given given_in (trees 11) (trees 19)
 
+-- each order and each record has exactly one
+pub record AreAllStarted (trees : Trees) : Type 0 where
+  pub orders : AreStarted starts_order order_in (trees 7) (trees 17)
+  pub given : AreStarted starts_given given_in (trees 11) (trees 19)
+
 -- beside the office's rows: in the first version no beginning of validity is told, and in the
--- second, where none lacks, all is as the office has it
+-- others, where none lacks, each order and each record has exactly one
 abbrev pub AreStartsFound : Version → Database → Type 0
 AreStartsFound First db = (db.trees 17 ≡ []) × (db.trees 19 ≡ [])
-AreStartsFound Second db = HasStarts db.trees → IsOffice db
+AreStartsFound Second db = HasStarts db.trees → AreAllStarted db.trees
+AreStartsFound Third db = HasStarts db.trees → AreAllStarted db.trees
 
 -- a database of a version, with the office's rows
 pub record IsFound (version : Version) (db : Database) : Type 0 where
@@ -59,6 +65,10 @@ pub record IsFound (version : Version) (db : Database) : Type 0 where
   pub sound : IsDatabase db
   pub rows : AreOfficeRows db.trees
   pub starts : AreStartsFound version db
+
+-- a database of a version in which beginnings of validity are told
+abbrev pub IsFoundLater : Database → Type 0
+IsFoundLater db = (version : Version) × (version ≢ First) × IsFound version db
 
 -- an open connection sees a database of which this is so
 abbrev pub Sees : (Database → Type 0) → State → Type 0

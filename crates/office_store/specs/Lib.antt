@@ -8,6 +8,8 @@ pub mod Faults
 pub mod Adopting
 pub mod Found
 pub mod Versions
+pub mod Texts
+pub mod Growing
 pub mod Meta
 pub mod Described
 pub mod Opening

@@ -9,7 +9,9 @@ use Rattle.sqlite.specs.State.{State, Executes}
 use Rattle.office_tables.specs.Tables.{no_rows}
 use Rattle.office_store.specs.declared.meta.Meta.{Meta}
 use Rattle.office_store.specs.declared.version.Version.{Version}
-use Rattle.office_store.specs.declared.version.Version.TheVariants.{Second}
+use Rattle.office_store.specs.declared.version.Version.TheVariants.{Third}
+use Rattle.sha2.specs.Sha256.{sha256}
+use Rattle.office_store.specs.Texts.{HoldsText}
 use Rattle.office_store.specs.Versions.{first_tables, number_of}
 use Rattle.office_sql.specs.Values.{number_in}
 use Rattle.office_sql.specs.Tables.{IsBlob, IsOffice, tables_in}
@@ -30,17 +32,27 @@ pub record ShowMeta (db : Trees) (rows : List Row) : Type 0 where
   pub metas : IsPermutation (metas_in db) (map meta_of rows)
   pub blobs : AllByRecursion (IsBlob 2) rows
 
+-- no row of a table, and none of meta
+pub record HasNothing (db : Trees) : Type 0 where
+  pub tables : tables_in db ≡ no_rows
+  pub silent : metas_in db ≡ []
+
 -- the row by which a store of a version tells of itself
 abbrev pub meta_of_version : Version → List ℕ → Meta
 meta_of_version version site = record { id = 1; schema = number_of version; site = site }
 
 -- the row that a new store has
 abbrev pub new_meta : List ℕ → Meta
-new_meta = meta_of_version Second
+new_meta = meta_of_version Third
 
 -- the store has one row of meta, of this version and this site
 abbrev pub IsTold : Version → List ℕ → Trees → Type 0
 IsTold version site db = metas_in db ≡ meta_of_version version site ∷ []
+
+-- the store tells of this text of its site: it holds the text, and meta its SHA-256
+pub record HoldsSite (text : List ℕ) (db : Trees) : Type 0 where
+  pub holds : HoldsText text db
+  pub named : IsTold Third (sha256 text) db
 
 -- whatever the site, which is 32 bytes, they aren't the one row of its store of this version
 abbrev pub TellNoSite : Version → List Meta → Type 0
@@ -65,19 +77,19 @@ pub record IsNew (schema : Schema) (db : Database) : Type 0 where
 abbrev pub HasRun : List ℕ → State → State → Type 0
 HasRun sql old new = (count : ℕ) × Executes sql [] old new (Ok count)
 
--- the tables have no row but that of meta
-pub record IsFresh (site : List ℕ) (db : Trees) : Type 0 where
+-- the tables have no row but those that tell of this text of the site
+pub record IsFresh (text : List ℕ) (db : Trees) : Type 0 where
   pub tables : tables_in db ≡ no_rows
-  pub meta : metas_in db ≡ new_meta site ∷ []
+  pub tells : HoldsSite text db
 
--- a database of the office with no row but that of meta
-pub record IsBegun (site : List ℕ) (db : Database) : Type 0 where
+-- a database of the office with no row but those that tell of the text
+pub record IsBegun (text : List ℕ) (db : Database) : Type 0 where
   pub office : IsOffice db
-  pub fresh : IsFresh site db.trees
+  pub fresh : IsFresh text db.trees
 
 -- the tables are made and committed
-pub record IsCreated (site : List ℕ) (old new : State) : Type 0 where
+pub record IsCreated (text : List ℕ) (old new : State) : Type 0 where
   pub was_open : IsTrue old.is_open
   pub is_open : IsTrue new.is_open
-  pub begun : IsBegun site new.now
+  pub begun : IsBegun text new.now
   pub committed : new.committed ≡ new.now

@@ -1,4 +1,4 @@
--- How a database of the first version comes to have the tables of the second, in one transaction.
+-- How a database of an earlier version comes to have the tables of the third, in one transaction.
 use Rattle.std.specs.Prelude.{◌≡◌, ◌≢◌, ℕ, Bool, List, [], IsTrue}
 use Rattle.std.specs.List.{AllByRecursion}
 use Rattle.sqlite.specs.declared.types.Value.TheVariants.{Null}
@@ -13,9 +13,11 @@ use Rattle.office_sql.specs.Change.{SameBut}
 use Rattle.office_sql.specs.Schema.{office_schema}
 use Rattle.office_sql.specs.Rows.{order_in, given_in, starts_order, starts_given}
 use Rattle.office_sql.specs.Tables.{AreRows, AreStarted, IsGivenRow, IsOffice, IsOrderRow, tables_in}
-use Rattle.office_store.specs.declared.version.Version.TheVariants.{First, Second}
-use Rattle.office_store.specs.Found.{IsFound, Sees}
+use Rattle.office_store.specs.declared.version.Version.{Version}
+use Rattle.office_store.specs.declared.version.Version.TheVariants.{First, Second, Third}
+use Rattle.office_store.specs.Found.{HasStarts, IsFound, Sees}
 use Rattle.office_store.specs.Meta.{IsTold}
+use Rattle.office_store.specs.Texts.{HoldsText}
 use Rattle.office_store.specs.Versions.{schema_of}
 
 -- the rows of these tables stand, but for those of one tree
@@ -25,9 +27,24 @@ KeepsAllBut tree tables old new =
 
 -- the tables of beginnings of validity are made, with no row, and each other table stays
 pub record GainsStarts (old new : Database) : Type 0 where
+  pub schema : new.schema ≡ schema_of Second
+  pub orders : new.trees 17 ≡ []
+  pub given : new.trees 19 ≡ []
+  pub others : KeepsRows (schema_of First).tables old.trees new.trees
+
+-- the table of the site's text is made, with no row, and each other table stays
+pub record GainsText (old new : Database) : Type 0 where
+  pub schema : new.schema ≡ office_schema
+  pub sound : IsDatabase new
+  pub none : new.trees 21 ≡ []
+  pub others : KeepsRows (schema_of Second).tables old.trees new.trees
+
+-- the tables of the first version stand, and the others are made, with no row
+pub record GainsLater (old new : Database) : Type 0 where
   pub schema : new.schema ≡ office_schema
   pub orders : new.trees 17 ≡ []
   pub given : new.trees 19 ≡ []
+  pub texts : new.trees 21 ≡ []
   pub others : KeepsRows (schema_of First).tables old.trees new.trees
 
 -- orders, of none of which a beginning of validity is told
@@ -46,6 +63,7 @@ pub record LacksGivenStarts (db : Database) : Type 0 where
 pub record GainsNone {A : Type 0} (is_for : A → Row → Bool) (value : Row → A) (tree side : ℕ)
     (old new : Database) : Type 0 where
   pub schema : new.schema ≡ office_schema
+  pub sound : IsDatabase new
   pub started : AreStarted is_for value (old.trees tree) (new.trees side)
   pub silent : AllByRecursion (λ s. column s 3 ≡ Null) (new.trees side)
   pub others : SameBut side old.trees new.trees
@@ -56,33 +74,52 @@ pub record GainsNoStart (old new : Database) : Type 0 where
   pub orders : GainsNone starts_order order_in 7 17 old mid
   pub given : GainsNone starts_given given_in 11 19 mid new
 
--- of the same site the second version is told where the first was, and no other table changes
-pub record TellsSecond (old new : Database) : Type 0 where
+-- what a database of an earlier version lacks is there, but the site's text: each row stands, the
+-- tables say what they said, and all is as the office has it
+pub record IsFilled (version : Version) (old new : Database) : Type 0 where
+  pub office : IsOffice new
+  pub tables : tables_in new.trees ≡ tables_in old.trees
+  pub rows : KeepsRows (schema_of version).tables old.trees new.trees
+  pub none : new.trees 21 ≡ []
+
+-- the text is held, and no other table changes
+pub record PutsText (text : List ℕ) (old new : Database) : Type 0 where
   pub schema : new.schema ≡ office_schema
   pub sound : IsDatabase new
-  pub told : (site : List ℕ) → IsTold First site old.trees → IsTold Second site new.trees
+  pub holds : HoldsText text new.trees
+  pub others : SameBut 21 old.trees new.trees
+
+-- of the same site the third version is told where another was, and no other table changes
+pub record TellsThird (old new : Database) : Type 0 where
+  pub schema : new.schema ≡ office_schema
+  pub sound : IsDatabase new
+  pub told : (version : Version) → (site : List ℕ) → IsTold version site old.trees → IsTold Third site new.trees
   pub others : SameBut 0 old.trees new.trees
 
--- a store of the first version tells of itself, whatever its site
-abbrev pub IsFirst : Trees → Type 0
-IsFirst db = (site : List ℕ) × IsTold First site db
+-- a store of a version tells of itself, whatever its site
+abbrev pub TellsItself : Version → Trees → Type 0
+TellsItself version db = (site : List ℕ) × IsTold version site db
 
--- each row but that of meta stands, and the tables say what they said; the second version is told
--- of the same site; and all is as the office has it
-pub record IsUpgrade (old : Trees) (new : Database) : Type 0 where
-  pub rows : KeepsAllBut 0 (schema_of First).tables old new.trees
+-- each row but that of meta stands, and the tables say what they said; the third version is told of
+-- the same site, of which the text is held; and all is as the office has it
+pub record IsUpgrade (version : Version) (text : List ℕ) (old : Trees) (new : Database) : Type 0 where
+  pub rows : KeepsAllBut 0 (schema_of version).tables old new.trees
   pub tables : tables_in new.trees ≡ tables_in old
-  pub told : (site : List ℕ) → IsTold First site old → IsTold Second site new.trees
+  pub told : (site : List ℕ) → IsTold version site old → IsTold Third site new.trees
+  pub holds : HoldsText text new.trees
   pub office : IsOffice new
 
--- an open connection sees a database of the first version, which tells of itself
-pub record CanUpgrade (s : State) : Type 0 where
-  pub found : Sees (IsFound First) s
-  pub told : Sees (λ db. IsFirst db.trees) s
+-- an open connection sees a database of an earlier version, which tells of itself, and of the second
+-- one in which no beginning of validity lacks
+pub record CanUpgrade (version : Version) (s : State) : Type 0 where
+  pub earlier : version ≢ Third
+  pub found : Sees (IsFound version) s
+  pub told : Sees (λ db. TellsItself version db.trees) s
+  pub started : version ≢ First → Sees (λ db. HasStarts db.trees) s
 
 -- it was made, and was committed
-pub record IsUpgraded (old new : State) : Type 0 where
+pub record IsUpgraded (version : Version) (text : List ℕ) (old new : State) : Type 0 where
   pub was_open : IsTrue old.is_open
   pub is_open : IsTrue new.is_open
-  pub upgrade : IsUpgrade old.now.trees new.now
+  pub upgrade : IsUpgrade version text old.now.trees new.now
   pub committed : new.committed ≡ new.now

@@ -3,11 +3,12 @@ use Rattle.std.specs.Prelude.{◌≢◌, ℕ, [], take}
 use Rattle.sqlite.specs.Schema.{Schema}
 use Rattle.office_sql.specs.Schema.{office_schema}
 use Rattle.office_store.specs.declared.version.Version.{Version}
-use Rattle.office_store.specs.declared.version.Version.TheVariants.{First, Second}
+use Rattle.office_store.specs.declared.version.Version.TheVariants.{First, Second, Third}
 
 abbrev pub number_of : Version → ℕ
 number_of First = 1
 number_of Second = 2
+number_of Third = 3
 
 -- the first tables of the office with their indexes
 abbrev pub first_tables : ℕ → ℕ → Schema
@@ -17,10 +18,12 @@ first_tables tables indexes = record {
   views = [];
 }
 
--- the schema of a version: the first has no table of beginnings of validity
+-- the schema of a version: the first has no table of beginnings of validity, and neither it nor the
+-- second one of the site's text
 abbrev pub schema_of : Version → Schema
 schema_of First = first_tables 8 9
-schema_of Second = office_schema
+schema_of Second = first_tables 10 11
+schema_of Third = office_schema
 
 -- a schema that no version has
 abbrev pub IsOfNoVersion : Schema → Type 0

@@ -4,23 +4,31 @@ ghost use Rattle.sqlite.specs.State.{HasCleanDisk};
 ghost use Rattle.sqlite.specs.Held.{state};
 ghost use Rattle.office_sql.specs.Schema.{no_schema};
 ghost use Rattle.office_sql.specs.Tables.{tables_in};
-ghost use Rattle.office_store.specs.Adopting.{CanSettle, Examines, HandedKeeps, HandedLeaves, IsFoundAt, IsHandedFor, IsOurs, LeavesAtMost, Settles, StaysUnstarted};
+ghost use Rattle.office_store.specs.Adopting.{AreStartsAsked, CanSettle, CanTake, Examines, HandedKeeps, HandedLeaves, IsFoundAt, IsGrowable, IsHandedFor, IsOurs, IsShownText, LeavesAtMost, Settles, StaysUnstarted, TakesGrowth, TakesOwn};
 ghost use Rattle.office_store.specs.Found.{HasStarts, IsFound};
-ghost use Rattle.office_store.specs.Meta.{meta_of_version, IsTold};
+ghost use Rattle.office_store.specs.Meta.{meta_of_version, new_meta, IsTold};
+ghost use Rattle.office_store.specs.Texts.{HoldsText, IsGrownFrom};
 ghost use Rattle.office_store.specs.Upgrading.{CanUpgrade};
 ghost use Rattle.office_store.specs.Versions.{schema_of};
 ghost use Rattle.office_store.specs.declared.fault.OpenFault.TheVariants.{OtherSite as TheSite, OtherTables as TheTables};
-ghost use Rattle.office_store.specs.declared.version.Version.TheVariants.{First, Second};
+ghost use Rattle.office_store.specs.declared.version.Version.TheVariants.{First, Second, Third};
+ghost use Rattle.office_store.specs.declared.version.Version.{Version as TheVersion};
+ghost use Rattle.sha2.specs.Sha256.{sha256};
+ghost use Rattle.site_core.specs.SiteText.{TextOfSite};
+ghost use Rattle.std.specs.Str.{IsUtf8};
 
 use crate::create::make_tables;
 use crate::fault::OpenFault;
 use crate::found::{has_starts, has_whole_numbers, reread};
+use crate::grow::grow_text;
 use crate::keep::SqlKeep;
 use crate::meta::{META_ID, Meta, meta_row};
 use crate::schema::{is_empty_schema, version_of};
+use crate::site_text::{has_text, only_text, told_rows};
 use crate::upgrade::upgrade_tables;
 use crate::version::Version;
-use sqlite::{Alter, Connection};
+use site_core::{Site, SiteFault, SiteText, read_site};
+use sqlite::{Alter, Connection, Row};
 use std::alloc::Global;
 use text_core::Digest;
 
@@ -62,7 +70,7 @@ fn judge_meta(meta: Option<Meta>, site: &Digest, version: Version) -> Result<(),
 }
 
 /// Makes the tables of a store that has none.
-fn make<S: Alter>(conn: &mut Connection<S>, site: &Digest) -> Result<(), OpenFault>
+fn make<S: Alter>(conn: &mut Connection<S>, site: &SiteText) -> Result<(), OpenFault>
     requires can { CanSettle (state S.Store conn.old) }
     requires bare { (state S.Store conn.old).now.schema ≡ no_schema }
     ensures { Settles S.Store site.now conn.old conn.new result }
@@ -77,7 +85,7 @@ fn make<S: Alter>(conn: &mut Connection<S>, site: &Digest) -> Result<(), OpenFau
 fn test_numbers<S: Alter>(conn: &mut Connection<S>, version: Version) -> Result<(), OpenFault>
     requires can { CanSettle (state S.Store conn.old) }
     requires has { (state S.Store conn.old).now.schema ≡ schema_of version }
-    ensures { (site : List ℕ) → Examines S.Store site conn.old conn.new result (IsFound version) }
+    ensures { (site : TextOfSite) → Examines S.Store site conn.old conn.new result (IsFound version) }
 {
     match has_whole_numbers(conn) {
         Ok(true) => Ok(()),
@@ -86,32 +94,104 @@ fn test_numbers<S: Alter>(conn: &mut Connection<S>, version: Version) -> Result<
     }
 }
 
-/// Tests whose site a store of a version is of.
-fn test_site<S: Alter>(
-    conn: &mut Connection<S>,
-    site: &Digest,
-    version: Version,
-) -> Result<(), OpenFault>
-    requires found { IsFoundAt version (state S.Store conn.old) }
-    ensures { Examines S.Store site.now conn.old conn.new result
-        (λ db. IsTold version site.now db.trees) }
+/// Whether the store tells of a text: it is of the third version, and names the text's SHA-256.
+fn tells_text(meta: Option<Meta>, text: &str) -> bool
+    ensures { IsTrue result ↔ (meta ≡ Some (new_meta (sha256 text.now))) }
 {
-    match meta_row(conn) {
-        Ok(meta) => judge_meta(meta, site, version),
+    match meta {
+        Some(meta) => {
+            is_of_version(&meta, Version::Third) && meta.site == Digest::of(text.as_bytes())
+        }
+        None => false,
+    }
+}
+
+/// Whether the site is a growth of the one that a text is.
+fn judge_growth(alloc: Global, held: &str, site: &Site) -> Result<(), OpenFault>
+    ensures grown { OnOk result (IsGrownFrom held.now site.now) }
+    ensures other_site { IfErr result (λ fault. fault ≡ TheSite → ¬ IsGrownFrom held.now site.now) }
+    ensures other_tables { IfErr result (λ fault. fault ≢ TheTables) }
+{
+    match read_site(alloc, held) {
+        Ok(older) if older.is_growth(site) => Ok(()),
+        Err(SiteFault::OutOfMemory) => Err(OpenFault::Failed),
+        _ => Err(OpenFault::OtherSite),
+    }
+}
+
+/// Whether the store tells of a text, and the site is a growth of the one that it is.
+fn judge_text(alloc: Global, meta: Option<Meta>, rows: &[Row], site: &Site) -> Result<(), OpenFault>
+    ensures grown { OnOk result ((text : List ℕ) × IsShownText text rows.now meta × IsGrownFrom text site.now) }
+    ensures other_site { IfErr result (λ fault. fault ≡ TheSite
+        → (text : List ℕ) × IsShownText text rows.now meta × ¬ IsGrownFrom text site.now) }
+    ensures other_tables { IfErr result (λ fault. fault ≡ TheTables
+        → (text : List ℕ) → IsUtf8 text → ¬ IsShownText text rows.now meta) }
+{
+    let Some(text) = only_text(rows) else {
+        return Err(OpenFault::OtherTables);
+    };
+    if !tells_text(meta, text) {
+        return Err(OpenFault::OtherTables);
+    }
+    judge_growth(alloc, text, site)
+}
+
+/// Tests that a store of the third version tells of a text, and that the site is a growth of the one
+/// that it is.
+fn test_growth<S: Alter>(
+    alloc: Global,
+    conn: &mut Connection<S>,
+    site: &SiteText,
+) -> Result<(), OpenFault>
+    requires { IsFoundAt Third (state S.Store conn.old) }
+    ensures { Examines S.Store site.now conn.old conn.new result (λ db. CanTake site.now.site db.trees) }
+{
+    match told_rows(conn) {
+        Ok((meta, rows)) => judge_text(alloc, meta, rows.as_slice(), site.site()),
         Err(_) => Err(OpenFault::Failed),
     }
 }
 
-/// Tests a store that has the tables of a version: its numbers, and whose site it is of.
-fn test_tables<S: Alter>(
+/// Holds the text of a site that grew.
+fn grow<S: Alter>(conn: &mut Connection<S>, site: &SiteText) -> Result<(), OpenFault>
+    requires found { IsFoundAt Third (state S.Store conn.old) }
+    requires can { HasCleanDisk (state S.Store conn.old) → IsGrowable site.now.site (state S.Store conn.old).now }
+    ensures { Settles S.Store site.now conn.old conn.new result }
+{
+    match grow_text(conn, site) {
+        Ok(()) => Ok(()),
+        Err(_) => Err(OpenFault::Failed),
+    }
+}
+
+/// Tests whose site a store of an earlier version is of.
+fn test_site<S: Alter>(
     conn: &mut Connection<S>,
-    site: &Digest,
+    site: &SiteText,
     version: Version,
 ) -> Result<(), OpenFault>
+    requires earlier { version ≢ Third }
+    requires found { IsFoundAt version (state S.Store conn.old) }
+    ensures { Examines S.Store site.now conn.old conn.new result
+        (λ db. IsTold version (sha256 site.now.text) db.trees) }
+{
+    match meta_row(conn) {
+        Ok(meta) => judge_meta(meta, &site.digest(), version),
+        Err(_) => Err(OpenFault::Failed),
+    }
+}
+
+/// Tests a store that has the tables of an earlier version: its numbers, and whose site it is of.
+fn test_tables<S: Alter>(
+    conn: &mut Connection<S>,
+    site: &SiteText,
+    version: Version,
+) -> Result<(), OpenFault>
+    requires earlier { version ≢ Third }
     requires can { CanSettle (state S.Store conn.old) }
     requires has { (state S.Store conn.old).now.schema ≡ schema_of version }
     ensures { Examines S.Store site.now conn.old conn.new result
-        (λ db. IsFound version db × IsTold version site.now db.trees) }
+        (λ db. IsFound version db × IsTold version (sha256 site.now.text) db.trees) }
 {
     test_numbers(conn, version)?;
     test_site(conn, site, version)
@@ -119,10 +199,10 @@ fn test_tables<S: Alter>(
 
 /// Tests that of each order and each record its beginning of validity is told.
 fn test_starts<S: Alter>(conn: &mut Connection<S>) -> Result<(), OpenFault>
-    requires { IsFoundAt Second (state S.Store conn.old) }
-    ensures { (site : List ℕ)
-        → (HasCleanDisk (state S.Store conn.old)
-        → IsTold Second site (state S.Store conn.old).now.trees)
+    requires { (version : TheVersion) × (version ≢ First) × IsFoundAt version (state S.Store conn.old) }
+    ensures { (site : TextOfSite) → (version : TheVersion)
+        → (HasCleanDisk (state S.Store conn.old) → (state S.Store conn.old).now.schema ≡ schema_of version
+        × AreStartsAsked (sha256 site.text) version (state S.Store conn.old).now.trees)
         → Examines S.Store site conn.old conn.new result (λ db. HasStarts db.trees) }
 {
     match has_starts(conn) {
@@ -132,41 +212,112 @@ fn test_starts<S: Alter>(conn: &mut Connection<S>) -> Result<(), OpenFault>
     }
 }
 
-/// Makes a store of the first version one of the second.
-fn upgrade<S: Alter>(conn: &mut Connection<S>) -> Result<(), OpenFault>
-    requires found { IsFoundAt First (state S.Store conn.old) }
-    requires can { CanUpgrade (state S.Store conn.old) }
-    ensures { (site : List ℕ)
-        → (HasCleanDisk (state S.Store conn.old)
-        → IsTold First site (state S.Store conn.old).now.trees)
-        → Settles S.Store site conn.old conn.new result }
+/// Makes a store of an earlier version one of the third.
+fn upgrade<S: Alter>(
+    conn: &mut Connection<S>,
+    site: &SiteText,
+    version: Version,
+) -> Result<(), OpenFault>
+    requires found { IsFoundAt version (state S.Store conn.old) }
+    requires can { CanUpgrade version (state S.Store conn.old) }
+    requires told { HasCleanDisk (state S.Store conn.old)
+        → IsTold version (sha256 site.now.text) (state S.Store conn.old).now.trees }
+    ensures { Settles S.Store site.now conn.old conn.new result }
 {
-    match upgrade_tables(conn) {
+    match upgrade_tables(conn, site.text(), version) {
         Ok(()) => Ok(()),
         Err(_) => Err(OpenFault::Failed),
     }
 }
 
-/// Tests a store that has the tables of a version, and upgrades one of the first.
-fn find<S: Alter>(
+fn find_first<S: Alter>(conn: &mut Connection<S>, site: &SiteText) -> Result<(), OpenFault>
+    requires can { CanSettle (state S.Store conn.old) }
+    requires has { (state S.Store conn.old).now.schema ≡ schema_of First }
+    ensures { Settles S.Store site.now conn.old conn.new result }
+{
+    test_tables(conn, site, Version::First)?;
+    upgrade(conn, site, Version::First)
+}
+
+fn find_second<S: Alter>(conn: &mut Connection<S>, site: &SiteText) -> Result<(), OpenFault>
+    requires can { CanSettle (state S.Store conn.old) }
+    requires has { (state S.Store conn.old).now.schema ≡ schema_of Second }
+    ensures { Settles S.Store site.now conn.old conn.new result }
+{
+    test_tables(conn, site, Version::Second)?;
+    test_starts(conn)?;
+    upgrade(conn, site, Version::Second)
+}
+
+/// Tests a store of the third version: its numbers, its beginnings of validity, and that the site is
+/// a growth of the one whose text it holds.
+fn test_third<S: Alter>(
+    alloc: Global,
     conn: &mut Connection<S>,
-    site: &Digest,
+    site: &SiteText,
+) -> Result<(), OpenFault>
+    requires can { CanSettle (state S.Store conn.old) }
+    requires has { (state S.Store conn.old).now.schema ≡ schema_of Third }
+    ensures { Examines S.Store site.now conn.old conn.new result
+        (λ db. IsFound Third db × IsGrowable site.now.site db) }
+{
+    test_numbers(conn, Version::Third)?;
+    test_starts(conn)?;
+    test_growth(alloc, conn, site)
+}
+
+/// Holds the text of the site, where it isn't held.
+fn hold_text<S: Alter>(conn: &mut Connection<S>, site: &SiteText) -> Result<(), OpenFault>
+    requires found { IsFoundAt Third (state S.Store conn.old) }
+    requires can { HasCleanDisk (state S.Store conn.old) → IsGrowable site.now.site (state S.Store conn.old).now }
+    ensures { Settles S.Store site.now conn.old conn.new result }
+{
+    match has_text(conn, site.text()) {
+        Ok(true) => Ok(()),
+        Ok(false) => grow(conn, site),
+        Err(_) => Err(OpenFault::Failed),
+    }
+}
+
+fn find_third<S: Alter>(
+    alloc: Global,
+    conn: &mut Connection<S>,
+    site: &SiteText,
+) -> Result<(), OpenFault>
+    requires can { CanSettle (state S.Store conn.old) }
+    requires has { (state S.Store conn.old).now.schema ≡ schema_of Third }
+    ensures { Settles S.Store site.now conn.old conn.new result }
+{
+    test_third(alloc, conn, site)?;
+    hold_text(conn, site)
+}
+
+/// Tests a store that has the tables of a version, upgrades one of an earlier version, and holds the
+/// text of a site that grew.
+fn find<S: Alter>(
+    alloc: Global,
+    conn: &mut Connection<S>,
+    site: &SiteText,
     version: Version,
 ) -> Result<(), OpenFault>
     requires can { CanSettle (state S.Store conn.old) }
     requires has { (state S.Store conn.old).now.schema ≡ schema_of version }
     ensures { Settles S.Store site.now conn.old conn.new result }
 {
-    test_tables(conn, site, version)?;
     match version {
-        Version::First => upgrade(conn),
-        Version::Second => test_starts(conn),
+        Version::First => find_first(conn, site),
+        Version::Second => find_second(conn, site),
+        Version::Third => find_third(alloc, conn, site),
     }
 }
 
-/// Makes the tables of a store that has none, or tests those that are there, and upgrades those of
-/// the first version.
-pub(crate) fn settle<S: Alter>(conn: &mut Connection<S>, site: &Digest) -> Result<(), OpenFault>
+/// Makes the tables of a store that has none, or tests those that are there, upgrades those of an
+/// earlier version, and holds the text of a site that grew.
+pub(crate) fn settle<S: Alter>(
+    alloc: Global,
+    conn: &mut Connection<S>,
+    site: &SiteText,
+) -> Result<(), OpenFault>
     requires { CanSettle (state S.Store conn.old) }
     ensures { Settles S.Store site.now conn.old conn.new result }
 {
@@ -174,14 +325,15 @@ pub(crate) fn settle<S: Alter>(conn: &mut Connection<S>, site: &Digest) -> Resul
         return make(conn, site);
     }
     match version_of(conn.schema()) {
-        Some(version) => find(conn, site, version),
+        Some(version) => find(alloc, conn, site, version),
         None => Err(OpenFault::OtherTables),
     }
 }
 
-/// Makes a keeper of a connection to the store of a site, which the SHA-256 of its text names: it
-/// makes the tables of an empty store, in one transaction, and tests those of another. To those of
-/// the first version it adds what they lack, in one transaction too. What isn't committed is lost.
+/// Makes a keeper of a connection to the store of a site: it makes the tables of an empty store, in
+/// one transaction, and tests those of another. To those of an earlier version, which must be of this
+/// text, it adds what they lack, in one transaction too. One of this version holds the text of a
+/// site of which this one must be a growth, and then holds this text. What isn't committed is lost.
 ///
 /// # Errors
 ///
@@ -189,15 +341,21 @@ pub(crate) fn settle<S: Alter>(conn: &mut Connection<S>, site: &Digest) -> Resul
 pub fn adopt<S: Alter + Drop>(
     alloc: Global,
     conn: Connection<S>,
-    site: &Digest,
+    site: &SiteText,
 ) -> Result<SqlKeep<S>, (OpenFault, Handed<S>)>
-    ensures site { IfOk result (λ keep. keep.site ≡ site.now) }
+    ensures site { IfOk result (λ keep. keep.site ≡ site.now.digest) }
     ensures open { IfOk result (λ keep. HasCleanDisk (state S.Store keep.conn) → IsTrue (state S.Store keep.conn).is_open) }
-    ensures ours { IfOk result (λ keep. HasCleanDisk (state S.Store keep.conn) → IsOurs site.now (state S.Store keep.conn).now.trees) }
+    ensures ours { IfOk result (λ keep. HasCleanDisk (state S.Store keep.conn) → IsOurs site.now.digest (state S.Store keep.conn).now.trees) }
+    ensures text { IfOk result (λ keep. HasCleanDisk (state S.Store keep.conn)
+        → HoldsText site.now.text (state S.Store keep.conn).now.trees) }
+    ensures grown { IfOk result (λ keep. HasCleanDisk (state S.Store keep.conn)
+        → TakesGrowth site.now.site (state S.Store conn).committed.trees) }
+    ensures own { IfOk result (λ keep. HasCleanDisk (state S.Store keep.conn)
+        → TakesOwn site.now.text (state S.Store conn).committed.trees) }
     ensures clean { IfOk result (λ keep. HasCleanDisk (state S.Store keep.conn) → HasCleanDisk (state S.Store conn)) }
     ensures kept { IfOk result (λ keep. HasCleanDisk (state S.Store keep.conn) → tables_in (state S.Store keep.conn).now.trees ≡ tables_in (state S.Store conn).committed.trees) }
     ensures unstarted { IfOk result (λ keep. HasCleanDisk (state S.Store keep.conn)
-        → StaysUnstarted site.now (state S.Store conn).committed.trees
+        → StaysUnstarted (state S.Store conn).committed.trees
         (tables_in (state S.Store keep.conn).now.trees)) }
     ensures crash { IfOk result (λ keep. HasCleanDisk (state S.Store keep.conn) → LeavesAtMost site.now (state S.Store conn) (state S.Store keep.conn)) }
     ensures refused { IfErr result (λ e. IsHandedFor S.Store site.now e.0 e.1) }
@@ -208,8 +366,8 @@ pub fn adopt<S: Alter + Drop>(
         Ok(conn) => conn,
         Err((_, store)) => return Err((OpenFault::Failed, Handed::Store(store))),
     };
-    match settle(&mut conn, site) {
-        Ok(()) => Ok(SqlKeep::over(alloc, conn, *site)),
+    match settle(alloc, &mut conn, site) {
+        Ok(()) => Ok(SqlKeep::over(alloc, conn, site.digest())),
         Err(fault) => Err((fault, Handed::Connection(conn))),
     }
 }

@@ -1,4 +1,4 @@
-// How a store of the first version comes to have the tables of the second.
+// How a store of an earlier version comes to have the tables of the third.
 ghost use Rattle.std.specs.Prelude.{◌≡◌, false, IsTrue, OnOk, OnErr};
 ghost use Rattle.sqlite.specs.State.{HasCleanDisk, Survives};
 ghost use Rattle.sqlite.specs.Held.{state};
@@ -7,10 +7,13 @@ ghost use Rattle.office_sql.specs.Change.{IsUndone};
 ghost use Rattle.office_sql.specs.Rows.{order_in, given_in, starts_order, starts_given};
 ghost use Rattle.office_sql.specs.Schema.{office_schema};
 ghost use Rattle.office_sql.specs.Tables.{office_over};
-ghost use Rattle.office_store.specs.Found.{Sees};
-ghost use Rattle.office_store.specs.Upgrading.{CanUpgrade, GainsNone, GainsNoStart, IsFirst, IsUpgrade, IsUpgraded, LacksGivenStarts, LacksOrderStarts, TellsSecond};
+ghost use Rattle.office_store.specs.Found.{HasStarts, IsFound, Sees};
+ghost use Rattle.office_store.specs.Upgrading.{CanUpgrade, GainsNone, GainsNoStart, IsFilled, IsUpgrade, IsUpgraded, LacksGivenStarts, LacksOrderStarts, TellsItself, TellsThird};
+ghost use Rattle.office_store.specs.declared.version.Version.{Version as TheVersion};
+ghost use Rattle.office_store.specs.declared.version.Version.TheVariants.{First, Second};
 
-use crate::create::make_starts;
+use crate::create::{add_text, make_later, make_text};
+use crate::version::Version;
 use sqlite::{Alter, Connection, Error, Transaction};
 
 /// Tells of each order that it has no beginning of validity.
@@ -52,46 +55,91 @@ fn fill_starts<S: Alter>(tx: &mut Transaction<'_, S>) -> Result<(), Error>
     fill_given_starts(tx)
 }
 
-/// Tells that the store is of the second version.
-fn tell_schema<S: Alter>(tx: &mut Transaction<'_, S>) -> Result<(), Error>
-    requires has { Sees (λ db. db.schema ≡ office_schema) (state S.Store tx.old.conn.now) }
-    requires told { Sees (λ db. IsFirst db.trees) (state S.Store tx.old.conn.now) }
+/// Makes what a store of the first version lacks, but the text of its site.
+fn fill_first<S: Alter>(tx: &mut Transaction<'_, S>) -> Result<(), Error>
+    requires { Sees (IsFound First) (state S.Store tx.old.conn.now) }
     ensures same_reference { tx.new.conn.ghost_name ≡ tx.old.conn.ghost_name }
     ensures changes { Changes S.Store tx.old.conn.now tx.new.conn.now result
-        (λ old new _. TellsSecond old new) }
+        (λ old new _. IsFilled First old new) }
 {
-    tx.execute("UPDATE meta SET schema = 2 WHERE id = 1", &[])?;
+    make_later(tx)?;
+    fill_starts(tx)
+}
+
+/// Makes what one of the second version lacks.
+fn fill_second<S: Alter>(tx: &mut Transaction<'_, S>) -> Result<(), Error>
+    requires found { Sees (IsFound Second) (state S.Store tx.old.conn.now) }
+    requires started { Sees (λ db. HasStarts db.trees) (state S.Store tx.old.conn.now) }
+    ensures same_reference { tx.new.conn.ghost_name ≡ tx.old.conn.ghost_name }
+    ensures changes { Changes S.Store tx.old.conn.now tx.new.conn.now result
+        (λ old new _. IsFilled Second old new) }
+{
+    make_text(tx)
+}
+
+/// Makes what one of an earlier version lacks.
+fn fill<S: Alter>(tx: &mut Transaction<'_, S>, version: Version) -> Result<(), Error>
+    requires { CanUpgrade version (state S.Store tx.old.conn.now) }
+    ensures same_reference { tx.new.conn.ghost_name ≡ tx.old.conn.ghost_name }
+    ensures changes { Changes S.Store tx.old.conn.now tx.new.conn.now result
+        (λ old new _. IsFilled version old new) }
+{
+    match version {
+        Version::First => fill_first(tx),
+        _ => fill_second(tx),
+    }
+}
+
+/// Tells that the store is of the third version.
+fn tell_schema<S: Alter>(tx: &mut Transaction<'_, S>) -> Result<(), Error>
+    requires has { Sees (λ db. db.schema ≡ office_schema) (state S.Store tx.old.conn.now) }
+    requires told { Sees (λ db. (version : TheVersion) × TellsItself version db.trees)
+        (state S.Store tx.old.conn.now) }
+    ensures same_reference { tx.new.conn.ghost_name ≡ tx.old.conn.ghost_name }
+    ensures changes { Changes S.Store tx.old.conn.now tx.new.conn.now result
+        (λ old new _. TellsThird old new) }
+{
+    tx.execute("UPDATE meta SET schema = 3 WHERE id = 1", &[])?;
     Ok(())
 }
 
-fn change_all<S: Alter>(tx: &mut Transaction<'_, S>) -> Result<(), Error>
-    requires { CanUpgrade (state S.Store tx.old.conn.now) }
+fn change_all<S: Alter>(
+    tx: &mut Transaction<'_, S>,
+    text: &str,
+    version: Version,
+) -> Result<(), Error>
+    requires { CanUpgrade version (state S.Store tx.old.conn.now) }
     ensures same_reference { tx.new.conn.ghost_name ≡ tx.old.conn.ghost_name }
     ensures changes { Changes S.Store tx.old.conn.now tx.new.conn.now result
-        (λ old new _. IsUpgrade old.trees new) }
+        (λ old new _. IsUpgrade version text.now old.trees new) }
 {
-    make_starts(tx)?;
-    fill_starts(tx)?;
+    fill(tx, version)?;
+    add_text(tx, text)?;
     tell_schema(tx)
 }
 
-/// Makes the tables that a store of the first version lacks, tells of each order and record that it
-/// has no beginning of validity, and tells the second version, all in one transaction.
-pub fn upgrade_tables<S: Alter>(conn: &mut Connection<S>) -> Result<(), Error>
-    requires can { CanUpgrade (state S.Store conn.old) }
+/// Makes the tables that a store of an earlier version lacks, tells of each order and record of the
+/// first that it has no beginning of validity, holds the text of the site, and tells the third
+/// version, all in one transaction.
+pub fn upgrade_tables<S: Alter>(
+    conn: &mut Connection<S>,
+    text: &str,
+    version: Version,
+) -> Result<(), Error>
+    requires can { CanUpgrade version (state S.Store conn.old) }
     requires mode { conn.old.in_transaction ≡ false }
     requires settled { IsTrue (state S.Store conn.old).is_open
         → (state S.Store conn.old).now ≡ (state S.Store conn.old).committed }
     ensures mode { conn.new.in_transaction ≡ false }
     ensures ok { HasCleanDisk (state S.Store conn.new)
-        → OnOk result (IsUpgraded (state S.Store conn.old) (state S.Store conn.new)) }
+        → OnOk result (IsUpgraded version text.now (state S.Store conn.old) (state S.Store conn.new)) }
     ensures err { HasCleanDisk (state S.Store conn.new)
         → OnErr result (IsUndone (state S.Store conn.old) (state S.Store conn.new)) }
     ensures crash { Survives (state S.Store conn.old) (state S.Store conn.new)
         (λ trees. IsTrue (state S.Store conn.old).is_open
-        × IsUpgrade (state S.Store conn.old).now.trees (office_over trees)) }
+        × IsUpgrade version text.now (state S.Store conn.old).now.trees (office_over trees)) }
 {
     let mut tx = conn.transaction();
-    change_all(&mut tx)?;
+    change_all(&mut tx, text, version)?;
     tx.commit()
 }

@@ -7,8 +7,10 @@ ghost use Rattle.office_store.specs.Versions.{number_of};
 pub enum Version {
     /// That of an earlier program, with no beginnings of validity.
     First,
-    /// This program's.
+    /// That of a later one, with no text of the site.
     Second,
+    /// This program's.
+    Third,
 }
 
 impl Version {
@@ -19,6 +21,7 @@ impl Version {
         match self {
             Version::First => 1,
             Version::Second => 2,
+            Version::Third => 3,
         }
     }
 }

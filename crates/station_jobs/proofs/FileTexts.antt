@@ -1,12 +1,13 @@
 -- What the bytes of a file give, by what reading their text gives.
 use Rattle.std.specs.Result.{IsErrAnd, MatchResult}
-use Rattle.std.proofs.Common.{◌≡◌, ◌≤◌, ℕ, List, length, Bool, true, false, Result, Ok, Err, inl, inr, refl, ap, ◌∙◌}
+use Rattle.std.proofs.Common.{◌≡◌, ◌≤◌, ℕ, List, length, Bool, true, false, Result, Ok, Err, inl, inr, refl, sym, subst, ap, ◌∙◌}
+use Rattle.std.specs.Prelude.{IfOk, nat_lt, if◌then◌else◌}
 use Rattle.std.specs.Borrow.{Bor}
 use Rattle.std.specs.Str.{IsUtf8, is_utf8}
 use Rattle.std.proofs.lemmas.Bool.{le-ltb}
 use Rattle.std.proofs.lemmas.Str.{is_utf8-from_IsUtf8, IsUtf8-from_is_utf8}
 use Rattle.station_jobs.specs.FileText.{or_failure, text_in}
-use Rattle.text_core.specs.Answer.{GivesUnless, result_and_then}
+use Rattle.text_core.specs.Answer.{GivesUnless, result_and_then, result_map}
 use Rattle.station_jobs.specs.declared.failure.Failure.{Failure}
 use Rattle.station_jobs.specs.declared.failure.Failure.TheVariants.{CannotRead, NoMemory}
 
@@ -43,3 +44,29 @@ given_of_text failure_of none read found text r out memory is_text given is =
       | inl wanted ↦ inl (same ∙ (ap (or_failure failure_of) wanted ∙ ap (result_and_then (λ t. or_failure failure_of (read t))) is_text))
       | inr out_of_memory ↦ inr (same ∙ (ap (or_failure failure_of) out_of_memory ∙ ap Err memory))
     ]
+
+-- the same of one part of what was read
+pub part_passed : {A B Fault : Type 0} (part : A → B) (failure_of : Fault → Failure) (r : Result A Fault) (out : Result A Failure)
+    → MatchResult r (λ value. out ≡ Ok value) (λ fault. IsErrAnd out (λ failure. failure ≡ failure_of fault))
+    → MatchResult (result_map part r) (λ value. result_map part out ≡ Ok value)
+    (λ fault. IsErrAnd (result_map part out) (λ failure. failure ≡ failure_of fault))
+part_passed part failure_of (Ok value) out is = ap (result_map part) is
+part_passed part failure_of (Err fault) (Ok value) is = absurd is
+part_passed part failure_of (Err fault) (Err failure) is = is
+
+-- what holds of the value that was read
+pub value_passed : {A Fault : Type 0} (failure_of : Fault → Failure) (P : A → Type 0) (r : Result A Fault) (out : Result A Failure)
+    → MatchResult r (λ value. out ≡ Ok value) (λ fault. IsErrAnd out (λ failure. failure ≡ failure_of fault)) → IfOk r P → IfOk out P
+value_passed failure_of P (Ok value) out is holds = subst (λ o. IfOk o P) (sym is) holds
+value_passed failure_of P (Err fault) (Ok value) is holds = absurd is
+value_passed failure_of P (Err fault) (Err failure) is holds = tt
+
+-- the text of bytes has the same bytes
+pub text_is_bytes : (name : Bor (List ℕ)) (bytes text : List ℕ) (limit : ℕ) (too_long : Failure)
+    → Ok text ≡ text_in name bytes limit too_long → text ≡ bytes
+text_is_bytes name bytes text limit too_long is = by (nat_lt limit (length bytes)) (is_utf8 bytes) is
+  where
+    by : (long utf8 : Bool) → Ok text ≡ (if long then Err too_long else if utf8 then Ok bytes else Err (CannotRead name)) → text ≡ bytes
+    by true utf8 is = cc
+    by false true is = cc
+    by false false is = cc

@@ -16,7 +16,7 @@ use crate::failure::Failure;
 use crate::job::Job;
 use crate::map_file::{map_of_file, read_map_file, write_map_line};
 use crate::serving::{Door, serve_site};
-use crate::site_file::{bytes_of_file, read_site_file, site_of_bytes};
+use crate::site_file::{bytes_of_file, read_site_file, site_text_of_bytes};
 use crate::stored::replay_stored;
 use office_core::{Keep, MemKeep};
 use site_core::Site;
@@ -115,9 +115,9 @@ fn replay<'a, R: Source, W: Drain>(
         (R.calls reader.new ≡ R.calls reader.old) × (W.calls writer.new ≡ W.calls writer.old) }
 {
     let bytes = bytes_of_file(name, file)?;
-    let site = site_of_bytes(alloc, name, bytes.as_slice())?;
+    let site = site_text_of_bytes(alloc, name, bytes.as_slice())?;
     let mut keep = MemKeep::new(alloc);
-    serve(alloc, &mut keep, &site, reader, writer)
+    serve(alloc, &mut keep, site.site(), reader, writer)
 }
 
 /// Serves one stream over a keeper.

@@ -10,17 +10,16 @@ ghost use Rattle.station_jobs.specs.Replaying.{IsOfStore};
 ghost use Rattle.station_jobs.specs.SiteFile.{site_in};
 
 use crate::failure::Failure;
-use crate::site_file::{bytes_of_file, site_of_bytes};
+use crate::site_file::{bytes_of_file, site_text_of_bytes};
 use crate::stored::open_limited;
 use office_core::Keep;
-use site_core::Site;
+use site_core::{Site, SiteText};
 use station_api::{Counted, Served, serve_stream};
 use std::alloc::Global;
 use std::io;
 use std::io::{ErrorKind, Write};
 use std::net::{Ipv4Addr, SocketAddrV4, TcpListener, TcpStream};
 use std::time::Duration;
-use text_core::Digest;
 
 /// How many seconds one read or write of a connection may wait for the other side. A wait that is
 /// longer fails, which ends the connection, so that a client that stalls doesn't keep the others
@@ -73,17 +72,15 @@ pub fn serve_site<'a, W: Write>(
         → Keeps (W.contents output.old) (W.contents output.new)) }
 {
     let bytes = bytes_of_file(name, file)?;
-    let site = site_of_bytes(alloc, name, bytes.as_slice())?;
-    let digest = Digest::of(bytes.as_slice());
-    serve_store(rt, alloc, &site, &digest, db, door, output)
+    let site = site_text_of_bytes(alloc, name, bytes.as_slice())?;
+    serve_store(rt, alloc, &site, db, door, output)
 }
 
 /// Serves connections over the store of a site in the file with the name `db`, and closes it.
 fn serve_store<W: Write>(
     rt: &HostRuntime,
     alloc: Global,
-    site: &Site,
-    digest: &Digest,
+    site: &SiteText,
     db: &str,
     door: Door,
     output: &mut W,
@@ -94,8 +91,8 @@ fn serve_store<W: Write>(
     ensures silent { IfErr result (λ failure. failure ≢ Failure.WriteFailed → failure ≢ Failure.AcceptFailed
         → Keeps (W.contents output.old) (W.contents output.new)) }
 {
-    let mut keep = open_limited(rt, alloc, db, digest)?;
-    let served = serve_port(rt, alloc, &mut keep, site, door, output);
+    let mut keep = open_limited(rt, alloc, db, site)?;
+    let served = serve_port(rt, alloc, &mut keep, site.site(), door, output);
 
     // What was committed is in the store's log, should this fail.
     let _ = keep.into_connection().close();

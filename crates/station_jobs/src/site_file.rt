@@ -1,12 +1,12 @@
 //! The file of a site, and the site that it describes.
 ghost use Rattle.std.specs.Prelude.{◌≡◌, Ok, IfOk, IfErr, IsErrAnd};
-ghost use Rattle.text_core.specs.Answer.{GivesUnless};
+ghost use Rattle.text_core.specs.Answer.{GivesUnless, result_map};
 ghost use Rattle.station_jobs.specs.FileText.{IsUnread};
 ghost use Rattle.station_jobs.specs.SiteFile.{site_failure, site_in};
 
 use crate::failure::Failure;
 use crate::file_text::{read_file, text_in, unread};
-use site_core::{Site, SiteFault, TEXT_LIMIT, read_site};
+use site_core::{SiteFault, SiteText, TEXT_LIMIT, read_site_text};
 use std::alloc::Global;
 use std::io;
 use std::rt::Files;
@@ -36,18 +36,24 @@ pub fn bytes_of_file<'a>(name: &'a str, file: io::Result<Vec<u8>>) -> Result<Vec
     }
 }
 
-/// The site that the bytes of the file with this name describe.
+/// The text that the bytes of the file with this name are, and the site that it describes.
 ///
 /// # Errors
 ///
 /// `CannotRead` where the bytes are no UTF-8; `SiteFault` with the number of their text's fault;
 /// `NoMemory`. Bytes over the limit of a site's text have that fault and no other, whatever they are.
-pub fn site_of_bytes<'a>(alloc: Global, name: &'a str, bytes: &[u8]) -> Result<Site, Failure<'a>>
-    ensures { GivesUnless Failure.NoMemory result (site_in name.entry bytes.now) }
+pub fn site_text_of_bytes<'a>(
+    alloc: Global,
+    name: &'a str,
+    bytes: &[u8],
+) -> Result<SiteText, Failure<'a>>
+    ensures site { GivesUnless Failure.NoMemory (result_map (λ t. t.site) result)
+        (site_in name.entry bytes.now) }
+    ensures text { IfOk result (λ t. t.text ≡ bytes.now) }
 {
     let too_long = site_failure(SiteFault::OverLimit);
     let text = text_in(name, bytes, TEXT_LIMIT, too_long)?;
-    read_site(alloc, text).map_err(site_failure)
+    read_site_text(alloc, text).map_err(site_failure)
 }
 
 /// The failure that a fault of a site's text is.

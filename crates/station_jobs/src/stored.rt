@@ -7,15 +7,14 @@ ghost use Rattle.station_jobs.specs.SiteFile.{site_in};
 
 use crate::failure::Failure;
 use crate::running::serve;
-use crate::site_file::{bytes_of_file, site_of_bytes};
+use crate::site_file::{bytes_of_file, site_text_of_bytes};
 use office_store::{OpenFault, SqlKeep, open};
-use site_core::Site;
+use site_core::SiteText;
 use sqlite::{FileFrom, FileStore};
 use sqlite_disk::Unknown;
 use station_api::{Drain, Source};
 use std::alloc::Global;
 use std::io;
-use text_core::Digest;
 
 /// Serves one stream over the store in the file with the name `db`, which is made where there is
 /// none, for the site that a file describes, by what reading the file with this name gave. The store
@@ -54,24 +53,15 @@ pub fn replay_stored<'a, R: Source, W: Drain>(
         (R.calls reader.new ≡ R.calls reader.old) × (W.calls writer.new ≡ W.calls writer.old) }
 {
     let bytes = bytes_of_file(name, file)?;
-    let site = site_of_bytes(alloc, name, bytes.as_slice())?;
-    serve_stored(
-        rt,
-        alloc,
-        &site,
-        &Digest::of(bytes.as_slice()),
-        db,
-        reader,
-        writer,
-    )
+    let site = site_text_of_bytes(alloc, name, bytes.as_slice())?;
+    serve_stored(rt, alloc, &site, db, reader, writer)
 }
 
 /// Serves one stream over the store of a site in the file with the name `db`, and closes it.
 fn serve_stored<R: Source, W: Drain>(
     rt: &HostRuntime,
     alloc: Global,
-    site: &Site,
-    digest: &Digest,
+    site: &SiteText,
     db: &str,
     reader: &mut R,
     writer: &mut W,
@@ -90,8 +80,8 @@ fn serve_stored<R: Source, W: Drain>(
     ensures no_memory { result ≡ Err Failure.NoMemory →
         (R.calls reader.new ≡ R.calls reader.old) × (W.calls writer.new ≡ W.calls writer.old) }
 {
-    let mut keep = open_limited(rt, alloc, db, digest)?;
-    let served = serve(alloc, &mut keep, site, reader, writer);
+    let mut keep = open_limited(rt, alloc, db, site)?;
+    let served = serve(alloc, &mut keep, site.site(), reader, writer);
 
     // What was committed is in the store's log, should this fail.
     let _ = keep.into_connection().close();
@@ -107,12 +97,12 @@ pub fn open_limited(
     rt: &HostRuntime,
     alloc: Global,
     db: &str,
-    digest: &Digest,
+    site: &SiteText,
 ) -> Result<SqlKeep<FileStore<FileFrom<Unknown>>>, Failure<'static>>
     ensures limit { IfOk result (λ keep. keep.conn.step_limit ≡ Some 1000000000) }
     ensures failed { IfErr result IsOfStore }
 {
-    match open(rt, alloc, db, Unknown, digest) {
+    match open(rt, alloc, db, Unknown, site) {
         Ok(mut keep) => {
             keep.set_steps(STATEMENT_STEPS);
             Ok(keep)

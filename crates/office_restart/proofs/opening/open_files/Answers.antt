@@ -1,7 +1,8 @@
 -- Why `opening::open_files` meets its contract, where that has to be said.
-use Rattle.std.proofs.Common.{ap, ◌∙◌}
+use Rattle.std.proofs.Common.{ap, subst, ◌∙◌}
 use Rattle.sqlite.specs.Files.{file_state}
 use Rattle.office_sql.specs.Tables.{tables_in}
+use Rattle.office_store.specs.Adopting.{TakesGrowth}
 use Rattle.office_restart.proofs.opening.open_files.Goals as goal
 
 pub returns-in-Ok-adopted-clause-tables : goal.returns-in-Ok-adopted-clause-tables
@@ -12,3 +13,8 @@ returns-in-Ok-adopted-clause-tables g c = λ clean.
       held = λ db holds. same ∙ ap tables_in (found.holds db holds);
       found = ((file_state c.in-Ok.conn).committed.trees, found.reads, same);
     }
+
+pub returns-in-Ok-adopted-clause-grown : goal.returns-in-Ok-adopted-clause-grown
+returns-in-Ok-adopted-clause-grown g c = λ clean db holds.
+    let found = c.in-Ok.ensures.found (c.in-Ok-adopted.ensures.was_honest clean) in
+    subst (TakesGrowth c.args.site.now.site) (found.holds db holds) (c.in-Ok-adopted.ensures.grown clean)

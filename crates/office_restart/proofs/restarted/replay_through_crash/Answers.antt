@@ -9,9 +9,9 @@ use Rattle.http_replies.specs.declared.Reply.{Reply}
 use Rattle.sqlite.specs.Files.{over_files}
 use Rattle.site_core.specs.Owners.{owners_of}
 use Rattle.site_core.specs.Section.{SiteValue}
+use Rattle.site_core.proofs.Kept.{owners_grown}
 use Rattle.office_runs.specs.Exchanges.{Call, calls_of}
 use Rattle.office_runs.specs.Growth.{IsSeat}
-use Rattle.office_runs.proofs.Grown.{growth_itself}
 use Rattle.office_core.specs.Replaying.{call_of, calls_in, exchanges_in}
 use Rattle.office_core.specs.declared.requests.SeatRequest.{SeatRequest}
 use Rattle.office_store.specs.Keeping.{tables_of}
@@ -30,22 +30,23 @@ seats_of site requests replies count = subst (AllByRecursion (IsSeat (owners_of 
 
 pub returns-in-Ok-clause-run : goal.returns-in-Ok-clause-run
 returns-in-Ok-clause-run g c = λ honest.
-    let again = c.replay.ensures.was_honest honest in
+    let again = c.replay_text.ensures.was_honest honest in
     let clean = c.in_ok-keep.ensures.was_honest again in
     let left = tables_of over_files c.in_ok-keep.keep.conn in
     ∥∥₁_map (c.crash-left.ensures.found clean left (c.in_ok-keep.ensures.tables again)) (λ may.
-    let site = c.args.site.now in
+    let site = c.args.site.now.site in
+    let grown = c.args.grown.now.site in
     let calm = c.crash-left.ensures.was_honest clean in
-    let start = c.replay-before.ensures.was_honest calm in
+    let start = c.replay_text-before.ensures.was_honest calm in
     let first = tables_of over_files c.in_ok-opened.opened.conn in
     let before = c.in_ok-before.ensures.run calm first (λ _. refl) in
     let after = c.in-Ok.ensures.run honest left (λ _. refl) in
-    let owners = owners_of site in
-    let law = c.stopped_stores_go_on.ensures owners owners c.in_ok-opened.opened c.replay-before.new.keep c.in_ok-keep.keep c.replay.new.keep
-    (exchanges_in site c.args.first.now c.in_ok-before.before.items) (exchanges_in site c.args.second.now c.in-Ok.after.items) first before.0 left after.0
-    (growth_itself owners) c.in_ok-before.ensures.apart c.in_ok-before.ensures.apart
+    let growth = owners_grown site grown c.replay_text.ensures.site c.requires.grown in
+    let law = c.stopped_stores_go_on.ensures (owners_of site) (owners_of grown) c.in_ok-opened.opened c.replay_text-before.new.keep c.in_ok-keep.keep c.replay_text.new.keep
+    (exchanges_in site c.args.first.now c.in_ok-before.before.items) (exchanges_in grown c.args.second.now c.in-Ok.after.items) first before.0 left after.0
+    growth c.in_ok-before.ensures.apart c.in-Ok.ensures.apart
     (seats_of site c.args.first.now c.in_ok-before.before.items c.in_ok-before.ensures.count c.in_ok-before.ensures.seats)
-    (seats_of site c.args.second.now c.in-Ok.after.items c.in-Ok.ensures.count c.in-Ok.ensures.seats)
+    (seats_of grown c.args.second.now c.in-Ok.after.items c.in-Ok.ensures.count c.in-Ok.ensures.seats)
     (record { fresh = c.in_ok-opened.ensures.settled start; answered = before.1; leaves = may }) after.1 in
     record {
       first = first;

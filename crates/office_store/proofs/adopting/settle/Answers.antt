@@ -1,29 +1,25 @@
 -- A schema of no version is refused, and nothing is done.
-use Rattle.std.proofs.Common.{◌≡◌, ◌≢◌, ℕ, List, false, true≢false, Err, inl, refl, sym, subst, ◌∙◌, arith}
+use Rattle.std.proofs.Common.{◌≡◌, ◌≢◌, false, true≢false, Err, inl, refl, sym, subst, ◌∙◌, arith}
+use Rattle.site_core.specs.SiteText.{TextOfSite}
 use Rattle.sqlite.specs.Held.{Held, state}
 use Rattle.sqlite.specs.Store.{Ghosts}
 use Rattle.office_sql.specs.Schema.{no_schema}
 use Rattle.office_store.specs.Adopting.{Settles}
 use Rattle.office_store.specs.Versions.{IsOfNoVersion}
 use Rattle.office_store.specs.declared.fault.OpenFault.TheVariants.{OtherTables}
+use Rattle.office_store.proofs.Settling.{unsettled}
 use Rattle.office_store.proofs.adopting.settle.Goals as goal
 
-refused : {S : Type 0} (g : Ghosts S) (site : List ℕ) (conn : Held S) → conn.in_transaction ≡ false → (state g conn).now.schema ≢ no_schema → IsOfNoVersion (state g conn).now.schema
+refused : {S : Type 0} (g : Ghosts S) (site : TextOfSite) (conn : Held S) → conn.in_transaction ≡ false → (state g conn).now.schema ≢ no_schema → IsOfNoVersion (state g conn).now.schema
     → Settles g site conn conn (Err OtherTables)
-refused g site conn mode some none = record {
-  mode = mode;
-  ready = λ clean. tt;
-  ours = λ clean. tt;
-  kept = λ clean. tt;
-  unstarted = λ clean. tt;
-  refused = record {
-    other_site = λ clean told. absurd (let e = told in cc);
-    other_tables = λ clean told. inl (some, none);
-    other_schema = λ up other. refl;
-  };
-  unchanged = λ clean. record { was_open = λ up. up; committed = λ up. refl };
-  crash = record { clean = omega arith; shield = λ h. h; counts = omega arith; limit = refl; closes = λ _ up. inl up; crash = λ _ db left. inl left };
-}
+refused g site conn mode some none = unsettled g site conn conn OtherTables mode
+    (record {
+      other_site = λ clean told. absurd (let e = told in cc);
+      other_tables = λ clean told. inl (some, none);
+      other_schema = λ up other. refl;
+    })
+    (λ clean. record { was_open = λ up. up; committed = λ up. refl })
+    (record { clean = omega arith; shield = λ h. h; counts = omega arith; limit = refl; closes = λ _ up. inl up; crash = λ _ db left. inl left })
 
 pub returns-in-None : goal.returns-in-None
 returns-in-None g c =

@@ -4,7 +4,7 @@ use Rattle.sqlite.specs.Effect.{Database}
 use Rattle.sqlite.specs.WalFiles.{image_at}
 use Rattle.office_sql.specs.Tables.{tables_in}
 use Rattle.office_store.specs.declared.version.Version.TheVariants.{First}
-use Rattle.office_store.specs.Meta.{IsTold}
+use Rattle.office_store.specs.Meta.{HoldsSite, IsTold}
 use Rattle.office_store.proofs.FoundFiles.{can_settle}
 use Rattle.office_store.proofs.FoundResults.{both_of}
 use Rattle.office_store.proofs.opening.open.Goals as goal
@@ -25,8 +25,24 @@ settle_or_close-requires g c = can_settle (image_at g.S.Start) (file_state c.in-
 
 pub returns-in-Ok-clause-unstarted : goal.returns-in-Ok-clause-unstarted
 returns-in-Ok-clause-unstarted g c =
-    both_of c.settle_or_close.result _ _ _ (λ keep calm unstarted clean db holds told.
+    both_of c.settle_or_close.result _ _ _ (λ keep calm unstarted clean db holds site told.
     let found = c.in-Ok.ensures.found (calm clean) in
     let same = ap (λ (d : Database). d.trees) (c.in-Ok.ensures.opened (calm clean)).0.clean ∙ found.holds db holds in
-    unstarted clean (subst (IsTold First c.args.site.now) (sym same) told))
+    unstarted clean site (subst (IsTold First site) (sym same) told))
     c.settle_or_close.ensures.clean c.settle_or_close.ensures.unstarted
+
+pub returns-in-Ok-clause-grown : goal.returns-in-Ok-clause-grown
+returns-in-Ok-clause-grown g c =
+    both_of c.settle_or_close.result _ _ _ (λ keep calm grown clean db holds older tells.
+    let found = c.in-Ok.ensures.found (calm clean) in
+    let same = ap (λ (d : Database). d.trees) (c.in-Ok.ensures.opened (calm clean)).0.clean ∙ found.holds db holds in
+    grown clean older (subst (HoldsSite older) (sym same) tells))
+    c.settle_or_close.ensures.clean c.settle_or_close.ensures.grown
+
+pub returns-in-Ok-clause-own : goal.returns-in-Ok-clause-own
+returns-in-Ok-clause-own g c =
+    both_of c.settle_or_close.result _ _ _ (λ keep calm own clean db holds version other earlier told.
+    let found = c.in-Ok.ensures.found (calm clean) in
+    let same = ap (λ (d : Database). d.trees) (c.in-Ok.ensures.opened (calm clean)).0.clean ∙ found.holds db holds in
+    own clean version other earlier (subst (IsTold version other) (sym same) told))
+    c.settle_or_close.ensures.clean c.settle_or_close.ensures.own

@@ -5,7 +5,7 @@ use Rattle.sqlite.specs.Tree.{Trees}
 use Rattle.sqlite.specs.Held.{state}
 use Rattle.sqlite.proofs.StateLemmas.{clean_if_open}
 use Rattle.office_sql.specs.Keeping.{IsReady}
-use Rattle.office_store.specs.Adopting.{IsOurs}
+use Rattle.office_store.specs.Meta.{HoldsSite}
 use Rattle.office_store.proofs.Answers.{ready_if_open}
 use Rattle.office_store.proofs.Settled.{settled_left}
 use Rattle.office_store.proofs.opening.settle_or_close.Goals as goal
@@ -21,11 +21,13 @@ over-requires-clause-ready g c =
 pub over-requires-clause-left : goal.over-requires-clause-left
 over-requires-clause-left g c = λ clean.
     let conn = c.settle.new.conn in
+    let site = c.args.site.now in
     let told = c.settle.ensures.ready clean in
-    let shown = c.settle.ensures.ours clean in
+    let shown = c.settle.ensures.tells clean in
     let both : IsTrue (state g.S.Store conn).is_open × IsReady (state g.S.Store conn) = search rules in
-    let ours : IsOurs c.args.site.now (state g.S.Store conn).now.trees = search rules in
-    settled_left g.S.Store c.args.site.now conn (λ db up may. g.met.S.Store.settled conn.store db up may) both.0 both.1 ours
+    let tells : HoldsSite site.text (state g.S.Store conn).now.trees = search rules in
+    settled_left g.S.Store c.digest.result conn (λ db up may. g.met.S.Store.settled conn.store db up may) both.0 both.1
+    (record { text = site.text; tells = tells; named = sym c.digest.ensures.of_text })
 
 pub returns-in-Ok-clause-left : goal.returns-in-Ok-clause-left
 returns-in-Ok-clause-left g c = λ clean.
@@ -35,3 +37,6 @@ returns-in-Ok-clause-left g c = λ clean.
     let both : IsTrue (state g.S.Store conn).is_open × IsReady (state g.S.Store conn) = search rules in
     subst (λ h. (db : Trees) → (state g.S.Store h).may_leave db → db ≡ (state g.S.Store h).now.trees) (sym c.over.ensures.conn)
     (λ db may. g.met.S.Store.settled conn.store db both.0 may ∙ sym (ap (λ (d : Database). d.trees) (both.1.settled both.0)))
+
+pub returns-in-Ok-clause-own : goal.returns-in-Ok-clause-own
+returns-in-Ok-clause-own g c = λ clean. c.in-Ok.ensures.own (subst (λ h. HasCleanDisk (state g.S.Store h)) c.over.ensures.conn clean)

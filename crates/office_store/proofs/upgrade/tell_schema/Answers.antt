@@ -1,17 +1,25 @@
 use Rattle.std.proofs.Common.{rules, [], Ok}
 use Rattle.sqlite.specs.Held.{state}
 use Rattle.office_sql.proofs.Inserting.{changed, done}
+use Rattle.office_sql.proofs.MapChanges.{refused}
 use Rattle.office_sql.proofs.Told.{tell_text}
-use Rattle.office_store.specs.Upgrading.{TellsSecond}
-use Rattle.office_store.proofs.UpgradeMeta.{tells_second}
+use Rattle.office_store.specs.Upgrading.{TellsThird}
+use Rattle.office_store.proofs.UpgradeMeta.{tells_third}
 use Rattle.office_store.proofs.upgrade.tell_schema.Goals as goal
+
+pub returns-in_err-execute-clause-changes : goal.returns-in_err-execute-clause-changes
+returns-in_err-execute-clause-changes g c =
+    refused g.S.Store c.args.tx.now.conn.now c.execute.new.self.conn.now _ _ c.execute.result _ c.from_residual.result _ c.from_residual.ensures.0
+    c.execute.ensures.ended c.execute.ensures.runs c.execute.ensures.survives
 
 pub returns-clause-changes : goal.returns-clause-changes
 returns-clause-changes g c =
     let old = c.args.tx.now.conn.now in
     let new = c.execute.new.self.conn.now in
-    done g.S.Store old new c.in_ok-execute.field-0 tt (λ x y _. TellsSecond x y) _
-    (changed g.S.Store tell_text _ [] (search rules) old new (Ok c.in_ok-execute.field-0) (λ x y _. TellsSecond x y)
-    (λ count up ran. tells_second (state g.S.Store old) (state g.S.Store new) count (c.requires.has up) (c.requires.told up) ran)
+    done g.S.Store old new c.in_ok-execute.field-0 tt (λ x y _. TellsThird x y) _
+    (changed g.S.Store tell_text _ [] (search rules) old new (Ok c.in_ok-execute.field-0) (λ x y _. TellsThird x y)
+    (λ count up ran.
+    let itself = c.requires.told up in
+    tells_third (state g.S.Store old) (state g.S.Store new) count (c.requires.has up) itself.0 itself.1 ran)
     c.in_ok-execute.ensures.ended c.in_ok-execute.ensures.runs c.in_ok-execute.ensures.survives)
     (λ x y h. h)

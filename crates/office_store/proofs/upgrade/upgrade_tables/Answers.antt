@@ -13,13 +13,15 @@ returns-clause-crash g c =
     let old = state g.S.Store c.args.conn.now in
     let last = state g.S.Store c.change_all.new.tx.conn.now in
     let changes = c.in_ok-change_all.ensures.changes in
-    let P = λ (trees : Trees). IsTrue old.is_open × IsUpgrade old.now.trees (office_over trees) in
+    let upgrades = IsUpgrade c.args.version c.args.text.now in
+    let P = λ (trees : Trees). IsTrue old.is_open × upgrades old.now.trees (office_over trees) in
     let whole = survives_then old last (state g.S.Store c.commit.new.self.0) _ _ P (λ _ db none. absurd none)
     (λ clean db is.
     let before = was_clean last _ _ c.commit.ensures.survives clean in
-    let made : IsUpgrade old.now.trees last.now = subst (λ h. IsUpgrade (state g.S.Store h).now.trees last.now) c.transaction-tx.ensures.begun (changes.says before) in
+    let made : upgrades old.now.trees last.now =
+    subst (λ h. upgrades (state g.S.Store h).now.trees last.now) c.transaction-tx.ensures.begun (changes.says before) in
     let left : office_over db ≡ last.now = λ i. record { schema = sym made.office.schema i; trees = is i } in
     let up : IsTrue old.is_open = subst (λ h. IsTrue (state g.S.Store h).is_open) c.transaction-tx.ensures.begun (changes.inside before).was_open in
-    (up, subst (IsUpgrade old.now.trees) (sym left) made)) (search rules) c.commit.ensures.survives in
+    (up, subst (upgrades old.now.trees) (sym left) made)) (search rules) c.commit.ensures.survives in
     let same : c.commit.new.self.0 ≡ c.conn-2-1.given.0 = search rules in
     subst (λ h. Survives old (state g.S.Store h) P) same whole

@@ -1,0 +1,29 @@
+-- The text of its site that a store holds.
+use Rattle.std.specs.Prelude.{◌≡◌, ℕ, pos, List, [], ◌∷◌, map, Ok, IsPermutation}
+use Rattle.sqlite.specs.declared.types.Value.TheVariants.{Int, Text as Words}
+use Rattle.sqlite.specs.Order.{Row, column}
+use Rattle.sqlite.specs.Tree.{Trees}
+use Rattle.site_core.specs.Growth.{IsGrowth}
+use Rattle.site_core.specs.Section.{SiteValue}
+use Rattle.site_core.specs.SiteText.{site_read}
+
+-- the row's id is 1, and this column of it is the text
+pub record IsTextAt (place : ℕ) (text : List ℕ) (r : Row) : Type 0 where
+  pub id : column r 0 ≡ Int (pos 1)
+  pub body : column r place ≡ Words text
+
+-- there is one row, and it has the text
+abbrev pub IsOnlyText : ℕ → List ℕ → List Row → Type 0
+IsOnlyText place text rows = (r : Row) × (rows ≡ r ∷ []) × IsTextAt place text r
+
+-- site_text: id, body. The id is the rowid
+abbrev pub HoldsText : List ℕ → Trees → Type 0
+HoldsText text db = IsOnlyText 2 text (db 21)
+
+-- the rows show it, in some order
+abbrev pub ShowTexts : Trees → List Row → Type 0
+ShowTexts db rows = IsPermutation (map (λ r. column r 0 ∷ column r 2 ∷ []) (db 21)) rows
+
+-- the site is a growth of the one that a text is
+abbrev pub IsGrownFrom : List ℕ → SiteValue → Type 0
+IsGrownFrom text site = (older : SiteValue) × (site_read text ≡ Ok older) × IsGrowth older site
