@@ -14,6 +14,8 @@ mod chips;
 mod columns;
 pub mod conversations;
 #[cfg(test)]
+mod esp32;
+#[cfg(test)]
 mod fuses;
 #[cfg(test)]
 mod imports;

@@ -1,13 +1,14 @@
 //! Plans of wishes, and what read-backs say of them, with the sample map.
 
 use crate::chips::{COUNTED, COUNTED_DIGEST, ZEROS, chip};
+use crate::esp32::ESP32;
 use crate::samples::MAP;
 use fuse_columns::Work;
 use fuse_image::{Bits, Image, Keys};
 use fuse_plan::{
     ChipFault, Number, PlanFault, ReadBack, Verdict, Want, Wish, compare, plan, redact,
 };
-use fusemap_core::{FuseMap, read_map};
+use fusemap_core::{Field, FuseMap, read_map};
 use std::alloc::Global;
 use std::test::Fail;
 use text_core::{Digest, Name};
@@ -436,14 +437,30 @@ fn is_burnt_in_full(map: &FuseMap, field: Name, want: Want) -> bool {
 }
 
 /// Whether each bit of a field can be burnt in full.
-fn are_bits_burnt(map: &FuseMap, field: &str, count: u64) -> Option<bool> {
-    let field = Name::parse(field)?;
+fn are_bits_burnt(map: &FuseMap, field: Name, count: u64) -> bool {
     for index in 0..count {
         if !is_burnt_in_full(map, field, Want::Bit(index)) {
-            return Some(false);
+            return false;
         }
     }
-    Some(true)
+    true
+}
+
+/// Whether what a field holds can be burnt in full: a key, each bit, or no bit of a coding scheme.
+fn is_content_burnt(map: &FuseMap, field: &Field, key: Digest) -> bool {
+    if map.coding() == Some(field.name) {
+        return is_burnt_in_full(map, field.name, Want::Value(Number::new(ZEROS)));
+    }
+    if field.key {
+        return is_burnt_in_full(map, field.name, Want::Key(key));
+    }
+    are_bits_burnt(map, field.name, u64::from(field.count))
+}
+
+/// Whether the locks that a field has can be burnt in full.
+fn are_locks_burnt(map: &FuseMap, field: &Field) -> bool {
+    (field.write.is_none() || is_burnt_in_full(map, field.name, Want::WriteLock))
+        && (field.read.is_none() || is_burnt_in_full(map, field.name, Want::ReadLock))
 }
 
 /// Whether a wish can be burnt in full.
@@ -492,13 +509,28 @@ fn reads_back_what_is_burnt(rt: HostRuntime) -> Result<(), Fail> {
     let map = read_map(rt.alloc(), MAP)?;
     for row in FIELDS {
         assert!(rt;
-            are_bits_burnt(&map, row.0, row.1) == Some(true),
+            Name::parse(row.0).is_some_and(|field| are_bits_burnt(&map, field, row.1)),
             "{}",
             row.0
         );
     }
     for row in WISHES {
         assert!(rt; is_wish_burnt(&map, row) == Some(true), "{}", row.0);
+    }
+    Ok(())
+}
+
+/// Each wish of a field of the whole chip.
+#[test]
+fn reads_back_the_whole_chip(rt: HostRuntime) -> Result<(), Fail> {
+    let map = read_map(rt.alloc(), ESP32)?;
+    let key = Digest::parse(ABC).ok_or("no digest")?;
+    for field in map.fields() {
+        assert!(rt;
+            is_content_burnt(&map, field, key) && are_locks_burnt(&map, field),
+            "{}",
+            field.name.as_str()
+        );
     }
     Ok(())
 }

@@ -40,16 +40,17 @@ pub fn serve<K: Keep>(
     serve_for(alloc, keep, SITE, stream, step)
 }
 
-/// What a request gets where it isn't the reply that it must get: nothing where it is, and the stream
-/// ends with it.
-pub fn exchange<K: Keep>(
+/// What a request gets for the site of a text where it isn't the reply that it must get: nothing where
+/// it is, and the stream ends with it.
+pub fn exchange_for<K: Keep>(
     alloc: Global,
     keep: &mut K,
+    site: &str,
     asked: &str,
     wanted: &str,
 ) -> Result<String, Fail> {
     let stream = request(alloc, asked)?;
-    let (served, writer) = serve(alloc, keep, stream.as_slice(), 4096)?;
+    let (served, writer) = serve_for(alloc, keep, site, stream.as_slice(), 4096)?;
     let found = difference(alloc, asked, wanted, writer.bytes())?;
     if served != Served::Ended && found.is_empty() {
         return Ok(format!(in alloc; "{asked} -> another end")?);
@@ -57,19 +58,40 @@ pub fn exchange<K: Keep>(
     Ok(found)
 }
 
-/// Makes exchanges, a stream for each: the first request that doesn't get its reply, and what it got.
-pub fn first_difference_of<K: Keep>(
+/// The same for the sample site.
+pub fn exchange<K: Keep>(
     alloc: Global,
     keep: &mut K,
+    asked: &str,
+    wanted: &str,
+) -> Result<String, Fail> {
+    exchange_for(alloc, keep, SITE, asked, wanted)
+}
+
+/// Makes exchanges for the site of a text, a stream for each: the first request that doesn't get its
+/// reply, and what it got.
+pub fn first_difference_for<K: Keep>(
+    alloc: Global,
+    keep: &mut K,
+    site: &str,
     exchanges: &[(&str, &str)],
 ) -> Result<String, Fail> {
     for (asked, wanted) in exchanges {
-        let found = exchange(alloc, keep, asked, wanted)?;
+        let found = exchange_for(alloc, keep, site, asked, wanted)?;
         if !found.is_empty() {
             return Ok(found);
         }
     }
     Ok(String::new(alloc))
+}
+
+/// The same for the sample site.
+pub fn first_difference_of<K: Keep>(
+    alloc: Global,
+    keep: &mut K,
+    exchanges: &[(&str, &str)],
+) -> Result<String, Fail> {
+    first_difference_for(alloc, keep, SITE, exchanges)
 }
 
 /// Holds a conversation: the first request that doesn't get its reply, and what it got.

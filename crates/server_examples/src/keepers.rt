@@ -1,11 +1,11 @@
 //! The keepers over which each example is run.
 use base_examples::samples::SITE;
 use office_core::{Keep, MemKeep};
-use office_store::{OpenFault, SqlKeep, adopt};
+use office_store::{SqlKeep, adopt};
+use site_core::read_site_text;
 use sqlite::{Alter, Connection, MemStore};
 use std::alloc::Global;
 use std::test::Fail;
-use text_core::Digest;
 
 /// The keeper over a database in memory.
 pub type SqlMemory = SqlKeep<MemStore>;
@@ -30,7 +30,7 @@ impl Fresh for MemKeep {
 impl Fresh for SqlMemory {
     fn of_site(alloc: Global, site: &str) -> Result<SqlMemory, Fail> {
         let conn = Connection::open_in_memory(alloc)?;
-        Ok(adopted(alloc, conn, site)?)
+        adopted(alloc, conn, site)
     }
 }
 
@@ -39,9 +39,10 @@ pub fn adopted<S: Alter + Drop>(
     alloc: Global,
     conn: Connection<S>,
     site: &str,
-) -> Result<SqlKeep<S>, OpenFault> {
-    match adopt(alloc, conn, &Digest::of(site.as_bytes())) {
+) -> Result<SqlKeep<S>, Fail> {
+    let site = read_site_text(alloc, site)?;
+    match adopt(alloc, conn, &site) {
         Ok(keep) => Ok(keep),
-        Err((fault, _)) => Err(fault),
+        Err((fault, _)) => Err(Fail::from(fault)),
     }
 }

@@ -6,40 +6,25 @@
 mod chips;
 #[cfg(test)]
 mod connections;
-#[cfg(test)]
-mod conversation;
+pub mod conversation;
 #[cfg(test)]
 mod counting;
 #[cfg(test)]
-mod damage;
-#[cfg(test)]
 mod digests;
-#[cfg(test)]
-mod disks;
 #[cfg(test)]
 mod growths;
 #[cfg(test)]
 mod isolation;
 #[cfg(test)]
 mod jobs;
-#[cfg(test)]
-mod keepers;
-#[cfg(test)]
-mod lists;
+pub mod keepers;
+pub mod lists;
 #[cfg(test)]
 mod parts;
 #[cfg(test)]
 mod replays;
 #[cfg(test)]
-mod restarts;
-#[cfg(test)]
-mod schema_one;
-#[cfg(test)]
 mod seats;
-#[cfg(test)]
-mod stops;
-#[cfg(test)]
-mod stores;
 #[cfg(test)]
 mod streams;
 #[cfg(test)]

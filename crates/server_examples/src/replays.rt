@@ -2,7 +2,7 @@
 //! that it refuses.
 use crate::jobs::written_by;
 use crate::streams::{CHUNKS_REFUSED, CUT_ORDER, IN_CHUNKS, with_orders};
-use base_examples::samples::SITE;
+use base_examples::samples::{SITE, SITE_WITH_A_CUSTOMER};
 use station_jobs::Job;
 use std::alloc::Global;
 use std::fs;
@@ -12,10 +12,14 @@ use text_core::Text;
 /// The name of the file with the sample site's text.
 const STORED_SITE: &str = "stored_site.toml";
 
-/// The texts of the files of these runs, by their names: two sites and one that is none, and a text
+/// The name of the file with the text of one that grew from it.
+const GROWN_SITE: &str = "stored_grown.toml";
+
+/// The texts of the files of these runs, by their names: three sites and one that is none, and a text
 /// that is no database.
 const FILES_OF_RUNS: &[(&str, &str)] = &[
     (STORED_SITE, SITE),
+    (GROWN_SITE, SITE_WITH_A_CUSTOMER),
     ("stored_other.toml", "customer = []\n"),
     ("stored_none.toml", ""),
     (
@@ -46,6 +50,19 @@ pub const RUNS: &[(&str, Option<&str>, &str, &str)] = &[
         Some("own.db"),
         "$ORDER",
         "station: store fault 1\n",
+    ),
+    (GROWN_SITE, Some("own.db"), "$SHOWN", "$ORDERED"),
+    (
+        STORED_SITE,
+        Some("own.db"),
+        "$SHOWN",
+        "station: store fault 1\n",
+    ),
+    (
+        GROWN_SITE,
+        Some("own.db"),
+        "$ORDER$SHOWN",
+        "$ORDERED$ORDERED",
     ),
     (
         STORED_SITE,

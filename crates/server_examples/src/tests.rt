@@ -3,9 +3,7 @@ use crate::chips::chips_are_visited;
 use crate::connections::{ORDERED_LAST, replies_in_turn};
 use crate::conversation::{first_difference, first_difference_after_want};
 use crate::counting::CountingKeep;
-use crate::damage::{DAMAGES, first_lost_of, refuses_another_head};
 use crate::digests::has_taken_digest;
-use crate::disks::{SqlFiles, first_difference_opened_anew};
 use crate::growths::{first_difference_of_growths, replies_to_no_parts};
 use crate::isolation::{TURNS, first_beside_orders, first_of_shared_map, first_of_turns};
 use crate::jobs::{
@@ -16,16 +14,7 @@ use crate::jobs::{
 use crate::keepers::{Fresh, SqlMemory};
 use crate::parts::{first_of_parts, first_strange_part};
 use crate::replays::{RUNS, is_written, make_files_of_runs, make_folder};
-use crate::restarts::first_difference_at_crashes;
-use crate::schema_one::{
-    CHANGED_ONE, fault_of_changed_one, first_difference_of_one, first_lost_of_one,
-};
 use crate::seats::{LAST_REQUESTS, digest_after, first_after_greatest};
-use crate::stops::first_lost_at_stops;
-use crate::stores::{
-    CHANGED, FOREIGN, columns_of_device, fault_after, fault_of_foreign,
-    first_difference_in_few_steps, first_other_start, settled_columns,
-};
 use crate::streams::{
     BAD_HEAD, ORDER, STEPS, STREAMS, TAKEN, ends_at_the_limit, ends_so,
     goes_on_after_interruptions, is_cut_after, refuses_a_long_head, stops_at_a_full_writer,
@@ -324,142 +313,6 @@ fn devices_are_visited_by_their_chips(rt: HostRuntime) -> Result<(), Fail> {
     Ok(())
 }
 
-/// What a limit of steps interrupts is answered 503 and changes nothing. The store is adopted anew
-/// after each request.
-#[test]
-fn few_steps_change_nothing_or_serve(rt: HostRuntime) -> Result<(), Fail> {
-    for row in PLANS {
-        let found = first_difference_in_few_steps(rt.alloc(), row.1)?;
-        assert_eq!(rt; found.as_str(), "", "{}", row.0);
-    }
-    Ok(())
-}
-
-/// The same, where the store is in files, which are closed after each request and opened again.
-#[test]
-fn stores_are_opened_anew_between_requests(rt: HostRuntime) -> Result<(), Fail> {
-    for row in PLANS {
-        let found = first_difference_opened_anew::<SqlFiles>(rt.alloc(), row.1)?;
-        assert_eq!(rt; found.as_str(), "", "{}", row.0);
-    }
-    Ok(())
-}
-
-/// A run over files is stopped at each call of either, and some of the openings behind are stopped
-/// too: what was replied is there, the request that was cut off gets its reply when it is sent again,
-/// and the books are those of an undisturbed run.
-#[test]
-fn a_killed_run_goes_on(rt: HostRuntime) -> Result<(), Fail> {
-    assert_eq!(rt;
-        first_lost_at_stops::<SqlFiles>(rt.alloc(), false)?.as_str(),
-        ""
-    );
-    Ok(())
-}
-
-/// The same, where what wasn't synced is lost at each stop.
-#[test]
-fn a_run_goes_on_after_a_power_cut(rt: HostRuntime) -> Result<(), Fail> {
-    assert_eq!(rt;
-        first_lost_at_stops::<SqlFiles>(rt.alloc(), true)?.as_str(),
-        ""
-    );
-    Ok(())
-}
-
-/// One list in two parts, where the site grew in between; and no parts, which get no replies.
-#[test]
-fn sites_grow_between_requests(rt: HostRuntime) -> Result<(), Fail> {
-    let found = first_difference_of_growths(rt.alloc())?;
-    assert_eq!(rt; found.as_str(), "");
-    assert_eq!(rt; replies_to_no_parts(rt.alloc())?, 0);
-    Ok(())
-}
-
-/// A list of requests, a crash of the files and a list that begins with the last request again: what was
-/// replied is there, and the repeat gets its reply.
-#[test]
-fn lists_go_on_behind_a_crash(rt: HostRuntime) -> Result<(), Fail> {
-    assert_eq!(rt; first_difference_at_crashes(rt.alloc())?.as_str(), "");
-    Ok(())
-}
-
-/// Whatever a store's files hold, it is refused or each request gets a reply.
-#[test]
-fn damaged_stores_are_refused_or_served(rt: HostRuntime) -> Result<(), Fail> {
-    assert!(rt; refuses_another_head::<SqlFiles>(rt.alloc())?);
-    for row in DAMAGES {
-        assert_eq!(rt; first_lost_of::<SqlFiles>(rt.alloc(), row)?, row.2);
-    }
-    Ok(())
-}
-
-#[test]
-fn stores_of_others_are_refused(rt: HostRuntime) -> Result<(), Fail> {
-    for row in CHANGED {
-        assert_eq!(rt; fault_after(rt.alloc(), row.0, row.1)?, row.2, "{}", row.0);
-    }
-    for sql in FOREIGN {
-        assert_eq!(rt; fault_of_foreign(rt.alloc(), sql)?, 2, "{sql}");
-    }
-    Ok(())
-}
-
-#[test]
-fn starts_stand_beside_their_rows(rt: HostRuntime) -> Result<(), Fail> {
-    assert_eq!(rt; first_other_start(rt.alloc())?.as_str(), "");
-    Ok(())
-}
-
-/// A store of schema 1 is taken to schema 2: its books show what they showed, without a beginning, its kept
-/// replies are as they were kept, and it goes on.
-#[test]
-fn stores_of_schema_one_go_on(rt: HostRuntime) -> Result<(), Fail> {
-    assert_eq!(rt; first_difference_of_one(rt.alloc())?.as_str(), "");
-    Ok(())
-}
-
-#[test]
-fn changed_stores_of_schema_one_are_refused(rt: HostRuntime) -> Result<(), Fail> {
-    for row in CHANGED_ONE {
-        assert_eq!(rt;
-            fault_of_changed_one(rt.alloc(), row.0, row.1)?,
-            row.2,
-            "{}",
-            row.0
-        );
-    }
-    Ok(())
-}
-
-/// Their upgrade is stopped at each call of either file: the store has schema 1 or 2, and the next opening
-/// ends in schema 2, with the same books.
-#[test]
-fn a_killed_upgrade_goes_on(rt: HostRuntime) -> Result<(), Fail> {
-    assert_eq!(rt;
-        first_lost_of_one::<SqlFiles>(rt.alloc(), false)?.as_str(),
-        ""
-    );
-    Ok(())
-}
-
-/// The same, where what wasn't synced is lost at each stop.
-#[test]
-fn an_upgrade_goes_on_after_a_power_cut(rt: HostRuntime) -> Result<(), Fail> {
-    assert_eq!(rt;
-        first_lost_of_one::<SqlFiles>(rt.alloc(), true)?.as_str(),
-        ""
-    );
-    Ok(())
-}
-
-#[test]
-fn columns_of_a_device_are_its_bytes(rt: HostRuntime) -> Result<(), Fail> {
-    let alloc = rt.alloc();
-    assert!(rt; columns_of_device(alloc)? == settled_columns(alloc)?);
-    Ok(())
-}
-
 #[test]
 fn words_give_their_jobs(rt: HostRuntime) -> Result<(), Fail> {
     for row in LINES {
@@ -545,5 +398,14 @@ fn connections_are_served_in_turn(rt: HostRuntime) -> Result<(), Fail> {
     let (first, second) = replies_in_turn(&rt, rt.alloc())?;
     assert_eq!(rt; first.as_str(), BAD_HEAD);
     assert_eq!(rt; second.as_str(), ORDERED_LAST);
+    Ok(())
+}
+
+/// One list in two parts, where the site grew in between; and no parts, which get no replies.
+#[test]
+fn sites_grow_between_requests(rt: HostRuntime) -> Result<(), Fail> {
+    let found = first_difference_of_growths(rt.alloc())?;
+    assert_eq!(rt; found.as_str(), "");
+    assert_eq!(rt; replies_to_no_parts(rt.alloc())?, 0);
     Ok(())
 }

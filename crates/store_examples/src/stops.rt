@@ -1,8 +1,9 @@
 //! A run that is stopped at each call of its store, and goes on over what is left.
-use crate::conversation::{exchange, first_difference_of, is_unanswered};
 use crate::disks::{InFiles, NO_STOP, Stop, Store, opened_whole};
 use base_examples::conversations::exchanges;
+use base_examples::samples::SITE;
 use office_core::Keep;
+use server_examples::conversation::{exchange_for, first_difference_of, is_unanswered};
 use std::alloc::{AllocError, Global};
 use std::test::Fail;
 
@@ -76,15 +77,16 @@ pub struct Stopped {
     pub left: Store,
 }
 
-/// Makes exchanges until a request isn't answered: how many got their replies, and what the last got
-/// where it was answered with another one.
+/// Makes exchanges for the site of a text until a request isn't answered: how many got their replies,
+/// and what the last got where it was answered with another one.
 fn answered<K: Keep>(
     alloc: Global,
     keep: &mut K,
+    site: &str,
     run: &[(&str, &str)],
 ) -> Result<(usize, String), Fail> {
     for (replies, (asked, wanted)) in run.iter().enumerate() {
-        let found = exchange(alloc, keep, asked, wanted)?;
+        let found = exchange_for(alloc, keep, site, asked, wanted)?;
         if is_unanswered(found.as_str()) {
             return Ok((replies, String::new(alloc)));
         }
@@ -95,16 +97,18 @@ fn answered<K: Keep>(
     Ok((run.len(), String::new(alloc)))
 }
 
-/// Makes exchanges over a store with a stop to come, and stops it behind them.
+/// Makes exchanges over a store that is opened for the site of a text with a stop to come, and stops it
+/// behind them.
 pub fn stopped_in<K: InFiles>(
     alloc: Global,
     store: &Store,
+    site: &str,
     run: &[(&str, &str)],
     stop: Stop,
 ) -> Result<Stopped, Fail> {
-    match K::opened(alloc, store, stop)? {
+    match K::opened(alloc, store, site, stop)? {
         Ok(mut keep) => {
-            let answers = answered(alloc, &mut keep, run);
+            let answers = answered(alloc, &mut keep, site, run);
             let left = keep.stopped(alloc, stop.loses_unsynced);
             let (replies, found) = answers?;
             let left = left.ok_or("no memory for what is left")?;
@@ -115,11 +119,11 @@ pub fn stopped_in<K: InFiles>(
                 left,
             })
         }
-        Err(left) => Ok(Stopped {
+        Err(unopened) => Ok(Stopped {
             is_opened: false,
             replies: 0,
             found: String::new(alloc),
-            left,
+            left: unopened.left,
         }),
     }
 }
@@ -165,7 +169,8 @@ fn difference_after_second<K: InFiles>(
     stops: (Counted, bool),
 ) -> Result<String, Fail> {
     for calls in 0..CALL_LIMIT {
-        let second = stopped_in::<K>(alloc, left, &[], stop_after(calls, stops.0, stops.1))?;
+        let stop = stop_after(calls, stops.0, stops.1);
+        let second = stopped_in::<K>(alloc, left, SITE, &[], stop)?;
         if second.is_opened {
             return Ok(String::new(alloc));
         }
@@ -199,7 +204,7 @@ fn first_lost_at<K: InFiles>(alloc: Global, stops: (Counted, bool)) -> Result<St
     let books = exchanges(alloc, BOOKS)?;
     for calls in 0..CALL_LIMIT {
         let stop = stop_after(calls, stops.0, stops.1);
-        let stopped = stopped_in::<K>(alloc, &Store::new(alloc), run.as_slice(), stop)?;
+        let stopped = stopped_in::<K>(alloc, &Store::new(alloc), SITE, run.as_slice(), stop)?;
         let rest = rest_of(alloc, run.as_slice(), stopped.replies, books.as_slice())?;
         if !stopped.found.is_empty() {
             return Ok(format!(in alloc; "{calls} calls: {}", stopped.found)?);

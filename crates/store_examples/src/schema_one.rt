@@ -1,21 +1,14 @@
-//! A store of schema 1, as the program wrote it before records had a beginning of validity, what is served
-//! over it, and what an upgrade that is stopped leaves.
-use crate::conversation::{first_difference, first_difference_of};
-use crate::disks::{InFiles, Store, opened_whole};
-use crate::keepers::adopted;
-use crate::stops::{CALL_LIMIT, Counted, stop_after, stopped_in};
-use crate::stores::{OTHER_SITE, fault_of_adopting};
-use base_examples::conversations::{exchanges, filled};
-use base_examples::samples::{MAP, SITE};
-use sqlite::{Connection, MemStore};
-use std::alloc::Global;
-use std::test::Fail;
+//! A store of schema 1, as the program wrote it before records had a beginning of validity, and what is
+//! served over it.
+use crate::stores::OTHER_SITE;
+use crate::upgrades::Earlier;
+use base_examples::samples::{SITE, SITE_WITH_A_POOL};
 
 /// The store as SQL that makes it anew: its tables in the order in which they were made, and their rows. It
 /// is `bench/schema1.sql`, with `$TEXT` in place of the sample map's text, its digest and long runs of zeros
 /// by their placeholders. Two customers have orders with addresses and without, a map that both imported, a
 /// device in each state, serial numbers that an import brought, and the reply of each seat's last request.
-const SCHEMA_ONE: &str =
+pub const SCHEMA_ONE: &str =
     r#"CREATE TABLE meta (id INTEGER PRIMARY KEY, schema INTEGER NOT NULL, site BLOB NOT NULL) STRICT;
 CREATE TABLE seat (name TEXT NOT NULL, customer TEXT NOT NULL, last INTEGER NOT NULL, digest BLOB NOT NULL, reply TEXT NOT NULL, PRIMARY KEY (name)) STRICT;
 CREATE TABLE map (id INTEGER PRIMARY KEY, body TEXT NOT NULL, digest BLOB NOT NULL, UNIQUE (body)) STRICT;
@@ -88,8 +81,8 @@ INSERT INTO ledger VALUES (33, 'bolt', '000000000001', 3, 'read', 'match', 'b1',
 INSERT INTO ledger VALUES (34, 'bolt', '000000000001', 4, 'identified', 'A0009', 'b1', x'$TIMES~124~00~', x'$TIMES~66~00~');
 "#;
 
-/// What the books show, over the store of schema 1 once it is of schema 2: no order and no record has a
-/// beginning of validity.
+/// What the books show, over the store once it is upgraded: no order and no record has a beginning of
+/// validity.
 const SHOWN: &str = r#"
 a1 GET /v1/order?name=with-macs
 200 {"first":9,"issuer":"acme-ca","mac":"020000000010","macs":1,"name":"with-macs","next":"A0011","not_before":null,"prefix":"A","quantity":3,"width":4}
@@ -162,16 +155,23 @@ a1 GET /v1/order?name=begun
 200 {"first":1,"issuer":"acme-ca","mac":null,"macs":0,"name":"begun","next":"D002","not_before":"20240229120000Z","prefix":"D","quantity":2,"width":3}
 "#;
 
-/// What is asked for of the store in turn; it is adopted anew before each.
-const LIFE: &[&str] = &[SHOWN, REPEATED, SHOWN, GOES_ON, SHOWN_THEN];
+/// The store, and what is asked for of it.
+pub const ONE: Earlier = Earlier {
+    schema: 1,
+    sql: &[SCHEMA_ONE],
+    shown: SHOWN,
+    life: &[SHOWN, REPEATED, SHOWN, GOES_ON, SHOWN_THEN],
+};
 
 /// Changes of the store by SQL, the text of the site for which it is adopted then, and the number of the
-/// fault, 0 where there is none.
+/// fault, 0 where there is none. It is taken with its own text alone, and not with one that grew.
 pub const CHANGED_ONE: &[(&str, &str, u8)] = &[
     ("", SITE, 0),
     ("", OTHER_SITE, 1),
+    ("", SITE_WITH_A_POOL, 1),
     ("UPDATE meta SET schema = 2", SITE, 2),
-    ("UPDATE meta SET schema = 2", OTHER_SITE, 2),
+    ("UPDATE meta SET schema = 3", SITE, 2),
+    ("UPDATE meta SET schema = 3", OTHER_SITE, 2),
     ("UPDATE meta SET schema = 0", SITE, 2),
     ("UPDATE meta SET id = 2", SITE, 2),
     ("DELETE FROM meta", SITE, 2),
@@ -181,106 +181,9 @@ pub const CHANGED_ONE: &[(&str, &str, u8)] = &[
         SITE,
         2,
     ),
+    (
+        "CREATE TABLE site_text (id INTEGER PRIMARY KEY, body TEXT NOT NULL) STRICT",
+        SITE,
+        2,
+    ),
 ];
-
-/// The SQL that makes the store.
-fn sql(alloc: Global) -> Result<String, Fail> {
-    let text = filled(alloc, SCHEMA_ONE)?;
-    Ok(text.as_str().replace(alloc, "$TEXT", MAP)?)
-}
-
-/// The store in memory.
-fn made(alloc: Global) -> Result<Connection<MemStore>, Fail> {
-    let mut conn = Connection::open_in_memory(alloc)?;
-    conn.execute_batch(sql(alloc)?.as_str())?;
-    Ok(conn)
-}
-
-/// The number of the fault where the store is changed by SQL and then adopted for the site of a text, or 0.
-pub fn fault_of_changed_one(alloc: Global, change: &str, site: &str) -> Result<u8, Fail> {
-    let mut conn = made(alloc)?;
-    conn.execute_batch(change)?;
-    Ok(fault_of_adopting(alloc, conn, site))
-}
-
-/// Holds conversations over the store, which is adopted before each: the first request that doesn't get its
-/// reply, and what it got.
-pub fn first_difference_of_one(alloc: Global) -> Result<String, Fail> {
-    let mut conn = made(alloc)?;
-    for conversation in LIFE {
-        let mut keep = adopted(alloc, conn, SITE)?;
-        let found = first_difference(alloc, &mut keep, conversation)?;
-        if !found.is_empty() {
-            return Ok(found);
-        }
-        conn = keep.into_connection();
-    }
-    Ok(String::new(alloc))
-}
-
-/// The number of the schema of a store in files.
-fn schema_of<K: InFiles>(alloc: Global, store: &Store) -> Result<i64, Fail> {
-    let (number, _) = K::changed(alloc, store, "", "SELECT schema FROM meta")?;
-    Ok(number)
-}
-
-/// Opens what a stop left, holds the conversation and closes it: what differs first, or that the store isn't
-/// of schema 2 then.
-fn difference_behind<K: InFiles>(
-    alloc: Global,
-    left: &Store,
-    shown: &[(&str, &str)],
-) -> Result<String, Fail> {
-    let number = schema_of::<K>(alloc, left)?;
-    if number != 1 && number != 2 {
-        return Ok(format!(in alloc; "schema {number}")?);
-    }
-    let mut keep: K = opened_whole(alloc, left)?;
-    let found = first_difference_of(alloc, &mut keep, shown);
-    let closed = keep.closed(alloc);
-    let found = found?;
-    let closed = closed.ok_or("the store isn't closed")?;
-    let number = schema_of::<K>(alloc, &closed)?;
-    if number != 2 {
-        return Ok(format!(in alloc; "schema {number} after it")?);
-    }
-    Ok(found)
-}
-
-/// Stops the upgrade of the store at each call of a file, until it makes fewer: the first stop behind which
-/// the store isn't whole, in schema 1 or 2, or shows something else.
-fn first_lost_of_one_at<K: InFiles>(
-    alloc: Global,
-    store: &Store,
-    stops: (Counted, bool),
-) -> Result<String, Fail> {
-    let shown = exchanges(alloc, SHOWN)?;
-    for calls in 0..CALL_LIMIT {
-        let stop = stop_after(calls, stops.0, stops.1);
-        let stopped = stopped_in::<K>(alloc, store, &[], stop)?;
-        let found = difference_behind::<K>(alloc, &stopped.left, shown.as_slice())?;
-        if !found.is_empty() {
-            return Ok(format!(in alloc; "behind {calls} calls: {found}")?);
-        }
-        if stopped.is_opened {
-            return Ok(String::new(alloc));
-        }
-    }
-    Ok(String::from_str(alloc, "an upgrade without an end")?)
-}
-
-/// Stops the upgrade at each call of either file: what is lost first.
-pub fn first_lost_of_one<K: InFiles>(alloc: Global, loses_unsynced: bool) -> Result<String, Fail> {
-    let text = sql(alloc)?;
-    let (_, store) = K::changed(
-        alloc,
-        &Store::new(alloc),
-        text.as_str(),
-        "SELECT schema FROM meta",
-    )?;
-    let found = first_lost_of_one_at::<K>(alloc, &store, (Counted::Log, loses_unsynced))?;
-    if !found.is_empty() {
-        return Ok(format!(in alloc; "the log: {found}")?);
-    }
-    first_lost_of_one_at::<K>(alloc, &store, (Counted::File, loses_unsynced))
-}

@@ -1,7 +1,8 @@
 //! A store's files with their bytes changed, and what is served over them.
-use crate::conversation::serve;
 use crate::disks::{InFiles, NO_STOP, Store, opened_whole};
 use base_examples::conversations::{reply, request};
+use base_examples::samples::SITE;
+use server_examples::conversation::serve;
 use std::alloc::Global;
 use std::str;
 use std::test::Fail;
@@ -80,7 +81,7 @@ fn made_store<K: InFiles>(alloc: Global, is_closed: bool) -> Result<Store, Fail>
 /// What is written over a store for the requests of [`ASKED`], or nothing where it isn't opened.
 fn written_over<K: InFiles>(alloc: Global, store: &Store) -> Result<Option<Vec<u8>>, Fail> {
     let stream = stream_of(alloc, ASKED)?;
-    match K::opened(alloc, store, NO_STOP)? {
+    match K::opened(alloc, store, SITE, NO_STOP)? {
         Ok(mut keep) => {
             let served = serve(alloc, &mut keep, stream.as_slice(), 4096);
             let _ = keep.closed(alloc);

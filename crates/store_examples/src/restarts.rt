@@ -1,27 +1,32 @@
-//! A store in files that crashes between two lists of requests.
+//! A store in files that crashes between two lists of requests, and whose site may grow there.
 
-use crate::lists::{first_difference_among, seat_requests};
 use crate::stops::{BOOKS, RUN, rest_of};
 use base_examples::conversations::exchanges;
+use base_examples::conversations::growths::GROWTHS;
 use base_examples::samples::SITE;
 use office_restart::{Restarted, crash, replay_through_crash};
-use site_core::read_site;
+use server_examples::lists::{first_difference_among, seat_requests};
+use site_core::read_site_text;
 use sqlite::{Files, Options};
 use sqlite_disk::Memory;
 use std::alloc::Global;
 use std::test::Fail;
-use text_core::Digest;
 
-/// Asks what is asked in exchanges, has the files in memory lose what wasn't synced, and asks for more:
-/// the first request that doesn't get its reply, and what it got.
+/// Asks what is asked in exchanges, has the files in memory lose what wasn't synced, and asks for more
+/// for the site of a text that is the sample's or grew from it: the first request that doesn't get its
+/// reply, and what it got.
 fn first_difference_through_crash(
     alloc: Global,
     before: &[(&str, &str)],
+    next: &str,
     after: &[(&str, &str)],
 ) -> Result<String, Fail> {
-    let site = read_site(alloc, SITE)?;
-    let first = seat_requests(alloc, &site, before)?;
-    let second = seat_requests(alloc, &site, after)?;
+    let (site, grown) = (read_site_text(alloc, SITE)?, read_site_text(alloc, next)?);
+    let first = seat_requests(alloc, site.site(), before)?;
+    let second = seat_requests(alloc, grown.site(), after)?;
+    if !site.site().is_growth(grown.site()) {
+        return Err(Fail::from("no growth"));
+    }
     let files = Files {
         log: Memory::new(alloc),
         db: Memory::new(alloc),
@@ -30,9 +35,9 @@ fn first_difference_through_crash(
         alloc,
         files,
         Options::new(7),
-        &Digest::of(SITE.as_bytes()),
         &site,
         first.as_slice(),
+        &grown,
         second.as_slice(),
     )?;
     let Restarted {
@@ -57,9 +62,28 @@ pub fn first_difference_at_crashes(alloc: Global) -> Result<String, Fail> {
         let count = sent + 1;
         let (before, _) = run.as_slice().split_at(count);
         let rest = rest_of(alloc, run.as_slice(), sent, books.as_slice())?;
-        let found = first_difference_through_crash(alloc, before, rest.as_slice())?;
+        let found = first_difference_through_crash(alloc, before, SITE, rest.as_slice())?;
         if !found.is_empty() {
             return Ok(format!(in alloc; "behind {count} requests: {found}")?);
+        }
+    }
+    Ok(String::new(alloc))
+}
+
+/// The same with a growth of the sample site behind the crash, of each: what differs first, behind the name
+/// of its growth.
+pub fn first_difference_at_growths(alloc: Global) -> Result<String, Fail> {
+    for growth in GROWTHS {
+        let before = exchanges(alloc, growth.before)?;
+        let after = exchanges(alloc, growth.after)?;
+        let found = first_difference_through_crash(
+            alloc,
+            before.as_slice(),
+            growth.site,
+            after.as_slice(),
+        )?;
+        if !found.is_empty() {
+            return Ok(format!(in alloc; "{}: {found}", growth.name)?);
         }
     }
     Ok(String::new(alloc))

@@ -1,10 +1,12 @@
 //! What a store is when it is adopted, and what stands in its columns.
-use crate::conversation::{exchange, first_difference, is_unanswered};
-use crate::keepers::{Fresh, SqlMemory, adopted};
 use base_examples::conversations::beginnings::RECORD;
 use base_examples::conversations::exchanges;
 use base_examples::conversations::plans::A_BIT_AND_ITS_LOCK;
-use base_examples::samples::SITE;
+use base_examples::samples::{SITE, SITE_WITH_A_CUSTOMER, SITE_WITH_A_POOL};
+use office_store::adopt;
+use server_examples::conversation::{exchange, first_difference, is_unanswered};
+use server_examples::keepers::{Fresh, SqlMemory, adopted};
+use site_core::read_site_text;
 use sqlite::{Connection, MemStore};
 use std::alloc::Global;
 use std::test::Fail;
@@ -16,25 +18,65 @@ pub const OTHER_SITE: &str = "customer = []\n";
 /// is adopted then, and the number of the fault, 0 where there is none.
 pub const CHANGED: &[(&str, &str, u8)] = &[
     ("", SITE, 0),
+    ("", SITE_WITH_A_POOL, 0),
+    ("", SITE_WITH_A_CUSTOMER, 0),
     ("", OTHER_SITE, 1),
-    ("", "", 1),
-    // A space more is another text.
     ("", "customer = [] \n", 1),
     ("UPDATE meta SET schema = 7", SITE, 2),
     ("UPDATE meta SET schema = 7", OTHER_SITE, 2),
     ("UPDATE meta SET schema = -1", SITE, 2),
     // The number of another schema of this program, or of none.
     ("UPDATE meta SET schema = 1", SITE, 2),
-    ("UPDATE meta SET schema = 3", SITE, 2),
+    ("UPDATE meta SET schema = 2", SITE, 2),
+    ("UPDATE meta SET schema = 2", OTHER_SITE, 2),
+    ("UPDATE meta SET schema = 4", SITE, 2),
     ("UPDATE meta SET site = X'00'", SITE, 2),
+    // 32 bytes that aren't the digest of the text that is held.
+    (
+        "UPDATE meta SET site = X'4afd80a9e9f71f065bdf0a550f7df08c7dce5a3f3e2ac971913906375d9fecbb'",
+        SITE,
+        2,
+    ),
     ("UPDATE meta SET id = 2", SITE, 2),
     ("UPDATE meta SET id = 2", OTHER_SITE, 2),
     ("DELETE FROM meta", SITE, 2),
     (
-        "INSERT INTO meta (id, schema, site) VALUES (2, 2, X'00')",
+        "INSERT INTO meta (id, schema, site) VALUES (2, 3, X'00')",
         SITE,
         2,
     ),
+    // No text, two of them, one of another number, and one that isn't told of.
+    ("DELETE FROM site_text", SITE, 2),
+    (
+        "INSERT INTO site_text (id, body) VALUES (2, 'customer = []')",
+        SITE,
+        2,
+    ),
+    ("UPDATE site_text SET id = 2", SITE, 2),
+    ("UPDATE site_text SET id = 2", OTHER_SITE, 2),
+    ("UPDATE site_text SET body = 'customer = []'", SITE, 2),
+    // A text of no customer that is told of: both sites are growths of it.
+    (TELLS_OF_NO_CUSTOMER, SITE, 0),
+    (TELLS_OF_NO_CUSTOMER, OTHER_SITE, 0),
+    // Texts that are told of and are no site's: one that is no TOML, and an empty one.
+    (
+        "UPDATE site_text SET body = 'customer'; UPDATE meta SET site = X'b6c45863875e34487ca3c155ed145efe12a74581e27befec5aa661b8ee8ca6dd'",
+        SITE,
+        1,
+    ),
+    (
+        "UPDATE site_text SET body = ''; UPDATE meta SET site = X'e3b0c44298fc1c149afbf4c8996fb92427ae41e4649b934ca495991b7852b855'",
+        SITE,
+        1,
+    ),
+    // Bytes that are no UTF-8, with their digest.
+    (
+        "UPDATE site_text SET body = CAST(X'ff' AS TEXT); UPDATE meta SET site = X'a8100ae6aa1940d0b663bb31cd466142ebbdbd5187131b92d93818987832eb89'",
+        SITE,
+        2,
+    ),
+    ("DROP TABLE site_text", SITE, 2),
+    ("DROP TABLE site_text; UPDATE meta SET schema = 2", SITE, 0),
     ("DROP TABLE ledger", SITE, 2),
     ("CREATE TABLE other (x INTEGER) STRICT", SITE, 2),
     ("CREATE INDEX other ON ledger (seat)", SITE, 2),
@@ -54,10 +96,11 @@ pub const CHANGED: &[(&str, &str, u8)] = &[
         SITE,
         2,
     ),
+    // They are asked for before the text is.
     (
         "INSERT INTO orders VALUES ('acme', 'o1', 'acme-ca', 'A', 3, 1, 1, 0, NULL, 1)",
         OTHER_SITE,
-        1,
+        2,
     ),
     (
         "INSERT INTO given VALUES ('acme-ca', 'Z1', 'acme', X'00', NULL, NULL, '99991231235959Z'); INSERT INTO given_start VALUES ('acme-ca', 'Z1', NULL)",
@@ -71,6 +114,10 @@ pub const CHANGED: &[(&str, &str, u8)] = &[
     ),
     ("DROP TABLE given_start", SITE, 2),
 ];
+
+/// The store holds the text of a site of no customer, and names its digest.
+const TELLS_OF_NO_CUSTOMER: &str =
+    "UPDATE site_text SET body = 'customer = []'; UPDATE meta SET site = X'4afd80a9e9f71f065bdf0a550f7df08c7dce5a3f3e2ac971913906375d9fecbb'";
 
 /// How many starts stand in a store after the conversation on records, and how many of them say nothing.
 const STARTS: &[(&str, i64)] = &[
@@ -102,10 +149,15 @@ pub const FOREIGN: &[&str] = &[
 ];
 
 /// The number of the fault with which a connection is adopted for the site of a text, or 0.
-pub fn fault_of_adopting(alloc: Global, conn: Connection<MemStore>, site: &str) -> u8 {
-    match adopted(alloc, conn, site) {
-        Ok(_) => 0,
-        Err(fault) => fault.number(),
+pub fn fault_of_adopting(
+    alloc: Global,
+    conn: Connection<MemStore>,
+    site: &str,
+) -> Result<u8, Fail> {
+    let site = read_site_text(alloc, site)?;
+    match adopt(alloc, conn, &site) {
+        Ok(_) => Ok(0),
+        Err((fault, _)) => Ok(fault.number()),
     }
 }
 
@@ -113,14 +165,14 @@ pub fn fault_of_adopting(alloc: Global, conn: Connection<MemStore>, site: &str) 
 pub fn fault_after(alloc: Global, sql: &str, site: &str) -> Result<u8, Fail> {
     let mut conn = SqlMemory::fresh(alloc)?.into_connection();
     conn.execute_batch(sql)?;
-    Ok(fault_of_adopting(alloc, conn, site))
+    fault_of_adopting(alloc, conn, site)
 }
 
 /// The number of the fault where an empty store is changed by SQL and then adopted, or 0.
 pub fn fault_of_foreign(alloc: Global, sql: &str) -> Result<u8, Fail> {
     let mut conn = Connection::open_in_memory(alloc)?;
     conn.execute_batch(sql)?;
-    Ok(fault_of_adopting(alloc, conn, SITE))
+    fault_of_adopting(alloc, conn, SITE)
 }
 
 /// Holds a conversation over a store that may first take one step a statement, and is adopted anew

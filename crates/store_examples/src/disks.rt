@@ -1,16 +1,16 @@
 //! Stores in files that are in memory, and what a stop leaves of them.
 ghost use Rattle.std.specs.Prelude.{IsTrue, IfOk};
 
-use crate::conversation::exchange;
 use base_examples::conversations::exchanges;
 use base_examples::samples::SITE;
 use office_core::Keep;
-use office_store::{Handed, SqlKeep, adopt};
+use office_store::{Handed, OpenFault, SqlKeep, adopt};
+use server_examples::conversation::exchange;
+use site_core::read_site_text;
 use sqlite::{Alter, Connection, FileStore, Files, Options};
 use sqlite_disk::{Crash, Disk, Fuse, Memory};
 use std::alloc::Global;
 use std::test::Fail;
-use text_core::Digest;
 
 /// The keeper over a database in files in memory.
 pub type SqlFiles = SqlKeep<FileStore<Fuse<Memory>>>;
@@ -83,12 +83,24 @@ fn file_of(alloc: Global, bytes: &[u8], calls: u64) -> Result<Fuse<Memory>, Fail
     Ok(file)
 }
 
+/// A store that isn't opened: the number of the fault, and what is left.
+#[derive(Drop)]
+pub struct Unopened {
+    pub fault: u8,
+    pub left: Store,
+}
+
 /// A keeper over the files of a store. It has no drop, so that nothing proves again how each part of a
 /// database in files is dropped.
 pub trait InFiles: Keep {
-    /// The keeper over files of these bytes for the sample site, with a stop to come, or what the
-    /// opening left.
-    fn opened(alloc: Global, store: &Store, stop: Stop) -> Result<Result<Self, Store>, Fail>;
+    /// The keeper over files of these bytes for the site of a text, with a stop to come, or the fault
+    /// and what the opening left.
+    fn opened(
+        alloc: Global,
+        store: &Store,
+        site: &str,
+        stop: Stop,
+    ) -> Result<Result<Self, Unopened>, Fail>;
 
     /// The number that a query tells of files of these bytes once they are changed by SQL, and the bytes
     /// that they leave where they are closed. Nothing else opens them.
@@ -130,19 +142,31 @@ fn handed_back(
 }
 
 impl InFiles for SqlFiles {
-    fn opened(alloc: Global, store: &Store, stop: Stop) -> Result<Result<SqlFiles, Store>, Fail> {
+    fn opened(
+        alloc: Global,
+        store: &Store,
+        site: &str,
+        stop: Stop,
+    ) -> Result<Result<SqlFiles, Unopened>, Fail> {
+        let site = read_site_text(alloc, site)?;
         let files = Files {
             log: file_of(alloc, store.log.as_slice(), stop.log_calls)?,
             db: file_of(alloc, store.file.as_slice(), stop.file_calls)?,
         };
-        let left = match Connection::open_files(alloc, files, Options::new(7)) {
-            Ok(conn) => match adopt(alloc, conn, &Digest::of(SITE.as_bytes())) {
+        let (fault, left) = match Connection::open_files(alloc, files, Options::new(7)) {
+            Ok(conn) => match adopt(alloc, conn, &site) {
                 Ok(keep) => return Ok(Ok(keep)),
-                Err((_, handed)) => handed_back(alloc, handed, stop.loses_unsynced),
+                Err((fault, handed)) => (fault, handed_back(alloc, handed, stop.loses_unsynced)),
             },
-            Err((_, left)) => Store::left_of(alloc, left.into_files(), stop.loses_unsynced),
+            Err((_, left)) => (
+                OpenFault::Failed,
+                Store::left_of(alloc, left.into_files(), stop.loses_unsynced),
+            ),
         };
-        Ok(Err(left.ok_or("no memory for what is left")?))
+        Ok(Err(Unopened {
+            fault: fault.number(),
+            left: left.ok_or("no memory for what is left")?,
+        }))
     }
 
     fn changed(
@@ -182,12 +206,17 @@ impl InFiles for SqlFiles {
     }
 }
 
-/// The keeper over files of these bytes, without a stop.
-pub fn opened_whole<K: InFiles>(alloc: Global, store: &Store) -> Result<K, Fail> {
-    match K::opened(alloc, store, NO_STOP)? {
+/// The keeper over files of these bytes for the site of a text, without a stop.
+pub fn opened_for<K: InFiles>(alloc: Global, store: &Store, site: &str) -> Result<K, Fail> {
+    match K::opened(alloc, store, site, NO_STOP)? {
         Ok(keep) => Ok(keep),
         Err(_) => Err(Fail::from("the store isn't opened")),
     }
+}
+
+/// The same for the sample site.
+pub fn opened_whole<K: InFiles>(alloc: Global, store: &Store) -> Result<K, Fail> {
+    opened_for(alloc, store, SITE)
 }
 
 /// What a request gets over a store where it isn't the reply that it must get, and the bytes that are
