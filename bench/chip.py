@@ -1,4 +1,4 @@
-"""The life of a chip as in docs/WALK.md, and the books after each of its requests, for refuse and powercut.
+"""The life of a chip as in docs/WALK.md, and the books after each of its requests, for refuse, powercut and grow.
 
 One seat imports a map, makes an order with a hardware address for each serial number, registers a chip, plans,
 reads back twice, gives it an identity and ships it. The replies and the books are those of a run that nobody
@@ -14,6 +14,8 @@ import subprocess
 import tempfile
 from dataclasses import dataclass
 from pathlib import Path
+
+from streams import Failed
 
 ROOT = Path(__file__).resolve().parent.parent
 DATA = ROOT / "crates" / "station" / "data"
@@ -36,10 +38,6 @@ HEAD = re.compile(rb"HTTP/1\.1 (\d{3}) [A-Za-z ]+\r\n%b*?Content-Length: (\d+)\r
 BLOCK = re.compile(r"^```console\n(.*?)^```$", re.MULTILINE | re.DOTALL)
 COMMAND = re.compile(r"^\$ (.*\n(?:> .*\n)*)((?:(?!\$ ).*\n)*)", re.MULTILINE)
 CALL = re.compile(r"curl -K a1 '?http://127\.0\.0\.1:8080(/v1/[^'\s]+)")
-
-
-class Failed(Exception):
-    """The program did not do what it should."""
 
 
 def post(path, members):
@@ -115,8 +113,8 @@ def store_at(path):
     return [Path(path), Path(f"{path}-wal")]
 
 
-def replay_words(program, db=None):
-    return [str(program), "replay", "--site", str(SITE), *(["--db", str(db)] if db else [])]
+def replay_words(program, db=None, site=SITE):
+    return [str(program), "replay", "--site", str(site), *(["--db", str(db)] if db else [])]
 
 
 def served(words, stream, seconds=60):

@@ -62,6 +62,7 @@ TABLES = {
     "given": "*",
     "given_start": "*",
     "ledger": "customer, chip, n, event, note, seat, bits, keys",
+    "site_text": "*",
 }
 
 

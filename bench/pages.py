@@ -1,0 +1,128 @@
+"""The commands of a page of docs, run in one bash after another, and their replies beside the page's, for walk and grow.
+
+A page's commands stand in blocks of ```console, each behind `$ `, its further lines behind `> `, and its reply below it.
+They run in a new folder in which `crates`, `clients` and `maps` are those of the repository and `station` is the program.
+"""
+
+import os
+import re
+import signal
+import subprocess
+import tempfile
+import threading
+from pathlib import Path
+
+ROOT = Path(__file__).resolve().parent.parent
+PROGRAM = ROOT / "crates/station/out/station"
+FOLDERS = ["crates", "clients", "maps"]
+PORT, PORTS = 8080, 4
+SECONDS = 120
+BLOCK = re.compile(r"^```console\n(.*?)^```$", re.MULTILINE | re.DOTALL)
+MARK = "end of the walk's command"
+
+
+class Step:
+    """A command of a page, its first line after `$ ` and the others after `> `, and its reply."""
+
+    def __init__(self, line):
+        self.lines, self.reply = [line], []
+
+    def text(self):
+        first, *others = self.lines
+        return "".join([f"$ {first}\n", *(f"> {line}\n" for line in others), *(f"{line}\n" for line in self.reply)])
+
+
+def steps_of(block):
+    """The commands of a block of the page."""
+    steps = []
+    for line in block.splitlines():
+        if line.startswith("$ "):
+            steps.append(Step(line[2:]))
+        elif line.startswith("> ") and not steps[-1].reply:
+            steps[-1].lines.append(line[2:])
+        else:
+            steps[-1].reply.append(line)
+    return steps
+
+
+def at_ports(text, old, new):
+    """The text with the ports from one on in place of those from another on."""
+    ports = {str(old + place): str(new + place) for place in range(PORTS)}
+    return re.sub(rf"(:|\bport )({'|'.join(ports)})\b", lambda found: found[1] + ports[found[2]], text)
+
+
+class Shell:
+    """A bash in which the commands run one after another."""
+
+    def __init__(self, program, port, seconds):
+        self.port = port
+        self.folder = tempfile.TemporaryDirectory()
+        for name in FOLDERS:
+            os.symlink(ROOT / name, f"{self.folder.name}/{name}")
+        os.mkdir(f"{self.folder.name}/bin")
+        os.symlink(program, f"{self.folder.name}/bin/station")
+        path = f"{self.folder.name}/bin:{os.environ['PATH']}"
+        self.bash = subprocess.Popen(
+            ["bash"],
+            cwd=self.folder.name,
+            env=os.environ | {"PATH": path, "LC_ALL": "C", "PYTHONDONTWRITEBYTECODE": "1"},
+            stdin=subprocess.PIPE,
+            stdout=subprocess.PIPE,
+            stderr=subprocess.STDOUT,
+            text=True,
+            start_new_session=True,
+        )
+        self.limit = threading.Timer(seconds, self.stop)
+        self.limit.start()
+
+    def reply(self, lines):
+        """What a command writes. One that ends with `&` writes one line more than its own end."""
+        command = at_ports("\n".join(lines), PORT, self.port)
+        self.bash.stdin.write(f"{{ {command}\n}} </dev/null\nprintf '%s\\n' \"{MARK}\"\n")
+        self.bash.stdin.flush()
+        reply, ends = [], 0
+        while not ends or (command.endswith("&") and not reply):
+            line = self.bash.stdout.readline()
+            if not line:
+                raise SystemExit(f"FAILED: no reply to: {lines[0]}")
+            if line == f"{MARK}\n":
+                ends += 1
+            else:
+                reply.append(at_ports(line.rstrip("\n"), self.port, PORT))
+        return reply
+
+    def stop(self):
+        """Ends the bash and what it started."""
+        os.killpg(self.bash.pid, signal.SIGKILL)
+
+    def close(self):
+        self.limit.cancel()
+        self.stop()
+        self.bash.wait()
+        self.folder.cleanup()
+
+
+def walk(page, program, port, seconds):
+    """A page's text with the replies of this run, and the commands, each with what the page has instead."""
+    shell, told = Shell(program, port, seconds), []
+
+    def block(found):
+        steps = steps_of(found[1])
+        for step in steps:
+            expected, step.reply = step.reply, shell.reply(step.lines)
+            told.append((step, expected))
+        return "```console\n" + "".join(step.text() for step in steps) + "```"
+
+    try:
+        return BLOCK.sub(block, page.read_text(encoding="utf-8")), told
+    finally:
+        shell.close()
+
+
+def is_as_on(name, told):
+    """Prints the commands whose replies aren't those of the page, and how many are; and whether all are."""
+    others = [(step, expected) for step, expected in told if step.reply != expected]
+    for step, expected in others:
+        print("\n".join(["$ " + "\n> ".join(step.lines), "the page:", *expected, "this run:", *step.reply, ""]))
+    print(f"{name}: {len(told)} commands, {len(told) - len(others)} as on the page")
+    return not others
