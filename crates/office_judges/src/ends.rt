@@ -1,6 +1,6 @@
 // The ends of devices: shipping and scrapping.
 ghost use Rattle.std.specs.Prelude.{◌≡◌};
-ghost use Rattle.office_rules.specs.EndRules as rules;
+ghost use Rattle.office_rules.specs.Ends.{may_be_scrapped, may_be_shipped, scrapped, shipped};
 ghost use Rattle.office_tables.specs.Reading.{Reading};
 ghost use Rattle.office_commands.specs.IdentityReplies.{state_body};
 ghost use Rattle.office_judges.specs.Judging.{IsJudged};
@@ -21,7 +21,7 @@ use text_core::{Chip, Name};
 
 /// Whether a device in this state may be shipped: an identified one may.
 fn may_be_shipped(state: DeviceState) -> bool
-    ensures { result ≡ rules.may_be_shipped state }
+    ensures { result ≡ may_be_shipped state }
 {
     match state {
         DeviceState::Identified => true,
@@ -31,7 +31,7 @@ fn may_be_shipped(state: DeviceState) -> bool
 
 /// Whether a device in this state may be scrapped: any may but one that was shipped or scrapped.
 fn may_be_scrapped(state: DeviceState) -> bool
-    ensures { result ≡ rules.may_be_scrapped state }
+    ensures { result ≡ may_be_scrapped state }
 {
     match state {
         DeviceState::Shipped | DeviceState::Scrapped => false,
@@ -41,7 +41,7 @@ fn may_be_scrapped(state: DeviceState) -> bool
 
 /// The step that ships a device.
 fn shipped(map: &FuseMap, device: &Device) -> DeviceStep
-    ensures { result ≡ rules.shipped map.now device.now }
+    ensures { result ≡ shipped map.now device.now }
 {
     let device = Device {
         state: DeviceState::Shipped,
@@ -52,7 +52,7 @@ fn shipped(map: &FuseMap, device: &Device) -> DeviceStep
 
 /// The step that scraps a device: nothing more is to be burnt of it, and its serial number stays.
 fn scrapped(map: &FuseMap, device: &Device) -> DeviceStep
-    ensures { result ≡ rules.scrapped map.now device.now }
+    ensures { result ≡ scrapped map.now device.now }
 {
     let device = Device {
         state: DeviceState::Scrapped,

@@ -2,9 +2,8 @@
 ghost use Rattle.std.specs.Prelude.{◌≡◌};
 ghost use Rattle.fuse_columns.specs.TodoColumns.{todo_column};
 ghost use Rattle.fuse_columns.specs.Zeros.{no_work};
-ghost use Rattle.office_rules.specs.Rules.{lowest, unless_refused};
-ghost use Rattle.office_rules.specs.StepRules as rules;
-ghost use Rattle.office_rules.specs.StepRules.{plan_refusals, work_of};
+ghost use Rattle.office_rules.specs.Lowest.{lowest, unless_refused};
+ghost use Rattle.office_rules.specs.Plan.{known_of, may_be_planned, plan_refusals, state_with, without_addition, work_of};
 ghost use Rattle.office_tables.specs.Reading.{Reading};
 ghost use Rattle.office_judges.specs.Judging.{IsJudged};
 
@@ -24,7 +23,7 @@ use text_core::Name;
 
 /// What is known to be burnt of a device.
 pub(crate) fn known_of(map: &FuseMap, device: &Device) -> Image
-    ensures { result ≡ rules.known_of map.now device.now }
+    ensures { result ≡ known_of map.now device.now }
 {
     Image {
         burnt: decode_bits(map, &device.bits),
@@ -34,7 +33,7 @@ pub(crate) fn known_of(map: &FuseMap, device: &Device) -> Image
 
 /// Whether a device in this state may be planned: one that is registered or settled may.
 fn may_be_planned(state: DeviceState) -> bool
-    ensures { result ≡ rules.may_be_planned state }
+    ensures { result ≡ may_be_planned state }
 {
     match state {
         DeviceState::Registered | DeviceState::Settled => true,
@@ -44,7 +43,7 @@ fn may_be_planned(state: DeviceState) -> bool
 
 /// Where a device stands that has this work: an empty batch is skipped.
 pub(crate) fn state_with(work: &Work) -> DeviceState
-    ensures { result ≡ rules.state_with work.now }
+    ensures { result ≡ state_with work.now }
 {
     if !(work.first.is_empty() && work.keys.is_empty()) {
         return DeviceState::AwaitingFirst;
@@ -69,8 +68,8 @@ pub(crate) fn no_work() -> Work
 
 /// The step that gives a device its work.
 fn with_work(map: &FuseMap, device: &Device, work: &Work) -> DeviceStep
-    ensures { result ≡ rules.without_addition Event.Planned map.now (record device.now {
-      state = rules.state_with work.now;
+    ensures { result ≡ without_addition Event.Planned map.now (record device.now {
+      state = state_with work.now;
       todo = todo_column map.now work.now;
     }) }
 {

@@ -8,9 +8,8 @@ ghost use Rattle.fuse_image.specs.Keys.{without};
 ghost use Rattle.fuse_redaction.specs.Redaction.{redacted};
 ghost use Rattle.fuse_plan.specs.Pending as pending;
 ghost use Rattle.office_tables.specs.Reading.{Reading};
-ghost use Rattle.office_rules.specs.Rules.{lowest, unless_refused};
-ghost use Rattle.office_rules.specs.StepRules as rules;
-ghost use Rattle.office_rules.specs.StepRules.{read_refusals, verdict_on};
+ghost use Rattle.office_rules.specs.Lowest.{lowest, unless_refused};
+ghost use Rattle.office_rules.specs.ReadBack.{batch_in, is_awaited, outcome_for, outcome_of, read_refusals, read_step, reason_for, state_after, verdict_on, with_rest, work_after};
 ghost use Rattle.office_judges.specs.Judging.{IsJudged};
 
 use crate::Judgement;
@@ -30,7 +29,7 @@ use text_core::Name;
 
 /// Whether a device in this state is read back: one whose batch is awaited is.
 fn is_awaited(state: DeviceState) -> bool
-    ensures { result ≡ rules.is_awaited state }
+    ensures { result ≡ is_awaited state }
 {
     match state {
         DeviceState::AwaitingFirst | DeviceState::AwaitingSecond => true,
@@ -54,7 +53,7 @@ fn judge_words(map: &FuseMap, device: &Device, words: &BlockWords) -> Result<Rea
 
 /// The batch of a state.
 fn batch_in(state: DeviceState, work: &Work) -> Image
-    ensures { result ≡ rules.batch_in state work.now }
+    ensures { result ≡ batch_in state work.now }
 {
     match state {
         DeviceState::AwaitingFirst => Image {
@@ -73,7 +72,7 @@ fn batch_in(state: DeviceState, work: &Work) -> Image
 }
 
 fn reason_for(fault: ChipFault) -> Reason
-    ensures { result ≡ rules.reason_for fault }
+    ensures { result ≡ reason_for fault }
 {
     match fault {
         ChipFault::Lost => Reason::Lost,
@@ -83,7 +82,7 @@ fn reason_for(fault: ChipFault) -> Reason
 }
 
 fn outcome_for(fault: ChipFault) -> Outcome
-    ensures { result ≡ rules.outcome_for fault }
+    ensures { result ≡ outcome_for fault }
 {
     match fault {
         ChipFault::Lost => Outcome::Lost,
@@ -94,7 +93,7 @@ fn outcome_for(fault: ChipFault) -> Outcome
 
 /// What a verdict is called in replies and ledgers.
 fn outcome_of(verdict: &Verdict) -> Outcome
-    ensures { result ≡ rules.outcome_of verdict.now }
+    ensures { result ≡ outcome_of verdict.now }
 {
     match verdict {
         Verdict::Match => Outcome::Match,
@@ -118,7 +117,7 @@ fn rest_of(verdict: &Verdict) -> Image
 
 /// The work with a rest in place of the batch of the state.
 fn with_rest(state: DeviceState, rest: &Image, work: &Work) -> Work
-    ensures { result ≡ rules.with_rest state rest.now work.now }
+    ensures { result ≡ with_rest state rest.now work.now }
 {
     match state {
         DeviceState::AwaitingFirst => Work {
@@ -137,7 +136,7 @@ fn with_rest(state: DeviceState, rest: &Image, work: &Work) -> Work
 
 /// What is pending after a read-back: nothing where something is wrong.
 fn work_after(verdict: &Verdict, state: DeviceState, work: &Work) -> Work
-    ensures { result ≡ rules.work_after verdict.now state work.now }
+    ensures { result ≡ work_after verdict.now state work.now }
 {
     match verdict {
         Verdict::Fault(_) => no_work(),
@@ -146,7 +145,7 @@ fn work_after(verdict: &Verdict, state: DeviceState, work: &Work) -> Work
 }
 
 fn state_after(verdict: &Verdict, state: DeviceState, work: &Work) -> DeviceState
-    ensures { result ≡ rules.state_after verdict.now state work.now }
+    ensures { result ≡ state_after verdict.now state work.now }
 {
     match verdict {
         Verdict::Match => state_with(&work_after(verdict, state, work)),
@@ -164,10 +163,10 @@ fn device_after(
     after: &Image,
 ) -> Device
     ensures { result ≡ record device.now {
-      state = rules.state_after verdict.now device.now.state work.now;
+      state = state_after verdict.now device.now.state work.now;
       bits = bits_column map.now after.now.burnt;
       keys = keys_column map.now after.now.keys;
-      todo = todo_column map.now (rules.work_after verdict.now device.now.state work.now);
+      todo = todo_column map.now (work_after verdict.now device.now.state work.now);
     } }
 {
     Device {
@@ -189,7 +188,7 @@ fn step_to(
 ) -> DeviceStep
     ensures { result ≡ record {
       device = device;
-      event = Event.Read (rules.outcome_of verdict.now);
+      event = Event.Read (outcome_of verdict.now);
       bits = bits_column map.now (set.difference after.now.burnt known.now.burnt);
       keys = keys_column map.now (without after.now.keys known.now.keys);
     } }
@@ -204,7 +203,7 @@ fn step_to(
 
 /// The step of a read-back, and the verdict that it comes to.
 fn read_step(map: &FuseMap, device: &Device, readback: &ReadBack) -> (DeviceStep, Verdict)
-    ensures step { result.0 ≡ rules.read_step readback.now map.now device.now }
+    ensures step { result.0 ≡ read_step readback.now map.now device.now }
     ensures verdict { result.1 ≡ verdict_on readback.now map.now device.now }
 {
     let known = known_of(map, device);

@@ -1,4 +1,4 @@
--- An order's new cursor is seen by nobody, and keeps the tables sound.
+-- An order's new cursor keeps the tables sound, and the order as it is without it.
 use Rattle.std.proofs.Common.{◌≡◌, ◌≤◌, ◌+◌, ℕ, Bool, true, false, cond, List, [], ◌∷◌, map, Option, Some, None, Equal, Greater, Less, refl, sym, ap, ◌∙◌}
 use Rattle.std.proofs.Common.{subst}
 use Rattle.std.specs.Prelude.{filter, find, is_some, IsSomeAnd}
@@ -12,47 +12,53 @@ use Rattle.office_tables.specs.declared.rows.Order.{Order}
 use Rattle.office_tables.specs.declared.rows.Owned.{Owned}
 use Rattle.office_tables.specs.declared.rows.Device.{Device}
 use Rattle.office_tables.specs.Tables.{Tables, is_device, is_of, is_order, order_at, order_cmp, own, placed, with_cursor, with_cursor_of, with_order, IsInOrder}
-use Rattle.office_tables.proofs.Placing.{all_map, all_placed, placed_in_order}
-use Rattle.office_rules.specs.Devices.{own_entry}
 use Rattle.office_rules.proofs.Refusing.{is_some_map}
 use Rattle.office_laws.specs.Grows.{Grows}
 use Rattle.office_laws.specs.Sound.{AreDisjoint, EachApart, IsInPool, IsOrder, IsSound}
-use Rattle.office_laws.specs.SoundDevices.{IsReferred}
-use Rattle.office_laws.specs.SoundRecords.{AreSoundRecords, IsGivenBelow, IsOfDevice, IsOfOrder, IsRecordOf}
-use Rattle.office_laws.specs.View.{at_first, own_map, view}
+use Rattle.office_laws.specs.SoundRecords.{IsGivenBelow, IsOfDevice, IsOfOrder, IsRecordOf}
+use Rattle.office_rules.specs.OfficeMachine.{at_first}
 use Rattle.office_laws.proofs.Growing.{OrderStays}
 use Rattle.office_laws.proofs.Readings.{find_holds, find_map, orders_total}
+use Rattle.office_laws.proofs.SoundRows.{order_placed}
 
 -- an order's row without its cursor
-abbrev row_at_first : Owned Order → Owned Order
+abbrev pub row_at_first : Owned Order → Owned Order
 row_at_first o = record { customer = o.customer; row = at_first o.row }
 
 -- the row with another cursor
-abbrev moved : ℕ → Owned Order → Owned Order
+abbrev pub moved : ℕ → Owned Order → Owned Order
 moved n o = record { customer = o.customer; row = record o.row { cursor = n } }
 
 -- rows of equal orders, wherever their cursors stand
-abbrev AreSame : List (Owned Order) → List (Owned Order) → Type 0
+abbrev pub AreSame : List (Owned Order) → List (Owned Order) → Type 0
 AreSame xs ys = map row_at_first xs ≡ map row_at_first ys
 
 -- an order of the table takes its own place with another cursor
-moved_same : (p : Owned Order → Bool) (o : Owned Order) (n : ℕ) (rows : List (Owned Order)) → IsInOrder order_cmp rows → find p rows ≡ Some o
+pub moved_same : (p : Owned Order → Bool) (o : Owned Order) (n : ℕ) (rows : List (Owned Order))
+    → IsInOrder order_cmp rows → find p rows ≡ Some o
     → AreSame (placed order_cmp (moved n o) rows) rows
 moved_same p o n [] order e = cc
 moved_same p o n (y ∷ ys) order e =
-    elim (p y) as (λ b. cond b (Some y) (find p ys) ≡ Some o → AreSame (placed order_cmp (moved n o) (y ∷ ys)) (y ∷ ys)) [
+    elim (p y) as (λ b. cond b (Some y) (find p ys) ≡ Some o
+    → AreSame (placed order_cmp (moved n o) (y ∷ ys)) (y ∷ ys)) [
       | true ↦ λ here.
           let same : y ≡ o = cc in
-          let tied : order_cmp (moved n o) y ≡ Equal = subst (λ (z : Owned Order). order_cmp (moved n o) z ≡ Equal) (sym same) (tied_itself orders_total o) in
+          let tied : order_cmp (moved n o) y ≡ Equal =
+          subst (λ (z : Owned Order). order_cmp (moved n o) z ≡ Equal) (sym same)
+          (tied_itself orders_total o) in
           rw tied (λ i. row_at_first (sym same i) ∷ map row_at_first ys)
       | false ↦ λ later.
-          let less : order_cmp y (moved n o) ≡ Less = (find_holds (λ z. order_cmp y z ≡ Less) p ys o order.0 later).0 in
-          let greater : order_cmp (moved n o) y ≡ Greater = orders_total.antisymm (moved n o) y ∙ ap ordering_reverse less in
+          let less : order_cmp y (moved n o) ≡ Less =
+          (find_holds (λ z. order_cmp y z ≡ Less) p ys o order.0 later).0 in
+          let greater : order_cmp (moved n o) y ≡ Greater =
+          orders_total.antisymm (moved n o) y ∙ ap ordering_reverse less in
           rw greater (ap (λ zs. row_at_first y ∷ zs) (moved_same p o n ys order.1 later))
     ] e
 
 -- an order stays where its cursor alone moves
-order_moved : (old mid new : Option (Owned Order)) → option_map row_at_first new ≡ option_map row_at_first mid → OrderStays old mid → OrderStays old new
+order_moved : (old mid new : Option (Owned Order))
+    → option_map row_at_first new ≡ option_map row_at_first mid → OrderStays old mid
+    → OrderStays old new
 order_moved None mid new same stays = tt
 order_moved (Some o) None new same stays = absurd stays
 order_moved (Some o) (Some x) None same stays = cc
@@ -61,11 +67,13 @@ order_moved (Some o) (Some x) (Some y) same stays =
     ap (λ (r : Owned Order). r.row) rows ∙ stays
 
 -- what holds of each row without its cursor
-all_at_first : (P : Owned Order → Type 0) (rows : List (Owned Order)) → AllByRecursion (λ o. P (row_at_first o)) rows → AllByRecursion P (map row_at_first rows)
+all_at_first : (P : Owned Order → Type 0) (rows : List (Owned Order))
+    → AllByRecursion (λ o. P (row_at_first o)) rows → AllByRecursion P (map row_at_first rows)
 all_at_first P [] all = tt
 all_at_first P (o ∷ os) all = (all.0, all_at_first P os all.1)
 
-each_at_first : (P : Owned Order → Type 0) (rows : List (Owned Order)) → AllByRecursion P (map row_at_first rows) → AllByRecursion (λ o.
+each_at_first : (P : Owned Order → Type 0) (rows : List (Owned Order))
+    → AllByRecursion P (map row_at_first rows) → AllByRecursion (λ o.
     P (row_at_first o)) rows
 each_at_first P [] all = tt
 each_at_first P (o ∷ os) all = (all.0, each_at_first P os all.1)
@@ -73,79 +81,111 @@ each_at_first P (o ∷ os) all = (all.0, each_at_first P os all.1)
 -- an order's addresses are its own wherever its cursor stands
 apart_at_first : (rows : List (Owned Order)) → EachApart rows → EachApart (map row_at_first rows)
 apart_at_first [] apart = tt
-apart_at_first (o ∷ os) apart = (all_at_first (λ other. AreDisjoint o.row other.row) os apart.0, apart_at_first os apart.1)
+apart_at_first (o ∷ os) apart =
+    (all_at_first (λ other. AreDisjoint o.row other.row) os apart.0, apart_at_first os apart.1)
 
 apart_again : (rows : List (Owned Order)) → EachApart (map row_at_first rows) → EachApart rows
 apart_again [] apart = tt
-apart_again (o ∷ os) apart = (each_at_first (λ other. AreDisjoint o.row other.row) os apart.0, apart_again os apart.1)
+apart_again (o ∷ os) apart =
+    (each_at_first (λ other. AreDisjoint o.row other.row) os apart.0, apart_again os apart.1)
 
 -- a customer's orders without their cursors
-own_at_first : (c : List ℕ) (rows : List (Owned Order)) → map at_first (own c rows) ≡ own c (map row_at_first rows)
+own_at_first : (c : List ℕ) (rows : List (Owned Order))
+    → map at_first (own c rows) ≡ own c (map row_at_first rows)
 own_at_first c [] = refl
 own_at_first c (y ∷ ys) =
-    elim (is_of c y) as (λ b. map at_first (map (λ o. o.row) (cond b (y ∷ filter (is_of c) ys) (filter (is_of c) ys)))
-    ≡ map (λ o. o.row) (cond b (row_at_first y ∷ filter (is_of c) (map row_at_first ys)) (filter (is_of c) (map row_at_first ys)))) [
+    elim (is_of c y) as
+    (λ b. map at_first (map (λ o. o.row) (cond b (y ∷ filter (is_of c) ys) (filter (is_of c) ys)))
+    ≡ map (λ o. o.row) (cond b (row_at_first y ∷ filter (is_of c) (map row_at_first ys))
+    (filter (is_of c) (map row_at_first ys)))) [
       | true ↦ ap (λ os. at_first y.row ∷ os) (own_at_first c ys)
       | false ↦ own_at_first c ys
     ]
 
 -- two tables of equal orders
 module _ (before after : List (Owned Order)) (same : AreSame after before) where
-  found_same : (customer name : List ℕ) → option_map row_at_first (find (is_order customer name) after)
+  found_same : (customer name : List ℕ)
+      → option_map row_at_first (find (is_order customer name) after)
       ≡ option_map row_at_first (find (is_order customer name) before)
   found_same customer name =
       sym (find_map row_at_first (is_order customer name) after)
-      ∙ (ap (find (is_order customer name)) same ∙ find_map row_at_first (is_order customer name) before)
+      ∙ (ap (find (is_order customer name)) same ∙ find_map row_at_first
+      (is_order customer name) before)
 
   apart_same : EachApart before → EachApart after
   apart_same apart = apart_again after (subst EachApart (sym same) (apart_at_first before apart))
 
-  own_same : (c : List ℕ) → map at_first (own c after) ≡ map at_first (own c before)
+  pub own_same : (c : List ℕ) → map at_first (own c after) ≡ map at_first (own c before)
   own_same c = own_at_first c after ∙ (ap (own c) same ∙ sym (own_at_first c before))
 
-  there_same : (customer name : List ℕ) → is_some (find (is_order customer name) before) ≡ true → is_some (find (is_order customer name) after) ≡ true
+  there_same : (customer name : List ℕ) → is_some (find (is_order customer name) before) ≡ true
+      → is_some (find (is_order customer name) after) ≡ true
   there_same customer name there =
       sym (is_some_map row_at_first (find (is_order customer name) after))
-      ∙ (ap is_some (found_same customer name) ∙ (is_some_map row_at_first (find (is_order customer name) before) ∙ there))
+      ∙ (ap is_some (found_same customer name)
+      ∙ (is_some_map row_at_first (find (is_order customer name) before) ∙ there))
 
   -- a record is that of its order still
-  record_same : (g : Owned Given) (devices : List (Owned Device)) (chip : Option (List ℕ)) → IsRecordOf before devices g chip → IsRecordOf after devices g chip
+  record_same : (g : Owned Given) (devices : List (Owned Device)) (chip : Option (List ℕ))
+      → IsRecordOf before devices g chip → IsRecordOf after devices g chip
   record_same g devices None is = is
   record_same g devices (Some chip) is = by (find (is_device g.customer chip) devices) is
     where
-      without : (found : Option (Owned Order)) → IsSomeAnd found (λ o. IsOfOrder o.row g.row) → IsSomeAnd (option_map row_at_first found) (λ o.
+      without : (found : Option (Owned Order)) → IsSomeAnd found (λ o. IsOfOrder o.row g.row)
+          → IsSomeAnd (option_map row_at_first found) (λ o.
           IsOfOrder o.row g.row)
       without None is = is
-      without (Some o) is = record { issuer = is.issuer; number = is.number; is_number = is.is_number; serial = is.serial; mac = is.mac; start = is.start }
+      without (Some o) is = record {
+        issuer = is.issuer;
+        number = is.number;
+        is_number = is.is_number;
+        serial = is.serial;
+        mac = is.mac;
+        start = is.start;
+      }
 
-      again : (found : Option (Owned Order)) → IsSomeAnd (option_map row_at_first found) (λ o. IsOfOrder o.row g.row) → IsSomeAnd found (λ o.
+      again : (found : Option (Owned Order))
+          → IsSomeAnd (option_map row_at_first found) (λ o. IsOfOrder o.row g.row)
+          → IsSomeAnd found (λ o.
           IsOfOrder o.row g.row)
       again None is = is
-      again (Some o) is = record { issuer = is.issuer; number = is.number; is_number = is.is_number; serial = is.serial; mac = is.mac; start = is.start }
+      again (Some o) is = record {
+        issuer = is.issuer;
+        number = is.number;
+        is_number = is.is_number;
+        serial = is.serial;
+        mac = is.mac;
+        start = is.start;
+      }
 
-      by : (found : Option (Owned Device)) → IsSomeAnd found (IsOfDevice before g) → IsSomeAnd found (IsOfDevice after g)
+      by : (found : Option (Owned Device)) → IsSomeAnd found (IsOfDevice before g)
+          → IsSomeAnd found (IsOfDevice after g)
       by None is = is
       by (Some d) is = (
         is.0,
         again (find (is_order g.customer d.row.order) after)
-            (subst (λ (found : Option (Owned Order)). IsSomeAnd found (λ o. IsOfOrder o.row g.row)) (sym (found_same g.customer d.row.order))
+            (subst (λ (found : Option (Owned Order)). IsSomeAnd found (λ o. IsOfOrder o.row g.row))
+            (sym (found_same g.customer d.row.order))
             (without (find (is_order g.customer d.row.order) before) is.1)),
       )
 
-module _ {owners : Owners} {t : Tables} (sound : IsSound owners t) (c name : List ℕ) (o : Owned Order) (n : ℕ) (there : order_at c name t ≡ Some o) where
+module _ {owners : Owners} {t : Tables} (sound : IsSound owners t) (c name : List ℕ)
+    (o : Owned Order) (n : ℕ) (there : order_at c name t ≡ Some o) where
   -- the order is placed with its new cursor
-  placed_there : with_cursor (record { customer = c; row = record { order = name; number = n } }) t ≡ with_order (moved n o) t
+  placed_there : with_cursor (record { customer = c; row = record { order = name; number = n } }) t
+      ≡ with_order (moved n o) t
   placed_there = ap (λ found. with_cursor_of found n t) there
 
   orders_same : AreSame (placed order_cmp (moved n o) t.orders) t.orders
-  orders_same = moved_same (is_order c name) o n t.orders sound.orders_in_order there
+  orders_same = moved_same (is_order c name) o n t.orders sound.orders.rows.in_order there
 
   holds : (P : Owned Order → Type 0) → AllByRecursion P t.orders → P o
   holds P all = (find_holds P (is_order c name) t.orders o all there).0
 
-  moved_terms : o.row.range.first ≤ n → n ≤ o.row.range.first + o.row.range.quantity → IsOrder (record o.row { cursor = n })
+  moved_terms : o.row.range.first ≤ n → n ≤ o.row.range.first + o.row.range.quantity
+      → IsOrder (record o.row { cursor = n })
   moved_terms least largest =
-      let terms = holds (λ o. IsOrder o.row) sound.terms in
+      let terms = holds (λ o. IsOrder o.row) sound.orders.terms in
       record {
         range = terms.range;
         largest_quantity = terms.largest_quantity;
@@ -155,79 +195,43 @@ module _ {owners : Owners} {t : Tables} (sound : IsSound owners t) (c name : Lis
         largest_cursor = largest;
       }
 
-  moved_records : IsGivenBelow t.given (moved n o) → AreSoundRecords (placed order_cmp (moved n o) t.orders) t.devices t.given
-  moved_records below = record {
-    keys_apart = sound.records.keys_apart;
-    addresses_apart = sound.records.addresses_apart;
-    records = all_map (λ g. IsRecordOf t.orders t.devices g g.row.chip) (λ g. IsRecordOf (placed order_cmp (moved n o) t.orders) t.devices g g.row.chip)
-        (λ g is. record_same t.orders (placed order_cmp (moved n o) t.orders) orders_same g t.devices g.row.chip is) t.given sound.records.records;
-    numbered = sound.records.numbered;
-    cursors = all_placed (IsGivenBelow t.given) order_cmp (moved n o) t.orders below sound.records.cursors;
-  }
-
-  moved_sound : o.row.range.first ≤ n → n ≤ o.row.range.first + o.row.range.quantity → IsGivenBelow t.given (moved n o)
-      → IsSound owners (with_order (moved n o) t)
-  moved_sound least largest below = record {
-    seats_in_order = sound.seats_in_order;
-    orders_in_order = placed_in_order order_cmp orders_total (moved n o) t.orders sound.orders_in_order;
-    given_in_order = sound.given_in_order;
-    seats = sound.seats;
-    orders =
-        all_placed (λ o. owners.issuer o.row.issuer ≡ Some o.customer) order_cmp (moved n o) t.orders
-        (holds (λ o. owners.issuer o.row.issuer ≡ Some o.customer) sound.orders) sound.orders;
-    given = sound.given;
-    terms = all_placed (λ o. IsOrder o.row) order_cmp (moved n o) t.orders (moved_terms least largest) sound.terms;
-    in_pools = all_placed (IsInPool owners) order_cmp (moved n o) t.orders (holds (IsInPool owners) sound.in_pools) sound.in_pools;
-    apart = apart_same t.orders (placed order_cmp (moved n o) t.orders) orders_same sound.apart;
-    maps_in_order = sound.maps_in_order;
-    texts_apart = sound.texts_apart;
-    links_in_order = sound.links_in_order;
-    links = sound.links;
-    linked = sound.linked;
-    records = moved_records below;
-    devices = record {
-      devices_in_order = sound.devices.devices_in_order;
-      ledger_in_order = sound.devices.ledger_in_order;
-      ids_apart = sound.devices.ids_apart;
-      customers = sound.devices.customers;
-      referred = all_map (IsReferred t.orders t.links) (IsReferred (placed order_cmp (moved n o) t.orders) t.links)
-          (λ d r. record { order = there_same t.orders (placed order_cmp (moved n o) t.orders) orders_same d.customer d.row.order r.order; map = r.map })
-          t.devices sound.devices.referred;
-      ledgers = sound.devices.ledgers;
-      of_devices = sound.devices.of_devices;
-    };
-  }
+  moved_sound : o.row.range.first ≤ n → n ≤ o.row.range.first + o.row.range.quantity
+      → IsGivenBelow t.given (moved n o) → IsSound owners (with_order (moved n o) t)
+  moved_sound least largest below =
+      let later : List (Owned Order) = placed order_cmp (moved n o) t.orders in
+      order_placed sound (moved n o)
+      (holds (λ o. owners.issuer o.row.issuer ≡ Some o.customer) sound.orders.rows.owned)
+      (moved_terms least largest) (holds (IsInPool owners) sound.orders.in_pools)
+      (apart_same t.orders later orders_same sound.orders.apart)
+      (λ g is. record_same t.orders later orders_same g t.devices g.row.chip is)
+      (there_same t.orders later orders_same) below
 
   -- the tables stay sound, where every number below the new cursor is given
   pub cursor_sound : o.row.range.first ≤ n → n ≤ o.row.range.first + o.row.range.quantity
       → IsGivenBelow t.given (record { customer = c; row = record o.row { cursor = n } })
-      → IsSound owners (with_cursor (record { customer = c; row = record { order = name; number = n } }) t)
-  cursor_sound least largest below = subst (IsSound owners) (sym placed_there) (moved_sound least largest below)
-
-  moved_view : (d : List ℕ) → view d (with_order (moved n o) t) ≡ view d t
-  moved_view d = λ i. record {
-    seats = own d t.seats;
-    orders = own_same t.orders (placed order_cmp (moved n o) t.orders) orders_same d i;
-    given = own d t.given;
-    maps = map (own_map t) (own d t.links);
-    devices = own d t.devices;
-    ledger = map own_entry (own d t.ledger);
-  }
-
-  -- nobody sees the cursor
-  pub cursor_view : (d : List ℕ) → view d (with_cursor (record { customer = c; row = record { order = name; number = n } }) t) ≡ view d t
-  cursor_view d = ap (view d) placed_there ∙ moved_view d
+      → IsSound owners (with_cursor (record {
+        customer = c;
+        row = record { order = name; number = n };
+      }) t)
+  cursor_sound least largest below =
+      subst (IsSound owners) (sym placed_there) (moved_sound least largest below)
 
   -- and nothing that was kept is lost by it
-  pub cursor_grows : (before : Tables) → Grows before t → Grows before (with_cursor (record { customer = c; row = record { order = name; number = n } }) t)
+  pub cursor_grows : (before : Tables) → Grows before t
+      → Grows before (with_cursor (record {
+        customer = c;
+        row = record { order = name; number = n };
+      }) t)
   cursor_grows before grows =
       let kept : Grows before (with_order (moved n o) t) =
       record {
         devices = grows.devices;
         maps = grows.maps;
         orders =
-            λ customer called. order_moved (order_at customer called before) (order_at customer called t) (order_at customer called (with_order (moved n o) t))
-            (found_same t.orders (placed order_cmp (moved n o) t.orders) orders_same customer called) (grows.orders customer called);
+            λ customer called. order_moved (order_at customer called before)
+            (order_at customer called t) (order_at customer called (with_order (moved n o) t))
+            (found_same t.orders (placed order_cmp (moved n o) t.orders) orders_same customer
+            called) (grows.orders customer called);
         given = grows.given;
       } in
       subst (Grows before) (sym placed_there) kept

@@ -1,4 +1,5 @@
--- A step of a device acts on the customer's view as on the customer's own machine, leaves each other view, and keeps the tables sound.
+-- A device with an entry of its ledger keeps the tables sound, and how both lie with their
+-- customers.
 use Rattle.std.proofs.Common.{◌≡◌, ◌+◌, ◌++◌, ℕ, arith, true, false, List, [], ◌∷◌, length, map, Some, None, Ordering, Equal, refl, sym, ap, ◌∙◌, subst}
 use Rattle.std.specs.Prelude.{bytes_eq, filter, find, is_some}
 use Rattle.std.specs.List.{AllByRecursion}
@@ -13,71 +14,83 @@ use Rattle.office_tables.specs.declared.rows.Entry.{Entry}
 use Rattle.office_tables.specs.declared.rows.NewEntry.{NewEntry}
 use Rattle.fusemap_core.specs.Map.{Map}
 use Rattle.office_tables.specs.Tables.{Tables, device_at, device_cmp, entry_cmp, entry_under, entry_with, greatest, has_entry_id, is_device, is_entry_of}
-use Rattle.office_tables.specs.Tables.{is_of, last_number, link_at, order_at, own, placed, text_cmp, with_device, with_new_entry}
+use Rattle.office_tables.specs.Tables.{is_of, last_number, link_at, order_at, text_cmp, with_device, with_new_entry}
 use Rattle.office_tables.proofs.Finding.{filter_none, filter_only, filter_other, none_passes, some_placed, still_there}
-use Rattle.office_tables.proofs.Placing.{all_map, all_placed, placed_in_order, placed_other, placed_own}
-use Rattle.office_rules.specs.DeviceSteps.{entry_of}
+use Rattle.office_tables.proofs.Placing.{all_map, all_placed, placed_in_order}
+use Rattle.office_rules.specs.Effect.{entry_of}
+use Rattle.office_rules.specs.OfficeMachine.{map_named}
 use Rattle.office_rules.specs.declared.device_step.DeviceStep.{DeviceStep}
-use Rattle.office_rules.specs.Devices.{map_named, own_entry}
 use Rattle.office_rules.proofs.Ties.{first_equal, same_place, same_text, second_equal, text_itself}
-use Rattle.office_laws.specs.Solo.{own_device_cmp, own_entry_cmp, own_last, own_step}
-use Rattle.office_laws.specs.View.{at_first, own_map, view}
+use Rattle.office_laws.proofs.OwnPlaces.{own_device_cmp}
 use Rattle.office_laws.specs.SoundDevices.{AreNumbered, AreSoundDevices, HasLedger, IsKept, IsReferred, Named}
 use Rattle.office_laws.specs.SoundRecords.{IsNumbered, IsRecordOf}
 use Rattle.office_laws.specs.Sound.{IsSound}
 use Rattle.office_laws.proofs.Appended.{all_below, appended, last_of_numbered, numbered_appended}
 use Rattle.office_laws.proofs.DeviceRows.{ids_apart_placed}
-use Rattle.office_laws.proofs.Placed.{all_placed_apart, map_placed}
-use Rattle.office_laws.proofs.Readings.{entries_own, find_holds}
+use Rattle.office_laws.proofs.Placed.{all_placed_apart}
+use Rattle.office_laws.proofs.Readings.{find_holds}
 use Rattle.office_laws.proofs.RecordRows.{Follows, each_device, own_device, record_after_device, tied_device}
 
-devices_total : IsTotalOrder device_cmp
-devices_total = then_total (on_total (λ o. o.customer) nat_list_cmp_total) (on_total (λ o. o.row.chip) nat_list_cmp_total)
+pub devices_total : IsTotalOrder device_cmp
+devices_total =
+    then_total (on_total (λ o. o.customer) nat_list_cmp_total)
+    (on_total (λ o. o.row.chip) nat_list_cmp_total)
 
-entries_total : IsTotalOrder entry_cmp
+pub entries_total : IsTotalOrder entry_cmp
 entries_total =
-    then_total (then_total (on_total (λ o. o.customer) nat_list_cmp_total) (on_total (λ o. o.row.chip) nat_list_cmp_total))
+    then_total (then_total (on_total (λ o. o.customer) nat_list_cmp_total)
+    (on_total (λ o. o.row.chip) nat_list_cmp_total))
     (on_total (λ o. o.row.number) nat_cmp_total)
 
-tied_customers : (c : List ℕ) {A : Type 0} (a b : Owned A) → is_of c a ≡ true → is_of c b ≡ true → text_cmp a.customer b.customer ≡ Equal
+tied_customers : (c : List ℕ) {A : Type 0} (a b : Owned A) → is_of c a ≡ true → is_of c b ≡ true
+    → text_cmp a.customer b.customer ≡ Equal
 tied_customers c a b p q =
-    let same : b.customer ≡ a.customer = sym (same_text c b.customer q) ∙ same_text c a.customer p in
-    subst (λ d. text_cmp a.customer d ≡ Equal) (sym same) (tied_itself nat_list_cmp_total a.customer)
+    let same : b.customer ≡ a.customer =
+    sym (same_text c b.customer q) ∙ same_text c a.customer p in
+    subst (λ d. text_cmp a.customer d ≡ Equal) (sym same)
+    (tied_itself nat_list_cmp_total a.customer)
 
-device_agree : (c : List ℕ) (a b : Owned Device) → is_of c a ≡ true → is_of c b ≡ true → device_cmp a b ≡ own_device_cmp a.row b.row
-device_agree c a b p q = ap (λ r. ordering_then r (text_cmp a.row.chip b.row.chip)) (tied_customers c a b p q)
+pub device_agree : (c : List ℕ) (a b : Owned Device) → is_of c a ≡ true → is_of c b ≡ true
+    → device_cmp a b ≡ own_device_cmp a.row b.row
+device_agree c a b p q =
+    ap (λ r. ordering_then r (text_cmp a.row.chip b.row.chip)) (tied_customers c a b p q)
 
-abbrev entry_row_cmp : Entry → Entry → Ordering
+abbrev pub entry_row_cmp : Entry → Entry → Ordering
 entry_row_cmp a b = ordering_then (text_cmp a.chip b.chip) (nat_cmp a.number b.number)
 
-entry_agree : (c : List ℕ) (a b : Owned Entry) → is_of c a ≡ true → is_of c b ≡ true → entry_cmp a b ≡ entry_row_cmp a.row b.row
+pub entry_agree : (c : List ℕ) (a b : Owned Entry) → is_of c a ≡ true → is_of c b ≡ true
+    → entry_cmp a b ≡ entry_row_cmp a.row b.row
 entry_agree c a b p q =
-    ap (λ r. ordering_then (ordering_then r (text_cmp a.row.chip b.row.chip)) (nat_cmp a.row.number b.row.number)) (tied_customers c a b p q)
+    ap (λ r. ordering_then (ordering_then r (text_cmp a.row.chip b.row.chip))
+    (nat_cmp a.row.number b.row.number)) (tied_customers c a b p q)
 
 -- a row whose place another has is the same customer's
-device_place : (d : Owned Device) (rows : List (Owned Device)) → AllByRecursion (λ y. device_cmp d y ≡ Equal → d.customer ≡ y.customer) rows
+pub device_place : (d : Owned Device) (rows : List (Owned Device))
+    → AllByRecursion (λ y. device_cmp d y ≡ Equal → d.customer ≡ y.customer) rows
 device_place d [] = tt
-device_place d (y ∷ ys) = ((λ e. same_place d.customer y.customer (first_equal _ _ e)), device_place d ys)
+device_place d (y ∷ ys) =
+    ((λ e. same_place d.customer y.customer (first_equal _ _ e)), device_place d ys)
 
-entry_place : (e : Owned Entry) (rows : List (Owned Entry)) → AllByRecursion (λ y. entry_cmp e y ≡ Equal → e.customer ≡ y.customer) rows
+pub entry_place : (e : Owned Entry) (rows : List (Owned Entry))
+    → AllByRecursion (λ y. entry_cmp e y ≡ Equal → e.customer ≡ y.customer) rows
 entry_place e [] = tt
-entry_place e (y ∷ ys) = ((λ h. same_place e.customer y.customer (first_equal _ _ (first_equal _ _ h))), entry_place e ys)
+entry_place e (y ∷ ys) = (
+  (λ h. same_place e.customer y.customer (first_equal _ _ (first_equal _ _ h))),
+  entry_place e ys,
+)
 
--- the numbers of a customer's entries are those that the customer's own machine knows
-numbers : (rows : List (Owned Entry)) → map (λ e. e.number) (map (λ e. own_entry e.row) rows) ≡ map (λ e. e.row.number) rows
-numbers [] = refl
-numbers (e ∷ es) = ap (λ later. e.row.number ∷ later) (numbers es)
-
-last_own : (c chip : List ℕ) (t : Tables) → last_number c chip t ≡ own_last chip (view c t)
-last_own c chip t = ap greatest (sym (numbers (filter (is_entry_of c chip) t.ledger)) ∙ ap (map (λ e. e.number)) (entries_own c chip t.ledger))
-
--- a step of a customer's device, by the seat that made it and the number of its entry over all customers
-module _ {owners : Owners} {t : Tables} (sound : IsSound owners t) (c seat : List ℕ) (step : DeviceStep) (id : ℕ) where
+-- a step of a customer's device, by the seat that made it and the number of its entry over all
+-- customers
+module _ {owners : Owners} {t : Tables} (sound : IsSound owners t) (c seat : List ℕ)
+    (step : DeviceStep) (id : ℕ) where
   abbrev d : Owned Device
   d = record { customer = c; row = step.device }
 
   abbrev its_entry : Owned NewEntry
-  its_entry = record { customer = c; row = entry_of seat (last_number c step.device.chip t + 1) step }
+  its_entry = record {
+    customer = c;
+    row = entry_of seat (last_number c step.device.chip t + 1) step;
+  }
 
   abbrev entry : Owned Entry
   entry = entry_under its_entry id
@@ -88,123 +101,148 @@ module _ {owners : Owners} {t : Tables} (sound : IsSound owners t) (c seat : Lis
   abbrev named : Named
   named = λ customer digest. map_named customer digest t
 
-  -- what a step asks for: its customer is the site's, its order and its map are there, its entry's number is new, it follows the device that was there, and its
-  -- ledger is what its map asks for
+  -- what a step asks for: its customer is the site's, its order and its map are there, its entry's
+  -- number is new, it follows the device that was there, and its ledger is what its map asks for
   pub record IsLawful : Type 0 where
     pub mine : owners.customer c ≡ true
     pub order : is_some (order_at c step.device.order t) ≡ true
     pub link : is_some (link_at c step.device.map t) ≡ true
     pub new_id : entry_with id t ≡ None
-    pub follows : (old : Owned Device) → device_at c step.device.chip t ≡ Some old → Follows old.row step.device
+    pub follows : (old : Owned Device) → device_at c step.device.chip t ≡ Some old
+        → Follows old.row step.device
     pub numbered : IsNumbered d
     pub ledger : HasLedger named after.ledger d
 
   -- the ledger of another device
-  old_ledger : (y : Owned Device) → is_device c step.device.chip y ≡ false → HasLedger named t.ledger y → HasLedger named after.ledger y
+  old_ledger : (y : Owned Device) → is_device c step.device.chip y ≡ false
+      → HasLedger named t.ledger y → HasLedger named after.ledger y
   old_ledger y other has =
-      let same = filter_other (is_entry_of y.customer y.row.chip) entry_cmp entry t.ledger not_its (each t.ledger) in
-      record { numbered = subst (AreNumbered 1) (sym same) has.numbered; by_map = λ m is. subst (IsKept m y.row) (sym same) (has.by_map m is) }
+      let same = filter_other (is_entry_of y.customer y.row.chip) entry_cmp entry t.ledger not_its
+      (each t.ledger) in
+      record {
+        numbered = subst (AreNumbered 1) (sym same) has.numbered;
+        by_map = λ m is. subst (IsKept m y.row) (sym same) (has.by_map m is);
+      }
     where
       not_its : is_entry_of y.customer y.row.chip entry ≡ false
-      not_its = elim (is_entry_of y.customer y.row.chip entry) as (λ b. is_entry_of y.customer y.row.chip entry ≡ b → b ≡ false) [
-        | true ↦ λ its.
-            let parts = and_parts (bytes_eq y.customer c) (bytes_eq y.row.chip step.device.chip) its in
-            let owner : y.customer ≡ c = same_text y.customer c parts.0 in
-            let chip : y.row.chip ≡ step.device.chip = same_text y.row.chip step.device.chip parts.1 in
-            let passes : is_device c step.device.chip y ≡ true =
-            and_from (bytes_eq c y.customer) (bytes_eq step.device.chip y.row.chip) (text_itself c y.customer (sym owner))
-            (text_itself step.device.chip y.row.chip (sym chip)) in
-            cc (passes, other)
-        | false ↦ λ _. refl
-      ] refl
+      not_its =
+          elim (is_entry_of y.customer y.row.chip entry) as
+          (λ b. is_entry_of y.customer y.row.chip entry ≡ b → b ≡ false) [
+            | true ↦ λ its.
+                let parts =
+                and_parts (bytes_eq y.customer c) (bytes_eq y.row.chip step.device.chip) its in
+                let owner : y.customer ≡ c = same_text y.customer c parts.0 in
+                let chip : y.row.chip ≡ step.device.chip =
+                same_text y.row.chip step.device.chip parts.1 in
+                let passes : is_device c step.device.chip y ≡ true =
+                and_from (bytes_eq c y.customer) (bytes_eq step.device.chip y.row.chip)
+                (text_itself c y.customer (sym owner))
+                (text_itself step.device.chip y.row.chip (sym chip)) in
+                cc (passes, other)
+            | false ↦ λ _. refl
+          ] refl
 
-      each : (rows : List (Owned Entry)) → AllByRecursion (λ e. entry_cmp entry e ≡ Equal → is_entry_of y.customer y.row.chip e ≡ false) rows
+      each : (rows : List (Owned Entry))
+          → AllByRecursion (λ e. entry_cmp entry e ≡ Equal
+          → is_entry_of y.customer y.row.chip e ≡ false) rows
       each [] = tt
       each (e ∷ es) = (
         λ same.
             let device = first_equal _ _ same in
             let owner : c ≡ e.customer = same_place c e.customer (first_equal _ _ device) in
-            let chip : step.device.chip ≡ e.row.chip = same_place step.device.chip e.row.chip (second_equal _ _ device) in
+            let chip : step.device.chip ≡ e.row.chip =
+            same_place step.device.chip e.row.chip (second_equal _ _ device) in
             rw (← owner, ← chip) not_its,
         each es,
       )
 
-  ledgers_after : (rows : List (Owned Device)) → AllByRecursion (HasLedger named t.ledger) rows → AllByRecursion (λ y.
+  ledgers_after : (rows : List (Owned Device)) → AllByRecursion (HasLedger named t.ledger) rows
+      → AllByRecursion (λ y.
       (device_cmp d y ≡ Equal → ⊥) → HasLedger named after.ledger y) rows
   ledgers_after rows has =
-      all_map (HasLedger named t.ledger) (λ y. (device_cmp d y ≡ Equal → ⊥) → HasLedger named after.ledger y) (λ y its other.
+      all_map (HasLedger named t.ledger) (λ y. (device_cmp d y ≡ Equal → ⊥)
+      → HasLedger named after.ledger y) (λ y its other.
       old_ledger y (differs y other) its) rows has
     where
-      differs : (y : Owned Device) → (device_cmp d y ≡ Equal → ⊥) → is_device c step.device.chip y ≡ false
-      differs y other = elim (is_device c step.device.chip y) as (λ b. is_device c step.device.chip y ≡ b → b ≡ false) [
-        | true ↦ λ its. absurd (other (tied_device d y its))
-        | false ↦ λ _. refl
-      ] refl
+      differs : (y : Owned Device) → (device_cmp d y ≡ Equal → ⊥)
+          → is_device c step.device.chip y ≡ false
+      differs y other =
+          elim (is_device c step.device.chip y) as (λ b. is_device c step.device.chip y ≡ b
+          → b ≡ false) [
+            | true ↦ λ its. absurd (other (tied_device d y its))
+            | false ↦ λ _. refl
+          ] refl
 
-  devices_after : IsLawful → AreSoundDevices owners named after.orders after.links after.devices after.ledger
+  devices_after : IsLawful → AreSoundDevices owners after.devices after.ledger
   devices_after lawful = record {
-    devices_in_order = placed_in_order device_cmp devices_total d t.devices sound.devices.devices_in_order;
-    ledger_in_order = placed_in_order entry_cmp entries_total entry t.ledger sound.devices.ledger_in_order;
-    ids_apart = ids_apart_placed entry t.ledger (none_passes (has_entry_id id) t.ledger lawful.new_id) sound.devices.ids_apart;
-    customers = all_placed (λ o. owners.customer o.customer ≡ true) device_cmp d t.devices lawful.mine sound.devices.customers;
-    referred = all_placed (IsReferred t.orders t.links) device_cmp d t.devices (record { order = lawful.order; map = lawful.link }) sound.devices.referred;
-    ledgers =
-        all_placed_apart device_cmp d (HasLedger named after.ledger) devices_total t.devices lawful.ledger sound.devices.devices_in_order
-        (ledgers_after t.devices sound.devices.ledgers);
-    of_devices = all_placed (λ e. is_some (find (is_device e.customer e.row.chip) after.devices) ≡ true) entry_cmp entry t.ledger
-        (some_placed (is_device c step.device.chip) device_cmp d t.devices (own_device d))
-        (all_map (λ e. is_some (find (is_device e.customer e.row.chip) t.devices) ≡ true) (λ e.
-        is_some (find (is_device e.customer e.row.chip) after.devices) ≡ true)
-        (λ e there. still_there (is_device e.customer e.row.chip) device_cmp d t.devices (each_device e.customer e.row.chip d t.devices) there) t.ledger
-        sound.devices.of_devices);
+    devices_in_order = placed_in_order device_cmp devices_total d t.devices
+        sound.devices.devices_in_order;
+    ledger_in_order = placed_in_order entry_cmp entries_total entry t.ledger
+        sound.devices.ledger_in_order;
+    ids_apart = ids_apart_placed entry t.ledger
+        (none_passes (has_entry_id id) t.ledger lawful.new_id) sound.devices.ids_apart;
+    customers = all_placed (λ o. owners.customer o.customer ≡ true) device_cmp d t.devices
+        lawful.mine sound.devices.customers;
+    numbered = all_placed IsNumbered device_cmp d t.devices lawful.numbered sound.devices.numbered;
+    of_devices = all_placed
+        (λ e. is_some (find (is_device e.customer e.row.chip) after.devices) ≡ true) entry_cmp entry
+        t.ledger (some_placed (is_device c step.device.chip) device_cmp d t.devices (own_device d))
+        (all_map (λ e. is_some (find (is_device e.customer e.row.chip) t.devices) ≡ true)
+        (λ e. is_some (find (is_device e.customer e.row.chip) after.devices) ≡ true)
+        (λ e there. still_there (is_device e.customer e.row.chip) device_cmp d t.devices
+        (each_device e.customer e.row.chip d t.devices) there) t.ledger sound.devices.of_devices);
   }
 
   pub step_sound : IsLawful → IsSound owners after
   step_sound lawful = record {
-    seats_in_order = sound.seats_in_order;
-    orders_in_order = sound.orders_in_order;
-    given_in_order = sound.given_in_order;
     seats = sound.seats;
     orders = sound.orders;
     given = sound.given;
-    terms = sound.terms;
-    in_pools = sound.in_pools;
-    apart = sound.apart;
-    maps_in_order = sound.maps_in_order;
-    texts_apart = sound.texts_apart;
-    links_in_order = sound.links_in_order;
-    links = sound.links;
-    linked = sound.linked;
-    records = record {
-      keys_apart = sound.records.keys_apart;
-      addresses_apart = sound.records.addresses_apart;
-      records = all_map (λ g. IsRecordOf t.orders t.devices g g.row.chip) (λ g. IsRecordOf t.orders after.devices g g.row.chip)
-          (λ g is. record_after_device t.orders t.devices g d lawful.follows g.row.chip is) t.given sound.records.records;
-      numbered = all_placed IsNumbered device_cmp d t.devices lawful.numbered sound.records.numbered;
-      cursors = sound.records.cursors;
-    };
+    maps = sound.maps;
     devices = devices_after lawful;
+    origins = all_map (λ g. IsRecordOf t.orders t.devices g g.row.chip)
+        (λ g. IsRecordOf t.orders after.devices g g.row.chip)
+        (λ g is. record_after_device t.orders t.devices g d lawful.follows g.row.chip is) t.given
+        sound.origins;
+    cursors = sound.cursors;
+    references = all_placed (IsReferred t.orders t.links) device_cmp d t.devices
+        (record { order = lawful.order; map = lawful.link }) sound.references;
+    ledgers = all_placed_apart device_cmp d (HasLedger named after.ledger) devices_total t.devices
+        lawful.ledger sound.devices.devices_in_order (ledgers_after t.devices sound.ledgers);
   }
 
   -- the ledger of a device that wasn't there
-  pub new_ledger : device_at c step.device.chip t ≡ None → ((m : Map) → named c step.device.map ≡ Some m → IsKept m step.device (entry ∷ []))
+  pub new_ledger : device_at c step.device.chip t ≡ None
+      → ((m : Map) → named c step.device.map ≡ Some m → IsKept m step.device (entry ∷ []))
       → HasLedger named after.ledger d
   new_ledger new kept =
-      let only = filter_only (is_entry_of c step.device.chip) entry_cmp entry t.ledger (own_device d) no_entries in
+      let only =
+      filter_only (is_entry_of c step.device.chip) entry_cmp entry t.ledger (own_device d)
+      no_entries in
       let number : last_number c step.device.chip t + 1 ≡ 1 =
-      ap (λ (rows : List (Owned Entry)). greatest (map (λ e. e.row.number) rows) + 1) (filter_none (is_entry_of c step.device.chip) t.ledger no_entries) in
-      record { numbered = subst (AreNumbered 1) (sym only) (number, tt); by_map = λ m is. subst (IsKept m step.device) (sym only) (kept m is) }
+      ap (λ (rows : List (Owned Entry)). greatest (map (λ e. e.row.number) rows) + 1)
+      (filter_none (is_entry_of c step.device.chip) t.ledger no_entries) in
+      record {
+        numbered = subst (AreNumbered 1) (sym only) (number, tt);
+        by_map = λ m is. subst (IsKept m step.device) (sym only) (kept m is);
+      }
     where
-      not_its : (e : Owned Entry) → is_some (find (is_device e.customer e.row.chip) t.devices) ≡ true → is_entry_of c step.device.chip e ≡ false
-      not_its e there = elim (is_entry_of c step.device.chip e) as (λ b. is_entry_of c step.device.chip e ≡ b → b ≡ false) [
-        | true ↦ λ its.
-            let parts = and_parts (bytes_eq c e.customer) (bytes_eq step.device.chip e.row.chip) its in
-            let owner : c ≡ e.customer = same_text c e.customer parts.0 in
-            let chip : step.device.chip ≡ e.row.chip = same_text step.device.chip e.row.chip parts.1 in
-            let none : find (is_device e.customer e.row.chip) t.devices ≡ None = rw (← owner, ← chip) new in
-            cc
-        | false ↦ λ _. refl
-      ] refl
+      not_its : (e : Owned Entry) → is_some (find (is_device e.customer e.row.chip) t.devices)
+          ≡ true → is_entry_of c step.device.chip e ≡ false
+      not_its e there =
+          elim (is_entry_of c step.device.chip e) as (λ b. is_entry_of c step.device.chip e ≡ b
+          → b ≡ false) [
+            | true ↦ λ its.
+                let parts =
+                and_parts (bytes_eq c e.customer) (bytes_eq step.device.chip e.row.chip) its in
+                let owner : c ≡ e.customer = same_text c e.customer parts.0 in
+                let chip : step.device.chip ≡ e.row.chip =
+                same_text step.device.chip e.row.chip parts.1 in
+                let none : find (is_device e.customer e.row.chip) t.devices ≡ None =
+                rw (← owner, ← chip) new in
+                cc
+            | false ↦ λ _. refl
+          ] refl
 
       no_entries : AllByRecursion (λ e. is_entry_of c step.device.chip e ≡ false) t.ledger
       no_entries =
@@ -212,56 +250,35 @@ module _ {owners : Owners} {t : Tables} (sound : IsSound owners t) (c seat : Lis
           is_entry_of c step.device.chip e ≡ false) not_its t.ledger sound.devices.of_devices
 
   -- and that of a device that was there: one entry more at its end
-  pub next_ledger : (old : Owned Device) → device_at c step.device.chip t ≡ Some old → step.device.map ≡ old.row.map
-      → ((m : Map) → named c old.row.map ≡ Some m → (es : List (Owned Entry)) → IsKept m old.row es → IsKept m step.device (es ++ entry ∷ []))
+  pub next_ledger : (old : Owned Device) → device_at c step.device.chip t ≡ Some old
+      → step.device.map ≡ old.row.map
+      → ((m : Map) → named c old.row.map ≡ Some m → (es : List (Owned Entry)) → IsKept m old.row es
+      → IsKept m step.device (es ++ entry ∷ []))
       → HasLedger named after.ledger d
   next_ledger old there same_map kept =
-      let found = find_holds (HasLedger named t.ledger) (is_device c step.device.chip) t.devices old sound.devices.ledgers there in
-      let parts = and_parts (bytes_eq c old.customer) (bytes_eq step.device.chip old.row.chip) found.1 in
+      let found =
+      find_holds (HasLedger named t.ledger) (is_device c step.device.chip) t.devices old
+      sound.ledgers there in
+      let parts =
+      and_parts (bytes_eq c old.customer) (bytes_eq step.device.chip old.row.chip) found.1 in
       let owner : c ≡ old.customer = same_text c old.customer parts.0 in
-      let chip : step.device.chip ≡ old.row.chip = same_text step.device.chip old.row.chip parts.1 in
+      let chip : step.device.chip ≡ old.row.chip =
+      same_text step.device.chip old.row.chip parts.1 in
       let es = filter (is_entry_of c step.device.chip) t.ledger in
       let was_numbered : AreNumbered 1 es = rw (owner, chip) found.0.numbered in
       let last : last_number c step.device.chip t ≡ length es = last_of_numbered es was_numbered in
       let grown : filter (is_entry_of c step.device.chip) after.ledger ≡ es ++ entry ∷ [] =
-      appended entry (own_device d) (λ x y. entries_total.trans entry x y) t.ledger sound.devices.ledger_in_order
-      (all_below c step.device.chip t.ledger (last_number c step.device.chip t + 1) (omega arith)) in
+      appended entry (own_device d) (λ x y. entries_total.trans entry x y) t.ledger
+      sound.devices.ledger_in_order
+      (all_below c step.device.chip t.ledger (last_number c step.device.chip t + 1)
+      (omega arith)) in
       record {
-        numbered = subst (AreNumbered 1) (sym grown) (numbered_appended 1 es entry was_numbered (omega (arith, last)));
+        numbered =
+            subst (AreNumbered 1) (sym grown) (numbered_appended 1 es entry was_numbered
+            (omega (arith, last)));
         by_map = λ m is.
             let known : named c old.row.map ≡ Some m = rw (← same_map) is in
-            let was : IsKept m old.row es = rw (owner, chip) (found.0.by_map m (rw (← owner) known)) in
+            let was : IsKept m old.row es =
+            rw (owner, chip) (found.0.by_map m (rw (← owner) known)) in
             subst (IsKept m step.device) (sym grown) (kept m known es was);
       }
-
-  pub step_view : view c after ≡ own_step seat step (view c t)
-  step_view = λ i. record {
-    seats = own c t.seats;
-    orders = map at_first (own c t.orders);
-    given = own c t.given;
-    maps = map (own_map t) (own c t.links);
-    devices = placed_own c device_cmp own_device_cmp devices_total (device_agree c) d (text_itself c c refl) t.devices sound.devices.devices_in_order
-        (all_map (λ y. device_cmp d y ≡ Equal → c ≡ y.customer) (λ y. device_cmp d y ≡ Equal → is_of c y ≡ true) (λ y f e.
-        text_itself c y.customer (f e)) t.devices (device_place d t.devices)) i;
-    ledger =
-        (ap (map own_entry) (placed_own c entry_cmp entry_row_cmp entries_total (entry_agree c) entry
-        (text_itself c c refl) t.ledger sound.devices.ledger_in_order
-        (all_map (λ y. entry_cmp entry y ≡ Equal → c ≡ y.customer) (λ y. entry_cmp entry y ≡ Equal → is_of c y ≡ true) (λ y f e.
-        text_itself c y.customer (f e)) t.ledger (entry_place entry t.ledger)))
-        ∙ (map_placed own_entry entry_row_cmp own_entry_cmp (λ _ _. refl) entry.row (own c t.ledger)
-        ∙ ap (λ last. placed own_entry_cmp (entry_of seat (last + 1) step) (map own_entry (own c t.ledger))) (last_own c step.device.chip t))) i;
-  }
-
-  pub step_hidden : (other : List ℕ) → bytes_eq other c ≡ false → view other after ≡ view other t
-  step_hidden other differs = λ i. record {
-    seats = own other t.seats;
-    orders = map at_first (own other t.orders);
-    given = own other t.given;
-    maps = map (own_map t) (own other t.links);
-    devices = placed_other other device_cmp d differs t.devices
-        (all_map (λ y. device_cmp d y ≡ Equal → c ≡ y.customer) (λ y. device_cmp d y ≡ Equal → is_of other y ≡ false) (λ y f e.
-        subst (λ x. bytes_eq other x ≡ false) (f e) differs) t.devices (device_place d t.devices)) i;
-    ledger = map own_entry (placed_other other entry_cmp entry differs t.ledger
-        (all_map (λ y. entry_cmp entry y ≡ Equal → c ≡ y.customer) (λ y. entry_cmp entry y ≡ Equal → is_of other y ≡ false) (λ y f e.
-        subst (λ x. bytes_eq other x ≡ false) (f e) differs) t.ledger (entry_place entry t.ledger)) i);
-  }

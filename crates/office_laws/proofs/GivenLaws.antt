@@ -1,6 +1,5 @@
--- A new record of a serial number acts on the customer's view as on the customer's own machine, leaves each other view, keeps the tables sound, and forgets
--- nothing.
-use Rattle.std.proofs.Common.{◌≡◌, ◌==◌, ℕ, arith, true, false, List, [], ◌∷◌, map, Option, Some, None, Less, Equal, Greater, refl, sym, ◌∙◌, subst}
+-- A new record of a serial number keeps the tables sound, and forgets nothing.
+use Rattle.std.proofs.Common.{◌≡◌, ◌==◌, ℕ, arith, true, false, List, [], ◌∷◌, Option, Some, None, Less, Equal, Greater, refl, sym, ◌∙◌, subst}
 use Rattle.std.specs.Prelude.{bytes_eq, find, IfSome}
 use Rattle.std.specs.List.{AllByRecursion}
 use Rattle.std.specs.Ordering.{match_ordering}
@@ -13,82 +12,105 @@ use Rattle.id_ranges.specs.Range.{text_of}
 use Rattle.office_tables.specs.declared.rows.Owned.{Owned}
 use Rattle.office_tables.specs.declared.rows.Given.{Given}
 use Rattle.office_tables.specs.declared.rows.Order.{Order}
-use Rattle.office_tables.specs.Tables.{Tables, IsAddressFree, given_at, given_by_key, given_cmp, has_address, is_address, is_bound, is_given, is_of, own}
+use Rattle.office_tables.specs.Tables.{Tables, IsAddressFree, given_at, given_by_key, given_cmp, has_address, is_address, is_bound, is_given}
 use Rattle.office_tables.specs.Tables.{placed, with_given}
 use Rattle.office_tables.proofs.Finding.{none_passes, other_placed, still_there}
-use Rattle.office_tables.proofs.Placing.{all_map, all_placed, placed_in_order, placed_other, placed_own}
-use Rattle.office_rules.specs.Devices.{own_entry}
+use Rattle.office_tables.proofs.Placing.{all_map, all_placed}
 use Rattle.office_rules.proofs.Ties.{first_equal, same_place, same_text, second_equal, text_itself}
 use Rattle.office_laws.specs.Grows.{Grows}
-use Rattle.office_laws.specs.Solo.{own_given_cmp, with_own_given}
 use Rattle.office_laws.specs.Sound.{IsSound}
 use Rattle.office_laws.specs.SoundRecords.{AreAddressesApart, AreKeysApart, HasOther, IsGivenBelow, IsRecordOf}
-use Rattle.office_laws.specs.View.{at_first, own_map, view}
 use Rattle.office_laws.proofs.Placed.{found_replaced, others_fail}
-use Rattle.office_laws.proofs.Readings.{owner_is}
+use Rattle.office_laws.proofs.SoundRows.{owned_placed}
 
-given_total : IsTotalOrder given_cmp
-given_total = then_total (on_total (λ o. o.row.issuer) nat_list_cmp_total) (on_total (λ o. o.row.serial) nat_list_cmp_total)
+pub given_total : IsTotalOrder given_cmp
+given_total =
+    then_total (on_total (λ o. o.row.issuer) nat_list_cmp_total)
+    (on_total (λ o. o.row.serial) nat_list_cmp_total)
 
 -- a record that takes the place of another has its issuer and its serial number
-same_given : (issuer serial : List ℕ) (x y : Owned Given) → given_cmp x y ≡ Equal → is_given issuer serial y ≡ true → is_given issuer serial x ≡ true
+same_given : (issuer serial : List ℕ) (x y : Owned Given) → given_cmp x y ≡ Equal
+    → is_given issuer serial y ≡ true → is_given issuer serial x ≡ true
 same_given issuer serial x y same passes =
-    let owner : x.row.issuer ≡ y.row.issuer = same_place x.row.issuer y.row.issuer (first_equal _ _ same) in
-    let named : x.row.serial ≡ y.row.serial = same_place x.row.serial y.row.serial (second_equal _ _ same) in
+    let owner : x.row.issuer ≡ y.row.issuer =
+    same_place x.row.issuer y.row.issuer (first_equal _ _ same) in
+    let named : x.row.serial ≡ y.row.serial =
+    same_place x.row.serial y.row.serial (second_equal _ _ same) in
     rw (owner, named) passes
 
-pub each_given : (issuer serial : List ℕ) (x : Owned Given) (rows : List (Owned Given)) → AllByRecursion (λ y.
+pub each_given : (issuer serial : List ℕ) (x : Owned Given) (rows : List (Owned Given))
+    → AllByRecursion (λ y.
     given_cmp x y ≡ Equal → is_given issuer serial y ≡ true → is_given issuer serial x ≡ true) rows
 each_given issuer serial x [] = tt
 each_given issuer serial x (y ∷ ys) = (same_given issuer serial x y, each_given issuer serial x ys)
 
 -- the record that was added is found
-pub given_found : (g : Owned Given) (rows : List (Owned Given)) → find (is_given g.row.issuer g.row.serial) (placed given_cmp g rows) ≡ Some g
+pub given_found : (g : Owned Given) (rows : List (Owned Given))
+    → find (is_given g.row.issuer g.row.serial) (placed given_cmp g rows) ≡ Some g
 given_found g rows =
     found_replaced given_cmp g (is_given g.row.issuer g.row.serial) rows
-    (and_from _ _ (text_itself g.row.issuer g.row.issuer refl) (text_itself g.row.serial g.row.serial refl)) (tied rows)
+    (and_from _ _ (text_itself g.row.issuer g.row.issuer refl)
+    (text_itself g.row.serial g.row.serial refl)) (tied rows)
   where
-    tied : (rows : List (Owned Given)) → AllByRecursion (λ y. is_given g.row.issuer g.row.serial y ≡ true → given_cmp g y ≡ Equal) rows
+    tied : (rows : List (Owned Given))
+        → AllByRecursion (λ y. is_given g.row.issuer g.row.serial y ≡ true
+        → given_cmp g y ≡ Equal) rows
     tied [] = tt
     tied (y ∷ ys) = (
       λ its.
-          let parts = and_parts (bytes_eq g.row.issuer y.row.issuer) (bytes_eq g.row.serial y.row.serial) its in
+          let parts =
+          and_parts (bytes_eq g.row.issuer y.row.issuer) (bytes_eq g.row.serial y.row.serial) its in
           let issuer : g.row.issuer ≡ y.row.issuer = same_text g.row.issuer y.row.issuer parts.0 in
           let serial : g.row.serial ≡ y.row.serial = same_text g.row.serial y.row.serial parts.1 in
-          rw (← issuer, ← serial, tied_itself nat_list_cmp_total g.row.issuer, tied_itself nat_list_cmp_total g.row.serial) refl,
+          rw (
+            ← issuer,
+            ← serial,
+            tied_itself nat_list_cmp_total g.row.issuer,
+            tied_itself nat_list_cmp_total g.row.serial,
+          ) refl,
       tied ys,
     )
 
 -- a record that isn't bound to a key of another: the other isn't bound to its key
-bound_turned : (g y : Owned Given) → is_bound g.row.issuer g.row.key y ≡ false → is_bound y.row.issuer y.row.key g ≡ false
-bound_turned g y fails = elim (is_bound y.row.issuer y.row.key g) as (λ b. is_bound y.row.issuer y.row.key g ≡ b → b ≡ false) [
-  | true ↦ λ its.
-      let parts = and_parts (bytes_eq y.row.issuer g.row.issuer) (bytes_eq y.row.key g.row.key) its in
-      let owner : g.row.issuer ≡ y.row.issuer = sym (same_text y.row.issuer g.row.issuer parts.0) in
-      let key : g.row.key ≡ y.row.key = sym (same_text y.row.key g.row.key parts.1) in
-      let also : is_bound g.row.issuer g.row.key y ≡ true =
-      and_from (bytes_eq g.row.issuer y.row.issuer) (bytes_eq g.row.key y.row.key) (text_itself g.row.issuer y.row.issuer owner)
-      (text_itself g.row.key y.row.key key) in
-      cc (also, fails)
-  | false ↦ λ _. refl
-] refl
+bound_turned : (g y : Owned Given) → is_bound g.row.issuer g.row.key y ≡ false
+    → is_bound y.row.issuer y.row.key g ≡ false
+bound_turned g y fails =
+    elim (is_bound y.row.issuer y.row.key g) as (λ b. is_bound y.row.issuer y.row.key g ≡ b
+    → b ≡ false) [
+      | true ↦ λ its.
+          let parts =
+          and_parts (bytes_eq y.row.issuer g.row.issuer) (bytes_eq y.row.key g.row.key) its in
+          let owner : g.row.issuer ≡ y.row.issuer =
+          sym (same_text y.row.issuer g.row.issuer parts.0) in
+          let key : g.row.key ≡ y.row.key = sym (same_text y.row.key g.row.key parts.1) in
+          let also : is_bound g.row.issuer g.row.key y ≡ true =
+          and_from (bytes_eq g.row.issuer y.row.issuer) (bytes_eq g.row.key y.row.key)
+          (text_itself g.row.issuer y.row.issuer owner)
+          (text_itself g.row.key y.row.key key) in
+          cc (also, fails)
+      | false ↦ λ _. refl
+    ] refl
 
 -- a new key among others
 keys_apart_placed : (g : Owned Given) (gs : List (Owned Given)) → AllByRecursion (λ other.
-    is_bound g.row.issuer g.row.key other ≡ false) gs → AreKeysApart gs → AreKeysApart (placed given_cmp g gs)
+    is_bound g.row.issuer g.row.key other ≡ false) gs → AreKeysApart gs
+    → AreKeysApart (placed given_cmp g gs)
 keys_apart_placed g [] all apart = (tt, tt)
 keys_apart_placed g (y ∷ ys) all apart =
-    elim (given_cmp g y) as (λ o. AreKeysApart (match_ordering o (g ∷ y ∷ ys) (g ∷ ys) (y ∷ placed given_cmp g ys))) [
+    elim (given_cmp g y) as
+    (λ o. AreKeysApart (match_ordering o (g ∷ y ∷ ys) (g ∷ ys) (y ∷ placed given_cmp g ys))) [
       | Less ↦ (all, apart)
       | Equal ↦ (all.1, apart.1)
       | Greater ↦ (
-        all_placed (λ other. is_bound y.row.issuer y.row.key other ≡ false) given_cmp g ys (bound_turned g y all.0) apart.0,
+        all_placed (λ other. is_bound y.row.issuer y.row.key other ≡ false) given_cmp g ys
+            (bound_turned g y all.0) apart.0,
         keys_apart_placed g ys all.1 apart.1,
       )
     ]
 
 -- a record that hasn't the address of another: the other hasn't its address
-address_turned : (a b : Owned Given) (of_a of_b : Option ℕ) → a.row.mac ≡ of_a → b.row.mac ≡ of_b → HasOther of_a b → HasOther of_b a
+address_turned : (a b : Owned Given) (of_a of_b : Option ℕ) → a.row.mac ≡ of_a → b.row.mac ≡ of_b
+    → HasOther of_a b → HasOther of_b a
 address_turned a b of_a None is_a is_b other = tt
 address_turned a b None (Some mac) is_a is_b other = rw is_a refl
 address_turned a b (Some first) (Some mac) is_a is_b other =
@@ -97,114 +119,92 @@ address_turned a b (Some first) (Some mac) is_a is_b other =
     subst (λ x. is_address mac x ≡ false) (sym is_a) turned
 
 -- where no record has the address, each has another
-all_other : (mac : Option ℕ) (gs : List (Owned Given)) → IsAddressFree mac gs → AllByRecursion (HasOther mac) gs
+all_other : (mac : Option ℕ) (gs : List (Owned Given)) → IsAddressFree mac gs
+    → AllByRecursion (HasOther mac) gs
 all_other (Some mac) gs free = none_passes (has_address mac) gs free
 all_other None [] free = tt
 all_other None (y ∷ ys) free = (tt, all_other None ys tt)
 
 -- a new address among others
-addresses_apart_placed : (g : Owned Given) (gs : List (Owned Given)) → AllByRecursion (HasOther g.row.mac) gs → AreAddressesApart gs
+addresses_apart_placed : (g : Owned Given) (gs : List (Owned Given))
+    → AllByRecursion (HasOther g.row.mac) gs → AreAddressesApart gs
     → AreAddressesApart (placed given_cmp g gs)
 addresses_apart_placed g [] all apart = (tt, tt)
 addresses_apart_placed g (y ∷ ys) all apart =
-    elim (given_cmp g y) as (λ o. AreAddressesApart (match_ordering o (g ∷ y ∷ ys) (g ∷ ys) (y ∷ placed given_cmp g ys))) [
+    elim (given_cmp g y) as
+    (λ o. AreAddressesApart (match_ordering o (g ∷ y ∷ ys) (g ∷ ys) (y ∷ placed given_cmp g ys))) [
       | Less ↦ (all, apart)
       | Equal ↦ (all.1, apart.1)
       | Greater ↦ (
-        all_placed (HasOther y.row.mac) given_cmp g ys (address_turned g y g.row.mac y.row.mac refl refl all.0) apart.0,
+        all_placed (HasOther y.row.mac) given_cmp g ys
+            (address_turned g y g.row.mac y.row.mac refl refl all.0) apart.0,
         addresses_apart_placed g ys all.1 apart.1,
       )
     ]
 
 -- what is given below an order's cursor is given still
-below_after : (g : Owned Given) (gs : List (Owned Given)) (o : Owned Order) → IsGivenBelow gs o → IsGivenBelow (placed given_cmp g gs) o
+below_after : (g : Owned Given) (gs : List (Owned Given)) (o : Owned Order) → IsGivenBelow gs o
+    → IsGivenBelow (placed given_cmp g gs) o
 below_after g gs o is n least below =
-    still_there (is_given o.row.issuer (text_of o.row.range n)) given_cmp g gs (each_given o.row.issuer (text_of o.row.range n) g gs) (is n least below)
+    still_there (is_given o.row.issuer (text_of o.row.range n)) given_cmp g gs
+    (each_given o.row.issuer (text_of o.row.range n) g gs) (is n least below)
 
--- a record of a serial number that nobody has, for a key that none has, with an address that none has
+-- a record of a serial number that nobody has, for a key that none has, with an address that none
+-- has
 module _ {owners : Owners} {t : Tables} (sound : IsSound owners t) (g : Owned Given) where
-  pub given_sound : owners.issuer g.row.issuer ≡ Some g.customer → given_at g.row.issuer g.row.serial t ≡ None → given_by_key g.row.issuer g.row.key t ≡ None
-      → IsAddressFree g.row.mac t.given → IsRecordOf t.orders t.devices g g.row.chip → IsSound owners (with_given g t)
+  pub given_sound : owners.issuer g.row.issuer ≡ Some g.customer
+      → given_at g.row.issuer g.row.serial t ≡ None → given_by_key g.row.issuer g.row.key t ≡ None
+      → IsAddressFree g.row.mac t.given → IsRecordOf t.orders t.devices g g.row.chip
+      → IsSound owners (with_given g t)
   given_sound mine new unbound free is_record = record {
-    seats_in_order = sound.seats_in_order;
-    orders_in_order = sound.orders_in_order;
-    given_in_order = placed_in_order given_cmp given_total g t.given sound.given_in_order;
     seats = sound.seats;
     orders = sound.orders;
-    given = all_placed (λ o. owners.issuer o.row.issuer ≡ Some o.customer) given_cmp g t.given mine sound.given;
-    terms = sound.terms;
-    in_pools = sound.in_pools;
-    apart = sound.apart;
-    maps_in_order = sound.maps_in_order;
-    texts_apart = sound.texts_apart;
-    links_in_order = sound.links_in_order;
-    links = sound.links;
-    linked = sound.linked;
-    records = record {
-      keys_apart = keys_apart_placed g t.given (none_passes (is_bound g.row.issuer g.row.key) t.given unbound) sound.records.keys_apart;
-      addresses_apart = addresses_apart_placed g t.given (all_other g.row.mac t.given free) sound.records.addresses_apart;
-      records = all_placed (λ g. IsRecordOf t.orders t.devices g g.row.chip) given_cmp g t.given is_record sound.records.records;
-      numbered = sound.records.numbered;
-      cursors = all_map (IsGivenBelow t.given) (IsGivenBelow (placed given_cmp g t.given)) (below_after g t.given) t.orders sound.records.cursors;
+    given = record {
+      rows = owned_placed sound.given.rows g mine given_total;
+      keys_apart = keys_apart_placed g t.given
+          (none_passes (is_bound g.row.issuer g.row.key) t.given unbound) sound.given.keys_apart;
+      addresses_apart = addresses_apart_placed g t.given (all_other g.row.mac t.given free)
+          sound.given.addresses_apart;
     };
+    maps = sound.maps;
     devices = sound.devices;
-  }
-
-  -- a record whose place another has is the same customer's
-  given_place : owners.issuer g.row.issuer ≡ Some g.customer → AllByRecursion (λ y. given_cmp g y ≡ Equal → g.customer ≡ y.customer) t.given
-  given_place mine = all_map (λ o. owners.issuer o.row.issuer ≡ Some o.customer) (λ y. given_cmp g y ≡ Equal → g.customer ≡ y.customer)
-      (λ o owner e. owner_is owners.issuer g.row.issuer o.row.issuer g.customer o.customer mine owner
-      (text_itself g.row.issuer o.row.issuer (same_place g.row.issuer o.row.issuer (first_equal _ _ e)))) t.given sound.given
-
-  pub given_view : owners.issuer g.row.issuer ≡ Some g.customer → view g.customer (with_given g t) ≡ with_own_given g.row (view g.customer t)
-  given_view mine =
-      let c = g.customer in
-      λ i. record {
-        seats = own c t.seats;
-        orders = map at_first (own c t.orders);
-        maps = map (own_map t) (own c t.links);
-        devices = own c t.devices;
-        ledger = map own_entry (own c t.ledger);
-        given = placed_own c given_cmp own_given_cmp given_total (λ _ _ _ _. refl) g (text_itself c c refl) t.given sound.given_in_order
-            (all_map (λ y. given_cmp g y ≡ Equal → c ≡ y.customer) (λ y. given_cmp g y ≡ Equal → is_of c y ≡ true) (λ y f e.
-            text_itself c y.customer (f e)) t.given (given_place mine)) i;
-      }
-
-  pub given_hidden : owners.issuer g.row.issuer ≡ Some g.customer → (d : List ℕ) → bytes_eq d g.customer ≡ false → view d (with_given g t) ≡ view d t
-  given_hidden mine d other = λ i. record {
-    seats = own d t.seats;
-    orders = map at_first (own d t.orders);
-    maps = map (own_map t) (own d t.links);
-    devices = own d t.devices;
-    ledger = map own_entry (own d t.ledger);
-    given = placed_other d given_cmp g other t.given
-        (all_map (λ y. given_cmp g y ≡ Equal → g.customer ≡ y.customer) (λ y. given_cmp g y ≡ Equal → is_of d y ≡ false) (λ y f e.
-        subst (λ x. bytes_eq d x ≡ false) (f e) other) t.given (given_place mine)) i;
+    origins = all_placed (λ g. IsRecordOf t.orders t.devices g g.row.chip) given_cmp g t.given
+        is_record sound.origins;
+    cursors = all_map (IsGivenBelow t.given) (IsGivenBelow (placed given_cmp g t.given))
+        (below_after g t.given) t.orders sound.cursors;
+    references = sound.references;
+    ledgers = sound.ledgers;
   }
 
 -- a record under a serial number that nobody has, after what kept all
-pub given_grows : (before t : Tables) (g : Owned Given) → given_at g.row.issuer g.row.serial t ≡ None → Grows before t → Grows before (with_given g t)
+pub given_grows : (before t : Tables) (g : Owned Given)
+    → given_at g.row.issuer g.row.serial t ≡ None → Grows before t → Grows before (with_given g t)
 given_grows before t g new grows = record {
   devices = grows.devices;
   maps = grows.maps;
   orders = grows.orders;
-  given = λ issuer serial. by issuer serial (given_at issuer serial before) (grows.given issuer serial);
+  given = λ issuer serial. by issuer serial (given_at issuer serial before)
+      (grows.given issuer serial);
 }
   where
-    by : (issuer serial : List ℕ) (found : Option (Owned Given)) → IfSome found (λ old. given_at issuer serial t ≡ Some old) → IfSome found (λ old.
+    by : (issuer serial : List ℕ) (found : Option (Owned Given))
+        → IfSome found (λ old. given_at issuer serial t ≡ Some old) → IfSome found (λ old.
         given_at issuer serial (with_given g t) ≡ Some old)
     by issuer serial None is = tt
     by issuer serial (Some old) is =
         other_placed (is_given issuer serial) given_cmp g t.given differs
-        (others_fail given_cmp g (is_given issuer serial) t.given differs (each_given issuer serial g t.given)) ∙ is
+        (others_fail given_cmp g (is_given issuer serial) t.given differs
+        (each_given issuer serial g t.given)) ∙ is
       where
         differs : is_given issuer serial g ≡ false
-        differs = elim (is_given issuer serial g) as (λ b. is_given issuer serial g ≡ b → b ≡ false) [
-          | true ↦ λ its.
-              let parts = and_parts (bytes_eq issuer g.row.issuer) (bytes_eq serial g.row.serial) its in
-              let owner : issuer ≡ g.row.issuer = same_text issuer g.row.issuer parts.0 in
-              let named : serial ≡ g.row.serial = same_text serial g.row.serial parts.1 in
-              let none : given_at issuer serial t ≡ None = rw (owner, named) new in
-              cc (none, is)
-          | false ↦ λ _. refl
-        ] refl
+        differs =
+            elim (is_given issuer serial g) as (λ b. is_given issuer serial g ≡ b → b ≡ false) [
+              | true ↦ λ its.
+                  let parts =
+                  and_parts (bytes_eq issuer g.row.issuer) (bytes_eq serial g.row.serial) its in
+                  let owner : issuer ≡ g.row.issuer = same_text issuer g.row.issuer parts.0 in
+                  let named : serial ≡ g.row.serial = same_text serial g.row.serial parts.1 in
+                  let none : given_at issuer serial t ≡ None = rw (owner, named) new in
+                  cc (none, is)
+              | false ↦ λ _. refl
+            ] refl

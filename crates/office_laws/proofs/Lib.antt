@@ -7,28 +7,39 @@ mod DeviceLaws
 mod DeviceRows
 pub mod Ends
 pub mod Fresh
-pub mod Growing
 pub mod GivenLaws
-pub mod IdentityLaws
-pub mod ImportLaws
-pub mod ImportSteps
+pub mod Growing
+mod Identifying
+mod IdentityKept
+mod ImportKept
+mod Keeping
 mod Kept
-pub mod Laws
+mod Lasting
+mod Looking
 pub mod Lowest
-mod Makes
+mod Machine
+mod MapKept
 mod MapLaws
 mod MapRows
 mod NamedMaps
+pub mod Obeying
+mod OrderKept
+pub mod OwnPlaces
 pub mod Placed
 mod Planning
 mod ReadingBack
 pub mod Readings
 pub mod RecordAddresses
 mod RecordRows
+mod RegistrationKept
 mod Registrations
+mod Seen
+mod SoundRows
 pub mod Sounding
-mod StepLaws
+mod StepKept
+mod StepLasts
 pub mod Steps
 mod Terms
+mod Tidy
 mod Unread
 pub mod Within

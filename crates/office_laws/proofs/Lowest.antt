@@ -1,29 +1,27 @@
 -- The refusals of each command stand in the order of their numbers, so the first that holds has the lowest.
-use Rattle.std.proofs.Common.{◌≡◌, ◌<◌, ◌≤◌, ◌++◌, ℕ, Bool, true, false, List, [], ◌∷◌, length, Option, Some, None, Result, Ok, Err, arith}
+use Rattle.std.proofs.Common.{◌≡◌, ◌<◌, ◌≤◌, ◌++◌, ℕ, Bool, true, false, List, [], ◌∷◌, Option, Some, None, Result, Ok, Err, arith}
 use Rattle.std.specs.Prelude.{if◌then◌else◌}
 use Rattle.std.specs.List.{AllByRecursion}
 use Rattle.std.proofs.lemmas.Bool.{false≢true}
 use Rattle.sha2.specs.Sha256.{sha256}
 use Rattle.fusemap_core.specs.Map.{Map}
 use Rattle.site_core.specs.Section.{Section}
-use Rattle.office_tables.specs.Tables.{Tables, link_at, own}
 use Rattle.office_tables.specs.declared.rows.Device.{Device}
-use Rattle.office_tables.specs.declared.rows.Order.{Order}
 use Rattle.office_commands.specs.Refusals.{refusal_number}
 use Rattle.office_commands.specs.declared.command.Change.{Change}
 use Rattle.office_commands.specs.declared.command.Change.TheVariants.{MakeOrder, ImportMap, RegisterDevice, PlanDevice, ReadBack, Identify, Ship, Scrap, Import}
 use Rattle.office_commands.specs.declared.refusal.Refusal.{Refusal}
 use Rattle.import_rows.specs.declared.rows.ImportRow.{ImportRow}
-use Rattle.office_rules.specs.Commands.{refusals}
-use Rattle.office_rules.specs.DeviceRules.{fits, readback_refusals}
-use Rattle.office_rules.specs.Devices.{device_found, map_named}
-use Rattle.office_rules.specs.EndRules.{ship_refusals, scrap_refusals}
-use Rattle.office_rules.specs.Identities.{refusals_in, order_of}
-use Rattle.office_rules.specs.ImportRules.{Imported, GivenIn, conflict_in, conflicts, imported}
-use Rattle.office_rules.specs.Maps.{bad_map, is_other_text, refusals_of_text}
-use Rattle.office_rules.specs.MapFaults.{map_fault}
-use Rattle.office_rules.specs.Rules.{lowest}
-use Rattle.office_rules.specs.StepRules.{plan_refusals, read_refusals, refusals_with, step_refusals}
+use Rattle.office_rules.specs.Ends.{scrap_refusals, ship_refusals}
+use Rattle.office_rules.specs.Identity.{refusals_in}
+use Rattle.office_rules.specs.Import.{Imported, conflict_in, conflicts_in, imported}
+use Rattle.office_rules.specs.Lowest.{lowest}
+use Rattle.office_rules.specs.Machine.{refusals}
+use Rattle.office_rules.specs.Map.{bad_map, map_fault, text_refusals}
+use Rattle.office_rules.specs.Plan.{plan_refusals}
+use Rattle.office_rules.specs.ReadBack.{read_refusals}
+use Rattle.office_rules.specs.Registration.{fits, readback_refusals}
+use Rattle.office_rules.specs.Sight.{GivenIn, OrderSight, Sight, device_in_sight, map_in_sight, refusals_with, step_refusals}
 use Rattle.office_rules.specs.declared.device_step.FoundDevice.{FoundDevice}
 
 -- each number is above the one before it, and the first above n
@@ -62,10 +60,10 @@ lowest_of_ascending n [] r up e = cc
 lowest_of_ascending n (c ∷ cs) r up e = first_is_lowest c.0 c.1 r cs up.1 (lowest_of_ascending (refusal_number c.1) cs r up.1) e
 
 -- the refusals of a map's text
-map_ascends : {A : Type 0} (fault : Option ℕ) (other : Bool) (found : Option A) (count : ℕ)
-    → AscendFrom 12 (bad_map fault ++ refusals_of_text other found count)
-map_ascends None other found count = (omega arith, (omega arith, tt))
-map_ascends (Some fault) other found count = (omega arith, (omega arith, (omega arith, tt)))
+map_ascends : (fault : Option ℕ) (text : List ℕ) (found : Option (List ℕ)) (count : ℕ)
+    → AscendFrom 12 (bad_map fault ++ text_refusals text found count)
+map_ascends None text found count = (omega arith, (omega arith, tt))
+map_ascends (Some fault) text found count = (omega arith, (omega arith, (omega arith, tt)))
 
 -- those of a registration
 shown_ascends : (fit : Bool) (coding hidden : Bool × Refusal) (bad : Refusal) → 18 < refusal_number coding.1 → refusal_number coding.1 < refusal_number hidden.1
@@ -88,26 +86,53 @@ step_ascends against each (Some found) = with_map found.map found.device
     with_map None d = tt
     with_map (Some m) d = each m d
 
-identity_ascends : (t : Tables) (key : List ℕ) (order : Option Order) (m : Map) (d : Device) → AscendFrom 12 (refusals_in t key order m d)
-identity_ascends t key None m d = tt
-identity_ascends t key (Some o) m d = (omega arith, (omega arith, (omega arith, tt)))
+identity_ascends : (key : List ℕ) (order : Option OrderSight) (m : Map) (d : Device)
+    → AscendFrom 12 (refusals_in key order m d)
+identity_ascends key None m d = tt
+identity_ascends key (Some o) m d = (omega arith, (omega arith, (omega arith, tt)))
 
 -- those of an import
 conflict_ascends : (found : Result Imported (List ℕ)) → AscendFrom 37 (conflict_in found)
 conflict_ascends (Ok i) = tt
 conflict_ascends (Err serial) = (omega arith, tt)
 
-conflicts_ascend : (g : GivenIn) (rows : Option (List ImportRow)) → AscendFrom 37 (conflicts g rows)
-conflicts_ascend g None = tt
-conflicts_ascend g (Some rows) = conflict_ascends (imported g rows)
+conflicts_in_ascend : (given : Option GivenIn) (rows : Option (List ImportRow))
+    → AscendFrom 37 (conflicts_in given rows)
+conflicts_in_ascend None rows = tt
+conflicts_in_ascend (Some g) None = tt
+conflicts_in_ascend (Some g) (Some rows) = conflict_ascends (imported g rows)
 
 -- those of each command stand in the order of their numbers, after those of the retry rule
-pub refusals_ascend : (s : Section) (t : Tables) (c : Change) → AscendFrom 12 (refusals s t c)
-refusals_ascend s t (MakeOrder o) = (omega arith, (omega arith, (omega arith, (omega arith, (omega arith, (omega arith, (omega arith, (omega arith, tt))))))))
-refusals_ascend s t (ImportMap text) =
-    map_ascends (map_fault text) (is_other_text t text (link_at s.name (sha256 text) t)) (link_at s.name (sha256 text) t) (length (own s.name t.links))
-refusals_ascend s t (RegisterDevice d) = (omega arith, (omega arith, (omega arith, (omega arith, readback_ascends (map_named s.name d.map t) d.blocks))))
-refusals_ascend s t (PlanDevice p) =
+pub refusals_ascend : (s : Section) (v : Sight) (c : Change) → AscendFrom 12 (refusals s v c)
+refusals_ascend s v (MakeOrder o) = (
+  omega arith,
+  (
+    omega arith,
+    (
+      omega arith,
+      (
+        omega arith,
+        (omega arith, (omega arith, (omega arith, (omega arith, tt)))),
+      ),
+    ),
+  ),
+)
+refusals_ascend s v (ImportMap text) =
+    map_ascends (map_fault text) text (v.text (sha256 text)) v.maps
+refusals_ascend s v (RegisterDevice d) = (
+  omega arith,
+  (
+    omega arith,
+    (
+      omega arith,
+      (
+        omega arith,
+        readback_ascends (map_in_sight v d.map) d.blocks,
+      ),
+    ),
+  ),
+)
+refusals_ascend s v (PlanDevice p) =
     step_ascends (plan_refusals p.wishes) (λ m d. (
       omega arith,
       (
@@ -118,14 +143,33 @@ refusals_ascend s t (PlanDevice p) =
             omega arith,
             (
               omega arith,
-              (omega arith, (omega arith, (omega arith, (omega arith, (omega arith, (omega arith, tt)))))),
+              (
+                omega arith,
+                (
+                  omega arith,
+                  (
+                    omega arith,
+                    (
+                      omega arith,
+                      (omega arith, (omega arith, tt)),
+                    ),
+                  ),
+                ),
+              ),
             ),
           ),
         ),
       ),
-    )) (device_found s p.chip t)
-refusals_ascend s t (ReadBack r) = step_ascends (read_refusals r.blocks) (λ m d. (omega arith, (omega arith, tt))) (device_found s r.chip t)
-refusals_ascend s t (Identify i) = step_ascends _ (λ m d. identity_ascends t i.key (order_of s t d) m d) (device_found s i.chip t)
-refusals_ascend s t (Ship chip) = step_ascends ship_refusals (λ m d. (omega arith, tt)) (device_found s chip t)
-refusals_ascend s t (Scrap chip) = step_ascends scrap_refusals (λ m d. (omega arith, tt)) (device_found s chip t)
-refusals_ascend s t (Import i) = (omega arith, (omega arith, conflicts_ascend _ i.rows))
+    )) (device_in_sight v p.chip)
+refusals_ascend s v (ReadBack r) =
+    step_ascends (read_refusals r.blocks) (λ m d. (omega arith, (omega arith, tt)))
+    (device_in_sight v r.chip)
+refusals_ascend s v (Identify i) =
+    step_ascends _ (λ m d. identity_ascends i.key (v.order d.order) m d)
+    (device_in_sight v i.chip)
+refusals_ascend s v (Ship chip) =
+    step_ascends ship_refusals (λ m d. (omega arith, tt)) (device_in_sight v chip)
+refusals_ascend s v (Scrap chip) =
+    step_ascends scrap_refusals (λ m d. (omega arith, tt)) (device_in_sight v chip)
+refusals_ascend s v (Import i) =
+    (omega arith, (omega arith, conflicts_in_ascend (v.issuer i.issuer) i.rows))

@@ -2,8 +2,9 @@
 pub mod Fresh
 pub mod Grows
 pub mod Pending
-pub mod Solo
+pub mod SoloMachine
 pub mod Sound
 pub mod SoundDevices
 pub mod SoundRecords
+pub mod SoundRows
 pub mod View

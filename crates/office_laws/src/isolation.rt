@@ -11,14 +11,13 @@ ghost use Rattle.fuse_redaction.specs.Redaction.{redacted};
 ghost use Rattle.office_commands.specs.Asked.{IsAsked};
 ghost use Rattle.office_commands.specs.declared.new_device.NewDevice.{NewDevice};
 ghost use Rattle.office_commands.specs.declared.new_plan.NewReadBack.{NewReadBack};
-ghost use Rattle.office_rules.specs.DeviceRules.{fits};
-ghost use Rattle.office_rules.specs.Devices.{map_named};
+ghost use Rattle.office_rules.specs.OfficeMachine.{Step, asks_identity, map_named, reads_back, registers};
+ghost use Rattle.office_rules.specs.Registration.{fits};
 ghost use Rattle.office_commands.specs.declared.command.Request.{Request};
 ghost use Rattle.office_commands.specs.declared.new_identity.NewIdentity.{NewIdentity};
-ghost use Rattle.office_rules.specs.Office.{Step, asks_identity, reads_back, registers};
 ghost use Rattle.office_laws.specs.Fresh.{GivesAnew};
 ghost use Rattle.office_laws.specs.Grows.{Grows};
-ghost use Rattle.office_laws.specs.Solo.{solo};
+ghost use Rattle.office_laws.specs.SoloMachine.{solo_step};
 ghost use Rattle.office_laws.specs.View.{view};
 ghost use Rattle.office_laws.specs.Sound.{IsSound};
 
@@ -30,23 +29,28 @@ ghost use Rattle.office_laws.specs.Sound.{IsSound};
 pub fn steps_are_the_customers_own()
     ensures own { (owners : Owners) (s : Section) (seat : List ℕ) (t : Tables) (r : Request)
         (reply : Answer) (t2 : Tables)
-        → AreApart owners → IsSection owners s → owners.seat seat ≡ Some s.name → IsAsked r → IsSound owners t → Step s seat t r reply t2
-        → (reply, view s.name t2) ≡ solo s seat (view s.name t) r }
+        → IsSection owners s → owners.seat seat ≡ Some s.name → IsSound owners t
+        → Step s seat t r reply t2
+        → solo_step s seat (view s.name t) r ≡ Some (reply, view s.name t2) }
     ensures other { (owners : Owners) (s : Section) (seat : List ℕ) (t : Tables) (r : Request)
         (reply : Answer) (t2 : Tables)
-        → AreApart owners → IsSection owners s → owners.seat seat ≡ Some s.name → IsAsked r → IsSound owners t → Step s seat t r reply t2
+        → IsSection owners s → owners.seat seat ≡ Some s.name → IsSound owners t
+        → Step s seat t r reply t2
         → (customer : List ℕ) → bytes_eq customer s.name ≡ false → view customer t2 ≡ view customer t }
     ensures sound { (owners : Owners) (s : Section) (seat : List ℕ) (t : Tables) (r : Request)
         (reply : Answer) (t2 : Tables)
-        → AreApart owners → IsSection owners s → owners.seat seat ≡ Some s.name → IsAsked r → IsSound owners t → Step s seat t r reply t2
+        → AreApart owners → IsSection owners s → owners.seat seat ≡ Some s.name → IsAsked r
+        → IsSound owners t → Step s seat t r reply t2
         → IsSound owners t2 }
     ensures grows { (owners : Owners) (s : Section) (seat : List ℕ) (t : Tables) (r : Request)
         (reply : Answer) (t2 : Tables)
-        → AreApart owners → IsSection owners s → owners.seat seat ≡ Some s.name → IsAsked r → IsSound owners t → Step s seat t r reply t2
+        → AreApart owners → IsSection owners s → owners.seat seat ≡ Some s.name → IsAsked r
+        → IsSound owners t → Step s seat t r reply t2
         → Grows t t2 }
     ensures anew { (owners : Owners) (s : Section) (seat : List ℕ) (t : Tables) (number : ℕ)
         (digest : List ℕ) (i : NewIdentity) (reply : Answer) (t2 : Tables)
-        → AreApart owners → IsSection owners s → owners.seat seat ≡ Some s.name → IsSound owners t → Step s seat t (asks_identity number digest i) reply t2
+        → AreApart owners → IsSection owners s → owners.seat seat ≡ Some s.name
+        → IsSound owners t → Step s seat t (asks_identity number digest i) reply t2
         → GivesAnew s seat number digest i t reply t2 }
 {}
 
@@ -69,11 +73,15 @@ pub fn always_a_step()
 pub fn only_the_redaction_is_kept()
     ensures registration { (s : Section) (seat : List ℕ) (t : Tables) (m : Map) (number : ℕ)
         (digest : List ℕ) (d : NewDevice) (blocks : List (List ℕ)) (reply : Answer) (t2 : Tables)
-        → map_named s.name d.map t ≡ Some m → fits m d.blocks ≡ fits m blocks → redacted m d.blocks ≡ redacted m blocks
-        → Step s seat t (registers number digest d) reply t2 → Step s seat t (registers number digest (record d { blocks = blocks })) reply t2 }
+        → map_named s.name d.map t ≡ Some m → fits m d.blocks ≡ fits m blocks
+        → redacted m d.blocks ≡ redacted m blocks
+        → Step s seat t (registers number digest d) reply t2
+        → Step s seat t (registers number digest (record d { blocks = blocks })) reply t2 }
     ensures readback { (s : Section) (seat : List ℕ) (t : Tables) (d : Owned Device) (m : Map)
         (number : ℕ) (digest : List ℕ) (r : NewReadBack) (blocks : List (List ℕ)) (reply : Answer)
         (t2 : Tables)
-        → device_at s.name r.chip t ≡ Some d → map_named s.name d.row.map t ≡ Some m → fits m r.blocks ≡ fits m blocks → redacted m r.blocks ≡ redacted m blocks
-        → Step s seat t (reads_back number digest r) reply t2 → Step s seat t (reads_back number digest (record r { blocks = blocks })) reply t2 }
+        → device_at s.name r.chip t ≡ Some d → map_named s.name d.row.map t ≡ Some m
+        → fits m r.blocks ≡ fits m blocks → redacted m r.blocks ≡ redacted m blocks
+        → Step s seat t (reads_back number digest r) reply t2
+        → Step s seat t (reads_back number digest (record r { blocks = blocks })) reply t2 }
 {}

@@ -7,7 +7,7 @@ use Rattle.office_tables.specs.declared.rows.SeatState.{SeatState}
 use Rattle.office_tables.specs.Tables.{Tables}
 use Rattle.office_commands.specs.Replies.{acceptance}
 use Rattle.office_rules.proofs.Ties.{same_text}
-use Rattle.office_laws.specs.Solo.{State, seat_named}
+use Rattle.office_laws.specs.SoloMachine.{State, seat_named}
 use Rattle.office_laws.specs.View.{view}
 use Rattle.office_runs.specs.Exchanges.{Exchange}
 use Rattle.office_runs.specs.Alone.{own_of}

@@ -1,6 +1,6 @@
 -- What an identity gives in a run is given once.
 use Rattle.std.proofs.Common.{◌≡◌, ◌∙◌, ◌+◌, ◌==◌, ℕ, ◌⊎◌, inl, inr, arith, Bool, true, false, cond, List, [], ◌∷◌, Option, Some, None, refl, sym, ap, subst}
-use Rattle.std.specs.Prelude.{◌&&◌, bytes_eq, filter, is_some, nat_lt, not, IfSome, MatchBool, MatchOption}
+use Rattle.std.specs.Prelude.{◌&&◌, bytes_eq, filter, is_some, nat_lt, not, IfSome, MatchBool}
 use Rattle.std.specs.List.{AllByRecursion}
 use Rattle.std.proofs.lemmas.Bool.{and_parts}
 use Rattle.std.proofs.lemmas.Bool.Decides.{nat_tests}
@@ -11,7 +11,7 @@ use Rattle.site_core.specs.Section.{Section}
 use Rattle.office_tables.specs.declared.rows.Given.{Given}
 use Rattle.office_tables.specs.declared.rows.Owned.{Owned}
 use Rattle.office_tables.specs.declared.rows.SeatState.{SeatState}
-use Rattle.office_tables.specs.Tables.{Tables, given_at, is_given, with_seat}
+use Rattle.office_tables.specs.Tables.{Tables, given_at, is_given}
 use Rattle.office_commands.specs.IdentityReplies.{identity_body}
 use Rattle.office_commands.specs.Replies.{acceptance, refusal}
 use Rattle.office_commands.specs.declared.command.Change.{Change as Changing}
@@ -21,19 +21,21 @@ use Rattle.office_commands.specs.declared.command.Command.TheVariants.{Change, S
 use Rattle.office_commands.specs.declared.new_identity.NewIdentity.{NewIdentity}
 use Rattle.office_commands.specs.declared.refusal.Refusal.{Refusal}
 use Rattle.office_commands.specs.declared.refusal.Refusal.TheVariants.{OtherBody, Unkept, WrongNumber}
-use Rattle.office_rules.specs.Commands.{Changes, refusals}
-use Rattle.office_rules.specs.EndRules.{row_of}
-use Rattle.office_rules.specs.Office.{Step, Turns, asks_identity, settled, turn, turn_at}
-use Rattle.office_rules.specs.Rules.{lowest}
+use Rattle.office_rules.specs.Effect.{Put}
+use Rattle.office_rules.specs.Identity.{row_of}
+use Rattle.office_rules.specs.Lowest.{lowest}
+use Rattle.office_rules.specs.Machine.{Response, decide, effect, refusals, reply_only, respond_in_turn}
+use Rattle.office_rules.specs.OfficeMachine.{Step, asks_identity, office_sight, turn_at}
+use Rattle.office_rules.specs.Retry.{turn}
 use Rattle.office_rules.specs.declared.turn.Turn.{Turn}
 use Rattle.office_rules.specs.declared.turn.Turn.TheVariants.{Repeats, Differs, Next, Skips}
 use Rattle.office_rules.proofs.Ties.{same_text}
 use Rattle.office_laws.specs.Fresh.{AreApart, IsNew, addresses_of}
 use Rattle.office_laws.specs.Grows.{Grows}
-use Rattle.office_laws.specs.Solo.{State, seat_named}
+use Rattle.office_laws.specs.SoloMachine.{State, seat_named}
 use Rattle.office_laws.specs.Sound.{IsSound}
 use Rattle.office_laws.specs.View.{view}
-use Rattle.office_laws.proofs.Fresh.{gives_anew}
+use Rattle.office_laws.proofs.Obeying.{step_anew}
 use Rattle.office_laws.proofs.Readings.{find_holds, seat_own}
 use Rattle.office_laws.proofs.RecordAddresses.{addresses_apart, addresses_begin}
 use Rattle.office_runs.specs.Exchanges.{Exchange, IsRun, Meets, Passes, Wanted, asks, reports, refused, calls_of}
@@ -63,6 +65,9 @@ refused_is_not reply reason e is =
     ap (λ (a : Answer). code_of a.status == 200) e ∙ not_success reason in
     cc (same, is)
 
+some_is : {A : Type 0} {x y : A} → Some x ≡ Some y → x ≡ y
+some_is e = cc
+
 -- the identity's reply shows a record that is new
 abbrev Shows : Section → NewIdentity → Tables → Answer → Tables → Type 0
 Shows s i t reply mid =
@@ -73,40 +78,46 @@ Shows s i t reply mid =
 module _ {site : Owners} (t mid : Tables) (sound : IsSound site t) (later : IsSound site mid)
     (s : Section) (seat : List ℕ) (mine : site.seat seat ≡ Some s.name) (reply : Answer)
     (accepted : (code_of reply.status == 200) ≡ true) where
+  -- what the machine responds is replied
+  abbrev Responds : Option Response → Type 0
+  Responds made = (puts : List Put) × (made ≡ Some (record { reply = reply; puts = puts }))
+
+  is_refused : {A : Type 0} (reason : Refusal) → Responds (Some (reply_only (refusal reason))) → A
+  is_refused reason (puts, is) =
+      refused_is_not reply reason (sym (ap (λ (p : Response). p.reply) (some_is is))) accepted
+
   of_lowest : (number : ℕ) (digest : List ℕ) (i : NewIdentity)
       → turn_at seat (asks_identity number digest i) t ≡ Next
       → Step s seat t (asks_identity number digest i) reply mid
-      → (found : Option Refusal) → lowest (refusals s t (Identify i)) ≡ found
-      → MatchOption found ((body : List ℕ) × (after : Tables)
-      × Changes s seat t (Identify i) body after × (reply ≡ acceptance body)
-      × (mid ≡ with_seat (settled s.name seat (asks_identity number digest i) body) after))
-      (λ reason. (reply ≡ refusal reason) × (mid ≡ t))
+      → (found : Option Refusal) → lowest (refusals s (office_sight s seat t) (Identify i)) ≡ found
+      → Responds (decide seat (asks_identity number digest i) found
+      (effect s seat (office_sight s seat t) (Identify i)))
       → Shows s i t reply mid
-  of_lowest number digest i next step None free judged =
-      gives_anew s seat number digest i reply mid later step next free
-  of_lowest number digest i next step (Some reason) is judged =
-      refused_is_not reply reason judged.0 accepted
+  of_lowest number digest i next step None free responds =
+      step_anew sound s seat number digest i reply mid later step next free
+  of_lowest number digest i next step (Some reason) is responds = is_refused reason responds
 
   of_turn : (number : ℕ) (digest : List ℕ) (i : NewIdentity)
       → is_after seat (view s.name t) number ≡ true
       → Step s seat t (asks_identity number digest i) reply mid
-      → (v : Turn)
-      → turn_at seat (asks_identity number digest i) t ≡ v
-      → Turns v s seat (asks_identity number digest i) t (Identify i) reply mid
+      → (turns : Turn)
+      → turn_at seat (asks_identity number digest i) t ≡ turns
+      → Responds (respond_in_turn s seat (office_sight s seat t) (asks_identity number digest i)
+      (Identify i) turns)
       → Shows s i t reply mid
-  of_turn number digest i past step (Repeats body) is turns =
+  of_turn number digest i past step (Repeats body) is responds =
       let own : turn (seat_named seat (view s.name t)) number digest ≡ Repeats body =
       ap (λ (found : Option SeatState). turn found number digest)
       (sym (seat_own sound s.name seat mine)) ∙ is in
       let kept = turn_repeats (seat_named seat (view s.name t)) number digest body own in
       let last : last_at seat (view s.name t) ≡ number = ap last_of kept.1 ∙ kept.2 in
       absurd (grind (arith, nat_tests, last, past))
-  of_turn number digest i past step Differs is turns =
-      refused_is_not reply OtherBody turns.0 accepted
-  of_turn number digest i past step (Skips expected) is turns =
-      refused_is_not reply (WrongNumber expected) turns.0 accepted
-  of_turn number digest i past step Next is turns =
-      of_lowest number digest i is step (lowest (refusals s t (Identify i))) refl turns
+  of_turn number digest i past step Differs is responds = is_refused OtherBody responds
+  of_turn number digest i past step (Skips expected) is responds =
+      is_refused (WrongNumber expected) responds
+  of_turn number digest i past step Next is responds =
+      of_lowest number digest i is step
+      (lowest (refusals s (office_sight s seat t) (Identify i))) refl responds
 
   of_change : (number : ℕ) (digest : List ℕ) (change : Changing) (i : NewIdentity)
       → identity_of (Change change) ≡ Some i
@@ -122,7 +133,8 @@ module _ {site : Owners} (t mid : Tables) (sound : IsSound site t) (later : IsSo
   of_change number digest (Identify j) i is past step =
       let same : j ≡ i = cc in
       subst (λ (i : NewIdentity). Shows s i t reply mid) same
-      (of_turn number digest j past step (turn_at seat (asks_identity number digest j) t) refl step)
+      (of_turn number digest j past step (turn_at seat (asks_identity number digest j) t) refl
+      (step.0, step.1))
   of_change number digest (Ship chip) i is past step = cc
   of_change number digest (Scrap chip) i is past step = cc
   of_change number digest (Import x) i is past step = cc

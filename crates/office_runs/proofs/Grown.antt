@@ -1,5 +1,5 @@
 -- What stays where tables grow, and where a site does.
-use Rattle.std.proofs.Common.{◌≡◌, ◌*◌, ℕ, true, Option, Some, None}
+use Rattle.std.proofs.Common.{◌≡◌, ◌*◌, ℕ, true, List, Option, Some, None, Ordering}
 use Rattle.std.specs.Prelude.{Any, IfSome}
 use Rattle.id_ranges.specs.Blocks as blocks
 use Rattle.site_core.specs.Owners.{Owners, OwnersGrow}
@@ -8,6 +8,7 @@ use Rattle.office_tables.specs.declared.rows.Owned.{Owned}
 use Rattle.office_tables.specs.Tables.{Tables}
 use Rattle.office_tables.proofs.Placing.{all_map}
 use Rattle.office_laws.specs.Sound.{IsInPool, IsSound}
+use Rattle.office_laws.specs.SoundRows.{AreOwned}
 
 -- a site as it was
 pub growth_itself : (site : Owners) → OwnersGrow site site
@@ -31,42 +32,58 @@ pool_grown old new growth o = by o.row.mac
     by None is = tt
     by (Some first) is = growth.pools o.customer (first, o.row.range.quantity * o.row.macs) is
 
+-- rows that lie with their owners lie with them still
+owned_grown : {A : Type 0} {cmp : Owned A → Owned A → Ordering} {rows : List (Owned A)}
+    (old new : A → Option (List ℕ))
+    → ((x : A) (customer : List ℕ) → old x ≡ Some customer → new x ≡ Some customer)
+    → AreOwned cmp old rows → AreOwned cmp new rows
+owned_grown {rows = rows} old new growth are = record {
+  in_order = are.in_order;
+  owned = all_map (λ o. old o.row ≡ Some o.customer) (λ o. new o.row ≡ Some o.customer)
+      (λ o is. growth o.row o.customer is) rows are.owned;
+}
+
 -- tables that are sound for a site are sound for one that grew from it
-pub sound_grown : (old new : Owners) (t : Tables) → OwnersGrow old new → IsSound old t → IsSound new t
+pub sound_grown : (old new : Owners) (t : Tables) → OwnersGrow old new → IsSound old t
+    → IsSound new t
 sound_grown old new t growth sound = record {
-  seats_in_order = sound.seats_in_order;
-  orders_in_order = sound.orders_in_order;
-  given_in_order = sound.given_in_order;
-  seats = all_map (λ o. old.seat o.row.name ≡ Some o.customer)
-      (λ o. new.seat o.row.name ≡ Some o.customer)
-      (λ o is. growth.seats o.row.name o.customer is) t.seats sound.seats;
-  orders = all_map (λ o. old.issuer o.row.issuer ≡ Some o.customer)
-      (λ o. new.issuer o.row.issuer ≡ Some o.customer)
-      (λ o is. growth.issuers o.row.issuer o.customer is) t.orders sound.orders;
-  given = all_map (λ o. old.issuer o.row.issuer ≡ Some o.customer)
-      (λ o. new.issuer o.row.issuer ≡ Some o.customer)
-      (λ o is. growth.issuers o.row.issuer o.customer is) t.given sound.given;
-  terms = sound.terms;
-  in_pools = all_map (IsInPool old) (IsInPool new)
-      (pool_grown old new growth) t.orders sound.in_pools;
-  apart = sound.apart;
-  maps_in_order = sound.maps_in_order;
-  texts_apart = sound.texts_apart;
-  links_in_order = sound.links_in_order;
-  links = all_map (λ l. old.customer l.customer ≡ true) (λ l. new.customer l.customer ≡ true)
-      (λ l is. growth.customers l.customer is) t.links sound.links;
-  linked = sound.linked;
-  records = sound.records;
+  seats = owned_grown (λ r. old.seat r.name) (λ r. new.seat r.name)
+      (λ r customer is. growth.seats r.name customer is) sound.seats;
+  orders = record {
+    rows = owned_grown (λ o. old.issuer o.issuer) (λ o. new.issuer o.issuer)
+        (λ o customer is. growth.issuers o.issuer customer is) sound.orders.rows;
+    terms = sound.orders.terms;
+    in_pools = all_map (IsInPool old) (IsInPool new) (pool_grown old new growth) t.orders
+        sound.orders.in_pools;
+    apart = sound.orders.apart;
+  };
+  given = record {
+    rows = owned_grown (λ g. old.issuer g.issuer) (λ g. new.issuer g.issuer)
+        (λ g customer is. growth.issuers g.issuer customer is) sound.given.rows;
+    keys_apart = sound.given.keys_apart;
+    addresses_apart = sound.given.addresses_apart;
+  };
+  maps = record {
+    maps_in_order = sound.maps.maps_in_order;
+    texts_apart = sound.maps.texts_apart;
+    links_in_order = sound.maps.links_in_order;
+    owned = all_map (λ l. old.customer l.customer ≡ true) (λ l. new.customer l.customer ≡ true)
+        (λ l is. growth.customers l.customer is) t.links sound.maps.owned;
+    linked = sound.maps.linked;
+  };
   devices = record {
     devices_in_order = sound.devices.devices_in_order;
     ledger_in_order = sound.devices.ledger_in_order;
     ids_apart = sound.devices.ids_apart;
     customers = all_map (λ d. old.customer d.customer ≡ true) (λ d. new.customer d.customer ≡ true)
         (λ d is. growth.customers d.customer is) t.devices sound.devices.customers;
-    referred = sound.devices.referred;
-    ledgers = sound.devices.ledgers;
+    numbered = sound.devices.numbered;
     of_devices = sound.devices.of_devices;
   };
+  origins = sound.origins;
+  cursors = sound.cursors;
+  references = sound.references;
+  ledgers = sound.ledgers;
 }
 
 -- a growth of a growth

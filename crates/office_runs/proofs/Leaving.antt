@@ -9,7 +9,7 @@ use Rattle.office_tables.specs.Tables.{Tables}
 use Rattle.office_commands.specs.declared.command.Request.{Request}
 use Rattle.office_commands.specs.declared.refusal.Refusal.TheVariants.{Unkept}
 use Rattle.office_commands.specs.Replies.{refusal}
-use Rattle.office_rules.specs.Office.{Step}
+use Rattle.office_rules.specs.OfficeMachine.{Step}
 use Rattle.office_runs.specs.Exchanges.{Call, Exchange, Meets, Passes, asks}
 use Rattle.office_runs.specs.Stops.{IsLeft, IsPending, IsUnsettled, Leaves, LeavesAfter, Session, WasUnavailable, is_request, settles}
 

@@ -8,8 +8,8 @@ use Rattle.office_tables.specs.declared.rows.Device.{Device}
 use Rattle.office_tables.specs.declared.rows.Given.{Given}
 use Rattle.office_tables.specs.declared.rows.Order.{Order}
 use Rattle.office_tables.specs.declared.rows.Owned.{Owned}
-use Rattle.office_rules.specs.Devices.{map_named}
-use Rattle.office_rules.specs.Rules.{block_from}
+use Rattle.office_rules.specs.OfficeMachine.{map_named}
+use Rattle.office_rules.specs.Order.{block_from}
 use Rattle.office_laws.specs.Fresh.{addresses_for, addresses_in, addresses_of, addresses_with}
 use Rattle.office_laws.specs.Grows.{Grows, Stays}
 use Rattle.office_laws.specs.Sound.{IsSound}
@@ -88,4 +88,4 @@ module _ {owners : Owners} (t t2 : Tables) (sound : IsSound owners t) (grows : G
       → addresses_of t2 g ≡ addresses_of t g
   addresses_stay found =
       by_chip g.row.chip (find_holds (λ (g : Owned Given). IsRecordOf t.orders t.devices g
-      g.row.chip) (is_given g.row.issuer g.row.serial) t.given g sound.records.records found).0
+      g.row.chip) (is_given g.row.issuer g.row.serial) t.given g sound.origins found).0

@@ -6,9 +6,10 @@ use Rattle.site_core.specs.Owners.{Owners}
 use Rattle.office_tables.specs.Tables.{Tables, given_at, own}
 use Rattle.office_tables.specs.declared.rows.Device.{Device}
 use Rattle.office_tables.specs.declared.rows.Order.{Order}
-use Rattle.office_laws.specs.Solo.{has_given}
+use Rattle.office_laws.specs.SoloMachine.{has_given}
 use Rattle.office_laws.specs.Sound.{IsSound}
-use Rattle.office_laws.specs.View.{at_first, view}
+use Rattle.office_laws.specs.View.{view}
+use Rattle.office_rules.specs.OfficeMachine.{at_first}
 use Rattle.office_laws.proofs.Readings.{own_given}
 use Rattle.yield_report.specs.Reports.{has_given_in, order_report_in}
 use Rattle.yield_report.specs.Texts.{order_header, order_line, report_text}

@@ -1,17 +1,13 @@
 -- What a call does to the seats of the customer's own machine.
-use Rattle.std.proofs.Common.{◌≡◌, ◌∙◌, ◌+◌, ◌==◌, ℕ, ◌⊎◌, inl, inr, true, false, List, [], ◌∷◌, Option, Some, None, Equal, refl, sym, ap}
-use Rattle.std.specs.Prelude.{◌&&◌, bytes_eq, find, if◌then◌else◌, map, MatchBool, Result, Ok, Err}
+use Rattle.std.proofs.Common.{◌≡◌, ◌∙◌, ◌+◌, ◌==◌, ◌++◌, ℕ, ◌⊎◌, inl, inr, true, false, List, [], ◌∷◌, Option, Some, None, Equal, refl, sym, ap}
+use Rattle.std.specs.Prelude.{Bool, ◌&&◌, bytes_eq, find, if◌then◌else◌, is_some, map, MatchBool, option_and_then, option_map, Result, Ok, Err}
 use Rattle.std.specs.List.{AllByRecursion}
 use Rattle.std.proofs.lemmas.Bool.{eqb-true}
 use Rattle.std.proofs.lemmas.Cmp.{nat_list_cmp_total, tied_itself}
 use Rattle.sha2.specs.Sha256.{sha256}
-use Rattle.fusemap_core.specs.Map.{Map}
 use Rattle.http_replies.specs.Replies.{Answer, code_of}
 use Rattle.import_rows.specs.declared.rows.ImportRow.{ImportRow}
 use Rattle.site_core.specs.Section.{Section}
-use Rattle.office_tables.specs.declared.rows.Device.{Device}
-use Rattle.office_tables.specs.declared.rows.Given.{Given}
-use Rattle.office_tables.specs.declared.rows.Order.{Order}
 use Rattle.office_tables.specs.declared.rows.SeatState.{SeatState}
 use Rattle.office_tables.specs.Tables.{placed}
 use Rattle.office_tables.proofs.Finding.{other_placed}
@@ -20,22 +16,24 @@ use Rattle.office_commands.specs.declared.command.Change.TheVariants.{MakeOrder,
 use Rattle.office_commands.specs.declared.command.Command.{Command}
 use Rattle.office_commands.specs.declared.command.Command.TheVariants.{Change, Show}
 use Rattle.office_commands.specs.declared.command.Request.{Request}
-use Rattle.office_commands.specs.declared.new_device.NewDevice.{NewDevice}
 use Rattle.office_commands.specs.declared.refusal.Refusal.{Refusal}
 use Rattle.office_commands.specs.declared.refusal.Refusal.TheVariants.{UnknownToken, UnknownPath, WrongCaller, BadJson, BadMember, WrongNumber, OtherBody, UnknownMap, UnknownOrder, UnknownDevice, Exists, WrongState, QuantityReached, BadPlan, BadMap, BadSerial, NumberTooWide, Exhausted, NoMacRoom, RangeOverlap, KeyBound, CodingScheme, ForeignIssuer, ImportConflict, MapDigestTaken, Limit, BadReadback, BadNotBefore, Unkept}
 use Rattle.office_commands.specs.Refusals.{refusal_status}
 use Rattle.office_commands.specs.Replies.{acceptance, refusal}
-use Rattle.office_rules.specs.EndRules.{scraps, ships}
-use Rattle.office_rules.specs.ImportRules.{Imported, imported}
-use Rattle.office_rules.specs.Imports.{imported_row}
-use Rattle.office_rules.specs.Office.{kept_of, turn}
-use Rattle.office_rules.specs.Rules.{lowest}
-use Rattle.office_rules.specs.StepRules.{Does, plans, reads}
-use Rattle.office_rules.specs.declared.device_step.FoundDevice.{FoundDevice}
+use Rattle.office_rules.specs.Effect.{StepRule, Effect, Put, map_put, record_put, seat_put, step_effect}
+use Rattle.office_rules.specs.Ends.{scraps, ships}
+use Rattle.office_rules.specs.Import.{Imported, imported, imported_row, rows_effect}
+use Rattle.office_rules.specs.Lowest.{lowest}
+use Rattle.office_rules.specs.Machine.{Response, decide, effect, refusals, respond_in_turn, respond_to}
+use Rattle.office_rules.specs.Plan.{plans}
+use Rattle.office_rules.specs.ReadBack.{reads}
+use Rattle.office_rules.specs.Retry.{kept_of, turn}
+use Rattle.office_rules.specs.Sight.{Sight, map_in_sight}
 use Rattle.office_rules.specs.declared.turn.Turn.{Turn}
 use Rattle.office_rules.specs.declared.turn.Turn.TheVariants.{Repeats, Differs, Next, Skips}
 use Rattle.office_rules.proofs.Ties.{same_place, same_text, text_itself}
-use Rattle.office_laws.specs.Solo.{OwnMap, State, map_of, order_named, own_adds, own_change, own_device_found, own_gives, own_given_in, own_identifies, own_identifies_in, own_import, own_imports, own_judgement, own_map_named, own_next, own_refusals, own_register, own_seat_cmp, own_serves, own_steps, own_steps_with, own_turn, seat_named, with_all_own_given, with_own_given}
+use Rattle.office_laws.specs.SoloMachine.{State, after_response, or_unkept, seat_named, solo_sight, with_put, with_puts}
+use Rattle.office_laws.proofs.OwnPlaces.{own_seat_cmp}
 use Rattle.office_laws.proofs.Placed.{found_replaced}
 use Rattle.office_runs.specs.Exchanges.{Call, Exchange, Wanted, asks, reports, refused}
 use Rattle.office_runs.specs.Alone.{alone, alone_on}
@@ -74,65 +72,63 @@ not_success BadReadback = refl
 not_success BadNotBefore = refl
 not_success Unkept = refl
 
--- a change leaves the seats
-module _ (c : Section) (seat : List ℕ) (s : State) where
-  registers : (d : NewDevice) (found : Option Map) → (own_register seat s d found).1.seats ≡ s.seats
-  registers d None = refl
-  registers d (Some m) = refl
+-- a put of another row leaves the seats
+abbrev LeavesSeats : Put → Type 0
+LeavesSeats p = (s : State) → (with_put p s).seats ≡ s.seats
 
-  steps_with : (does : Does) (m : Option Map) (d : Device)
-      → (own_steps_with seat s does m d).1.seats ≡ s.seats
-  steps_with does None d = refl
-  steps_with does (Some m) d = refl
+-- and so do those of a command: the seat's own row is put after them
+module _ (c : Section) (seat : List ℕ) (v : Sight) where
+  abbrev LeaveSeats : Option Effect → Type 0
+  LeaveSeats None = Unit {0}
+  LeaveSeats (Some made) = AllByRecursion LeavesSeats made.puts
 
-  steps : (does : Does) (found : Option FoundDevice)
-      → (own_steps seat s does found).1.seats ≡ s.seats
-  steps does None = refl
-  steps does (Some found) = steps_with does found.map found.device
+  after_some : {A : Type 0} (o : Option A) (f : A → Option Effect) → ((x : A) → LeaveSeats (f x))
+      → LeaveSeats (option_and_then f o)
+  after_some None f leaves = tt
+  after_some (Some x) f leaves = leaves x
 
-  gives : (key : List ℕ) (found : FoundDevice) (o : Order) (next : Option (ℕ × List ℕ))
-      → (own_gives seat s key found o next).1.seats ≡ s.seats
-  gives key found o None = refl
-  gives key found o (Some next) = steps_with _ found.map found.device
+  step_leaves : (does : StepRule) (chip : List ℕ) → LeaveSeats (step_effect seat v does chip)
+  step_leaves does chip =
+      after_some (v.device chip) _ (λ d. after_some (map_in_sight v d.map) _ (λ m. (λ _. refl, tt)))
 
-  identifies_in : (key : List ℕ) (found : FoundDevice) (o : Option Order)
-      → (own_identifies_in seat s key found o).1.seats ≡ s.seats
-  identifies_in key found None = refl
-  identifies_in key found (Some o) = gives key found o (own_next s o)
+  records_leave : (issuer : List ℕ) (rows : List ImportRow)
+      → AllByRecursion LeavesSeats (map (λ r. record_put (imported_row issuer r)) rows)
+  records_leave issuer [] = tt
+  records_leave issuer (r ∷ rs) = (λ _. refl, records_leave issuer rs)
 
-  identifies : (key : List ℕ) (found : Option FoundDevice)
-      → (own_identifies seat s key found).1.seats ≡ s.seats
-  identifies key None = refl
-  identifies key (Some found) = identifies_in key found (order_named found.device.order s)
+  rows_leave : (issuer : List ℕ) (made : Result Imported (List ℕ))
+      → LeaveSeats (rows_effect issuer made)
+  rows_leave issuer (Err serial) = tt
+  rows_leave issuer (Ok i) = records_leave issuer i.added
 
-  imports_map : (text : List ℕ) (found : Option OwnMap) → (own_import s text found).seats ≡ s.seats
-  imports_map text None = refl
-  imports_map text (Some m) = refl
+  map_leaves : (text : List ℕ) (there : Bool)
+      → AllByRecursion LeavesSeats (if there then [] else map_put text ∷ [])
+  map_leaves text true = tt
+  map_leaves text false = (λ _. refl, tt)
 
-  adds : (issuer : List ℕ) (found : Result Imported (List ℕ))
-      → (own_adds s issuer found).1.seats ≡ s.seats
-  adds issuer (Err serial) = refl
-  adds issuer (Ok i) = all (map (imported_row issuer) i.added) s
-    where
-      all : (gs : List Given) (s : State) → (with_all_own_given gs s).seats ≡ s.seats
-      all [] s = refl
-      all (g ∷ gs) s = all gs (with_own_given g s)
+  effect_leaves : (change : Changing) → LeaveSeats (effect c seat v change)
+  effect_leaves (MakeOrder n) = after_some (v.issuer n.issuer) _ (λ given. (λ _. refl, tt))
+  effect_leaves (ImportMap text) = map_leaves text (is_some (v.text (sha256 text)))
+  effect_leaves (RegisterDevice n) =
+      after_some (map_in_sight v n.map) _ (λ m. (λ _. refl, tt))
+  effect_leaves (PlanDevice n) = step_leaves (plans n.wishes) n.chip
+  effect_leaves (ReadBack n) = step_leaves (reads n.blocks) n.chip
+  effect_leaves (Identify n) =
+      after_some (v.device n.chip) _ (λ d. after_some (map_in_sight v d.map) _ (λ m.
+      after_some (v.order d.order) _ (λ o. after_some o.next _ (λ next.
+      (λ _. refl, (λ _. refl, tt))))))
+  effect_leaves (Ship chip) = step_leaves ships chip
+  effect_leaves (Scrap chip) = step_leaves scraps chip
+  effect_leaves (Import n) =
+      after_some n.rows _ (λ rows. after_some (v.issuer n.issuer) _ (λ given.
+      rows_leave n.issuer (imported given rows)))
 
-  imports : (issuer : List ℕ) (rows : Option (List ImportRow))
-      → (own_imports s issuer rows).1.seats ≡ s.seats
-  imports issuer None = refl
-  imports issuer (Some rows) = adds issuer (imported (own_given_in issuer s) rows)
-
-  seats_kept : (change : Changing) → (own_change c seat s change).1.seats ≡ s.seats
-  seats_kept (MakeOrder o) = refl
-  seats_kept (ImportMap text) = imports_map text (map_of (sha256 text) s)
-  seats_kept (RegisterDevice d) = registers d (own_map_named d.map s)
-  seats_kept (PlanDevice p) = steps (plans p.wishes) (own_device_found p.chip s)
-  seats_kept (ReadBack r) = steps (reads r.blocks) (own_device_found r.chip s)
-  seats_kept (Identify i) = identifies i.key (own_device_found i.chip s)
-  seats_kept (Ship chip) = steps ships (own_device_found chip s)
-  seats_kept (Scrap chip) = steps scraps (own_device_found chip s)
-  seats_kept (Import i) = imports i.issuer i.rows
+-- so after them and the seat's row the seats are those of before with the row in its place
+seats_after : (ps : List Put) (row : SeatState) (s : State) → AllByRecursion LeavesSeats ps
+    → (with_puts (ps ++ seat_put row ∷ []) s).seats ≡ placed own_seat_cmp row s.seats
+seats_after [] row s leave = refl
+seats_after (p ∷ ps) row s leave =
+    seats_after ps row (with_put p s) leave.1 ∙ ap (placed own_seat_cmp row) (leave.0 s)
 
 -- a repeat is of the number of the seat's row, whose reply is kept
 pub turn_repeats : (found : Option SeatState) (n : ℕ) (digest body : List ℕ)
@@ -241,18 +237,28 @@ module _ (row : SeatState) where
       (fails other differs rows)
 
 module _ (c : Section) (seat : List ℕ) (s mid : State) (reply : Answer) where
-  judged : (r : Request) (made : List ℕ × State) → r.number ≡ last_of (seat_named seat s) + 1
-      → made.1.seats ≡ s.seats → (found : Option Refusal)
-      → ◌≡◌ {A = Answer × State} (reply, mid) (own_judgement seat r s made found)
+  abbrev v : Sight
+  v = solo_sight c seat s
+
+  -- the reply and the state after it are those of what the machine responds
+  abbrev Performed : Option Response → Type 0
+  Performed made =
+      ◌≡◌ {A = Answer × State} (reply, mid) (or_unkept s (option_map (after_response s) made))
+
+  judged : (r : Request) → r.number ≡ last_of (seat_named seat s) + 1 → (found : Option Refusal)
+      → (made : Option Effect) → LeaveSeats c seat v made → Performed (decide seat r found made)
       → MatchBool (code_of reply.status == 200) (Accepts seat r.number reply s mid) (mid ≡ s)
-  judged r made next same (Some reason) e =
+  judged r next (Some reason) made leave e =
       at_refused reply reason _ _ (ap (λ (p : Answer × State). p.0) e)
       (ap (λ (p : Answer × State). p.1) e)
-  judged r made next same None e =
-      let row : SeatState = kept_of seat r made.0 in
+  judged r next None None leave e =
+      at_refused reply Unkept _ _ (ap (λ (p : Answer × State). p.0) e)
+      (ap (λ (p : Answer × State). p.1) e)
+  judged r next None (Some made) leave e =
+      let row : SeatState = kept_of seat r made.body in
       let seats : mid.seats ≡ placed own_seat_cmp row s.seats =
-      ap (λ (p : Answer × State). p.1.seats) e ∙ ap (placed own_seat_cmp row) same in
-      at_accepted reply made.0 _ _ (ap (λ (p : Answer × State). p.0) e) (record {
+      ap (λ (p : Answer × State). p.1.seats) e ∙ seats_after made.puts row s leave in
+      at_accepted reply made.body _ _ (ap (λ (p : Answer × State). p.0) e) (record {
         row = row;
         there = ap (find (λ q. bytes_eq seat q.name)) seats ∙ row_found row s.seats;
         last = refl;
@@ -262,9 +268,9 @@ module _ (c : Section) (seat : List ℕ) (s mid : State) (reply : Answer) where
             ∙ row_other row other differs s.seats;
       })
 
-  turned : (r : Request) (change : Changing) (v : Turn)
-      → turn (seat_named seat s) r.number r.digest ≡ v
-      → ◌≡◌ {A = Answer × State} (reply, mid) (own_turn c seat r s change v)
+  turned : (r : Request) (change : Changing) (turns : Turn)
+      → turn (seat_named seat s) r.number r.digest ≡ turns
+      → Performed (respond_in_turn c seat v r change turns)
       → MatchBool (code_of reply.status == 200) (Accepts seat r.number reply s mid) (mid ≡ s)
   turned r change (Repeats body) is e =
       let kept = turn_repeats (seat_named seat s) r.number r.digest body is in
@@ -284,11 +290,10 @@ module _ (c : Section) (seat : List ℕ) (s mid : State) (reply : Answer) where
       at_refused reply (WrongNumber expected) _ _ (ap (λ (p : Answer × State). p.0) e)
       (ap (λ (p : Answer × State). p.1) e)
   turned r change Next is e =
-      judged r (own_change c seat s change) (turn_next (seat_named seat s) r.number r.digest is)
-      (seats_kept c seat s change) (lowest (own_refusals c s change)) e
+      judged r (turn_next (seat_named seat s) r.number r.digest is)
+      (lowest (refusals c v change)) (effect c seat v change) (effect_leaves c seat v change) e
 
-  on_command : (r : Request) (command : Command)
-      → ◌≡◌ {A = Answer × State} (reply, mid) (own_serves c seat r s command)
+  on_command : (r : Request) (command : Command) → Performed (respond_to c seat v r command)
       → MatchBool (is_change command && code_of reply.status == 200)
       (Accepts seat r.number reply s mid) (mid ≡ s)
   on_command r (Show asked) e = ap (λ (p : Answer × State). p.1) e

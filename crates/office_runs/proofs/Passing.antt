@@ -9,11 +9,11 @@ use Rattle.office_commands.specs.declared.refusal.Refusal.TheVariants.{Unkept}
 use Rattle.office_commands.specs.Replies.{refusal}
 use Rattle.office_rules.proofs.Ties.{same_text}
 use Rattle.office_laws.specs.Grows.{Grows}
-use Rattle.office_laws.specs.Solo.{State}
+use Rattle.office_laws.specs.SoloMachine.{State}
 use Rattle.office_laws.specs.Sound.{IsSound}
 use Rattle.office_laws.specs.View.{view}
 use Rattle.office_laws.proofs.Growing.{grows_itself}
-use Rattle.office_laws.proofs.Laws.{Obeys, step_obeys}
+use Rattle.office_laws.proofs.Obeying.{Obeys, step_obeys}
 use Rattle.office_runs.specs.Exchanges.{Exchange, Wanted, asks, reports, refused, Meets, Passes, reported}
 use Rattle.office_runs.specs.Growth.{CanAsk, IsSeat}
 use Rattle.office_runs.specs.Alone.{alone, alone_on, is_own}
@@ -45,7 +45,7 @@ module _ (site : Owners) (t : Tables) (sound : IsSound site t) (apart : AreApart
   met : (w : Wanted) → CanAsk w → Meets x.0 w t x.1 mid
       → Obeys site x.0.section.name t x.1 mid (alone_on x.0 (view x.0.section.name t) w)
   met (asks r) can meets =
-      step_obeys sound apart x.0.section seat.section x.0.seat r x.1 mid can seat.seat meets
+      step_obeys sound x.0.section x.0.seat apart seat.section r x.1 mid can seat.seat meets
   met reports can meets =
       tells sound x.0.section.name _ x.1 mid
       (meets.0 ∙ ap reported (report_own sound x.0.section.name)) meets.1

@@ -3,7 +3,7 @@ use Rattle.std.proofs.Common.{◌≡◌, ◌∙◌, ℕ, true, false, cond, List
 use Rattle.site_core.specs.Owners.{Owners}
 use Rattle.office_tables.specs.Tables.{Tables}
 use Rattle.office_laws.specs.Grows.{Grows}
-use Rattle.office_laws.specs.Solo.{State}
+use Rattle.office_laws.specs.SoloMachine.{State}
 use Rattle.office_laws.specs.Sound.{IsSound}
 use Rattle.office_laws.specs.View.{view}
 use Rattle.office_laws.proofs.Growing.{grows_both, grows_itself}

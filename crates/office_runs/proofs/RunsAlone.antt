@@ -2,7 +2,7 @@
 use Rattle.std.proofs.Common.{◌≡◌, ◌∙◌, List, [], ◌∷◌, refl, ap}
 use Rattle.http_replies.specs.Replies.{Answer}
 use Rattle.http_replies.specs.Runs.{Machine, Runs}
-use Rattle.office_laws.specs.Solo.{State}
+use Rattle.office_laws.specs.SoloMachine.{State}
 use Rattle.office_runs.specs.Exchanges.{Call, Exchange, calls_of, replies_of}
 use Rattle.office_runs.specs.Alone.{alone, own_replies, own_state}
 

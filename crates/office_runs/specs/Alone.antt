@@ -3,7 +3,7 @@ use Rattle.std.specs.Prelude.{◌≡◌, ℕ, Bool, not, ◌&&◌, bytes_eq, Lis
 use Rattle.http_replies.specs.Replies.{Answer, is_unavailable}
 use Rattle.office_tables.specs.Tables.{Tables}
 use Rattle.office_commands.specs.Replies.{refusal}
-use Rattle.office_laws.specs.Solo.{State, has_given, solo}
+use Rattle.office_laws.specs.SoloMachine.{State, has_given, solo}
 use Rattle.office_laws.specs.View.{view}
 use Rattle.yield_report.specs.Texts.{order_report_text}
 use Rattle.office_runs.specs.Exchanges.{Call, Exchange, Wanted, asks, reports, refused, calls_of, replies_of, reported}

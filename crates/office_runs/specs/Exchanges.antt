@@ -11,7 +11,7 @@ use Rattle.office_commands.specs.declared.command.Request.{Request}
 use Rattle.office_commands.specs.declared.refusal.Refusal.{Refusal}
 use Rattle.office_commands.specs.declared.refusal.Refusal.TheVariants.{Unkept}
 use Rattle.office_commands.specs.Replies.{refusal}
-use Rattle.office_rules.specs.Office.{Step}
+use Rattle.office_rules.specs.OfficeMachine.{Step}
 
 -- what a seat asks for: a request of the office; the report of its customer's orders; or what is refused as it came, whatever the tables are
 pub data Wanted : Type 0 where

@@ -12,9 +12,9 @@ use Rattle.office_commands.specs.declared.command.Command.{Command}
 use Rattle.office_commands.specs.declared.command.Command.TheVariants.{Change}
 use Rattle.office_commands.specs.declared.command.Change.TheVariants.{Identify}
 use Rattle.office_commands.specs.declared.new_identity.NewIdentity.{NewIdentity}
-use Rattle.office_rules.specs.EndRules.{row_of}
+use Rattle.office_rules.specs.Identity.{row_of}
 use Rattle.office_laws.specs.Fresh.{AreApart, IsNew, addresses_of}
-use Rattle.office_laws.specs.Solo.{seat_named}
+use Rattle.office_laws.specs.SoloMachine.{seat_named}
 use Rattle.office_laws.specs.View.{view}
 use Rattle.office_runs.specs.Exchanges.{Exchange, Wanted, asks}
 use Rattle.office_runs.specs.Once.{number_of, once}

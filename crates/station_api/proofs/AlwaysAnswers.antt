@@ -15,7 +15,7 @@ use Rattle.office_commands.specs.declared.refusal.Refusal.TheVariants.{UnknownTo
 use Rattle.office_commands.specs.Replies.{refusal}
 use Rattle.office_runs.proofs.Served.{step_is_served}
 use Rattle.office_laws.specs.Sound.{IsSound}
-use Rattle.office_laws.proofs.Steps.{step_exists}
+use Rattle.office_laws.proofs.Obeying.{step_always}
 use Rattle.yield_report.specs.Reports.{order_report_in, site_report_in}
 use Rattle.station_api.specs.Machine.{AnswersAny, AnswersAsked, Asks, StationAnswers, caller_at}
 use Rattle.office_runs.specs.Exchanges.{reported}
@@ -42,7 +42,7 @@ module _ (site : SiteValue) (t : Tables) (sound : IsSound (owners_of site) t) wh
   seat_answers : (caller : SeatCaller) (wanted : Result Parsed Refusal) → IsWithin of_seat wanted → HasAnswer site (Seat caller) t wanted
   seat_answers caller (Err reason) within = told (Seat caller) (Err reason) (refusal reason) within (refl, refl)
   seat_answers caller (Ok (Office request)) within =
-      let step = step_exists sound (section_at site caller) (seat_at site caller) request in
+      let step = step_always sound (section_at site caller) (seat_at site caller) request in
       let served = step_is_served (section_at site caller) (seat_at site caller) t request step.0 step.1 step.2 in
       (step.0, step.1, answers site (Seat caller) (Ok (Office request)) t step.0 step.1 served step.2, served)
   seat_answers caller (Ok Report) within = told (Seat caller) (Ok Report) (reported (order_report_in (section_at site caller).name t)) refl (refl, refl)

@@ -7,7 +7,7 @@ use Rattle.http_replies.specs.declared.Reply.{Reply}
 use Rattle.site_core.specs.Caller.{section_at, seat_at}
 use Rattle.site_core.specs.Owners.{owners_of}
 use Rattle.office_tables.specs.Tables.{Tables}
-use Rattle.office_rules.specs.Office.{Step}
+use Rattle.office_rules.specs.OfficeMachine.{Step}
 use Rattle.office_runs.specs.Exchanges.{Exchange}
 use Rattle.office_runs.proofs.Leaving.{leaves_more, leaves_none}
 use Rattle.office_runs.proofs.Seats.{run_more, seats_joined_more}

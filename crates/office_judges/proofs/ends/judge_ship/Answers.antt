@@ -1,9 +1,9 @@
 -- Why `ends::judge_ship` meets its contract, where that has to be said.
 use Rattle.std.proofs.Common.{◌≡◌, ◌∙◌, true, Some, None, refl, sym, rules}
-use Rattle.office_rules.specs.EndRules.{may_be_shipped, ship_refusals, ships}
-use Rattle.office_rules.specs.Rules.{lowest}
+use Rattle.office_rules.specs.Ends.{may_be_shipped, ship_refusals, ships}
+use Rattle.office_rules.specs.Lowest.{lowest}
 use Rattle.office_judges.specs.Stepping.{FindsPlaced, IsAccepted}
-use Rattle.office_judges.proofs.Accepting.{step_accepted}
+use Rattle.office_judges.proofs.Accepting.{step_judged}
 use Rattle.office_judges.proofs.ends.judge_ship.Goals as goal
 
 pub returns : goal.returns
@@ -16,12 +16,15 @@ returns g c = record {
       let chip = c.args.chip.now in
       let t = g.K.Keep.tables c.args.keep.now in
       let p = c.in-Some.found in
+      let a = c.in_ok-accepted.accepted in
       let before = c.accept_end.ensures.reads.was_open is in
-      let found : FindsPlaced s chip t (Some p) = rw c.in-Some.is at (c.in_ok-found.ensures.says before) in
-      let may : may_be_shipped p.device.state ≡ true = sym c.may_be_shipped.ensures ∙ c.if-not-may_be_shipped.false in
+      let found : FindsPlaced s chip t (Some p) =
+      rw c.in-Some.is at (c.in_ok-found.ensures.says before) in
+      let may : may_be_shipped p.device.state ≡ true =
+      sym c.may_be_shipped.ensures ∙ c.if-not-may_be_shipped.false in
       let free : lowest (ship_refusals p.map p.device) ≡ None = rw may refl in
-      let accepted : IsAccepted s seat t (ships p.map p.device).0 (ships p.map p.device).1 c.in_ok-accepted.accepted =
-      rw (c.find_placed.ensures.reads.same before, c.shipped-step.ensures) at (c.in_ok-accepted.ensures.says is) in
-      let made = step_accepted s seat t chip p ships c.in_ok-accepted.accepted found refl refl refl accepted in
-      (rw found.0 free, made.0, made.1);
+      let accepted : IsAccepted s seat t (ships p.map p.device).0 (ships p.map p.device).1 a =
+      rw (c.find_placed.ensures.reads.same before, c.shipped-step.ensures)
+      at (c.in_ok-accepted.ensures.says is) in
+      step_judged s seat t ships chip p found refl refl refl ship_refusals a free accepted;
 }

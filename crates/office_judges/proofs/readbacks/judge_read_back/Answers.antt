@@ -1,11 +1,11 @@
 -- Why `readbacks::judge_read_back` meets its contract, where that has to be said.
 use Rattle.std.proofs.Common.{◌≡◌, ◌∙◌, Ok, Some, None, refl, sym, rules}
 use Rattle.fuse_redaction.specs.Redaction.{redacted}
-use Rattle.office_rules.specs.Rules.{lowest, unless_refused}
-use Rattle.office_rules.specs.StepRules.{read_refusals, reads}
+use Rattle.office_rules.specs.Lowest.{lowest, unless_refused}
+use Rattle.office_rules.specs.ReadBack.{read_refusals, reads}
 use Rattle.office_rules.proofs.Refusing.{made_of, refused_by, refused_by_none}
 use Rattle.office_judges.specs.Stepping.{FindsPlaced, IsAccepted}
-use Rattle.office_judges.proofs.Accepting.{step_accepted}
+use Rattle.office_judges.proofs.Accepting.{placed_seen, step_judged}
 use Rattle.office_judges.proofs.readbacks.judge_read_back.Goals as goal
 
 pub returns-in-Err : goal.returns-in-Err
@@ -13,11 +13,13 @@ returns-in-Err g c = record {
   reads = search rules;
   stays_open = search rules;
   says = λ is.
+      let s = c.args.customer.now in
+      let t = g.K.Keep.tables c.args.keep.now in
       let p = c.in-Some.found in
-      let found : FindsPlaced c.args.customer.now c.args.read.now.chip (g.K.Keep.tables c.args.keep.now) (Some p) =
+      let found : FindsPlaced s c.args.read.now.chip t (Some p) =
       rw c.in-Some.is at (c.in_ok-found.ensures.says is) in
       let refused = refused_by _ _ _ (sym c.in-Err.is ∙ c.judge_words.ensures) in
-      rw found.0 refused;
+      rw (placed_seen s c.args.seat.now t c.args.read.now.chip p found) refused;
 }
 
 pub returns : goal.returns
@@ -31,12 +33,17 @@ returns g c = record {
       let t = g.K.Keep.tables c.args.keep.now in
       let p = c.in-Some.found in
       let before = c.accept_step.ensures.reads.was_open is in
-      let found : FindsPlaced s c.args.read.now.chip t (Some p) = rw c.in-Some.is at (c.in_ok-found.ensures.says before) in
-      let judged : Ok c.in-Ok.readback ≡ unless_refused (lowest (read_refusals words p.map p.device)) (redacted p.map words) =
+      let a = c.in_ok-accepted.accepted in
+      let found : FindsPlaced s c.args.read.now.chip t (Some p) =
+      rw c.in-Some.is at (c.in_ok-found.ensures.says before) in
+      let judged : Ok c.in-Ok.readback
+      ≡ unless_refused (lowest (read_refusals words p.map p.device)) (redacted p.map words) =
       sym c.in-Ok.is ∙ c.judge_words.ensures in
-      let free : lowest (read_refusals words p.map p.device) ≡ None = refused_by_none _ _ _ judged in
+      let free : lowest (read_refusals words p.map p.device) ≡ None =
+      refused_by_none _ _ _ judged in
       let shown : c.in-Ok.readback ≡ redacted p.map words = made_of _ _ _ judged in
-      let accepted : IsAccepted s seat t (reads words p.map p.device).0 (reads words p.map p.device).1 c.in_ok-accepted.accepted =
+      let accepted : IsAccepted s seat t (reads words p.map p.device).0
+      (reads words p.map p.device).1 a =
       rw (
         c.find_placed.ensures.reads.same before,
         c.in_ok-body.ensures,
@@ -46,6 +53,6 @@ returns g c = record {
         c.read_step-step.ensures.verdict,
         shown,
       ) at (c.in_ok-accepted.ensures.says is) in
-      let made = step_accepted s seat t c.args.read.now.chip p (reads words) c.in_ok-accepted.accepted found refl refl refl accepted in
-      (rw found.0 free, made.0, made.1);
+      step_judged s seat t (reads words) c.args.read.now.chip p found refl refl refl
+      (read_refusals words) a free accepted;
 }

@@ -1,10 +1,10 @@
 -- Why `refusals::lowest_number_is_answered` meets its contract, where that has to be said.
-use Rattle.office_rules.specs.Commands.{refusals}
+use Rattle.office_rules.specs.Machine.{refusals}
 use Rattle.office_laws.proofs.Lowest.{above, lowest_of_ascending, refusals_ascend}
 use Rattle.office_laws.proofs.refusals.lowest_number_is_answered.Goals as goal
 
 pub returns-clause-lowest : goal.returns-clause-lowest
-returns-clause-lowest c = λ s t command r e. lowest_of_ascending 12 (refusals s t command) r (refusals_ascend s t command) e
+returns-clause-lowest c = λ s v command r e. lowest_of_ascending 12 (refusals s v command) r (refusals_ascend s v command) e
 
 pub returns-clause-after_retry : goal.returns-clause-after_retry
-returns-clause-after_retry c = λ s t command. above 12 (refusals s t command) (refusals_ascend s t command)
+returns-clause-after_retry c = λ s v command. above 12 (refusals s v command) (refusals_ascend s v command)

@@ -6,7 +6,7 @@ use Rattle.site_core.specs.Section.{Section}
 use Rattle.site_core.specs.declared.site.Caller.TheVariants.{Seat, Manager}
 use Rattle.yield_report.specs.Reports.{IsOrderReport, IsSiteReport, order_report_in, site_report_in}
 use Rattle.office_tables.specs.Tables.{Tables}
-use Rattle.office_rules.specs.Office.{Step}
+use Rattle.office_rules.specs.OfficeMachine.{Step}
 use Rattle.office_runs.specs.Exchanges.{Exchange}
 use Rattle.office_runs.proofs.Leaving.{leaves_more, leaves_none}
 use Rattle.office_core.proofs.Settled.{or_then}

@@ -1,0 +1,24 @@
+-- Why `office::show` meets its contract, where that has to be said.
+use Rattle.std.proofs.Common.{rules}
+use Rattle.office_core.proofs.office.show.Goals as goal
+
+pub returns-in-Order : goal.returns-in-Order
+returns-in-Order g c = record {
+  reads = search rules;
+  stays_open = search rules;
+  says = λ is. rw c.in-Order.is (c.show_order.ensures.says is);
+}
+
+pub returns-in-Device : goal.returns-in-Device
+returns-in-Device g c = record {
+  reads = search rules;
+  stays_open = search rules;
+  says = λ is. rw c.in-Device.is (c.show_device.ensures.says is);
+}
+
+pub returns-in-Ledger : goal.returns-in-Ledger
+returns-in-Ledger g c = record {
+  reads = search rules;
+  stays_open = search rules;
+  says = λ is. rw c.in-Ledger.is (c.show_ledger.ensures.says is);
+}

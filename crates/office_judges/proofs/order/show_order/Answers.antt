@@ -1,0 +1,28 @@
+-- Why `order::show_order` meets its contract, where that has to be said.
+use Rattle.std.proofs.Common.{◌≡◌, ◌∙◌, Some, sym, ap, rules}
+use Rattle.std.specs.Prelude.{string_bytes}
+use Rattle.office_tables.specs.Tables.{Tables, order_at}
+use Rattle.office_commands.specs.Replies.{acceptance}
+use Rattle.office_rules.specs.OfficeMachine.{next_of}
+use Rattle.office_rules.specs.Order.{body_with}
+use Rattle.office_judges.proofs.Judged.{order_shown}
+use Rattle.office_judges.proofs.order.show_order.Goals as goal
+
+pub returns : goal.returns
+returns g c = record {
+  reads = search rules;
+  stays_open = search rules;
+  says = λ is seat.
+      let s = c.args.customer.now in
+      let t = g.K.Keep.tables c.args.keep.now in
+      let o = c.in-Some.order in
+      let before = c.body_with_next.ensures.reads.was_open is in
+      let there : order_at s.name c.args.name.now t ≡ Some o =
+      sym (rw c.name.ensures at (c.in_ok-order.ensures.says before)) ∙ c.in-Some.is in
+      let body = c.in_ok-body_with_next.field-0 in
+      let shown : string_bytes body ≡ body_with o.row (next_of t o.row) =
+      c.in_ok-body_with_next.ensures.says is
+      ∙ ap (λ (u : Tables). body_with o.row (next_of u o.row))
+      (c.order.ensures.reads.same before) in
+      rw there (c.accepted.ensures ∙ ap acceptance shown ∙ order_shown s seat t o);
+}

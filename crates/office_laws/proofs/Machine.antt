@@ -1,0 +1,140 @@
+-- A step acts on the customer's view as the customer's own machine does, and leaves each other
+-- view.
+use Rattle.std.proofs.Common.{◌≡◌, ℕ, false, List, [], ◌∷◌, ◌++◌, map, Option, Some, None, refl, sym, ap, ◌∙◌, subst}
+use Rattle.std.specs.Prelude.{bytes_eq, is_some, if◌then◌else◌, option_map, Result, Ok, Err}
+use Rattle.std.specs.List.{AllByRecursion}
+use Rattle.http_replies.specs.Replies.{Answer}
+use Rattle.site_core.specs.Section.{Section}
+use Rattle.site_core.specs.Owners.{IsSection, Owners}
+use Rattle.import_rows.specs.declared.rows.ImportRow.{ImportRow}
+use Rattle.office_tables.specs.Tables.{Tables}
+use Rattle.office_commands.specs.declared.command.Change.{Change as Changing}
+use Rattle.office_commands.specs.declared.command.Change.TheVariants.{MakeOrder, ImportMap, RegisterDevice, PlanDevice, ReadBack, Identify, Ship, Scrap, Import}
+use Rattle.office_commands.specs.declared.command.Command.{Command}
+use Rattle.office_commands.specs.declared.command.Command.TheVariants.{Change, Show}
+use Rattle.office_commands.specs.declared.command.Request.{Request}
+use Rattle.office_commands.specs.declared.refusal.Refusal.{Refusal}
+use Rattle.office_rules.specs.Effect.{StepRule, Effect, Put, map_put, record_put, step_effect}
+use Rattle.office_rules.specs.Ends.{scraps, ships}
+use Rattle.office_rules.specs.Import.{Imported, imported, imported_row, rows_effect}
+use Rattle.office_rules.specs.Lowest.{lowest}
+use Rattle.office_rules.specs.Machine.{Response, decide, effect, refusals, respond_in_turn, respond_to, response}
+use Rattle.office_rules.specs.Map.{bad_map, map_fault, text_refusals}
+use Rattle.office_rules.specs.OfficeMachine.{Step, office_sight}
+use Rattle.office_rules.specs.Plan.{plans}
+use Rattle.office_rules.specs.ReadBack.{reads}
+use Rattle.office_rules.specs.Retry.{turn}
+use Rattle.office_rules.specs.Sight.{GivenIn, Sight, map_in_sight}
+use Rattle.office_rules.specs.declared.turn.Turn.{Turn}
+use Rattle.office_rules.specs.declared.turn.Turn.TheVariants.{Repeats, Differs, Next, Skips}
+use Rattle.office_laws.specs.SoloMachine.{after_response, solo_step}
+use Rattle.office_laws.specs.Sound.{IsSound}
+use Rattle.office_laws.specs.View.{view}
+use Rattle.office_laws.proofs.Identifying.{identity_found}
+use Rattle.office_laws.proofs.Looking.{gave, issuer_found, some_is}
+use Rattle.office_laws.proofs.Readings.{issuer_owner, order_issuer}
+use Rattle.office_laws.proofs.Seen.{seen_own}
+use Rattle.office_laws.proofs.Tidy.{IsDue, puts_act, sound_is_tidy}
+use Rattle.office_laws.proofs.Unread.{all_with}
+
+module _ {owners : Owners} {t : Tables} (sound : IsSound owners t) (s : Section)
+    (section : IsSection owners s) (seat : List ℕ) (mine : owners.seat seat ≡ Some s.name) where
+  abbrev v : Sight
+  v = office_sight s seat t
+
+  abbrev AreDue : List Put → Type 0
+  AreDue ps = AllByRecursion (IsDue owners s.name) ps
+
+  these : {made o : Effect} → Some made ≡ Some o → AreDue made.puts → AreDue o.puts
+  these {made} {o} e due = subst (λ (x : Effect). AreDue x.puts) (some_is e) due
+
+  -- an issuer that is looked up is the customer's
+  issuer_mine : (issuer : List ℕ) (given : GivenIn) → v.issuer issuer ≡ Some given
+      → owners.issuer issuer ≡ Some s.name
+  issuer_mine issuer given e = issuer_owner s section issuer (issuer_found s t issuer given e).0
+
+  steps_due : (does : StepRule) (chip : List ℕ) (o : Effect) → step_effect seat v does chip ≡ Some o
+      → AreDue o.puts
+  steps_due does chip o e =
+      let d = gave (v.device chip) _ o e in
+      let m = gave (map_in_sight v d.0.map) _ o d.2 in
+      these m.2 (tt, tt)
+
+  text_due : (text : List ℕ) (found : Option (List ℕ)) (fault : Option ℕ) → map_fault text ≡ fault
+      → lowest (bad_map fault ++ text_refusals text found v.maps) ≡ None
+      → AreDue (if is_some found then [] else map_put text ∷ [])
+  text_due text (Some other) fault e free = tt
+  text_due text None None e free = (e, tt)
+  text_due text None (Some fault) e free = cc
+
+  rows_due : (issuer : List ℕ) → owners.issuer issuer ≡ Some s.name → (rows : List ImportRow)
+      → AreDue (map (λ r. record_put (imported_row issuer r)) rows)
+  rows_due issuer mine [] = tt
+  rows_due issuer mine (r ∷ rs) = (mine, rows_due issuer mine rs)
+
+  adds_due : (issuer : List ℕ) → owners.issuer issuer ≡ Some s.name
+      → (made : Result Imported (List ℕ)) (o : Effect) → rows_effect issuer made ≡ Some o
+      → AreDue o.puts
+  adds_due issuer mine (Err serial) o e = cc
+  adds_due issuer mine (Ok i) o e = these e (rows_due issuer mine i.added)
+
+  -- the puts of a command are due
+  outcome_due : (c : Changing) (o : Effect) → lowest (refusals s v c) ≡ None
+      → effect s seat v c ≡ Some o → AreDue o.puts
+  outcome_due (MakeOrder n) o free e = these (gave (v.issuer n.issuer) _ o e).2 (refl, tt)
+  outcome_due (ImportMap text) o free e =
+      these e (text_due text (v.text _) (map_fault text) refl free)
+  outcome_due (RegisterDevice n) o free e = these (gave (map_in_sight v n.map) _ o e).2 (tt, tt)
+  outcome_due (PlanDevice p) o free e = steps_due (plans p.wishes) p.chip o e
+  outcome_due (ReadBack r) o free e = steps_due (reads r.blocks) r.chip o e
+  outcome_due (Identify n) o free e =
+      let f = identity_found s seat t n o e in
+      subst (λ (x : Effect). AreDue x.puts) f.is
+      (tt, (order_issuer sound s.name f.old.row.order f.order f.in_order, tt))
+  outcome_due (Ship chip) o free e = steps_due ships chip o e
+  outcome_due (Scrap chip) o free e = steps_due scraps chip o e
+  outcome_due (Import n) o free e =
+      let rows = gave n.rows _ o e in
+      let given = gave (v.issuer n.issuer) _ o rows.2 in
+      adds_due n.issuer (issuer_mine n.issuer given.0 given.1) (imported given.0 rows.0) o given.2
+
+  module _ (r : Request) where
+    none_due : {made p : Response} → Some made ≡ Some p → made.puts ≡ [] → AreDue p.puts
+    none_due {made} {p} e none =
+        subst (λ (x : Response). AreDue x.puts) (some_is e) (subst AreDue (sym none) tt)
+
+    judged_due : (c : Changing) (p : Response) (found : Option Refusal)
+        → lowest (refusals s v c) ≡ found → (made : Option Effect) → effect s seat v c ≡ made
+        → decide seat r found made ≡ Some p → AreDue p.puts
+    judged_due c p (Some reason) free made is e = none_due e refl
+    judged_due c p None free None is e = cc
+    judged_due c p None free (Some o) is e =
+        subst (λ (x : Response). AreDue x.puts) (some_is e)
+        (all_with (IsDue owners s.name) o.puts _ (outcome_due c o free is) mine)
+
+    turned_due : (c : Changing) (p : Response) (turns : Turn)
+        → respond_in_turn s seat v r c turns ≡ Some p → AreDue p.puts
+    turned_due c p (Repeats body) e = none_due e refl
+    turned_due c p Differs e = none_due e refl
+    turned_due c p (Skips expected) e = none_due e refl
+    turned_due c p Next e = judged_due c p (lowest (refusals s v c)) refl (effect s seat v c) refl e
+
+    served_due : (command : Command) (p : Response) → respond_to s seat v r command ≡ Some p
+        → AreDue p.puts
+    served_due (Show asked) p e = none_due e refl
+    served_due (Change c) p e = turned_due c p (turn v.seat r.number r.digest) e
+
+    -- a step is the own machine's on the customer's view, and none on another's
+    pub step_own : (reply : Answer) (t2 : Tables) → Step s seat t r reply t2
+        → (solo_step s seat (view s.name t) r ≡ Some (reply, view s.name t2))
+        × ((d : List ℕ) → bytes_eq d s.name ≡ false → view d t2 ≡ view d t)
+    step_own reply t2 (puts, is, change) =
+        let acts =
+        puts_act s section (sound_is_tidy sound) puts
+        (served_due r.command (record { reply = reply; puts = puts }) is) t2 change in (
+          (λ i. option_map (after_response (view s.name t))
+              (response s seat (sym (seen_own sound s section seat mine) i) r))
+              ∙ (ap (option_map (after_response (view s.name t))) is
+              ∙ (λ i. Some (reply, sym acts.own i))),
+          acts.other,
+        )

@@ -1,0 +1,73 @@
+-- The import of a fuse map keeps the tables sound, and forgets nothing.
+use Rattle.std.proofs.Common.{◌≡◌, ◌∙◌, ◌++◌, ℕ, Bool, List, [], ◌∷◌, Option, Some, None, refl, sym, ap}
+use Rattle.std.specs.Prelude.{if◌then◌else◌, is_some, option_map}
+use Rattle.sha2.specs.Sha256.{sha256}
+use Rattle.site_core.specs.Owners.{IsSection, Owners}
+use Rattle.site_core.specs.Section.{Section}
+use Rattle.office_tables.specs.declared.rows.Link.{Link}
+use Rattle.office_tables.specs.declared.rows.MapRow.{MapRow}
+use Rattle.office_tables.specs.declared.rows.Owned.{Owned}
+use Rattle.office_tables.specs.Tables.{Tables, link_at, map_at, map_with, with_link, with_map}
+use Rattle.office_commands.specs.declared.refusal.Refusal.{Refusal}
+use Rattle.office_rules.specs.Effect.{map_put}
+use Rattle.office_rules.specs.Lowest.{lowest}
+use Rattle.office_rules.specs.Map.{bad_map, map_effect, map_fault, map_refusals, text_refusals}
+use Rattle.office_rules.specs.OfficeMachine.{Links, MakesPuts, its, office_sight, text_in}
+use Rattle.office_rules.specs.Sight.{Sight}
+use Rattle.office_laws.specs.Grows.{Grows}
+use Rattle.office_laws.specs.Sound.{IsLinked, IsSound}
+use Rattle.office_laws.proofs.Growing.{grows_itself, link_grows, map_grows}
+use Rattle.office_laws.proofs.Lasting.{Lasts, lasts_itself, lasts_named}
+use Rattle.office_laws.proofs.MapLaws.{link_sound, map_sound}
+use Rattle.office_laws.proofs.MapRows.{map_of_text, new_map_found}
+
+-- a text that nothing refuses has no fault
+no_fault_of : (text : List ℕ) (fault : Option ℕ) (later : List (Bool × Refusal))
+    → map_fault text ≡ fault → lowest (bad_map fault ++ later) ≡ None → map_fault text ≡ None
+no_fault_of text None later e free = e
+no_fault_of text (Some fault) later e free = cc
+
+module _ {owners : Owners} {t : Tables} (sound : IsSound owners t) (s : Section)
+    (section : IsSection owners s) where
+  -- a link to a map that is there, or was just made
+  link_kept : (text : List ℕ) (mapped : Tables) (l : Link) (m : MapRow) → IsSound owners mapped
+      → Grows t mapped → map_at l.map mapped ≡ Some m → l.digest ≡ sha256 text → text ≡ m.body
+      → map_fault text ≡ None → link_at s.name l.digest mapped ≡ None
+      → Lasts owners t (with_link (its s l) mapped)
+  link_kept text mapped l m sound_mapped grown there is_digest is_text no_fault none =
+      let linked : IsLinked mapped.maps (its s l) =
+      rw there (is_digest ∙ ap sha256 is_text, ap map_fault (sym is_text) ∙ no_fault) in
+      record {
+        sound = link_sound sound_mapped (its s l) section.customer linked none;
+        grows = link_grows t mapped (its s l) none grown;
+      }
+
+  links_kept : (text : List ℕ) (found : Option MapRow) (mid : Tables) → map_with text t ≡ found
+      → map_fault text ≡ None → link_at s.name (sha256 text) t ≡ None → Links s t text found mid
+      → Lasts owners t mid
+  links_kept text (Some m) mid e no_fault none is =
+      let at = map_of_text text t.maps m sound.maps.maps_in_order e in
+      lasts_named is (link_kept text t (record { digest = sha256 text; map = m.id }) m sound
+      (grows_itself t) at.0 refl at.1 no_fault none)
+  links_kept text None mid e no_fault none (id, fresh, is) =
+      let m : MapRow = record { id = id; body = text } in
+      lasts_named is (link_kept text (with_map m t) (record { digest = sha256 text; map = id }) m
+      (map_sound sound id text fresh e) (map_grows t id text fresh sound.maps.linked)
+      (new_map_found t id text fresh) refl refl no_fault none)
+
+  module _ (seat : List ℕ) where
+    abbrev v : Sight
+    v = office_sight s seat t
+
+    pub map_kept : (text : List ℕ) (mid : Tables) → lowest (map_refusals v text) ≡ None
+        → MakesPuts s (map_effect v text).puts t mid → Lasts owners t mid
+    map_kept text mid free puts = by (link_at s.name (sha256 text) t) refl puts
+      where
+        by : (found : Option (Owned Link)) → link_at s.name (sha256 text) t ≡ found
+            → MakesPuts s (if is_some (option_map (λ l. text_in (map_at l.row.map t)) found) then []
+            else map_put text ∷ []) t mid → Lasts owners t mid
+        by (Some l) there puts = lasts_named puts (lasts_itself sound)
+        by None there (next, put, last) =
+            let no_fault = no_fault_of text (map_fault text)
+            (text_refusals text (v.text (sha256 text)) v.maps) refl free in
+            lasts_named last (links_kept text (map_with text t) next refl no_fault there put)

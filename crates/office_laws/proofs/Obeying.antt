@@ -1,0 +1,52 @@
+-- A step acts on the customer's view as the customer's own machine does, leaves each other view,
+-- keeps the tables sound, and forgets nothing.
+use Rattle.std.proofs.Common.{◌≡◌, ℕ, false, List, Some, sym, ap}
+use Rattle.std.specs.Prelude.{bytes_eq}
+use Rattle.http_replies.specs.Replies.{Answer}
+use Rattle.site_core.specs.Owners.{AreApart, IsSection, Owners}
+use Rattle.site_core.specs.Section.{Section}
+use Rattle.office_tables.specs.Tables.{Tables}
+use Rattle.office_commands.specs.Asked.{IsAsked}
+use Rattle.office_commands.specs.declared.command.Request.{Request}
+use Rattle.office_commands.specs.declared.new_identity.NewIdentity.{NewIdentity}
+use Rattle.office_rules.specs.OfficeMachine.{Step, asks_identity}
+use Rattle.office_laws.specs.Fresh.{GivesAnew}
+use Rattle.office_laws.specs.Grows.{Grows}
+use Rattle.office_laws.specs.SoloMachine.{State, or_unkept, solo}
+use Rattle.office_laws.specs.Sound.{IsSound}
+use Rattle.office_laws.specs.View.{view}
+use Rattle.office_laws.proofs.Fresh.{gives_anew}
+use Rattle.office_laws.proofs.Machine.{step_own}
+use Rattle.office_laws.proofs.StepLasts.{step_lasts}
+use Rattle.office_laws.proofs.Steps.{step_exists}
+
+-- a reply and tables after it are those of the customer's own machine; another view stays
+pub record Obeys (owners : Owners) (c : List ℕ) (t : Tables) (reply : Answer) (t2 : Tables)
+    (said : Answer × State) : Type 0 where
+  pub sound : IsSound owners t2
+  pub grows : Grows t t2
+  pub own : (reply, view c t2) ≡ said
+  pub other : (d : List ℕ) → bytes_eq d c ≡ false → view d t2 ≡ view d t
+
+module _ {owners : Owners} {t : Tables} (sound : IsSound owners t) (s : Section) (seat : List ℕ) where
+  pub step_obeys : AreApart owners → IsSection owners s → (r : Request) (reply : Answer)
+      (t2 : Tables) → IsAsked r → owners.seat seat ≡ Some s.name → Step s seat t r reply t2
+      → Obeys owners s.name t reply t2 (solo s seat (view s.name t) r)
+  step_obeys apart section r reply t2 asked mine step =
+      let views = step_own sound s section seat mine r reply t2 step in
+      let lasts = step_lasts sound apart s section seat r mine t2 reply asked step in
+      record {
+        sound = lasts.sound;
+        grows = lasts.grows;
+        own = sym (ap (or_unkept (view s.name t)) views.0);
+        other = views.1;
+      }
+
+  pub step_anew : (number : ℕ) (digest : List ℕ) (i : NewIdentity) (reply : Answer) (t2 : Tables)
+      → IsSound owners t2 → Step s seat t (asks_identity number digest i) reply t2
+      → GivesAnew s seat number digest i t reply t2
+  step_anew number digest i reply t2 later step =
+      gives_anew s seat t i number digest reply t2 later step
+
+  pub step_always : (r : Request) → (reply : Answer) × (t2 : Tables) × Step s seat t r reply t2
+  step_always r = step_exists sound s seat r
