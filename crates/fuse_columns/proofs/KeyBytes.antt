@@ -14,71 +14,77 @@ use Rattle.fusemap_core.specs.Map.{Map}
 use Rattle.fuse_image.specs.Keys.{HoldsDigests, KeyTable, table_where}
 use Rattle.fuse_image.specs.Locks.{is_key_block}
 use Rattle.fuse_image.proofs.Tables.{get_within, get_past, table_where-same}
-use Rattle.fuse_redaction.specs.Redaction.{AreKeys}
-use Rattle.fuse_columns.specs.KeysColumns.{AreKeysOf, key_blocks, key_bytes, keys_column, key_of, key_in, keys_in}
+use Rattle.fuse_image.specs.Redaction.{AreKeys}
+use Rattle.fuse_columns.specs.KeysColumns.{AreKeysOf, key_blocks, key_bytes, keys_column, key_of_bytes, key_in_bytes, keys_in}
 use Rattle.fuse_columns.proofs.KeyFields.{key_blocks-key, key_blocks-plain, key_block_is}
 
 -- what 33 bytes stand for
-pub key_of-short : (bytes : List ℕ) → length bytes < 33 → key_of (take 33 bytes) ≡ None
-key_of-short [] low = refl
-key_of-short (first ∷ bytes) low =
+pub key_of_bytes-short : (bytes : List ℕ) → length bytes < 33 → key_of_bytes (take 33 bytes) ≡ None
+key_of_bytes-short [] low = refl
+key_of_bytes-short (first ∷ bytes) low =
     let size : length (take 32 bytes) ≢ 32 = λ e. omega (arith, e, low, ap length (take_all 32 bytes (omega (arith, low)))) in
     cond-false (first == 1 && length (take 32 bytes) == 32) (Some (take 32 bytes)) None
     (and_right (first == 1) (length (take 32 bytes) == 32) (ne_eqb (length (take 32 bytes)) 32 size))
 
-pub key_of-other : (bytes : List ℕ) → slice_index bytes 0 ≢ 1 → key_of (take 33 bytes) ≡ None
-key_of-other [] other = refl
-key_of-other (first ∷ bytes) other =
+pub key_of_bytes-other : (bytes : List ℕ) → slice_index bytes 0 ≢ 1 → key_of_bytes (take 33 bytes) ≡ None
+key_of_bytes-other [] other = refl
+key_of_bytes-other (first ∷ bytes) other =
     cond-false (first == 1 && length (take 32 bytes) == 32) (Some (take 32 bytes)) None
     (and_left (first == 1) (length (take 32 bytes) == 32) (ne_eqb first 1 other))
 
-pub key_of-some : (bytes : List ℕ) → 33 ≤ length bytes → slice_index bytes 0 ≡ 1 → key_of (take 33 bytes) ≡ Some (take 32 (drop 1 bytes))
-key_of-some [] long one = absurd (omega (arith, long))
-key_of-some (first ∷ bytes) long one =
+pub key_of_bytes-some : (bytes : List ℕ) → 33 ≤ length bytes → slice_index bytes 0 ≡ 1 → key_of_bytes (take 33 bytes) ≡ Some (take 32 (drop 1 bytes))
+key_of_bytes-some [] long one = absurd (omega (arith, long))
+key_of_bytes-some (first ∷ bytes) long one =
     cond-true (first == 1 && length (take 32 bytes) == 32) (Some (take 32 bytes)) None
     (and_from (first == 1) (length (take 32 bytes) == 32) (eq-eqb first 1 one)
     (eq-eqb (length (take 32 bytes)) 32 (length-take-le 32 bytes (omega (arith, long)))))
 
 -- one field more
-pub key_in-plain : (fields : List Field) (i : ℕ) (f : Field) (rest : List ℕ) (block : ℕ) → i < length fields → f ≡ get_or fields i f → f.key ≡ false
-    → key_in (key_blocks (drop i fields)) rest block ≡ key_in (key_blocks (drop (i + 1) fields)) rest block
-key_in-plain fields i f rest block low at plain =
+pub key_in_bytes-plain : (fields : List Field) (i : ℕ) (f : Field) (rest : List ℕ) (block : ℕ) → i < length fields → f ≡ get_or fields i f → f.key ≡ false
+    → key_in_bytes (key_blocks (drop i fields)) rest block ≡ key_in_bytes (key_blocks (drop (i + 1) fields)) rest block
+key_in_bytes-plain fields i f rest block low at plain =
     let next : suc i ≡ i + 1 = omega arith in
-    ap (λ fs. key_in (key_blocks fs) rest block) (drop-cons fields i f low ∙ ap (λ (g : Field). g ∷ drop (suc i) fields) (sym at))
-    ∙ (ap (λ bs. key_in bs rest block) (key_blocks-plain f (drop (suc i) fields) plain) ∙ ap (λ k. key_in (key_blocks (drop k fields)) rest block) next)
+    ap (λ fs. key_in_bytes (key_blocks fs) rest block) (drop-cons fields i f low ∙ ap (λ (g : Field). g ∷ drop (suc i) fields) (sym at))
+    ∙ (ap (λ bs. key_in_bytes bs rest block) (key_blocks-plain f (drop (suc i) fields) plain)
+    ∙ ap (λ k. key_in_bytes (key_blocks (drop k fields)) rest block) next)
 
 with_key : (fields : List Field) (i : ℕ) (f : Field) (rest : List ℕ) (block : ℕ) → i < length fields → f ≡ get_or fields i f → f.key ≡ true
-    → key_in (key_blocks (drop i fields)) rest block ≡ (if f.block == block then key_of (take 33 rest)
-    else key_in (key_blocks (drop (i + 1) fields)) (drop 33 rest) block)
+    → key_in_bytes (key_blocks (drop i fields)) rest block ≡ (if f.block == block then key_of_bytes (take 33 rest)
+    else key_in_bytes (key_blocks (drop (i + 1) fields)) (drop 33 rest) block)
 with_key fields i f rest block low at key =
     let next : suc i ≡ i + 1 = omega arith in
-    ap (λ fs. key_in (key_blocks fs) rest block) (drop-cons fields i f low ∙ ap (λ (g : Field). g ∷ drop (suc i) fields) (sym at))
-    ∙ (ap (λ bs. key_in bs rest block) (key_blocks-key f (drop (suc i) fields) key)
-    ∙ ap (λ k. if f.block == block then key_of (take 33 rest) else key_in (key_blocks (drop k fields)) (drop 33 rest) block) next)
+    ap (λ fs. key_in_bytes (key_blocks fs) rest block) (drop-cons fields i f low ∙ ap (λ (g : Field). g ∷ drop (suc i) fields) (sym at))
+    ∙ (ap (λ bs. key_in_bytes bs rest block) (key_blocks-key f (drop (suc i) fields) key)
+    ∙ ap (λ k. if f.block == block then key_of_bytes (take 33 rest) else key_in_bytes (key_blocks (drop k fields)) (drop 33 rest) block) next)
 
-pub key_in-here : (fields : List Field) (i : ℕ) (f : Field) (rest : List ℕ) (block : ℕ) → i < length fields → f ≡ get_or fields i f → f.key ≡ true
+pub key_in_bytes-here : (fields : List Field) (i : ℕ) (f : Field) (rest : List ℕ) (block : ℕ) → i < length fields → f ≡ get_or fields i f → f.key ≡ true
     → f.block ≡ block
-    → key_in (key_blocks (drop i fields)) rest block ≡ key_of (take 33 rest)
-key_in-here fields i f rest block low at key here =
+    → key_in_bytes (key_blocks (drop i fields)) rest block ≡ key_of_bytes (take 33 rest)
+key_in_bytes-here fields i f rest block low at key here =
     with_key fields i f rest block low at key
-    ∙ cond-true (f.block == block) (key_of (take 33 rest)) (key_in (key_blocks (drop (i + 1) fields)) (drop 33 rest) block) (eq-eqb f.block block here)
+    ∙ cond-true (f.block == block) (key_of_bytes (take 33 rest))
+    (key_in_bytes (key_blocks (drop (i + 1) fields)) (drop 33 rest) block)
+    (eq-eqb f.block block here)
 
-pub key_in-other : (fields : List Field) (i : ℕ) (f : Field) (rest : List ℕ) (block : ℕ) → i < length fields → f ≡ get_or fields i f → f.key ≡ true
+pub key_in_bytes-other : (fields : List Field) (i : ℕ) (f : Field) (rest : List ℕ) (block : ℕ) → i < length fields → f ≡ get_or fields i f → f.key ≡ true
     → f.block ≢ block
-    → key_in (key_blocks (drop i fields)) rest block ≡ key_in (key_blocks (drop (i + 1) fields)) (drop 33 rest) block
-key_in-other fields i f rest block low at key other =
+    → key_in_bytes (key_blocks (drop i fields)) rest block ≡ key_in_bytes (key_blocks (drop (i + 1) fields)) (drop 33 rest) block
+key_in_bytes-other fields i f rest block low at key other =
     with_key fields i f rest block low at key
-    ∙ cond-false (f.block == block) (key_of (take 33 rest)) (key_in (key_blocks (drop (i + 1) fields)) (drop 33 rest) block) (ne_eqb f.block block other)
+    ∙ cond-false (f.block == block) (key_of_bytes (take 33 rest))
+    (key_in_bytes (key_blocks (drop (i + 1) fields)) (drop 33 rest) block)
+    (ne_eqb f.block block other)
 
-pub key_in-none : (fields : List Field) (i : ℕ) (rest : List ℕ) (block : ℕ) → length fields ≤ i → key_in (key_blocks (drop i fields)) rest block ≡ None
-key_in-none fields i rest block past = ap (λ fs. key_in (key_blocks fs) rest block) (drop_of_length-le fields past)
+pub key_in_bytes-none : (fields : List Field) (i : ℕ) (rest : List ℕ) (block : ℕ)
+    → length fields ≤ i → key_in_bytes (key_blocks (drop i fields)) rest block ≡ None
+key_in_bytes-none fields i rest block past = ap (λ fs. key_in_bytes (key_blocks fs) rest block) (drop_of_length-le fields past)
 
 -- a key as bytes, and back
 length-key_bytes : (o : Option (List ℕ)) → IfSome o (λ digest. length digest ≡ 32) → length (key_bytes o) ≡ 33
 length-key_bytes None is = refl
 length-key_bytes (Some digest) is = ap suc is
 
-pub key_back : (o : Option (List ℕ)) → IfSome o (λ digest. length digest ≡ 32) → key_of (key_bytes o) ≡ o
+pub key_back : (o : Option (List ℕ)) → IfSome o (λ digest. length digest ≡ 32) → key_of_bytes (key_bytes o) ≡ o
 key_back None is = refl
 key_back (Some digest) is = cond-true (length digest == 32) (Some digest) None (eq-eqb (length digest) 32 is)
 
@@ -101,10 +107,10 @@ length-keys t (b ∷ blocks) are =
     )
 
 -- the key of a block comes back from the bytes of all, whatever follows them
-pub key_in-keys : (t : KeyTable) (blocks : List ℕ) (more : List ℕ) (block : ℕ) → HoldsDigests t
-    → key_in blocks (flat_map (λ b. key_bytes (map.get t b)) blocks ++ more) block ≡ (if list_any (λ c. c == block) blocks then map.get t block else None)
-key_in-keys t [] more block are = refl
-key_in-keys t (b ∷ blocks) more block are =
+pub key_in_bytes-keys : (t : KeyTable) (blocks : List ℕ) (more : List ℕ) (block : ℕ) → HoldsDigests t
+    → key_in_bytes blocks (flat_map (λ b. key_bytes (map.get t b)) blocks ++ more) block ≡ (if list_any (λ c. c == block) blocks then map.get t block else None)
+key_in_bytes-keys t [] more block are = refl
+key_in_bytes-keys t (b ∷ blocks) more block are =
     let first : List ℕ = key_bytes (map.get t b) in
     let others : List ℕ = flat_map (λ c. key_bytes (map.get t c)) blocks in
     let size : length first ≡ 33 = length-key_bytes (map.get t b) (are b) in
@@ -113,18 +119,18 @@ key_in-keys t (b ∷ blocks) more block are =
     ap (λ n. take n (first ++ (others ++ more))) (sym size) ∙ take-append_seam first (others ++ more) in
     let back : drop 33 (first ++ (others ++ more)) ≡ others ++ more =
     ap (λ n. drop n (first ++ (others ++ more))) (sym size) ∙ drop-append_seam first (others ++ more) in
-    let rest = key_in-keys t blocks more block are in
-    ap (λ bytes. key_in (b ∷ blocks) bytes block) split ∙ elim (cases_Bool (b == block)) as (λ _.
-    (if b == block then key_of (take 33 (first ++ (others ++ more))) else key_in blocks (drop 33 (first ++ (others ++ more))) block)
+    let rest = key_in_bytes-keys t blocks more block are in
+    ap (λ bytes. key_in_bytes (b ∷ blocks) bytes block) split ∙ elim (cases_Bool (b == block)) as (λ _.
+    (if b == block then key_of_bytes (take 33 (first ++ (others ++ more))) else key_in_bytes blocks (drop 33 (first ++ (others ++ more))) block)
     ≡ (if (b == block || list_any (λ c. c == block) blocks) then map.get t block else None)) [
       | inl here ↦
           cond-true (b == block) _ _ here
-          ∙ (ap key_of front ∙ (key_back (map.get t b) (are b) ∙ (ap (map.get t) (eqb-true b block here)
+          ∙ (ap key_of_bytes front ∙ (key_back (map.get t b) (are b) ∙ (ap (map.get t) (eqb-true b block here)
           ∙ sym (cond-true (b == block || list_any (λ c. c == block) blocks) (map.get t block) None
           (or_left (b == block) (list_any (λ c. c == block) blocks) here)))))
       | inr other ↦
           cond-false (b == block) _ _ other
-          ∙ (ap (λ bytes. key_in blocks bytes block) back ∙ (rest
+          ∙ (ap (λ bytes. key_in_bytes blocks bytes block) back ∙ (rest
           ∙ ap (λ e. if (e || list_any (λ c. c == block) blocks) then map.get t block else None) (sym other)))
     ]
 
@@ -136,7 +142,7 @@ HoldsDigests-table_where f are block = elim (cases_lt block 4) as (λ _. IfSome 
 ]
 
 -- a key that bytes stand for is one of a key field, and has 32 bytes
-digest_of_key : (bytes : List ℕ) → IfSome (key_of bytes) (λ digest. length digest ≡ 32)
+digest_of_key : (bytes : List ℕ) → IfSome (key_of_bytes bytes) (λ digest. length digest ≡ 32)
 digest_of_key [] = tt
 digest_of_key (first ∷ digest) =
     elim (cases_Bool (first == 1 && length digest == 32)) as (λ _.
@@ -147,22 +153,26 @@ digest_of_key (first ∷ digest) =
       | inr not_one ↦ rw (cond-false (first == 1 && length digest == 32) (Some digest) None not_one) tt
     ]
 
-digest_in_keys : (blocks bytes : List ℕ) (block : ℕ) → IfSome (key_in blocks bytes block) (λ digest. length digest ≡ 32)
+digest_in_keys : (blocks bytes : List ℕ) (block : ℕ) → IfSome (key_in_bytes blocks bytes block) (λ digest. length digest ≡ 32)
 digest_in_keys [] bytes block = tt
 digest_in_keys (b ∷ blocks) bytes block =
-    elim (cases_Bool (b == block)) as (λ _. IfSome (if b == block then key_of (take 33 bytes) else key_in blocks (drop 33 bytes) block) (λ d. length d ≡ 32)) [
-      | inl here ↦ rw (cond-true (b == block) (key_of (take 33 bytes)) (key_in blocks (drop 33 bytes) block) here) (digest_of_key (take 33 bytes))
+    elim (cases_Bool (b == block)) as (λ _.
+    IfSome (if b == block then key_of_bytes (take 33 bytes)
+    else key_in_bytes blocks (drop 33 bytes) block) (λ d. length d ≡ 32)) [
+      | inl here ↦ rw (cond-true (b == block) (key_of_bytes (take 33 bytes)) (key_in_bytes blocks (drop 33 bytes) block) here) (digest_of_key (take 33 bytes))
       | inr other ↦
-          rw (cond-false (b == block) (key_of (take 33 bytes)) (key_in blocks (drop 33 bytes) block) other) (digest_in_keys blocks (drop 33 bytes) block)
+          rw (cond-false (b == block) (key_of_bytes (take 33 bytes))
+          (key_in_bytes blocks (drop 33 bytes) block) other)
+          (digest_in_keys blocks (drop 33 bytes) block)
     ]
 
-block_of_key : (blocks bytes : List ℕ) (block : ℕ) → is_some (key_in blocks bytes block) ≡ true → list_any (λ c. c == block) blocks ≡ true
+block_of_key : (blocks bytes : List ℕ) (block : ℕ) → is_some (key_in_bytes blocks bytes block) ≡ true → list_any (λ c. c == block) blocks ≡ true
 block_of_key [] bytes block has = absurd (false≢true has)
 block_of_key (b ∷ blocks) bytes block has = elim (cases_Bool (b == block)) as (λ _. list_any (λ c. c == block) (b ∷ blocks) ≡ true) [
   | inl here ↦ or_left (b == block) (list_any (λ c. c == block) blocks) here
   | inr other ↦
       in_rest b block blocks (block_of_key blocks (drop 33 bytes) block
-      (sym (ap is_some (cond-false (b == block) (key_of (take 33 bytes)) (key_in blocks (drop 33 bytes) block) other)) ∙ has))
+      (sym (ap is_some (cond-false (b == block) (key_of_bytes (take 33 bytes)) (key_in_bytes blocks (drop 33 bytes) block) other)) ∙ has))
 ]
 
 AreKeys-keys_in : (m : Map) (bytes : List ℕ) → AreKeys m (keys_in m bytes)
@@ -171,14 +181,14 @@ AreKeys-keys_in m bytes block some = elim (cases_lt block 4) as (λ _. (block < 
   | inl low ↦ (
     low,
     sym (key_block_is m.fields block) ∙ block_of_key (key_blocks m.fields) bytes block
-        (sym (ap is_some (get_within (key_in (key_blocks m.fields) bytes) block low)) ∙ some),
+        (sym (ap is_some (get_within (key_in_bytes (key_blocks m.fields) bytes) block low)) ∙ some),
   )
-  | inr high ↦ absurd (false≢true (sym (ap is_some (get_past (key_in (key_blocks m.fields) bytes) block (λ low. omega (arith, low, high)))) ∙ some))
+  | inr high ↦ absurd (false≢true (sym (ap is_some (get_past (key_in_bytes (key_blocks m.fields) bytes) block (λ low. omega (arith, low, high)))) ∙ some))
 ]
 
 HoldsDigests-keys_in : (m : Map) (bytes : List ℕ) → HoldsDigests (keys_in m bytes)
 unfolding keys_in
-HoldsDigests-keys_in m bytes = HoldsDigests-table_where (key_in (key_blocks m.fields) bytes) (digest_in_keys (key_blocks m.fields) bytes)
+HoldsDigests-keys_in m bytes = HoldsDigests-table_where (key_in_bytes (key_blocks m.fields) bytes) (digest_in_keys (key_blocks m.fields) bytes)
 
 pub AreKeysOf-keys_in : (m : Map) (bytes : List ℕ) → AreKeysOf m (keys_in m bytes)
 AreKeysOf-keys_in m bytes = record { keys = AreKeys-keys_in m bytes; digests = HoldsDigests-keys_in m bytes }
@@ -191,8 +201,8 @@ none_else (Some d) never = absurd (never refl)
 pub keys_return : (m : Map) (t : KeyTable) (more : List ℕ) → AreKeysOf m t → keys_in m (keys_column m t ++ more) ≡ t
 unfolding keys_in keys_column
 keys_return m t more lies =
-    table_where-same (key_in (key_blocks m.fields) (flat_map (λ b. key_bytes (map.get t b)) (key_blocks m.fields) ++ more)) t
-    (λ block low. key_in-keys t (key_blocks m.fields) more block lies.digests
+    table_where-same (key_in_bytes (key_blocks m.fields) (flat_map (λ b. key_bytes (map.get t b)) (key_blocks m.fields) ++ more)) t
+    (λ block low. key_in_bytes-keys t (key_blocks m.fields) more block lies.digests
     ∙ elim (cases_Bool (list_any (λ c. c == block) (key_blocks m.fields))) as (λ _.
     (if list_any (λ c. c == block) (key_blocks m.fields) then map.get t block else None) ≡ map.get t block) [
       | inl is ↦ cond-true (list_any (λ c. c == block) (key_blocks m.fields)) (map.get t block) None is

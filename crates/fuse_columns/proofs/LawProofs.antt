@@ -2,13 +2,13 @@
 use Rattle.std.proofs.Common.{[], sym, ap, ◌∙◌}
 use Rattle.std.proofs.lemmas.List.{append-nil}
 use Rattle.fuse_columns.specs.BitsColumns.{bits_column, bits_in}
-use Rattle.fuse_columns.specs.Laws.{PlainBitsComeBack, BitsComeBack, KeysComeBack, ImageComesBack, WorkComesBack, BitsLieInMap, KeysLieInMap, WorkLiesInMap}
+use Rattle.fuse_columns.specs.Laws.{PlainBitsComeBack, BitsComeBack, KeysComeBack, ImageComesBack, WorkComesBack, BitsInMap, KeysInMap, PendingInMap}
 use Rattle.fuse_columns.specs.Laws.{BitsHaveLength, KeysHaveLength, WorkHasLength, BitsBytesComeBack, KeyBytesComeBack, WorkBytesComeBack}
 use Rattle.fuse_columns.proofs.BytesBack.{bytes_back}
 use Rattle.fuse_columns.proofs.WorkBytesBack.{key_bytes_back, work_bytes_back}
 use Rattle.fuse_columns.proofs.KeyBytes.{AreKeysOf-keys_in}
 use Rattle.fuse_columns.proofs.SetBytes.{AreBits-bits_in, bits_back, length-bits_column}
-use Rattle.fuse_columns.proofs.WorkBytes.{IsWork-work_in, bits_return_whole, keys_return_whole, work_returns, length-keys_column, length-todo_column}
+use Rattle.fuse_columns.proofs.WorkBytes.{IsPending-pending_in, bits_return_whole, keys_return_whole, work_returns, length-keys_column, length-todo_column}
 
 pub plain_bits_come_back : PlainBitsComeBack
 plain_bits_come_back m is s = ap (bits_in m) (sym (append-nil (bits_column m s))) ∙ bits_back m is s []
@@ -28,14 +28,14 @@ image_comes_back m is image bits keys =
 pub work_comes_back : WorkComesBack
 work_comes_back m is work lies = work_returns m is work lies
 
-pub bits_lie_in_map : BitsLieInMap
+pub bits_lie_in_map : BitsInMap
 bits_lie_in_map m bytes = AreBits-bits_in m bytes
 
-pub keys_lie_in_map : KeysLieInMap
+pub keys_lie_in_map : KeysInMap
 keys_lie_in_map m bytes = AreKeysOf-keys_in m bytes
 
-pub work_lies_in_map : WorkLiesInMap
-work_lies_in_map m bytes = IsWork-work_in m bytes
+pub work_lies_in_map : PendingInMap
+work_lies_in_map m bytes = IsPending-pending_in m bytes
 
 pub bits_have_length : BitsHaveLength
 bits_have_length m s = length-bits_column m s

@@ -13,17 +13,17 @@ use Rattle.std.proofs.Math.ListN.{get_or-map}
 use Rattle.sha2.specs.Sha256.{sha256}
 use Rattle.sha2.proofs.Facts256.{length-sha256}
 use Rattle.fusemap_core.specs.declared.pos.Pos.{Pos}
-use Rattle.fusemap_core.specs.Map.{Map, IsPosition, words_of}
-use Rattle.fuse_image.specs.Keys.{HoldsDigests, KeyTable, joined, without, table_where}
+use Rattle.fusemap_core.specs.Map.{Map, IsPosition, word_count}
+use Rattle.fuse_image.specs.Keys.{HoldsDigests, KeyTable, keys_union, keys_without, table_where}
 use Rattle.fuse_image.specs.Locks.{is_key_block, is_key_position}
 use Rattle.fuse_image.specs.Places.{pos_cmp, pos_total, contains-places_where, is_place}
 use Rattle.fuse_image.proofs.Tables.{get_within, get_past}
-use Rattle.fuse_image.specs.Blocks.{bytes_of}
-use Rattle.fuse_redaction.specs.Redaction.{Fits, has_one, reads_one, redacted, shown_key}
-use Rattle.fuse_redaction.proofs.Redacted.{AreKeys-redacted}
+use Rattle.fuse_image.specs.Blocks.{bytes_of_block}
+use Rattle.fuse_image.specs.Redaction.{WordsFitMap, block_has_one, words_have_one, redacted, shown_key}
+use Rattle.fuse_image.proofs.Redacted.{AreKeys-redacted}
 use Rattle.fuse_columns.specs.BitsColumns.{AreBits}
 use Rattle.fuse_columns.specs.KeysColumns.{AreKeysOf}
-use Rattle.fuse_columns.specs.Lying.{SetsStay, TablesStay, ReadBacksLie}
+use Rattle.fuse_columns.specs.InMap.{SetsStay, TablesStay, ReadBacksInMap}
 use Rattle.fuse_columns.proofs.KeyBytes.{HoldsDigests-table_where}
 use Rattle.fuse_columns.proofs.SetBytes.{block_is}
 
@@ -62,8 +62,8 @@ left_digest : (is : Bool) (a : Option (List ℕ)) → IfSome a (λ d. length d �
 left_digest true a first = tt
 left_digest false a first = first
 
-joined_lies : (m : Map) (t u : KeyTable) → AreKeysOf m t → AreKeysOf m u → AreKeysOf m (joined t u)
-unfolding joined
+joined_lies : (m : Map) (t u : KeyTable) → AreKeysOf m t → AreKeysOf m u → AreKeysOf m (keys_union t u)
+unfolding keys_union
 joined_lies m t u t_lies u_lies = record {
   keys = λ block has.
       elim (one_of_two (map.get t block) (map.get u block) (from_table (λ b. option_or (map.get t b) (map.get u b)) block has)) as (λ _.
@@ -76,8 +76,8 @@ joined_lies m t u t_lies u_lies = record {
       each_digest (map.get t block) (map.get u block) (t_lies.digests block) (u_lies.digests block));
 }
 
-without_lies : (m : Map) (t u : KeyTable) → AreKeysOf m t → AreKeysOf m (without t u)
-unfolding without
+without_lies : (m : Map) (t u : KeyTable) → AreKeysOf m t → AreKeysOf m (keys_without t u)
+unfolding keys_without
 without_lies m t u t_lies = record {
   keys = λ block has.
       t_lies.keys block (first_of_two (is_some (map.get u block)) (map.get t block)
@@ -109,11 +109,12 @@ tables_stay m = record {
 }
 
 -- a bit past the words of a block reads 0
-ones_in_blocks : (m : Map) (blocks : List (List ℕ)) → Fits m blocks → (p : Pos) → reads_one blocks p ≡ true → p.bit < 32 * words_of m.blocks p.block
+ones_in_blocks : (m : Map) (blocks : List (List ℕ)) → WordsFitMap m blocks → (p : Pos)
+    → words_have_one blocks p ≡ true → p.bit < 32 * word_count m.blocks p.block
 ones_in_blocks m blocks fits p one =
     let block : List ℕ = slice_index_or blocks p.block [] in
-    let count : words_of m.blocks p.block ≡ length block = ap (λ (bs : List ℕ). slice_index bs p.block) (sym fits) ∙ get_or-map length blocks p.block [] in
-    elim (cases_lt p.bit (32 * length block)) as (λ _. p.bit < 32 * words_of m.blocks p.block) [
+    let count : word_count m.blocks p.block ≡ length block = ap (λ (bs : List ℕ). slice_index bs p.block) (sym fits) ∙ get_or-map length blocks p.block [] in
+    elim (cases_lt p.bit (32 * length block)) as (λ _. p.bit < 32 * word_count m.blocks p.block) [
       | inl low ↦ omega (arith, low, count)
       | inr high ↦
           let none : bit_at 0 (p.bit % 32) ≡ 0 = omega arith in
@@ -121,14 +122,14 @@ ones_in_blocks m blocks fits p one =
           k == 1) none) ∙ one))
     ]
 
-ones_lie : (m : Map) (blocks : List (List ℕ)) → Fits m blocks → AreBits m (redacted m blocks).ones
+ones_lie : (m : Map) (blocks : List (List ℕ)) → WordsFitMap m blocks → AreBits m (redacted m blocks).ones
 unfolding redacted
 ones_lie m blocks fits p has =
     let parts =
-    and_parts (is_place p) (reads_one blocks p && not (is_key_position m p))
-    (sym (contains-places_where (λ q. reads_one blocks q && not (is_key_position m q)) p) ∙ has) in
-    let both = and_parts (reads_one blocks p) (not (is_key_position m p)) parts.1 in
-    let low : p.bit < 32 * words_of m.blocks p.block = ones_in_blocks m blocks fits p both.0 in
+    and_parts (is_place p) (words_have_one blocks p && not (is_key_position m p))
+    (sym (contains-places_where (λ q. words_have_one blocks q && not (is_key_position m q)) p) ∙ has) in
+    let both = and_parts (words_have_one blocks p) (not (is_key_position m p)) parts.1 in
+    let low : p.bit < 32 * word_count m.blocks p.block = ones_in_blocks m blocks fits p both.0 in
     (record { block = block_is m.blocks p.block p.bit low; bit = low }, not-true (is_key_position m p) both.1)
 
 digest_or_none : (is : Bool) (message : List ℕ) → IfSome (if is then Some (sha256 message) else None) (λ d. length d ≡ 32)
@@ -139,9 +140,9 @@ shown_digests : (m : Map) (blocks : List (List ℕ)) → HoldsDigests (redacted 
 unfolding redacted
 shown_digests m blocks =
     HoldsDigests-table_where (shown_key m blocks) (λ block.
-    digest_or_none (is_key_block m block && has_one (slice_index_or blocks block [])) (bytes_of (slice_index_or blocks block [])))
+    digest_or_none (is_key_block m block && block_has_one (slice_index_or blocks block [])) (bytes_of_block (slice_index_or blocks block [])))
 
-pub read_backs_lie : ReadBacksLie
+pub read_backs_lie : ReadBacksInMap
 read_backs_lie m blocks fits = record {
   ones = ones_lie m blocks fits;
   shown = record { keys = AreKeys-redacted m blocks; digests = shown_digests m blocks };

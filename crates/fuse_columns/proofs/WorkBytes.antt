@@ -5,16 +5,16 @@ use Rattle.std.proofs.Math.Seq.{drop-append_seam}
 use Rattle.fusemap_core.specs.Map.{Map, IsMap}
 use Rattle.fuse_image.specs.Keys.{HoldsDigests, KeyTable}
 use Rattle.fuse_image.specs.Places.{Positions}
-use Rattle.fuse_columns.specs.declared.todo.Work.{Work}
+use Rattle.fuse_columns.specs.declared.todo.Pending.{Pending}
 use Rattle.fuse_columns.specs.BitsColumns.{AreBits, bits_column, bits_in, bits_length}
 use Rattle.fuse_columns.specs.KeysColumns.{AreKeysOf, key_blocks, keys_column, keys_in, keys_length}
-use Rattle.fuse_columns.specs.TodoColumns.{IsWork, todo_column, work_in}
+use Rattle.fuse_columns.specs.TodoColumns.{IsPending, todo_column, pending_in}
 use Rattle.fuse_columns.proofs.KeyBytes.{AreKeysOf-keys_in, keys_return, length-keys}
 use Rattle.fuse_columns.proofs.SetBytes.{AreBits-bits_in, bits_return, length-bits_column}
 
-pub IsWork-work_in : (m : Map) (bytes : List ℕ) → IsWork m (work_in m bytes)
-unfolding work_in
-IsWork-work_in m bytes = record {
+pub IsPending-pending_in : (m : Map) (bytes : List ℕ) → IsPending m (pending_in m bytes)
+unfolding pending_in
+IsPending-pending_in m bytes = record {
   first = AreBits-bits_in m bytes;
   second = AreBits-bits_in m (drop (bits_length m) bytes);
   keys = AreKeysOf-keys_in m (drop (bits_length m + bits_length m) bytes);
@@ -33,7 +33,7 @@ pub bits_return_whole : (m : Map) → IsMap m → (s : Positions) → AreBits m 
 bits_return_whole m is s bits =
     ap (bits_in m) (sym (append-nil (bits_column m s))) ∙ bits_return m is s [] bits
 
-pub length-todo_column : (m : Map) (work : Work) → HoldsDigests work.keys → length (todo_column m work) ≡ bits_length m + (bits_length m + keys_length m)
+pub length-todo_column : (m : Map) (work : Pending) → HoldsDigests work.keys → length (todo_column m work) ≡ bits_length m + (bits_length m + keys_length m)
 unfolding todo_column
 length-todo_column m work digests =
     let first = bits_column m work.first in
@@ -48,8 +48,8 @@ length-todo_column m work digests =
     )
 
 -- work that lies in the map comes back whole
-pub work_returns : (m : Map) → IsMap m → (work : Work) → IsWork m work → work_in m (todo_column m work) ≡ work
-unfolding work_in todo_column
+pub work_returns : (m : Map) → IsMap m → (work : Pending) → IsPending m work → pending_in m (todo_column m work) ≡ work
+unfolding pending_in todo_column
 work_returns m is work lies =
     let n : ℕ = bits_length m in
     let first : List ℕ = bits_column m work.first in

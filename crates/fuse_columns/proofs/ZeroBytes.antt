@@ -7,58 +7,60 @@ use Rattle.std.specs.FinSet as set
 use Rattle.std.specs.FinMap as map
 use Rattle.std.proofs.lemmas.Bool.{cases_Bool, cond-true, cond-false, and_right}
 use Rattle.std.proofs.lemmas.List.{drop-replicate, take-replicate, replicate-append-replicate, length-replicate}
-use Rattle.text_core.specs.Column.{zeros}
+use Rattle.text_core.specs.ShortBytes.{zeros}
 use Rattle.fusemap_core.specs.declared.pos.Pos.{Pos}
 use Rattle.fusemap_core.specs.Map.{Map, IsMap}
 use Rattle.fuse_image.specs.Places.{pos_cmp}
 use Rattle.fuse_image.proofs.BitSets.{zeros_at}
 use Rattle.fuse_image.proofs.Sets.{same_places}
 use Rattle.fuse_image.proofs.Tables.{table_where-same}
-use Rattle.fuse_columns.specs.BitsColumns.{bits_column, bits_in, bits_length, is_plain, reads_one, start_of}
-use Rattle.fuse_columns.specs.KeysColumns.{key_blocks, key_in, key_of, keys_column, keys_in, keys_length}
-use Rattle.fuse_columns.specs.TodoColumns.{todo_column, work_in}
+use Rattle.fuse_columns.specs.BitsColumns.{bits_column, bits_in, bits_length, is_plain, bytes_have_one, start_of_block}
+use Rattle.fuse_columns.specs.KeysColumns.{key_blocks, key_in_bytes, key_of_bytes, keys_column, keys_in, keys_length}
+use Rattle.fuse_columns.specs.TodoColumns.{todo_column, pending_in}
 use Rattle.fuse_columns.specs.Laws.{AreKeyBytes}
 use Rattle.fuse_columns.specs.Zeros.{ZerosAreNothing, NothingIsZeros}
 use Rattle.fuse_columns.proofs.BytesBack.{bytes_back}
-use Rattle.fuse_columns.proofs.KeyBytes.{key_of-other}
+use Rattle.fuse_columns.proofs.KeyBytes.{key_of_bytes-other}
 use Rattle.fuse_columns.proofs.WorkBytesBack.{key_bytes_back}
 
 zeros_after : (count n : ℕ) → drop n (zeros count) ≡ zeros (count - n)
 zeros_after count n = drop-replicate n count 0
 
-reads_none : (blocks : List ℕ) (count : ℕ) (p : Pos) → reads_one blocks (zeros count) p ≡ false
+reads_none : (blocks : List ℕ) (count : ℕ) (p : Pos) → bytes_have_one blocks (zeros count) p ≡ false
 reads_none blocks count p =
     let none : bit_at 0 (p.bit % 8) ≡ 0 = omega arith in
-    ap (λ k. bit_at k (p.bit % 8) == 1) (zeros_at count (start_of blocks p.block + p.bit / 8)) ∙ ap (λ k. k == 1) none
+    ap (λ k. bit_at k (p.bit % 8) == 1) (zeros_at count (start_of_block blocks p.block + p.bit / 8)) ∙ ap (λ k. k == 1) none
 
 no_bits : (m : Map) (count : ℕ) → bits_in m (zeros count) ≡ set.empty
 unfolding bits_in
 no_bits m count =
-    same_places (λ p. is_plain m p && reads_one m.blocks (zeros count) p) set.empty
-    (λ p _. and_right (is_plain m p) (reads_one m.blocks (zeros count) p) (reads_none m.blocks count p) ∙ sym (set.contains-empty pos_cmp p))
+    same_places (λ p. is_plain m p && bytes_have_one m.blocks (zeros count) p) set.empty
+    (λ p _. and_right (is_plain m p) (bytes_have_one m.blocks (zeros count) p) (reads_none m.blocks count p) ∙ sym (set.contains-empty pos_cmp p))
     (λ p _. set.contains-empty pos_cmp p)
 
-no_key : (blocks : List ℕ) (count block : ℕ) → key_in blocks (zeros count) block ≡ None
+no_key : (blocks : List ℕ) (count block : ℕ) → key_in_bytes blocks (zeros count) block ≡ None
 no_key [] count block = refl
 no_key (b ∷ blocks) count block =
-    elim (cases_Bool (b == block)) as (λ _. (if b == block then key_of (take 33 (zeros count)) else key_in blocks (drop 33 (zeros count)) block) ≡ None) [
+    elim (cases_Bool (b == block)) as (λ _.
+    (if b == block then key_of_bytes (take 33 (zeros count))
+    else key_in_bytes blocks (drop 33 (zeros count)) block) ≡ None) [
       | inl here ↦
-          cond-true (b == block) (key_of (take 33 (zeros count))) (key_in blocks (drop 33 (zeros count)) block) here
-          ∙ key_of-other (zeros count) (λ e. omega (arith, e, zeros_at count 0))
+          cond-true (b == block) (key_of_bytes (take 33 (zeros count))) (key_in_bytes blocks (drop 33 (zeros count)) block) here
+          ∙ key_of_bytes-other (zeros count) (λ e. omega (arith, e, zeros_at count 0))
       | inr other ↦
-          cond-false (b == block) (key_of (take 33 (zeros count))) (key_in blocks (drop 33 (zeros count)) block) other
-          ∙ (ap (λ bytes. key_in blocks bytes block) (zeros_after count 33) ∙ no_key blocks (count - 33) block)
+          cond-false (b == block) (key_of_bytes (take 33 (zeros count))) (key_in_bytes blocks (drop 33 (zeros count)) block) other
+          ∙ (ap (λ bytes. key_in_bytes blocks bytes block) (zeros_after count 33) ∙ no_key blocks (count - 33) block)
     ]
 
 no_keys : (m : Map) (count : ℕ) → keys_in m (zeros count) ≡ map.empty
 unfolding keys_in
 no_keys m count =
-    table_where-same (key_in (key_blocks m.fields) (zeros count)) map.empty
+    table_where-same (key_in_bytes (key_blocks m.fields) (zeros count)) map.empty
     (λ block _. no_key (key_blocks m.fields) count block ∙ sym (map.get-empty {X = List ℕ} nat_cmp block))
     (λ block _. map.get-empty {X = List ℕ} nat_cmp block)
 
 pub zeros_are_nothing : (m : Map) (count : ℕ) → ZerosAreNothing m count
-unfolding work_in
+unfolding pending_in
 zeros_are_nothing m count =
     let n : ℕ = bits_length m in
     let second : bits_in m (drop n (zeros count)) ≡ set.empty = ap (bits_in m) (zeros_after count n) ∙ no_bits m (count - n) in

@@ -5,7 +5,7 @@ use Rattle.std.specs.FinMap as map
 use Rattle.fusemap_core.specs.declared.field.Field.{Field}
 use Rattle.fusemap_core.specs.Map.{Map}
 use Rattle.fuse_image.specs.Keys.{HoldsDigests, KeyTable, table_where}
-use Rattle.fuse_redaction.specs.Redaction.{AreKeys}
+use Rattle.fuse_image.specs.Redaction.{AreKeys}
 
 -- the blocks of the key fields, in the map's order
 abbrev pub key_blocks : List Field → List ℕ
@@ -24,18 +24,18 @@ abbrev pub keys_length : Map → ℕ
 keys_length m = 33 * length (key_blocks m.fields)
 
 -- the key that 33 bytes stand for: the digest after a 1; any other bytes, or fewer, stand for none
-abbrev pub key_of : List ℕ → Option (List ℕ)
-key_of [] = None
-key_of (first ∷ digest) = if first == 1 && length digest == 32 then Some digest else None
+abbrev pub key_of_bytes : List ℕ → Option (List ℕ)
+key_of_bytes [] = None
+key_of_bytes (first ∷ digest) = if first == 1 && length digest == 32 then Some digest else None
 
 -- the key of a block, where bytes have 33 for each of these blocks
-abbrev pub key_in : List ℕ → List ℕ → ℕ → Option (List ℕ)
-key_in [] bytes block = None
-key_in (b ∷ blocks) bytes block = if b == block then key_of (take 33 bytes) else key_in blocks (drop 33 bytes) block
+abbrev pub key_in_bytes : List ℕ → List ℕ → ℕ → Option (List ℕ)
+key_in_bytes [] bytes block = None
+key_in_bytes (b ∷ blocks) bytes block = if b == block then key_of_bytes (take 33 bytes) else key_in_bytes blocks (drop 33 bytes) block
 
 -- the table that bytes stand for, whatever they are: a key at a block that is a key field, where the field's bytes stand for one
 unfoldable pub keys_in : Map → List ℕ → KeyTable
-keys_in m bytes = table_where (key_in (key_blocks m.fields) bytes)
+keys_in m bytes = table_where (key_in_bytes (key_blocks m.fields) bytes)
 
 -- each key of the table is one of a key field of the map, and a digest of 32 bytes
 pub record AreKeysOf (m : Map) (t : KeyTable) : Type 0 where

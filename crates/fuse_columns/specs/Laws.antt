@@ -7,11 +7,11 @@ use Rattle.fuse_image.specs.declared.image.Image.{Image}
 use Rattle.fuse_image.specs.Keys.{HoldsDigests, KeyTable}
 use Rattle.fuse_image.specs.Locks.{is_key_position}
 use Rattle.fuse_image.specs.Places.{Positions}
-use Rattle.fuse_columns.specs.declared.todo.Work.{Work}
-use Rattle.fuse_columns.specs.BitsColumns.{AreBits, bits_column, bits_in, bits_length, is_plain, reads_one}
+use Rattle.fuse_columns.specs.declared.todo.Pending.{Pending}
+use Rattle.fuse_columns.specs.BitsColumns.{AreBits, bits_column, bits_in, bits_length, is_plain, bytes_have_one}
 use Rattle.fuse_columns.specs.Images.{image_in}
 use Rattle.fuse_columns.specs.KeysColumns.{AreKeysOf, key_blocks, key_bytes, keys_column, keys_in, keys_length}
-use Rattle.fuse_columns.specs.TodoColumns.{IsWork, todo_column, work_in}
+use Rattle.fuse_columns.specs.TodoColumns.{IsPending, todo_column, pending_in}
 
 -- of any set its positions that are the map's, outside key fields, come back from its column
 abbrev pub PlainBitsComeBack : Type 0
@@ -32,17 +32,17 @@ ImageComesBack = (m : Map) → IsMap m → (image : Image) → AreBits m image.b
 
 -- work that lies in the map comes back as it was
 abbrev pub WorkComesBack : Type 0
-WorkComesBack = (m : Map) → IsMap m → (work : Work) → IsWork m work → work_in m (todo_column m work) ≡ work
+WorkComesBack = (m : Map) → IsMap m → (work : Pending) → IsPending m work → pending_in m (todo_column m work) ≡ work
 
 -- whatever the bytes are, what they stand for lies in the map
-abbrev pub BitsLieInMap : Type 0
-BitsLieInMap = (m : Map) (bytes : List ℕ) → AreBits m (bits_in m bytes)
+abbrev pub BitsInMap : Type 0
+BitsInMap = (m : Map) (bytes : List ℕ) → AreBits m (bits_in m bytes)
 
-abbrev pub KeysLieInMap : Type 0
-KeysLieInMap = (m : Map) (bytes : List ℕ) → AreKeysOf m (keys_in m bytes)
+abbrev pub KeysInMap : Type 0
+KeysInMap = (m : Map) (bytes : List ℕ) → AreKeysOf m (keys_in m bytes)
 
-abbrev pub WorkLiesInMap : Type 0
-WorkLiesInMap = (m : Map) (bytes : List ℕ) → IsWork m (work_in m bytes)
+abbrev pub PendingInMap : Type 0
+PendingInMap = (m : Map) (bytes : List ℕ) → IsPending m (pending_in m bytes)
 
 -- a column is as long as the map says
 abbrev pub BitsHaveLength : Type 0
@@ -52,13 +52,13 @@ abbrev pub KeysHaveLength : Type 0
 KeysHaveLength = (m : Map) (t : KeyTable) → HoldsDigests t → length (keys_column m t) ≡ keys_length m
 
 abbrev pub WorkHasLength : Type 0
-WorkHasLength = (m : Map) (work : Work) → HoldsDigests work.keys → length (todo_column m work) ≡ bits_length m + (bits_length m + keys_length m)
+WorkHasLength = (m : Map) (work : Pending) → HoldsDigests work.keys → length (todo_column m work) ≡ bits_length m + (bits_length m + keys_length m)
 
 -- bytes are as many as those of all blocks, and key blocks are zeros
 pub record IsBitsColumn (m : Map) (bytes : List ℕ) : Type 0 where
   pub size : length bytes ≡ bits_length m
   pub small : All (λ byte. byte < 256) bytes
-  pub keys : (p : Pos) → IsPosition m.blocks p → is_key_position m p ≡ true → reads_one m.blocks bytes p ≡ false
+  pub keys : (p : Pos) → IsPosition m.blocks p → is_key_position m p ≡ true → bytes_have_one m.blocks bytes p ≡ false
 
 -- such bytes come back from the set that they stand for
 abbrev pub BitsBytesComeBack : Type 0
@@ -85,4 +85,4 @@ pub record IsTodoColumn (m : Map) (bytes : List ℕ) : Type 0 where
 
 -- such bytes come back from the work that they stand for
 abbrev pub WorkBytesComeBack : Type 0
-WorkBytesComeBack = (m : Map) → IsMap m → (bytes : List ℕ) → IsTodoColumn m bytes → todo_column m (work_in m bytes) ≡ bytes
+WorkBytesComeBack = (m : Map) → IsMap m → (bytes : List ℕ) → IsTodoColumn m bytes → todo_column m (pending_in m bytes) ≡ bytes

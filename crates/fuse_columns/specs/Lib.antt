@@ -5,5 +5,5 @@ pub mod KeysColumns
 pub mod Images
 pub mod TodoColumns
 pub mod Laws
-pub mod Lying
+pub mod InMap
 pub mod Zeros

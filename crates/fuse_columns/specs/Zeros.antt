@@ -2,25 +2,25 @@
 use Rattle.std.specs.Prelude.{◌≡◌, ℕ, ◌+◌}
 use Rattle.std.specs.FinSet as set
 use Rattle.std.specs.FinMap as map
-use Rattle.text_core.specs.Column.{zeros}
+use Rattle.text_core.specs.ShortBytes.{zeros}
 use Rattle.fusemap_core.specs.Map.{Map}
-use Rattle.fuse_columns.specs.declared.todo.Work.{Work}
+use Rattle.fuse_columns.specs.declared.todo.Pending.{Pending}
 use Rattle.fuse_columns.specs.BitsColumns.{bits_column, bits_in, bits_length}
 use Rattle.fuse_columns.specs.KeysColumns.{keys_column, keys_in, keys_length}
-use Rattle.fuse_columns.specs.TodoColumns.{todo_column, work_in}
+use Rattle.fuse_columns.specs.TodoColumns.{todo_column, pending_in}
 
 -- nothing is to be burnt
-abbrev pub no_work : Work
-no_work = record { first = set.empty; second = set.empty; keys = map.empty }
+abbrev pub no_pending : Pending
+no_pending = record { first = set.empty; second = set.empty; keys = map.empty }
 
 -- zeros, however many, stand for nothing
 pub record ZerosAreNothing (m : Map) (count : ℕ) : Type 0 where
   pub bits : bits_in m (zeros count) ≡ set.empty
   pub keys : keys_in m (zeros count) ≡ map.empty
-  pub work : work_in m (zeros count) ≡ no_work
+  pub work : pending_in m (zeros count) ≡ no_pending
 
 -- and nothing is zeros, as many as the map says
 pub record NothingIsZeros (m : Map) : Type 0 where
   pub bits : bits_column m set.empty ≡ zeros (bits_length m)
   pub keys : keys_column m map.empty ≡ zeros (keys_length m)
-  pub work : todo_column m no_work ≡ zeros (bits_length m + (bits_length m + keys_length m))
+  pub work : todo_column m no_pending ≡ zeros (bits_length m + (bits_length m + keys_length m))

@@ -7,11 +7,11 @@ ghost use Rattle.fuse_columns.specs.Words.{bytes_of_blocks, bytes_of_words};
 
 use fuse_image::{Bits, key_positions};
 use fusemap_core::FuseMap;
-use text_core::BitsColumn;
+use text_core::BitsBytes;
 
 /// A set of positions as the bytes of the map's blocks, block 0 first, with zeros for key blocks. Byte
 /// i of a block holds its bits 8i to 8i+7, the lowest bit first.
-pub fn encode_bits(map: &FuseMap, bits: &Bits) -> BitsColumn
+pub fn encode_bits(map: &FuseMap, bits: &Bits) -> BitsBytes
     ensures same { result ≡ bits_column map.now bits.now }
     ensures length { length result ≡ bits_length map.now }
 {
@@ -21,7 +21,7 @@ pub fn encode_bits(map: &FuseMap, bits: &Bits) -> BitsColumn
 
 /// The positions of the map's blocks, outside key fields, that read 1. A byte that is missing counts
 /// as 0, and further ones mean nothing.
-pub fn decode_bits(map: &FuseMap, column: &BitsColumn) -> Bits
+pub fn decode_bits(map: &FuseMap, column: &BitsBytes) -> Bits
     ensures same { result ≡ bits_in map.now column.now }
     ensures plain { AreBits map.now result }
 {
@@ -37,12 +37,12 @@ pub(crate) fn read_bits(map: &FuseMap, bytes: &[u8]) -> Bits
 
 /// The bytes of the words of blocks that have so many words each.
 #[tactic(auto, using(crate::proofs::Blocks::blocks_more))]
-fn column_of(blocks: &[u8], words: &[u32; 32]) -> BitsColumn
+fn column_of(blocks: &[u8], words: &[u32; 32]) -> BitsBytes
     requires few { length blocks.now ≤ 4 }
     requires short { All (λ count. count ≤ 8) blocks.now }
     ensures { result ≡ bytes_of_blocks words.now blocks.now (length blocks.now) }
 {
-    let mut column = BitsColumn::empty();
+    let mut column = BitsBytes::empty();
     for block in 0..blocks.len() {
         append_block(&mut column, words, block, blocks[block]);
     }
@@ -51,7 +51,7 @@ fn column_of(blocks: &[u8], words: &[u32; 32]) -> BitsColumn
 
 /// Appends the first words of a block.
 #[tactic(auto, using(crate::proofs::Blocks::words_more))]
-fn append_block(column: &mut BitsColumn, words: &[u32; 32], block: usize, count: u8)
+fn append_block(column: &mut BitsBytes, words: &[u32; 32], block: usize, count: u8)
     requires block { block < 4 }
     requires count { count ≤ 8 }
     requires room { length column.old + 4 * count ≤ 128 }
@@ -66,7 +66,7 @@ fn append_block(column: &mut BitsColumn, words: &[u32; 32], block: usize, count:
 fn words_in(blocks: &[u8], bytes: &[u8]) -> [u32; 32]
     requires { length blocks.now ≤ 4 }
     ensures { (k : ℕ) → k < 32 →
-        slice_index result k ≡ words.word_in blocks.now bytes.now (k / 8) (k % 8) }
+        slice_index result k ≡ words.word_of_block blocks.now bytes.now (k / 8) (k % 8) }
 {
     let mut words = [0; 32];
     for k in 0..32 {
@@ -79,7 +79,7 @@ fn words_in(blocks: &[u8], bytes: &[u8]) -> [u32; 32]
 fn word_in(blocks: &[u8], bytes: &[u8], block: usize, word: usize) -> u32
     requires few { length blocks.now ≤ 4 }
     requires within { word < 8 }
-    ensures { result ≡ words.word_in blocks.now bytes.now block word }
+    ensures { result ≡ words.word_of_block blocks.now bytes.now block word }
 {
     if block >= blocks.len() || word >= usize::from(blocks[block]) {
         return 0;

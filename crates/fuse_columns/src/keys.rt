@@ -6,19 +6,19 @@ ghost use Rattle.fuse_columns.specs.KeysColumns.{keys_in, keys_length};
 
 use fuse_image::Keys;
 use fusemap_core::{Field, FuseMap};
-use text_core::{Digest, KeysColumn};
+use text_core::{Digest, KeysBytes};
 
 /// How many bytes there are for a key: one that says whether there is a key, and its digest.
 const KEY_LENGTH: usize = 33;
 
 /// A table of keys as 33 bytes for each key field of the map, in the map's order: 33 zeros where the
 /// field's block has no key, else 1 and the key's SHA-256 digest.
-pub fn encode_keys(map: &FuseMap, keys: &Keys) -> KeysColumn
+pub fn encode_keys(map: &FuseMap, keys: &Keys) -> KeysBytes
     ensures same { result ≡ keys_column map.now keys.now }
     ensures length { length result ≡ keys_length map.now }
 {
     let fields = map.fields();
-    let mut column = KeysColumn::empty();
+    let mut column = KeysBytes::empty();
     for field in fields {
         if field.key {
             append_key(&mut column, keys.get(field.block));
@@ -29,7 +29,7 @@ pub fn encode_keys(map: &FuseMap, keys: &Keys) -> KeysColumn
 
 /// The keys of the map's key fields whose 33 bytes are 1 and a digest. Any other bytes of a field, or
 /// fewer, stand for no key, and further ones mean nothing.
-pub fn decode_keys(map: &FuseMap, column: &KeysColumn) -> Keys
+pub fn decode_keys(map: &FuseMap, column: &KeysBytes) -> Keys
     ensures same { result ≡ keys_in map.now column.now }
     ensures keys { AreKeysOf map.now result }
 {
@@ -50,7 +50,7 @@ pub(crate) fn read_keys(map: &FuseMap, bytes: &[u8]) -> Keys
 }
 
 /// Appends the bytes of a key.
-fn append_key(column: &mut KeysColumn, digest: Option<Digest>)
+fn append_key(column: &mut KeysBytes, digest: Option<Digest>)
     requires { length column.old + 33 ≤ 132 }
     ensures value { column.new ≡ column.old ++ key_bytes digest }
     ensures length { length column.new ≡ length column.old + 33 }
@@ -66,7 +66,7 @@ fn append_key(column: &mut KeysColumn, digest: Option<Digest>)
 
 /// The key of a block, where the bytes have 33 for each key field.
 fn key_in(fields: &[Field], bytes: &[u8], block: u8) -> Option<Digest>
-    ensures { result ≡ keys_columns.key_in (key_blocks fields.now) bytes.now block }
+    ensures { result ≡ keys_columns.key_in_bytes (key_blocks fields.now) bytes.now block }
 {
     let mut rest = bytes;
     for field in fields {
@@ -82,7 +82,7 @@ fn key_in(fields: &[Field], bytes: &[u8], block: u8) -> Option<Digest>
 
 /// The key that the first 33 bytes stand for: none, if there are fewer.
 fn key_of(bytes: &[u8]) -> Option<Digest>
-    ensures { result ≡ keys_columns.key_of (take 33 bytes.now) }
+    ensures { result ≡ keys_columns.key_of_bytes (take 33 bytes.now) }
 {
     if bytes.len() < KEY_LENGTH || bytes[0] != 1 {
         return None;

@@ -2,10 +2,10 @@
 ghost use Rattle.std.specs.Prelude.{ℕ};
 ghost use Rattle.fusemap_core.specs.Map.{IsMap, Map};
 ghost use Rattle.fuse_columns.specs.Zeros.{NothingIsZeros, ZerosAreNothing};
-ghost use Rattle.fuse_columns.specs.Lying.{ReadBacksLie, SetsStay, TablesStay};
+ghost use Rattle.fuse_columns.specs.InMap.{ReadBacksInMap, SetsStay, TablesStay};
 ghost use Rattle.fuse_columns.specs.Laws.{PlainBitsComeBack, BitsComeBack, KeysComeBack};
-ghost use Rattle.fuse_columns.specs.Laws.{ImageComesBack, WorkComesBack, BitsLieInMap};
-ghost use Rattle.fuse_columns.specs.Laws.{KeysLieInMap, WorkLiesInMap, BitsHaveLength};
+ghost use Rattle.fuse_columns.specs.Laws.{ImageComesBack, WorkComesBack, BitsInMap};
+ghost use Rattle.fuse_columns.specs.Laws.{KeysInMap, PendingInMap, BitsHaveLength};
 ghost use Rattle.fuse_columns.specs.Laws.{KeysHaveLength, WorkHasLength, BitsBytesComeBack};
 ghost use Rattle.fuse_columns.specs.Laws.{KeyBytesComeBack, WorkBytesComeBack};
 
@@ -23,9 +23,9 @@ pub fn come_back()
 /// Whatever the bytes of a column are, what they stand for lies in the map: its bits outside key
 /// fields, its keys at key fields.
 pub fn lie_in_map()
-    ensures bits { BitsLieInMap }
-    ensures keys { KeysLieInMap }
-    ensures work { WorkLiesInMap }
+    ensures bits { BitsInMap }
+    ensures keys { KeysInMap }
+    ensures work { PendingInMap }
 {}
 
 /// Columns are as long as the map says.
@@ -49,7 +49,7 @@ pub fn bytes_come_back()
 pub fn stay_in_map()
     ensures sets { (m : Map) → SetsStay m }
     ensures tables { (m : Map) → TablesStay m }
-    ensures readbacks { ReadBacksLie }
+    ensures readbacks { ReadBacksInMap }
 {}
 
 /// Zeros stand for nothing, however many they are, and nothing is as many zeros as the map says.

@@ -13,4 +13,4 @@ pub use keys::{decode_keys, encode_keys};
 pub use laws::{
     bytes_come_back, come_back, have_lengths, lie_in_map, stay_in_map, zeros_are_nothing,
 };
-pub use todo::{Work, decode_todo, encode_todo};
+pub use todo::{Pending, decode_todo, encode_todo};

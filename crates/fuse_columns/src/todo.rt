@@ -2,17 +2,17 @@
 ghost use Rattle.std.specs.Prelude.{◌≡◌, ◌+◌, length};
 ghost use Rattle.fuse_columns.specs.BitsColumns.{bits_length};
 ghost use Rattle.fuse_columns.specs.KeysColumns.{keys_length};
-ghost use Rattle.fuse_columns.specs.TodoColumns.{IsWork, todo_column, work_in};
+ghost use Rattle.fuse_columns.specs.TodoColumns.{IsPending, todo_column, pending_in};
 
 use crate::bits::{encode_bits, read_bits};
 use crate::keys::{after, encode_keys, read_keys};
 use fuse_image::{Bits, Keys};
 use fusemap_core::FuseMap;
-use text_core::TodoColumn;
+use text_core::PendingBytes;
 
 /// What is still to be burnt: bits in two batches, and keys in the first.
 #[derive(Clone, Copy)]
-pub struct Work {
+pub struct Pending {
     /// The bits of the first batch.
     pub first: Bits,
     /// The bits of the second batch.
@@ -23,7 +23,7 @@ pub struct Work {
 
 /// The bits of batch 1, the bits of batch 2 and the keys of batch 1 as bytes, each in the form that it
 /// has in a column of its own.
-pub fn encode_todo(map: &FuseMap, work: &Work) -> TodoColumn
+pub fn encode_todo(map: &FuseMap, work: &Pending) -> PendingBytes
     ensures same { result ≡ todo_column map.now work.now }
     ensures length { length result
         ≡ bits_length map.now + (bits_length map.now + keys_length map.now) }
@@ -31,7 +31,7 @@ pub fn encode_todo(map: &FuseMap, work: &Work) -> TodoColumn
     let first = encode_bits(map, &work.first);
     let second = encode_bits(map, &work.second);
     let keys = encode_keys(map, &work.keys);
-    let mut column = TodoColumn::empty();
+    let mut column = PendingBytes::empty();
     column.append(first.as_bytes());
     column.append(second.as_bytes());
     column.append(keys.as_bytes());
@@ -40,15 +40,15 @@ pub fn encode_todo(map: &FuseMap, work: &Work) -> TodoColumn
 
 /// The work that the bytes stand for, whatever they are: bits of the map's blocks outside key fields,
 /// and keys at its key fields.
-pub fn decode_todo(map: &FuseMap, column: &TodoColumn) -> Work
-    ensures same { result ≡ work_in map.now column.now }
-    ensures work { IsWork map.now result }
+pub fn decode_todo(map: &FuseMap, column: &PendingBytes) -> Pending
+    ensures same { result ≡ pending_in map.now column.now }
+    ensures work { IsPending map.now result }
 {
     let length = bits_length(map);
     let first = column.as_bytes();
     let second = after(first, length);
     let keys = after(second, length);
-    Work {
+    Pending {
         first: read_bits(map, first),
         second: read_bits(map, second),
         keys: read_keys(map, keys),

@@ -14,9 +14,9 @@ use Rattle.std.proofs.lemmas.List.{get_or-set_other}
 use Rattle.std.proofs.lemmas.Nat.Bits.{bit_at_or, bit_at_and, bit_at_not, bit_at-lt, bit_at-zero, bit_at_set_same, bit_at_set_other, shr_and_one}
 use Rattle.std.proofs.lemmas.Nat.Bits.{same_from_bits_below}
 use Rattle.fusemap_core.specs.declared.pos.Pos.{Pos}
-use Rattle.fuse_image.specs.Places.{is_empty, meets, Positions, pos_cmp, pos_total, pos_exact, is_place, IsPlace, places_where, contains-places_where}
+use Rattle.fuse_image.specs.Places.{is_empty, sets_meet, Positions, pos_cmp, pos_total, pos_exact, is_place, IsPlace, places_where, contains-places_where}
 use Rattle.fuse_image.specs.Places.{same_bool}
-use Rattle.fuse_image.specs.Words.{bit_in, place_of}
+use Rattle.fuse_image.specs.Words.{bit_in, position_of_bit}
 use Rattle.fuse_image.specs.WordsAgain.{AreWords, contains-place_of}
 use Rattle.fuse_image.proofs.Sets.{none_in, is_empty-from_none, is_empty-difference, is_place-from_IsPlace, IsPlace-from_is_place, same_places, none_outside}
 
@@ -26,10 +26,10 @@ positions_of words = places_where (bit_in words)
 
 -- the words by their indices have ones at the positions of the set, which has none outside of 4 blocks
 pub record AreBitsOf (word : ℕ → ℕ) (s : Positions) : Type 0 where
-  pub bits : (w i : ℕ) → w < 32 → i < 32 → (bit_at (word w) i == 1) ≡ set.contains s (place_of w i)
+  pub bits : (w i : ℕ) → w < 32 → i < 32 → (bit_at (word w) i == 1) ≡ set.contains s (position_of_bit w i)
   pub none : (p : Pos) → is_place p ≡ false → set.contains s p ≡ false
 
-place_again : (p : Pos) → IsPlace p → place_of (8 * p.block + p.bit / 32) (p.bit % 32) ≡ p
+place_again : (p : Pos) → IsPlace p → position_of_bit (8 * p.block + p.bit / 32) (p.bit % 32) ≡ p
 place_again p is =
     let block : (8 * p.block + p.bit / 32) / 8 ≡ p.block = omega (arith, is.1) in
     let bit : 32 * ((8 * p.block + p.bit / 32) % 8) + p.bit % 32 ≡ p.bit = omega (arith, is.1) in
@@ -87,7 +87,7 @@ AreBitsOf-or f g s t own other = record {
       ap (λ (b : ℕ). b == 1) (bit_at_or (f w) (g w) i)
       ∙ (or_bit (bit_at (f w) i) (bit_at (g w) i) (bit_at-lt (f w) i) (bit_at-lt (g w) i)
       ∙ (ap₂ (λ (a b : Bool). a || b) (own.bits w i low small) (other.bits w i low small)
-      ∙ sym (set.contains-union pos_total s t (place_of w i))));
+      ∙ sym (set.contains-union pos_total s t (position_of_bit w i))));
   none = λ p not_one. set.contains-union pos_total s t p ∙ or_from _ _ (own.none p not_one) (other.none p not_one);
 }
 
@@ -97,7 +97,7 @@ AreBitsOf-and f g s t own other = record {
       ap (λ (b : ℕ). b == 1) (bit_at_and (f w) (g w) i)
       ∙ (and_bit (bit_at (f w) i) (bit_at (g w) i) (bit_at-lt (f w) i) (bit_at-lt (g w) i)
       ∙ (ap₂ (λ (a b : Bool). a && b) (own.bits w i low small) (other.bits w i low small)
-      ∙ sym (set.contains-intersection pos_total s t (place_of w i))));
+      ∙ sym (set.contains-intersection pos_total s t (position_of_bit w i))));
   none = λ p not_one. set.contains-intersection pos_total s t p ∙ and_left _ _ (own.none p not_one);
 }
 
@@ -110,14 +110,14 @@ AreBitsOf-and_not f g s t own other small_words = record {
       ∙ (ap₂ (λ (a b : Bool). a && b) (own.bits w i low small) (
       ap (λ (b : ℕ). b == 1) (bit_at_not w32 (g w) i (small_words w) small)
       ∙ (not_bit (bit_at (g w) i) (bit_at-lt (g w) i) ∙ ap not (other.bits w i low small)))
-      ∙ sym (set.contains-difference pos_total s t (place_of w i))));
+      ∙ sym (set.contains-difference pos_total s t (position_of_bit w i))));
   none = λ p not_one. set.contains-difference pos_total s t p ∙ and_left _ _ (own.none p not_one);
 }
 
 -- no ones
 pub AreBitsOf-zeros : AreBitsOf (λ _. 0) set.empty
 AreBitsOf-zeros = record {
-  bits = λ w i low small. ap (λ (b : ℕ). b == 1) (bit_at-zero i) ∙ sym (set.contains-empty pos_cmp (place_of w i));
+  bits = λ w i low small. ap (λ (b : ℕ). b == 1) (bit_at-zero i) ∙ sym (set.contains-empty pos_cmp (position_of_bit w i));
   none = λ p _. set.contains-empty pos_cmp p;
 }
 
@@ -152,7 +152,7 @@ is_empty-zeros word s are small_words are_zeros each = same_bool are_zeros (is_e
       | inr not_one ↦ are.none p not_one
     ]))
     (λ empty. each.1 (λ w low. same_from_bits_below 32 (word w) 0 (small_words w) (omega arith) (λ i small.
-    no_bit (bit_at (word w) i) (bit_at-lt (word w) i) (are.bits w i low small ∙ none_in s empty (place_of w i)) ∙ sym (bit_at-zero i))))
+    no_bit (bit_at (word w) i) (bit_at-lt (word w) i) (are.bits w i low small ∙ none_in s empty (position_of_bit w i)) ∙ sym (bit_at-zero i))))
 
 -- a set of words has positions of the four blocks alone
 pub is_place-of_words : (words : List ℕ) (p : Pos) → set.contains (positions_of words) p ≡ true → is_place p ≡ true
@@ -191,9 +191,9 @@ is_subset-words own other own_words other_words is each =
     (λ w. and_lt 32 _ _ (own_words.small w) (omega arith)) is each
     ∙ is_empty-difference (positions_of own) (positions_of other)
 
-pub meets-words : (own other : List ℕ) → AreWords own → AreWords other → (is : Bool)
-    → ((is ≡ true) ↔ ((w : ℕ) → w < 32 → bit_and (get_or own w 0) (get_or other w 0) ≡ 0)) → not is ≡ meets (positions_of own) (positions_of other)
-meets-words own other own_words other_words is each =
+pub sets_meet-words : (own other : List ℕ) → AreWords own → AreWords other → (is : Bool)
+    → ((is ≡ true) ↔ ((w : ℕ) → w < 32 → bit_and (get_or own w 0) (get_or other w 0) ≡ 0)) → not is ≡ sets_meet (positions_of own) (positions_of other)
+sets_meet-words own other own_words other_words is each =
     ap not (
     is_empty-zeros (λ w. bit_and (get_or own w 0) (get_or other w 0)) (set.intersection (positions_of own) (positions_of other))
     (AreBitsOf-and (λ w. get_or own w 0) (λ w. get_or other w 0) _ _ (AreBitsOf-words own) (AreBitsOf-words other))
@@ -207,10 +207,10 @@ contains-shifted words p index is place =
     ∙ bit_of (λ w. get_or words w 0) (positions_of words) (AreBitsOf-words words) p place
 
 -- one position more
-same_place : (p : Pos) (w i : ℕ) → IsPlace p → i < 32 → eq_by_cmp pos_cmp (place_of w i) p ≡ (w == 8 * p.block + p.bit / 32 && i == p.bit % 32)
+same_place : (p : Pos) (w i : ℕ) → IsPlace p → i < 32 → eq_by_cmp pos_cmp (position_of_bit w i) p ≡ (w == 8 * p.block + p.bit / 32 && i == p.bit % 32)
 same_place p w i place small = same_bool _ _
     (λ h.
-    let same : place_of w i ≡ p = pos_exact (place_of w i) p ((Equal-is (pos_cmp (place_of w i) p)).0 h) in
+    let same : position_of_bit w i ≡ p = pos_exact (position_of_bit w i) p ((Equal-is (pos_cmp (position_of_bit w i) p)).0 h) in
     let block : w / 8 ≡ p.block = ap (λ (q : Pos). q.block) same in
     let bit : 32 * (w % 8) + i ≡ p.bit = ap (λ (q : Pos). q.bit) same in
     and_from _ _ (eq-eqb w (8 * p.block + p.bit / 32) (omega (arith, block, bit, small))) (eq-eqb i (p.bit % 32) (omega (arith, bit, small))))
@@ -218,7 +218,7 @@ same_place p w i place small = same_bool _ _
     let parts = and_parts (w == 8 * p.block + p.bit / 32) (i == p.bit % 32) h in
     let word = eqb-true w (8 * p.block + p.bit / 32) parts.0 in
     let bit = eqb-true i (p.bit % 32) parts.1 in
-    let same : place_of w i ≡ p = ap₂ place_of word bit ∙ place_again p place in
+    let same : position_of_bit w i ≡ p = ap₂ position_of_bit word bit ∙ place_again p place in
     ap (λ (q : Pos). eq_by_cmp pos_cmp q p) same ∙ ap is_eq (tied_itself pos_total p))
 
 pub positions_of-insert : (words : List ℕ) (p : Pos) (index : ℕ) → index ≡ 8 * p.block + p.bit / 32 → IsPlace p → length words ≡ 32
@@ -252,7 +252,7 @@ positions_of-insert words p index is place count =
                 (sym (and_left (w == 8 * p.block + p.bit / 32) (i == bit) (ne_eqb w _ (λ e. elsewhere (e ∙ sym is)))))
           ])
           ∙ (ap₂ (λ (a b : Bool). a || b) (sym (same_place p w i place small)) (sym (contains-place_of words w i low_index small))
-          ∙ sym (set.contains-insert pos_total (positions_of words) p (place_of w i)));
+          ∙ sym (set.contains-insert pos_total (positions_of words) p (position_of_bit w i)));
       none = λ q not_one.
           set.contains-insert pos_total (positions_of words) p q
           ∙ or_from _ _ (false_from_ne_true (eq_by_cmp pos_cmp q p) (λ h.

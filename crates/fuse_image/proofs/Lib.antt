@@ -6,3 +6,4 @@ pub mod Masks
 pub mod Tables
 pub mod Governed
 pub mod InFront
+pub mod Redacted

@@ -9,7 +9,7 @@ use Rattle.std.proofs.Math.Pow.{pow_mono}
 use Rattle.fusemap_core.specs.declared.pos.Pos.{Pos}
 use Rattle.fuse_image.specs.Masks.{mask_of}
 use Rattle.fuse_image.specs.Places.{run, same_bool}
-use Rattle.fuse_image.specs.Words.{place_of}
+use Rattle.fuse_image.specs.Words.{position_of_bit}
 use Rattle.fuse_image.proofs.BitSets.{AreBitsOf, AreBitsOf-words, AreBitsOf-same, AreBitsOf-or, positions_of, positions_of-bits}
 use Rattle.fuse_image.proofs.Sets.{places_where-at, none_outside}
 
@@ -51,10 +51,12 @@ abbrev in_run : Pos → ℕ → Pos → Bool
 in_run first count p = first.block == p.block && (nat_le first.bit p.bit && nat_lt p.bit (first.bit + count))
 
 run_places : (first : Pos) (count w i : ℕ) → first.bit + count ≤ 256 → i < 32
-    → (nat_le (256 * first.block + first.bit) (32 * w + i) && nat_lt (32 * w + i) (256 * first.block + first.bit + count)) ≡ in_run first count (place_of w i)
+    → (nat_le (256 * first.block + first.bit) (32 * w + i)
+    && nat_lt (32 * w + i) (256 * first.block + first.bit + count))
+    ≡ in_run first count (position_of_bit w i)
 run_places first count w i fits small =
     let start = 256 * first.block + first.bit in
-    let place = place_of w i in
+    let place = position_of_bit w i in
     same_bool (nat_le start (32 * w + i) && nat_lt (32 * w + i) (start + count)) (in_run first count place)
     (λ h.
     let ends = and_parts (nat_le start (32 * w + i)) (nat_lt (32 * w + i) (start + count)) h in
@@ -79,7 +81,7 @@ AreBitsOf-run : (first : Pos) (count : ℕ) → first.bit + count ≤ 256
 AreBitsOf-run first count fits = record {
   bits = λ w i low small.
       bit_at-mask_of (256 * first.block + first.bit) (256 * first.block + first.bit + count) w i small
-      ∙ (run_places first count w i fits small ∙ sym (places_where-at (in_run first count) (place_of w i) (omega (arith, low), omega (arith, small))));
+      ∙ (run_places first count w i fits small ∙ sym (places_where-at (in_run first count) (position_of_bit w i) (omega (arith, low), omega (arith, small))));
   none = none_outside (in_run first count);
 }
 

@@ -16,5 +16,5 @@ abbrev pub blocks_of : List (List ℕ) → Option (List (List ℕ))
 blocks_of blocks = if are_blocks blocks then Some blocks else None
 
 -- the bytes of a block: byte i holds its bits 8i to 8i+7, the lowest bit first
-unfoldable pub bytes_of : List ℕ → List ℕ
-bytes_of words = flat_map (to_le_bytes w32) words
+unfoldable pub bytes_of_block : List ℕ → List ℕ
+bytes_of_block words = flat_map (to_le_bytes w32) words

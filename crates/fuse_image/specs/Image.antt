@@ -10,15 +10,15 @@ use Rattle.fuse_image.specs.Keys.{AreAmong, has_no_key, table_where}
 use Rattle.fuse_image.specs.Locks.{is_hidden, is_hidden_key}
 
 -- what is in one of two images: where both have a key, the first one's
-abbrev pub joined : Image → Image → Image
-joined a b = record { burnt = set.union a.burnt b.burnt; keys = keys.joined a.keys b.keys }
+abbrev pub image_union : Image → Image → Image
+image_union a b = record { burnt = set.union a.burnt b.burnt; keys = keys.keys_union a.keys b.keys }
 
 -- the positions of the first image that the second hasn't, and the keys of the blocks at which the second has none
-abbrev pub without : Image → Image → Image
-without a b = record { burnt = set.difference a.burnt b.burnt; keys = keys.without a.keys b.keys }
+abbrev pub image_without : Image → Image → Image
+image_without a b = record { burnt = set.difference a.burnt b.burnt; keys = keys.keys_without a.keys b.keys }
 
 -- the second image has each position and each key of the first
-pub record IsWithin (a b : Image) : Type 0 where
+pub record IsImageWithin (a b : Image) : Type 0 where
   pub burnt : set.is_subset a.burnt b.burnt ≡ true
   pub keys : AreAmong a.keys b.keys
 

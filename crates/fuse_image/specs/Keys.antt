@@ -30,12 +30,12 @@ abbrev pub has_no_key : KeyTable → Bool
 has_no_key t = map.len t == 0
 
 -- the keys of both tables: where both have one, the first table's
-unfoldable pub joined : KeyTable → KeyTable → KeyTable
-joined keys others = table_where (λ b. option_or (map.get keys b) (map.get others b))
+unfoldable pub keys_union : KeyTable → KeyTable → KeyTable
+keys_union keys others = table_where (λ b. option_or (map.get keys b) (map.get others b))
 
 -- the keys of the blocks that have none in the second table
-unfoldable pub without : KeyTable → KeyTable → KeyTable
-without keys others = table_where (λ b. if is_some (map.get others b) then None else map.get keys b)
+unfoldable pub keys_without : KeyTable → KeyTable → KeyTable
+keys_without keys others = table_where (λ b. if is_some (map.get others b) then None else map.get keys b)
 
 -- each key of the first table is in the second, with the same digest
 abbrev pub AreAmong : KeyTable → KeyTable → Type 0

@@ -8,3 +8,4 @@ pub mod Masks
 pub mod Keys
 pub mod Locks
 pub mod Image
+pub mod Redaction

@@ -37,8 +37,8 @@ abbrev pub is_empty : Positions → Bool
 is_empty s = set.len s == 0
 
 -- the sets share a position
-abbrev pub meets : Positions → Positions → Bool
-meets s t = not (is_empty (set.intersection s t))
+abbrev pub sets_meet : Positions → Positions → Bool
+sets_meet s t = not (is_empty (set.intersection s t))
 
 -- the position lies in 4 blocks of 8 words of 32 bits
 abbrev pub is_place : Pos → Bool

@@ -16,13 +16,13 @@ number_with test zero = 0
 number_with test (suc n) = number_with test n + (if test n then 2 ^ n else 0)
 
 -- the position of a bit of a word
-abbrev pub place_of : ℕ → ℕ → Pos
-place_of word bit = record { block = word / 8; bit = 32 * (word % 8) + bit }
+abbrev pub position_of_bit : ℕ → ℕ → Pos
+position_of_bit word bit = record { block = word / 8; bit = 32 * (word % 8) + bit }
 
 -- a word of a set
 abbrev pub word_of : Positions → ℕ → ℕ
-word_of s word = number_with (λ bit. set.contains s (place_of word bit)) 32
+word_of s word = number_with (λ bit. set.contains s (position_of_bit word bit)) 32
 
 -- the 32 words of a set
-unfoldable pub words_of : Positions → List ℕ
-words_of s = map (word_of s) (range_with_len 0 32)
+unfoldable pub words_of_set : Positions → List ℕ
+words_of_set s = map (word_of s) (range_with_len 0 32)

@@ -9,7 +9,7 @@ use Rattle.std.proofs.lemmas.List.FromFn.{fill_by_all}
 use Rattle.std.proofs.lemmas.Nat.{mod-pow-add}
 use Rattle.std.proofs.lemmas.Nat.Bits.{bit_at-lt}
 use Rattle.fuse_image.specs.Places.{places_where, contains-places_where}
-use Rattle.fuse_image.specs.Words.{bit_in, number_with, place_of, word_of, words_of}
+use Rattle.fuse_image.specs.Words.{bit_in, number_with, position_of_bit, word_of, words_of_set}
 
 -- 32 words of 32 bits
 pub record AreWords (words : List ℕ) : Type 0 where
@@ -38,18 +38,20 @@ number_with-bits x (suc n) =
 
 -- the position of a bit is in the set where the bit is 1
 pub contains-place_of : (words : List ℕ) (word bit : ℕ) → word < 32 → bit < 32
-    → set.contains (places_where (bit_in words)) (place_of word bit) ≡ (bit_at (slice_index words word) bit == 1)
+    → set.contains (places_where (bit_in words)) (position_of_bit word bit) ≡ (bit_at (slice_index words word) bit == 1)
 contains-place_of words word bit low small =
     let index : 8 * (word / 8) + (32 * (word % 8) + bit) / 32 ≡ word = omega (arith, small) in
     let place : (32 * (word % 8) + bit) % 32 ≡ bit = omega (arith, small) in
-    contains-places_where (bit_in words) (place_of word bit)
-    ∙ (ap (λ (b : Bool). b && bit_in words (place_of word bit))
+    contains-places_where (bit_in words) (position_of_bit word bit)
+    ∙ (ap (λ (b : Bool). b && bit_in words (position_of_bit word bit))
     (and_from _ _ (lt-ltb (word / 8) 4 (omega (arith, low))) (lt-ltb (32 * (word % 8) + bit) 256 (omega (arith, small))))
     ∙ ap₂ (λ (w b : ℕ). bit_at (slice_index words w) b == 1) index place)
 
-pub words_again : (words : List ℕ) → AreWords words → words_of (places_where (bit_in words)) ≡ words
-unfolding words_of
+pub words_again : (words : List ℕ) → AreWords words → words_of_set (places_where (bit_in words)) ≡ words
+unfolding words_of_set
 words_again words are = sym (fill_by_all (word_of (places_where (bit_in words))) words 32 0 are.count (λ word low.
-    sym (same_number (λ bit. set.contains (places_where (bit_in words)) (place_of word bit)) (λ bit. bit_at (slice_index words word) bit == 1) 32 (λ bit small.
+    sym (same_number (λ bit.
+    set.contains (places_where (bit_in words)) (position_of_bit word bit)) (λ bit.
+    bit_at (slice_index words word) bit == 1) 32 (λ bit small.
     contains-place_of words word bit low small)
     ∙ (number_with-bits (slice_index words word) 32 ∙ mod-eq_of_lt (are.small word)))))

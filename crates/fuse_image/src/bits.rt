@@ -5,8 +5,8 @@ ghost use Rattle.std.specs.Int.{bit_not, w32};
 ghost use Rattle.std.specs.FinSet as set;
 ghost use Rattle.fusemap_core.specs.declared.pos.Pos.{Pos};
 ghost use Rattle.fuse_image.specs.Masks.{mask_of};
-ghost use Rattle.fuse_image.specs.Places.{is_empty, IsPlace, is_place, meets, places_where, run};
-ghost use Rattle.fuse_image.specs.Words.{bit_in, words_of};
+ghost use Rattle.fuse_image.specs.Places.{is_empty, IsPlace, is_place, sets_meet, places_where, run};
+ghost use Rattle.fuse_image.specs.Words.{bit_in, words_of_set};
 
 use fusemap_core::Pos;
 use std::marker::Model;
@@ -22,7 +22,7 @@ impl Model for Bits {
     ghost use Rattle.std.specs.FinSet as set;
     ghost use Rattle.std.proofs.Common.{ap};
     ghost use Rattle.fuse_image.specs.Places.{Positions, places_where, coded_pos};
-    ghost use Rattle.fuse_image.specs.Words.{bit_in, words_of};
+    ghost use Rattle.fuse_image.specs.Words.{bit_in, words_of_set};
     ghost use Rattle.fuse_image.specs.WordsAgain.{AreWords, words_again};
 
     ghost Value = { Positions };
@@ -33,7 +33,7 @@ impl Model for Bits {
 
     ghost invariant = { λ a. AreWords a.words };
 
-    ghost inverse = { λ s. record { words = words_of s } };
+    ghost inverse = { λ s. record { words = words_of_set s } };
 
     ghost inverse_ok = { λ a h. ap (λ words. record { words = words }) (words_again a.words h) };
 }
@@ -91,7 +91,7 @@ impl Bits {
         ensures { result ≡ set.union self.now other.now }
     {
         Bits {
-            words: joined(&self.words, &other.words),
+            words: join_words(&self.words, &other.words),
         }
     }
 
@@ -129,7 +129,7 @@ impl Bits {
 
     /// Whether the other has one of them.
     pub fn meets(&self, other: &Bits) -> bool
-        ensures { result ≡ meets self.now other.now }
+        ensures { result ≡ sets_meet self.now other.now }
     {
         !are_apart(&self.words, &other.words)
     }
@@ -151,7 +151,7 @@ impl Bits {
 
     /// The positions as 32 words, eight words for each of 4 blocks, the lowest bit of a word first.
     pub fn to_words(&self) -> [u32; 32]
-        ensures { result ≡ words_of self.now }
+        ensures { result ≡ words_of_set self.now }
     {
         self.words
     }
@@ -190,7 +190,7 @@ fn mask(word: u16, start: u16, end: u16) -> u32
 }
 
 /// The ones of both.
-fn joined(own: &[u32; 32], other: &[u32; 32]) -> [u32; 32]
+fn join_words(own: &[u32; 32], other: &[u32; 32]) -> [u32; 32]
     ensures { (word : ℕ) → word < 32 → slice_index result word
         ≡ bit_or (slice_index own.now word) (slice_index other.now word) }
 {

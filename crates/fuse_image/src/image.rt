@@ -7,7 +7,7 @@ ghost use Rattle.fuse_image.specs.Image as image;
 ghost use Rattle.fuse_image.specs.Keys.{table_where};
 ghost use Rattle.fuse_image.specs.Locks as locks;
 ghost use Rattle.fuse_image.specs.Places.{IsPlace, places_where};
-ghost use Rattle.fuse_image.specs.Words.{bit_in, words_of};
+ghost use Rattle.fuse_image.specs.Words.{bit_in, words_of_set};
 
 use crate::bits::Bits;
 use crate::keys::Keys;
@@ -79,7 +79,7 @@ impl Image {
 
     /// What is in one of both. Where both have a key of a block, it is its own.
     pub fn join(&self, other: &Image) -> Image
-        ensures { result ≡ image.joined self.now other.now }
+        ensures { result ≡ image.image_union self.now other.now }
     {
         Image {
             burnt: self.burnt.join(&other.burnt),
@@ -89,7 +89,7 @@ impl Image {
 
     /// The positions that the other hasn't, and the keys of the blocks at which the other has none.
     pub fn minus(&self, other: &Image) -> Image
-        ensures { result ≡ image.without self.now other.now }
+        ensures { result ≡ image.image_without self.now other.now }
     {
         Image {
             burnt: self.burnt.minus(&other.burnt),
@@ -99,7 +99,7 @@ impl Image {
 
     /// Whether the other has all of it: each position, and each key with the same digest.
     pub fn is_within(&self, other: &Image) -> bool
-        ensures { IsTrue result ↔ image.IsWithin self.now other.now }
+        ensures { IsTrue result ↔ image.IsImageWithin self.now other.now }
     {
         self.burnt.is_within(&other.burnt) && self.keys.is_within(&other.keys)
     }
@@ -125,7 +125,7 @@ impl Image {
     /// The burnt positions as 32 words, eight words for each of 4 blocks, the lowest bit of a word
     /// first.
     pub fn to_words(&self) -> [u32; 32]
-        ensures { result ≡ words_of self.now.burnt }
+        ensures { result ≡ words_of_set self.now.burnt }
     {
         self.burnt.to_words()
     }

@@ -5,7 +5,7 @@ ghost use Rattle.std.specs.FinMap as map;
 ghost use Rattle.std.specs.List.{list_all};
 ghost use Rattle.std.specs.Option.{option_or};
 ghost use Rattle.fuse_image.specs.Keys.{AreAmong, AreDigests, AreEachAmong, HoldsDigests};
-ghost use Rattle.fuse_image.specs.Keys.{has_no_key, joined, table, without};
+ghost use Rattle.fuse_image.specs.Keys.{has_no_key, keys_union, table, keys_without};
 
 use std::marker::Model;
 use text_core::Digest;
@@ -79,7 +79,7 @@ impl Keys {
 
     /// The keys of both. Where both have one, it is its own.
     pub fn join(&self, other: &Keys) -> Keys
-        ensures { result ≡ joined self.now other.now }
+        ensures { result ≡ keys_union self.now other.now }
     {
         Keys {
             digests: [
@@ -93,7 +93,7 @@ impl Keys {
 
     /// The keys of the blocks at which the other has none.
     pub fn minus(&self, other: &Keys) -> Keys
-        ensures { result ≡ without self.now other.now }
+        ensures { result ≡ keys_without self.now other.now }
     {
         Keys {
             digests: [

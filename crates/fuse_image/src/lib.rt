@@ -1,5 +1,6 @@
-//! Burnt fuses: the words of a chip's blocks, sets of fuse positions, tables of key digests, and what
-//! the locks of a fuse map hide and protect.
+//! Burnt fuses: the words of a chip's blocks, sets of fuse positions, tables of key digests, what the
+//! locks of a fuse map hide and protect, and what a chip shows when its fuses are read back: its words
+//! with each key block replaced by its digest.
 #![tactic(auto)]
 
 mod bits;
@@ -7,6 +8,7 @@ mod blocks;
 mod image;
 mod keys;
 mod locks;
+mod redaction;
 mod words;
 
 pub use bits::Bits;
@@ -15,5 +17,8 @@ pub use keys::Keys;
 pub use locks::{
     hidden_positions, is_burnt, is_hidden_key, is_key_block, is_write_protected_key, key_positions,
     positions_of, write_protected_positions,
+};
+pub use redaction::{
+    ReadBack, coding_field, fits, has_coding_scheme, redact, shows_what_is_hidden,
 };
 pub use words::BlockWords;

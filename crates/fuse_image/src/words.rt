@@ -3,7 +3,7 @@ ghost use Rattle.std.specs.Prelude.{◌≡◌, ◌<◌, ◌≤◌, ◌/◌, ◌%
 ghost use Rattle.std.specs.Prelude.{slice_index_or, [], All};
 ghost use Rattle.std.specs.List.{list_all};
 ghost use Rattle.sha2.specs.Sha256.{sha256};
-ghost use Rattle.fuse_image.specs.Blocks.{are_blocks, is_block, blocks_of, bytes_of};
+ghost use Rattle.fuse_image.specs.Blocks.{are_blocks, is_block, blocks_of, bytes_of_block};
 
 use crate::blocks::{BLOCK_LIMIT, Block, Blocks, WORD_LIMIT};
 use sha2::Sha256;
@@ -84,7 +84,7 @@ impl BlockWords {
     /// first.
     pub fn digest(&self, index: usize) -> Digest
         requires { index < length self.now }
-        ensures { result ≡ sha256 (bytes_of (slice_index_or self.now index [])) }
+        ensures { result ≡ sha256 (bytes_of_block (slice_index_or self.now index [])) }
     {
         digest_of(self.block(index))
     }
@@ -139,9 +139,9 @@ fn copy_of(blocks: &[Vec<u32>]) -> Blocks
 }
 
 /// The SHA-256 digest of the bytes of a block.
-#[tactic(auto, unfolding(crate::specs::Blocks::bytes_of))]
+#[tactic(auto, unfolding(crate::specs::Blocks::bytes_of_block))]
 fn digest_of(words: &[u32]) -> Digest
-    ensures { result ≡ sha256 (bytes_of words.now) }
+    ensures { result ≡ sha256 (bytes_of_block words.now) }
 {
     let mut hasher = <Sha256 as sha2::Digest>::new();
     for word in words {

@@ -11,7 +11,7 @@ use Rattle.std.specs.Cmp.Lexicographic.{bytes_decides}
 use Rattle.std.proofs.lemmas.Bool.{and_parts, and_from, and_right, or_parts, or_from, or_cases, or_right, true≢false, false≢true, not-true, not-false}
 use Rattle.std.proofs.lemmas.Bool.{not_from_false, not_from_true, cases_Bool, eqb-true, false_from_ne_true, lt-ltb, ltb-true, cond-true, cond-false}
 use Rattle.fuse_image.specs.declared.image.Image.{Image}
-use Rattle.fuse_redaction.specs.declared.redaction.ReadBack.{ReadBack}
+use Rattle.fuse_image.specs.declared.redaction.ReadBack.{ReadBack}
 use Rattle.fuse_plan.specs.declared.verdict.ChipFault.{ChipFault}
 use Rattle.fuse_plan.specs.declared.verdict.Verdict.{Verdict}
 use Rattle.fuse_plan.specs.declared.verdict.Verdict.TheVariants.{Match, Short, Fault}
@@ -19,12 +19,12 @@ use Rattle.fuse_plan.specs.declared.verdict.ChipFault.TheVariants.{Lost, Stray, 
 use Rattle.fusemap_core.specs.declared.field.Field.{Field}
 use Rattle.fusemap_core.specs.declared.pos.Pos.{Pos}
 use Rattle.fuse_image.specs.Places.{Positions, is_empty, pos_total, pos_exact}
-use Rattle.fuse_image.specs.Keys.{KeyTable, has_no_key, joined, table_where, get-table_where, without}
+use Rattle.fuse_image.specs.Keys.{KeyTable, has_no_key, keys_union, table_where, get-table_where, keys_without}
 use Rattle.fusemap_core.specs.Map.{Map}
 use Rattle.fuse_image.specs.Locks.{is_hidden, is_hidden_key, is_key_block}
-use Rattle.fuse_redaction.specs.Redaction.{AreKeys, some_key}
+use Rattle.fuse_image.specs.Redaction.{AreKeys, some_key}
 use Rattle.fuse_plan.specs.Outcome.{seen, verdict_under, lost, stray, is_other, is_bad_key, short_bits, short_keys}
-use Rattle.fuse_plan.specs.Law.{IsInSight, MatchLaw, with_batch}
+use Rattle.fuse_plan.specs.Law.{StaysReadable, MatchLaw, with_batch}
 use Rattle.fuse_image.proofs.Sets.{none_in, is_empty-from_none}
 use Rattle.fuse_image.proofs.Tables.{get_within, no_key_at, has_no_key-from_none}
 use Rattle.fuse_plan.proofs.Compared.{in_retain}
@@ -235,15 +235,15 @@ module _ (m : Map) (image : Image) (P : Positions) (Q : KeyTable) (r : ReadBack)
 
   at_short_key : (b : ℕ) → map.get (short_keys image.keys Q r.shown) b
       ≡ (if nat_lt b 4 then (if is_some (map.get image.keys b) || is_some (map.get r.shown b) then None else map.get Q b) else None)
-  unfolding short_keys without
+  unfolding short_keys keys_without
   at_short_key b =
-      get-table_where (λ b. if is_some (map.get r.shown b) then None else map.get (without Q image.keys) b) b
+      get-table_where (λ b. if is_some (map.get r.shown b) then None else map.get (keys_without Q image.keys) b) b
       ∙ ap (λ (x : Option (List ℕ)). if nat_lt b 4 then (if is_some (map.get r.shown b) then None else x) else None)
       (get-table_where (λ b. if is_some (map.get image.keys b) then None else map.get Q b) b)
       ∙ neither_there (nat_lt b 4) (is_some (map.get image.keys b)) (is_some (map.get r.shown b)) (map.get Q b)
 
-  at_joined : (b : ℕ) → b < 4 → map.get (joined image.keys Q) b ≡ option_or (map.get image.keys b) (map.get Q b)
-  unfolding joined
+  at_joined : (b : ℕ) → b < 4 → map.get (keys_union image.keys Q) b ≡ option_or (map.get image.keys b) (map.get Q b)
+  unfolding keys_union
   at_joined b h = get_within (λ b. option_or (map.get image.keys b) (map.get Q b)) b h
 
   module _ (n : NoneOf m L image P Q r) where
@@ -269,7 +269,7 @@ module _ (m : Map) (image : Image) (P : Positions) (Q : KeyTable) (r : ReadBack)
         ∙ sym (in_retain BP (λ p. not (is_hidden m BP p)) p))
 
     abbrev to_show : Positions → ℕ → Option (List ℕ)
-    to_show S b = if is_hidden_key m S b then None else map.get (joined image.keys Q) b
+    to_show S b = if is_hidden_key m S b then None else map.get (keys_union image.keys Q) b
 
     key_at : (b : ℕ) → b < 4 → map.get r.shown b ≡ to_show BP b
     unfolding is_bad_key
@@ -289,7 +289,7 @@ module _ (m : Map) (image : Image) (P : Positions) (Q : KeyTable) (r : ReadBack)
     forth : r ≡ seen m (with_batch image P Q)
     forth = ap₂ (λ (o : Positions) (s : KeyTable). let x : ReadBack = record { ones = o; shown = s } in x) ones_are shown_is
 
-  module _ (sight : IsInSight m BP P image.keys Q) (e : r ≡ seen m (with_batch image P Q)) where
+  module _ (sight : StaysReadable m BP P image.keys Q) (e : r ≡ seen m (with_batch image P Q)) where
     one_at : (p : Pos) → set.contains r.ones p ≡ ((set.contains B p || set.contains P p) && not (is_hidden m BP p))
     one_at p =
         ap (λ (x : ReadBack). set.contains x.ones p) e ∙ in_retain BP (λ p. not (is_hidden m BP p)) p
@@ -302,7 +302,7 @@ module _ (m : Map) (image : Image) (P : Positions) (Q : KeyTable) (r : ReadBack)
         ∙ sym (set.contains-union pos_total B P p))
 
     abbrev shown_at : ℕ → Option (List ℕ)
-    shown_at b = if is_hidden_key m BP b then None else map.get (joined image.keys Q) b
+    shown_at b = if is_hidden_key m BP b then None else map.get (keys_union image.keys Q) b
 
     key_shown : (b : ℕ) → b < 4 → map.get r.shown b ≡ (if is_hidden_key m BP b then None else option_or (map.get image.keys b) (map.get Q b))
     key_shown b l =

@@ -6,27 +6,28 @@ use Rattle.std.specs.List.{list_any}
 use Rattle.std.specs.Option.{option_map_or}
 use Rattle.std.specs.FinSet as set
 use Rattle.std.proofs.lemmas.Bool.{and_from, and_parts, eqb-true, false≢true, le-leb, lt-ltb, ltb-true, or_cases, or_parts}
+use Rattle.text_core.specs.Options.{first_that_holds}
 use Rattle.fusemap_core.specs.declared.field.Field.{Field}
 use Rattle.fusemap_core.specs.declared.pos.Pos.{Pos}
-use Rattle.fusemap_core.specs.Map.{HasBit, HasItsLocks, IsInBlock, IsMap, IsPosition, Map, NamesLockField, bit_of, field_named, holds, is_lock, is_named}
-use Rattle.fusemap_core.specs.Map.{lock_at, words_of}
+use Rattle.fusemap_core.specs.Map.{HasBit, HasItsLocks, IsInBlock, IsMap, IsPosition, Map, NamesLockField, bit_of, field_named, holds, is_lock, is_field_named}
+use Rattle.fusemap_core.specs.Map.{lock_at, word_count}
 use Rattle.fusemap_core.proofs.Bounds.{found}
 use Rattle.fuse_image.specs.Locks.{is_key_position}
 use Rattle.fuse_image.specs.Places.{Positions, contains-places_where, is_place, pos_total}
 use Rattle.fuse_image.specs.declared.image.Image.{Image}
-use Rattle.fuse_image.specs.Keys.{HoldsDigests, KeyTable, without}
+use Rattle.fuse_image.specs.Keys.{HoldsDigests, KeyTable, keys_without}
 use Rattle.fuse_columns.specs.BitsColumns.{AreBits}
 use Rattle.fuse_columns.specs.KeysColumns.{AreKeysOf}
-use Rattle.fuse_columns.specs.TodoColumns.{IsWork}
+use Rattle.fuse_columns.specs.TodoColumns.{IsPending}
 use Rattle.fuse_columns.proofs.Lies.{sets_stay, tables_stay}
-use Rattle.fuse_redaction.specs.Redaction.{AreKeys}
+use Rattle.fuse_image.specs.Redaction.{AreKeys}
 use Rattle.fuse_plan.specs.declared.wants.Wants.{Wants}
 use Rattle.fuse_plan.specs.declared.wish.Want.{Want}
 use Rattle.fuse_plan.specs.declared.wish.Want.TheVariants.{Bit, Value, Key, WriteLock, ReadLock}
 use Rattle.fuse_plan.specs.declared.wish.Wish.{Wish}
 use Rattle.fuse_plan.specs.Outcome.{short_bits, short_keys}
-use Rattle.fuse_plan.specs.Pending.{RestsLie}
-use Rattle.fuse_plan.specs.Plans.{batches, faults_with, is_of_wrong_kind, is_wrong, lock_positions, lowest}
+use Rattle.fuse_plan.specs.Pending.{RestsInMap}
+use Rattle.fuse_plan.specs.Plans.{batches, faults_with, is_of_wrong_kind, is_wrong, lock_positions}
 use Rattle.fuse_plan.specs.Wishes.{asks_one, is_to_be_one, missing, wanted_ones, wants_of}
 use Rattle.fuse_plan.proofs.Pending.{missing_keys, none_at}
 use Rattle.fuse_plan.proofs.Shown.{found_alone}
@@ -48,16 +49,16 @@ module _ (m : Map) (is : IsMap m) (q : Pos) where
   unfolding is_key_position
   plain name g e not_key h =
       let within : IfSome (Some g) (IsInBlock m.blocks) =
-      subst (λ (o : Option Field). IfSome o (IsInBlock m.blocks)) e (found (is_named name) (IsInBlock m.blocks) m.fields is.in_block) in
+      subst (λ (o : Option Field). IfSome o (IsInBlock m.blocks)) e (found (is_field_named name) (IsInBlock m.blocks) m.fields is.in_block) in
       let parts = and_parts (g.block == q.block) (nat_le g.bit q.bit && nat_lt q.bit (g.bit + g.count)) h in
       let bits = and_parts (nat_le g.bit q.bit) (nat_lt q.bit (g.bit + g.count)) parts.1 in
       let block : g.block ≡ q.block = eqb-true g.block q.block parts.0 in
       let low = ltb-true q.bit (g.bit + g.count) bits.1 in (
         record {
           block = omega (arith, block, within.block);
-          bit = omega (arith, low, within.end, ap (words_of m.blocks) block);
+          bit = omega (arith, low, within.end, ap (word_count m.blocks) block);
         },
-        found_alone m.fields (is_named name) (λ f. f.key) q is.apart g e h not_key,
+        found_alone m.fields (is_field_named name) (λ f. f.key) q is.apart g e h not_key,
       )
 
   -- a lock is a bit of its lock field
@@ -83,11 +84,11 @@ module _ (m : Map) (is : IsMap m) (q : Pos) where
   of_field name f e (Key digest) right asks = absurd (false≢true asks)
   of_field name f e WriteLock right asks =
       let has : IfSome (Some f) (HasItsLocks m) =
-      subst (λ (o : Option Field). IfSome o (HasItsLocks m)) e (found (is_named name) (HasItsLocks m) m.fields is.locks) in
+      subst (λ (o : Option Field). IfSome o (HasItsLocks m)) e (found (is_field_named name) (HasItsLocks m) m.fields is.locks) in
       lock m.wr is.lock_fields.wr f.write has.write asks
   of_field name f e ReadLock right asks =
       let has : IfSome (Some f) (HasItsLocks m) =
-      subst (λ (o : Option Field). IfSome o (HasItsLocks m)) e (found (is_named name) (HasItsLocks m) m.fields is.locks) in
+      subst (λ (o : Option Field). IfSome o (HasItsLocks m)) e (found (is_field_named name) (HasItsLocks m) m.fields is.locks) in
       lock m.rd is.lock_fields.rd f.read has.read asks
 
   of_wish : (w : Wish) → is_of_wrong_kind m w ≡ false → asks_one m q w ≡ true → Lies m q
@@ -114,7 +115,7 @@ wanted_lie m is ws right q has =
     of_wishes m is q ws right (and_parts (is_place q) _ (sym (contains-places_where (λ p. list_any (asks_one m p) ws) q) ∙ has)).1
 
 -- the batches of lawful wishes
-pub batches_lie : (m : Map) → IsMap m → (a : Image) (ws : List Wish) → lowest (faults_with m a ws (wants_of m ws) (missing a (wants_of m ws))) ≡ None
+pub batches_lie : (m : Map) → IsMap m → (a : Image) (ws : List Wish) → first_that_holds (faults_with m a ws (wants_of m ws) (missing a (wants_of m ws))) ≡ None
     → AreBits m (batches m (missing a (wants_of m ws))).first × AreBits m (batches m (missing a (wants_of m ws))).second
 batches_lie m is a ws lawful =
     let w = wants_of m ws in
@@ -128,10 +129,10 @@ batches_lie m is a ws lawful =
 
 -- the whole plan
 pub plan_lies : (m : Map) → IsMap m → (a : Image) (ws : List Wish) (w : Wants) (lacking : Image) → w ≡ wants_of m ws → lacking ≡ missing a w
-    → lowest (faults_with m a ws w lacking) ≡ None → HoldsDigests lacking.keys → IsWork m (batches m lacking)
+    → first_that_holds (faults_with m a ws w lacking) ≡ None → HoldsDigests lacking.keys → IsPending m (batches m lacking)
 plan_lies m is a ws w lacking wanted left lawful digests =
     let same : lacking ≡ missing a (wants_of m ws) = left ∙ ap (missing a) wanted in
-    let bits = batches_lie m is a ws (sym (ap₂ (λ (v : Wants) (x : Image). lowest (faults_with m a ws v x)) wanted same) ∙ lawful) in
+    let bits = batches_lie m is a ws (sym (ap₂ (λ (v : Wants) (x : Image). first_that_holds (faults_with m a ws v x)) wanted same) ∙ lawful) in
     let keys : AreKeys m lacking.keys = subst (λ (x : Image). AreKeys m x.keys) (sym same) (missing_keys m a ws) in
     record {
       first = subst (λ (x : Image). AreBits m (batches m x).first) (sym same) bits.0;
@@ -146,9 +147,9 @@ rest_bits m batch ones lies = (sets_stay m).difference batch ones lies
 
 rest_keys : (m : Map) (known asked shown : KeyTable) → AreKeysOf m asked → AreKeysOf m (short_keys known asked shown)
 unfolding short_keys
-rest_keys m known asked shown lies = (tables_stay m).without (without asked known) shown ((tables_stay m).without asked known lies)
+rest_keys m known asked shown lies = (tables_stay m).without (keys_without asked known) shown ((tables_stay m).without asked known lies)
 
-pub rests_lie : RestsLie
+pub rests_lie : RestsInMap
 rests_lie m a w r lies = (
   record {
     first = rest_bits m w.first r.ones lies.first;

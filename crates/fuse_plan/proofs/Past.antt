@@ -6,9 +6,9 @@ use Rattle.std.specs.FinSet as set
 use Rattle.std.proofs.lemmas.Bool.{and_from, and_parts, both_ways, cases_lt, false_from_ne_true, false≢true, le-leb, leb-true, lt-ltb, ltb-true, not-true}
 use Rattle.std.proofs.lemmas.Bool.{not_from_false, or_cases, or_left, or_right, true_from_ne_false}
 use Rattle.fusemap_core.specs.declared.pos.Pos.{Pos}
-use Rattle.fuse_image.specs.Places.{Positions, contains-places_where, is_empty, is_place, meets, places_where, run, same_bool}
+use Rattle.fuse_image.specs.Places.{Positions, contains-places_where, is_empty, is_place, sets_meet, places_where, run, same_bool}
 use Rattle.fuse_image.proofs.Sets.{is_empty-from_none, none_in}
-use Rattle.fuse_plan.specs.Numbers.{has_one}
+use Rattle.fuse_plan.specs.Numbers.{number_has_one}
 use Rattle.fuse_plan.specs.Wishes.{is_one_from}
 use Rattle.fuse_plan.proofs.Asked.{intersection-of_tests}
 
@@ -42,13 +42,15 @@ abbrev is_one_past : List ℕ → ℕ → Pos → Bool
 is_one_past v start p = is_one_from v (at 0) p && is_past start p
 
 -- a bit from the start on that is 1 is such a position
-one_past : (v : List ℕ) (start i : ℕ) → start ≤ i → i < start + (256 - start) → start ≤ 256 → has_one v i ≡ true
+one_past : (v : List ℕ) (start i : ℕ) → start ≤ i → i < start + (256 - start) → start ≤ 256 → number_has_one v i ≡ true
     → set.contains (places_where (is_one_past v start)) (at i) ≡ true
 one_past v start i low high within one =
     let small : i < 256 = omega (arith, high, within) in
     let same : i - 0 ≡ i = omega arith in
     let in_place : is_place (at i) ≡ true = lt-ltb i 256 small in
-    let one_from : is_one_from v (at 0) (at i) ≡ true = and_from (nat_le 0 i) (has_one v (i - 0)) (le-leb 0 i (omega arith)) (ap (has_one v) same ∙ one) in
+    let one_from : is_one_from v (at 0) (at i)
+    ≡ true = and_from (nat_le 0 i) (number_has_one v (i - 0)) (le-leb 0 i (omega arith))
+    (ap (number_has_one v) same ∙ one) in
     let past : is_past start (at i) ≡ true =
     and_from (nat_le start i) (nat_lt i (start + (256 - start))) (le-leb start i low) (lt-ltb i (start + (256 - start)) high) in
     let both : is_one_past v start (at i) ≡ true = and_from (is_one_from v (at 0) (at i)) (is_past start (at i)) one_from past in
@@ -57,26 +59,26 @@ one_past v start i low high within one =
 
 -- such a position is a bit from the start on that is 1
 one_of_past : (v : List ℕ) (start : ℕ) (p : Pos) → set.contains (places_where (is_one_past v start)) p ≡ true
-    → list_any (has_one v) (range_with_len start (256 - start)) ≡ true
+    → list_any (number_has_one v) (range_with_len start (256 - start)) ≡ true
 one_of_past v start p h =
     let parts = and_parts (is_place p) (is_one_past v start p) (sym (contains-places_where (is_one_past v start) p) ∙ h) in
     let both = and_parts (is_one_from v (at 0) p) (is_past start p) parts.1 in
-    let from = and_parts (0 == p.block) (nat_le 0 p.bit && has_one v (p.bit - 0)) both.0 in
-    let one = and_parts (nat_le 0 p.bit) (has_one v (p.bit - 0)) from.1 in
+    let from = and_parts (0 == p.block) (nat_le 0 p.bit && number_has_one v (p.bit - 0)) both.0 in
+    let one = and_parts (nat_le 0 p.bit) (number_has_one v (p.bit - 0)) from.1 in
     let in_block = and_parts (0 == p.block) (nat_le start p.bit && nat_lt p.bit (start + (256 - start))) both.1 in
     let in_run = and_parts (nat_le start p.bit) (nat_lt p.bit (start + (256 - start))) in_block.1 in
     let same : p.bit ≡ p.bit - 0 = omega arith in
-    any_in_range (has_one v) start (256 - start) p.bit (leb-true start p.bit in_run.0) (ltb-true p.bit (start + (256 - start)) in_run.1)
-    (ap (has_one v) same ∙ one.1)
+    any_in_range (number_has_one v) start (256 - start) p.bit (leb-true start p.bit in_run.0) (ltb-true p.bit (start + (256 - start)) in_run.1)
+    (ap (number_has_one v) same ∙ one.1)
 
 -- a number at the front of a block meets the positions from a bit on where it has a 1 from that bit on
-pub meets-from : (v : List ℕ) (start : ℕ) → start ≤ 256 → meets (places_where (is_one_from v (at 0))) (run (at start) (256 - start))
-    ≡ list_any (has_one v) (range_with_len start (256 - start))
-meets-from v start within =
+pub sets_meet-from : (v : List ℕ) (start : ℕ) → start ≤ 256 → sets_meet (places_where (is_one_from v (at 0))) (run (at start) (256 - start))
+    ≡ list_any (number_has_one v) (range_with_len start (256 - start))
+sets_meet-from v start within =
     ap (λ (s : Positions). not (is_empty s)) (intersection-of_tests (is_one_from v (at 0)) (is_past start))
     ∙ same_bool _ _
     (λ met. true_from_ne_false _ (λ none.
     both_ways _ (not-true _ met) (is_empty-from_none _ (λ p. false_from_ne_true _ (λ there. both_ways _ none (one_of_past v start p there))))))
-    (λ one. let found = in_range_any (has_one v) start (256 - start) one in
+    (λ one. let found = in_range_any (number_has_one v) start (256 - start) one in
     not_from_false _ (false_from_ne_true _ (λ empty.
     both_ways _ (none_in _ empty (at found.0)) (one_past v start found.0 found.1 found.2 within found.3))))

@@ -8,17 +8,18 @@ use Rattle.std.specs.FinSet as set
 use Rattle.std.specs.FinMap as map
 use Rattle.std.proofs.lemmas.Bool.{and_parts, cases_Bool, eqb-true, false≢true, ltb-true, not-false, not-true, or_left, or_parts, or_right, true≢false}
 use Rattle.std.proofs.lemmas.Option.{same_Some}
+use Rattle.text_core.specs.Options.{first_that_holds}
 use Rattle.fusemap_core.specs.declared.field.Field.{Field}
 use Rattle.fusemap_core.specs.declared.pos.Pos.{Pos}
-use Rattle.fusemap_core.specs.Map.{Map, IsMap, field_named, is_named}
-use Rattle.fuse_image.specs.Keys.{KeyTable, get-table_where, has_no_key, joined, without}
+use Rattle.fusemap_core.specs.Map.{Map, IsMap, field_named, is_field_named}
+use Rattle.fuse_image.specs.Keys.{KeyTable, get-table_where, has_no_key, keys_union, keys_without}
 use Rattle.fuse_image.specs.Locks.{is_hidden, is_hidden_key, is_key_block}
-use Rattle.fuse_image.specs.Places.{Positions, is_empty, is_place, meets, pos_cmp, pos_total, pos_exact, places_where, contains-places_where}
+use Rattle.fuse_image.specs.Places.{Positions, is_empty, is_place, sets_meet, pos_cmp, pos_total, pos_exact, places_where, contains-places_where}
 use Rattle.fuse_image.specs.declared.image.Image.{Image}
 use Rattle.fuse_image.proofs.Sets.{none_in}
-use Rattle.fuse_columns.specs.declared.todo.Work.{Work}
-use Rattle.fuse_redaction.specs.Redaction.{AreKeys, some_key}
-use Rattle.fuse_redaction.specs.declared.redaction.ReadBack.{ReadBack}
+use Rattle.fuse_columns.specs.declared.todo.Pending.{Pending}
+use Rattle.fuse_image.specs.Redaction.{AreKeys, some_key}
+use Rattle.fuse_image.specs.declared.redaction.ReadBack.{ReadBack}
 use Rattle.fuse_plan.specs.declared.fault.PlanFault.{PlanFault}
 use Rattle.fuse_plan.specs.declared.fault.PlanFault.TheVariants.{UnknownField}
 use Rattle.fuse_plan.specs.declared.verdict.Verdict.{Verdict}
@@ -29,9 +30,9 @@ use Rattle.fuse_plan.specs.declared.wish.Want.{Want}
 use Rattle.fuse_plan.specs.declared.wish.Want.TheVariants.{Bit, Value, Key, WriteLock, ReadLock}
 use Rattle.fuse_plan.specs.declared.wish.Wish.{Wish}
 use Rattle.fuse_plan.specs.Outcome.{image_after, is_bad_key, lost, short_bits, short_keys, short_or_match, stray, verdict_of}
-use Rattle.fuse_plan.specs.Plans.{batches, faults_with, has_key_where, is_hidden_in, lock_positions, lowest, unless_faulty}
-use Rattle.fuse_plan.specs.Pending.{FirstRestLaw, IsPending, PlanLaw, RestLaw, SecondRestLaw, is_no_fault, rest_of, rest_of_first}
-use Rattle.fuse_plan.specs.Wishes.{asks_one, key_in, key_of, missing, wanted_key, wanted_keys, wanted_ones, wants_of}
+use Rattle.fuse_plan.specs.Plans.{batches, faults_with, has_key_where, is_hidden_in, lock_positions, pending_or_fault}
+use Rattle.fuse_plan.specs.Pending.{FirstRestLaw, PendingFitsImage, PlanLaw, RestLaw, SecondRestLaw, is_no_fault, rest_of, rest_of_first}
+use Rattle.fuse_plan.specs.Wishes.{asks_one, key_of_want, key_of_wish, missing, wanted_key, wanted_keys, wanted_ones, wants_of}
 use Rattle.fuse_plan.proofs.Law.{test_of_key}
 use Rattle.fuse_plan.proofs.Compared.{in_retain}
 use Rattle.fuse_plan.proofs.Shown.{IsPlain, same_hidden, same_hidden_key}
@@ -41,21 +42,21 @@ not_then : (c : Bool) (fault : PlanFault) (rest : Option PlanFault) → (if c th
 not_then true fault rest h = absurd (cc)
 not_then false fault rest h = (refl, h)
 
-is_planned : (o : Option PlanFault) (x w : Work) → unless_faulty o x ≡ Ok w → (o ≡ None) × (x ≡ w)
+is_planned : (o : Option PlanFault) (x w : Pending) → pending_or_fault o x ≡ Ok w → (o ≡ None) × (x ≡ w)
 is_planned None x w h = (refl, cc)
 is_planned (Some fault) x w h = absurd (cc)
 
-pub none_at : (cs : List (Bool × PlanFault)) (i : ℕ) → lowest cs ≡ None → (get_or cs i (false, UnknownField)).0 ≡ false
+pub none_at : (cs : List (Bool × PlanFault)) (i : ℕ) → first_that_holds cs ≡ None → (get_or cs i (false, UnknownField)).0 ≡ false
 none_at [] i h = refl
-none_at (c ∷ cs) zero h = (not_then c.0 c.1 (lowest cs) h).0
-none_at (c ∷ cs) (suc i) h = none_at cs i (not_then c.0 c.1 (lowest cs) h).1
+none_at (c ∷ cs) zero h = (not_then c.0 c.1 (first_that_holds cs) h).0
+none_at (c ∷ cs) (suc i) h = none_at cs i (not_then c.0 c.1 (first_that_holds cs) h).1
 
-none_hidden : (m : Map) (a : Image) (ws : List Wish) (w : Wants) (lacking : Image) → lowest (faults_with m a ws w lacking) ≡ None
+none_hidden : (m : Map) (a : Image) (ws : List Wish) (w : Wants) (lacking : Image) → first_that_holds (faults_with m a ws w lacking) ≡ None
     → is_hidden_in m a.burnt lacking ≡ false
 none_hidden m a ws w lacking h = none_at (faults_with m a ws w lacking) 8 h
 
 -- a key that is wished for is one of a key field
-is_of_block : (b : ℕ) (want : Want) (f : Field) → is_some (key_in b want f) ≡ true → (f.key && f.block == b) ≡ true
+is_of_block : (b : ℕ) (want : Want) (f : Field) → is_some (key_of_want b want f) ≡ true → (f.key && f.block == b) ≡ true
 is_of_block b (Bit i) f h = absurd (false≢true h)
 is_of_block b (Value v) f h = absurd (false≢true h)
 is_of_block b (Key digest) f h = there (f.key && f.block == b) digest h
@@ -77,14 +78,16 @@ any_found (f ∷ fs) named test (Some g) e h = elim (cases_Bool (named f)) as (�
       or_right (test f) (list_any test fs) (any_found fs named test (Some g) (ap (λ b. cond b (Some f) (find named fs)) (sym is_not) ∙ e) h)
 ]
 
-key_field : (b : ℕ) (want : Want) (o : Option Field) → is_some (option_and_then (key_in b want) o) ≡ true → option_map_or (λ f.
+key_field : (b : ℕ) (want : Want) (o : Option Field) → is_some (option_and_then (key_of_want b want) o) ≡ true → option_map_or (λ f.
     f.key && f.block == b) o false ≡ true
 key_field b want None h = absurd (false≢true h)
 key_field b want (Some f) h = is_of_block b want f h
 
-is_key_of : (m : Map) (b : ℕ) (w : Wish) → is_some (key_of m b w) ≡ true → is_key_block m b ≡ true
+is_key_of : (m : Map) (b : ℕ) (w : Wish) → is_some (key_of_wish m b w) ≡ true → is_key_block m b ≡ true
 is_key_of m b w h =
-    any_found m.fields (is_named w.field) (λ f. f.key && f.block == b) (field_named w.field m.fields) refl (key_field b w.want (field_named w.field m.fields) h)
+    any_found m.fields (is_field_named w.field) (λ f. f.key
+    && f.block == b) (field_named w.field m.fields)
+    refl (key_field b w.want (field_named w.field m.fields) h)
 
 one_of_both : (x y : Option (List ℕ)) → is_some (option_or x y) ≡ true → is_some x ≡ false → is_some y ≡ true
 one_of_both None y h none = h
@@ -92,9 +95,9 @@ one_of_both (Some d) y h none = absurd (true≢false none)
 
 is_wanted_key : (m : Map) (b : ℕ) (ws : List Wish) → is_some (wanted_key m b ws) ≡ true → is_key_block m b ≡ true
 is_wanted_key m b [] h = absurd (false≢true h)
-is_wanted_key m b (w ∷ ws) h = elim (cases_Bool (is_some (key_of m b w))) as (λ _. is_key_block m b ≡ true) [
+is_wanted_key m b (w ∷ ws) h = elim (cases_Bool (is_some (key_of_wish m b w))) as (λ _. is_key_block m b ≡ true) [
   | inl here ↦ is_key_of m b w here
-  | inr none ↦ is_wanted_key m b ws (one_of_both (key_of m b w) (wanted_key m b ws) h none)
+  | inr none ↦ is_wanted_key m b ws (one_of_both (key_of_wish m b w) (wanted_key m b ws) h none)
 ]
 
 -- a key that is asked for at one of the 4 blocks, and isn't known
@@ -108,8 +111,9 @@ is_new true true x h = absurd (false≢true h)
 is_new true false x h = record { low = refl; known = refl; asked = h }
 is_new false known x h = absurd (false≢true h)
 
-left_of : (asked known : KeyTable) (b : ℕ) → is_some (map.get (without asked known) b) ≡ true → IsNew (nat_lt b 4) (is_some (map.get known b)) (map.get asked b)
-unfolding without
+left_of : (asked known : KeyTable) (b : ℕ) → is_some (map.get (keys_without asked known) b) ≡ true
+    → IsNew (nat_lt b 4) (is_some (map.get known b)) (map.get asked b)
+unfolding keys_without
 left_of asked known b h =
     is_new (nat_lt b 4) (is_some (map.get known b)) (map.get asked b)
     (ap is_some (sym (get-table_where (λ c. if is_some (map.get known c) then None else map.get asked c) b)) ∙ h)
@@ -120,7 +124,7 @@ are_wanted m ws b h =
     let new = is_new (nat_lt b 4) false (wanted_key m b ws) (ap is_some (sym (get-table_where (λ c. wanted_key m c ws) b)) ∙ h) in
     (ltb-true b 4 new.low, is_wanted_key m b ws new.asked)
 
-are_left : (m : Map) (asked known : KeyTable) → AreKeys m asked → AreKeys m (without asked known)
+are_left : (m : Map) (asked known : KeyTable) → AreKeys m asked → AreKeys m (keys_without asked known)
 are_left m asked known keys b h = keys b (left_of asked known b h).asked
 
 pub missing_keys : (m : Map) (a : Image) (ws : List Wish) → AreKeys m (missing a (wants_of m ws)).keys
@@ -166,8 +170,8 @@ module _ (m : Map) (is : IsMap m) (a : Image) (ws : List Wish) (clear : is_hidde
   abbrev hidden : Positions
   hidden = places_where (is_hidden m a.burnt)
 
-  parts_clear : (meets lacking.burnt hidden ≡ false) × (has_key_where m lacking.keys (is_hidden_key m a.burnt) ≡ false)
-  parts_clear = or_parts (meets lacking.burnt hidden) (has_key_where m lacking.keys (is_hidden_key m a.burnt)) clear
+  parts_clear : (sets_meet lacking.burnt hidden ≡ false) × (has_key_where m lacking.keys (is_hidden_key m a.burnt) ≡ false)
+  parts_clear = or_parts (sets_meet lacking.burnt hidden) (has_key_where m lacking.keys (is_hidden_key m a.burnt)) clear
 
   bit_in_sight : (q : Pos) → set.contains lacking.burnt q ≡ true → is_hidden m a.burnt q ≡ false
   bit_in_sight q h =
@@ -183,7 +187,7 @@ module _ (m : Map) (is : IsMap m) (a : Image) (ws : List Wish) (clear : is_hidde
       not_with (is_some (map.get lacking.keys b)) (is_hidden_key m a.burnt b) h
       (test_of_key m.fields (λ c. is_some (map.get lacking.keys c) && is_hidden_key m a.burnt c) b parts_clear.1 there.1)
 
-  pub batches_pending : IsPending m a (batches m lacking)
+  pub batches_pending : PendingFitsImage m a (batches m lacking)
   batches_pending = record {
     new_first = λ q h. (lacking_at q (first_at q h).0).1;
     new_second = λ q h. (lacking_at q (second_at q h).0).1;
@@ -199,8 +203,8 @@ module _ (m : Map) (is : IsMap m) (a : Image) (ws : List Wish) (clear : is_hidde
 
 pub plan_law : PlanLaw
 plan_law m is a ws w h =
-    let planned = is_planned (lowest (faults_with m a ws (wants_of m ws) (missing a (wants_of m ws)))) (batches m (missing a (wants_of m ws))) w h in
-    subst (IsPending m a) planned.1 (batches_pending m is a ws (none_hidden m a ws (wants_of m ws) (missing a (wants_of m ws)) planned.0))
+    let planned = is_planned (first_that_holds (faults_with m a ws (wants_of m ws) (missing a (wants_of m ws)))) (batches m (missing a (wants_of m ws))) w h in
+    subst (PendingFitsImage m a) planned.1 (batches_pending m is a ws (none_hidden m a ws (wants_of m ws) (missing a (wants_of m ws)) planned.0))
 
 -- ---- what a read-back leaves
 no_stray : (c d e : Bool) (rest : Verdict) → is_no_fault (if not c then Fault chip.Lost else if not d then Fault chip.Stray else if e then Fault chip.Key
@@ -237,8 +241,8 @@ in_neither true x h = h
 in_neither false x h = refl
 
 joined_at : (known shown : KeyTable) (b : ℕ) → is_some (map.get known b) ≡ false → is_some (map.get shown b) ≡ false
-    → is_some (map.get (joined known shown) b) ≡ false
-unfolding joined
+    → is_some (map.get (keys_union known shown) b) ≡ false
+unfolding keys_union
 joined_at known shown b x y =
     ap is_some (get-table_where (λ c. option_or (map.get known c) (map.get shown c)) b)
     ∙ in_neither (nat_lt b 4) _ (not_known (map.get known b) (map.get shown b) x y)
@@ -252,7 +256,7 @@ pub record IsShortKey (K Q S : KeyTable) (b : ℕ) : Type 0 where
 short_key : (known asked shown : KeyTable) (b : ℕ) → is_some (map.get (short_keys known asked shown) b) ≡ true → IsShortKey known asked shown b
 unfolding short_keys
 short_key known asked shown b h =
-    let outer = left_of (without asked known) shown b h in
+    let outer = left_of (keys_without asked known) shown b h in
     let inner = left_of asked known b outer.asked in
     record { asked = inner.asked; known = inner.known; shown = outer.known }
 
@@ -260,7 +264,8 @@ short_at : (P ones : Positions) (q : Pos) → set.contains (short_bits P ones) q
 unfolding short_bits
 short_at P ones q = set.contains-difference pos_total P ones q
 
-module _ (m : Map) (a : Image) (w : Work) (r : ReadBack) (pending : IsPending m a w) (right : is_no_fault (verdict_of m a w.first w.keys r) ≡ true) where
+module _ (m : Map) (a : Image) (w : Pending) (r : ReadBack) (pending : PendingFitsImage m a w)
+    (right : is_no_fault (verdict_of m a w.first w.keys r) ≡ true) where
   abbrev L : Positions
   L = set.union a.burnt r.ones
 
@@ -289,7 +294,7 @@ module _ (m : Map) (a : Image) (w : Work) (r : ReadBack) (pending : IsPending m 
     | inr none ↦ none
   ]
 
-  rest_pending : IsPending m (image_after a r) (rest_of_first w a r)
+  rest_pending : PendingFitsImage m (image_after a r) (rest_of_first w a r)
   rest_pending = record {
     new_first = λ q h.
         set.contains-union pos_total a.burnt r.ones q

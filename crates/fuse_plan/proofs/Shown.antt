@@ -10,7 +10,7 @@ use Rattle.std.proofs.lemmas.List.Folds.{list_any_none}
 use Rattle.std.proofs.lemmas.Option.{same_Some}
 use Rattle.fusemap_core.specs.declared.field.Field.{Field}
 use Rattle.fusemap_core.specs.declared.pos.Pos.{Pos}
-use Rattle.fusemap_core.specs.Map.{Map, IsMap, AreApart, NamesLockField, bit_of, field_named, holds, is_named, lock_at, read_lock}
+use Rattle.fusemap_core.specs.Map.{Map, IsMap, FieldsDisjoint, NamesLockField, bit_of, field_named, holds, is_field_named, lock_at, read_lock}
 use Rattle.fusemap_core.proofs.Bounds.{found}
 use Rattle.fuse_image.specs.Locks.{is_burnt, is_hidden, is_hidden_key}
 use Rattle.fuse_image.specs.Places.{Positions, is_place, contains-places_where, pos_total}
@@ -19,24 +19,24 @@ use Rattle.fuse_plan.specs.Plans.{lock_positions, positions_named}
 use Rattle.fuse_plan.specs.Pending.{LocksShow}
 
 -- the fields after the first are apart from it, and from one another
-after_first : (f : Field) (fs : List Field) → AllPairs AreApart (f ∷ fs) → All (AreApart f) fs
+after_first : (f : Field) (fs : List Field) → AllPairs FieldsDisjoint (f ∷ fs) → All (FieldsDisjoint f) fs
 after_first f fs pairs k d low = pairs 0 (suc k) d (omega arith) (omega (arith, low))
 
-others : (f : Field) (fs : List Field) → AllPairs AreApart (f ∷ fs) → AllPairs AreApart fs
+others : (f : Field) (fs : List Field) → AllPairs FieldsDisjoint (f ∷ fs) → AllPairs FieldsDisjoint fs
 others f fs pairs i j d before low = pairs (suc i) (suc j) d (omega (arith, before)) (omega (arith, low))
 
 not_there : (h t : Bool) → (h ≡ true → ⊥) → (h && t) ≡ false
 not_there true t h = absurd (h refl)
 not_there false t h = refl
 
-apart_from : (fs : List Field) (named : Field → Bool) (f g : Field) (q : Pos) → All (AreApart f) fs → find named fs ≡ Some g → holds f q ≡ true
+apart_from : (fs : List Field) (named : Field → Bool) (f g : Field) (q : Pos) → All (FieldsDisjoint f) fs → find named fs ≡ Some g → holds f q ≡ true
     → holds g q ≡ false
 apart_from fs named f g q all e here =
-    let apart : IfSome (Some g) (AreApart f) = subst (λ (o : Option Field). IfSome o (AreApart f)) e (found named (AreApart f) fs all) in
+    let apart : IfSome (Some g) (FieldsDisjoint f) = subst (λ (o : Option Field). IfSome o (FieldsDisjoint f)) e (found named (FieldsDisjoint f) fs all) in
     apart q here
 
 -- of fields that are apart, where the one that is found has a position and fails a test, none has the position and passes
-pub found_alone : (fs : List Field) (named test : Field → Bool) (q : Pos) → AllPairs AreApart fs → (g : Field) → find named fs ≡ Some g → holds g q ≡ true
+pub found_alone : (fs : List Field) (named test : Field → Bool) (q : Pos) → AllPairs FieldsDisjoint fs → (g : Field) → find named fs ≡ Some g → holds g q ≡ true
     → test g ≡ false → list_any (λ f. holds f q && test f) fs ≡ false
 found_alone [] named test q pairs g e has fails = refl
 found_alone (f ∷ fs) named test q pairs g e has fails = elim (cases_Bool (named f)) as (λ _. list_any (λ x. holds x q && test x) (f ∷ fs) ≡ false) [
@@ -66,7 +66,7 @@ lock_field_shows m is name names burnt q has = shows (field_named name m.fields)
         holds f q) o false ≡ true → list_any (λ f. holds f q && is_burnt burnt (read_lock m f)) m.fields ≡ false
     shows None e plain h = absurd plain
     shows (Some g) e plain h =
-        found_alone m.fields (is_named name) (λ f. is_burnt burnt (read_lock m f)) q is.apart g e h (no_read_lock m burnt g plain.1)
+        found_alone m.fields (is_field_named name) (λ f. is_burnt burnt (read_lock m f)) q is.apart g e h (no_read_lock m burnt g plain.1)
 
 in_positions : (m : Map) (name : List ℕ) (q : Pos) → set.contains (positions_named m name) q ≡ true → at_field m (λ f. holds f q) name ≡ true
 in_positions m name q h =

@@ -13,9 +13,9 @@ use Rattle.fusemap_core.specs.declared.field.Field.{Field}
 use Rattle.fusemap_core.specs.declared.pos.Pos.{Pos}
 use Rattle.fusemap_core.specs.Map.{holds}
 use Rattle.fuse_image.specs.Places.{places_where}
-use Rattle.fuse_image.specs.Words.{bit_in, place_of}
+use Rattle.fuse_image.specs.Words.{bit_in, position_of_bit}
 use Rattle.fuse_image.proofs.Sets.{places_where-at, same_places, none_outside}
-use Rattle.fuse_plan.specs.Numbers.{has_one}
+use Rattle.fuse_plan.specs.Numbers.{number_has_one}
 use Rattle.fuse_plan.specs.Wishes.{is_one_from}
 use Rattle.fuse_plan.proofs.Asked.{same_test, difference-of_tests, intersection-of_tests}
 
@@ -71,13 +71,13 @@ none_there le h x a b = ap (λ (n : ℕ). n == 1) b ∙ ap (λ (p : Bool). p && 
 abbrev pub window_bit : List ℕ → ℕ → ℕ → ℕ → ℕ
 window_bit v word s i = if nat_lt i (s % 32) then bit_at (past v word (s / 32 + 1)) (32 + i - s % 32) else bit_at (past v word (s / 32)) (i - s % 32)
 
-pub window-is : (v : List ℕ) (word s i : ℕ) → i < 32 → (window_bit v word s i == 1) ≡ (nat_le s (32 * word + i) && has_one v (32 * word + i - s))
+pub window-is : (v : List ℕ) (word s i : ℕ) → i < 32 → (window_bit v word s i == 1) ≡ (nat_le s (32 * word + i) && number_has_one v (32 * word + i - s))
 window-is v word s i low =
-    elim (cases_lt i (s % 32)) as (λ _. (window_bit v word s i == 1) ≡ (nat_le s (32 * word + i) && has_one v (32 * word + i - s))) [
+    elim (cases_lt i (s % 32)) as (λ _. (window_bit v word s i == 1) ≡ (nat_le s (32 * word + i) && number_has_one v (32 * word + i - s))) [
       | inl below ↦
           ap (λ (n : ℕ). n == 1) (cond-true (nat_lt i (s % 32)) _ _ (lt-ltb i (s % 32) below))
           ∙ elim (cases_lt word (s / 32 + 1)) as (λ _. (bit_at (past v word (s / 32 + 1)) (32 + i - s % 32) == 1)
-          ≡ (nat_le s (32 * word + i) && has_one v (32 * word + i - s))) [
+          ≡ (nat_le s (32 * word + i) && number_has_one v (32 * word + i - s))) [
             | inl under ↦
                 none_there (nat_le s (32 * word + i)) _ _ (lt-leb s (32 * word + i) (omega (arith, below, under)))
                 (past_none v word (s / 32 + 1) (32 + i - s % 32) under)
@@ -87,7 +87,7 @@ window-is v word s i low =
       | inr above ↦
           ap (λ (n : ℕ). n == 1) (cond-false (nat_lt i (s % 32)) _ _ (le-ltb i (s % 32) above))
           ∙ elim (cases_lt word (s / 32)) as (λ _. (bit_at (past v word (s / 32)) (i - s % 32) == 1)
-          ≡ (nat_le s (32 * word + i) && has_one v (32 * word + i - s))) [
+          ≡ (nat_le s (32 * word + i) && number_has_one v (32 * word + i - s))) [
             | inl under ↦
                 none_there (nat_le s (32 * word + i)) _ _ (lt-leb s (32 * word + i) (omega (arith, low, under))) (past_none v word (s / 32) (i - s % 32) under)
             | inr within ↦ one_there (nat_le s (32 * word + i)) _ _ (le-leb s (32 * word + i) (omega (arith, above, within)))
@@ -97,7 +97,7 @@ window-is v word s i low =
 
 -- the set of words that are right bit by bit
 pub words_are : (words : List ℕ) (test : Pos → Bool) → ((word bit : ℕ) → word < 32 → bit < 32
-    → (bit_at (slice_index words word) bit == 1) ≡ test (place_of word bit)) → places_where (bit_in words) ≡ places_where test
+    → (bit_at (slice_index words word) bit == 1) ≡ test (position_of_bit word bit)) → places_where (bit_in words) ≡ places_where test
 words_are words test each =
     same_places (bit_in words) (places_where test)
     (λ p is.
@@ -114,11 +114,11 @@ zero_where true false lt h = refl
 zero_where false le lt h = refl
 
 pub zeros_are : (f : Field) (v : List ℕ) → set.difference (places_where (holds f)) (places_where (is_one_from v (record { block = f.block; bit = f.bit })))
-    ≡ places_where (λ p. holds f p && not (has_one v (p.bit - f.bit)))
+    ≡ places_where (λ p. holds f p && not (number_has_one v (p.bit - f.bit)))
 zeros_are f v =
     difference-of_tests (holds f) (is_one_from v (record { block = f.block; bit = f.bit }))
-    ∙ same_test _ (λ p. holds f p && not (has_one v (p.bit - f.bit))) (λ p.
-    zero_where (f.block == p.block) (nat_le f.bit p.bit) (nat_lt p.bit (f.bit + f.count)) (has_one v (p.bit - f.bit)))
+    ∙ same_test _ (λ p. holds f p && not (number_has_one v (p.bit - f.bit))) (λ p.
+    zero_where (f.block == p.block) (nat_le f.bit p.bit) (nat_lt p.bit (f.bit + f.count)) (number_has_one v (p.bit - f.bit)))
 
 one_where : (b le lt h : Bool) → ((b && (le && lt)) && (b && (le && h))) ≡ ((b && (le && lt)) && h)
 one_where true true lt h = refl
@@ -126,11 +126,11 @@ one_where true false lt h = refl
 one_where false le lt h = refl
 
 pub ones_are : (f : Field) (v : List ℕ) → set.intersection (places_where (holds f)) (places_where (is_one_from v (record { block = f.block; bit = f.bit })))
-    ≡ places_where (λ p. holds f p && has_one v (p.bit - f.bit))
+    ≡ places_where (λ p. holds f p && number_has_one v (p.bit - f.bit))
 ones_are f v =
     intersection-of_tests (holds f) (is_one_from v (record { block = f.block; bit = f.bit }))
-    ∙ same_test _ (λ p. holds f p && has_one v (p.bit - f.bit)) (λ p.
-    one_where (f.block == p.block) (nat_le f.bit p.bit) (nat_lt p.bit (f.bit + f.count)) (has_one v (p.bit - f.bit)))
+    ∙ same_test _ (λ p. holds f p && number_has_one v (p.bit - f.bit)) (λ p.
+    one_where (f.block == p.block) (nat_le f.bit p.bit) (nat_lt p.bit (f.bit + f.count)) (number_has_one v (p.bit - f.bit)))
 
 -- one word more that is right
 pub one_word_more : (Q : ℕ → ℕ → Type 0) (words : List ℕ) (n value : ℕ) → n < length words → ((k : ℕ) → k < n → Q k (slice_index words k)) → Q n value → (k : ℕ)

@@ -4,12 +4,12 @@ use Rattle.std.specs.FinSet as set
 use Rattle.std.specs.FinMap as map
 use Rattle.fusemap_core.specs.Map.{Map}
 use Rattle.fuse_image.specs.Image as image
-use Rattle.fuse_image.specs.Keys.{KeyTable, has_no_key, joined, without}
+use Rattle.fuse_image.specs.Keys.{KeyTable, has_no_key, keys_union, keys_without}
 use Rattle.fuse_image.specs.Locks.{is_hidden, is_hidden_key}
 use Rattle.fuse_image.specs.Places.{Positions, is_empty}
 use Rattle.fuse_image.specs.declared.image.Image.{Image}
-use Rattle.fuse_redaction.specs.Redaction.{some_key}
-use Rattle.fuse_redaction.specs.declared.redaction.ReadBack.{ReadBack}
+use Rattle.fuse_image.specs.Redaction.{some_key}
+use Rattle.fuse_image.specs.declared.redaction.ReadBack.{ReadBack}
 use Rattle.fuse_plan.specs.declared.verdict.Verdict.{Verdict}
 use Rattle.fuse_plan.specs.declared.verdict.Verdict.TheVariants.{Match, Short, Fault}
 use Rattle.fuse_plan.specs.declared.verdict.ChipFault.TheVariants.{Lost, Stray, Key}
@@ -49,7 +49,7 @@ unfoldable pub short_bits : Positions → Positions → Positions
 short_bits batch ones = set.difference batch ones
 
 unfoldable pub short_keys : KeyTable → KeyTable → KeyTable → KeyTable
-short_keys known asked shown = without (without asked known) shown
+short_keys known asked shown = keys_without (keys_without asked known) shown
 
 -- short where something is left of the batch, with this rest
 abbrev pub short_or_match : Image → Verdict
@@ -69,4 +69,4 @@ verdict_of m a batch asked r = verdict_under m (set.union a.burnt r.ones) a batc
 
 -- what is known to be burnt after a read-back: what reads 1 is added, and keys of key blocks of which none was known
 abbrev pub image_after : Image → ReadBack → Image
-image_after a r = record { burnt = set.union a.burnt r.ones; keys = joined a.keys r.shown }
+image_after a r = record { burnt = set.union a.burnt r.ones; keys = keys_union a.keys r.shown }

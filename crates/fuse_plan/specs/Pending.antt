@@ -8,31 +8,31 @@ use Rattle.fuse_image.specs.Keys.{KeyTable}
 use Rattle.fuse_image.specs.Locks.{is_hidden}
 use Rattle.fuse_image.specs.Places.{Positions}
 use Rattle.fuse_image.specs.declared.image.Image.{Image}
-use Rattle.fuse_columns.specs.TodoColumns.{IsWork}
-use Rattle.fuse_columns.specs.declared.todo.Work.{Work}
-use Rattle.fuse_redaction.specs.Redaction.{AreKeys}
-use Rattle.fuse_redaction.specs.declared.redaction.ReadBack.{ReadBack}
+use Rattle.fuse_columns.specs.TodoColumns.{IsPending}
+use Rattle.fuse_columns.specs.declared.todo.Pending.{Pending}
+use Rattle.fuse_image.specs.Redaction.{AreKeys}
+use Rattle.fuse_image.specs.declared.redaction.ReadBack.{ReadBack}
 use Rattle.fuse_plan.specs.declared.verdict.Verdict.{Verdict}
 use Rattle.fuse_plan.specs.declared.verdict.Verdict.TheVariants.{Match, Short, Fault}
 use Rattle.fuse_plan.specs.declared.wish.Wish.{Wish}
-use Rattle.fuse_plan.specs.Law.{IsInSight}
+use Rattle.fuse_plan.specs.Law.{StaysReadable}
 use Rattle.fuse_plan.specs.Outcome.{image_after, short_bits, short_keys, verdict_of}
 use Rattle.fuse_plan.specs.Plans.{lock_positions, plan_of}
 
 -- what is to be burnt isn't yet, the second batch lies in the lock fields (WR_DIS and RD_DIS) and the first outside them, keys are those of key blocks, and the
 -- first batch stays readable
-pub record IsPending (m : Map) (a : Image) (w : Work) : Type 0 where
+pub record PendingFitsImage (m : Map) (a : Image) (w : Pending) : Type 0 where
   pub new_first : (q : Pos) → set.contains w.first q ≡ true → set.contains a.burnt q ≡ false
   pub new_second : (q : Pos) → set.contains w.second q ≡ true → set.contains a.burnt q ≡ false
   pub plain : (q : Pos) → set.contains w.first q ≡ true → set.contains (lock_positions m) q ≡ false
   pub locks : (q : Pos) → set.contains w.second q ≡ true → set.contains (lock_positions m) q ≡ true
   pub new_keys : (b : ℕ) → is_some (map.get w.keys b) ≡ true → is_some (map.get a.keys b) ≡ false
   pub keys : AreKeys m w.keys
-  pub in_sight : IsInSight m (set.union a.burnt w.first) w.first a.keys w.keys
+  pub in_sight : StaysReadable m (set.union a.burnt w.first) w.first a.keys w.keys
 
 -- a plan is pending on the chip that it was made for
 abbrev pub PlanLaw : Type 0
-PlanLaw = (m : Map) → IsMap m → (a : Image) (ws : List Wish) (w : Work) → plan_of m a ws ≡ Ok w → IsPending m a w
+PlanLaw = (m : Map) → IsMap m → (a : Image) (ws : List Wish) (w : Pending) → plan_of m a ws ≡ Ok w → PendingFitsImage m a w
 
 -- no read lock hides a position of the lock fields
 abbrev pub LocksShow : Type 0
@@ -56,21 +56,21 @@ RestLaw = (m : Map) (a : Image) (batch : Positions) (asked : KeyTable) (r : Read
     → rest_of (verdict_of m a batch asked r) ≡ record { burnt = short_bits batch r.ones; keys = short_keys a.keys asked r.shown }
 
 -- what is left to be burnt after a read-back of the first batch, and after one of the second
-abbrev pub rest_of_first : Work → Image → ReadBack → Work
+abbrev pub rest_of_first : Pending → Image → ReadBack → Pending
 rest_of_first w a r = record { first = short_bits w.first r.ones; second = w.second; keys = short_keys a.keys w.keys r.shown }
 
-abbrev pub rest_of_second : Work → ReadBack → Work
+abbrev pub rest_of_second : Pending → ReadBack → Pending
 rest_of_second w r = record { first = set.empty; second = short_bits w.second r.ones; keys = map.empty }
 
 -- what a read-back of the first batch leaves is pending on the chip as it is then, unless the read-back says that something is wrong
 abbrev pub FirstRestLaw : Type 0
-FirstRestLaw = (m : Map) (a : Image) (w : Work) (r : ReadBack) → IsPending m a w
-    → is_no_fault (verdict_of m a w.first w.keys r) ≡ true → IsPending m (image_after a r) (rest_of_first w a r)
+FirstRestLaw = (m : Map) (a : Image) (w : Pending) (r : ReadBack) → PendingFitsImage m a w
+    → is_no_fault (verdict_of m a w.first w.keys r) ≡ true → PendingFitsImage m (image_after a r) (rest_of_first w a r)
 
 -- what a read-back of the second batch leaves is pending too, whatever the read-back says
 abbrev pub SecondRestLaw : Type 0
-SecondRestLaw = (m : Map) (a : Image) (w : Work) (r : ReadBack) → IsPending m a w → IsPending m (image_after a r) (rest_of_second w r)
+SecondRestLaw = (m : Map) (a : Image) (w : Pending) (r : ReadBack) → PendingFitsImage m a w → PendingFitsImage m (image_after a r) (rest_of_second w r)
 
 -- what is left to be burnt lies in the map where the plan does
-abbrev pub RestsLie : Type 0
-RestsLie = (m : Map) (a : Image) (w : Work) (r : ReadBack) → IsWork m w → IsWork m (rest_of_first w a r) × IsWork m (rest_of_second w r)
+abbrev pub RestsInMap : Type 0
+RestsInMap = (m : Map) (a : Image) (w : Pending) (r : ReadBack) → IsPending m w → IsPending m (rest_of_first w a r) × IsPending m (rest_of_second w r)

@@ -1,18 +1,18 @@
 -- The plan of some wishes, and the faults of wishes.
 use Rattle.std.specs.Prelude.{ℕ, ◌-◌, nat_le, Bool, false, not, ◌&&◌, ◌||◌, List, [], ◌∷◌, Option, Some, None, is_none, is_some, Result, Ok, Err, bytes_eq}
-use Rattle.std.specs.Prelude.{if◌then◌else◌}
 use Rattle.std.specs.List.{list_any, range_with_len}
 use Rattle.std.specs.Option.{option_map_or}
 use Rattle.std.specs.FinSet as set
 use Rattle.std.specs.FinMap as map
+use Rattle.text_core.specs.Options.{first_that_holds}
 use Rattle.fusemap_core.specs.declared.field.Field.{Field}
 use Rattle.fusemap_core.specs.Map.{Map, field_named, holds, read_lock, write_lock}
 use Rattle.fuse_image.specs.Keys.{KeyTable}
 use Rattle.fuse_image.specs.Locks.{is_hidden, is_hidden_key, is_write_protected, is_write_protected_key}
-use Rattle.fuse_image.specs.Places.{Positions, meets, places_where}
+use Rattle.fuse_image.specs.Places.{Positions, sets_meet, places_where}
 use Rattle.fuse_image.specs.declared.image.Image.{Image}
-use Rattle.fuse_columns.specs.declared.todo.Work.{Work}
-use Rattle.fuse_redaction.specs.Redaction.{coding_field, some_key}
+use Rattle.fuse_columns.specs.declared.todo.Pending.{Pending}
+use Rattle.fuse_image.specs.Redaction.{coding_field, some_key}
 use Rattle.fuse_plan.specs.declared.fault.PlanFault.{PlanFault}
 use Rattle.fuse_plan.specs.declared.fault.PlanFault.TheVariants.{UnknownField, UnmappedBit, ValueTooWide, ClearsBurnt, Contradiction, WrongKind, OtherKey}
 use Rattle.fuse_plan.specs.declared.fault.PlanFault.TheVariants.{WriteProtected, Hidden, NoLock}
@@ -20,21 +20,21 @@ use Rattle.fuse_plan.specs.declared.wants.Wants.{Wants}
 use Rattle.fuse_plan.specs.declared.wish.Want.{Want}
 use Rattle.fuse_plan.specs.declared.wish.Want.TheVariants.{Bit, Value, Key, WriteLock, ReadLock}
 use Rattle.fuse_plan.specs.declared.wish.Wish.{Wish}
-use Rattle.fuse_plan.specs.Numbers.{has_one}
+use Rattle.fuse_plan.specs.Numbers.{number_has_one}
 use Rattle.fuse_plan.specs.Wishes.{at_field, missing, wants_of}
 
 -- the number of a fault
-abbrev pub fault_number : PlanFault → ℕ
-fault_number UnknownField = 1
-fault_number UnmappedBit = 2
-fault_number ValueTooWide = 3
-fault_number ClearsBurnt = 4
-fault_number Contradiction = 5
-fault_number WrongKind = 6
-fault_number OtherKey = 7
-fault_number WriteProtected = 8
-fault_number Hidden = 9
-fault_number NoLock = 10
+abbrev pub plan_fault_number : PlanFault → ℕ
+plan_fault_number UnknownField = 1
+plan_fault_number UnmappedBit = 2
+plan_fault_number ValueTooWide = 3
+plan_fault_number ClearsBurnt = 4
+plan_fault_number Contradiction = 5
+plan_fault_number WrongKind = 6
+plan_fault_number OtherKey = 7
+plan_fault_number WriteProtected = 8
+plan_fault_number Hidden = 9
+plan_fault_number NoLock = 10
 
 -- the wish names a field that the map hasn't
 abbrev pub names_no_field : Map → Wish → Bool
@@ -55,14 +55,14 @@ names_no_bit m w = at_field m (is_past w.want) w.field
 -- the value has a 1 at or above the number of the field's bits
 abbrev pub is_wide : Want → Field → Bool
 is_wide (Bit i) f = false
-is_wide (Value v) f = list_any (has_one v) (range_with_len f.count (256 - f.count))
+is_wide (Value v) f = list_any (number_has_one v) (range_with_len f.count (256 - f.count))
 is_wide (Key digest) f = false
 is_wide WriteLock f = false
 is_wide ReadLock f = false
 
 -- a wish is for a value that is too wide for its field
-abbrev pub is_too_wide : Map → Wish → Bool
-is_too_wide m w = at_field m (is_wide w.want) w.field
+abbrev pub is_wish_too_wide : Map → Wish → Bool
+is_wish_too_wide m w = at_field m (is_wide w.want) w.field
 
 -- both are for keys, and the digests differ
 abbrev pub are_two_keys : Want → Want → Bool
@@ -98,7 +98,7 @@ is_of_wrong_kind m w = at_field m (is_wrong w.want) w.field
 
 -- a position is asked to be 1 and to be 0, or a field to hold two keys
 abbrev pub contradict : Wants → List Wish → Bool
-contradict w ws = meets w.ones w.zeros || ask_two_keys ws
+contradict w ws = sets_meet w.ones w.zeros || ask_two_keys ws
 
 -- the positions of the field of a name, if the map has it
 abbrev pub positions_named : Map → List ℕ → Positions
@@ -110,7 +110,7 @@ coding_positions m = option_map_or (λ f. places_where (holds f)) (coding_field 
 
 -- a wish isn't of a kind that its field takes, or a position of the coding field is asked to be 1
 abbrev pub are_wrong : Map → Wants → List Wish → Bool
-are_wrong m w ws = list_any (is_of_wrong_kind m) ws || meets w.ones (coding_positions m)
+are_wrong m w ws = list_any (is_of_wrong_kind m) ws || sets_meet w.ones (coding_positions m)
 
 -- the positions of the two lock fields (WR_DIS and RD_DIS)
 abbrev pub lock_positions : Map → Positions
@@ -147,12 +147,12 @@ names_no_lock m w = at_field m (lacks_lock m w.want) w.field
 -- a position or a key of the image is write-protected (its lock bit in WR_DIS is burnt)
 abbrev pub is_protected_in : Map → Positions → Image → Bool
 is_protected_in m burnt part =
-    meets part.burnt (places_where (is_write_protected m burnt)) || has_key_where m part.keys (is_write_protected_key m burnt)
+    sets_meet part.burnt (places_where (is_write_protected m burnt)) || has_key_where m part.keys (is_write_protected_key m burnt)
 
 -- a position or a key of the image is read-protected (its lock bit in RD_DIS is burnt)
 abbrev pub is_hidden_in : Map → Positions → Image → Bool
 is_hidden_in m burnt part =
-    meets part.burnt (places_where (is_hidden m burnt)) || has_key_where m part.keys (is_hidden_key m burnt)
+    sets_meet part.burnt (places_where (is_hidden m burnt)) || has_key_where m part.keys (is_hidden_key m burnt)
 
 -- the conditions of the faults, in the order of their numbers, for what the wishes ask for and what of it is missing: each is said of all the wishes, whatever
 -- the others say
@@ -160,8 +160,8 @@ abbrev pub faults_with : Map → Image → List Wish → Wants → Image → Lis
 faults_with m image ws w lacking =
     (list_any (names_no_field m) ws, UnknownField)
     ∷ (list_any (names_no_bit m) ws, UnmappedBit)
-    ∷ (list_any (is_too_wide m) ws, ValueTooWide)
-    ∷ (meets w.zeros image.burnt, ClearsBurnt)
+    ∷ (list_any (is_wish_too_wide m) ws, ValueTooWide)
+    ∷ (sets_meet w.zeros image.burnt, ClearsBurnt)
     ∷ (contradict w ws, Contradiction)
     ∷ (are_wrong m w ws, WrongKind)
     ∷ (list_any (asks_other_key m image.keys) ws, OtherKey)
@@ -174,17 +174,12 @@ faults_with m image ws w lacking =
 abbrev pub faults : Map → Image → List Wish → List (Bool × PlanFault)
 faults m image ws = faults_with m image ws (wants_of m ws) (missing image (wants_of m ws))
 
--- of conditions in the order of their faults, the first that holds
-abbrev pub lowest : List (Bool × PlanFault) → Option PlanFault
-lowest [] = None
-lowest (c ∷ cs) = if c.0 then Some c.1 else lowest cs
-
 -- the lowest fault of the wishes: they are lawful where there is none
 abbrev pub lowest_plan_fault : Map → Image → List Wish → Option PlanFault
-lowest_plan_fault m image ws = lowest (faults m image ws)
+lowest_plan_fault m image ws = first_that_holds (faults m image ws)
 
 -- what is missing in two batches: the second burns the lock bits, so that a key is read back before it is read-protected
-abbrev pub batches : Map → Image → Work
+abbrev pub batches : Map → Image → Pending
 batches m lacking = record {
   first = set.difference lacking.burnt (lock_positions m);
   second = set.intersection lacking.burnt (lock_positions m);
@@ -192,10 +187,10 @@ batches m lacking = record {
 }
 
 -- the batches, unless there is a fault
-abbrev pub unless_faulty : Option PlanFault → Work → Result Work PlanFault
-unless_faulty None work = Ok work
-unless_faulty (Some fault) work = Err fault
+abbrev pub pending_or_fault : Option PlanFault → Pending → Result Pending PlanFault
+pending_or_fault None work = Ok work
+pending_or_fault (Some fault) work = Err fault
 
 -- the plan of the wishes, or their lowest fault
-abbrev pub plan_of : Map → Image → List Wish → Result Work PlanFault
-plan_of m image ws = unless_faulty (lowest_plan_fault m image ws) (batches m (missing image (wants_of m ws)))
+abbrev pub plan_of : Map → Image → List Wish → Result Pending PlanFault
+plan_of m image ws = pending_or_fault (lowest_plan_fault m image ws) (batches m (missing image (wants_of m ws)))

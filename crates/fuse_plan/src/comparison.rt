@@ -3,12 +3,11 @@ ghost use Rattle.std.specs.Prelude.{◌≡◌, is_some, if◌then◌else◌, ◌
 ghost use Rattle.fusemap_core.specs.Map.{Map};
 ghost use Rattle.fuse_image.specs.Locks.{is_hidden};
 ghost use Rattle.fuse_image.specs.Places.{Positions, places_where};
-ghost use Rattle.fuse_redaction.specs.Redaction.{some_key};
+ghost use Rattle.fuse_image.specs.Redaction.{some_key};
 ghost use Rattle.fuse_plan.specs.Outcome as outcome;
 
 use crate::verdict::{ChipFault, Verdict};
-use fuse_image::{Bits, Image, Keys, hidden_positions, is_hidden_key};
-use fuse_redaction::ReadBack;
+use fuse_image::{Bits, Image, Keys, ReadBack, hidden_positions, is_hidden_key};
 use fusemap_core::FuseMap;
 use text_core::Digest;
 
@@ -109,7 +108,7 @@ fn short_or_match(rest: Image) -> Verdict
 }
 
 /// The outcome under the locks of the positions that are burnt after the read-back.
-fn judged(
+fn verdict_after(
     map: &FuseMap,
     after: &Bits,
     image: &Image,
@@ -150,6 +149,6 @@ pub fn compare(
         burnt: image.burnt.join(&readback.ones),
         keys: image.keys.join(&readback.shown),
     };
-    let verdict = judged(map, &after.burnt, image, batch, keys, readback);
+    let verdict = verdict_after(map, &after.burnt, image, batch, keys, readback);
     (verdict, after)
 }

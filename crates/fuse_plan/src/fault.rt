@@ -1,6 +1,6 @@
 // The faults of wishes.
 ghost use Rattle.std.specs.Prelude.{◌≡◌};
-ghost use Rattle.fuse_plan.specs.Plans.{fault_number};
+ghost use Rattle.fuse_plan.specs.Plans.{plan_fault_number};
 
 use thiserror::Error;
 
@@ -44,7 +44,7 @@ pub enum PlanFault {
 impl PlanFault {
     /// The number of the fault, 1 to 10.
     pub fn number(self) -> u8
-        ensures { result ≡ fault_number self }
+        ensures { result ≡ plan_fault_number self }
     {
         match self {
             PlanFault::UnknownField => 1,

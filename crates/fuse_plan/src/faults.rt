@@ -2,11 +2,12 @@
 ghost use Rattle.std.specs.Prelude.{◌≡◌, ◌≤◌, ◌-◌, not, false, bytes_eq};
 ghost use Rattle.std.specs.List.{list_any, range_with_len};
 ghost use Rattle.std.specs.Option.{option_map_or};
+ghost use Rattle.text_core.specs.Options.{first_that_holds};
 ghost use Rattle.fusemap_core.specs.Map.{IsSmall};
 ghost use Rattle.fuse_image.specs.Locks as locks;
 ghost use Rattle.fuse_plan.specs.Plans as plans;
-ghost use Rattle.fuse_plan.specs.Plans.{faults_with, lowest};
-ghost use Rattle.fuse_plan.specs.Numbers.{has_one};
+ghost use Rattle.fuse_plan.specs.Plans.{faults_with};
+ghost use Rattle.fuse_plan.specs.Numbers.{number_has_one};
 
 use crate::fault::PlanFault;
 use crate::fields::{coding_positions, field_named};
@@ -29,9 +30,10 @@ pub(crate) fn lowest_fault(
     wants: &Wants,
     lacking: &Image,
 ) -> Option<PlanFault>
-    ensures { result ≡ lowest (faults_with map.now image.now wishes.now wants.now lacking.now) }
+    ensures { result
+        ≡ first_that_holds (faults_with map.now image.now wishes.now wants.now lacking.now) }
 {
-    lowest(&[
+    first_fault(&[
         (some_name_no_field(map, wishes), PlanFault::UnknownField),
         (some_name_no_bit(map, wishes), PlanFault::UnmappedBit),
         (some_are_too_wide(map, wishes), PlanFault::ValueTooWide),
@@ -52,8 +54,8 @@ pub(crate) fn lowest_fault(
 }
 
 /// Of conditions in the order of their faults, the first that holds.
-fn lowest(faults: &[(bool, PlanFault)]) -> Option<PlanFault>
-    ensures { result ≡ lowest faults.now }
+fn first_fault(faults: &[(bool, PlanFault)]) -> Option<PlanFault>
+    ensures { result ≡ first_that_holds faults.now }
 {
     for (holds, fault) in faults {
         if *holds {
@@ -119,14 +121,14 @@ fn is_past(want: &Want, field: &Field) -> bool
 }
 
 fn some_are_too_wide(map: &FuseMap, wishes: &[Wish]) -> bool
-    ensures { result ≡ list_any (plans.is_too_wide map.now) wishes.now }
+    ensures { result ≡ list_any (plans.is_wish_too_wide map.now) wishes.now }
 {
     wishes.iter().any(|wish| is_too_wide(map, wish))
 }
 
 /// Whether the wish is for a value with a 1 at or above the number of its field's bits.
 fn is_too_wide(map: &FuseMap, wish: &Wish) -> bool
-    ensures { result ≡ plans.is_too_wide map.now wish.now }
+    ensures { result ≡ plans.is_wish_too_wide map.now wish.now }
 {
     match field_named(map, &wish.field) {
         Some(field) => is_wide(&wish.want, &field),
@@ -151,7 +153,7 @@ fn is_wide(want: &Want, field: &Field) -> bool
 /// positions from there to the block's end.
 fn has_one_from(value: &Number, start: u16) -> bool
     requires { start ≤ 256 }
-    ensures { result ≡ list_any (has_one value.now) (range_with_len start (256 - start)) }
+    ensures { result ≡ list_any (number_has_one value.now) (range_with_len start (256 - start)) }
 {
     let ones = ones_from(value, Pos { block: 0, bit: 0 });
     let past = Pos {

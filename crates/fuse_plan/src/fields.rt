@@ -6,8 +6,7 @@ ghost use Rattle.fuse_image.specs.Places.{IsPlace, places_where};
 ghost use Rattle.fuse_plan.specs.Plans as plans;
 ghost use Rattle.fuse_plan.specs.Wishes.{bit_within};
 
-use fuse_image::{Bits, positions_of};
-use fuse_redaction::coding_field;
+use fuse_image::{Bits, coding_field, positions_of};
 use fusemap_core::{Field, FuseMap, Pos};
 use text_core::Name;
 

@@ -1,6 +1,6 @@
 // What holds of plans and read-backs.
 ghost use Rattle.fuse_plan.specs.Law.{MatchLaw};
-ghost use Rattle.fuse_plan.specs.Pending.{FirstRestLaw, LocksShow, PlanLaw, RestLaw, RestsLie};
+ghost use Rattle.fuse_plan.specs.Pending.{FirstRestLaw, LocksShow, PlanLaw, RestLaw, RestsInMap};
 ghost use Rattle.fuse_plan.specs.Pending.{SecondRestLaw};
 
 /// A read-back matches exactly where it is what the chip shows when all of the batch is burnt and
@@ -40,5 +40,5 @@ pub fn rest_law()
 
 /// What a read-back leaves to be burnt lies in the map where the plan does.
 pub fn rests_lie()
-    ensures { RestsLie }
+    ensures { RestsInMap }
 {}

@@ -17,7 +17,7 @@ mod wish;
 
 pub use comparison::compare;
 pub use fault::PlanFault;
-pub use fuse_redaction::{ReadBack, fits, has_coding_scheme, redact, shows_what_is_hidden};
+pub use fuse_image::{ReadBack, fits, has_coding_scheme, redact, shows_what_is_hidden};
 pub use laws::{
     first_rest_law, locks_show, match_law, plan_law, rest_law, rests_lie, second_rest_law,
 };

@@ -62,7 +62,7 @@ impl Number {
     /// Whether a bit of the number is 1. Bit 0 is the lowest.
     pub fn has_one(&self, bit: u16) -> bool
         requires { bit < 256 }
-        ensures { result ≡ numbers.has_one self.now bit }
+        ensures { result ≡ numbers.number_has_one self.now bit }
     {
         self.words[usize::from(bit / 32)] >> (bit % 32) & 1 == 1
     }
@@ -90,7 +90,7 @@ fn is_digit(byte: u8) -> bool
 /// The words of the number of these digits, the lowest first.
 fn words_of(digits: &[u8]) -> [u32; 8]
     requires { length digits.now ≤ DIGIT_LIMIT }
-    ensures { result ≡ numbers.words_of (digits_value digits.now) }
+    ensures { result ≡ numbers.words_of_number (digits_value digits.now) }
 {
     let padded = with_zeros(digits);
     let mut words = [0; 8];

@@ -1,6 +1,6 @@
 // The plan of some wishes.
 ghost use Rattle.std.specs.Prelude.{◌≡◌, IfOk};
-ghost use Rattle.fuse_columns.specs.TodoColumns.{IsWork};
+ghost use Rattle.fuse_columns.specs.TodoColumns.{IsPending};
 ghost use Rattle.fuse_plan.specs.Plans as plans;
 ghost use Rattle.fuse_plan.specs.Plans.{plan_of};
 
@@ -9,16 +9,16 @@ use crate::faults::lowest_fault;
 use crate::fields::{known_map, lock_positions};
 use crate::wants::{missing, wants_of};
 use crate::wish::Wish;
-use fuse_columns::Work;
+use fuse_columns::Pending;
 use fuse_image::Image;
 use fusemap_core::FuseMap;
 
 /// The plan of the wishes: what they ask for and isn't burnt, the lock bits in the second batch. Or,
 /// where the wishes aren't lawful, their lowest fault. A plan lies in the map: its bits outside key
 /// fields, its keys at key fields.
-pub fn plan(map: &FuseMap, image: &Image, wishes: &[Wish]) -> Result<Work, PlanFault>
+pub fn plan(map: &FuseMap, image: &Image, wishes: &[Wish]) -> Result<Pending, PlanFault>
     ensures same { result ≡ plan_of map.now image.now wishes.now }
-    ensures work { IfOk result (IsWork map.now) }
+    ensures work { IfOk result (IsPending map.now) }
 {
     known_map(map);
     let wants = wants_of(map, wishes);
@@ -31,11 +31,11 @@ pub fn plan(map: &FuseMap, image: &Image, wishes: &[Wish]) -> Result<Work, PlanF
 }
 
 /// The batches of what is missing.
-fn batches(map: &FuseMap, lacking: &Image) -> Work
+fn batches(map: &FuseMap, lacking: &Image) -> Pending
     ensures { result ≡ plans.batches map.now lacking.now }
 {
     let locks = lock_positions(map);
-    Work {
+    Pending {
         first: lacking.burnt.minus(&locks),
         second: lacking.burnt.meet(&locks),
         keys: lacking.keys,

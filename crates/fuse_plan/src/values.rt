@@ -4,8 +4,8 @@ ghost use Rattle.std.specs.Prelude.{nat_lt, slice_index, length, if◌then◌els
 ghost use Rattle.std.specs.Int.{bit_at};
 ghost use Rattle.fusemap_core.specs.Map.{IsSmall, holds};
 ghost use Rattle.fuse_image.specs.Places.{places_where};
-ghost use Rattle.fuse_image.specs.Words.{place_of};
-ghost use Rattle.fuse_plan.specs.Numbers.{has_one};
+ghost use Rattle.fuse_image.specs.Words.{position_of_bit};
+ghost use Rattle.fuse_plan.specs.Numbers.{number_has_one};
 ghost use Rattle.fuse_plan.specs.Wishes.{is_one_from};
 
 use crate::number::Number;
@@ -16,7 +16,7 @@ use fusemap_core::{Field, Pos};
 pub(crate) fn ones_in(field: &Field, value: &Number) -> Bits
     requires { IsSmall field.now }
     ensures { result
-        ≡ places_where (λ p. holds field.now p && has_one value.now (p.bit - field.now.bit)) }
+        ≡ places_where (λ p. holds field.now p && number_has_one value.now (p.bit - field.now.bit)) }
 {
     positions_of(field).meet(&ones_from(value, field.first()))
 }
@@ -25,7 +25,7 @@ pub(crate) fn ones_in(field: &Field, value: &Number) -> Bits
 pub(crate) fn zeros_in(field: &Field, value: &Number) -> Bits
     requires { IsSmall field.now }
     ensures { result
-        ≡ places_where (λ p. holds field.now p && not (has_one value.now (p.bit - field.now.bit))) }
+        ≡ places_where (λ p. holds field.now p && not (number_has_one value.now (p.bit - field.now.bit))) }
 {
     positions_of(field).minus(&ones_from(value, field.first()))
 }
@@ -41,7 +41,7 @@ pub(crate) fn ones_from(value: &Number, first: Pos) -> Bits
 /// end of the block, with zeros elsewhere.
 fn words_from(value: &Number, first: Pos) -> [u32; 32]
     ensures { (word bit : ℕ) → word < 32 → bit < 32 →
-        (bit_at (slice_index result word) bit == 1) ≡ is_one_from value.now first (place_of word bit) }
+        (bit_at (slice_index result word) bit == 1) ≡ is_one_from value.now first (position_of_bit word bit) }
 {
     let mut words = [0; 32];
     for word in 0..32 {
@@ -54,7 +54,7 @@ fn words_from(value: &Number, first: Pos) -> [u32; 32]
 fn word_from(value: &Number, first: Pos, word: u16) -> u32
     requires { word < 32 }
     ensures { (bit : ℕ) → bit < 32 →
-        (bit_at result bit == 1) ≡ is_one_from value.now first (place_of word bit) }
+        (bit_at result bit == 1) ≡ is_one_from value.now first (position_of_bit word bit) }
 {
     if word / 8 != u16::from(first.block) {
         return 0;
@@ -66,7 +66,7 @@ fn word_from(value: &Number, first: Pos, word: u16) -> u32
 fn window(value: &Number, word: u16, start: u16) -> u32
     requires { word < 8 }
     ensures { (bit : ℕ) → bit < 32 → (bit_at result bit == 1)
-        ≡ (nat_le start (32 * word + bit) && has_one value.now (32 * word + bit - start)) }
+        ≡ (nat_le start (32 * word + bit) && number_has_one value.now (32 * word + bit - start)) }
 {
     let skipped = start / 32;
     let upper = word_past(value, word, skipped);

@@ -2,9 +2,9 @@
 ghost use Rattle.std.specs.Prelude.{◌≡◌, ◌&&◌, ◌-◌, not, Some, None, if◌then◌else◌};
 ghost use Rattle.fusemap_core.specs.Map.{holds};
 ghost use Rattle.fuse_image.specs.Places.{places_where};
-ghost use Rattle.fuse_plan.specs.Numbers.{has_one};
+ghost use Rattle.fuse_plan.specs.Numbers.{number_has_one};
 ghost use Rattle.fuse_plan.specs.Wishes as asked;
-ghost use Rattle.fuse_plan.specs.Wishes.{asks_one, asks_zero, at_field, key_in, key_of, wanted_key};
+ghost use Rattle.fuse_plan.specs.Wishes.{asks_one, asks_zero, at_field, key_of_want, key_of_wish, wanted_key};
 ghost use Rattle.fuse_plan.specs.Wishes.{wanted_keys, wanted_ones, wanted_zeros};
 
 use crate::fields::{bit_named, field_named, only, read_lock_named, write_lock_named};
@@ -100,7 +100,7 @@ fn zeros_of(map: &FuseMap, wish: &Wish) -> Bits
 /// The ones of a value of the field of a name, if the map has it.
 fn ones_named(map: &FuseMap, name: &Name, value: &Number) -> Bits
     ensures { result ≡ places_where (λ p. at_field map.now
-        (λ f. holds f p && has_one value.now (p.bit - f.bit)) name.now) }
+        (λ f. holds f p && number_has_one value.now (p.bit - f.bit)) name.now) }
 {
     match field_named(map, name) {
         Some(field) => ones_in(&field, value),
@@ -111,7 +111,7 @@ fn ones_named(map: &FuseMap, name: &Name, value: &Number) -> Bits
 /// The zeros of a value of the field of a name, if the map has it.
 fn zeros_named(map: &FuseMap, name: &Name, value: &Number) -> Bits
     ensures { result ≡ places_where (λ p. at_field map.now
-        (λ f. holds f p && not (has_one value.now (p.bit - f.bit))) name.now) }
+        (λ f. holds f p && not (number_has_one value.now (p.bit - f.bit))) name.now) }
 {
     match field_named(map, name) {
         Some(field) => zeros_in(&field, value),
@@ -137,7 +137,7 @@ fn wanted_key(map: &FuseMap, wishes: &[Wish], block: u8) -> Option<Digest>
     ensures { result ≡ wanted_key map.now block wishes.now }
 {
     for wish in wishes {
-        let key = key_of(map, wish, block);
+        let key = key_of_wish(map, wish, block);
         if key.is_some() {
             return key;
         }
@@ -146,16 +146,16 @@ fn wanted_key(map: &FuseMap, wishes: &[Wish], block: u8) -> Option<Digest>
 }
 
 /// The digest that a wish asks for in the block.
-fn key_of(map: &FuseMap, wish: &Wish, block: u8) -> Option<Digest>
-    ensures { result ≡ key_of map.now block wish.now }
+fn key_of_wish(map: &FuseMap, wish: &Wish, block: u8) -> Option<Digest>
+    ensures { result ≡ key_of_wish map.now block wish.now }
 {
     let field = field_named(map, &wish.field)?;
-    key_in(&field, &wish.want, block)
+    key_of_want(&field, &wish.want, block)
 }
 
 /// The digest that is asked for, where the field is the key field of the block.
-fn key_in(field: &Field, want: &Want, block: u8) -> Option<Digest>
-    ensures { result ≡ key_in block want.now field.now }
+fn key_of_want(field: &Field, want: &Want, block: u8) -> Option<Digest>
+    ensures { result ≡ key_of_want block want.now field.now }
 {
     match want {
         Want::Key(digest) => if_there(*digest, field.key && field.block == block),

@@ -9,7 +9,7 @@ use Rattle.std.proofs.lemmas.Option.{slice_get_past, slice_get_within, get_or_fr
 use Rattle.fusemap_core.specs.declared.field.Field.{Field}
 use Rattle.fusemap_core.specs.declared.map.FieldId.{FieldId}
 use Rattle.fusemap_core.specs.declared.pos.Pos.{Pos}
-use Rattle.fusemap_core.specs.Map.{Map, is_named, field_named, bit_of, lock_at, write_lock, read_lock, field_of, id_at, IsInRange, IsInBlock, IsMap}
+use Rattle.fusemap_core.specs.Map.{Map, is_field_named, field_named, bit_of, lock_at, write_lock, read_lock, field_of, id_at, IsInRange, IsInBlock, IsMap}
 use Rattle.fusemap_core.specs.Map.{IsPosition, IsSmall, IsSmallPosition, HasBit, HasItsLocks}
 
 -- what holds of each element holds of the one that is found
@@ -29,7 +29,7 @@ below_count (Some f) i has bound = omega arith
 
 few_bits : (fields : List Field) (name : List ℕ) (i : ℕ) → All (λ f. f.count ≤ 256) fields → HasBit fields name i → i < 256
 few_bits fields name i counts has =
-    below_count (field_named name fields) i has (found (is_named name) (λ f. f.count ≤ 256) fields counts)
+    below_count (field_named name fields) i has (found (is_field_named name) (λ f. f.count ≤ 256) fields counts)
 
 few_locks : (fields : List Field) (name : List ℕ) (number : Option ℕ) → All (λ f.
     f.count ≤ 256) fields → IfSome number (HasBit fields name) → IfSome number (λ i. i < 256)
@@ -68,7 +68,7 @@ lock_is_position : (blocks : List ℕ) (fields : List Field) (name : List ℕ) (
     → IfSome number (HasBit fields name) → IfSome (option_and_then (lock_at fields name) number) (IsPosition blocks)
 lock_is_position blocks fields name None in_block has = tt
 lock_is_position blocks fields name (Some i) in_block has =
-    position_in blocks (field_named name fields) i has (found (is_named name) (IsInBlock blocks) fields in_block)
+    position_in blocks (field_named name fields) i has (found (is_field_named name) (IsInBlock blocks) fields in_block)
 
 -- the locks of a field of a map are positions
 field_at_place : (m : Map) (id : FieldId) (f : Field) → field_of m id ≡ Some f → (id.index < length m.fields) × (get_or m.fields id.index f ≡ f)

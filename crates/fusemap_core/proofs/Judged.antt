@@ -6,9 +6,9 @@ use Rattle.std.proofs.lemmas.Bool.{false≢true}
 use Rattle.fusemap_core.specs.declared.fault.MapFault.{MapFault}
 use Rattle.fusemap_core.specs.declared.fault.MapFault.TheVariants.{NotToml, BadMember, NameTwice, OutOfBlock, FieldsOverlap, BadLockField, BadLockIndex}
 use Rattle.fusemap_core.specs.declared.fault.MapFault.TheVariants.{BadKeyField, OutOfMemory}
-use Rattle.fusemap_core.specs.Map.{Map, IsMap, IsInRange, IsInBlock, AreApart, HasItsLocks, IsKeyField}
-use Rattle.fusemap_core.specs.MapFaults.{all_pairs, have_other_names, is_in_block, are_apart, has_lock_fields, has_its_locks, is_plain_or_key, fault_number}
-use Rattle.fusemap_core.specs.MapFaults.{lowest_fault, unless_faulty, judged, KeepsRule, IsLowestBroken}
+use Rattle.fusemap_core.specs.Map.{Map, IsMap, IsInRange, IsInBlock, FieldsDisjoint, HasItsLocks, IsKeyField}
+use Rattle.fusemap_core.specs.MapFaults.{all_pairs, have_other_names, is_in_block, are_apart, has_lock_fields, has_its_locks, is_plain_or_key, map_fault_number}
+use Rattle.fusemap_core.specs.MapFaults.{lowest_fault, map_unless_faulty, map_or_fault, KeepsMapRule, IsLowestMapFault}
 use Rattle.fusemap_core.proofs.Pairs.{Decides-all_pairs, Decides-list_all}
 use Rattle.fusemap_core.proofs.Rules.{Decides-have_other_names, Decides-is_in_block, Decides-are_apart, Decides-has_lock_fields, Decides-has_its_locks}
 use Rattle.fusemap_core.proofs.Rules.{Decides-is_plain_or_key}
@@ -32,8 +32,8 @@ names_decided m = Decides-all_pairs have_other_names (λ f g. f.name ≢ g.name)
 blocks_decided : (m : Map) → Decides (list_all (is_in_block m.blocks) m.fields) (All (IsInBlock m.blocks) m.fields)
 blocks_decided m = Decides-list_all (is_in_block m.blocks) (IsInBlock m.blocks) (Decides-is_in_block m.blocks) m.fields
 
-apart_decided : (m : Map) → Decides (all_pairs are_apart m.fields) (AllPairs AreApart m.fields)
-apart_decided m = Decides-all_pairs are_apart AreApart Decides-are_apart m.fields
+apart_decided : (m : Map) → Decides (all_pairs are_apart m.fields) (AllPairs FieldsDisjoint m.fields)
+apart_decided m = Decides-all_pairs are_apart FieldsDisjoint Decides-are_apart m.fields
 
 locks_decided : (m : Map) → Decides (list_all (has_its_locks m.fields m.wr m.rd) m.fields) (All (HasItsLocks m) m.fields)
 locks_decided m = Decides-list_all (has_its_locks m.fields m.wr m.rd) (HasItsLocks m) (Decides-has_its_locks m) m.fields
@@ -69,24 +69,24 @@ no_fault-from_IsMap m is =
     rw (names, blocks, apart, lock_fields, locks, keys) refl
 
 -- a judgement that gives a map found no fault, and gives the map that was judged
-faultless : (fault : Option MapFault) (m found : Map) → unless_faulty fault m ≡ Ok found → (fault ≡ None) × (m ≡ found)
+faultless : (fault : Option MapFault) (m found : Map) → map_unless_faulty fault m ≡ Ok found → (fault ≡ None) × (m ≡ found)
 faultless (Some fault) m found e = cc
 faultless None m found e = (refl, cc)
 
-pub same-from_judged : (m found : Map) → judged m ≡ Ok found → m ≡ found
+pub same-from_judged : (m found : Map) → map_or_fault m ≡ Ok found → m ≡ found
 same-from_judged m found e = (faultless (lowest_fault m) m found e).1
 
-pub IsMap-from_judged : (m found : Map) → IsInRange m → judged m ≡ Ok found → IsMap found
+pub IsMap-from_judged : (m found : Map) → IsInRange m → map_or_fault m ≡ Ok found → IsMap found
 IsMap-from_judged m found ranges e =
     let parts = faultless (lowest_fault m) m found e in rw (← parts.1) (IsMap-from_no_fault m ranges parts.0)
 
-pub judged-from_IsMap : (m : Map) → IsMap m → judged m ≡ Ok m
-judged-from_IsMap m is = ap (λ fault. unless_faulty fault m) (no_fault-from_IsMap m is)
+pub map_or_fault-from_IsMap : (m : Map) → IsMap m → map_or_fault m ≡ Ok m
+map_or_fault-from_IsMap m is = ap (λ fault. map_unless_faulty fault m) (no_fault-from_IsMap m is)
 
 -- the rules of all faults below a number, by the rules of those that have one
-rules_below : (m : Map) (n : ℕ) → (3 < n → KeepsRule NameTwice m) → (4 < n → KeepsRule OutOfBlock m) → (5 < n → KeepsRule FieldsOverlap m)
-    → (6 < n → KeepsRule BadLockField m)
-    → (7 < n → KeepsRule BadLockIndex m) → (8 < n → KeepsRule BadKeyField m) → (other : MapFault) → fault_number other < n → KeepsRule other m
+rules_below : (m : Map) (n : ℕ) → (3 < n → KeepsMapRule NameTwice m) → (4 < n → KeepsMapRule OutOfBlock m) → (5 < n → KeepsMapRule FieldsOverlap m)
+    → (6 < n → KeepsMapRule BadLockField m)
+    → (7 < n → KeepsMapRule BadLockIndex m) → (8 < n → KeepsMapRule BadKeyField m) → (other : MapFault) → map_fault_number other < n → KeepsMapRule other m
 rules_below m n names inside apart locks bits keys NotToml low = tt
 rules_below m n names inside apart locks bits keys BadMember low = tt
 rules_below m n names inside apart locks bits keys NameTwice low = names low
@@ -103,11 +103,11 @@ broken_by d holds = false≢true (d.1 holds)
 
 -- the fault that six tests tell is that of the first that fails, and what they decide tells which rules are kept
 lowest_of_tests : (m : Map) (fault : MapFault) (names inside apart locks bits keys : Bool)
-    → Decides names (KeepsRule NameTwice m) → Decides inside (KeepsRule OutOfBlock m) → Decides apart (KeepsRule FieldsOverlap m)
-    → Decides locks (KeepsRule BadLockField m) → Decides bits (KeepsRule BadLockIndex m) → Decides keys (KeepsRule BadKeyField m)
+    → Decides names (KeepsMapRule NameTwice m) → Decides inside (KeepsMapRule OutOfBlock m) → Decides apart (KeepsMapRule FieldsOverlap m)
+    → Decides locks (KeepsMapRule BadLockField m) → Decides bits (KeepsMapRule BadLockIndex m) → Decides keys (KeepsMapRule BadKeyField m)
     → (if not names then Some NameTwice else if not inside then Some OutOfBlock else if not apart then Some FieldsOverlap else if not locks
     then Some BadLockField else if not bits then Some BadLockIndex else if not keys then Some BadKeyField else None) ≡ Some fault
-    → IsLowestBroken fault m
+    → IsLowestMapFault fault m
 lowest_of_tests m fault false inside apart locks bits keys d3 d4 d5 d6 d7 d8 e =
     let same : NameTwice ≡ fault = cc in
     rw (← same) (record {
@@ -153,14 +153,14 @@ lowest_of_tests m fault true true true true true false d3 d4 d5 d6 d7 d8 e =
 lowest_of_tests m fault true true true true true true d3 d4 d5 d6 d7 d8 e = cc
 
 -- the lowest fault of a map is that of a broken rule, and no lower rule is broken
-IsLowestBroken-from_lowest : (m : Map) (fault : MapFault) → lowest_fault m ≡ Some fault → IsLowestBroken fault m
-IsLowestBroken-from_lowest m fault e =
+IsLowestMapFault-from_lowest : (m : Map) (fault : MapFault) → lowest_fault m ≡ Some fault → IsLowestMapFault fault m
+IsLowestMapFault-from_lowest m fault e =
     lowest_of_tests m fault _ _ _ _ _ _ (names_decided m) (blocks_decided m) (apart_decided m) (Decides-has_lock_fields m) (locks_decided m) (keys_decided m) e
 
 -- a fault that a judgement gives is the one that was found
-found_fault : (found : Option MapFault) (m : Map) (fault : MapFault) → unless_faulty found m ≡ Err fault → found ≡ Some fault
+found_fault : (found : Option MapFault) (m : Map) (fault : MapFault) → map_unless_faulty found m ≡ Err fault → found ≡ Some fault
 found_fault (Some found) m fault e = cc
 found_fault None m fault e = cc
 
-pub IsLowestBroken-from_judged : (m : Map) (fault : MapFault) → judged m ≡ Err fault → IsLowestBroken fault m
-IsLowestBroken-from_judged m fault e = IsLowestBroken-from_lowest m fault (found_fault (lowest_fault m) m fault e)
+pub IsLowestMapFault-from_judged : (m : Map) (fault : MapFault) → map_or_fault m ≡ Err fault → IsLowestMapFault fault m
+IsLowestMapFault-from_judged m fault e = IsLowestMapFault-from_lowest m fault (found_fault (lowest_fault m) m fault e)

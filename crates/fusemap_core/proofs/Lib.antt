@@ -1,6 +1,7 @@
 -- The lemmas of this crate.
 pub mod Bounds
 pub mod Judged
+pub mod Nothing
 pub mod Pairs
 pub mod Ranges
 pub mod Reading

@@ -5,11 +5,11 @@ use Rattle.std.specs.Prelude.{nat_le, if◌then◌else◌, codes}
 use Rattle.std.proofs.lemmas.Bool.{and_parts, leb-true}
 use Rattle.std.proofs.lemmas.Option.{cond_some, option_and_then_some}
 use Rattle.toml.specs.Data.{Data, get, as_integer}
-use Rattle.toml_members.specs.Documents.{within, whole_within, whole_member, optional_whole, flag_member, name_member, items_member}
+use Rattle.toml_members.specs.Documents.{integer_within, whole_within, whole_member, optional_whole, flag_member, name_member, items_member}
 use Rattle.text_core.specs.Options.{all_of}
 use Rattle.fusemap_core.specs.declared.field.Field.{Field}
 use Rattle.fusemap_core.specs.Map.{Map, IsInRange}
-use Rattle.fusemap_core.specs.MapText.{largest_integer, optional_name, of_length, list_member, words_in, field_in, map_of}
+use Rattle.fusemap_core.specs.MapText.{largest_integer, optional_name, of_length, array_member, words_in, field_in, map_of_document}
 
 -- a number in a range
 in_bounds : (least greatest n found : ℕ) → (if nat_le least n && nat_le n greatest then Some n else None) ≡ Some found → (least ≤ found) × (found ≤ greatest)
@@ -20,7 +20,7 @@ in_bounds least greatest n found e =
     let high = leb-true n greatest parts.1 in
     (rw (← chosen.1) low, rw (← chosen.1) high)
 
-within_bounds : (least greatest : ℕ) (z : ℤ) (n : ℕ) → within least greatest z ≡ Some n → (least ≤ n) × (n ≤ greatest)
+within_bounds : (least greatest : ℕ) (z : ℤ) (n : ℕ) → integer_within least greatest z ≡ Some n → (least ≤ n) × (n ≤ greatest)
 within_bounds least greatest (pos m) n e = in_bounds least greatest m n e
 within_bounds least greatest (negsuc m) n e = cc
 
@@ -28,7 +28,9 @@ within_bounds least greatest (negsuc m) n e = cc
 whole_member_bounds : (name : List ℕ) (least greatest : ℕ) (d : Data) (n : ℕ) → whole_member name least greatest d ≡ Some n → (least ≤ n) × (n ≤ greatest)
 whole_member_bounds name least greatest d n e =
     option_and_then_some (whole_within least greatest) (get name d) n e
-    (λ found there whole. option_and_then_some (within least greatest) (as_integer found) n whole (λ z is inside. within_bounds least greatest z n inside))
+    (λ found there whole.
+    option_and_then_some (integer_within least greatest) (as_integer found) n whole
+    (λ z is inside. within_bounds least greatest z n inside))
 
 -- what is read of a first element and of the others
 parts_of : {B : Type 0} (first : Option B) (others : Option (List B)) (all : List B) → option_and_then (λ y. option_map (λ ys. y ∷ ys) others) first ≡ Some all
@@ -65,7 +67,7 @@ of_length_bounds least greatest ds items e =
     let high = leb-true (length ds) greatest parts.1 in
     (rw (← chosen.1) low, rw (← chosen.1) high)
 
-list_member_bounds : (name : List ℕ) (least greatest : ℕ) (d : Data) (items : List Data) → list_member name least greatest d ≡ Some items
+list_member_bounds : (name : List ℕ) (least greatest : ℕ) (d : Data) (items : List Data) → array_member name least greatest d ≡ Some items
     → (least ≤ length items) × (length items ≤ greatest)
 list_member_bounds name least greatest d items e =
     option_and_then_some (of_length least greatest) (items_member name d) items e (λ ds there. of_length_bounds least greatest ds items)
@@ -85,13 +87,13 @@ count_of_field d f e =
     rw (← same) (whole_member_bounds (codes "count") 1 largest_integer d count is_count).0)))))))
 
 -- the numbers of a map that a document gives are in range
-pub IsInRange-from_map_of : (d : Data) (m : Map) → map_of d ≡ Some m → IsInRange m
-unfolding map_of
+pub IsInRange-from_map_of : (d : Data) (m : Map) → map_of_document d ≡ Some m → IsInRange m
+unfolding map_of_document
 IsInRange-from_map_of d m e =
     option_and_then_some _ (name_member (codes "name") d) m e (λ name is_name e1.
-    option_and_then_some _ (list_member (codes "block") 1 4 d) m e1 (λ block_items is_blocks e2.
+    option_and_then_some _ (array_member (codes "block") 1 4 d) m e1 (λ block_items is_blocks e2.
     option_and_then_some _ (all_of words_in block_items) m e2 (λ blocks are_blocks e3.
-    option_and_then_some _ (list_member (codes "field") 1 128 d) m e3 (λ field_items is_fields e4.
+    option_and_then_some _ (array_member (codes "field") 1 128 d) m e3 (λ field_items is_fields e4.
     option_and_then_some _ (all_of field_in field_items) m e4 (λ fields are_fields e5.
     option_and_then_some _ (name_member (codes "wr") d) m e5 (λ wr is_wr e6.
     option_and_then_some _ (name_member (codes "rd") d) m e6 (λ rd is_rd e7.

@@ -12,29 +12,29 @@ use Rattle.text_core.specs.Options.{◌>>=◌}
 use Rattle.fusemap_core.specs.declared.fault.MapFault.{MapFault}
 use Rattle.fusemap_core.specs.declared.fault.MapFault.TheVariants.{NotToml, BadMember, OutOfMemory}
 use Rattle.fusemap_core.specs.Map.{Map, IsMap, IsInRange}
-use Rattle.fusemap_core.specs.MapFaults.{judged, IsLowestBroken}
-use Rattle.fusemap_core.specs.MapText.{HasMembers, IsMapText, map_of, map_read}
-use Rattle.fusemap_core.proofs.Judged.{IsMap-from_judged, same-from_judged, judged-from_IsMap, IsLowestBroken-from_judged}
+use Rattle.fusemap_core.specs.MapFaults.{map_or_fault, IsLowestMapFault}
+use Rattle.fusemap_core.specs.MapText.{HasMapMembers, IsMapText, map_of_document, map_read}
+use Rattle.fusemap_core.proofs.Judged.{IsMap-from_judged, same-from_judged, map_or_fault-from_IsMap, IsLowestMapFault-from_judged}
 use Rattle.fusemap_core.proofs.Ranges.{IsInRange-from_map_of}
 
 -- what a document's parts are judged to be
 abbrev draft_read : Option Map → Result Map MapFault
-draft_read draft = result_and_then judged (ok_or draft BadMember)
+draft_read draft = result_and_then map_or_fault (ok_or draft BadMember)
 
 abbrev document_judged : Option Data → Result Map MapFault
-document_judged document = result_and_then (λ d. draft_read (map_of d)) (ok_or document NotToml)
+document_judged document = result_and_then (λ d. draft_read (map_of_document d)) (ok_or document NotToml)
 
 draft-from_read : (draft : Option Map) (m : Map) → ((found : Map) → draft ≡ Some found → IsInRange found) → draft_read draft ≡ Ok m → (draft ≡ Some m) × IsMap m
 draft-from_read None m ranges e = cc
 draft-from_read (Some d) m ranges e = let same = same-from_judged d m e in (rw same refl, IsMap-from_judged d m (ranges d refl) e)
 
-document-from_judged : (document : Option Data) (m : Map) → document_judged document ≡ Ok m → ((document >>= map_of) ≡ Some m) × IsMap m
+document-from_judged : (document : Option Data) (m : Map) → document_judged document ≡ Ok m → ((document >>= map_of_document) ≡ Some m) × IsMap m
 document-from_judged None m e = cc
-document-from_judged (Some d) m e = draft-from_read (map_of d) m (IsInRange-from_map_of d) e
+document-from_judged (Some d) m e = draft-from_read (map_of_document d) m (IsInRange-from_map_of d) e
 
-judged-from_document : (document : Option Data) (m : Map) → (document >>= map_of) ≡ Some m → IsMap m → document_judged document ≡ Ok m
-judged-from_document None m e is = cc
-judged-from_document (Some d) m e is = rw e (judged-from_IsMap m is)
+map_or_fault-from_document : (document : Option Data) (m : Map) → (document >>= map_of_document) ≡ Some m → IsMap m → document_judged document ≡ Ok m
+map_or_fault-from_document None m e is = cc
+map_or_fault-from_document (Some d) m e is = rw e (map_or_fault-from_IsMap m is)
 
 -- a text is read where it isn't over its limit
 read-from_limit : (over : Bool) (read : Result Map MapFault) (m : Map) → (if over then Err BadMember else read) ≡ Ok m → (over ≡ false) × (read ≡ Ok m)
@@ -52,7 +52,7 @@ IsMapText-from_read text m e =
 pub read-from_IsMapText : (text : List ℕ) (m : Map) → IsMapText text m → map_read text ≡ Ok m
 read-from_IsMapText text m is =
     let under : nat_lt 32768 (length text) ≡ false = grind (arith, nat_tests, is.within) in
-    rw under (judged-from_document (document_of text) m is.members is.is_map)
+    rw under (map_or_fault-from_document (document_of text) m is.members is.is_map)
 
 -- an answer is the text's map
 pub valid_from_exact : (text : List ℕ) (answer : Result Map MapFault) → GivesUnless OutOfMemory answer (map_read text) → IfOk answer (IsMapText text)
@@ -68,18 +68,18 @@ refused_from_exact text (Err fault) (inl e) = λ other m is. let read = read-fro
 refused_from_exact text (Err fault) (inr e) = λ other m is. other cc
 
 -- a document with all members of a map is judged as that map
-judged_of_members : (document : Option Data) (m : Map) → (document >>= map_of) ≡ Some m → document_judged document ≡ judged m
+judged_of_members : (document : Option Data) (m : Map) → (document >>= map_of_document) ≡ Some m → document_judged document ≡ map_or_fault m
 judged_of_members None m e = cc
 judged_of_members (Some d) m e = rw e refl
 
-read_of_members : (text : List ℕ) (m : Map) → HasMembers text m → map_read text ≡ judged m
+read_of_members : (text : List ℕ) (m : Map) → HasMapMembers text m → map_read text ≡ map_or_fault m
 read_of_members text m has =
     let under : nat_lt 32768 (length text) ≡ false = grind (arith, nat_tests, has.within) in
     rw under (judged_of_members (document_of text) m has.members)
 
 -- a fault that is answered is that of a broken rule, and no lower rule is broken
 pub lowest_from_exact : (text : List ℕ) (answer : Result Map MapFault) → GivesUnless OutOfMemory answer (map_read text) → IfErr answer (λ fault.
-    fault ≢ OutOfMemory → (m : Map) → HasMembers text m → IsLowestBroken fault m)
+    fault ≢ OutOfMemory → (m : Map) → HasMapMembers text m → IsLowestMapFault fault m)
 lowest_from_exact text (Ok m) exact = tt
-lowest_from_exact text (Err fault) (inl e) = λ other m has. IsLowestBroken-from_judged m fault (sym (read_of_members text m has) ∙ sym e)
+lowest_from_exact text (Err fault) (inl e) = λ other m has. IsLowestMapFault-from_judged m fault (sym (read_of_members text m has) ∙ sym e)
 lowest_from_exact text (Err fault) (inr e) = λ other m has. absurd (other cc)

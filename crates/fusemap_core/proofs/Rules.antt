@@ -7,7 +7,7 @@ use Rattle.std.proofs.lemmas.Bool.Decides.{Decides-and, Decides-eqb, Decides-lik
 use Rattle.std.proofs.lemmas.Slice.Eq.{bytes_eq-Decides}
 use Rattle.fusemap_core.specs.declared.field.Field.{Field}
 use Rattle.fusemap_core.specs.declared.pos.Pos.{Pos}
-use Rattle.fusemap_core.specs.Map.{Map, words_of, holds, field_named, IsInBlock, AreApart, NamesLockField, NamesCodingField, HasLockFields, HasBit}
+use Rattle.fusemap_core.specs.Map.{Map, word_count, holds, field_named, IsInBlock, FieldsDisjoint, NamesLockField, NamesCodingField, HasLockFields, HasBit}
 use Rattle.fusemap_core.specs.Map.{HasItsLocks, IsKeyField}
 use Rattle.fusemap_core.specs.MapFaults.{have_other_names, is_in_block, are_apart, names_lock_field, names_plain_field, names_coding_field, has_lock_fields}
 use Rattle.fusemap_core.specs.MapFaults.{has_bit, has_its_locks, is_key_field, is_plain_or_key}
@@ -27,8 +27,8 @@ Decides-have_other_names f g = Decides-other f.name g.name
 pub Decides-is_in_block : (blocks : List ℕ) (f : Field) → Decides (is_in_block blocks f) (IsInBlock blocks f)
 Decides-is_in_block blocks f =
     Decides-like (is_in_block blocks f) (λ parts. record { block = parts.0; end = parts.1 }) (λ is. (is.block, is.end))
-    (Decides-and (nat_lt f.block (length blocks)) (nat_le (f.bit + f.count) (32 * words_of blocks f.block)) (Decides-ltb f.block (length blocks))
-    (Decides-leb (f.bit + f.count) (32 * words_of blocks f.block)))
+    (Decides-and (nat_lt f.block (length blocks)) (nat_le (f.bit + f.count) (32 * word_count blocks f.block)) (Decides-ltb f.block (length blocks))
+    (Decides-leb (f.bit + f.count) (32 * word_count blocks f.block)))
 
 -- the positions of a field
 pub record IsHeld (f : Field) (p : Pos) : Type 0 where
@@ -43,7 +43,7 @@ Decides-holds f p =
     (Decides-and (nat_le f.bit p.bit) (nat_lt p.bit (f.bit + f.count)) (Decides-leb f.bit p.bit) (Decides-ltb p.bit (f.bit + f.count))))
 
 -- where the first end comes after the last start of two fields in one block, the last start lies in both
-meet_at_start : (f g : Field) → f.block ≡ g.block → max f.bit g.bit < min (f.bit + f.count) (g.bit + g.count) → AreApart f g → ⊥
+meet_at_start : (f g : Field) → f.block ≡ g.block → max f.bit g.bit < min (f.bit + f.count) (g.bit + g.count) → FieldsDisjoint f g → ⊥
 meet_at_start f g same meet apart =
     let p : Pos = record { block = f.block; bit = max f.bit g.bit } in
     let in_f : holds f p ≡ true = (Decides-holds f p).1 (record { block = refl; first = omega arith; last = omega arith }) in
@@ -59,7 +59,7 @@ apart_at f g apart p in_f in_g =
     omega (arith, leb-true _ _ ends, in_f.first, in_f.last, in_g.first, in_g.last)
 
 -- the fields have no position in common
-pub Decides-are_apart : (f g : Field) → Decides (are_apart f g) (AreApart f g)
+pub Decides-are_apart : (f g : Field) → Decides (are_apart f g) (FieldsDisjoint f g)
 Decides-are_apart f g = (
   λ apart p in_f. false_from_ne_true (holds g p) (λ in_g. apart_at f g apart p ((Decides-holds f p).0 in_f) ((Decides-holds g p).0 in_g)),
   λ apart. true_from_ne_false (are_apart f g) (λ meet. let parts = or_parts (not (f.block == g.block))
@@ -115,7 +115,7 @@ Decides-is_key_field : (blocks : List ℕ) (f : Field) → Decides (is_key_field
 Decides-is_key_field blocks f =
     let first = f.bit == 0 in
     let whole = f.count == 256 in
-    let words = words_of blocks f.block == 8 in
+    let words = word_count blocks f.block == 8 in
     let write = is_some f.write in
     let read = is_some f.read in
     Decides-like (first && whole && words && write && read) (λ parts.
@@ -123,7 +123,7 @@ Decides-is_key_field blocks f =
     (λ is. ((((is.first, is.whole), is.words), is.write), is.read))
     (Decides-and (first && whole && words && write) read
     (Decides-and (first && whole && words) write
-    (Decides-and (first && whole) words (Decides-and first whole (Decides-eqb f.bit 0) (Decides-eqb f.count 256)) (Decides-eqb (words_of blocks f.block) 8))
+    (Decides-and (first && whole) words (Decides-and first whole (Decides-eqb f.bit 0) (Decides-eqb f.count 256)) (Decides-eqb (word_count blocks f.block) 8))
     (Decides-is_true write))
     (Decides-is_true read))
 

@@ -16,25 +16,25 @@ pub record Map : Type 0 where
   pub coding : Option (List ℕ)
 
 -- how many words a block has: none where there is no such block
-abbrev pub words_of : List ℕ → ℕ → ℕ
-words_of blocks block = slice_index blocks block
+abbrev pub word_count : List ℕ → ℕ → ℕ
+word_count blocks block = slice_index blocks block
 
 -- the position is a bit of one of the blocks
 pub record IsPosition (blocks : List ℕ) (p : Pos) : Type 0 where
   pub block : p.block < length blocks
-  pub bit : p.bit < 32 * words_of blocks p.block
+  pub bit : p.bit < 32 * word_count blocks p.block
 
 -- the field has the position
 abbrev pub holds : Field → Pos → Bool
 holds f p = f.block == p.block && (nat_le f.bit p.bit && nat_lt p.bit (f.bit + f.count))
 
 -- the field has the name
-abbrev pub is_named : List ℕ → Field → Bool
-is_named name f = bytes_eq f.name name
+abbrev pub is_field_named : List ℕ → Field → Bool
+is_field_named name f = bytes_eq f.name name
 
 -- the field of a name
 abbrev pub field_named : List ℕ → List Field → Option Field
-field_named name fields = find (is_named name) fields
+field_named name fields = find (is_field_named name) fields
 
 -- the position of bit i of a field
 abbrev pub bit_of : Field → ℕ → Pos
@@ -88,11 +88,11 @@ pub record IsInRange (m : Map) : Type 0 where
 -- the field lies in one of the blocks, and ends there
 pub record IsInBlock (blocks : List ℕ) (f : Field) : Type 0 where
   pub block : f.block < length blocks
-  pub end : f.bit + f.count ≤ 32 * words_of blocks f.block
+  pub end : f.bit + f.count ≤ 32 * word_count blocks f.block
 
 -- no position lies in both fields
-abbrev pub AreApart : Field → Field → Type 0
-AreApart f g = (p : Pos) → holds f p ≡ true → holds g p ≡ false
+abbrev pub FieldsDisjoint : Field → Field → Type 0
+FieldsDisjoint f g = (p : Pos) → holds f p ≡ true → holds g p ≡ false
 
 -- the name is that of a plain field without read lock
 abbrev pub NamesLockField : List Field → List ℕ → Type 0
@@ -124,7 +124,7 @@ pub record HasItsLocks (m : Map) (f : Field) : Type 0 where
 pub record IsKeyField (blocks : List ℕ) (f : Field) : Type 0 where
   pub first : f.bit ≡ 0
   pub whole : f.count ≡ 256
-  pub words : words_of blocks f.block ≡ 8
+  pub words : word_count blocks f.block ≡ 8
   pub write : IsSome f.write
   pub read : IsSome f.read
 
@@ -134,7 +134,7 @@ pub record IsMap (m : Map) : Type 0 where
   pub ranges : IsInRange m
   pub names : AllPairs (λ f g. f.name ≢ g.name) m.fields
   pub in_block : All (IsInBlock m.blocks) m.fields
-  pub apart : AllPairs AreApart m.fields
+  pub apart : AllPairs FieldsDisjoint m.fields
   pub lock_fields : HasLockFields m
   pub locks : All (HasItsLocks m) m.fields
   pub keys : All (λ f. f.key ≡ true → IsKeyField m.blocks f) m.fields

@@ -9,24 +9,24 @@ use Rattle.fusemap_core.specs.declared.fault.MapFault.{MapFault}
 use Rattle.fusemap_core.specs.declared.fault.MapFault.TheVariants.{NotToml, BadMember, NameTwice, OutOfBlock, FieldsOverlap, BadLockField, BadLockIndex}
 use Rattle.fusemap_core.specs.declared.fault.MapFault.TheVariants.{BadKeyField, OutOfMemory}
 use Rattle.fusemap_core.specs.declared.field.Field.{Field}
-use Rattle.fusemap_core.specs.Map.{Map, words_of, field_named, IsInBlock, AreApart, HasLockFields, HasItsLocks, IsKeyField}
+use Rattle.fusemap_core.specs.Map.{Map, word_count, field_named, IsInBlock, FieldsDisjoint, HasLockFields, HasItsLocks, IsKeyField}
 
 -- the number of a fault
-abbrev pub fault_number : MapFault → ℕ
-fault_number NotToml = 1
-fault_number BadMember = 2
-fault_number NameTwice = 3
-fault_number OutOfBlock = 4
-fault_number FieldsOverlap = 5
-fault_number BadLockField = 6
-fault_number BadLockIndex = 7
-fault_number BadKeyField = 8
-fault_number OutOfMemory = 9
+abbrev pub map_fault_number : MapFault → ℕ
+map_fault_number NotToml = 1
+map_fault_number BadMember = 2
+map_fault_number NameTwice = 3
+map_fault_number OutOfBlock = 4
+map_fault_number FieldsOverlap = 5
+map_fault_number BadLockField = 6
+map_fault_number BadLockIndex = 7
+map_fault_number BadKeyField = 8
+map_fault_number OutOfMemory = 9
 
 -- the fault of a text that has no document
-abbrev pub fault_of_document : DocumentFault → MapFault
-fault_of_document document.NotToml = NotToml
-fault_of_document document.OutOfMemory = OutOfMemory
+abbrev pub map_fault_of_document : DocumentFault → MapFault
+map_fault_of_document document.NotToml = NotToml
+map_fault_of_document document.OutOfMemory = OutOfMemory
 
 -- each element goes with each one after it
 abbrev pub all_pairs : {A : Type 0} → (A → A → Bool) → List A → Bool
@@ -39,7 +39,7 @@ have_other_names f g = not (bytes_eq f.name g.name)
 
 -- the field lies in one of the blocks, and ends there
 abbrev pub is_in_block : List ℕ → Field → Bool
-is_in_block blocks f = nat_lt f.block (length blocks) && nat_le (f.bit + f.count) (32 * words_of blocks f.block)
+is_in_block blocks f = nat_lt f.block (length blocks) && nat_le (f.bit + f.count) (32 * word_count blocks f.block)
 
 -- the fields have no position in common: they lie in different blocks, or the first end comes before the last start
 abbrev pub are_apart : Field → Field → Bool
@@ -73,7 +73,7 @@ has_its_locks fields wr rd f = option_map_or (has_bit fields wr) f.write true &&
 -- the field is a whole block of 8 words with both locks
 abbrev pub is_key_field : List ℕ → Field → Bool
 is_key_field blocks f =
-    f.bit == 0 && f.count == 256 && words_of blocks f.block == 8 && is_some f.write && is_some f.read
+    f.bit == 0 && f.count == 256 && word_count blocks f.block == 8 && is_some f.write && is_some f.read
 
 -- the field is plain, or can be a key field
 abbrev pub is_plain_or_key : List ℕ → Field → Bool
@@ -92,27 +92,27 @@ lowest_fault m =
 
 -- the rule that a fault is of: names differ, fields lie in blocks, no two share a position, the lock fields can be it, locks are their bits, key fields can be
 -- it
-abbrev pub KeepsRule : MapFault → Map → Type 0
-KeepsRule NotToml m = Unit {0}
-KeepsRule BadMember m = Unit {0}
-KeepsRule NameTwice m = AllPairs (λ f g. f.name ≢ g.name) m.fields
-KeepsRule OutOfBlock m = All (IsInBlock m.blocks) m.fields
-KeepsRule FieldsOverlap m = AllPairs AreApart m.fields
-KeepsRule BadLockField m = HasLockFields m
-KeepsRule BadLockIndex m = All (HasItsLocks m) m.fields
-KeepsRule BadKeyField m = All (λ f. f.key ≡ true → IsKeyField m.blocks f) m.fields
-KeepsRule OutOfMemory m = Unit {0}
+abbrev pub KeepsMapRule : MapFault → Map → Type 0
+KeepsMapRule NotToml m = Unit {0}
+KeepsMapRule BadMember m = Unit {0}
+KeepsMapRule NameTwice m = AllPairs (λ f g. f.name ≢ g.name) m.fields
+KeepsMapRule OutOfBlock m = All (IsInBlock m.blocks) m.fields
+KeepsMapRule FieldsOverlap m = AllPairs FieldsDisjoint m.fields
+KeepsMapRule BadLockField m = HasLockFields m
+KeepsMapRule BadLockIndex m = All (HasItsLocks m) m.fields
+KeepsMapRule BadKeyField m = All (λ f. f.key ≡ true → IsKeyField m.blocks f) m.fields
+KeepsMapRule OutOfMemory m = Unit {0}
 
 -- the map breaks the rule of this fault, and keeps that of each fault with a lower number
-pub record IsLowestBroken (fault : MapFault) (m : Map) : Type 0 where
-  pub broken : ¬ KeepsRule fault m
-  pub lower : (other : MapFault) → fault_number other < fault_number fault → KeepsRule other m
+pub record IsLowestMapFault (fault : MapFault) (m : Map) : Type 0 where
+  pub broken : ¬ KeepsMapRule fault m
+  pub lower : (other : MapFault) → map_fault_number other < map_fault_number fault → KeepsMapRule other m
 
 -- the map, unless it has a fault
-abbrev pub unless_faulty : Option MapFault → Map → Result Map MapFault
-unless_faulty (Some fault) m = Err fault
-unless_faulty None m = Ok m
+abbrev pub map_unless_faulty : Option MapFault → Map → Result Map MapFault
+map_unless_faulty (Some fault) m = Err fault
+map_unless_faulty None m = Ok m
 
 -- the map, or the lowest fault of how its parts fit together
-abbrev pub judged : Map → Result Map MapFault
-judged m = unless_faulty (lowest_fault m) m
+abbrev pub map_or_fault : Map → Result Map MapFault
+map_or_fault m = map_unless_faulty (lowest_fault m) m

@@ -9,7 +9,7 @@ use Rattle.fusemap_core.specs.declared.fault.MapFault.{MapFault}
 use Rattle.fusemap_core.specs.declared.fault.MapFault.TheVariants.{NotToml, BadMember}
 use Rattle.fusemap_core.specs.declared.field.Field.{Field}
 use Rattle.fusemap_core.specs.Map.{Map, IsMap}
-use Rattle.fusemap_core.specs.MapFaults.{judged}
+use Rattle.fusemap_core.specs.MapFaults.{map_or_fault}
 
 -- the greatest whole number of TOML, 2^63 - 1
 abbrev pub largest_integer : ℕ
@@ -24,8 +24,8 @@ abbrev pub of_length : ℕ → ℕ → List Data → Option (List Data)
 of_length least greatest ds = if nat_le least (length ds) && nat_le (length ds) greatest then Some ds else None
 
 -- a member that is an array of so many items
-abbrev pub list_member : List ℕ → ℕ → ℕ → Data → Option (List Data)
-list_member name least greatest d = option_and_then (of_length least greatest) (items_member name d)
+abbrev pub array_member : List ℕ → ℕ → ℕ → Data → Option (List Data)
+array_member name least greatest d = option_and_then (of_length least greatest) (items_member name d)
 
 -- the words of a block
 abbrev pub words_in : Data → Option ℕ
@@ -44,12 +44,12 @@ field_in d = do
   Some (record { name = name; block = block; bit = bit; count = count; write = write; read = read; key = key })
 
 -- the map of a document whose named members are of their types and ranges
-unfoldable pub map_of : Data → Option Map
-map_of d = do
+unfoldable pub map_of_document : Data → Option Map
+map_of_document d = do
   name ← name_member (codes "name") d
-  block_items ← list_member (codes "block") 1 4 d
+  block_items ← array_member (codes "block") 1 4 d
   blocks ← all_of words_in block_items
-  field_items ← list_member (codes "field") 1 128 d
+  field_items ← array_member (codes "field") 1 128 d
   fields ← all_of field_in field_items
   wr ← name_member (codes "wr") d
   rd ← name_member (codes "rd") d
@@ -57,21 +57,21 @@ map_of d = do
   Some (record { name = name; blocks = blocks; fields = fields; wr = wr; rd = rd; coding = coding })
 
 -- the text is a TOML document of at most 32,768 bytes whose named members are the map's
-pub record HasMembers (text : List ℕ) (m : Map) : Type 0 where
+pub record HasMapMembers (text : List ℕ) (m : Map) : Type 0 where
   pub within : length text ≤ 32768
-  pub members : (document_of text >>= map_of) ≡ Some m
+  pub members : (document_of text >>= map_of_document) ≡ Some m
 
 -- the text is such a document, and the map is one
 pub record IsMapText (text : List ℕ) (m : Map) : Type 0 where
   pub within : length text ≤ 32768
-  pub members : (document_of text >>= map_of) ≡ Some m
+  pub members : (document_of text >>= map_of_document) ≡ Some m
   pub is_map : IsMap m
 
 -- the map that a text is, or its lowest fault
 abbrev pub map_read : List ℕ → Result Map MapFault
 map_read text =
     if nat_lt 32768 (length text) then Err BadMember
-    else result_and_then (λ d. result_and_then judged (ok_or (map_of d) BadMember)) (ok_or (document_of text) NotToml)
+    else result_and_then (λ d. result_and_then map_or_fault (ok_or (map_of_document d) BadMember)) (ok_or (document_of text) NotToml)
 
 -- the map that was read, if there is one
 abbrev pub map_or_none : Result Map MapFault → Option Map

@@ -1,6 +1,6 @@
 // The faults of a map's text.
 ghost use Rattle.std.specs.Prelude.{◌≡◌};
-ghost use Rattle.fusemap_core.specs.MapFaults.{fault_number, fault_of_document};
+ghost use Rattle.fusemap_core.specs.MapFaults.{map_fault_number, map_fault_of_document};
 ghost use Rattle.fusemap_core.specs.declared.fault.MapFault.TheVariants.{OutOfMemory};
 
 use std::alloc::{AllocError, AllocFailed};
@@ -44,7 +44,7 @@ pub enum MapFault {
 impl MapFault {
     /// The number of the fault, 1 to 9.
     pub fn number(self) -> u8
-        ensures { result ≡ fault_number self }
+        ensures { result ≡ map_fault_number self }
     {
         match self {
             MapFault::NotToml => 1,
@@ -77,7 +77,7 @@ impl<T: Drop> From<AllocFailed<T>> for MapFault {
 }
 
 impl From<DocumentFault> for MapFault {
-    ghost from_gives = { λ found fault. fault ≡ fault_of_document found };
+    ghost from_gives = { λ found fault. fault ≡ map_fault_of_document found };
 
     fn from(found: DocumentFault) -> MapFault {
         match found {

@@ -6,7 +6,7 @@ ghost use Rattle.text_core.specs.Answer.{GivesUnless};
 ghost use Rattle.fusemap_core.specs.Map as map;
 ghost use Rattle.fusemap_core.specs.Map.{IsInRange, IsSmall};
 ghost use Rattle.fusemap_core.specs.MapFaults as faults;
-ghost use Rattle.fusemap_core.specs.MapFaults.{all_pairs, judged};
+ghost use Rattle.fusemap_core.specs.MapFaults.{all_pairs, map_or_fault};
 
 use crate::draft::{FieldDraft, MapDraft};
 use crate::fault::MapFault;
@@ -18,7 +18,7 @@ use text_core::Name;
 /// The map of a draft, or the lowest fault of how its parts fit together.
 pub(crate) fn judged_map(alloc: Global, draft: MapDraft) -> Result<FuseMap, MapFault>
     requires { IsInRange draft }
-    ensures { GivesUnless MapFault.OutOfMemory result (judged draft) }
+    ensures { GivesUnless MapFault.OutOfMemory result (map_or_fault draft) }
 {
     if let Some(fault) = lowest_fault(&draft) {
         return Err(fault);
@@ -95,7 +95,7 @@ fn is_in_block(blocks: &[u8], field: &FieldDraft) -> bool
 
 /// How many words a block has: none where there is no such block.
 fn words_of(blocks: &[u8], block: u64) -> u64
-    ensures words { result ≡ map.words_of blocks.now block }
+    ensures words { result ≡ map.word_count blocks.now block }
     ensures bound { result < 256 }
 {
     if block < blocks.len() as u64 {

@@ -3,7 +3,7 @@ ghost use Rattle.std.specs.Prelude.{◌≡◌, ◌<◌, ◌&&◌, ◌||◌, All,
 ghost use Rattle.std.specs.List.{list_any};
 ghost use Rattle.std.specs.Option.{option_and_then};
 ghost use Rattle.fusemap_core.specs.Map as map;
-ghost use Rattle.fusemap_core.specs.Map.{IsSmall, holds, is_lock, is_named, lock_at};
+ghost use Rattle.fusemap_core.specs.Map.{IsSmall, holds, is_lock, is_field_named, lock_at};
 
 use crate::field::Field;
 use crate::pos::Pos;
@@ -38,7 +38,7 @@ fn field_named(fields: &[Field], name: &Name) -> Option<Field>
 
 /// The place of the first field of a name.
 pub(crate) fn place_named(fields: &[Field], name: &Name) -> Option<usize>
-    ensures value { result ≡ position (is_named name.now) fields.now }
+    ensures value { result ≡ position (is_field_named name.now) fields.now }
     ensures within { IfSome result (λ place. place < length fields.now) }
 {
     fields.iter().position(|field| field.name == *name)

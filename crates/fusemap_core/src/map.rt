@@ -4,7 +4,7 @@ ghost use Rattle.std.specs.Option.{option_and_then};
 ghost use Rattle.fusemap_core.specs.Map as map;
 ghost use Rattle.fusemap_core.specs.Map.{IsFieldOf, IsInBlock, IsMap, IsPosition, IsSmall};
 ghost use Rattle.fusemap_core.specs.Map.{IsSmallPosition, field_named, field_of, holds, id_of};
-ghost use Rattle.fusemap_core.specs.Map.{is_named};
+ghost use Rattle.fusemap_core.specs.Map.{is_field_named};
 
 use crate::field::Field;
 use crate::locks;
@@ -144,7 +144,7 @@ impl FuseMap {
 
     /// The field of a name.
     pub fn field(&self, name: &Name) -> Option<FieldId>
-        ensures place { result ≡ id_of (is_named name.now) self.now }
+        ensures place { result ≡ id_of (is_field_named name.now) self.now }
         ensures is_one { IfSome result (IsFieldOf self.now) }
         ensures same { option_and_then (field_of self.now) result
             ≡ field_named name.now self.now.fields }

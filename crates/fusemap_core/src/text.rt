@@ -3,9 +3,9 @@ ghost use Rattle.std.specs.Prelude.{◌≡◌, ◌≢◌, ◌<◌, IfErr, IfOk, 
 ghost use Rattle.toml.specs.View.{view};
 ghost use Rattle.text_core.specs.Answer.{GivesUnless};
 ghost use Rattle.fusemap_core.specs.Map.{Map};
-ghost use Rattle.fusemap_core.specs.MapFaults.{IsLowestBroken};
+ghost use Rattle.fusemap_core.specs.MapFaults.{IsLowestMapFault};
 ghost use Rattle.fusemap_core.specs.MapText as map_text;
-ghost use Rattle.fusemap_core.specs.MapText.{HasMembers, IsMapText, field_in, map_of, map_read};
+ghost use Rattle.fusemap_core.specs.MapText.{HasMapMembers, IsMapText, field_in, map_of_document, map_read};
 ghost use Rattle.fusemap_core.specs.MapText.{words_in};
 
 use crate::draft::{FieldDraft, MapDraft};
@@ -39,7 +39,7 @@ pub fn read_map(alloc: Global, text: &str) -> Result<FuseMap, MapFault>
 
     // Of a text with all its members the fault is that of a broken rule, and no lower rule is broken.
     ensures lowest { IfErr result (λ fault. fault ≢ MapFault.OutOfMemory
-        → (map : Map) → HasMembers text.now map → IsLowestBroken fault map) }
+        → (map : Map) → HasMapMembers text.now map → IsLowestMapFault fault map) }
 
     // No map is the text's where a fault other than want of memory is told.
     ensures refused { IfErr result (λ fault. fault ≢ MapFault.OutOfMemory
@@ -57,9 +57,9 @@ pub fn read_map(alloc: Global, text: &str) -> Result<FuseMap, MapFault>
 }
 
 /// What a document gives as a map, whether or not its parts fit together.
-#[tactic(auto, unfolding(crate::specs::MapText::map_of))]
+#[tactic(auto, unfolding(crate::specs::MapText::map_of_document))]
 fn read_draft(alloc: Global, document: &Value) -> Result<Option<MapDraft>, AllocError>
-    ensures { IfOk result (λ draft. draft ≡ map_of (view document.now)) }
+    ensures { IfOk result (λ draft. draft ≡ map_of_document (view document.now)) }
 {
     let Some(name) = name_member(document, "name") else {
         return Ok(None);
@@ -144,7 +144,7 @@ fn list_member<'v>(
     greatest: usize,
 ) -> Option<&'v [Value]>
     ensures { option_map (λ items. map view items.now) result
-        ≡ map_text.list_member name.now least greatest (view value.now) }
+        ≡ map_text.array_member name.now least greatest (view value.now) }
 {
     of_length(items_member(value, name)?, least, greatest)
 }

@@ -8,7 +8,7 @@ use Rattle.std.proofs.Math.Seq.{take-add}
 use Rattle.std.proofs.Common.{inl, inr}
 use Rattle.http_frames.specs.Frames.{IsUndecided, IsCutOff}
 use Rattle.http_frames.specs.Transfers.{Takes, ReadsBytes}
-use Rattle.http_frames.specs.Buffers.{Keeps, count_of}
+use Rattle.http_frames.specs.Buffers.{KeepsBytes, count_of}
 use Rattle.http_frames.specs.declared.transfer.Transfer.{Transfer}
 use Rattle.http_frames.specs.declared.transfer.Transfer.TheVariants.{Moved, Interrupted, Failed}
 
@@ -47,7 +47,7 @@ taken old new len Failed left after before room same takes =
 
 pub kept : (old new : List ℕ) (len : ℕ) (result : Transfer) (left after : Option (List ℕ)) → take len new ≡ take len old → len ≤ length old
     → length new ≡ length old → ReadsBytes left after (drop len new) result
-    → Keeps (take len old) left (take (len + count_of result) new) after (len < length old × result ≡ Moved 0)
+    → KeepsBytes (take len old) left (take (len + count_of result) new) after (len < length old × result ≡ Moved 0)
 kept old new len result None after before room same reads = reads
 kept old new len result (Some left) None before room same reads = reads
 kept old new len result (Some left) (Some after) before room same reads = taken old new len result left after before room same reads

@@ -7,7 +7,7 @@ use Rattle.std.proofs.lemmas.List.{take-append-drop, length-map, take-append-le,
 use Rattle.std.proofs.lemmas.List.Elements.{All-head, All-tail}
 use Rattle.std.specs.Prelude.{All, slice_range, Bool, bytes_eq, codes, ◌==◌, ◌||◌}
 use Rattle.std.proofs.lemmas.List.Folds.{drop_split}
-use Rattle.http_fields.specs.Fields.{body_size, headers_at, asks_close}
+use Rattle.http_frames.specs.Fields.{body_size, headers_at, asks_close}
 use Rattle.std.proofs.Math.Seq.{drop-append_seam}
 use Rattle.httparse.specs.declared.spans.HeaderSpan.{HeaderSpan}
 use Rattle.httparse.specs.declared.spans.RequestSpans.{RequestSpans}

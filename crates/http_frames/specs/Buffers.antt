@@ -8,14 +8,14 @@ use Rattle.http_frames.specs.declared.transfer.Transfer.TheVariants.{Moved, Inte
 use Rattle.http_frames.specs.declared.frame.Framed.{Framed}
 
 -- what was read and isn't given up: the bytes, of which the first `taken` are the last request's, the spans of its fields, and the calls so far
-pub record Held : Type 0 where
+pub record BufferValue : Type 0 where
   pub window : List ℕ
   pub taken : ℕ
   pub spans : List HeaderSpan
   pub calls : ℕ
 
 -- the bytes that no request took yet
-abbrev pub unread : Held → List ℕ
+abbrev pub unread : BufferValue → List ℕ
 unread held = drop held.taken held.window
 
 -- how many bytes were moved
@@ -25,12 +25,12 @@ count_of Interrupted = 0
 count_of Failed = 0
 
 -- the bytes in the buffer and those left are the same as before. Where `ended` holds, none are left
-abbrev pub Keeps : List ℕ → Option (List ℕ) → List ℕ → Option (List ℕ) → Type 0 → Type 0
-Keeps before old window new ended =
+abbrev pub KeepsBytes : List ℕ → Option (List ℕ) → List ℕ → Option (List ℕ) → Type 0 → Type 0
+KeepsBytes before old window new ended =
     IfSome old (λ left. IsSomeAnd new (λ after. (before ++ left ≡ window ++ after) × (ended → after ≡ [])))
 
 -- what was answered is so of the bytes in the buffer
-abbrev pub IsFramed : Held → Framed → Type 0
+abbrev pub IsFramed : BufferValue → Framed → Type 0
 IsFramed held (Framed.Request frame) =
     (request : Request) × IsFrameAt held.window held.spans frame request × (held.taken ≡ frame.end)
 IsFramed held (Framed.Refused refusal is_head) = IsRefused held.window refusal is_head
@@ -58,11 +58,11 @@ faults_of Framed.ReadFault = 1
 faults_of Framed.TurnLimit = 0
 
 -- the end of the request that was found, if one was
-abbrev pub end_of : Option Framed → ℕ
-end_of None = 0
-end_of (Some (Framed.Request frame)) = frame.end
-end_of (Some (Framed.Refused refusal is_head)) = 0
-end_of (Some Framed.Nothing) = 0
-end_of (Some Framed.Cut) = 0
-end_of (Some Framed.ReadFault) = 0
-end_of (Some Framed.TurnLimit) = 0
+abbrev pub end_of_framed : Option Framed → ℕ
+end_of_framed None = 0
+end_of_framed (Some (Framed.Request frame)) = frame.end
+end_of_framed (Some (Framed.Refused refusal is_head)) = 0
+end_of_framed (Some Framed.Nothing) = 0
+end_of_framed (Some Framed.Cut) = 0
+end_of_framed (Some Framed.ReadFault) = 0
+end_of_framed (Some Framed.TurnLimit) = 0

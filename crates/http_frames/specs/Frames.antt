@@ -2,9 +2,9 @@
 use Rattle.std.specs.Prelude.{◌≡◌, ℕ, ◌<◌, ◌≤◌, ◌⊎◌, Bool, false, ◌||◌, List, [], ◌++◌, length, map, Ok, Err, ◌==◌, codes, bytes_eq}
 use Rattle.httparse.specs.Grammar.{RequestHead, print_request, ReadsRequest, MayBecomeRequest}
 use Rattle.httparse.specs.Spans.{name_and_value, RequestOverflows}
-use Rattle.http_fields.specs.declared.FrameRefusal.{FrameRefusal}
-use Rattle.http_fields.specs.declared.FrameRefusal.TheVariants.{BadHead}
-use Rattle.http_fields.specs.Fields.{Header, body_size, asks_close}
+use Rattle.http_frames.specs.declared.fields.FrameRefusal.{FrameRefusal}
+use Rattle.http_frames.specs.declared.fields.FrameRefusal.TheVariants.{BadHead}
+use Rattle.http_frames.specs.Fields.{Header, body_size, asks_close}
 
 -- the room for a head and a body, in bytes
 abbrev pub room : ℕ
@@ -26,12 +26,12 @@ abbrev pub headers_of : RequestHead → List Header
 headers_of head = map name_and_value head.fields
 
 -- the head fits the room
-abbrev pub Fits : RequestHead → Type 0
-Fits head = (length head.fields ≤ field_limit) × (length (print_request head) ≤ head_limit)
+abbrev pub HeadFits : RequestHead → Type 0
+HeadFits head = (length head.fields ≤ field_limit) × (length (print_request head) ≤ head_limit)
 
 -- the rest begins with this head, which fits, and `after` follows it
 abbrev pub HasHead : List ℕ → RequestHead → List ℕ → Type 0
-HasHead rest head after = ReadsRequest rest head after × Fits head
+HasHead rest head after = ReadsRequest rest head after × HeadFits head
 
 -- no front of the rest is a head that fits
 abbrev pub LacksHead : List ℕ → Type 0

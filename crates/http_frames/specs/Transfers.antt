@@ -26,14 +26,14 @@ abbrev pub ReadsBytes : Option (List ℕ) → Option (List ℕ) → List ℕ →
 ReadsBytes old new room result = IfSome old (λ left. IsSomeAnd new (λ after. Takes left after room result))
 
 -- a front of the bytes was added
-abbrev pub Adds : List ℕ → List ℕ → List ℕ → Transfer → Type 0
-Adds before after bytes (Moved count) = after ≡ before ++ take count bytes
-Adds before after bytes Interrupted = after ≡ before
-Adds before after bytes Failed = after ≡ before
+abbrev pub AddsFront : List ℕ → List ℕ → List ℕ → Transfer → Type 0
+AddsFront before after bytes (Moved count) = after ≡ before ++ take count bytes
+AddsFront before after bytes Interrupted = after ≡ before
+AddsFront before after bytes Failed = after ≡ before
 
 -- the same, where the writer tells its bytes
 abbrev pub WritesBytes : Option (List ℕ) → Option (List ℕ) → List ℕ → Transfer → Type 0
-WritesBytes old new bytes result = IfSome old (λ before. IsSomeAnd new (λ after. Adds before after bytes result))
+WritesBytes old new bytes result = IfSome old (λ before. IsSomeAnd new (λ after. AddsFront before after bytes result))
 
 -- a write that takes none of some bytes counts as failed
 abbrev pub write_failures : List ℕ → Transfer → ℕ

@@ -4,8 +4,8 @@ ghost use Rattle.std.specs.Prelude.{◌≡◌, ℕ, ◌+◌, ◌-◌, ◌<◌, �
 ghost use Rattle.std.specs.Prelude.{true, length, take, drop, IfOk, Option, vec_len};
 ghost use Rattle.http_frames.specs.Transfers.{ReadsBytes, failures_of};
 ghost use Rattle.http_frames.specs.Looks.{IsLook};
-ghost use Rattle.http_frames.specs.Buffers.{unread, count_of, Keeps, IsFramed, IsEnd, faults_of};
-ghost use Rattle.http_frames.specs.Buffers.{end_of};
+ghost use Rattle.http_frames.specs.Buffers.{unread, count_of, KeepsBytes, IsFramed, IsEnd, faults_of};
+ghost use Rattle.http_frames.specs.Buffers.{end_of_framed};
 
 use crate::frame::Framed;
 use crate::look;
@@ -32,9 +32,9 @@ pub struct Buffer {
 
 impl Model for Buffer {
     ghost use Rattle.std.specs.Prelude.{◌≡◌, ◌≤◌, take, vec_len};
-    ghost use Rattle.http_frames.specs.Buffers.{Held};
+    ghost use Rattle.http_frames.specs.Buffers.{BufferValue};
 
-    ghost Value = { Held };
+    ghost Value = { BufferValue };
 
     ghost view = { λ b. record {
       window = take b.len b.bytes.items;
@@ -77,7 +77,7 @@ fn read_more<R: Source>(reader: &mut R, bytes: &mut [u8], len: usize) -> Transfe
     ensures most { len + count_of result ≤ length bytes.new }
     ensures still { count_of result ≡ 0 → take (len + count_of result) bytes.new
         ≡ take len bytes.old }
-    ensures bytes { Keeps (take len bytes.old) (R.left reader.old)
+    ensures bytes { KeepsBytes (take len bytes.old) (R.left reader.old)
         (take (len + count_of result) bytes.new) (R.left reader.new)
         (len < length bytes.old × result ≡ Transfer.Moved 0) }
 {
@@ -159,7 +159,7 @@ impl Buffer {
         ensures window { self.new.window ≡ self.old.window }
         ensures calls { self.new.calls ≡ self.old.calls }
         ensures limit { self.new.calls ≤ CALL_LIMIT }
-        ensures taken { self.new.taken ≡ end_of result }
+        ensures taken { self.new.taken ≡ end_of_framed result }
         ensures look { IsLook self.new.window self.new.spans result }
     {
         let found = look::look(&self.bytes[..self.len], &mut self.spans);
@@ -178,7 +178,7 @@ impl Buffer {
         ensures still { count_of result ≡ 0 → self.new.window ≡ self.old.window }
         ensures taken { self.new.taken ≡ self.old.taken }
         ensures calls { self.new.calls ≡ self.old.calls + 1 }
-        ensures bytes { Keeps self.old.window (R.left reader.old) self.new.window
+        ensures bytes { KeepsBytes self.old.window (R.left reader.old) self.new.window
             (R.left reader.new)
             (length self.old.window < ROOM × result ≡ Transfer.Moved 0) }
     {
@@ -199,7 +199,7 @@ impl Buffer {
 pub fn read_request<R: Source>(reader: &mut R, buffer: &mut Buffer) -> Framed
     requires { R.calls reader.old + 2 ^ 25 < 2 ^ 64 + buffer.old.calls }
     ensures framed { IsFramed buffer.new result }
-    ensures bytes { Keeps (unread buffer.old) (R.left reader.old) buffer.new.window
+    ensures bytes { KeepsBytes (unread buffer.old) (R.left reader.old) buffer.new.window
         (R.left reader.new) (IsEnd result) }
     ensures calls { R.calls reader.new + buffer.old.calls ≡ R.calls reader.old + buffer.new.calls }
     ensures limit { (buffer.old.calls ≤ buffer.new.calls) × (buffer.new.calls ≤ CALL_LIMIT) }

@@ -2,12 +2,12 @@
 
 ghost use Rattle.std.specs.Prelude.{◌≡◌, All, length, option_map};
 ghost use Rattle.httparse.specs.Spans.{IsHeaderWithin};
-ghost use Rattle.http_fields.specs.Fields.{headers_at, token_of};
+ghost use Rattle.http_frames.specs.Fields.{headers_at, token_in_headers};
 ghost use Rattle.http_frames.specs.Frames.{Request, headers_of};
 ghost use Rattle.http_frames.specs.Looks.{IsFrameAt};
 
 use crate::buffer::Buffer;
-use http_fields::{FrameRefusal, read_token};
+use crate::fields::{FrameRefusal, read_token};
 use httparse::spans::{HeaderSpan, RequestSpans};
 
 /// Where a request stands in a buffer, until the buffer cuts the next one.
@@ -83,7 +83,7 @@ impl Frame {
     pub fn token(self, buffer: &Buffer) -> Option<&[u8]>
         requires { (request : Request) × IsFrameAt buffer.now.window buffer.now.spans self request }
         ensures { (request : Request) → IsFrameAt buffer.now.window buffer.now.spans self request
-            → option_map (λ token. token.now) result ≡ token_of (headers_of request.head) }
+            → option_map (λ token. token.now) result ≡ token_in_headers (headers_of request.head) }
     {
         read_token(buffer.window(), self.fields(buffer))
     }

@@ -6,10 +6,12 @@
 //! stream whose last bytes are an empty line behind a request ends inside a request.
 //!
 //! A stream is read into one [`buffer::Buffer`], which takes its memory when it is made and none
-//! later. [`buffer::read_request`] finds the next request there, as a [`frame::Frame`].
+//! later. [`buffer::read_request`] finds the next request there, as a [`frame::Frame`]; what a head's
+//! fields and its target say is read by [`fields`].
 #![tactic(auto)]
 
 pub mod buffer;
+pub mod fields;
 pub mod frame;
 pub mod look;
 pub mod memory;

@@ -2,12 +2,12 @@
 
 ghost use Rattle.std.specs.Prelude.{◌≡◌, ℕ, ◌<◌, ◌≤◌, ◌==◌, ◌||◌, length, All, bytes_eq, codes};
 ghost use Rattle.httparse.specs.Spans.{IsHeaderWithin, IsWithin, span_bytes};
-ghost use Rattle.http_fields.specs.Fields.{headers_at, asks_close};
+ghost use Rattle.http_frames.specs.Fields.{headers_at, asks_close};
 ghost use Rattle.http_frames.specs.Looks.{IsHeadFound, IsLook};
 
 use crate::buffer::ROOM;
+use crate::fields::{FrameRefusal, is_close_asked, read_body_size};
 use crate::frame::{Frame, Framed};
-use http_fields::{FrameRefusal, is_close_asked, read_body_size};
 use httparse::Status;
 use httparse::spans::{HeaderSpan, RequestSpans, parse_request};
 

@@ -39,16 +39,16 @@ media_type_of Kind.Json = codes "application/json"
 media_type_of Kind.Csv = codes "text/csv"
 
 -- what the body is
-abbrev pub kind_of : Body → Kind
-kind_of (Body.Constant text) = Kind.Json
-kind_of (Body.Json text) = Kind.Json
-kind_of (Body.Report bytes) = Kind.Csv
+abbrev pub kind_of_body : Body → Kind
+kind_of_body (Body.Constant text) = Kind.Json
+kind_of_body (Body.Json text) = Kind.Json
+kind_of_body (Body.Report bytes) = Kind.Csv
 
 -- the bytes of the body
-abbrev pub bytes_of : Body → List ℕ
-bytes_of (Body.Constant text) = text.now
-bytes_of (Body.Json text) = string_bytes text
-bytes_of (Body.Report bytes) = bytes.items
+abbrev pub bytes_of_body : Body → List ℕ
+bytes_of_body (Body.Constant text) = text.now
+bytes_of_body (Body.Json text) = string_bytes text
+bytes_of_body (Body.Report bytes) = bytes.items
 
 -- what a reply says, wherever its bytes lie in memory
 pub record Answer : Type 0 where
@@ -58,7 +58,7 @@ pub record Answer : Type 0 where
 
 -- what this reply says
 abbrev pub answer_of : Reply → Answer
-answer_of reply = record { status = reply.status; kind = kind_of reply.body; body = bytes_of reply.body }
+answer_of reply = record { status = reply.status; kind = kind_of_body reply.body; body = bytes_of_body reply.body }
 
 -- the line where the condition holds, and nothing elsewhere
 abbrev pub line_if : Bool → List ℕ → List ℕ

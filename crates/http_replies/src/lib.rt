@@ -3,7 +3,7 @@
 
 ghost use Rattle.std.specs.Prelude.{◌≡◌, ◌<◌, ◌≤◌, length};
 ghost use Rattle.http_replies.specs.Replies.{code_of, phrase_of, media_type_of, asks_token};
-ghost use Rattle.http_replies.specs.Replies.{is_unavailable, kind_of, bytes_of, answer_of};
+ghost use Rattle.http_replies.specs.Replies.{is_unavailable, kind_of_body, bytes_of_body, answer_of};
 
 use http::StatusCode;
 
@@ -145,7 +145,7 @@ impl Kind {
 impl Body {
     /// The bytes of the body.
     pub fn as_bytes(&self) -> &[u8]
-        ensures { result.now ≡ bytes_of self.now }
+        ensures { result.now ≡ bytes_of_body self.now }
     {
         match self {
             Body::Constant(text) => text.as_bytes(),
@@ -156,7 +156,7 @@ impl Body {
 
     /// What the body is.
     fn kind(&self) -> Kind
-        ensures { result ≡ kind_of self.now }
+        ensures { result ≡ kind_of_body self.now }
     {
         match self {
             Body::Constant(_) | Body::Json(_) => Kind::Json,

@@ -4,12 +4,12 @@ use Rattle.std.specs.Prelude.{Result, Ok, Err}
 use Rattle.std.specs.List.{list_any}
 use Rattle.httparse.specs.Grammar.{RequestHead, ReadsRequest}
 use Rattle.httparse.proofs.GrammarLemmas.{request_unique, print_request-append}
-use Rattle.http_fields.specs.Fields.{body_size}
-use Rattle.http_fields.specs.declared.FrameRefusal.{FrameRefusal}
+use Rattle.http_frames.specs.Fields.{body_size}
+use Rattle.http_frames.specs.declared.fields.FrameRefusal.{FrameRefusal}
 use Rattle.http_frames.specs.Frames.{Request, HasHead, HasRequest, IsRefused, IsCutOff, ends_after, is_head_method, headers_of}
 use Rattle.http_serving.specs.declared.Served.{Served}
 use Rattle.http_serving.specs.declared.Served.TheVariants.{Ended, Closed, Cut, ReadFault, WriteFault, TurnLimit, NoMemory}
-use Rattle.http_serving.specs.Streams.{Piece, whole, refused, IsPiece, is_last, Cuts, IsOpen, Ends}
+use Rattle.http_serving.specs.Streams.{HttpExchange, answered, refused, BeginsWithExchange, is_last, Cuts, IsOpen, Ends}
 use Rattle.http_serving.specs.Determined.{cut_of, requests_of, is_by_bytes, IsCutWhole, IsEitherWay}
 use Rattle.http_serving.proofs.StreamLemmas.{one_request, or_split}
 
@@ -45,20 +45,20 @@ one_refusal rest refusal other is_head was_head (inr bad) (inl had) = absurd (ba
 one_refusal rest refusal other is_head was_head (inr bad) (inr ill) = (bad.0 ∙ sym ill.0, bad.1 ∙ sym ill.1)
 
 -- at most one piece stands at the front of a stream
-pub one_piece : (rest : List ℕ) (piece other : Piece) (after later : List ℕ) → IsPiece rest piece after → IsPiece rest other later
+pub one_piece : (rest : List ℕ) (piece other : HttpExchange) (after later : List ℕ) → BeginsWithExchange rest piece after → BeginsWithExchange rest other later
     → (cut_of piece ≡ cut_of other) × (after ≡ later)
-one_piece rest (whole request answer) (whole other said) after later has had =
+one_piece rest (answered request answer) (answered other said) after later has had =
     let same = one_request rest request other after later has had in
     (ap Ok same.0, same.1)
-one_piece rest (whole request answer) (refused refusal is_head) after later has had = absurd (whole_or_refused rest request after refusal is_head has had.0)
-one_piece rest (refused refusal is_head) (whole request answer) after later has had = absurd (whole_or_refused rest request later refusal is_head had has.0)
+one_piece rest (answered request answer) (refused refusal is_head) after later has had = absurd (whole_or_refused rest request after refusal is_head has had.0)
+one_piece rest (refused refusal is_head) (answered request answer) after later has had = absurd (whole_or_refused rest request later refusal is_head had has.0)
 one_piece rest (refused refusal is_head) (refused other was_head) after later has had =
     let same = one_refusal rest refusal other is_head was_head has.0 had.0 in
     ((λ i. Err (same.0 i, same.1 i)), has.1 ∙ sym had.1)
 
 -- no piece stands in no bytes
-no_piece : (piece : Piece) (after : List ℕ) → IsPiece [] piece after → ⊥
-no_piece (whole request answer) after has = no_head request.head (request.body ++ after) has.0.0
+no_piece : (piece : HttpExchange) (after : List ℕ) → BeginsWithExchange [] piece after → ⊥
+no_piece (answered request answer) after has = no_head request.head (request.body ++ after) has.0.0
 no_piece (refused refusal is_head) after (inl had, same) = no_head had.0 had.1 had.2.0
 no_piece (refused refusal is_head) after (inr bad, same) =
     let some = bad.2 in
@@ -89,7 +89,7 @@ cut_off_refused rest refusal is_head (inr part) (inl had) =
 cut_off_refused rest refusal is_head (inr part) (inr bad) = absurd (bad.3.0 part.0 part.1 part.3)
 
 -- a stream that ends by its bytes, without what was written
-abbrev Stops : Served → List Piece → List ℕ → Type 0
+abbrev Stops : Served → List HttpExchange → List ℕ → Type 0
 Stops Ended pieces rest = IsOpen pieces × (rest ≡ [])
 Stops Closed pieces rest = list_any is_last pieces ≡ true
 Stops Cut pieces rest = IsOpen pieces × IsCutOff rest
@@ -99,7 +99,8 @@ Stops TurnLimit pieces rest = ⊥
 Stops NoMemory pieces rest = ⊥
 
 -- what the bytes have to do with it
-stops : (served : Served) (pieces : List Piece) (rest left before written : List ℕ) → is_by_bytes served ≡ true → Ends served pieces rest left before written
+stops : (served : Served) (pieces : List HttpExchange) (rest left before written : List ℕ)
+    → is_by_bytes served ≡ true → Ends served pieces rest left before written
     → Stops served pieces rest
 stops Ended pieces rest left before written by_bytes ends = (ends.0, ends.1)
 stops Closed pieces rest left before written by_bytes ends = ends.0
@@ -135,33 +136,33 @@ one_end served other rest (inr stop) (inl stopped) = absurd (not_cut_off (subst 
 one_end served other rest (inr stop) (inr stopped) = stop.0 ∙ sym stopped.0
 
 -- behind the last piece is the rest
-last_rest : (after : List ℕ) (pieces : List Piece) (rest : List ℕ) → pieces ≡ [] → Cuts after pieces rest → rest ≡ after
+last_rest : (after : List ℕ) (pieces : List HttpExchange) (rest : List ℕ) → pieces ≡ [] → Cuts after pieces rest → rest ≡ after
 last_rest after pieces rest none cut = subst (λ pieces. Cuts after pieces rest) none cut
 
 -- one stops where the other goes on
-goes_on : (served : Served) (stream : List ℕ) (piece : Piece) (pieces : List Piece) (after later : List ℕ)
+goes_on : (served : Served) (stream : List ℕ) (piece : HttpExchange) (pieces : List HttpExchange) (after later : List ℕ)
     → (served ≡ Ended × stream ≡ []) ⊎ (served ≡ Cut × IsCutOff stream)
-    → IsPiece stream piece after → (is_last piece ≡ true → pieces ≡ []) → Cuts after pieces later
+    → BeginsWithExchange stream piece after → (is_last piece ≡ true → pieces ≡ []) → Cuts after pieces later
     → IsEitherWay stream × (stream ≡ later) × (requests_of (piece ∷ pieces) ≡ [])
 goes_on served stream piece pieces after later (inl stop) is_piece last cut =
-    absurd (no_piece piece after (subst (λ (s : List ℕ). IsPiece s piece after) stop.1 is_piece))
-goes_on served stream (whole request answer) pieces after later (inr stop) is_piece last cut = absurd (cut_off_whole stream request after stop.1 is_piece)
+    absurd (no_piece piece after (subst (λ (s : List ℕ). BeginsWithExchange s piece after) stop.1 is_piece))
+goes_on served stream (answered request answer) pieces after later (inr stop) is_piece last cut = absurd (cut_off_whole stream request after stop.1 is_piece)
 goes_on served stream (refused refusal is_head) pieces after later (inr stop) is_piece last cut =
     (cut_off_refused stream refusal is_head stop.1 is_piece.0, sym (last_rest after pieces later (last refl) cut ∙ is_piece.1), ap requests_of (last refl))
 
 -- the stream is cut in one way, or its rest may be taken in either of two
-abbrev pub Agrees : Served → Served → List Piece → List Piece → List ℕ → List ℕ → Type 0
+abbrev pub Agrees : Served → Served → List HttpExchange → List HttpExchange → List ℕ → List ℕ → Type 0
 Agrees served other pieces others rest later =
     (requests_of pieces ≡ requests_of others) × (rest ≡ later) × (((served ≡ other) × (map cut_of pieces ≡ map cut_of others)) ⊎ IsEitherWay rest)
 
 -- one piece more, on both sides
-requests_more : (piece twin : Piece) (pieces others : List Piece) → cut_of piece ≡ cut_of twin → requests_of pieces ≡ requests_of others
+requests_more : (piece twin : HttpExchange) (pieces others : List HttpExchange) → cut_of piece ≡ cut_of twin → requests_of pieces ≡ requests_of others
     → requests_of (piece ∷ pieces) ≡ requests_of (twin ∷ others)
-requests_more (whole request answer) (whole other said) pieces others same more =
+requests_more (answered request answer) (answered other said) pieces others same more =
     let here : request ≡ other = cc in
     (λ i. here i ∷ more i)
-requests_more (whole request answer) (refused refusal is_head) pieces others same more = absurd cc
-requests_more (refused refusal is_head) (whole request answer) pieces others same more = absurd cc
+requests_more (answered request answer) (refused refusal is_head) pieces others same more = absurd cc
+requests_more (refused refusal is_head) (answered request answer) pieces others same more = absurd cc
 requests_more (refused refusal is_head) (refused other was_head) pieces others same more = more
 
 -- whether the stream ends after what was cut
@@ -170,17 +171,18 @@ ends_cut (Ok request) = ends_after request.head
 ends_cut (Err refusal) = true
 
 -- what was cut says whether the stream ends after it
-cut_last : (piece : Piece) → is_last piece ≡ ends_cut (cut_of piece)
+cut_last : (piece : HttpExchange) → is_last piece ≡ ends_cut (cut_of piece)
 unfolding ends_cut
-cut_last (whole request answer) = refl
+cut_last (answered request answer) = refl
 cut_last (refused refusal is_head) = refl
 
 -- so two pieces that are cut alike both end the stream, or neither does
-same_last : (piece other : Piece) → cut_of piece ≡ cut_of other → is_last other ≡ is_last piece
+same_last : (piece other : HttpExchange) → cut_of piece ≡ cut_of other → is_last other ≡ is_last piece
 same_last piece other same = cut_last other ∙ ap ends_cut (sym same) ∙ sym (cut_last piece)
 
 -- a stream that a piece ends is closed
-closes : (served : Served) (piece : Piece) (pieces : List Piece) (rest : List ℕ) → is_last piece ≡ true → Stops served (piece ∷ pieces) rest → served ≡ Closed
+closes : (served : Served) (piece : HttpExchange) (pieces : List HttpExchange) (rest : List ℕ)
+    → is_last piece ≡ true → Stops served (piece ∷ pieces) rest → served ≡ Closed
 closes Ended piece pieces rest last stop =
     let no = (or_split (is_last piece) (list_any is_last pieces) stop.0).0 in
     absurd cc
@@ -194,7 +196,7 @@ closes TurnLimit piece pieces rest last stop = absurd stop
 closes NoMemory piece pieces rest last stop = absurd stop
 
 -- a piece that does not end the stream leaves its end to the others
-stops_later : (served : Served) (piece : Piece) (pieces : List Piece) (rest : List ℕ) → is_last piece ≡ false → Stops served (piece ∷ pieces) rest
+stops_later : (served : Served) (piece : HttpExchange) (pieces : List HttpExchange) (rest : List ℕ) → is_last piece ≡ false → Stops served (piece ∷ pieces) rest
     → Stops served pieces rest
 stops_later Ended piece pieces rest last stop = ((or_split (is_last piece) (list_any is_last pieces) stop.0).1, stop.1)
 stops_later Closed piece pieces rest last stop = sym (ap (λ t. t || list_any is_last pieces) last) ∙ stop
@@ -205,7 +207,7 @@ stops_later TurnLimit piece pieces rest last stop = absurd stop
 stops_later NoMemory piece pieces rest last stop = absurd stop
 
 -- the same piece in front of pieces that agree
-one_more : (served other : Served) (piece twin : Piece) (pieces others : List Piece) (rest later : List ℕ) → cut_of piece ≡ cut_of twin
+one_more : (served other : Served) (piece twin : HttpExchange) (pieces others : List HttpExchange) (rest later : List ℕ) → cut_of piece ≡ cut_of twin
     → Agrees served other pieces others rest later → Agrees served other (piece ∷ pieces) (twin ∷ others) rest later
 one_more served other piece twin pieces others rest later same (requests, rests, inl (ends, cuts)) =
     (requests_more piece twin pieces others same requests, rests, inl (ends, (λ i. same i ∷ cuts i)))
@@ -213,7 +215,7 @@ one_more served other piece twin pieces others rest later same (requests, rests,
     (requests_more piece twin pieces others same requests, rests, inr either)
 
 -- a piece that ends the stream, or one that does not and what follows
-at_piece : (last : Bool) (served other : Served) (piece twin : Piece) (pieces others : List Piece) (stream rest later : List ℕ)
+at_piece : (last : Bool) (served other : Served) (piece twin : HttpExchange) (pieces others : List HttpExchange) (stream rest later : List ℕ)
     (cut : Cuts stream (piece ∷ pieces) rest) (had : Cuts stream (twin ∷ others) later)
     → is_last piece ≡ last → Stops served (piece ∷ pieces) rest → Stops other (twin ∷ others) later
     → ((after : List ℕ) → Cuts after pieces rest → Cuts after others later → Stops served pieces rest → Stops other others later
@@ -235,7 +237,7 @@ at_piece false served other piece twin pieces others stream rest later cut had l
     (stops_later served piece pieces rest last stop) (stops_later other twin others later also stopped))
 
 -- two cuts of one stream that its bytes end
-agrees : (served other : Served) (pieces others : List Piece) (stream rest later : List ℕ) → Cuts stream pieces rest → Cuts stream others later
+agrees : (served other : Served) (pieces others : List HttpExchange) (stream rest later : List ℕ) → Cuts stream pieces rest → Cuts stream others later
     → Stops served pieces rest → Stops other others later → Agrees served other pieces others rest later
 agrees served other [] [] stream rest later cut had stop stopped =
     let same = cut ∙ sym had in (
@@ -257,7 +259,7 @@ agrees served other (piece ∷ pieces) (twin ∷ others) stream rest later cut h
     agrees served other pieces others after rest later)
 
 -- the same, as `streams_are_determined` says it
-pub one_stream : (stream : List ℕ) (served other : Served) (pieces others : List Piece) (rest later : List ℕ)
+pub one_stream : (stream : List ℕ) (served other : Served) (pieces others : List HttpExchange) (rest later : List ℕ)
     → IsCutWhole stream served pieces rest → IsCutWhole stream other others later → Agrees served other pieces others rest later
 one_stream stream served other pieces others rest later is_cut had_cut =
     agrees served other pieces others stream rest later is_cut.cut had_cut.cut

@@ -9,21 +9,22 @@ use Rattle.std.proofs.lemmas.List.Folds.{list_any-append}
 use Rattle.httparse.specs.Grammar.{ReadsRequest}
 use Rattle.httparse.specs.Spans.{RequestOverflows}
 use Rattle.httparse.proofs.GrammarLemmas.{request_unique}
-use Rattle.http_fields.specs.Fields.{body_size}
-use Rattle.http_fields.specs.declared.FrameRefusal.{FrameRefusal}
+use Rattle.http_frames.specs.Fields.{body_size}
+use Rattle.http_frames.specs.declared.fields.FrameRefusal.{FrameRefusal}
 use Rattle.http_frames.specs.Frames.{Request, LacksHead, HasBadHead, HasRequest, IsRefused, HasRefusedHead, head_limit, field_limit, IsUndecided, IsCutOff}
 use Rattle.http_frames.specs.Frames.{headers_of}
 use Rattle.http_frames.proofs.FrameLemmas.{reads_more, reads_within, bad_overflowing}
-use Rattle.http_frames.specs.Buffers.{Keeps}
+use Rattle.http_frames.specs.Buffers.{KeepsBytes}
 use Rattle.http_serving.specs.Sends.{Sends, Sending}
 use Rattle.http_serving.specs.declared.send.Sent.{Sent}
 use Rattle.http_serving.specs.declared.Served.{Served}
 use Rattle.http_replies.specs.Replies.{Answer, reply_text}
 use Rattle.http_replies.specs.Runs.{Machine, Runs}
 use Rattle.http_replies.proofs.RunLemmas.{runs_both}
-use Rattle.http_serving.specs.Streams.{outcome_of, StopsReading, StopsWriting, Piece, whole, refused, IsPiece, is_last, text_of, texts_of, turns_of, Cuts}
+use Rattle.http_serving.specs.Streams.{ending_of_sent, StopsReading, StopsWriting, HttpExchange, answered, refused, BeginsWithExchange, is_last}
+use Rattle.http_serving.specs.Streams.{text_of, texts_of, requests_with_answers, Cuts}
 use Rattle.http_serving.specs.Streams.{IsOpen, Ends}
-use Rattle.http_serving.specs.Turns.{TakesTurns, Turning, IsTurn}
+use Rattle.http_serving.specs.Cycles.{ServesExchanges, ServesBytes, IsOneExchange}
 
 -- a request stays one whatever bytes follow
 pub request_more : (rest more : List ℕ) (request : Request) (after : List ℕ) → HasRequest rest request after → HasRequest (rest ++ more) request (after ++ more)
@@ -65,11 +66,11 @@ none_more : (before : List ℕ) → before ≡ before ++ []
 none_more before = sym (append-nil before)
 
 -- one piece is cut
-one_cut : (rest after : List ℕ) (piece : Piece) → IsPiece rest piece after → Cuts rest (piece ∷ []) after
+one_cut : (rest after : List ℕ) (piece : HttpExchange) → BeginsWithExchange rest piece after → Cuts rest (piece ∷ []) after
 one_cut rest after piece is_piece = (after, is_piece, (λ _. refl), refl)
 
 -- of one piece a front of the reply was written
-one_part : (before written sent unsent : List ℕ) (piece : Piece) → text_of piece ≡ sent ++ unsent → written ≡ before ++ sent
+one_part : (before written sent unsent : List ℕ) (piece : HttpExchange) → text_of piece ≡ sent ++ unsent → written ≡ before ++ sent
     → StopsWriting (piece ∷ []) before written
 one_part before written sent unsent piece text written_is = record {
   front = [];
@@ -82,8 +83,9 @@ one_part before written sent unsent piece text written_is = record {
 }
 
 -- one piece and its reply, or a front of the reply
-piece_turn : (rest after left before written : List ℕ) (piece : Piece) (last : Bool) (sent : Sent) → is_last piece ≡ last
-    → IsPiece rest piece after → Sends before written (text_of piece) sent → TakesTurns (outcome_of sent last) (piece ∷ []) rest after left before written
+piece_turn : (rest after left before written : List ℕ) (piece : HttpExchange) (last : Bool) (sent : Sent) → is_last piece ≡ last
+    → BeginsWithExchange rest piece after → Sends before written (text_of piece) sent
+    → ServesExchanges (ending_of_sent sent last) (piece ∷ []) rest after left before written
 piece_turn rest after left before written piece true Sent.All last is_piece sends =
     (after, one_cut rest after piece is_piece, (ap (λ t. t || false) last, sends ∙ sym (one before (text_of piece))))
 piece_turn rest after left before written piece false Sent.All last is_piece sends =
@@ -96,7 +98,7 @@ piece_turn rest after left before written piece last Sent.TurnLimit last_is is_p
 -- a refusal always ends the stream, so that nothing is said of what follows
 refused_turn : (rest next left before written : List ℕ) (refusal : FrameRefusal) (is_head : Bool) (sent : Sent)
     → IsRefused rest refusal is_head → Sends before written (text_of (refused refusal is_head)) sent
-    → TakesTurns (outcome_of sent true) (refused refusal is_head ∷ []) rest next left before written
+    → ServesExchanges (ending_of_sent sent true) (refused refusal is_head ∷ []) rest next left before written
 refused_turn rest next left before written refusal is_head Sent.All is_refused sends =
     piece_turn rest rest left before written (refused refusal is_head) true Sent.All refl (is_refused, refl) sends
 refused_turn rest next left before written refusal is_head Sent.Fault is_refused sends =
@@ -106,10 +108,10 @@ refused_turn rest next left before written refusal is_head Sent.TurnLimit is_ref
 
 -- a turn without a write
 quiet : (front window next : List ℕ) (left_old left_new written : Option (List ℕ)) (ended : Type 0) (result : Option Served)
-    → Keeps front left_old window left_new ended
+    → KeepsBytes front left_old window left_new ended
     → ((left after before : List ℕ) → front ++ left ≡ window ++ after → (ended → after ≡ [])
-    → TakesTurns result [] (front ++ left) (next ++ after) after before before)
-    → Turning front left_old next left_new written written result []
+    → ServesExchanges result [] (front ++ left) (next ++ after) after before before)
+    → ServesBytes front left_old next left_new written written result []
 quiet front window next None left_new written ended result keeps turn = tt
 quiet front window next (Some left) None None ended result keeps turn = tt
 quiet front window next (Some left) None (Some before) ended result keeps turn = absurd keeps
@@ -118,11 +120,11 @@ quiet front window next (Some left) (Some after) (Some before) ended result keep
 
 -- a turn with a reply
 told : (front window next text : List ℕ) (left_old left_new written_old written_new : Option (List ℕ)) (ended : Type 0) (sent : Sent) (result : Option Served)
-    (pieces : List Piece)
-    → Keeps front left_old window left_new ended → Sending written_old written_new text sent
+    (pieces : List HttpExchange)
+    → KeepsBytes front left_old window left_new ended → Sending written_old written_new text sent
     → ((left after before written : List ℕ) → front ++ left ≡ window ++ after → Sends before written text sent
-    → TakesTurns result pieces (front ++ left) (next ++ after) after before written)
-    → Turning front left_old next left_new written_old written_new result pieces
+    → ServesExchanges result pieces (front ++ left) (next ++ after) after before written)
+    → ServesBytes front left_old next left_new written_old written_new result pieces
 told front window next text None left_new written_old written_new ended sent result pieces keeps sends turn = tt
 told front window next text (Some left) left_new None written_new ended sent result pieces keeps sends turn = tt
 told front window next text (Some left) None (Some before) written_new ended sent result pieces keeps sends turn = absurd keeps
@@ -131,13 +133,14 @@ told front window next text (Some left) (Some after) (Some before) (Some written
     turn left after before written keeps.0 sends
 
 -- the bytes ended inside a request
-pub turn_cut : (front window next : List ℕ) (left_old left_new written : Option (List ℕ)) → Keeps front left_old window left_new (Unit {0}) → IsCutOff window
-    → Turning front left_old next left_new written written (Some Served.Cut) []
-turn_cut front window next left_old left_new written keeps cut =
+pub cycle_cut : (front window next : List ℕ) (left_old left_new written : Option (List ℕ))
+    → KeepsBytes front left_old window left_new (Unit {0}) → IsCutOff window
+    → ServesBytes front left_old next left_new written written (Some Served.Cut) []
+cycle_cut front window next left_old left_new written keeps cut =
     quiet front window next left_old left_new written (Unit {0}) (Some Served.Cut) keeps
     (λ left after before same ended.
-    let whole : window ≡ front ++ left = sym (same ∙ ap (λ s. window ++ s) (ended tt) ∙ append-nil window) in
-    (front ++ left, refl, (refl, subst IsCutOff whole cut, none_more before)))
+    let answered : window ≡ front ++ left = sym (same ∙ ap (λ s. window ++ s) (ended tt) ∙ append-nil window) in
+    (front ++ left, refl, (refl, subst IsCutOff answered cut, none_more before)))
 
 -- no piece was cut, and reading stopped
 stops : (front window left after before : List ℕ) → front ++ left ≡ window ++ after → IsUndecided window → StopsReading [] (front ++ left) after before before
@@ -145,68 +148,70 @@ stops front window left after before same undecided =
     record { open_pieces = refl; held = window; rest_is = same; undecided = undecided; written_is = none_more before }
 
 -- the reader failed
-pub turn_fault : (front window next : List ℕ) (left_old left_new written : Option (List ℕ)) → Keeps front left_old window left_new ⊥ → IsUndecided window
-    → Turning front left_old next left_new written written (Some Served.ReadFault) []
-turn_fault front window next left_old left_new written keeps undecided =
+pub cycle_fault : (front window next : List ℕ) (left_old left_new written : Option (List ℕ)) → KeepsBytes front left_old window left_new ⊥ → IsUndecided window
+    → ServesBytes front left_old next left_new written written (Some Served.ReadFault) []
+cycle_fault front window next left_old left_new written keeps undecided =
     quiet front window next left_old left_new written ⊥ (Some Served.ReadFault) keeps
     (λ left after before same ended. (front ++ left, refl, stops front window left after before same undecided))
 
 -- no call was left to read by
-pub turn_limit : (front window next : List ℕ) (left_old left_new written : Option (List ℕ)) → Keeps front left_old window left_new ⊥ → IsUndecided window
-    → Turning front left_old next left_new written written (Some Served.TurnLimit) []
-turn_limit front window next left_old left_new written keeps undecided =
+pub cycle_limit : (front window next : List ℕ) (left_old left_new written : Option (List ℕ)) → KeepsBytes front left_old window left_new ⊥ → IsUndecided window
+    → ServesBytes front left_old next left_new written written (Some Served.TurnLimit) []
+cycle_limit front window next left_old left_new written keeps undecided =
     quiet front window next left_old left_new written ⊥ (Some Served.TurnLimit) keeps
     (λ left after before same ended. (front ++ left, refl, inl (stops front window left after before same undecided)))
 
 -- a refusal and its reply, or a front of the reply
-pub turn_refused : (front window next : List ℕ) (left_old left_new written_old written_new : Option (List ℕ)) (refusal : FrameRefusal) (is_head : Bool)
+pub cycle_refused : (front window next : List ℕ) (left_old left_new written_old written_new : Option (List ℕ)) (refusal : FrameRefusal) (is_head : Bool)
     (sent : Sent)
-    → Keeps front left_old window left_new ⊥ → IsRefused window refusal is_head → Sending written_old written_new (text_of (refused refusal is_head)) sent
-    → Turning front left_old next left_new written_old written_new (outcome_of sent true) (refused refusal is_head ∷ [])
-turn_refused front window next left_old left_new written_old written_new refusal is_head sent keeps is_refused sends =
-    told front window next (text_of (refused refusal is_head)) left_old left_new written_old written_new ⊥ sent (outcome_of sent true)
+    → KeepsBytes front left_old window left_new ⊥ → IsRefused window refusal is_head → Sending written_old written_new (text_of (refused refusal is_head)) sent
+    → ServesBytes front left_old next left_new written_old written_new (ending_of_sent sent true) (refused refusal is_head ∷ [])
+cycle_refused front window next left_old left_new written_old written_new refusal is_head sent keeps is_refused sends =
+    told front window next (text_of (refused refusal is_head)) left_old left_new written_old written_new ⊥ sent (ending_of_sent sent true)
     (refused refusal is_head ∷ []) keeps sends
     (λ left after before written same sends.
     refused_turn (front ++ left) (next ++ after) after before written refusal is_head sent
     (subst (λ (s : List ℕ). IsRefused s refusal is_head) (sym same) (refused_more window after refusal is_head is_refused)) sends)
 
 -- a request and its reply, or a front of the reply
-pub turn_whole : (front window next : List ℕ) (left_old left_new written_old written_new : Option (List ℕ)) (request : Request) (answer : Answer) (last : Bool)
+pub cycle_answered : (front window next : List ℕ)
+    (left_old left_new written_old written_new : Option (List ℕ)) (request : Request)
+    (answer : Answer) (last : Bool)
     (sent : Sent)
-    → Keeps front left_old window left_new ⊥ → HasRequest window request next → last ≡ is_last (whole request answer)
-    → Sending written_old written_new (text_of (whole request answer)) sent
-    → Turning front left_old next left_new written_old written_new (outcome_of sent last) (whole request answer ∷ [])
-turn_whole front window next left_old left_new written_old written_new request answer last sent keeps has last_is sends =
-    told front window next (text_of (whole request answer)) left_old left_new written_old written_new ⊥ sent (outcome_of sent last)
-    (whole request answer ∷ []) keeps sends
+    → KeepsBytes front left_old window left_new ⊥ → HasRequest window request next → last ≡ is_last (answered request answer)
+    → Sending written_old written_new (text_of (answered request answer)) sent
+    → ServesBytes front left_old next left_new written_old written_new (ending_of_sent sent last) (answered request answer ∷ [])
+cycle_answered front window next left_old left_new written_old written_new request answer last sent keeps has last_is sends =
+    told front window next (text_of (answered request answer)) left_old left_new written_old written_new ⊥ sent (ending_of_sent sent last)
+    (answered request answer ∷ []) keeps sends
     (λ left after before written same sends.
-    piece_turn (front ++ left) (next ++ after) after before written (whole request answer) last sent (sym last_is)
+    piece_turn (front ++ left) (next ++ after) after before written (answered request answer) last sent (sym last_is)
     (subst (λ (s : List ℕ). HasRequest s request (next ++ after)) (sym same) (request_more window after request next has)) sends)
 
 -- whatever became of the reply, one piece is a turn
-pub is_turn : (sent : Sent) (last : Bool) (piece : Piece) → IsTurn (outcome_of sent last) (piece ∷ [])
-is_turn Sent.All true piece = omega arith
-is_turn Sent.All false piece = refl
-is_turn Sent.Fault last piece = omega arith
-is_turn Sent.TurnLimit last piece = omega arith
+pub is_one_exchange : (sent : Sent) (last : Bool) (piece : HttpExchange) → IsOneExchange (ending_of_sent sent last) (piece ∷ [])
+is_one_exchange Sent.All true piece = omega arith
+is_one_exchange Sent.All false piece = refl
+is_one_exchange Sent.Fault last piece = omega arith
+is_one_exchange Sent.TurnLimit last piece = omega arith
 
-list_any_both : (p q : List Piece) (a b : Bool) → list_any is_last p ≡ a → list_any is_last q ≡ b → list_any is_last (p ++ q) ≡ (a || b)
+list_any_both : (p q : List HttpExchange) (a b : Bool) → list_any is_last p ≡ a → list_any is_last q ≡ b → list_any is_last (p ++ q) ≡ (a || b)
 list_any_both p q a b e f = list_any-append is_last p q ∙ (λ i. e i || f i)
 
-texts_both : (p q : List Piece) (before middle written : List ℕ) → middle ≡ before ++ texts_of p → written ≡ middle ++ texts_of q
+texts_both : (p q : List HttpExchange) (before middle written : List ℕ) → middle ≡ before ++ texts_of p → written ≡ middle ++ texts_of q
     → written ≡ before ++ texts_of (p ++ q)
 texts_both p q before middle written e f =
     f ∙ ap (λ s. s ++ texts_of q) e ∙ append_assoc before (texts_of p) (texts_of q) ∙ ap (λ s. before ++ s) (sym (flat_map-append text_of p q))
 
 -- some pieces, and then others
-cuts_both : (stream : List ℕ) (pieces : List Piece) (rest : List ℕ) (others : List Piece) (after : List ℕ)
+cuts_both : (stream : List ℕ) (pieces : List HttpExchange) (rest : List ℕ) (others : List HttpExchange) (after : List ℕ)
     → Cuts stream pieces rest → IsOpen pieces → Cuts rest others after → Cuts stream (pieces ++ others) after
 cuts_both stream [] rest others after cut open_pieces more = subst (λ (s : List ℕ). Cuts s others after) cut more
 cuts_both stream (p ∷ pieces) rest others after cut open_pieces more =
     let closed = or_split (is_last p) (list_any is_last pieces) open_pieces in
     (cut.0, cut.1, (λ yes. let no = closed.0 in absurd cc), cuts_both cut.0 pieces rest others after cut.3 closed.1 more)
 
-reading_both : (p q : List Piece) (rest left before middle written : List ℕ) → IsOpen p → middle ≡ before ++ texts_of p
+reading_both : (p q : List HttpExchange) (rest left before middle written : List ℕ) → IsOpen p → middle ≡ before ++ texts_of p
     → StopsReading q rest left middle written → StopsReading (p ++ q) rest left before written
 reading_both p q rest left before middle written open_pieces told stop = record {
   open_pieces = list_any_both p q false false open_pieces stop.open_pieces;
@@ -216,7 +221,7 @@ reading_both p q rest left before middle written open_pieces told stop = record 
   written_is = texts_both p q before middle written told stop.written_is;
 }
 
-writing_both : (p q : List Piece) (before middle written : List ℕ) → middle ≡ before ++ texts_of p → StopsWriting q middle written
+writing_both : (p q : List HttpExchange) (before middle written : List ℕ) → middle ≡ before ++ texts_of p → StopsWriting q middle written
     → StopsWriting (p ++ q) before written
 writing_both p q before middle written told stop = record {
   front = p ++ stop.front;
@@ -228,7 +233,7 @@ writing_both p q before middle written told stop = record {
   written_is = stop.written_is ∙ ap (λ s. s ++ stop.sent) (texts_both p stop.front before middle (middle ++ texts_of stop.front) told refl);
 }
 
-ends_both : (served : Served) (p q : List Piece) (rest left before middle written : List ℕ) → IsOpen p → middle ≡ before ++ texts_of p
+ends_both : (served : Served) (p q : List HttpExchange) (rest left before middle written : List ℕ) → IsOpen p → middle ≡ before ++ texts_of p
     → served ≢ Served.NoMemory
     → Ends served q rest left middle written → Ends served (p ++ q) rest left before written
 ends_both Served.Ended p q rest left before middle written open_pieces told some ends =
@@ -246,9 +251,9 @@ ends_both Served.TurnLimit p q rest left before middle written open_pieces told 
 ends_both Served.NoMemory p q rest left before middle written open_pieces told some ends = absurd (some refl)
 
 -- some pieces, and then a turn
-takes_both : (result : Option Served) (p q : List Piece) (stream rest next left before middle written : List ℕ) → result ≢ Some Served.NoMemory
-    → Cuts stream p rest → IsOpen p → middle ≡ before ++ texts_of p → TakesTurns result q rest next left middle written
-    → TakesTurns result (p ++ q) stream next left before written
+takes_both : (result : Option Served) (p q : List HttpExchange) (stream rest next left before middle written : List ℕ) → result ≢ Some Served.NoMemory
+    → Cuts stream p rest → IsOpen p → middle ≡ before ++ texts_of p → ServesExchanges result q rest next left middle written
+    → ServesExchanges result (p ++ q) stream next left before written
 takes_both None p q stream rest next left before middle written some cut open_pieces told turns = (
   cuts_both stream p rest q next cut open_pieces turns.0,
   list_any_both p q false false open_pieces turns.1,
@@ -261,30 +266,33 @@ takes_both (Some served) p q stream rest next left before middle written some cu
 )
 
 -- some turns, and then others
-pub turning_both : (result : Option Served) (p q : List Piece) (front next further : List ℕ)
+pub cycles_both : (result : Option Served) (p q : List HttpExchange) (front next further : List ℕ)
     (left_old left_mid left_new written_old written_mid written_new : Option (List ℕ)) → result ≢ Some Served.NoMemory
-    → Turning front left_old next left_mid written_old written_mid None p → Turning next left_mid further left_new written_mid written_new result q
-    → Turning front left_old further left_new written_old written_new result (p ++ q)
-turning_both result p q front next further None lm ln wo wm wn some first second = tt
-turning_both result p q front next further (Some left) lm ln None wm wn some first second = tt
-turning_both result p q front next further (Some left) None ln (Some before) wm wn some first second = absurd first
-turning_both result p q front next further (Some left) (Some mid) ln (Some before) None wn some first second = absurd first
-turning_both result p q front next further (Some left) (Some mid) None (Some before) (Some told) wn some first second = second
-turning_both result p q front next further (Some left) (Some mid) (Some after) (Some before) (Some told) None some first second = second
-turning_both result p q front next further (Some left) (Some mid) (Some after) (Some before) (Some told) (Some written) some first second =
+    → ServesBytes front left_old next left_mid written_old written_mid None p → ServesBytes next left_mid further left_new written_mid written_new result q
+    → ServesBytes front left_old further left_new written_old written_new result (p ++ q)
+cycles_both result p q front next further None lm ln wo wm wn some first second = tt
+cycles_both result p q front next further (Some left) lm ln None wm wn some first second = tt
+cycles_both result p q front next further (Some left) None ln (Some before) wm wn some first second = absurd first
+cycles_both result p q front next further (Some left) (Some mid) ln (Some before) None wn some first second = absurd first
+cycles_both result p q front next further (Some left) (Some mid) None (Some before) (Some told) wn some first second = second
+cycles_both result p q front next further (Some left) (Some mid) (Some after) (Some before) (Some told) None some first second = second
+cycles_both result p q front next further (Some left) (Some mid) (Some after) (Some before) (Some told) (Some written) some first second =
     takes_both result p q (front ++ left) (next ++ mid) (further ++ after) after before told written some first.0 first.1 first.2 second
 
 -- the requests of some pieces and then others
-turns_both : (p q : List Piece) → turns_of (p ++ q) ≡ turns_of p ++ turns_of q
+turns_both : (p q : List HttpExchange) → requests_with_answers (p ++ q) ≡ requests_with_answers p ++ requests_with_answers q
 turns_both [] q = refl
-turns_both (whole request answer ∷ p) q = ap (λ turns. (request, answer) ∷ turns) (turns_both p q)
+turns_both (answered request answer ∷ p) q = ap (λ turns. (request, answer) ∷ turns) (turns_both p q)
 turns_both (refused refusal is_head ∷ p) q = turns_both p q
 
 -- the requests of some pieces, and then of others
-pub runs_on : {S : Type 0} (step : Machine S Request) (old : S) (p : List Piece) (middle : S) (q : List Piece) (new : S)
-    → Runs step old (turns_of p) middle → Runs step middle (turns_of q) new → Runs step old (turns_of (p ++ q)) new
+pub runs_on : {S : Type 0} (step : Machine S Request) (old : S) (p : List HttpExchange) (middle : S) (q : List HttpExchange) (new : S)
+    → Runs step old (requests_with_answers p) middle → Runs step middle (requests_with_answers q) new → Runs step old (requests_with_answers (p ++ q)) new
 runs_on step old p middle q new first second =
-    subst (λ turns. Runs step old turns new) (sym (turns_both p q)) (runs_both step old (turns_of p) middle (turns_of q) new first second)
+    subst (λ turns.
+    Runs step old turns new) (sym (turns_both p q))
+    (runs_both step old (requests_with_answers p) middle (requests_with_answers q)
+    new first second)
 
 -- equal parts make equal replies
 pub reply_same : (a b : Answer) (h i l m : Bool) → a ≡ b → h ≡ i → l ≡ m → reply_text a h l ≡ reply_text b i m

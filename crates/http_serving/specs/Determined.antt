@@ -1,20 +1,20 @@
 -- What the bytes of a stream alone decide of how it is served.
 use Rattle.std.specs.Prelude.{◌≡◌, ℕ, List, Bool, true, false, Result, Ok, Err, map}
 use Rattle.httparse.specs.Spans.{RequestOverflows}
-use Rattle.http_fields.specs.declared.FrameRefusal.{FrameRefusal}
+use Rattle.http_frames.specs.declared.fields.FrameRefusal.{FrameRefusal}
 use Rattle.http_frames.specs.Frames.{Request, IsCutInHead, field_limit}
 use Rattle.http_serving.specs.declared.Served.{Served}
 use Rattle.http_serving.specs.declared.Served.TheVariants.{Ended, Closed, Cut, ReadFault, WriteFault, TurnLimit, NoMemory}
-use Rattle.http_serving.specs.Streams.{Piece, whole, refused, turns_of, Cuts, Ends}
+use Rattle.http_serving.specs.Streams.{HttpExchange, answered, refused, requests_with_answers, Cuts, Ends}
 
 -- what stands in the stream where the piece is: a request, or what is refused. The answer is left out
-abbrev pub cut_of : Piece → Result Request (FrameRefusal × Bool)
-cut_of (whole request answer) = Ok request
+abbrev pub cut_of : HttpExchange → Result Request (FrameRefusal × Bool)
+cut_of (answered request answer) = Ok request
 cut_of (refused refusal is_head) = Err (refusal, is_head)
 
 -- the requests among the pieces
-abbrev pub requests_of : List Piece → List Request
-requests_of pieces = map (λ turn. turn.0) (turns_of pieces)
+abbrev pub requests_of : List HttpExchange → List Request
+requests_of pieces = map (λ turn. turn.0) (requests_with_answers pieces)
 
 -- the stream ended so by its bytes, and not by its reader, its writer, a limit or memory
 abbrev pub is_by_bytes : Served → Bool
@@ -27,7 +27,7 @@ is_by_bytes TurnLimit = false
 is_by_bytes NoMemory = false
 
 -- the stream is these pieces up to its end, which its bytes make, and `rest` follows them
-pub record IsCutWhole (stream : List ℕ) (served : Served) (pieces : List Piece) (rest : List ℕ) : Type 0 where
+pub record IsCutWhole (stream : List ℕ) (served : Served) (pieces : List HttpExchange) (rest : List ℕ) : Type 0 where
   pub cut : Cuts stream pieces rest
   pub by_bytes : is_by_bytes served ≡ true
   pub left : List ℕ

@@ -1,5 +1,5 @@
 -- What the contracts of this crate are made of.
 pub mod Streams
 pub mod Sends
-pub mod Turns
+pub mod Cycles
 pub mod Determined

@@ -1,8 +1,8 @@
 -- A stream is served piece by piece.
 use Rattle.std.specs.Prelude.{◌≡◌, ℕ, List, [], ◌∷◌, ◌++◌, Bool, true, false, ◌⊎◌, Option, Some, None, IfSome, IsSomeAnd, codes, flat_map}
 use Rattle.std.specs.List.{list_any}
-use Rattle.http_fields.specs.declared.FrameRefusal.{FrameRefusal}
-use Rattle.http_fields.specs.declared.FrameRefusal.TheVariants.{BadHead, BadLength, TooLarge, Chunked}
+use Rattle.http_frames.specs.declared.fields.FrameRefusal.{FrameRefusal}
+use Rattle.http_frames.specs.declared.fields.FrameRefusal.TheVariants.{BadHead, BadLength, TooLarge, Chunked}
 use Rattle.http_frames.specs.Frames.{Request, HasRequest, IsRefused, IsCutOff, IsUndecided, is_head_method, ends_after}
 use Rattle.http_replies.specs.declared.Status.TheVariants as Status
 use Rattle.http_replies.specs.declared.Kind.TheVariants.{Json}
@@ -13,18 +13,18 @@ use Rattle.http_serving.specs.declared.Served.{Served}
 use Rattle.http_serving.specs.declared.Served.TheVariants.{Ended, Closed, Cut, ReadFault, WriteFault, TurnLimit, NoMemory}
 
 -- a request with its answer, or a refusal of the framing
-pub data Piece : Type 0 where
-  whole : (request : Request) → (answer : Answer) → Piece
-  refused : (refusal : FrameRefusal) → (is_head : Bool) → Piece
+pub data HttpExchange : Type 0 where
+  answered : (request : Request) → (answer : Answer) → HttpExchange
+  refused : (refusal : FrameRefusal) → (is_head : Bool) → HttpExchange
 
 -- the rest begins with the piece, and `after` follows. Nothing is cut from the rest after a refusal
-abbrev pub IsPiece : List ℕ → Piece → List ℕ → Type 0
-IsPiece rest (whole request answer) after = HasRequest rest request after
-IsPiece rest (refused refusal is_head) after = IsRefused rest refusal is_head × (after ≡ rest)
+abbrev pub BeginsWithExchange : List ℕ → HttpExchange → List ℕ → Type 0
+BeginsWithExchange rest (answered request answer) after = HasRequest rest request after
+BeginsWithExchange rest (refused refusal is_head) after = IsRefused rest refusal is_head × (after ≡ rest)
 
 -- the stream ends after the piece
-abbrev pub is_last : Piece → Bool
-is_last (whole request answer) = ends_after request.head
+abbrev pub is_last : HttpExchange → Bool
+is_last (answered request answer) = ends_after request.head
 is_last (refused refusal is_head) = true
 
 -- what the reply to a refusal says
@@ -35,32 +35,32 @@ refusal_answer TooLarge = record { status = Status.TooLarge; kind = Json; body =
 refusal_answer Chunked = record { status = Status.NotImplemented; kind = Json; body = codes "{\"error\":\"chunked\",\"no\":4}" }
 
 -- the bytes of the reply
-abbrev pub text_of : Piece → List ℕ
-text_of (whole request answer) = reply_text answer (is_head_method request.head) (ends_after request.head)
+abbrev pub text_of : HttpExchange → List ℕ
+text_of (answered request answer) = reply_text answer (is_head_method request.head) (ends_after request.head)
 text_of (refused refusal is_head) = reply_text (refusal_answer refusal) is_head true
 
 -- the replies to all the pieces
-abbrev pub texts_of : List Piece → List ℕ
+abbrev pub texts_of : List HttpExchange → List ℕ
 texts_of pieces = flat_map text_of pieces
 
 -- the requests among the pieces, with their answers
-abbrev pub turns_of : List Piece → List (Request × Answer)
-turns_of [] = []
-turns_of (whole request answer ∷ pieces) = (request, answer) ∷ turns_of pieces
-turns_of (refused refusal is_head ∷ pieces) = turns_of pieces
+abbrev pub requests_with_answers : List HttpExchange → List (Request × Answer)
+requests_with_answers [] = []
+requests_with_answers (answered request answer ∷ pieces) = (request, answer) ∷ requests_with_answers pieces
+requests_with_answers (refused refusal is_head ∷ pieces) = requests_with_answers pieces
 
 -- the stream begins with these pieces, and `rest` follows. Only the last may end the stream
-abbrev pub Cuts : List ℕ → List Piece → List ℕ → Type 0
+abbrev pub Cuts : List ℕ → List HttpExchange → List ℕ → Type 0
 Cuts stream [] rest = rest ≡ stream
 Cuts stream (piece ∷ pieces) rest =
-    (after : List ℕ) × IsPiece stream piece after × (is_last piece ≡ true → pieces ≡ []) × Cuts after pieces rest
+    (after : List ℕ) × BeginsWithExchange stream piece after × (is_last piece ≡ true → pieces ≡ []) × Cuts after pieces rest
 
 -- none of the pieces ends the stream
-abbrev pub IsOpen : List Piece → Type 0
+abbrev pub IsOpen : List HttpExchange → Type 0
 IsOpen pieces = list_any is_last pieces ≡ false
 
 -- all the replies were written, and what was read behind the pieces is no whole request
-pub record StopsReading (pieces : List Piece) (rest left before written : List ℕ) : Type 0 where
+pub record StopsReading (pieces : List HttpExchange) (rest left before written : List ℕ) : Type 0 where
   pub open_pieces : IsOpen pieces
   pub held : List ℕ
   pub rest_is : rest ≡ held ++ left
@@ -68,9 +68,9 @@ pub record StopsReading (pieces : List Piece) (rest left before written : List �
   pub written_is : written ≡ before ++ texts_of pieces
 
 -- all the replies but the last, and a front of the last
-pub record StopsWriting (pieces : List Piece) (before written : List ℕ) : Type 0 where
-  pub front : List Piece
-  pub last : Piece
+pub record StopsWriting (pieces : List HttpExchange) (before written : List ℕ) : Type 0 where
+  pub front : List HttpExchange
+  pub last : HttpExchange
   pub pieces_are : pieces ≡ front ++ last ∷ []
   pub sent : List ℕ
   pub unsent : List ℕ
@@ -78,7 +78,7 @@ pub record StopsWriting (pieces : List Piece) (before written : List ℕ) : Type
   pub written_is : written ≡ before ++ texts_of front ++ sent
 
 -- how the stream came to its end
-abbrev pub Ends : Served → List Piece → List ℕ → List ℕ → List ℕ → List ℕ → Type 0
+abbrev pub Ends : Served → List HttpExchange → List ℕ → List ℕ → List ℕ → List ℕ → Type 0
 Ends Ended pieces rest left before written = IsOpen pieces × (rest ≡ []) × (written ≡ before ++ texts_of pieces)
 Ends Closed pieces rest left before written = (list_any is_last pieces ≡ true) × (written ≡ before ++ texts_of pieces)
 Ends Cut pieces rest left before written = IsOpen pieces × IsCutOff rest × (written ≡ before ++ texts_of pieces)
@@ -88,18 +88,18 @@ Ends TurnLimit pieces rest left before written = StopsReading pieces rest left b
 Ends NoMemory pieces rest left before written = (pieces ≡ []) × (written ≡ before)
 
 -- what the pieces are to the bytes, where the reader and the writer tell theirs
-abbrev pub Tells : Option (List ℕ) → Option (List ℕ) → Option (List ℕ) → Option (List ℕ) → Served → List Piece → Type 0
+abbrev pub Tells : Option (List ℕ) → Option (List ℕ) → Option (List ℕ) → Option (List ℕ) → Served → List HttpExchange → Type 0
 Tells left_old left_new written_old written_new served pieces =
     IfSome left_old (λ stream. IfSome written_old (λ before.
     IsSomeAnd left_new (λ left. IsSomeAnd written_new (λ written.
     (rest : List ℕ) × Cuts stream pieces rest × Ends served pieces rest left before written))))
 
 -- what became of a stream where this became of a reply
-abbrev pub outcome_of : Sent → Bool → Option Served
-outcome_of All true = Some Closed
-outcome_of All false = None
-outcome_of Sent.Fault last = Some WriteFault
-outcome_of Sent.TurnLimit last = Some TurnLimit
+abbrev pub ending_of_sent : Sent → Bool → Option Served
+ending_of_sent All true = Some Closed
+ending_of_sent All false = None
+ending_of_sent Sent.Fault last = Some WriteFault
+ending_of_sent Sent.TurnLimit last = Some TurnLimit
 
 -- the failures of the reader that the end of a stream tells
 abbrev pub read_faults : Option Served → ℕ

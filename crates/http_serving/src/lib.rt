@@ -7,16 +7,16 @@ ghost use Rattle.http_replies.specs.Runs.{Runs};
 ghost use Rattle.http_frames.specs.Frames.{Request, HasRequest};
 ghost use Rattle.http_frames.specs.Looks.{IsFrameAt};
 ghost use Rattle.http_frames.specs.Buffers.{unread};
-ghost use Rattle.http_serving.specs.Streams.{Piece, refusal_answer, turns_of, Tells, outcome_of};
+ghost use Rattle.http_serving.specs.Streams.{HttpExchange, refusal_answer, requests_with_answers, Tells, ending_of_sent};
 ghost use Rattle.http_serving.specs.Streams.{read_faults, write_faults};
-ghost use Rattle.http_serving.specs.Turns.{Turning, IsTurn};
+ghost use Rattle.http_serving.specs.Cycles.{ServesBytes, IsOneExchange};
 ghost use Rattle.http_serving.specs.Determined.{cut_of, requests_of, IsCutWhole, IsEitherWay};
 
 pub mod send;
 
 use crate::send::{Sent, write_reply};
-use http_fields::FrameRefusal;
 use http_frames::buffer::{Buffer, CALL_LIMIT, read_request};
+use http_frames::fields::FrameRefusal;
 use http_frames::frame::{Frame, Framed};
 use http_frames::transfer::{Drain, Source};
 use http_replies::{Body, Flags, HEAD_ROOM, Reply, Status};
@@ -80,7 +80,7 @@ fn refusal_reply(refusal: FrameRefusal) -> Reply
 
 /// What becomes of the stream once this became of a reply, which ends the stream where `is_last` says so.
 fn outcome(sent: Sent, is_last: bool) -> Option<Served>
-    ensures { result ≡ outcome_of sent is_last }
+    ensures { result ≡ ending_of_sent sent is_last }
 {
     match sent {
         Sent::All if is_last => Some(Served::Closed),
@@ -91,7 +91,7 @@ fn outcome(sent: Sent, is_last: bool) -> Option<Served>
 }
 
 /// Serves one request, or answers how the stream ended. The room is for the head of its reply.
-fn serve_turn<S, V: Service<S>, R: Source, W: Drain>(
+fn serve_one<S, V: Service<S>, R: Source, W: Drain>(
     service: &V,
     state: &mut S,
     reader: &mut R,
@@ -101,10 +101,10 @@ fn serve_turn<S, V: Service<S>, R: Source, W: Drain>(
 ) -> Option<Served>
     requires reader { R.calls reader.old + 2 ^ 25 < 2 ^ 64 + buffer.old.calls }
     requires writer { W.calls writer.old + 2 ^ 25 < 2 ^ 64 + buffer.old.calls }
-    ensures turn { (pieces : List Piece) × IsTurn result pieces
-        × Turning (unread buffer.old) (R.left reader.old) (unread buffer.new) (R.left reader.new)
+    ensures served_one { (pieces : List HttpExchange) × IsOneExchange result pieces
+        × ServesBytes (unread buffer.old) (R.left reader.old) (unread buffer.new) (R.left reader.new)
         (W.written writer.old) (W.written writer.new) result pieces
-        × Runs (V.steps service.now) state.old (turns_of pieces) state.new }
+        × Runs (V.steps service.now) state.old (requests_with_answers pieces) state.new }
     ensures calls { R.calls reader.new + W.calls writer.new + buffer.old.calls
         ≡ R.calls reader.old + W.calls writer.old + buffer.new.calls }
     ensures reader_calls { R.calls reader.old ≤ R.calls reader.new }
@@ -155,7 +155,7 @@ pub fn requests_are_unique()
 /// is part of a head and never becomes one with few enough fields: it may be refused, or be cut off
 /// where the stream ends.
 pub fn streams_are_determined()
-    ensures { (stream : List ℕ) (served other : Served) (pieces others : List Piece)
+    ensures { (stream : List ℕ) (served other : Served) (pieces others : List HttpExchange)
         (rest later : List ℕ)
         → IsCutWhole stream served pieces rest → IsCutWhole stream other others later
         → (requests_of pieces ≡ requests_of others) × (rest ≡ later)
@@ -178,10 +178,10 @@ pub fn serve_stream<S, V: Service<S>, R: Source, W: Drain>(
 ) -> Served
     requires reader { R.calls reader.old + 2 ^ 25 < 2 ^ 64 }
     requires writer { W.calls writer.old + 2 ^ 25 < 2 ^ 64 }
-    ensures run { (pieces : List Piece)
+    ensures run { (pieces : List HttpExchange)
         × Tells (R.left reader.old) (R.left reader.new)
         (W.written writer.old) (W.written writer.new) result pieces
-        × Runs (V.steps service.now) state.old (turns_of pieces) state.new }
+        × Runs (V.steps service.now) state.old (requests_with_answers pieces) state.new }
     ensures calls { R.calls reader.new + W.calls writer.new ≤ R.calls reader.old + W.calls
         writer.old + CALL_LIMIT }
     ensures limit { result ≡ Served.TurnLimit → R.calls reader.new + W.calls writer.new
@@ -200,7 +200,7 @@ pub fn serve_stream<S, V: Service<S>, R: Source, W: Drain>(
     };
     let mut room = [0; HEAD_ROOM];
     loop {
-        if let Some(served) = serve_turn(service, state, reader, writer, &mut buffer, &mut room) {
+        if let Some(served) = serve_one(service, state, reader, writer, &mut buffer, &mut room) {
             return served;
         }
     }

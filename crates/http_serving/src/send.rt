@@ -24,7 +24,7 @@ pub enum Sent {
 pub fn write_all<W: Drain>(writer: &mut W, bytes: &[u8], buffer: &mut Buffer) -> Sent
     requires { W.calls writer.old + 2 ^ 25 < 2 ^ 64 + buffer.old.calls }
     ensures sent { Sending (W.written writer.old) (W.written writer.new) bytes.now result }
-    ensures kept { buffer.new ≡ record buffer.old { calls = buffer.new.calls } }
+    ensures same_window { buffer.new ≡ record buffer.old { calls = buffer.new.calls } }
     ensures calls { W.calls writer.new + buffer.old.calls ≡ W.calls writer.old + buffer.new.calls }
     ensures more { buffer.old.calls ≤ buffer.new.calls }
     ensures within { buffer.old.calls ≤ CALL_LIMIT → buffer.new.calls ≤ CALL_LIMIT }
@@ -58,7 +58,7 @@ pub fn write_reply<W: Drain>(
     requires { W.calls writer.old + 2 ^ 25 < 2 ^ 64 + buffer.old.calls }
     ensures sent { Sending (W.written writer.old) (W.written writer.new)
         (reply_text (answer_of reply.now) flags.is_head flags.is_last) result }
-    ensures kept { buffer.new ≡ record buffer.old { calls = buffer.new.calls } }
+    ensures same_window { buffer.new ≡ record buffer.old { calls = buffer.new.calls } }
     ensures calls { W.calls writer.new + buffer.old.calls ≡ W.calls writer.old + buffer.new.calls }
     ensures more { buffer.old.calls ≤ buffer.new.calls }
     ensures within { buffer.old.calls ≤ CALL_LIMIT → buffer.new.calls ≤ CALL_LIMIT }

@@ -6,7 +6,7 @@ use Rattle.std.proofs.lemmas.Bool.{or_right, or_from}
 use Rattle.std.proofs.lemmas.List.Folds.{list_any_at, list_any_none}
 use Rattle.std.proofs.lemmas.Option.{none-some, same_Some}
 use Rattle.std.specs.List.{list_any}
-use Rattle.id_ranges.specs.Blocks.{is_in, meets, is_free, IsIn, IsApart}
+use Rattle.id_ranges.specs.Blocks.{is_in, blocks_overlap, is_free, IsIn, IsApart}
 use Rattle.id_ranges.proofs.Ranges.{list_all-range, in_list_all-range}
 
 -- what is found passes
@@ -37,14 +37,14 @@ list_any-from_none p (y ∷ ys) none =
     ]
 
 -- two intervals that meet have an address in common
-pub IsIn-from_meets : (a b : ℕ × ℕ) → meets a b ≡ true → (mac : ℕ) × IsIn a mac × IsIn b mac
+pub IsIn-from_meets : (a b : ℕ × ℕ) → blocks_overlap a b ≡ true → (mac : ℕ) × IsIn a mac × IsIn b mac
 IsIn-from_meets a b h =
     let met = ltb-true _ _ h in
     (max a.0 b.0, (omega arith, omega arith), (omega arith, omega arith))
 
 -- two intervals with an address in common meet
-pub meets-from_IsIn : (a b : ℕ × ℕ) (mac : ℕ) → IsIn a mac → IsIn b mac → meets a b ≡ true
-meets-from_IsIn a b mac one other = lt-ltb _ _ (omega arith)
+pub blocks_overlap-from_IsIn : (a b : ℕ × ℕ) (mac : ℕ) → IsIn a mac → IsIn b mac → blocks_overlap a b ≡ true
+blocks_overlap-from_IsIn a b mac one other = lt-ltb _ _ (omega arith)
 
 -- the test of an interval's addresses
 pub is_in-from_IsIn : (interval : ℕ × ℕ) (mac : ℕ) → IsIn interval mac → is_in interval mac ≡ true
@@ -75,24 +75,25 @@ free-from_apart intervals start count apart =
     false_from_ne_true _ (λ passes. apart k d below mac (low, high) (IsIn-from_is_in (slice_index_or intervals k d) mac passes)))))
 
 -- where an interval meets a block, no block of that length from the first one's start to the interval's end is free
-pub not_free_later : (intervals : List (ℕ × ℕ)) (start count k : ℕ) (interval : ℕ × ℕ) → 1 ≤ count → find (meets (start, count)) intervals ≡ Some interval
+pub not_free_later : (intervals : List (ℕ × ℕ)) (start count k : ℕ) (interval : ℕ × ℕ) → 1 ≤ count
+    → find (blocks_overlap (start, count)) intervals ≡ Some interval
     → start ≤ k → k < interval.0 + interval.1 → is_free intervals count k ≡ false
 not_free_later intervals start count k interval some found low high =
-    let met = IsIn-from_meets (start, count) interval (find-passes (meets (start, count)) intervals interval found) in
+    let met = IsIn-from_meets (start, count) interval (find-passes (blocks_overlap (start, count)) intervals interval found) in
     let mac : ℕ = max k interval.0 in
     let inside : IsIn interval mac = (omega arith, omega arith) in
     not_free-from_IsIn intervals k count mac (omega arith, omega arith)
-    (list_any-from_find (meets (start, count)) (λ i. is_in i mac) intervals interval found (is_in-from_IsIn interval mac inside))
+    (list_any-from_find (blocks_overlap (start, count)) (λ i. is_in i mac) intervals interval found (is_in-from_IsIn interval mac inside))
 
 -- a block that no interval meets is free
-pub free_from_none : (intervals : List (ℕ × ℕ)) (start count : ℕ) → find (meets (start, count)) intervals ≡ None → is_free intervals count start ≡ true
+pub free_from_none : (intervals : List (ℕ × ℕ)) (start count : ℕ) → find (blocks_overlap (start, count)) intervals ≡ None → is_free intervals count start ≡ true
 free_from_none intervals start count none =
     free-from_apart intervals start count (λ k d below mac one other.
-    both_ways _ (list_any-from_none (meets (start, count)) intervals none)
-    (list_any_at (meets (start, count)) intervals k d below (meets-from_IsIn (start, count) (slice_index_or intervals k d) mac one other)))
+    both_ways _ (list_any-from_none (blocks_overlap (start, count)) intervals none)
+    (list_any_at (blocks_overlap (start, count)) intervals k d below (blocks_overlap-from_IsIn (start, count) (slice_index_or intervals k d) mac one other)))
 
 -- the end of an interval that meets a block is past the block's start
-pub end_past_start : (intervals : List (ℕ × ℕ)) (start count : ℕ) (interval : ℕ × ℕ) → find (meets (start, count)) intervals ≡ Some interval
+pub end_past_start : (intervals : List (ℕ × ℕ)) (start count : ℕ) (interval : ℕ × ℕ) → find (blocks_overlap (start, count)) intervals ≡ Some interval
     → start < interval.0 + interval.1
 end_past_start intervals start count interval found =
-    let met = ltb-true _ _ (find-passes (meets (start, count)) intervals interval found) in omega arith
+    let met = ltb-true _ _ (find-passes (blocks_overlap (start, count)) intervals interval found) in omega arith

@@ -5,7 +5,7 @@ use Rattle.std.proofs.lemmas.Bool.Decides.{Decides-eqb}
 use Rattle.std.proofs.lemmas.Slice.Eq.{bytes_eq-Decides}
 use Rattle.std.specs.Prelude.{◌↔◌, IsTrue}
 use Rattle.std.specs.List.{list_any, range_with_len}
-use Rattle.id_ranges.specs.Range.{Range, Meets, meets}
+use Rattle.id_ranges.specs.Range.{Range, RangesOverlap, ranges_overlap}
 
 -- a number of a range that passes
 some_passes : (p : ℕ → Bool) (first count : ℕ) → list_any p (range_with_len first count) ≡ true → (n : ℕ) × (first ≤ n) × (n < first + count) × (p n ≡ true)
@@ -34,7 +34,7 @@ abbrev is_of : Range → ℕ → Bool
 is_of r n = nat_le r.first n && nat_lt n (r.first + r.quantity)
 
 -- ranges that pass the test meet
-pub meets_from_test : (a b : Range) → meets a b ≡ true → Meets a b
+pub meets_from_test : (a b : Range) → ranges_overlap a b ≡ true → RangesOverlap a b
 meets_from_test a b h =
     let shared : Bool = list_any (is_of b) (range_with_len a.first a.quantity) in
     let outer = and_parts (bytes_eq a.prefix b.prefix && (a.width == b.width)) shared h in
@@ -47,7 +47,7 @@ meets_from_test a b h =
     )
 
 -- ranges that meet pass it
-pub test_from_meets : (a b : Range) → Meets a b → meets a b ≡ true
+pub test_from_meets : (a b : Range) → RangesOverlap a b → ranges_overlap a b ≡ true
 test_from_meets a b h =
     let shared = h.2 in
     let n : ℕ = shared.0 in
@@ -55,9 +55,9 @@ test_from_meets a b h =
     (passes_at (is_of b) a.first a.quantity n shared.1.0 shared.1.1 (and_from _ _ (le-leb b.first n shared.2.0) (lt-ltb n (b.first + b.quantity) shared.2.1)))
 
 -- what is true just where they meet is the test
-pub same_test : (a b : Range) (r : Bool) → (IsTrue r ↔ Meets a b) → r ≡ meets a b
+pub same_test : (a b : Range) (r : Bool) → (IsTrue r ↔ RangesOverlap a b) → r ≡ ranges_overlap a b
 same_test a b true h = sym (test_from_meets a b (h.0 refl))
-same_test a b false h = elim (meets a b) as (λ t. meets a b ≡ t → false ≡ t) [
+same_test a b false h = elim (ranges_overlap a b) as (λ t. ranges_overlap a b ≡ t → false ≡ t) [
   | true ↦ λ passes. h.1 (meets_from_test a b passes)
   | false ↦ λ fails. refl
 ] refl

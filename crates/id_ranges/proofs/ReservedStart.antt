@@ -7,7 +7,7 @@ use Rattle.std.proofs.lemmas.List.Folds.{find-append}
 use Rattle.std.proofs.lemmas.Option.{none-some}
 use Rattle.std.specs.List.{flat_map}
 use Rattle.std.specs.Option.{option_or}
-use Rattle.id_ranges.specs.Blocks.{is_free, starts, reserved_start, IsWithin, IsApart}
+use Rattle.id_ranges.specs.Blocks.{is_free, starts, reserved_start, IsBlockWithin, IsApart}
 use Rattle.id_ranges.specs.Pool.{Pool}
 use Rattle.id_ranges.proofs.FreeBlocks.{find-passes, apart-from_free}
 use Rattle.id_ranges.proofs.Ranges.{in_range-from_find, fails-from_find}
@@ -25,7 +25,7 @@ reserved_start-free pools intervals count start taken =
     find-passes (is_free intervals count) (flat_map (starts count) pools) start taken
 
 -- a start of a pool begins a block within it
-within-from_find : (pool : Pool) (p : ℕ → Bool) (count start : ℕ) → find p (starts count pool) ≡ Some start → IsWithin (start, count) pool
+within-from_find : (pool : Pool) (p : ℕ → Bool) (count start : ℕ) → find p (starts count pool) ≡ Some start → IsBlockWithin (start, count) pool
 within-from_find pool p count start found =
     let bounds = in_range-from_find p pool.first (pool.count + 1 - count) start found in
     (omega arith, omega arith)
@@ -36,16 +36,16 @@ Any-later P x xs any = (suc any.0, any.1, omega arith, any.3, any.4)
 
 -- the block that is taken lies within the first pool or a later one
 in_pool_step : (pool : Pool) (pools : List Pool) (p : ℕ → Bool) (count start : ℕ) (later o : Option ℕ)
-    → (later ≡ Some start → Any (IsWithin (start, count)) pools) → find p (starts count pool) ≡ o → option_or o later ≡ Some start
-    → Any (IsWithin (start, count)) (pool ∷ pools)
+    → (later ≡ Some start → Any (IsBlockWithin (start, count)) pools) → find p (starts count pool) ≡ o → option_or o later ≡ Some start
+    → Any (IsBlockWithin (start, count)) (pool ∷ pools)
 in_pool_step pool pools p count start later None rest found taken =
-    Any-later (IsWithin (start, count)) pool pools (rest taken)
+    Any-later (IsBlockWithin (start, count)) pool pools (rest taken)
 in_pool_step pool pools p count start later (Some s) rest found taken =
     (0, pool, omega arith, refl, within-from_find pool p count start (found ∙ taken))
 
 -- the block that is taken lies within a pool
 pub reserved_start-in_pool : (pools : List Pool) (intervals : List (ℕ × ℕ)) (count start : ℕ) → reserved_start pools intervals count ≡ Some start
-    → Any (IsWithin (start, count)) pools
+    → Any (IsBlockWithin (start, count)) pools
 reserved_start-in_pool [] intervals count start taken = absurd (none-some start taken)
 reserved_start-in_pool (pool ∷ pools) intervals count start taken =
     in_pool_step pool pools (is_free intervals count) count start (reserved_start pools intervals count) (find (is_free intervals count) (starts count pool))
@@ -58,13 +58,13 @@ both_none (Some x) p none = absurd (none-some x (sym none))
 
 -- where no block is taken, none that lies within the pool at k is free
 none_at : (pools : List Pool) (intervals : List (ℕ × ℕ)) (count start k : ℕ) (pool : Pool) → reserved_start pools intervals count ≡ None → k < length pools
-    → get_or pools k pool ≡ pool → IsWithin (start, count) pool → is_free intervals count start ≡ false
+    → get_or pools k pool ≡ pool → IsBlockWithin (start, count) pool → is_free intervals count start ≡ false
 none_at [] intervals count start k pool none below here within = absurd (omega arith)
 none_at (q ∷ pools) intervals count start zero pool none below here within =
     let nones =
     both_none (find (is_free intervals count) (starts count q)) (reserved_start pools intervals count)
     (sym (reserved_start-cons q pools intervals count) ∙ none) in
-    let inside : IsWithin (start, count) q = rw here within in
+    let inside : IsBlockWithin (start, count) q = rw here within in
     fails-from_find (is_free intervals count) q.first (q.count + 1 - count) start nones.0 inside.0 (omega arith)
 none_at (q ∷ pools) intervals count start (suc k) pool none below here within =
     let nones =
@@ -74,7 +74,7 @@ none_at (q ∷ pools) intervals count start (suc k) pool none below here within 
 
 -- where no block is taken, none that lies within a pool is free
 pub reserved_start-none : (pools : List Pool) (intervals : List (ℕ × ℕ)) (count start : ℕ) → reserved_start pools intervals count ≡ None
-    → Any (IsWithin (start, count)) pools → is_free intervals count start ≡ false
+    → Any (IsBlockWithin (start, count)) pools → is_free intervals count start ≡ false
 reserved_start-none pools intervals count start none within =
     none_at pools intervals count start within.0 within.1 none within.2 within.3 within.4
 
@@ -110,7 +110,7 @@ passed_at pools intervals count i pool below here before none =
 -- its block lies within a pool
 pub taken_within : (pools : List Pool) (intervals : List (ℕ × ℕ)) (count i start : ℕ) (pool : Pool) → i < length pools → pool ≡ get_or pools i pool
     → reserved_start (drop i pools) intervals count ≡ reserved_start pools intervals count → find (is_free intervals count) (starts count pool) ≡ Some start
-    → Any (IsWithin (start, count)) pools
+    → Any (IsBlockWithin (start, count)) pools
 taken_within pools intervals count i start pool below here before found =
     reserved_start-in_pool pools intervals count start (taken_at pools intervals count i start pool below here before found)
 
@@ -123,7 +123,7 @@ taken_free pools intervals count i start pool below here before found =
 
 -- after the last pool no block within a pool is free
 pub none_left : (pools : List Pool) (intervals : List (ℕ × ℕ)) (count i start : ℕ) → length pools ≤ i
-    → reserved_start (drop i pools) intervals count ≡ reserved_start pools intervals count → Any (IsWithin (start, count)) pools
+    → reserved_start (drop i pools) intervals count ≡ reserved_start pools intervals count → Any (IsBlockWithin (start, count)) pools
     → is_free intervals count start ≡ false
 none_left pools intervals count i start past before within =
     reserved_start-none pools intervals count start (sym before ∙ at_drop_all (λ ps. reserved_start ps intervals count) pools i past) within

@@ -21,8 +21,8 @@ abbrev pub reserved_start : List Pool → List (ℕ × ℕ) → ℕ → Option �
 reserved_start pools intervals count = find (is_free intervals count) (flat_map (starts count) pools)
 
 -- two intervals have an address in common: the later of their starts is below the earlier of their ends
-abbrev pub meets : ℕ × ℕ → ℕ × ℕ → Bool
-meets a b = nat_lt (max a.0 b.0) (min (a.0 + a.1) (b.0 + b.1))
+abbrev pub blocks_overlap : ℕ × ℕ → ℕ × ℕ → Bool
+blocks_overlap a b = nat_lt (max a.0 b.0) (min (a.0 + a.1) (b.0 + b.1))
 
 -- the address is in the interval
 abbrev pub IsIn : ℕ × ℕ → ℕ → Type 0
@@ -33,5 +33,5 @@ abbrev pub IsApart : ℕ × ℕ → ℕ × ℕ → Type 0
 IsApart a b = (mac : ℕ) → IsIn a mac → IsIn b mac → ⊥
 
 -- the interval lies within the pool
-abbrev pub IsWithin : ℕ × ℕ → Pool → Type 0
-IsWithin interval pool = (pool.first ≤ interval.0) × (interval.0 + interval.1 ≤ pool.first + pool.count)
+abbrev pub IsBlockWithin : ℕ × ℕ → Pool → Type 0
+IsBlockWithin interval pool = (pool.first ≤ interval.0) × (interval.0 + interval.1 ≤ pool.first + pool.count)

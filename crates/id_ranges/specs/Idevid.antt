@@ -19,8 +19,8 @@ abbrev pub no_end : List ℕ
 no_end = codes "99991231235959Z"
 
 -- the record with this serial number, if it is one
-abbrev pub idevid_of : List ℕ → List ℕ → List ℕ → Option ℕ → Option (List ℕ) → Result Idevid RangeFault
-idevid_of issuer serial key mac not_before =
+abbrev pub new_idevid : List ℕ → List ℕ → List ℕ → Option ℕ → Option (List ℕ) → Result Idevid RangeFault
+new_idevid issuer serial key mac not_before =
     if is_serial serial
     then Ok (record { issuer = issuer; serial = serial; key = key; mac = mac; not_after = no_end; not_before = not_before })
     else Err BadText

@@ -18,8 +18,8 @@ abbrev pub Has : Range → ℕ → Type 0
 Has r n = (r.first ≤ n) × (n < r.first + r.quantity)
 
 -- the number has more digits than the width
-abbrev pub is_too_wide : ℕ → ℕ → Bool
-is_too_wide width n = nat_le (10 ^ width) n
+abbrev pub is_number_too_wide : ℕ → ℕ → Bool
+is_number_too_wide width n = nat_le (10 ^ width) n
 
 -- what holds of each range: a prefix, a width of 1 to 9, a number at least, and no number that is too wide
 pub record IsRange (r : Range) : Type 0 where
@@ -33,7 +33,7 @@ pub record IsRange (r : Range) : Type 0 where
 abbrev pub range_of : List ℕ → ℕ → ℕ → ℕ → Result Range RangeFault
 range_of prefix width first quantity =
     if not (is_prefix prefix) then Err BadText
-    else if is_too_wide width (first + quantity - 1) then Err TooWide
+    else if is_number_too_wide width (first + quantity - 1) then Err TooWide
     else Ok (record { prefix = prefix; width = width; first = first; quantity = quantity })
 
 -- some number is in both
@@ -41,18 +41,18 @@ abbrev pub SharesANumber : Range → Range → Type 0
 SharesANumber a b = (n : ℕ) × Has a n × Has b n
 
 -- two ranges of one prefix and width have a number in common
-abbrev pub Meets : Range → Range → Type 0
-Meets a b = (a.prefix ≡ b.prefix) × (a.width ≡ b.width) × SharesANumber a b
+abbrev pub RangesOverlap : Range → Range → Type 0
+RangesOverlap a b = (a.prefix ≡ b.prefix) × (a.width ≡ b.width) × SharesANumber a b
 
 -- the range's numbers, the least first
 abbrev pub numbers : Range → List ℕ
 numbers r = range_with_len r.first r.quantity
 
 -- whether they meet: prefixes and widths are equal, and a number of one is one of the other's
-abbrev pub meets : Range → Range → Bool
-meets a b =
+abbrev pub ranges_overlap : Range → Range → Bool
+ranges_overlap a b =
     bytes_eq a.prefix b.prefix && (a.width == b.width) && list_any (λ n. nat_le b.first n && nat_lt n (b.first + b.quantity)) (numbers a)
 
 -- the serial number of a number of the range (RFC 5280, appendix A: of characters of PrintableString)
-abbrev pub text_of : Range → ℕ → List ℕ
-text_of r n = serial_text r.prefix r.width n
+abbrev pub serial_text_of : Range → ℕ → List ℕ
+serial_text_of r n = serial_text r.prefix r.width n

@@ -2,7 +2,7 @@
 ghost use Rattle.std.specs.Prelude.{◌≡◌, ◌≤◌, ℕ, true, false, find, Any, IfOk, OnErr};
 ghost use Rattle.std.specs.Option.{ok_or};
 ghost use Rattle.id_ranges.specs.Blocks as spec;
-ghost use Rattle.id_ranges.specs.Blocks.{is_free, starts, reserved_start, IsWithin};
+ghost use Rattle.id_ranges.specs.Blocks.{is_free, starts, reserved_start, IsBlockWithin};
 
 use crate::fault::RangeFault;
 use crate::mac::Mac;
@@ -17,9 +17,9 @@ pub fn reserve(pools: &[MacPool], reserved: &[(Mac, u64)], count: u64) -> Result
     requires { 1 ≤ count }
     ensures exact { result
         ≡ ok_or (reserved_start pools.now reserved.now count) RangeFault.NoMacRoom }
-    ensures within { IfOk result (λ first. Any (IsWithin (first, count)) pools.now) }
+    ensures within { IfOk result (λ first. Any (IsBlockWithin (first, count)) pools.now) }
     ensures free { IfOk result (λ first. is_free reserved.now count first ≡ true) }
-    ensures full { OnErr result ((start : ℕ) → Any (IsWithin (start, count)) pools.now
+    ensures full { OnErr result ((start : ℕ) → Any (IsBlockWithin (start, count)) pools.now
         → is_free reserved.now count start ≡ false) }
 {
     for pool in pools {
@@ -52,7 +52,7 @@ fn start_in(pool: &MacPool, reserved: &[(Mac, u64)], count: u64) -> Option<Mac>
 /// The first interval with an address of the block of `count` addresses from this one on.
 fn meeting(reserved: &[(Mac, u64)], start: u64, count: u64) -> Option<(Mac, u64)>
     requires { 1 ≤ count }
-    ensures { result ≡ find (spec.meets (start, count)) reserved.now }
+    ensures { result ≡ find (spec.blocks_overlap (start, count)) reserved.now }
 {
     reserved
         .iter()
@@ -63,7 +63,7 @@ fn meeting(reserved: &[(Mac, u64)], start: u64, count: u64) -> Option<(Mac, u64)
 /// Whether an interval has an address of the block of `count` addresses from this one on.
 fn meets(start: u64, count: u64, interval: &(Mac, u64)) -> bool
     requires { 1 ≤ count }
-    ensures { result ≡ spec.meets (start, count) interval.now }
+    ensures { result ≡ spec.blocks_overlap (start, count) interval.now }
 {
     let (first, length) = *interval;
     let first = first.value();

@@ -1,6 +1,6 @@
 // The faults of ranges.
 ghost use Rattle.std.specs.Prelude.{◌≡◌};
-ghost use Rattle.id_ranges.specs.RangeFaults.{fault_number};
+ghost use Rattle.id_ranges.specs.RangeFaults.{range_fault_number};
 
 use thiserror::Error;
 
@@ -43,7 +43,7 @@ pub enum RangeFault {
 impl RangeFault {
     /// The number of the fault, 1 to 9.
     pub fn number(&self) -> u8
-        ensures { result ≡ fault_number self.now }
+        ensures { result ≡ range_fault_number self.now }
     {
         match self {
             RangeFault::BadText => 1,

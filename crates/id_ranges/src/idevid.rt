@@ -1,7 +1,7 @@
 // Records of device identities.
 ghost use Rattle.std.specs.Prelude.{◌≡◌, true};
 ghost use Rattle.text_core.specs.Serial.{is_serial};
-ghost use Rattle.id_ranges.specs.Idevid.{idevid_of, no_end};
+ghost use Rattle.id_ranges.specs.Idevid.{new_idevid, no_end};
 
 use crate::fault::RangeFault;
 use crate::key_digest::KeyDigest;
@@ -62,7 +62,7 @@ impl IdevidRecord {
         mac: Option<Mac>,
         not_before: Option<NotBefore>,
     ) -> Result<IdevidRecord, RangeFault>
-        ensures { result ≡ idevid_of issuer serial.now key mac not_before }
+        ensures { result ≡ new_idevid issuer serial.now key mac not_before }
     {
         let Some(serial) = Serial::parse(serial) else {
             return Err(RangeFault::BadText);

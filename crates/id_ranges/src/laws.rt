@@ -1,7 +1,7 @@
 // What holds of ranges and their serial numbers.
 ghost use Rattle.id_ranges.specs.SerialLaws.{MeetsIsTested, TextsAreSerials, NumbersDiffer};
 ghost use Rattle.id_ranges.specs.SerialLaws.{WidthsDiffer, NextIsLeast, NoneIsLeft};
-ghost use Rattle.id_ranges.specs.SerialLaws.{CursorSkipsGiven};
+ghost use Rattle.id_ranges.specs.SerialLaws.{CursorSkipsIssued};
 
 /// The test whether two ranges meet says whether they are of one prefix and width and have a number in
 /// common.
@@ -26,5 +26,5 @@ pub fn next_is_least()
 
 /// A cursor that skips given serial numbers alone changes no next serial number.
 pub fn cursor_skips_given()
-    ensures { CursorSkipsGiven }
+    ensures { CursorSkipsIssued }
 {}

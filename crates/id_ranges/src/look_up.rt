@@ -42,7 +42,7 @@ pub trait Given<S> {
     fn is_given(&self, state: &mut S, serial: &Serial) -> Result<bool, Unread>
         ensures ok { OnOk result (looks self.now state.old state.new) }
         ensures err { OnErr result (fails self.now state.old state.new) }
-        ensures says { is_honest self.now state.new → IfOk result (λ given.
+        ensures answer { is_honest self.now state.new → IfOk result (λ given.
             given ≡ tells self.now state.old serial.now) };
 
     /// To look nothing up leaves the state as it is.

@@ -1,14 +1,14 @@
 // Ranges of serial numbers.
 ghost use Rattle.std.specs.Prelude.{◌≡◌, ◌≤◌, ◌↔◌, IsTrue, true};
 ghost use Rattle.text_core.specs.Serial.{is_serial};
-ghost use Rattle.id_ranges.specs.Range.{Has, IsRange, Meets, SharesANumber, is_too_wide, meets};
-ghost use Rattle.id_ranges.specs.Range.{range_of, text_of};
+ghost use Rattle.id_ranges.specs.Range.{Has, IsRange, RangesOverlap, SharesANumber, is_number_too_wide, ranges_overlap};
+ghost use Rattle.id_ranges.specs.Range.{range_of, serial_text_of};
 
 use crate::fault::RangeFault;
 use itoa::Buffer;
 use std::marker::Model;
 use std::str;
-use text_core::{Column, Prefix, Serial};
+use text_core::{Prefix, Serial, ShortBytes};
 
 /// Serial numbers of one prefix and consecutive numbers, each written in decimal with zeros before it
 /// up to the width: a width of 1 to 9, at least one number, and none with more digits than the width.
@@ -65,7 +65,7 @@ impl SerialRange {
         let Some(prefix) = Prefix::parse(prefix) else {
             return Err(RangeFault::BadText);
         };
-        if is_too_wide(width, first + quantity - 1) {
+        if is_number_too_wide(width, first + quantity - 1) {
             return Err(RangeFault::TooWide);
         }
         Ok(SerialRange {
@@ -109,14 +109,14 @@ impl SerialRange {
 
     /// Whether the ranges are of one prefix and width and have a number in common.
     pub fn meets(&self, other: &SerialRange) -> bool
-        ensures says { IsTrue result ↔ Meets self.now other.now }
-        ensures tested { result ≡ meets self.now other.now }
+        ensures share { IsTrue result ↔ RangesOverlap self.now other.now }
+        ensures tested { result ≡ ranges_overlap self.now other.now }
     {
         self.has_a_serial_of(other)
     }
 
     fn has_a_serial_of(&self, other: &SerialRange) -> bool
-        ensures { IsTrue result ↔ Meets self.now other.now }
+        ensures { IsTrue result ↔ RangesOverlap self.now other.now }
     {
         self.prefix == other.prefix && self.width == other.width && self.shares_a_number(other)
     }
@@ -135,21 +135,21 @@ impl SerialRange {
     /// before it up to the width. It takes no memory.
     pub fn text(&self, number: u64) -> Serial
         requires { Has self.now number }
-        ensures { result ≡ text_of self.now number }
+        ensures { result ≡ serial_text_of self.now number }
     {
         let bytes = self.bytes(number);
         Serial::parse(str::from_utf8(bytes.as_bytes()).unwrap()).unwrap()
     }
 
-    fn bytes(&self, number: u64) -> Column<64>
+    fn bytes(&self, number: u64) -> ShortBytes<64>
         requires { Has self.now number }
-        ensures same { result ≡ text_of self.now number }
+        ensures same { result ≡ serial_text_of self.now number }
         ensures is_one { is_serial result ≡ true }
     {
         let mut buffer = Buffer::new();
         let digits = buffer.format(number).as_bytes();
         let zeros = [b'0'; 9];
-        let mut bytes = Column::empty();
+        let mut bytes = ShortBytes::empty();
         bytes.append(self.prefix.as_str().as_bytes());
         bytes.append(&zeros[..usize::from(self.width) - digits.len()]);
         bytes.append(digits);
@@ -158,9 +158,9 @@ impl SerialRange {
 }
 
 /// Whether a number has more digits than the width.
-fn is_too_wide(width: u8, number: u64) -> bool
+fn is_number_too_wide(width: u8, number: u64) -> bool
     requires { width ≤ 9 }
-    ensures { result ≡ is_too_wide width number }
+    ensures { result ≡ is_number_too_wide width number }
 {
     10u64.pow(u32::from(width)) <= number
 }

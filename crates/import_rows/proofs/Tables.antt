@@ -10,7 +10,7 @@ use Rattle.text_core.specs.Options.{all_of}
 use Rattle.text_core.specs.Serial.{is_serial, serial_of_text}
 use Rattle.text_core.proofs.Lists.{all_of-map}
 use Rattle.import_rows.specs.Found.{found_row, with_serial}
-use Rattle.import_rows.specs.Rows.{fields_of_row, is_header, row_with_serial, table_of, two_fields}
+use Rattle.import_rows.specs.Rows.{fields_of_row, is_header, row_with_serial, import_table, two_fields}
 use Rattle.import_rows.specs.declared.read.FoundRow.{FoundRow}
 
 -- where the second test fails
@@ -19,7 +19,7 @@ both_none true q r x y first second = rw (first, second) refl
 both_none false q r x y first second = refl
 
 -- a table that is too long is so by its first rows
-pub table_of_first : (rs : List (List (List ℕ))) (most : ℕ) → 501 < most → table_of (take most rs) ≡ table_of rs
+pub table_of_first : (rs : List (List (List ℕ))) (most : ℕ) → 501 < most → import_table (take most rs) ≡ import_table rs
 table_of_first [] zero h = absurd (omega arith)
 table_of_first [] (suc most) h = refl
 table_of_first (first ∷ rows) zero h = absurd (omega arith)
@@ -27,7 +27,7 @@ table_of_first (first ∷ rows) (suc most) h =
     elim (cases_Bool (nat_le (length rows) 500)) [
       | inl fits ↦
           let few : length rows ≤ 500 = leb-true (length rows) 500 fits in
-          ap (λ front. table_of (first ∷ front)) (take_all most rows (omega arith))
+          ap (λ front. import_table (first ∷ front)) (take_all most rows (omega arith))
       | inr long ↦
           let cut : nat_le (length (take most rows)) 500 ≡ false = grind (arith, nat_tests, length-take most rows) in
           both_none (is_header first) _ _ _ _ cut long
@@ -71,7 +71,7 @@ found_serials table = all_of-map with_serial found_row table
 
 -- the table under a header
 pub table_under : (first : List (List ℕ)) (rows : List (List (List ℕ))) → is_header first ≡ true → length rows ≤ 500
-    → table_of (first ∷ rows) ≡ all_of fields_of_row rows
+    → import_table (first ∷ rows) ≡ all_of fields_of_row rows
 table_under first rows is few =
     let fits : nat_le (length rows) 500 ≡ true = le-leb (length rows) 500 few in
     rw (is, fits) refl

@@ -27,14 +27,14 @@ abbrev pub fields_of_row : List (List ℕ) → Option (List ℕ × List ℕ)
 fields_of_row fields = two_fields fields >>= (λ pair. option_map (λ key. (pair.0, key)) (digest_of_text pair.1))
 
 -- the rows under the header, each a row of two fields, and at most 500 of them
-abbrev pub table_of : List (List (List ℕ)) → Option (List (List ℕ × List ℕ))
-table_of [] = None
-table_of (first ∷ rows) = if is_header first && nat_le (length rows) 500 then all_of fields_of_row rows else None
+abbrev pub import_table : List (List (List ℕ)) → Option (List (List ℕ × List ℕ))
+import_table [] = None
+import_table (first ∷ rows) = if is_header first && nat_le (length rows) 500 then all_of fields_of_row rows else None
 
 -- the row with its serial number, where its first field is one
 abbrev pub row_with_serial : List ℕ × List ℕ → Option ImportRow
 row_with_serial row = option_map (λ serial. record { serial = serial; key = row.1 }) (serial_of_text row.0)
 
 -- the rows of a text: nothing where it is no import, and none of its rows where the first field of one is no serial number
-unfoldable pub rows_of : List ℕ → Option (Option (List ImportRow))
-rows_of text = option_map (all_of row_with_serial) (table_of (records default_config (strip_bom text)))
+unfoldable pub import_rows_of : List ℕ → Option (Option (List ImportRow))
+import_rows_of text = option_map (all_of row_with_serial) (import_table (records default_config (strip_bom text)))

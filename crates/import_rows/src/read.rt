@@ -4,8 +4,8 @@ ghost use Rattle.csv.specs.Records.{fields_of};
 ghost use Rattle.text_core.specs.Digest.{digest_of_text};
 ghost use Rattle.text_core.specs.Options.{all_of};
 ghost use Rattle.text_core.specs.Serial.{serial_of_text};
-ghost use Rattle.import_rows.specs.Rows.{fields_of_row, is_header, row_with_serial, rows_of};
-ghost use Rattle.import_rows.specs.Rows.{table_of, two_fields};
+ghost use Rattle.import_rows.specs.Rows.{fields_of_row, is_header, row_with_serial, import_rows_of};
+ghost use Rattle.import_rows.specs.Rows.{import_table, two_fields};
 ghost use Rattle.import_rows.specs.Found.{found_row, with_serial};
 
 use crate::records::first_records;
@@ -29,7 +29,7 @@ struct FoundRow {
 /// The rows of an import's text. `Ok(None)`: it is no import. `Ok(Some(None))`: it is one, and one
 /// of its serial numbers is not of its form. Err: memory ran out.
 pub fn read_rows(alloc: Global, text: &str) -> Result<Option<Option<ImportRows>>, AllocError>
-    ensures { IfOk result (λ found. found ≡ rows_of text.now) }
+    ensures { IfOk result (λ found. found ≡ import_rows_of text.now) }
 {
     // The header, and one row more than there may be.
     let records = first_records(alloc, text.as_bytes(), 2 + ROW_LIMIT)?;
@@ -42,7 +42,7 @@ fn read_records(
     records: &[ByteRecord],
 ) -> Result<Option<Option<ImportRows>>, AllocError>
     ensures { IfOk result (λ found. found ≡ option_map (all_of row_with_serial)
-        (table_of (map fields_of records.now))) }
+        (import_table (map fields_of records.now))) }
 {
     let Some((first, rows)) = records.split_first() else {
         return Ok(None);

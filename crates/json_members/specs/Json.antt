@@ -20,13 +20,13 @@ abbrev pub json_read : List ℕ → Result Data JsonFault
 json_read body = ok_or (json_of body) NotJson
 
 -- a number of a range
-abbrev pub within : ℕ → ℕ → ℕ → Option ℕ
-within least greatest n = if nat_le least n && nat_le n greatest then Some n else None
+abbrev pub number_within : ℕ → ℕ → ℕ → Option ℕ
+number_within least greatest n = if nat_le least n && nat_le n greatest then Some n else None
 
 -- a member that is a number with no sign, fraction or exponent, of a range below 2 to the power of 64
 abbrev pub whole_member : List ℕ → ℕ → ℕ → Data → Option ℕ
 whole_member name least greatest d =
-    option_and_then (within least greatest) (option_and_then as_u64 (option_and_then as_number (get name d)))
+    option_and_then (number_within least greatest) (option_and_then as_u64 (option_and_then as_number (get name d)))
 
 -- a member that is a text
 abbrev pub text_member : List ℕ → Data → Option (List ℕ)

@@ -6,7 +6,7 @@ ghost use Rattle.serde_json.specs.Data.{Data};
 ghost use Rattle.serde_json.specs.View.{view};
 ghost use Rattle.text_core.specs.Answer.{GivesUnless, result_map};
 ghost use Rattle.text_core.specs.Options.{all_of};
-ghost use Rattle.text_core.specs.Readers.{Reads, ReadsOrFails};
+ghost use Rattle.text_core.specs.Readers.{ReadsItems, ReadsOrFails};
 ghost use Rattle.json_members.specs.Json as json;
 ghost use Rattle.json_members.specs.Json.{json_read};
 ghost use Rattle.json_members.specs.declared.JsonFault.TheVariants.{OutOfMemory};
@@ -136,7 +136,7 @@ pub fn read_all<T: Drop, F: Fn(&Value) -> Option<T>>(
     read: F,
 ) -> Result<Option<Vec<T>>, AllocError>
     requires { F.IsAlwaysCallable read }
-    ensures { (item_in : Data → Option T) → Reads F.Fn read (λ value. item_in (view value))
+    ensures { (item_in : Data → Option T) → ReadsItems F.Fn read (λ value. item_in (view value))
         → IfOk result (λ found. option_map (λ items. items.items) found
         ≡ all_of item_in (map view values.now)) }
 {

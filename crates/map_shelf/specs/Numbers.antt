@@ -5,9 +5,9 @@ use Rattle.map_shelf.specs.declared.numbered.NumberedMap.{NumberedMap}
 use Rattle.map_shelf.specs.declared.numbered.NumberShelf.{NumberShelf}
 
 -- the map is that of its number
-abbrev pub IsNumbered : (ℕ → Option Map) → NumberedMap → Type 0
-IsNumbered map_of one = map_of one.id ≡ Some one.map
+abbrev pub IsMapOfNumber : (ℕ → Option Map) → NumberedMap → Type 0
+IsMapOfNumber map_of one = map_of one.id ≡ Some one.map
 
 -- each map that is kept is that of its number
-abbrev pub AreNumbered : (ℕ → Option Map) → NumberShelf → Type 0
-AreNumbered map_of s = All (IsNumbered map_of) s.kept.items
+abbrev pub AreMapsOfNumbers : (ℕ → Option Map) → NumberShelf → Type 0
+AreMapsOfNumbers map_of s = All (IsMapOfNumber map_of) s.kept.items

@@ -1,7 +1,7 @@
 // The maps that are kept by number.
 ghost use Rattle.std.specs.Prelude.{◌≡◌, ℕ, Option, Some, IfSome, nat_eq, position};
 ghost use Rattle.fusemap_core.specs.Map.{Map};
-ghost use Rattle.map_shelf.specs.Numbers.{AreNumbered, IsNumbered};
+ghost use Rattle.map_shelf.specs.Numbers.{AreMapsOfNumbers, IsMapOfNumber};
 
 use crate::shelf::KEPT_LIMIT;
 use fusemap_core::FuseMap;
@@ -25,7 +25,7 @@ pub struct NumberShelf {
 impl NumberShelf {
     /// A shelf with no map. This takes no memory.
     pub fn new(alloc: Global) -> NumberShelf
-        ensures { (map_of : ℕ → Option Map) → AreNumbered map_of result }
+        ensures { (map_of : ℕ → Option Map) → AreMapsOfNumbers map_of result }
     {
         NumberShelf {
             kept: Vec::new(alloc),
@@ -34,10 +34,10 @@ impl NumberShelf {
 
     /// The fuse map of a number. There is none where it isn't kept, or where memory ran out for it.
     pub fn find(&mut self, id: u64) -> Option<FuseMap>
-        ensures found { (map_of : ℕ → Option Map) → AreNumbered map_of self.old
+        ensures found { (map_of : ℕ → Option Map) → AreMapsOfNumbers map_of self.old
             → IfSome result (λ map. map_of id ≡ Some map) }
-        ensures kept { (map_of : ℕ → Option Map) → AreNumbered map_of self.old
-            → AreNumbered map_of self.new }
+        ensures right { (map_of : ℕ → Option Map) → AreMapsOfNumbers map_of self.old
+            → AreMapsOfNumbers map_of self.new }
     {
         let one = self.take(id)?;
         let map = one.map.copy().ok();
@@ -47,8 +47,9 @@ impl NumberShelf {
 
     /// Keeps the fuse map of a number, if there is memory for it.
     pub fn keep(&mut self, id: u64, map: &FuseMap)
-        ensures { (map_of : ℕ → Option Map) → AreNumbered map_of self.old → map_of id ≡ Some map.now
-            → AreNumbered map_of self.new }
+        ensures { (map_of : ℕ → Option Map) → AreMapsOfNumbers map_of self.old
+            → map_of id ≡ Some map.now
+            → AreMapsOfNumbers map_of self.new }
     {
         if let Ok(map) = map.copy() {
             self.put_first(NumberedMap { id, map });
@@ -58,10 +59,10 @@ impl NumberShelf {
     /// Takes the map of a number out, where it is kept.
     fn take(&mut self, id: u64) -> Option<NumberedMap>
         ensures number { IfSome result (λ one. one.id ≡ id) }
-        ensures taken { (map_of : ℕ → Option Map) → AreNumbered map_of self.old
-            → IfSome result (IsNumbered map_of) }
-        ensures kept { (map_of : ℕ → Option Map) → AreNumbered map_of self.old
-            → AreNumbered map_of self.new }
+        ensures taken { (map_of : ℕ → Option Map) → AreMapsOfNumbers map_of self.old
+            → IfSome result (IsMapOfNumber map_of) }
+        ensures right { (map_of : ℕ → Option Map) → AreMapsOfNumbers map_of self.old
+            → AreMapsOfNumbers map_of self.new }
     {
         let place = place_of(self.kept.as_slice(), id)?;
         Some(self.kept.remove(place))
@@ -70,8 +71,9 @@ impl NumberShelf {
     /// Keeps a map before all others, and no more of them than the limit. Where there is no memory
     /// for it, it isn't kept.
     fn put_first(&mut self, one: NumberedMap)
-        ensures { (map_of : ℕ → Option Map) → AreNumbered map_of self.old → IsNumbered map_of one
-            → AreNumbered map_of self.new }
+        ensures { (map_of : ℕ → Option Map) → AreMapsOfNumbers map_of self.old
+            → IsMapOfNumber map_of one
+            → AreMapsOfNumbers map_of self.new }
     {
         self.kept.truncate(KEPT_LIMIT - 1);
         let _unkept = self.kept.insert(0, one);

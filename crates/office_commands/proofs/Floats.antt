@@ -10,8 +10,8 @@ use Rattle.fusemap_core.specs.Map.{Map}
 use Rattle.fuse_image.specs.declared.image.Image.{Image}
 use Rattle.fuse_image.specs.Keys.{KeyTable}
 use Rattle.fuse_image.specs.Places.{Positions}
-use Rattle.fuse_image.specs.Words.{words_of}
-use Rattle.fuse_columns.specs.declared.todo.Work.{Work}
+use Rattle.fuse_image.specs.Words.{words_of_set}
+use Rattle.fuse_columns.specs.declared.todo.Pending.{Pending}
 use Rattle.office_tables.specs.Quarantine.{reason_of}
 use Rattle.office_tables.specs.declared.rows.Device.{Device}
 use Rattle.office_tables.specs.declared.rows.DeviceState.{DeviceState}
@@ -21,7 +21,8 @@ use Rattle.office_tables.specs.declared.rows.Reason.{Reason}
 use Rattle.office_tables.specs.declared.rows.Reason.TheVariants.{Lost, Stray, Key}
 use Rattle.office_commands.specs.Replies.{text_data}
 use Rattle.office_commands.specs.StepReplies.{outcome_data, plan_data}
-use Rattle.office_commands.specs.DeviceReplies.{items_of, word_data, word_list, bits_data, key_at, with_digest, with_keys, keys_data, work_data, reason_data}
+use Rattle.office_commands.specs.DeviceReplies.{items_of, word_data, word_list, bits_data, key_at, with_digest, with_key_members, keys_data}
+use Rattle.office_commands.specs.DeviceReplies.{batch_data, reason_data}
 use Rattle.office_commands.specs.DeviceReplies.{device_data, entry_by, entry_data, fields_of, image_by, ledger_data}
 
 in_words_shown : (is_zero : Bool) (d : Data) (ds : List Data) → has_float d ≡ false → items_have_float (items_of ds) ≡ false
@@ -34,7 +35,7 @@ in_words place [] = refl
 in_words place (word ∷ words) = in_words_shown (word == 0) (word_data place word) (word_list (suc place) words) refl (in_words (suc place) words)
 
 in_bits : (bits : Positions) → has_float (bits_data bits) ≡ false
-in_bits bits = in_words 0 (words_of bits)
+in_bits bits = in_words 0 (words_of_set bits)
 
 in_put_at : (o : Ordering) (k l : List ℕ) (d e : Data) (ms : Members) → has_float d ≡ false → has_float e ≡ false → members_have_float ms ≡ false
     → members_have_float (put k d ms) ≡ false
@@ -53,14 +54,15 @@ in_digest : (name : List ℕ) (digest : Option (List ℕ)) (ms : Members) → me
 in_digest name None ms others = others
 in_digest name (Some digest) ms others = in_put name _ ms refl others
 
-in_fields : (keys : KeyTable) (fields : List Field) (ms : Members) → members_have_float ms ≡ false → members_have_float (with_keys keys fields ms) ≡ false
+in_fields : (keys : KeyTable) (fields : List Field) (ms : Members) → members_have_float ms ≡ false
+    → members_have_float (with_key_members keys fields ms) ≡ false
 in_fields keys [] ms others = others
 in_fields keys (f ∷ fs) ms others = in_fields keys fs (with_digest f.name (key_at f keys) ms) (in_digest f.name (key_at f keys) ms others)
 
 in_keys : (fields : List Field) (keys : KeyTable) → has_float (keys_data fields keys) ≡ false
 in_keys fields keys = in_fields keys fields no_members refl
 
-in_work : (fields : List Field) (bits : Positions) (keys : KeyTable) → has_float (work_data fields bits keys) ≡ false
+in_work : (fields : List Field) (bits : Positions) (keys : KeyTable) → has_float (batch_data fields bits keys) ≡ false
 in_work fields bits keys = or_from _ _ (in_bits bits) (or_from _ _ (in_keys fields keys) refl)
 
 in_reason : (reason : Option Reason) → has_float (reason_data reason) ≡ false
@@ -73,7 +75,7 @@ in_text : (text : Option (List ℕ)) → has_float (text_data text) ≡ false
 in_text None = refl
 in_text (Some text) = refl
 
-pub in_device : (fields : List Field) (burnt : Image) (pending : Work) (d : Device) → has_float (device_data fields burnt pending d) ≡ false
+pub in_device : (fields : List Field) (burnt : Image) (pending : Pending) (d : Device) → has_float (device_data fields burnt pending d) ≡ false
 in_device fields burnt pending d =
     or_from _ _ (in_bits burnt.burnt)
     (or_from _ _ (in_keys fields burnt.keys)
@@ -90,7 +92,7 @@ in_entries m (e ∷ es) = or_from _ _ (in_entry (fields_of m) (image_by m e.bits
 pub in_ledger : (m : Option Map) (chip : List ℕ) (entries : List NewEntry) → has_float (ledger_data m chip entries) ≡ false
 in_ledger m chip entries = or_from _ _ (in_entries m entries) refl
 
-pub in_plan : (fields : List Field) (work : Work) (state : DeviceState) → has_float (plan_data fields work state) ≡ false
+pub in_plan : (fields : List Field) (work : Pending) (state : DeviceState) → has_float (plan_data fields work state) ≡ false
 in_plan fields work state = or_from _ _ (in_work fields work.first work.keys) (or_from _ _ (in_work fields work.second table.empty) refl)
 
 pub in_outcome : (fields : List Field) (outcome : Outcome) (rest : Image) (state : DeviceState) → has_float (outcome_data fields outcome rest state) ≡ false

@@ -5,7 +5,7 @@ use Rattle.std.specs.Fmt.{digits}
 use Rattle.fuse_plan.specs.declared.fault.PlanFault.{PlanFault}
 use Rattle.fuse_plan.specs.declared.fault.PlanFault.TheVariants.{UnknownField, UnmappedBit, ValueTooWide, ClearsBurnt, Contradiction, WrongKind, OtherKey}
 use Rattle.fuse_plan.specs.declared.fault.PlanFault.TheVariants.{WriteProtected, Hidden, NoLock}
-use Rattle.fuse_plan.specs.Plans.{fault_number}
+use Rattle.fuse_plan.specs.Plans.{plan_fault_number}
 use Rattle.office_commands.specs.declared.refusal.Refusal.{Refusal}
 use Rattle.office_commands.specs.declared.refusal.Refusal.TheVariants.{UnknownToken, UnknownPath, WrongCaller, BadJson, BadMember, WrongNumber, OtherBody}
 use Rattle.office_commands.specs.declared.refusal.Refusal.TheVariants.{UnknownMap, UnknownOrder, UnknownDevice, Exists, WrongState, QuantityReached, BadPlan}
@@ -22,7 +22,7 @@ ends_with body front number told = record { front = front; next = 125; rest = []
 joined : (first number comma last : List ℕ) → first ++ (number ++ (comma ++ last)) ≡ (first ++ (number ++ comma)) ++ last
 joined first number comma last = sym (append_assoc first (number ++ comma) last ∙ ap (λ (text : List ℕ). first ++ text) (append_assoc number comma last))
 
-plan_told : (fault : PlanFault) → TellsNumber (plan_fault_body fault) (18 + fault_number fault)
+plan_told : (fault : PlanFault) → TellsNumber (plan_fault_body fault) (18 + plan_fault_number fault)
 unfolding digits
 plan_told UnknownField = ends_with (plan_fault_body UnknownField) (codes "{\"error\":\"unknown_field\",") 19 refl
 plan_told UnmappedBit = ends_with (plan_fault_body UnmappedBit) (codes "{\"error\":\"unmapped_bit\",") 20 refl

@@ -2,7 +2,7 @@
 use Rattle.std.specs.Prelude.{◌≡◌, ◌⊎◌, ◌+◌, ℕ, List, ◌++◌, ◌∷◌, codes, decimal}
 use Rattle.http_replies.specs.declared.Status.{Status}
 use Rattle.http_replies.specs.declared.Status.TheVariants.{BadRequest, Unauthorized, Forbidden, NotFound, Conflict, Unprocessable, Unavailable}
-use Rattle.fuse_plan.specs.Plans.{fault_number}
+use Rattle.fuse_plan.specs.Plans.{plan_fault_number}
 use Rattle.fuse_plan.specs.declared.fault.PlanFault.{PlanFault}
 use Rattle.fuse_plan.specs.declared.fault.PlanFault.TheVariants.{UnknownField, UnmappedBit, ValueTooWide, ClearsBurnt, Contradiction, WrongKind, OtherKey}
 use Rattle.fuse_plan.specs.declared.fault.PlanFault.TheVariants.{WriteProtected, Hidden, NoLock}
@@ -28,7 +28,7 @@ refusal_number UnknownDevice = 15
 refusal_number Exists = 16
 refusal_number WrongState = 17
 refusal_number QuantityReached = 18
-refusal_number (BadPlan fault) = 18 + fault_number fault
+refusal_number (BadPlan fault) = 18 + plan_fault_number fault
 refusal_number (BadMap fault) = 29
 refusal_number BadSerial = 30
 refusal_number NumberTooWide = 31

@@ -59,7 +59,7 @@ pub struct Request {
 impl Request {
     /// The numbers of what is asked for are within their ranges. Nothing happens: it is what is known
     /// of each request by its types.
-    pub fn ranges(&self)
+    pub fn assert_in_range(&self)
         ensures asked { IsAsked self.now }
         ensures number { IsRequestNumber self.now.number }
     {

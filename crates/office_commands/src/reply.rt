@@ -1,7 +1,7 @@
 // What a seat is answered.
 ghost use Rattle.std.specs.Prelude.{◌≡◌, IfOk, option_map, string_bytes};
 ghost use Rattle.serde_json.specs.View.{view};
-ghost use Rattle.http_replies.specs.Replies.{answer_of, bytes_of, kind_of};
+ghost use Rattle.http_replies.specs.Replies.{answer_of, bytes_of_body, kind_of_body};
 ghost use Rattle.http_replies.specs.declared.Kind.{Kind};
 ghost use Rattle.office_commands.specs.Refusals.{plan_fault_body, refusal_body};
 ghost use Rattle.office_commands.specs.Replies.{acceptance, refusal, text_data, mac_data};
@@ -78,8 +78,8 @@ fn plan_fault_text(fault: PlanFault) -> &'static str
 }
 
 fn refusal_text(alloc: Global, reason: Refusal) -> Result<Body, AllocError>
-    ensures kind { IfOk result (λ body. kind_of body ≡ Kind.Json) }
-    ensures text { IfOk result (λ body. bytes_of body ≡ refusal_body reason) }
+    ensures kind { IfOk result (λ body. kind_of_body body ≡ Kind.Json) }
+    ensures text { IfOk result (λ body. bytes_of_body body ≡ refusal_body reason) }
 {
     Ok(Body::Constant(match reason {
         Refusal::UnknownToken => "{\"error\":\"unknown_token\",\"no\":6}",

@@ -5,8 +5,8 @@ ghost use Rattle.fusemap_core.specs.Map.{IsSmall};
 ghost use Rattle.office_commands.specs.StepReplies as replies;
 ghost use Rattle.office_commands.specs.StepReplies.{outcome_data, plan_data};
 
-use crate::device_reply::work_value;
-use fuse_columns::Work;
+use crate::device_reply::batch_value;
+use fuse_columns::Pending;
 use fuse_image::{Image, Keys};
 use fusemap_core::{Field, FuseMap};
 use office_tables::{DeviceState, Outcome};
@@ -16,14 +16,14 @@ use std::alloc::{AllocError, Global};
 fn plan_value(
     alloc: Global,
     fields: &[Field],
-    work: &Work,
+    work: &Pending,
     state: DeviceState,
 ) -> Result<Value, AllocError>
     requires { All IsSmall fields.now }
     ensures { IfOk result (λ v. view v ≡ plan_data fields.now work.now state) }
 {
-    let first = work_value(alloc, fields, &work.first, &work.keys)?;
-    let second = work_value(alloc, fields, &work.second, &Keys::empty())?;
+    let first = batch_value(alloc, fields, &work.first, &work.keys)?;
+    let second = batch_value(alloc, fields, &work.second, &Keys::empty())?;
     json!(in alloc; { "batch1": first, "batch2": second, "state": state.text() })
 }
 
@@ -32,7 +32,7 @@ fn plan_value(
 pub fn plan_body(
     alloc: Global,
     map: &FuseMap,
-    work: &Work,
+    work: &Pending,
     state: DeviceState,
 ) -> Result<String, AllocError>
     ensures { IfOk result (λ body. string_bytes body ≡ replies.plan_body map.now work.now state) }
@@ -50,7 +50,7 @@ fn outcome_value(
     requires { All IsSmall fields.now }
     ensures { IfOk result (λ v. view v ≡ outcome_data fields.now outcome rest.now state) }
 {
-    let rest = work_value(alloc, fields, &rest.burnt, &rest.keys)?;
+    let rest = batch_value(alloc, fields, &rest.burnt, &rest.keys)?;
     json!(in alloc; { "outcome": outcome.text(), "rest": rest, "state": state.text() })
 }
 

@@ -7,7 +7,7 @@ use Rattle.std.proofs.lemmas.List.{append-nil, length-append, length-map}
 use Rattle.http_replies.specs.Replies.{answer_of}
 use Rattle.http_replies.specs.declared.Reply.{Reply}
 use Rattle.http_replies.proofs.RunLemmas.{runs_both}
-use Rattle.site_core.specs.Owners.{Owners, owners_of}
+use Rattle.site_core.specs.Ownership.{Ownership, ownership_of}
 use Rattle.site_core.specs.Site.{IsSite}
 use Rattle.site_core.proofs.Kept.{owners_grown}
 use Rattle.office_tables.specs.Tables.{Tables}
@@ -18,7 +18,7 @@ use Rattle.office_runs.proofs.Grown.{growth_itself}
 use Rattle.office_runs.proofs.Leaving.{leaves_joined}
 use Rattle.office_runs.proofs.Seats.{IsSeatOf}
 use Rattle.office_runs.proofs.Stopping.{seats_grown}
-use Rattle.office_core.specs.Replaying.{Answered, AreGrown, BeginGrown, call_of, calls_in, calls_of_parts, last_of, sites_of}
+use Rattle.office_core.specs.Replaying.{Answered, AreGrown, BeginGrown, call_of, calls_in, calls_of_parts, last_owners, sites_of}
 use Rattle.office_core.specs.declared.requests.Part.{Part}
 
 -- the calls of one part more
@@ -35,7 +35,9 @@ pub left_over : (parts : List Part) (i : ℕ) (part : Part) → i < length parts
     → length (calls_of_parts (drop i parts))
     ≡ length part.requests.now + length (calls_of_parts (drop (i + 1) parts))
 left_over parts i part low is =
-    let first : calls_of_parts (drop i parts) ≡ calls_in part.site.now part.requests.now ++ calls_of_parts (drop (i + 1) parts) = rw (add-one, drop-cons parts i part low, ← is) refl in
+    let first : calls_of_parts (drop i parts) ≡ calls_in part.site.now part.requests.now
+    ++ calls_of_parts (drop (i + 1) parts) =
+    rw (add-one, drop-cons parts i part low, ← is) refl in
     ap length first ∙ (length-append (calls_in part.site.now part.requests.now) (calls_of_parts (drop (i + 1) parts))
     ∙ ap (λ n. n + length (calls_of_parts (drop (i + 1) parts))) (length-map part.requests.now (call_of part.site.now)))
 
@@ -62,7 +64,7 @@ answered_joined k a b c xs ys t mid t2 one two = record {
 -- the callers of a part are seats of its site
 pub record HasSeats (part : Part) : Type 0 where
   pub site : IsSite part.site.now
-  pub seats : AllByRecursion (IsSeatOf (owners_of part.site.now)) (calls_in part.site.now part.requests.now)
+  pub seats : AllByRecursion (IsSeatOf (ownership_of part.site.now)) (calls_in part.site.now part.requests.now)
 
 pub has_seats_more : (parts : List Part) (part : Part) → AllByRecursion HasSeats parts
     → HasSeats part → AllByRecursion HasSeats (parts ++ part ∷ [])
@@ -70,7 +72,7 @@ has_seats_more [] part all is = (is, tt)
 has_seats_more (p ∷ ps) part all is = (all.0, has_seats_more ps part all.1 is)
 
 -- calls of a site's seats, before others
-before_others : (site : Owners) (cs ds : List Call) (last : Owners)
+before_others : (site : Ownership) (cs ds : List Call) (last : Ownership)
     → AllByRecursion (IsSeatOf site) cs → AreSeats site ds last → AreSeats site (cs ++ ds) last
 before_others site [] ds last all later = later
 before_others site (c ∷ cs) ds last all later =
@@ -79,19 +81,19 @@ before_others site (c ∷ cs) ds last all later =
 -- where each site grew from the one before it, the next one grew from the first
 next_grown : (part : Part) (parts : List Part) → AreGrown (sites_of (part ∷ parts))
     → AllByRecursion HasSeats parts
-    → AreGrown (sites_of parts) × BeginGrown (owners_of part.site.now) (sites_of parts)
+    → AreGrown (sites_of parts) × BeginGrown (ownership_of part.site.now) (sites_of parts)
 next_grown part [] grown all = (tt, tt)
 next_grown part (p ∷ ps) grown all =
     (grown.1, owners_grown part.site.now p.site.now all.0.site grown.0)
 
 -- the callers of all parts are seats of the sites as they grew
-pub seats_of_parts : (first : Owners) (parts : List Part) → AreGrown (sites_of parts)
+pub seats_of_parts : (first : Ownership) (parts : List Part) → AreGrown (sites_of parts)
     → AllByRecursion HasSeats parts → BeginGrown first (sites_of parts)
-    → AreSeats first (calls_of_parts parts) (last_of first (sites_of parts))
+    → AreSeats first (calls_of_parts parts) (last_owners first (sites_of parts))
 seats_of_parts first [] grown all begun = growth_itself first
 seats_of_parts first (p ∷ ps) grown all begun =
-    let site = owners_of p.site.now in
-    let last = last_of site (sites_of ps) in
+    let site = ownership_of p.site.now in
+    let last = last_owners site (sites_of ps) in
     let next = next_grown p ps grown all.1 in
     let calls = calls_in p.site.now p.requests.now in
     seats_grown first site begun (calls ++ calls_of_parts ps) last

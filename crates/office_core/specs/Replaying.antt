@@ -3,9 +3,9 @@ use Rattle.std.specs.Prelude.{List, [], ◌∷◌, map, zip}
 use Rattle.std.specs.List.{flat_map}
 use Rattle.http_replies.specs.Replies.{answer_of}
 use Rattle.http_replies.specs.declared.Reply.{Reply}
-use Rattle.site_core.specs.Caller.{section_at, seat_at}
+use Rattle.site_core.specs.Caller.{section_at, seat_name_at}
 use Rattle.site_core.specs.Growth.{IsGrowth}
-use Rattle.site_core.specs.Owners.{Owners, OwnersGrow, owners_of}
+use Rattle.site_core.specs.Ownership.{Ownership, OwnershipGrows, ownership_of}
 use Rattle.site_core.specs.Section.{SiteValue}
 use Rattle.office_tables.specs.Keeping.{Stands}
 use Rattle.office_tables.specs.Tables.{Tables}
@@ -19,7 +19,7 @@ use Rattle.office_core.specs.declared.requests.SeatRequest.{SeatRequest}
 
 -- the call of a request, with the site's section of its customer
 abbrev pub call_of : SiteValue → SeatRequest → Call
-call_of site asked = record { section = section_at site asked.caller; seat = seat_at site asked.caller; wanted = asks asked.request }
+call_of site asked = record { section = section_at site asked.caller; seat = seat_name_at site asked.caller; wanted = asks asked.request }
 
 -- the calls of requests, in turn
 abbrev pub calls_in : SiteValue → List SeatRequest → List Call
@@ -36,14 +36,14 @@ AreGrown (site ∷ []) = Unit {0}
 AreGrown (site ∷ next ∷ sites) = IsGrowth site next × AreGrown (next ∷ sites)
 
 -- the owners of the first of them, if there is one, grew from these
-abbrev pub BeginGrown : Owners → List SiteValue → Type 0
+abbrev pub BeginGrown : Ownership → List SiteValue → Type 0
 BeginGrown first [] = Unit {0}
-BeginGrown first (site ∷ sites) = OwnersGrow first (owners_of site)
+BeginGrown first (site ∷ sites) = OwnershipGrows first (ownership_of site)
 
 -- the owners of the last of them, or these where there is none
-abbrev pub last_of : Owners → List SiteValue → Owners
-last_of first [] = first
-last_of first (site ∷ sites) = last_of (owners_of site) sites
+abbrev pub last_owners : Ownership → List SiteValue → Ownership
+last_owners first [] = first
+last_owners first (site ∷ sites) = last_owners (ownership_of site) sites
 
 -- these exchanges lead from the tables that stood to those that stand, and a crash after them leaves what a stop may leave
 pub record Answered {K : Type 0} (k : Ghosts K) (old new : K) (xs : List Exchange) (t t2 : Tables) : Type 0 where
@@ -51,12 +51,13 @@ pub record Answered {K : Type 0} (k : Ghosts K) (old new : K) (xs : List Exchang
   pub crash : LeavesAfter xs (k.may_leave old) t (k.may_leave new) t2
   pub stands : Stands k.is_open k.tables new t2
 
--- so they do where the store is honest after them; and from tables that are sound for owners from which those of the first site grew, all is kept that is promised of a run
+-- so they do where the store is honest after them; and from tables that are sound for owners from
+-- which those of the first site grew, all is kept that is promised of a run
 abbrev pub KeepsPromises : {K : Type 0} → Ghosts K → List SiteValue → K → K → List Exchange → Type 0
 KeepsPromises k sites old new xs =
     k.is_honest new → (t : Tables) → Stands k.is_open k.tables old t
     → (t2 : Tables) × Answered k old new xs t t2
-    × ((first : Owners) → BeginGrown first sites → IsSound first t → Promises (last_of first sites) xs t t2)
+    × ((first : Ownership) → BeginGrown first sites → IsSound first t → Promises (last_owners first sites) xs t t2)
 
 -- the sites of parts, in turn
 abbrev pub sites_of : List Part → List SiteValue

@@ -4,12 +4,13 @@ ghost use Rattle.std.specs.List.{AllByRecursion};
 ghost use Rattle.std.specs.Vec.{vec_capacity, vec_len};
 ghost use Rattle.http_replies.specs.declared.Reply.{Reply as AReply};
 ghost use Rattle.site_core.specs.Caller.{IsSeatCaller};
-ghost use Rattle.site_core.specs.Owners.{AreApart, Owners, owners_of};
+ghost use Rattle.site_core.specs.Ownership.{PoolsDisjoint, Ownership, ownership_of};
 ghost use Rattle.site_core.specs.Site.{IsSite};
 ghost use Rattle.office_tables.specs.Keeping.{Stands};
 ghost use Rattle.office_tables.specs.Tables.{Tables};
 ghost use Rattle.office_runs.specs.Growth.{AreSeats, IsSeat};
-ghost use Rattle.office_core.specs.Replaying.{Answered, AreGrown, BeginGrown, KeepsPromises, call_of, calls_in, calls_of_parts, exchanges_in, exchanges_of_parts, last_of, sites_of};
+ghost use Rattle.office_core.specs.Replaying.{Answered, AreGrown, BeginGrown, KeepsPromises, call_of, calls_in, calls_of_parts, exchanges_in};
+ghost use Rattle.office_core.specs.Replaying.{exchanges_of_parts, last_owners, sites_of};
 
 use crate::office::answer;
 use http_replies::Reply;
@@ -35,10 +36,10 @@ pub struct Part<'a> {
 /// The caller is a seat of the site, and asks for what a seat can ask for.
 fn seat_asks(site: &Site, asked: &SeatRequest)
     requires { IsSeatCaller site.now asked.now.caller }
-    ensures apart { AreApart (owners_of site.now) }
-    ensures seat { IsSeat (owners_of site.now) (call_of site.now asked.now) }
+    ensures apart { PoolsDisjoint (ownership_of site.now) }
+    ensures seat { IsSeat (ownership_of site.now) (call_of site.now asked.now) }
 {
-    asked.request.ranges();
+    asked.request.assert_in_range();
     let _customer = site.customer(asked.caller);
 }
 
@@ -58,7 +59,8 @@ fn answer_all<K: Keep>(
     ensures site { IsSite site.now }
     ensures was_open { K.is_open keep.new → K.is_open keep.old }
     ensures was_honest { K.is_honest keep.new → K.is_honest keep.old }
-    ensures seats { AllByRecursion (λ c. AreApart (owners_of site.now) × IsSeat (owners_of site.now) c)
+    ensures seats { AllByRecursion (λ c. PoolsDisjoint (ownership_of site.now)
+        × IsSeat (ownership_of site.now) c)
         (calls_in site.now requests.now) }
     ensures run { (added : List AReply)
         × (replies.new.items ≡ replies.old.items ++ added)
@@ -96,9 +98,9 @@ pub fn replay<K: Keep>(
     ensures was_honest { K.is_honest keep.new → K.is_honest keep.old }
     ensures err { OnErr result (keep.new ≡ keep.old) }
     ensures count { IfOk result (λ replies. length replies.items ≡ length requests.now) }
-    ensures apart { IfOk result (λ _. AreApart (owners_of site.now)) }
+    ensures apart { IfOk result (λ _. PoolsDisjoint (ownership_of site.now)) }
     ensures seats { IfOk result (λ _.
-        AllByRecursion (IsSeat (owners_of site.now)) (calls_in site.now requests.now)) }
+        AllByRecursion (IsSeat (ownership_of site.now)) (calls_in site.now requests.now)) }
     ensures run { IfOk result (λ replies.
         KeepsPromises K.Keep (site.now ∷ []) keep.old keep.new
         (exchanges_in site.now requests.now replies.items)) }
@@ -139,8 +141,8 @@ pub fn replay_parts<K: Keep>(
     ensures err { OnErr result (keep.new ≡ keep.old) }
     ensures count { IfOk result (λ replies.
         length replies.items ≡ length (calls_of_parts parts.now)) }
-    ensures seats { IfOk result (λ _. (first : Owners) → BeginGrown first (sites_of parts.now)
-        → AreSeats first (calls_of_parts parts.now) (last_of first (sites_of parts.now))) }
+    ensures seats { IfOk result (λ _. (first : Ownership) → BeginGrown first (sites_of parts.now)
+        → AreSeats first (calls_of_parts parts.now) (last_owners first (sites_of parts.now))) }
     ensures run { IfOk result (λ replies.
         KeepsPromises K.Keep (sites_of parts.now) keep.old keep.new
         (exchanges_of_parts parts.now replies.items)) }

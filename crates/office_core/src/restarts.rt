@@ -1,13 +1,13 @@
 // What holds of a store that was stopped.
 ghost use Rattle.std.specs.Prelude.{◌++◌, List};
 ghost use Rattle.std.specs.List.{AllByRecursion};
-ghost use Rattle.site_core.specs.Owners.{AreApart, Owners, OwnersGrow};
+ghost use Rattle.site_core.specs.Ownership.{PoolsDisjoint, Ownership, OwnershipGrows};
 ghost use Rattle.office_tables.specs.Tables.{Tables};
 ghost use Rattle.office_laws.specs.Sound.{IsSound};
 ghost use Rattle.office_runs.specs.Exchanges.{Exchange, calls_of};
 ghost use Rattle.office_runs.specs.Growth.{IsSeat};
 ghost use Rattle.office_runs.specs.Promises.{Promises};
-ghost use Rattle.office_runs.specs.Stops.{IsLeft, IsUnsettled};
+ghost use Rattle.office_runs.specs.Stops.{IsLeft, IsUnanswered};
 ghost use Rattle.office_core.specs.Replaying.{Answered};
 ghost use Rattle.office_core.specs.Restarting.{IsLife};
 
@@ -20,13 +20,13 @@ use office_tables::Keep;
 /// promised of a run is promised of it: what was answered is there; a request that comes again, the one
 /// with that step too, acts once and gets the reply of its one execution; and nothing is given twice.
 pub fn stopped_stores_go_on<K: Keep, L: Keep>()
-    ensures { (site grown : Owners) (opened stopped : K) (again later : L)
+    ensures { (site grown : Ownership) (opened stopped : K) (again later : L)
         (xs ys : List Exchange) (t t2 left t3 : Tables)
-        → OwnersGrow site grown → AreApart site → AreApart grown
+        → OwnershipGrows site grown → PoolsDisjoint site → PoolsDisjoint grown
         → AllByRecursion (IsSeat site) (calls_of xs) → AllByRecursion (IsSeat grown) (calls_of ys)
         → IsLife K.Keep opened stopped xs t t2 left
         → Answered L.Keep again later ys left t3
-        → (more : List Exchange) × IsLeft (IsUnsettled xs) t2 more left
-        × ((first : Owners) → OwnersGrow first site → IsSound first t
+        → (more : List Exchange) × IsLeft (IsUnanswered xs) t2 more left
+        × ((first : Ownership) → OwnershipGrows first site → IsSound first t
         → Promises grown (xs ++ (more ++ ys)) t t3) }
 {}

@@ -1,16 +1,17 @@
 // Plans of devices.
 ghost use Rattle.std.specs.Prelude.{◌≡◌};
+ghost use Rattle.text_core.specs.Options.{first_that_holds};
 ghost use Rattle.fuse_columns.specs.TodoColumns.{todo_column};
-ghost use Rattle.fuse_columns.specs.Zeros.{no_work};
-ghost use Rattle.office_rules.specs.Lowest.{lowest, unless_refused};
-ghost use Rattle.office_rules.specs.Plan.{known_of, may_be_planned, plan_refusals, state_with, without_addition, work_of};
-ghost use Rattle.office_tables.specs.Reading.{Reading};
+ghost use Rattle.fuse_columns.specs.Zeros.{no_pending};
+ghost use Rattle.office_rules.specs.UnlessRefused.{unless_refused};
+ghost use Rattle.office_rules.specs.Plan.{known_of, may_be_planned, plan_refusals, state_of_pending, without_addition, pending_of_wishes};
+ghost use Rattle.office_tables.specs.Reading.{ReadsOnly};
 ghost use Rattle.office_judges.specs.Judging.{IsJudged};
 
 use crate::Judgement;
 use crate::placed_device::find_placed;
 use crate::steps::{accept_step, without_addition};
-use fuse_columns::{Work, decode_bits, decode_keys, encode_todo};
+use fuse_columns::{Pending, decode_bits, decode_keys, encode_todo};
 use fuse_image::{Bits, Image, Keys};
 use fuse_plan::{Wish, plan};
 use fusemap_core::FuseMap;
@@ -42,8 +43,8 @@ fn may_be_planned(state: DeviceState) -> bool
 }
 
 /// Where a device stands that has this work: an empty batch is skipped.
-pub(crate) fn state_with(work: &Work) -> DeviceState
-    ensures { result ≡ state_with work.now }
+pub(crate) fn state_of_pending(work: &Pending) -> DeviceState
+    ensures { result ≡ state_of_pending work.now }
 {
     if !(work.first.is_empty() && work.keys.is_empty()) {
         return DeviceState::AwaitingFirst;
@@ -56,10 +57,10 @@ pub(crate) fn state_with(work: &Work) -> DeviceState
 }
 
 /// Nothing is to be burnt.
-pub(crate) fn no_work() -> Work
-    ensures { result ≡ no_work }
+pub(crate) fn no_pending() -> Pending
+    ensures { result ≡ no_pending }
 {
-    Work {
+    Pending {
         first: Bits::empty(),
         second: Bits::empty(),
         keys: Keys::empty(),
@@ -67,14 +68,14 @@ pub(crate) fn no_work() -> Work
 }
 
 /// The step that gives a device its work.
-fn with_work(map: &FuseMap, device: &Device, work: &Work) -> DeviceStep
+fn with_work(map: &FuseMap, device: &Device, work: &Pending) -> DeviceStep
     ensures { result ≡ without_addition Event.Planned map.now (record device.now {
-      state = state_with work.now;
+      state = state_of_pending work.now;
       todo = todo_column map.now work.now;
     }) }
 {
     let device = Device {
-        state: state_with(work),
+        state: state_of_pending(work),
         todo: encode_todo(map, work),
         ..*device
     };
@@ -82,9 +83,10 @@ fn with_work(map: &FuseMap, device: &Device, work: &Work) -> DeviceStep
 }
 
 /// The work of some wishes, or the lowest refusal of them.
-fn judge_wishes(map: &FuseMap, device: &Device, wishes: &[Wish]) -> Result<Work, Refusal>
-    ensures { result ≡ unless_refused (lowest (plan_refusals wishes.now map.now device.now))
-        (work_of wishes.now map.now device.now) }
+fn judge_wishes(map: &FuseMap, device: &Device, wishes: &[Wish]) -> Result<Pending, Refusal>
+    ensures { result
+        ≡ unless_refused (first_that_holds (plan_refusals wishes.now map.now device.now))
+        (pending_of_wishes wishes.now map.now device.now) }
 {
     if !may_be_planned(device.state) {
         return Err(Refusal::WrongState);
@@ -105,7 +107,7 @@ pub(crate) fn judge_plan<K: Keep>(
     seat: &Name,
     plan: &NewPlan,
 ) -> Result<Judgement, Unkept>
-    ensures { Reading K.Keep keep.old keep.new result (λ t judgement.
+    ensures { ReadsOnly K.Keep keep.old keep.new result (λ t judgement.
         IsJudged customer.now seat.now t (Change.PlanDevice plan.now) judgement) }
 {
     let Some(found) = find_placed(keep, customer, &plan.chip)? else {
@@ -115,7 +117,7 @@ pub(crate) fn judge_plan<K: Keep>(
         Ok(work) => work,
         Err(refusal) => return Ok(Judgement::Refused(refusal)),
     };
-    let body = plan_body(alloc, &found.map, &work, state_with(&work))?;
+    let body = plan_body(alloc, &found.map, &work, state_of_pending(&work))?;
     let step = with_work(&found.map, &found.device, &work);
     let accepted = accept_step(alloc, keep, customer, seat, &step, body)?;
     Ok(Judgement::Accepted(accepted))

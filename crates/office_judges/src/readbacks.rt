@@ -1,22 +1,24 @@
 // Read-backs of devices.
 ghost use Rattle.std.specs.Prelude.{◌≡◌};
 ghost use Rattle.std.specs.FinSet as set;
+ghost use Rattle.text_core.specs.Options.{first_that_holds};
 ghost use Rattle.fuse_columns.specs.BitsColumns.{bits_column};
 ghost use Rattle.fuse_columns.specs.KeysColumns.{keys_column};
 ghost use Rattle.fuse_columns.specs.TodoColumns.{todo_column};
-ghost use Rattle.fuse_image.specs.Keys.{without};
-ghost use Rattle.fuse_redaction.specs.Redaction.{redacted};
+ghost use Rattle.fuse_image.specs.Keys.{keys_without};
+ghost use Rattle.fuse_image.specs.Redaction.{redacted};
 ghost use Rattle.fuse_plan.specs.Pending as pending;
-ghost use Rattle.office_tables.specs.Reading.{Reading};
-ghost use Rattle.office_rules.specs.Lowest.{lowest, unless_refused};
-ghost use Rattle.office_rules.specs.ReadBack.{batch_in, is_awaited, outcome_for, outcome_of, read_refusals, read_step, reason_for, state_after, verdict_on, with_rest, work_after};
+ghost use Rattle.office_tables.specs.Reading.{ReadsOnly};
+ghost use Rattle.office_rules.specs.UnlessRefused.{unless_refused};
+ghost use Rattle.office_rules.specs.ReadBack.{batch_in, is_awaited, outcome_for, outcome_of, read_back_refusals, read_step, reason_for, state_after};
+ghost use Rattle.office_rules.specs.ReadBack.{verdict_of_read_back, with_rest, pending_after};
 ghost use Rattle.office_judges.specs.Judging.{IsJudged};
 
 use crate::Judgement;
 use crate::placed_device::find_placed;
-use crate::plans::{known_of, no_work, state_with};
+use crate::plans::{known_of, no_pending, state_of_pending};
 use crate::steps::accept_step;
-use fuse_columns::{Work, decode_todo, encode_bits, encode_keys, encode_todo};
+use fuse_columns::{Pending, decode_todo, encode_bits, encode_keys, encode_todo};
 use fuse_image::{Bits, BlockWords, Image, Keys};
 use fuse_plan::{ChipFault, ReadBack, Verdict, compare, fits, redact};
 use fusemap_core::FuseMap;
@@ -39,7 +41,8 @@ fn is_awaited(state: DeviceState) -> bool
 
 /// What a read-back of a device shows, or the lowest refusal of it.
 fn judge_words(map: &FuseMap, device: &Device, words: &BlockWords) -> Result<ReadBack, Refusal>
-    ensures { result ≡ unless_refused (lowest (read_refusals words.now map.now device.now))
+    ensures { result
+        ≡ unless_refused (first_that_holds (read_back_refusals words.now map.now device.now))
         (redacted map.now words.now) }
 {
     if !is_awaited(device.state) {
@@ -52,7 +55,7 @@ fn judge_words(map: &FuseMap, device: &Device, words: &BlockWords) -> Result<Rea
 }
 
 /// The batch of a state.
-fn batch_in(state: DeviceState, work: &Work) -> Image
+fn batch_in(state: DeviceState, work: &Pending) -> Image
     ensures { result ≡ batch_in state work.now }
 {
     match state {
@@ -116,16 +119,16 @@ fn rest_of(verdict: &Verdict) -> Image
 }
 
 /// The work with a rest in place of the batch of the state.
-fn with_rest(state: DeviceState, rest: &Image, work: &Work) -> Work
+fn with_rest(state: DeviceState, rest: &Image, work: &Pending) -> Pending
     ensures { result ≡ with_rest state rest.now work.now }
 {
     match state {
-        DeviceState::AwaitingFirst => Work {
+        DeviceState::AwaitingFirst => Pending {
             first: rest.burnt,
             second: work.second,
             keys: rest.keys,
         },
-        DeviceState::AwaitingSecond => Work {
+        DeviceState::AwaitingSecond => Pending {
             first: Bits::empty(),
             second: rest.burnt,
             keys: Keys::empty(),
@@ -135,20 +138,20 @@ fn with_rest(state: DeviceState, rest: &Image, work: &Work) -> Work
 }
 
 /// What is pending after a read-back: nothing where something is wrong.
-fn work_after(verdict: &Verdict, state: DeviceState, work: &Work) -> Work
-    ensures { result ≡ work_after verdict.now state work.now }
+fn pending_after(verdict: &Verdict, state: DeviceState, work: &Pending) -> Pending
+    ensures { result ≡ pending_after verdict.now state work.now }
 {
     match verdict {
-        Verdict::Fault(_) => no_work(),
+        Verdict::Fault(_) => no_pending(),
         _ => with_rest(state, &rest_of(verdict), work),
     }
 }
 
-fn state_after(verdict: &Verdict, state: DeviceState, work: &Work) -> DeviceState
+fn state_after(verdict: &Verdict, state: DeviceState, work: &Pending) -> DeviceState
     ensures { result ≡ state_after verdict.now state work.now }
 {
     match verdict {
-        Verdict::Match => state_with(&work_after(verdict, state, work)),
+        Verdict::Match => state_of_pending(&pending_after(verdict, state, work)),
         Verdict::Short(_) => state,
         Verdict::Fault(fault) => DeviceState::Quarantined(reason_for(*fault)),
     }
@@ -158,7 +161,7 @@ fn state_after(verdict: &Verdict, state: DeviceState, work: &Work) -> DeviceStat
 fn device_after(
     map: &FuseMap,
     device: &Device,
-    work: &Work,
+    work: &Pending,
     verdict: &Verdict,
     after: &Image,
 ) -> Device
@@ -166,14 +169,14 @@ fn device_after(
       state = state_after verdict.now device.now.state work.now;
       bits = bits_column map.now after.now.burnt;
       keys = keys_column map.now after.now.keys;
-      todo = todo_column map.now (work_after verdict.now device.now.state work.now);
+      todo = todo_column map.now (pending_after verdict.now device.now.state work.now);
     } }
 {
     Device {
         state: state_after(verdict, device.state, work),
         bits: encode_bits(map, &after.burnt),
         keys: encode_keys(map, &after.keys),
-        todo: encode_todo(map, &work_after(verdict, device.state, work)),
+        todo: encode_todo(map, &pending_after(verdict, device.state, work)),
         ..*device
     }
 }
@@ -190,7 +193,7 @@ fn step_to(
       device = device;
       event = Event.Read (outcome_of verdict.now);
       bits = bits_column map.now (set.difference after.now.burnt known.now.burnt);
-      keys = keys_column map.now (without after.now.keys known.now.keys);
+      keys = keys_column map.now (keys_without after.now.keys known.now.keys);
     } }
 {
     DeviceStep {
@@ -204,7 +207,7 @@ fn step_to(
 /// The step of a read-back, and the verdict that it comes to.
 fn read_step(map: &FuseMap, device: &Device, readback: &ReadBack) -> (DeviceStep, Verdict)
     ensures step { result.0 ≡ read_step readback.now map.now device.now }
-    ensures verdict { result.1 ≡ verdict_on readback.now map.now device.now }
+    ensures verdict { result.1 ≡ verdict_of_read_back readback.now map.now device.now }
 {
     let known = known_of(map, device);
     let work = decode_todo(map, &device.todo);
@@ -224,7 +227,7 @@ pub(crate) fn judge_read_back<K: Keep>(
     seat: &Name,
     read: &NewReadBack,
 ) -> Result<Judgement, Unkept>
-    ensures { Reading K.Keep keep.old keep.new result (λ t judgement.
+    ensures { ReadsOnly K.Keep keep.old keep.new result (λ t judgement.
         IsJudged customer.now seat.now t (Change.ReadBack read.now) judgement) }
 {
     let Some(found) = find_placed(keep, customer, &read.chip)? else {

@@ -6,45 +6,46 @@ use Rattle.std.specs.List.{AllByRecursion}
 use Rattle.std.specs.Option.{option_map}
 use Rattle.std.specs.Ordering.{ordering_reverse}
 use Rattle.std.proofs.lemmas.Cmp.{tied_itself}
-use Rattle.site_core.specs.Owners.{Owners}
+use Rattle.site_core.specs.Ownership.{Ownership}
 use Rattle.office_tables.specs.declared.rows.Given.{Given}
 use Rattle.office_tables.specs.declared.rows.Order.{Order}
-use Rattle.office_tables.specs.declared.rows.Owned.{Owned}
+use Rattle.office_tables.specs.declared.rows.OfCustomer.{OfCustomer}
 use Rattle.office_tables.specs.declared.rows.Device.{Device}
-use Rattle.office_tables.specs.Tables.{Tables, is_device, is_of, is_order, order_at, order_cmp, own, placed, with_cursor, with_cursor_of, with_order, IsInOrder}
+use Rattle.office_tables.specs.Tables.{Tables, is_device, is_of, is_order, order_at, order_cmp, rows_of, with_row, with_cursor, with_cursor_of}
+use Rattle.office_tables.specs.Tables.{with_order, IsInOrder}
 use Rattle.office_rules.proofs.Refusing.{is_some_map}
 use Rattle.office_laws.specs.Grows.{Grows}
 use Rattle.office_laws.specs.Sound.{AreDisjoint, EachApart, IsInPool, IsOrder, IsSound}
-use Rattle.office_laws.specs.SoundRecords.{IsGivenBelow, IsOfDevice, IsOfOrder, IsRecordOf}
+use Rattle.office_laws.specs.SoundRecords.{IsIssuedBelow, IsOfDevice, IsOfOrder, IsRecordOf}
 use Rattle.office_rules.specs.OfficeMachine.{at_first}
 use Rattle.office_laws.proofs.Growing.{OrderStays}
 use Rattle.office_laws.proofs.Readings.{find_holds, find_map, orders_total}
 use Rattle.office_laws.proofs.SoundRows.{order_placed}
 
 -- an order's row without its cursor
-abbrev pub row_at_first : Owned Order → Owned Order
+abbrev pub row_at_first : OfCustomer Order → OfCustomer Order
 row_at_first o = record { customer = o.customer; row = at_first o.row }
 
 -- the row with another cursor
-abbrev pub moved : ℕ → Owned Order → Owned Order
+abbrev pub moved : ℕ → OfCustomer Order → OfCustomer Order
 moved n o = record { customer = o.customer; row = record o.row { cursor = n } }
 
 -- rows of equal orders, wherever their cursors stand
-abbrev pub AreSame : List (Owned Order) → List (Owned Order) → Type 0
+abbrev pub AreSame : List (OfCustomer Order) → List (OfCustomer Order) → Type 0
 AreSame xs ys = map row_at_first xs ≡ map row_at_first ys
 
 -- an order of the table takes its own place with another cursor
-pub moved_same : (p : Owned Order → Bool) (o : Owned Order) (n : ℕ) (rows : List (Owned Order))
+pub moved_same : (p : OfCustomer Order → Bool) (o : OfCustomer Order) (n : ℕ) (rows : List (OfCustomer Order))
     → IsInOrder order_cmp rows → find p rows ≡ Some o
-    → AreSame (placed order_cmp (moved n o) rows) rows
+    → AreSame (with_row order_cmp (moved n o) rows) rows
 moved_same p o n [] order e = cc
 moved_same p o n (y ∷ ys) order e =
     elim (p y) as (λ b. cond b (Some y) (find p ys) ≡ Some o
-    → AreSame (placed order_cmp (moved n o) (y ∷ ys)) (y ∷ ys)) [
+    → AreSame (with_row order_cmp (moved n o) (y ∷ ys)) (y ∷ ys)) [
       | true ↦ λ here.
           let same : y ≡ o = cc in
           let tied : order_cmp (moved n o) y ≡ Equal =
-          subst (λ (z : Owned Order). order_cmp (moved n o) z ≡ Equal) (sym same)
+          subst (λ (z : OfCustomer Order). order_cmp (moved n o) z ≡ Equal) (sym same)
           (tied_itself orders_total o) in
           rw tied (λ i. row_at_first (sym same i) ∷ map row_at_first ys)
       | false ↦ λ later.
@@ -56,7 +57,7 @@ moved_same p o n (y ∷ ys) order e =
     ] e
 
 -- an order stays where its cursor alone moves
-order_moved : (old mid new : Option (Owned Order))
+order_moved : (old mid new : Option (OfCustomer Order))
     → option_map row_at_first new ≡ option_map row_at_first mid → OrderStays old mid
     → OrderStays old new
 order_moved None mid new same stays = tt
@@ -64,34 +65,34 @@ order_moved (Some o) None new same stays = absurd stays
 order_moved (Some o) (Some x) None same stays = cc
 order_moved (Some o) (Some x) (Some y) same stays =
     let rows : row_at_first y ≡ row_at_first x = cc in
-    ap (λ (r : Owned Order). r.row) rows ∙ stays
+    ap (λ (r : OfCustomer Order). r.row) rows ∙ stays
 
 -- what holds of each row without its cursor
-all_at_first : (P : Owned Order → Type 0) (rows : List (Owned Order))
+all_at_first : (P : OfCustomer Order → Type 0) (rows : List (OfCustomer Order))
     → AllByRecursion (λ o. P (row_at_first o)) rows → AllByRecursion P (map row_at_first rows)
 all_at_first P [] all = tt
 all_at_first P (o ∷ os) all = (all.0, all_at_first P os all.1)
 
-each_at_first : (P : Owned Order → Type 0) (rows : List (Owned Order))
+each_at_first : (P : OfCustomer Order → Type 0) (rows : List (OfCustomer Order))
     → AllByRecursion P (map row_at_first rows) → AllByRecursion (λ o.
     P (row_at_first o)) rows
 each_at_first P [] all = tt
 each_at_first P (o ∷ os) all = (all.0, each_at_first P os all.1)
 
 -- an order's addresses are its own wherever its cursor stands
-apart_at_first : (rows : List (Owned Order)) → EachApart rows → EachApart (map row_at_first rows)
+apart_at_first : (rows : List (OfCustomer Order)) → EachApart rows → EachApart (map row_at_first rows)
 apart_at_first [] apart = tt
 apart_at_first (o ∷ os) apart =
     (all_at_first (λ other. AreDisjoint o.row other.row) os apart.0, apart_at_first os apart.1)
 
-apart_again : (rows : List (Owned Order)) → EachApart (map row_at_first rows) → EachApart rows
+apart_again : (rows : List (OfCustomer Order)) → EachApart (map row_at_first rows) → EachApart rows
 apart_again [] apart = tt
 apart_again (o ∷ os) apart =
     (each_at_first (λ other. AreDisjoint o.row other.row) os apart.0, apart_again os apart.1)
 
 -- a customer's orders without their cursors
-own_at_first : (c : List ℕ) (rows : List (Owned Order))
-    → map at_first (own c rows) ≡ own c (map row_at_first rows)
+own_at_first : (c : List ℕ) (rows : List (OfCustomer Order))
+    → map at_first (rows_of c rows) ≡ rows_of c (map row_at_first rows)
 own_at_first c [] = refl
 own_at_first c (y ∷ ys) =
     elim (is_of c y) as
@@ -103,7 +104,7 @@ own_at_first c (y ∷ ys) =
     ]
 
 -- two tables of equal orders
-module _ (before after : List (Owned Order)) (same : AreSame after before) where
+module _ (before after : List (OfCustomer Order)) (same : AreSame after before) where
   found_same : (customer name : List ℕ)
       → option_map row_at_first (find (is_order customer name) after)
       ≡ option_map row_at_first (find (is_order customer name) before)
@@ -115,8 +116,8 @@ module _ (before after : List (Owned Order)) (same : AreSame after before) where
   apart_same : EachApart before → EachApart after
   apart_same apart = apart_again after (subst EachApart (sym same) (apart_at_first before apart))
 
-  pub own_same : (c : List ℕ) → map at_first (own c after) ≡ map at_first (own c before)
-  own_same c = own_at_first c after ∙ (ap (own c) same ∙ sym (own_at_first c before))
+  pub own_same : (c : List ℕ) → map at_first (rows_of c after) ≡ map at_first (rows_of c before)
+  own_same c = own_at_first c after ∙ (ap (rows_of c) same ∙ sym (own_at_first c before))
 
   there_same : (customer name : List ℕ) → is_some (find (is_order customer name) before) ≡ true
       → is_some (find (is_order customer name) after) ≡ true
@@ -126,12 +127,12 @@ module _ (before after : List (Owned Order)) (same : AreSame after before) where
       ∙ (is_some_map row_at_first (find (is_order customer name) before) ∙ there))
 
   -- a record is that of its order still
-  record_same : (g : Owned Given) (devices : List (Owned Device)) (chip : Option (List ℕ))
+  record_same : (g : OfCustomer Given) (devices : List (OfCustomer Device)) (chip : Option (List ℕ))
       → IsRecordOf before devices g chip → IsRecordOf after devices g chip
   record_same g devices None is = is
   record_same g devices (Some chip) is = by (find (is_device g.customer chip) devices) is
     where
-      without : (found : Option (Owned Order)) → IsSomeAnd found (λ o. IsOfOrder o.row g.row)
+      without : (found : Option (OfCustomer Order)) → IsSomeAnd found (λ o. IsOfOrder o.row g.row)
           → IsSomeAnd (option_map row_at_first found) (λ o.
           IsOfOrder o.row g.row)
       without None is = is
@@ -144,7 +145,7 @@ module _ (before after : List (Owned Order)) (same : AreSame after before) where
         start = is.start;
       }
 
-      again : (found : Option (Owned Order))
+      again : (found : Option (OfCustomer Order))
           → IsSomeAnd (option_map row_at_first found) (λ o. IsOfOrder o.row g.row)
           → IsSomeAnd found (λ o.
           IsOfOrder o.row g.row)
@@ -158,28 +159,28 @@ module _ (before after : List (Owned Order)) (same : AreSame after before) where
         start = is.start;
       }
 
-      by : (found : Option (Owned Device)) → IsSomeAnd found (IsOfDevice before g)
+      by : (found : Option (OfCustomer Device)) → IsSomeAnd found (IsOfDevice before g)
           → IsSomeAnd found (IsOfDevice after g)
       by None is = is
       by (Some d) is = (
         is.0,
         again (find (is_order g.customer d.row.order) after)
-            (subst (λ (found : Option (Owned Order)). IsSomeAnd found (λ o. IsOfOrder o.row g.row))
+            (subst (λ (found : Option (OfCustomer Order)). IsSomeAnd found (λ o. IsOfOrder o.row g.row))
             (sym (found_same g.customer d.row.order))
             (without (find (is_order g.customer d.row.order) before) is.1)),
       )
 
-module _ {owners : Owners} {t : Tables} (sound : IsSound owners t) (c name : List ℕ)
-    (o : Owned Order) (n : ℕ) (there : order_at c name t ≡ Some o) where
+module _ {owners : Ownership} {t : Tables} (sound : IsSound owners t) (c name : List ℕ)
+    (o : OfCustomer Order) (n : ℕ) (there : order_at c name t ≡ Some o) where
   -- the order is placed with its new cursor
   placed_there : with_cursor (record { customer = c; row = record { order = name; number = n } }) t
       ≡ with_order (moved n o) t
   placed_there = ap (λ found. with_cursor_of found n t) there
 
-  orders_same : AreSame (placed order_cmp (moved n o) t.orders) t.orders
+  orders_same : AreSame (with_row order_cmp (moved n o) t.orders) t.orders
   orders_same = moved_same (is_order c name) o n t.orders sound.orders.rows.in_order there
 
-  holds : (P : Owned Order → Type 0) → AllByRecursion P t.orders → P o
+  holds : (P : OfCustomer Order → Type 0) → AllByRecursion P t.orders → P o
   holds P all = (find_holds P (is_order c name) t.orders o all there).0
 
   moved_terms : o.row.range.first ≤ n → n ≤ o.row.range.first + o.row.range.quantity
@@ -196,9 +197,9 @@ module _ {owners : Owners} {t : Tables} (sound : IsSound owners t) (c name : Lis
       }
 
   moved_sound : o.row.range.first ≤ n → n ≤ o.row.range.first + o.row.range.quantity
-      → IsGivenBelow t.given (moved n o) → IsSound owners (with_order (moved n o) t)
+      → IsIssuedBelow t.given (moved n o) → IsSound owners (with_order (moved n o) t)
   moved_sound least largest below =
-      let later : List (Owned Order) = placed order_cmp (moved n o) t.orders in
+      let later : List (OfCustomer Order) = with_row order_cmp (moved n o) t.orders in
       order_placed sound (moved n o)
       (holds (λ o. owners.issuer o.row.issuer ≡ Some o.customer) sound.orders.rows.owned)
       (moved_terms least largest) (holds (IsInPool owners) sound.orders.in_pools)
@@ -208,7 +209,7 @@ module _ {owners : Owners} {t : Tables} (sound : IsSound owners t) (c name : Lis
 
   -- the tables stay sound, where every number below the new cursor is given
   pub cursor_sound : o.row.range.first ≤ n → n ≤ o.row.range.first + o.row.range.quantity
-      → IsGivenBelow t.given (record { customer = c; row = record o.row { cursor = n } })
+      → IsIssuedBelow t.given (record { customer = c; row = record o.row { cursor = n } })
       → IsSound owners (with_cursor (record {
         customer = c;
         row = record { order = name; number = n };
@@ -230,7 +231,7 @@ module _ {owners : Owners} {t : Tables} (sound : IsSound owners t) (c name : Lis
         orders =
             λ customer called. order_moved (order_at customer called before)
             (order_at customer called t) (order_at customer called (with_order (moved n o) t))
-            (found_same t.orders (placed order_cmp (moved n o) t.orders) orders_same customer
+            (found_same t.orders (with_row order_cmp (moved n o) t.orders) orders_same customer
             called) (grows.orders customer called);
         given = grows.given;
       } in

@@ -7,8 +7,8 @@ use Rattle.std.specs.Ordering.{nat_cmp, ordering_then}
 use Rattle.std.specs.Cmp.{IsTotalOrder}
 use Rattle.std.proofs.lemmas.Bool.{and_parts, and_from}
 use Rattle.std.proofs.lemmas.Cmp.{nat_cmp_total, on_total, then_total, nat_list_cmp_total, tied_itself}
-use Rattle.site_core.specs.Owners.{Owners}
-use Rattle.office_tables.specs.declared.rows.Owned.{Owned}
+use Rattle.site_core.specs.Ownership.{Ownership}
+use Rattle.office_tables.specs.declared.rows.OfCustomer.{OfCustomer}
 use Rattle.office_tables.specs.declared.rows.Device.{Device}
 use Rattle.office_tables.specs.declared.rows.Entry.{Entry}
 use Rattle.office_tables.specs.declared.rows.NewEntry.{NewEntry}
@@ -21,9 +21,9 @@ use Rattle.office_rules.specs.Effect.{entry_of}
 use Rattle.office_rules.specs.OfficeMachine.{map_named}
 use Rattle.office_rules.specs.declared.device_step.DeviceStep.{DeviceStep}
 use Rattle.office_rules.proofs.Ties.{first_equal, same_place, same_text, second_equal, text_itself}
-use Rattle.office_laws.proofs.OwnPlaces.{own_device_cmp}
-use Rattle.office_laws.specs.SoundDevices.{AreNumbered, AreSoundDevices, HasLedger, IsKept, IsReferred, Named}
-use Rattle.office_laws.specs.SoundRecords.{IsNumbered, IsRecordOf}
+use Rattle.office_laws.proofs.OwnPlaces.{solo_device_cmp}
+use Rattle.office_laws.specs.SoundDevices.{AreNumberedFrom, AreSoundDevices, HasLedger, FitsFuseMap, IsReferred, MapOf}
+use Rattle.office_laws.specs.SoundRecords.{SerialIsOfIdentified, IsRecordOf}
 use Rattle.office_laws.specs.Sound.{IsSound}
 use Rattle.office_laws.proofs.Appended.{all_below, appended, last_of_numbered, numbered_appended}
 use Rattle.office_laws.proofs.DeviceRows.{ids_apart_placed}
@@ -42,7 +42,7 @@ entries_total =
     (on_total (λ o. o.row.chip) nat_list_cmp_total))
     (on_total (λ o. o.row.number) nat_cmp_total)
 
-tied_customers : (c : List ℕ) {A : Type 0} (a b : Owned A) → is_of c a ≡ true → is_of c b ≡ true
+tied_customers : (c : List ℕ) {A : Type 0} (a b : OfCustomer A) → is_of c a ≡ true → is_of c b ≡ true
     → text_cmp a.customer b.customer ≡ Equal
 tied_customers c a b p q =
     let same : b.customer ≡ a.customer =
@@ -50,28 +50,28 @@ tied_customers c a b p q =
     subst (λ d. text_cmp a.customer d ≡ Equal) (sym same)
     (tied_itself nat_list_cmp_total a.customer)
 
-pub device_agree : (c : List ℕ) (a b : Owned Device) → is_of c a ≡ true → is_of c b ≡ true
-    → device_cmp a b ≡ own_device_cmp a.row b.row
+pub device_agree : (c : List ℕ) (a b : OfCustomer Device) → is_of c a ≡ true → is_of c b ≡ true
+    → device_cmp a b ≡ solo_device_cmp a.row b.row
 device_agree c a b p q =
     ap (λ r. ordering_then r (text_cmp a.row.chip b.row.chip)) (tied_customers c a b p q)
 
 abbrev pub entry_row_cmp : Entry → Entry → Ordering
 entry_row_cmp a b = ordering_then (text_cmp a.chip b.chip) (nat_cmp a.number b.number)
 
-pub entry_agree : (c : List ℕ) (a b : Owned Entry) → is_of c a ≡ true → is_of c b ≡ true
+pub entry_agree : (c : List ℕ) (a b : OfCustomer Entry) → is_of c a ≡ true → is_of c b ≡ true
     → entry_cmp a b ≡ entry_row_cmp a.row b.row
 entry_agree c a b p q =
     ap (λ r. ordering_then (ordering_then r (text_cmp a.row.chip b.row.chip))
     (nat_cmp a.row.number b.row.number)) (tied_customers c a b p q)
 
 -- a row whose place another has is the same customer's
-pub device_place : (d : Owned Device) (rows : List (Owned Device))
+pub device_place : (d : OfCustomer Device) (rows : List (OfCustomer Device))
     → AllByRecursion (λ y. device_cmp d y ≡ Equal → d.customer ≡ y.customer) rows
 device_place d [] = tt
 device_place d (y ∷ ys) =
     ((λ e. same_place d.customer y.customer (first_equal _ _ e)), device_place d ys)
 
-pub entry_place : (e : Owned Entry) (rows : List (Owned Entry))
+pub entry_place : (e : OfCustomer Entry) (rows : List (OfCustomer Entry))
     → AllByRecursion (λ y. entry_cmp e y ≡ Equal → e.customer ≡ y.customer) rows
 entry_place e [] = tt
 entry_place e (y ∷ ys) = (
@@ -81,24 +81,24 @@ entry_place e (y ∷ ys) = (
 
 -- a step of a customer's device, by the seat that made it and the number of its entry over all
 -- customers
-module _ {owners : Owners} {t : Tables} (sound : IsSound owners t) (c seat : List ℕ)
+module _ {owners : Ownership} {t : Tables} (sound : IsSound owners t) (c seat : List ℕ)
     (step : DeviceStep) (id : ℕ) where
-  abbrev d : Owned Device
+  abbrev d : OfCustomer Device
   d = record { customer = c; row = step.device }
 
-  abbrev its_entry : Owned NewEntry
+  abbrev its_entry : OfCustomer NewEntry
   its_entry = record {
     customer = c;
     row = entry_of seat (last_number c step.device.chip t + 1) step;
   }
 
-  abbrev entry : Owned Entry
+  abbrev entry : OfCustomer Entry
   entry = entry_under its_entry id
 
   abbrev pub after : Tables
   after = with_new_entry its_entry id (with_device d t)
 
-  abbrev named : Named
+  abbrev named : MapOf
   named = λ customer digest. map_named customer digest t
 
   -- what a step asks for: its customer is the site's, its order and its map are there, its entry's
@@ -108,20 +108,20 @@ module _ {owners : Owners} {t : Tables} (sound : IsSound owners t) (c seat : Lis
     pub order : is_some (order_at c step.device.order t) ≡ true
     pub link : is_some (link_at c step.device.map t) ≡ true
     pub new_id : entry_with id t ≡ None
-    pub follows : (old : Owned Device) → device_at c step.device.chip t ≡ Some old
+    pub follows : (old : OfCustomer Device) → device_at c step.device.chip t ≡ Some old
         → Follows old.row step.device
-    pub numbered : IsNumbered d
+    pub numbered : SerialIsOfIdentified d
     pub ledger : HasLedger named after.ledger d
 
   -- the ledger of another device
-  old_ledger : (y : Owned Device) → is_device c step.device.chip y ≡ false
+  old_ledger : (y : OfCustomer Device) → is_device c step.device.chip y ≡ false
       → HasLedger named t.ledger y → HasLedger named after.ledger y
   old_ledger y other has =
       let same = filter_other (is_entry_of y.customer y.row.chip) entry_cmp entry t.ledger not_its
       (each t.ledger) in
       record {
-        numbered = subst (AreNumbered 1) (sym same) has.numbered;
-        by_map = λ m is. subst (IsKept m y.row) (sym same) (has.by_map m is);
+        numbered = subst (AreNumberedFrom 1) (sym same) has.numbered;
+        by_map = λ m is. subst (FitsFuseMap m y.row) (sym same) (has.by_map m is);
       }
     where
       not_its : is_entry_of y.customer y.row.chip entry ≡ false
@@ -142,7 +142,7 @@ module _ {owners : Owners} {t : Tables} (sound : IsSound owners t) (c seat : Lis
             | false ↦ λ _. refl
           ] refl
 
-      each : (rows : List (Owned Entry))
+      each : (rows : List (OfCustomer Entry))
           → AllByRecursion (λ e. entry_cmp entry e ≡ Equal
           → is_entry_of y.customer y.row.chip e ≡ false) rows
       each [] = tt
@@ -156,7 +156,7 @@ module _ {owners : Owners} {t : Tables} (sound : IsSound owners t) (c seat : Lis
         each es,
       )
 
-  ledgers_after : (rows : List (Owned Device)) → AllByRecursion (HasLedger named t.ledger) rows
+  ledgers_after : (rows : List (OfCustomer Device)) → AllByRecursion (HasLedger named t.ledger) rows
       → AllByRecursion (λ y.
       (device_cmp d y ≡ Equal → ⊥) → HasLedger named after.ledger y) rows
   ledgers_after rows has =
@@ -164,7 +164,7 @@ module _ {owners : Owners} {t : Tables} (sound : IsSound owners t) (c seat : Lis
       → HasLedger named after.ledger y) (λ y its other.
       old_ledger y (differs y other) its) rows has
     where
-      differs : (y : Owned Device) → (device_cmp d y ≡ Equal → ⊥)
+      differs : (y : OfCustomer Device) → (device_cmp d y ≡ Equal → ⊥)
           → is_device c step.device.chip y ≡ false
       differs y other =
           elim (is_device c step.device.chip y) as (λ b. is_device c step.device.chip y ≡ b
@@ -183,7 +183,7 @@ module _ {owners : Owners} {t : Tables} (sound : IsSound owners t) (c seat : Lis
         (none_passes (has_entry_id id) t.ledger lawful.new_id) sound.devices.ids_apart;
     customers = all_placed (λ o. owners.customer o.customer ≡ true) device_cmp d t.devices
         lawful.mine sound.devices.customers;
-    numbered = all_placed IsNumbered device_cmp d t.devices lawful.numbered sound.devices.numbered;
+    numbered = all_placed SerialIsOfIdentified device_cmp d t.devices lawful.numbered sound.devices.numbered;
     of_devices = all_placed
         (λ e. is_some (find (is_device e.customer e.row.chip) after.devices) ≡ true) entry_cmp entry
         t.ledger (some_placed (is_device c step.device.chip) device_cmp d t.devices (own_device d))
@@ -213,21 +213,21 @@ module _ {owners : Owners} {t : Tables} (sound : IsSound owners t) (c seat : Lis
 
   -- the ledger of a device that wasn't there
   pub new_ledger : device_at c step.device.chip t ≡ None
-      → ((m : Map) → named c step.device.map ≡ Some m → IsKept m step.device (entry ∷ []))
+      → ((m : Map) → named c step.device.map ≡ Some m → FitsFuseMap m step.device (entry ∷ []))
       → HasLedger named after.ledger d
   new_ledger new kept =
       let only =
       filter_only (is_entry_of c step.device.chip) entry_cmp entry t.ledger (own_device d)
       no_entries in
       let number : last_number c step.device.chip t + 1 ≡ 1 =
-      ap (λ (rows : List (Owned Entry)). greatest (map (λ e. e.row.number) rows) + 1)
+      ap (λ (rows : List (OfCustomer Entry)). greatest (map (λ e. e.row.number) rows) + 1)
       (filter_none (is_entry_of c step.device.chip) t.ledger no_entries) in
       record {
-        numbered = subst (AreNumbered 1) (sym only) (number, tt);
-        by_map = λ m is. subst (IsKept m step.device) (sym only) (kept m is);
+        numbered = subst (AreNumberedFrom 1) (sym only) (number, tt);
+        by_map = λ m is. subst (FitsFuseMap m step.device) (sym only) (kept m is);
       }
     where
-      not_its : (e : Owned Entry) → is_some (find (is_device e.customer e.row.chip) t.devices)
+      not_its : (e : OfCustomer Entry) → is_some (find (is_device e.customer e.row.chip) t.devices)
           ≡ true → is_entry_of c step.device.chip e ≡ false
       not_its e there =
           elim (is_entry_of c step.device.chip e) as (λ b. is_entry_of c step.device.chip e ≡ b
@@ -250,10 +250,10 @@ module _ {owners : Owners} {t : Tables} (sound : IsSound owners t) (c seat : Lis
           is_entry_of c step.device.chip e ≡ false) not_its t.ledger sound.devices.of_devices
 
   -- and that of a device that was there: one entry more at its end
-  pub next_ledger : (old : Owned Device) → device_at c step.device.chip t ≡ Some old
+  pub next_ledger : (old : OfCustomer Device) → device_at c step.device.chip t ≡ Some old
       → step.device.map ≡ old.row.map
-      → ((m : Map) → named c old.row.map ≡ Some m → (es : List (Owned Entry)) → IsKept m old.row es
-      → IsKept m step.device (es ++ entry ∷ []))
+      → ((m : Map) → named c old.row.map ≡ Some m → (es : List (OfCustomer Entry)) → FitsFuseMap m old.row es
+      → FitsFuseMap m step.device (es ++ entry ∷ []))
       → HasLedger named after.ledger d
   next_ledger old there same_map kept =
       let found =
@@ -265,7 +265,7 @@ module _ {owners : Owners} {t : Tables} (sound : IsSound owners t) (c seat : Lis
       let chip : step.device.chip ≡ old.row.chip =
       same_text step.device.chip old.row.chip parts.1 in
       let es = filter (is_entry_of c step.device.chip) t.ledger in
-      let was_numbered : AreNumbered 1 es = rw (owner, chip) found.0.numbered in
+      let was_numbered : AreNumberedFrom 1 es = rw (owner, chip) found.0.numbered in
       let last : last_number c step.device.chip t ≡ length es = last_of_numbered es was_numbered in
       let grown : filter (is_entry_of c step.device.chip) after.ledger ≡ es ++ entry ∷ [] =
       appended entry (own_device d) (λ x y. entries_total.trans entry x y) t.ledger
@@ -274,11 +274,11 @@ module _ {owners : Owners} {t : Tables} (sound : IsSound owners t) (c seat : Lis
       (omega arith)) in
       record {
         numbered =
-            subst (AreNumbered 1) (sym grown) (numbered_appended 1 es entry was_numbered
+            subst (AreNumberedFrom 1) (sym grown) (numbered_appended 1 es entry was_numbered
             (omega (arith, last)));
         by_map = λ m is.
             let known : named c old.row.map ≡ Some m = rw (← same_map) is in
-            let was : IsKept m old.row es =
+            let was : FitsFuseMap m old.row es =
             rw (owner, chip) (found.0.by_map m (rw (← owner) known)) in
-            subst (IsKept m step.device) (sym grown) (kept m known es was);
+            subst (FitsFuseMap m step.device) (sym grown) (kept m known es was);
       }

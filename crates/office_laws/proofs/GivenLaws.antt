@@ -7,19 +7,19 @@ use Rattle.std.specs.Cmp.{IsTotalOrder}
 use Rattle.std.proofs.lemmas.Bool.{and_parts, and_from}
 use Rattle.std.proofs.lemmas.Bool.Decides.{nat_tests}
 use Rattle.std.proofs.lemmas.Cmp.{on_total, then_total, nat_list_cmp_total, tied_itself}
-use Rattle.site_core.specs.Owners.{Owners}
-use Rattle.id_ranges.specs.Range.{text_of}
-use Rattle.office_tables.specs.declared.rows.Owned.{Owned}
+use Rattle.site_core.specs.Ownership.{Ownership}
+use Rattle.id_ranges.specs.Range.{serial_text_of}
+use Rattle.office_tables.specs.declared.rows.OfCustomer.{OfCustomer}
 use Rattle.office_tables.specs.declared.rows.Given.{Given}
 use Rattle.office_tables.specs.declared.rows.Order.{Order}
-use Rattle.office_tables.specs.Tables.{Tables, IsAddressFree, given_at, given_by_key, given_cmp, has_address, is_address, is_bound, is_given}
-use Rattle.office_tables.specs.Tables.{placed, with_given}
+use Rattle.office_tables.specs.Tables.{Tables, IsAddressFree, given_at, given_by_key, given_cmp, has_address, is_address, is_bound, is_serial_of}
+use Rattle.office_tables.specs.Tables.{with_row, with_given}
 use Rattle.office_tables.proofs.Finding.{none_passes, other_placed, still_there}
 use Rattle.office_tables.proofs.Placing.{all_map, all_placed}
 use Rattle.office_rules.proofs.Ties.{first_equal, same_place, same_text, second_equal, text_itself}
 use Rattle.office_laws.specs.Grows.{Grows}
 use Rattle.office_laws.specs.Sound.{IsSound}
-use Rattle.office_laws.specs.SoundRecords.{AreAddressesApart, AreKeysApart, HasOther, IsGivenBelow, IsRecordOf}
+use Rattle.office_laws.specs.SoundRecords.{AreAddressesApart, AreKeysApart, HasOther, IsIssuedBelow, IsRecordOf}
 use Rattle.office_laws.proofs.Placed.{found_replaced, others_fail}
 use Rattle.office_laws.proofs.SoundRows.{owned_placed}
 
@@ -29,8 +29,8 @@ given_total =
     (on_total (λ o. o.row.serial) nat_list_cmp_total)
 
 -- a record that takes the place of another has its issuer and its serial number
-same_given : (issuer serial : List ℕ) (x y : Owned Given) → given_cmp x y ≡ Equal
-    → is_given issuer serial y ≡ true → is_given issuer serial x ≡ true
+same_given : (issuer serial : List ℕ) (x y : OfCustomer Given) → given_cmp x y ≡ Equal
+    → is_serial_of issuer serial y ≡ true → is_serial_of issuer serial x ≡ true
 same_given issuer serial x y same passes =
     let owner : x.row.issuer ≡ y.row.issuer =
     same_place x.row.issuer y.row.issuer (first_equal _ _ same) in
@@ -38,22 +38,22 @@ same_given issuer serial x y same passes =
     same_place x.row.serial y.row.serial (second_equal _ _ same) in
     rw (owner, named) passes
 
-pub each_given : (issuer serial : List ℕ) (x : Owned Given) (rows : List (Owned Given))
+pub each_given : (issuer serial : List ℕ) (x : OfCustomer Given) (rows : List (OfCustomer Given))
     → AllByRecursion (λ y.
-    given_cmp x y ≡ Equal → is_given issuer serial y ≡ true → is_given issuer serial x ≡ true) rows
+    given_cmp x y ≡ Equal → is_serial_of issuer serial y ≡ true → is_serial_of issuer serial x ≡ true) rows
 each_given issuer serial x [] = tt
 each_given issuer serial x (y ∷ ys) = (same_given issuer serial x y, each_given issuer serial x ys)
 
 -- the record that was added is found
-pub given_found : (g : Owned Given) (rows : List (Owned Given))
-    → find (is_given g.row.issuer g.row.serial) (placed given_cmp g rows) ≡ Some g
+pub given_found : (g : OfCustomer Given) (rows : List (OfCustomer Given))
+    → find (is_serial_of g.row.issuer g.row.serial) (with_row given_cmp g rows) ≡ Some g
 given_found g rows =
-    found_replaced given_cmp g (is_given g.row.issuer g.row.serial) rows
+    found_replaced given_cmp g (is_serial_of g.row.issuer g.row.serial) rows
     (and_from _ _ (text_itself g.row.issuer g.row.issuer refl)
     (text_itself g.row.serial g.row.serial refl)) (tied rows)
   where
-    tied : (rows : List (Owned Given))
-        → AllByRecursion (λ y. is_given g.row.issuer g.row.serial y ≡ true
+    tied : (rows : List (OfCustomer Given))
+        → AllByRecursion (λ y. is_serial_of g.row.issuer g.row.serial y ≡ true
         → given_cmp g y ≡ Equal) rows
     tied [] = tt
     tied (y ∷ ys) = (
@@ -72,7 +72,7 @@ given_found g rows =
     )
 
 -- a record that isn't bound to a key of another: the other isn't bound to its key
-bound_turned : (g y : Owned Given) → is_bound g.row.issuer g.row.key y ≡ false
+bound_turned : (g y : OfCustomer Given) → is_bound g.row.issuer g.row.key y ≡ false
     → is_bound y.row.issuer y.row.key g ≡ false
 bound_turned g y fails =
     elim (is_bound y.row.issuer y.row.key g) as (λ b. is_bound y.row.issuer y.row.key g ≡ b
@@ -92,13 +92,13 @@ bound_turned g y fails =
     ] refl
 
 -- a new key among others
-keys_apart_placed : (g : Owned Given) (gs : List (Owned Given)) → AllByRecursion (λ other.
+keys_apart_placed : (g : OfCustomer Given) (gs : List (OfCustomer Given)) → AllByRecursion (λ other.
     is_bound g.row.issuer g.row.key other ≡ false) gs → AreKeysApart gs
-    → AreKeysApart (placed given_cmp g gs)
+    → AreKeysApart (with_row given_cmp g gs)
 keys_apart_placed g [] all apart = (tt, tt)
 keys_apart_placed g (y ∷ ys) all apart =
     elim (given_cmp g y) as
-    (λ o. AreKeysApart (match_ordering o (g ∷ y ∷ ys) (g ∷ ys) (y ∷ placed given_cmp g ys))) [
+    (λ o. AreKeysApart (match_ordering o (g ∷ y ∷ ys) (g ∷ ys) (y ∷ with_row given_cmp g ys))) [
       | Less ↦ (all, apart)
       | Equal ↦ (all.1, apart.1)
       | Greater ↦ (
@@ -109,7 +109,7 @@ keys_apart_placed g (y ∷ ys) all apart =
     ]
 
 -- a record that hasn't the address of another: the other hasn't its address
-address_turned : (a b : Owned Given) (of_a of_b : Option ℕ) → a.row.mac ≡ of_a → b.row.mac ≡ of_b
+address_turned : (a b : OfCustomer Given) (of_a of_b : Option ℕ) → a.row.mac ≡ of_a → b.row.mac ≡ of_b
     → HasOther of_a b → HasOther of_b a
 address_turned a b of_a None is_a is_b other = tt
 address_turned a b None (Some mac) is_a is_b other = rw is_a refl
@@ -119,20 +119,20 @@ address_turned a b (Some first) (Some mac) is_a is_b other =
     subst (λ x. is_address mac x ≡ false) (sym is_a) turned
 
 -- where no record has the address, each has another
-all_other : (mac : Option ℕ) (gs : List (Owned Given)) → IsAddressFree mac gs
+all_other : (mac : Option ℕ) (gs : List (OfCustomer Given)) → IsAddressFree mac gs
     → AllByRecursion (HasOther mac) gs
 all_other (Some mac) gs free = none_passes (has_address mac) gs free
 all_other None [] free = tt
 all_other None (y ∷ ys) free = (tt, all_other None ys tt)
 
 -- a new address among others
-addresses_apart_placed : (g : Owned Given) (gs : List (Owned Given))
+addresses_apart_placed : (g : OfCustomer Given) (gs : List (OfCustomer Given))
     → AllByRecursion (HasOther g.row.mac) gs → AreAddressesApart gs
-    → AreAddressesApart (placed given_cmp g gs)
+    → AreAddressesApart (with_row given_cmp g gs)
 addresses_apart_placed g [] all apart = (tt, tt)
 addresses_apart_placed g (y ∷ ys) all apart =
     elim (given_cmp g y) as
-    (λ o. AreAddressesApart (match_ordering o (g ∷ y ∷ ys) (g ∷ ys) (y ∷ placed given_cmp g ys))) [
+    (λ o. AreAddressesApart (match_ordering o (g ∷ y ∷ ys) (g ∷ ys) (y ∷ with_row given_cmp g ys))) [
       | Less ↦ (all, apart)
       | Equal ↦ (all.1, apart.1)
       | Greater ↦ (
@@ -143,15 +143,15 @@ addresses_apart_placed g (y ∷ ys) all apart =
     ]
 
 -- what is given below an order's cursor is given still
-below_after : (g : Owned Given) (gs : List (Owned Given)) (o : Owned Order) → IsGivenBelow gs o
-    → IsGivenBelow (placed given_cmp g gs) o
+below_after : (g : OfCustomer Given) (gs : List (OfCustomer Given)) (o : OfCustomer Order) → IsIssuedBelow gs o
+    → IsIssuedBelow (with_row given_cmp g gs) o
 below_after g gs o is n least below =
-    still_there (is_given o.row.issuer (text_of o.row.range n)) given_cmp g gs
-    (each_given o.row.issuer (text_of o.row.range n) g gs) (is n least below)
+    still_there (is_serial_of o.row.issuer (serial_text_of o.row.range n)) given_cmp g gs
+    (each_given o.row.issuer (serial_text_of o.row.range n) g gs) (is n least below)
 
 -- a record of a serial number that nobody has, for a key that none has, with an address that none
 -- has
-module _ {owners : Owners} {t : Tables} (sound : IsSound owners t) (g : Owned Given) where
+module _ {owners : Ownership} {t : Tables} (sound : IsSound owners t) (g : OfCustomer Given) where
   pub given_sound : owners.issuer g.row.issuer ≡ Some g.customer
       → given_at g.row.issuer g.row.serial t ≡ None → given_by_key g.row.issuer g.row.key t ≡ None
       → IsAddressFree g.row.mac t.given → IsRecordOf t.orders t.devices g g.row.chip
@@ -170,14 +170,14 @@ module _ {owners : Owners} {t : Tables} (sound : IsSound owners t) (g : Owned Gi
     devices = sound.devices;
     origins = all_placed (λ g. IsRecordOf t.orders t.devices g g.row.chip) given_cmp g t.given
         is_record sound.origins;
-    cursors = all_map (IsGivenBelow t.given) (IsGivenBelow (placed given_cmp g t.given))
+    cursors = all_map (IsIssuedBelow t.given) (IsIssuedBelow (with_row given_cmp g t.given))
         (below_after g t.given) t.orders sound.cursors;
     references = sound.references;
     ledgers = sound.ledgers;
   }
 
 -- a record under a serial number that nobody has, after what kept all
-pub given_grows : (before t : Tables) (g : Owned Given)
+pub given_grows : (before t : Tables) (g : OfCustomer Given)
     → given_at g.row.issuer g.row.serial t ≡ None → Grows before t → Grows before (with_given g t)
 given_grows before t g new grows = record {
   devices = grows.devices;
@@ -187,18 +187,18 @@ given_grows before t g new grows = record {
       (grows.given issuer serial);
 }
   where
-    by : (issuer serial : List ℕ) (found : Option (Owned Given))
+    by : (issuer serial : List ℕ) (found : Option (OfCustomer Given))
         → IfSome found (λ old. given_at issuer serial t ≡ Some old) → IfSome found (λ old.
         given_at issuer serial (with_given g t) ≡ Some old)
     by issuer serial None is = tt
     by issuer serial (Some old) is =
-        other_placed (is_given issuer serial) given_cmp g t.given differs
-        (others_fail given_cmp g (is_given issuer serial) t.given differs
+        other_placed (is_serial_of issuer serial) given_cmp g t.given differs
+        (others_fail given_cmp g (is_serial_of issuer serial) t.given differs
         (each_given issuer serial g t.given)) ∙ is
       where
-        differs : is_given issuer serial g ≡ false
+        differs : is_serial_of issuer serial g ≡ false
         differs =
-            elim (is_given issuer serial g) as (λ b. is_given issuer serial g ≡ b → b ≡ false) [
+            elim (is_serial_of issuer serial g) as (λ b. is_serial_of issuer serial g ≡ b → b ≡ false) [
               | true ↦ λ its.
                   let parts =
                   and_parts (bytes_eq issuer g.row.issuer) (bytes_eq serial g.row.serial) its in

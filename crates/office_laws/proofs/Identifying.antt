@@ -1,40 +1,41 @@
 -- What an identity finds in the tables.
 use Rattle.std.proofs.Common.{◌≡◌, ◌∙◌, ℕ, List, [], ◌∷◌, Option, Some, None, refl, subst}
 use Rattle.std.specs.Prelude.{option_and_then, option_map}
+use Rattle.text_core.specs.Options.{first_that_holds}
 use Rattle.fusemap_core.specs.Map.{Map}
 use Rattle.id_ranges.specs.NextSerial.{with_text}
-use Rattle.id_ranges.specs.Range.{Range, text_of}
+use Rattle.id_ranges.specs.Range.{Range, serial_text_of}
 use Rattle.id_ranges.specs.SerialLaws.{IsLeastUnused}
 use Rattle.id_ranges.proofs.NextNumbers.{next_is_least}
 use Rattle.site_core.specs.Section.{Section}
 use Rattle.office_tables.specs.declared.rows.Device.{Device}
 use Rattle.office_tables.specs.declared.rows.Order.{Order}
-use Rattle.office_tables.specs.declared.rows.Owned.{Owned}
+use Rattle.office_tables.specs.declared.rows.OfCustomer.{OfCustomer}
 use Rattle.office_tables.specs.Tables.{Tables, device_at, order_at}
 use Rattle.office_commands.specs.IdentityReplies.{identity_body}
 use Rattle.office_commands.specs.declared.new_identity.NewIdentity.{NewIdentity}
 use Rattle.office_rules.specs.Effect.{Effect, number_put, step_put}
-use Rattle.office_rules.specs.Identity.{identified, identity_effect, identity_refusals, idevid_of, refusals_in, row_of}
-use Rattle.office_rules.specs.Lowest.{lowest}
+use Rattle.office_rules.specs.Identity.{step_of_identity, identity_effect, identity_refusals, idevid_of_order, number_and_key_refusals, row_of}
 use Rattle.office_rules.specs.OfficeMachine.{is_taken, map_named, next_of, office_order_sight, office_sight}
 use Rattle.office_rules.specs.Sight.{OrderSight, Sight, map_in_sight, step_refusals}
 use Rattle.office_rules.proofs.Sights.{map_same}
-use Rattle.office_laws.proofs.Looking.{NoneHolds, device_seen, gave, lowest_none, some_is}
+use Rattle.office_rules.proofs.Refusing.{NoneHolds, lowest_none}
+use Rattle.office_laws.proofs.Looking.{device_seen, gave, some_is}
 
 -- the next number comes with its serial number
 text_of_next : (r : Range) (found : Option ℕ) (next : ℕ × List ℕ)
-    → option_map (with_text r) found ≡ Some next → next.1 ≡ text_of r next.0
+    → option_map (with_text r) found ≡ Some next → next.1 ≡ serial_text_of r next.0
 text_of_next r None next e = cc
 text_of_next r (Some n) next e =
     let same : with_text r n ≡ next = cc in
-    subst (λ (x : ℕ × List ℕ). x.1 ≡ text_of r x.0) same refl
+    subst (λ (x : ℕ × List ℕ). x.1 ≡ serial_text_of r x.0) same refl
 
 -- an order's next number is the least that isn't given, and comes with its serial number
 pub next_least : (t : Tables) (o : Order) (next : ℕ × List ℕ) → next_of t o ≡ Some next
-    → (next.1 ≡ text_of o.range next.0)
+    → (next.1 ≡ serial_text_of o.range next.0)
     × IsLeastUnused o.cursor (is_taken t o.issuer) o.range next.0
 next_least t o next is =
-    let text : next.1 ≡ text_of o.range next.0 = text_of_next o.range _ next is in (
+    let text : next.1 ≡ serial_text_of o.range next.0 = text_of_next o.range _ next is in (
       text,
       next_is_least o.cursor (is_taken t o.issuer) o.range next.0
           (is ∙ (λ j. Some (next.0, text j))),
@@ -47,9 +48,9 @@ module _ (s : Section) (seat : List ℕ) (t : Tables) (n : NewIdentity) where
   -- what a device, its map and a number of its order come to
   abbrev pub numbered_effect : Device → Map → Order → ℕ × List ℕ → Effect
   numbered_effect d m o next = record {
-    body = identity_body d.chip (idevid_of o next n.key);
-    puts = step_put seat v (identified next.1 m d)
-        ∷ number_put o.name next.0 (row_of (idevid_of o next n.key) (Some d.chip)) ∷ [];
+    body = identity_body d.chip (idevid_of_order o next n.key);
+    puts = step_put seat v (step_of_identity next.1 m d)
+        ∷ number_put o.name next.0 (row_of (idevid_of_order o next n.key) (Some d.chip)) ∷ [];
   }
 
   -- and what a device and its map come to, where its order was looked up
@@ -59,9 +60,9 @@ module _ (s : Section) (seat : List ℕ) (t : Tables) (n : NewIdentity) where
 
   -- what an identity found: the device, its fuse map, its order and the order's next number
   pub record Identifies (e : Effect) : Type 0 where
-    pub old : Owned Device
+    pub old : OfCustomer Device
     pub fuse_map : Map
-    pub order : Owned Order
+    pub order : OfCustomer Order
     pub next : ℕ × List ℕ
     pub there : device_at s.name n.chip t ≡ Some old
     pub known : map_named s.name old.row.map t ≡ Some fuse_map
@@ -72,9 +73,9 @@ module _ (s : Section) (seat : List ℕ) (t : Tables) (n : NewIdentity) where
   pub identity_found : (e : Effect) → identity_effect seat v n ≡ Some e → Identifies e
   identity_found e is = by (device_at s.name n.chip t) refl is
     where
-      by_order : (old : Owned Device) (m : Map) → device_at s.name n.chip t ≡ Some old
+      by_order : (old : OfCustomer Device) (m : Map) → device_at s.name n.chip t ≡ Some old
           → map_in_sight v old.row.map ≡ Some m
-          → (found : Option (Owned Order)) → order_at s.name old.row.order t ≡ found
+          → (found : Option (OfCustomer Order)) → order_at s.name old.row.order t ≡ found
           → effect_in old.row m (option_map (office_order_sight s.name t) found) ≡ Some e
           → Identifies e
       by_order old m there known None in_order is = cc
@@ -92,7 +93,7 @@ module _ (s : Section) (seat : List ℕ) (t : Tables) (n : NewIdentity) where
             is = some_is next.2;
           }
 
-      by : (found : Option (Owned Device)) → device_at s.name n.chip t ≡ found
+      by : (found : Option (OfCustomer Device)) → device_at s.name n.chip t ≡ found
           → option_and_then (λ d. option_and_then (λ m. effect_in d m
           (option_map (office_order_sight s.name t) (order_at s.name d.order t)))
           (map_in_sight v d.map)) (option_map (λ d. d.row) found) ≡ Some e
@@ -103,14 +104,14 @@ module _ (s : Section) (seat : List ℕ) (t : Tables) (n : NewIdentity) where
           by_order old m.0 there m.1 (order_at s.name old.row.order t) refl m.2
 
   -- where nothing refuses it, nothing refuses that device in that order
-  pub identity_free : (old : Owned Device) (m : Map) (o : Owned Order)
+  pub identity_free : (old : OfCustomer Device) (m : Map) (o : OfCustomer Order)
       → device_at s.name n.chip t ≡ Some old → map_named s.name old.row.map t ≡ Some m
-      → order_at s.name old.row.order t ≡ Some o → lowest (identity_refusals v n) ≡ None
-      → NoneHolds (refusals_in n.key (Some (office_order_sight s.name t o)) m old.row)
+      → order_at s.name old.row.order t ≡ Some o → first_that_holds (identity_refusals v n) ≡ None
+      → NoneHolds (number_and_key_refusals n.key (Some (office_order_sight s.name t o)) m old.row)
   identity_free old m o there known in_order free =
-      let refused : lowest (refusals_in n.key (v.order old.row.order) m old.row) ≡ None =
-      subst (λ found. lowest (step_refusals (λ m d. refusals_in n.key (v.order d.order) m d) found)
+      let refused : first_that_holds (number_and_key_refusals n.key (v.order old.row.order) m old.row) ≡ None =
+      subst (λ found. first_that_holds (step_refusals (λ m d. number_and_key_refusals n.key (v.order d.order) m d) found)
       ≡ None) (device_seen s t seat n.chip old m there known) free in
-      lowest_none (refusals_in n.key (Some (office_order_sight s.name t o)) m old.row)
-      (subst (λ o. lowest (refusals_in n.key (option_map (office_order_sight s.name t) o) m old.row)
+      lowest_none (number_and_key_refusals n.key (Some (office_order_sight s.name t o)) m old.row)
+      (subst (λ o. first_that_holds (number_and_key_refusals n.key (option_map (office_order_sight s.name t) o) m old.row)
       ≡ None) in_order refused)

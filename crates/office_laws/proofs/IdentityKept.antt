@@ -2,29 +2,30 @@
 use Rattle.std.proofs.Common.{◌≡◌, ◌+◌, ◌≤◌, ◌<◌, ◌∙◌, ℕ, arith, true, List, Option, Some, None, inl, inr, refl, sym, ap, subst}
 use Rattle.std.specs.Prelude.{bytes_eq, find, is_some, IfSome}
 use Rattle.std.proofs.lemmas.Bool.{and_parts, cases_lt, not-false}
+use Rattle.text_core.specs.Options.{first_that_holds}
 use Rattle.fusemap_core.specs.Map.{Map}
 use Rattle.id_ranges.specs.Idevid.{Idevid}
-use Rattle.id_ranges.specs.Range.{text_of}
+use Rattle.id_ranges.specs.Range.{serial_text_of}
 use Rattle.id_ranges.specs.SerialLaws.{IsLeastUnused}
 use Rattle.id_ranges.proofs.FreeBlocks.{find-passes}
-use Rattle.site_core.specs.Owners.{IsSection, Owners}
+use Rattle.site_core.specs.Ownership.{IsSection, Ownership}
 use Rattle.site_core.specs.Section.{Section}
 use Rattle.office_tables.specs.declared.rows.Cursor.{Cursor}
 use Rattle.office_tables.specs.declared.rows.Device.{Device}
 use Rattle.office_tables.specs.declared.rows.Given.{Given}
 use Rattle.office_tables.specs.declared.rows.Order.{Order}
-use Rattle.office_tables.specs.declared.rows.Owned.{Owned}
-use Rattle.office_tables.specs.Tables.{IsAddressFree, Tables, device_at, device_cmp, given_at, given_by_key, given_cmp, is_device, is_given, is_order, order_at, placed, with_cursor, with_given}
+use Rattle.office_tables.specs.declared.rows.OfCustomer.{OfCustomer}
+use Rattle.office_tables.specs.Tables.{IsAddressFree, Tables, device_at, device_cmp, given_at, given_by_key, given_cmp, is_device, is_serial_of}
+use Rattle.office_tables.specs.Tables.{is_order, order_at, with_row, with_cursor, with_given}
 use Rattle.office_commands.specs.declared.new_identity.NewIdentity.{NewIdentity}
 use Rattle.office_rules.specs.Effect.{Effect}
-use Rattle.office_rules.specs.Identity.{identified, identity_effect, identity_refusals, idevid_of, may_be_identified, row_of}
-use Rattle.office_rules.specs.Lowest.{lowest}
+use Rattle.office_rules.specs.Identity.{step_of_identity, identity_effect, identity_refusals, idevid_of_order, may_be_identified, row_of}
 use Rattle.office_rules.specs.OfficeMachine.{MakesPuts, is_taken, its, map_named, map_text, next_of, office_sight}
 use Rattle.office_rules.specs.declared.device_step.DeviceStep.{DeviceStep}
 use Rattle.office_rules.proofs.Refusing.{none_from_test}
 use Rattle.office_rules.proofs.Ties.{same_text}
 use Rattle.office_laws.specs.Sound.{IsSound}
-use Rattle.office_laws.specs.SoundRecords.{IsGivenBelow, IsNumbered, IsRecordOf}
+use Rattle.office_laws.specs.SoundRecords.{IsIssuedBelow, SerialIsOfIdentified, IsRecordOf}
 use Rattle.office_laws.proofs.CursorLaws.{cursor_grows, cursor_sound}
 use Rattle.office_laws.proofs.Ends.{identity_keeps, unnumbered_settled}
 use Rattle.office_laws.proofs.GivenLaws.{given_found, given_grows, given_sound}
@@ -38,25 +39,25 @@ use Rattle.office_laws.proofs.RecordRows.{each_tied, own_device}
 use Rattle.office_laws.proofs.Registrations.{found_is_map}
 use Rattle.office_laws.proofs.StepKept.{step_kept, step_made, stepped}
 
-module _ {owners : Owners} {t : Tables} (sound : IsSound owners t) (s : Section)
+module _ {owners : Ownership} {t : Tables} (sound : IsSound owners t) (s : Section)
     (section : IsSection owners s) where
   -- a device with its fuse map and its order, the order's next number, and a key that is nobody's
-  module _ (seat : List ℕ) (n : NewIdentity) (old : Owned Device) (m : Map) (o : Owned Order)
+  module _ (seat : List ℕ) (n : NewIdentity) (old : OfCustomer Device) (m : Map) (o : OfCustomer Order)
       (next : ℕ × List ℕ) (there : device_at s.name n.chip t ≡ Some old)
       (known : map_named s.name old.row.map t ≡ Some m)
       (in_order : order_at s.name old.row.order t ≡ Some o)
       (is_next : next_of t o.row ≡ Some next) (unbound : given_by_key o.row.issuer n.key t ≡ None)
       (may : may_be_identified old.row.state ≡ true) where
     abbrev i : Idevid
-    i = idevid_of o.row next n.key
+    i = idevid_of_order o.row next n.key
 
-    abbrev g : Owned Given
+    abbrev g : OfCustomer Given
     g = its s (row_of i (Some old.row.chip))
 
     abbrev step : DeviceStep
-    step = identified next.1 m old.row
+    step = step_of_identity next.1 m old.row
 
-    is_text : next.1 ≡ text_of o.row.range next.0
+    is_text : next.1 ≡ serial_text_of o.row.range next.0
     is_text = (next_least t o.row next is_next).0
 
     least : IsLeastUnused o.row.cursor (is_taken t o.row.issuer) o.row.range next.0
@@ -72,8 +73,8 @@ module _ {owners : Owners} {t : Tables} (sound : IsSound owners t) (s : Section)
     record_stands : (id : ℕ) → IsRecordOf (stepped s seat t step id).orders
         (stepped s seat t step id).devices g (Some old.row.chip)
     record_stands id =
-        let d : Owned Device = its s step.device in
-        let found : find (is_device s.name old.row.chip) (placed device_cmp d t.devices) ≡ Some d =
+        let d : OfCustomer Device = its s step.device in
+        let found : find (is_device s.name old.row.chip) (with_row device_cmp d t.devices) ≡ Some d =
         found_replaced device_cmp d (is_device s.name old.row.chip) t.devices (own_device d)
         (each_tied d t.devices) in
         rw found (
@@ -90,31 +91,31 @@ module _ {owners : Owners} {t : Tables} (sound : IsSound owners t) (s : Section)
 
     -- below the number above the one that is given nothing is free
     given_below : (n : ℕ) → o.row.range.first ≤ n → n < next.0
-        → is_some (given_at o.row.issuer (text_of o.row.range n) t) ≡ true
+        → is_some (given_at o.row.issuer (serial_text_of o.row.range n) t) ≡ true
     given_below n low before =
         elim (cases_lt n o.row.cursor) [
           | inl under ↦ order_below sound s.name old.row.order o in_order n low under
           | inr from ↦ least.least n (low, omega (arith, before, least.has.1)) from before
         ]
 
-    still_given : (found : Option (Owned Given)) (later : Option (Owned Given))
+    still_given : (found : Option (OfCustomer Given)) (later : Option (OfCustomer Given))
         → is_some found ≡ true → IfSome found (λ x. later ≡ Some x) → is_some later ≡ true
     still_given None later was is = cc
     still_given (Some x) later was is = ap is_some is
 
-    below : IsGivenBelow (placed given_cmp g t.given)
+    below : IsIssuedBelow (with_row given_cmp g t.given)
         (its s (record o.row { cursor = next.0 + 1 }))
     below n low high =
         elim (cases_lt n next.0) [
           | inl before ↦
-              let text = text_of o.row.range n in
+              let text = serial_text_of o.row.range n in
               still_given (given_at o.row.issuer text t)
-              (find (is_given o.row.issuer text) (placed given_cmp g t.given))
+              (find (is_serial_of o.row.issuer text) (with_row given_cmp g t.given))
               (given_below n low before)
               ((given_grows t t g not_given (grows_itself t)).given o.row.issuer text)
           | inr past ↦
               let same : n ≡ next.0 = omega (arith, past, high) in
-              let found : find (is_given o.row.issuer next.1) (placed given_cmp g t.given)
+              let found : find (is_serial_of o.row.issuer next.1) (with_row given_cmp g t.given)
               ≡ Some g = given_found g t.given in
               rw (same, ← is_text, found) refl
         ]
@@ -129,7 +130,7 @@ module _ {owners : Owners} {t : Tables} (sound : IsSound owners t) (s : Section)
     order_stands : order_at s.name o.row.name t ≡ Some o
     order_stands = subst (λ (name : List ℕ). order_at s.name name t ≡ Some o) (sym name_is) in_order
 
-    abbrev cursor : Owned Cursor
+    abbrev cursor : OfCustomer Cursor
     cursor = its s (record { order = o.row.name; number = next.0 + 1 })
 
     pub number_kept : (id : ℕ) → Lasts owners t (stepped s seat t step id)
@@ -147,7 +148,7 @@ module _ {owners : Owners} {t : Tables} (sound : IsSound owners t) (s : Section)
 
     keeps : Keeps m old.row step
     keeps = identity_keeps m (found_is_map (map_text s.name old.row.map t) m known) old.row next.1
-        may (unnumbered_settled old (find_holds IsNumbered (is_device s.name n.chip) t.devices old
+        may (unnumbered_settled old (find_holds SerialIsOfIdentified (is_device s.name n.chip) t.devices old
         sound.devices.numbered there).0 may)
 
     pub numbered_kept : (mid : Tables)
@@ -164,7 +165,7 @@ module _ {owners : Owners} {t : Tables} (sound : IsSound owners t) (s : Section)
         (number_kept id one free)
 
   pub identity_kept : (seat : List ℕ) (n : NewIdentity) (e : Effect) (mid : Tables)
-      → lowest (identity_refusals (office_sight s seat t) n) ≡ None
+      → first_that_holds (identity_refusals (office_sight s seat t) n) ≡ None
       → identity_effect seat (office_sight s seat t) n ≡ Some e → MakesPuts s e.puts t mid
       → Lasts owners t mid
   identity_kept seat n e mid free is puts =

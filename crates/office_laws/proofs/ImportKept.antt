@@ -1,18 +1,19 @@
 -- An import of serial numbers keeps the tables sound, and forgets nothing.
 use Rattle.std.proofs.Common.{◌≡◌, ℕ, Bool, true, false, List, [], ◌∷◌, map, None, refl, sym, ◌∙◌, subst}
 use Rattle.std.specs.Prelude.{◌&&◌, ◌||◌, is_some, not, if◌then◌else◌, Some, Result, Ok, Err}
-use Rattle.site_core.specs.Owners.{IsSection, Owners}
+use Rattle.site_core.specs.Ownership.{IsSection, Ownership}
 use Rattle.site_core.specs.Section.{Section}
 use Rattle.text_core.specs.Answer.{result_map}
 use Rattle.import_rows.specs.declared.rows.ImportRow.{ImportRow}
 use Rattle.office_tables.specs.declared.rows.Given.{Given}
-use Rattle.office_tables.specs.declared.rows.Owned.{Owned}
+use Rattle.office_tables.specs.declared.rows.OfCustomer.{OfCustomer}
 use Rattle.office_tables.specs.Tables.{Tables, given_at, given_by_key, with_given}
 use Rattle.office_commands.specs.declared.new_identity.NewImport.{NewImport}
 use Rattle.office_rules.specs.Effect.{Effect, record_put}
-use Rattle.office_rules.specs.Import.{Imported, import_effect, imported, imported_row, is_conflict, is_present, rows_effect, with_added, with_present, with_row}
-use Rattle.office_rules.specs.OfficeMachine.{MakesPuts, given_in, office_sight}
-use Rattle.office_rules.specs.Sight.{GivenIn}
+use Rattle.office_rules.specs.Import.{ImportResult, import_effect, import_result, row_of_import, is_conflict, is_present, rows_effect, with_added}
+use Rattle.office_rules.specs.Import.{with_present, with_import_row}
+use Rattle.office_rules.specs.OfficeMachine.{MakesPuts, issued_in, office_sight}
+use Rattle.office_rules.specs.Sight.{IssuedIn}
 use Rattle.office_rules.proofs.GivenRows.{given_with, owned_row}
 use Rattle.office_rules.proofs.Refusing.{is_some_map, none_from_test}
 use Rattle.office_laws.specs.Grows.{Grows}
@@ -31,58 +32,58 @@ is_new true serial_given key_given absent agrees = cc
 is_new false true key_given absent agrees = cc
 is_new false false key_given absent agrees = (refl, agrees)
 
-module _ (owners : Owners) (s : Section) (issuer : List ℕ) (before : Tables)
+module _ (owners : Ownership) (s : Section) (issuer : List ℕ) (before : Tables)
     (mine : owners.issuer issuer ≡ Some s.name) where
   -- rows that are put into tables, one by one, which have kept all of earlier ones
   abbrev RowsLast : Tables → List ImportRow → Type 0
   RowsLast t rows = (mid : Tables)
-      → MakesPuts s (map (λ r. record_put (imported_row issuer r)) rows) t mid
+      → MakesPuts s (map (λ r. record_put (row_of_import issuer r)) rows) t mid
       → Lasts owners before mid
 
   -- and so for the rows that an import comes to, where it isn't refused
-  abbrev AllLast : Tables → Result Imported (List ℕ) → Type 0
+  abbrev AllLast : Tables → Result ImportResult (List ℕ) → Type 0
   AllLast t (Err serial) = Unit {0}
   AllLast t (Ok i) = RowsLast t i.added
 
-  with_one_present : (t : Tables) (later : Result Imported (List ℕ)) → AllLast t later
+  with_one_present : (t : Tables) (later : Result ImportResult (List ℕ)) → AllLast t later
       → AllLast t (result_map with_present later)
   with_one_present t (Err serial) last = tt
   with_one_present t (Ok i) last = last
 
   -- a new row, before those that follow it
-  with_one_added : (t : Tables) (r : ImportRow) (later : Result Imported (List ℕ))
+  with_one_added : (t : Tables) (r : ImportRow) (later : Result ImportResult (List ℕ))
       → AllLast (with_given (owned_row s.name issuer r) t) later
       → AllLast t (result_map (with_added r) later)
   with_one_added t r (Err serial) last = tt
   with_one_added t r (Ok i) last = λ mid (next, (free, put), later). last mid (subst (λ x.
-      MakesPuts s (map (λ r. record_put (imported_row issuer r)) i.added) x mid) put later)
+      MakesPuts s (map (λ r. record_put (row_of_import issuer r)) i.added) x mid) put later)
 
   all_last : (rows : List ImportRow) (t : Tables) → IsSound owners t → Grows before t
-      → AllLast t (imported (given_in issuer t) rows)
+      → AllLast t (import_result (issued_in issuer t) rows)
   all_last [] t sound grows = λ mid is.
       lasts_named is (record { sound = sound; grows = grows })
   all_last (r ∷ rs) t sound grows =
-      let given = given_in issuer t in
-      let g : Owned Given = owned_row s.name issuer r in
+      let given = issued_in issuer t in
+      let g : OfCustomer Given = owned_row s.name issuer r in
       elim (is_conflict given r) as (λ b. is_conflict given r ≡ b
       → AllLast t (if b then Err r.serial
-      else if is_present given r then result_map with_present (imported given rs)
-      else result_map (with_added r) (imported (with_row r given) rs))) [
+      else if is_present given r then result_map with_present (import_result given rs)
+      else result_map (with_added r) (import_result (with_import_row r given) rs))) [
         | true ↦ λ _. tt
         | false ↦ λ agrees. elim (is_present given r) as (λ b. is_present given r ≡ b
-            → AllLast t (if b then result_map with_present (imported given rs)
-            else result_map (with_added r) (imported (with_row r given) rs))) [
-              | true ↦ λ _. with_one_present t (imported given rs) (all_last rs t sound grows)
+            → AllLast t (if b then result_map with_present (import_result given rs)
+            else result_map (with_added r) (import_result (with_import_row r given) rs))) [
+              | true ↦ λ _. with_one_present t (import_result given rs) (all_last rs t sound grows)
               | false ↦ λ absent.
                   let is = is_new (is_present given r) (is_some (given.key_of r.serial))
                   (is_some (given.serial_of r.key)) absent agrees in
                   let new : given_at issuer r.serial t ≡ None = none_from_test _ (sym (is_some_map
-                  (λ (o : Owned Given). o.row.key) (given_at issuer r.serial t)) ∙ is.0) in
+                  (λ (o : OfCustomer Given). o.row.key) (given_at issuer r.serial t)) ∙ is.0) in
                   let unbound : given_by_key issuer r.key t ≡ None = none_from_test _ (sym
-                  (is_some_map (λ (o : Owned Given). o.row.serial) (given_by_key issuer r.key t))
+                  (is_some_map (λ (o : OfCustomer Given). o.row.serial) (given_by_key issuer r.key t))
                   ∙ is.1) in
-                  with_one_added t r (imported (with_row r given) rs)
-                  (subst (λ known. AllLast (with_given g t) (imported known rs))
+                  with_one_added t r (import_result (with_import_row r given) rs)
+                  (subst (λ known. AllLast (with_given g t) (import_result known rs))
                   (given_with s.name issuer r t new unbound)
                   (all_last rs (with_given g t)
                   (given_sound sound g mine new unbound tt (refl, refl))
@@ -90,7 +91,7 @@ module _ (owners : Owners) (s : Section) (issuer : List ℕ) (before : Tables)
             ] refl
       ] refl
 
-module _ {owners : Owners} {t : Tables} (sound : IsSound owners t) (s : Section)
+module _ {owners : Ownership} {t : Tables} (sound : IsSound owners t) (s : Section)
     (section : IsSection owners s) (seat : List ℕ) where
   pub import_kept : (n : NewImport) (e : Effect) (mid : Tables)
       → import_effect (office_sight s seat t) n ≡ Some e → MakesPuts s e.puts t mid
@@ -100,11 +101,11 @@ module _ {owners : Owners} {t : Tables} (sound : IsSound owners t) (s : Section)
       let given = gave ((office_sight s seat t).issuer n.issuer) _ e rows.2 in
       let found = issuer_found s t n.issuer given.0 given.1 in
       let mine = issuer_owner s section n.issuer found.0 in
-      by mine (imported given.0 rows.0)
-      (subst (λ (g : GivenIn). AllLast owners s n.issuer t mine t (imported g rows.0)) found.1
+      by mine (import_result given.0 rows.0)
+      (subst (λ (g : IssuedIn). AllLast owners s n.issuer t mine t (import_result g rows.0)) found.1
       (all_last owners s n.issuer t mine rows.0 t sound (grows_itself t))) given.2
     where
-      by : (mine : owners.issuer n.issuer ≡ Some s.name) (made : Result Imported (List ℕ))
+      by : (mine : owners.issuer n.issuer ≡ Some s.name) (made : Result ImportResult (List ℕ))
           → AllLast owners s n.issuer t mine t made → rows_effect n.issuer made ≡ Some e
           → Lasts owners t mid
       by mine (Err serial) last is = cc

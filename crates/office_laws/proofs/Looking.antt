@@ -1,17 +1,15 @@
 -- What the look-ups of a customer's seat found in the tables.
-use Rattle.std.proofs.Common.{◌≡◌, ◌∙◌, ℕ, Bool, true, false, cond, List, [], ◌∷◌, Option, Some, None, refl, sym, subst}
+use Rattle.std.proofs.Common.{◌≡◌, ◌∙◌, ℕ, Bool, true, false, List, Option, Some, None, refl, sym, subst}
 use Rattle.std.specs.Prelude.{bytes_eq, if◌then◌else◌, option_and_then, option_map}
-use Rattle.std.specs.List.{AllByRecursion, list_any}
+use Rattle.std.specs.List.{list_any}
 use Rattle.fusemap_core.specs.Map.{Map}
 use Rattle.site_core.specs.Section.{Section}
 use Rattle.office_tables.specs.declared.rows.Device.{Device}
-use Rattle.office_tables.specs.declared.rows.Owned.{Owned}
+use Rattle.office_tables.specs.declared.rows.OfCustomer.{OfCustomer}
 use Rattle.office_tables.specs.Tables.{Tables, device_at}
-use Rattle.office_commands.specs.declared.refusal.Refusal.{Refusal}
 use Rattle.office_rules.specs.Effect.{Effect}
-use Rattle.office_rules.specs.Lowest.{lowest}
-use Rattle.office_rules.specs.OfficeMachine.{MakesPuts, given_in, has_issuer, map_named, office_sight}
-use Rattle.office_rules.specs.Sight.{GivenIn, device_in_sight, map_in_sight}
+use Rattle.office_rules.specs.OfficeMachine.{MakesPuts, issued_in, has_issuer, map_named, office_sight}
+use Rattle.office_rules.specs.Sight.{IssuedIn, device_in_sight, map_in_sight}
 use Rattle.office_rules.specs.declared.device_step.FoundDevice.{FoundDevice}
 use Rattle.office_rules.proofs.Sights.{map_same}
 
@@ -30,19 +28,6 @@ pub mapped : {A B : Type 0} (o : Option A) (f : A → B) (y : B) → option_map 
 mapped None f y e = cc
 mapped (Some x) f y e = (x, refl, some_is e)
 
--- where no refusal is the lowest, none holds
-abbrev pub NoneHolds : List (Bool × Refusal) → Type 0
-NoneHolds cs = AllByRecursion (λ c. c.0 ≡ false) cs
-
-pub lowest_none : (cs : List (Bool × Refusal)) → lowest cs ≡ None → NoneHolds cs
-lowest_none [] e = tt
-lowest_none (c ∷ cs) e =
-    elim (c.0) as (λ b. c.0 ≡ b → cond b (Some c.1) (lowest cs) ≡ None
-    → (c.0 ≡ false) × NoneHolds cs) [
-      | true ↦ λ _ e. cc
-      | false ↦ λ holds e. (holds, lowest_none cs e)
-    ] refl e
-
 -- the puts of an effect that is known
 pub puts_of : (s : Section) (t mid : Tables) {made e : Effect} → Some made ≡ Some e
     → MakesPuts s e.puts t mid → MakesPuts s made.puts t mid
@@ -51,19 +36,19 @@ puts_of s t mid {made} {e} is puts =
 
 module _ (s : Section) (t : Tables) where
   -- an issuer that is looked up is one of the section's
-  pub issuer_found : (issuer : List ℕ) (given : GivenIn)
-      → (if has_issuer s issuer then Some (given_in issuer t) else None) ≡ Some given
-      → (list_any (bytes_eq issuer) s.issuers ≡ true) × (given_in issuer t ≡ given)
+  pub issuer_found : (issuer : List ℕ) (given : IssuedIn)
+      → (if has_issuer s issuer then Some (issued_in issuer t) else None) ≡ Some given
+      → (list_any (bytes_eq issuer) s.issuers ≡ true) × (issued_in issuer t ≡ given)
   issuer_found issuer given is = by (list_any (bytes_eq issuer) s.issuers) refl is
     where
       by : (mine : Bool) → list_any (bytes_eq issuer) s.issuers ≡ mine
-          → (if mine then Some (given_in issuer t) else None) ≡ Some given
-          → (list_any (bytes_eq issuer) s.issuers ≡ true) × (given_in issuer t ≡ given)
+          → (if mine then Some (issued_in issuer t) else None) ≡ Some given
+          → (list_any (bytes_eq issuer) s.issuers ≡ true) × (issued_in issuer t ≡ given)
       by true mine is = (mine, some_is is)
       by false mine is = cc
 
   -- a device that is there with its fuse map is seen
-  pub device_seen : (seat chip : List ℕ) (d : Owned Device) (m : Map)
+  pub device_seen : (seat chip : List ℕ) (d : OfCustomer Device) (m : Map)
       → device_at s.name chip t ≡ Some d → map_named s.name d.row.map t ≡ Some m
       → device_in_sight (office_sight s seat t) chip
       ≡ Some (record { device = d.row; map = Some m })
@@ -71,5 +56,5 @@ module _ (s : Section) (t : Tables) where
       let v = office_sight s seat t in
       let with_map : Device → Option FoundDevice =
       λ x. Some (record { device = x; map = map_in_sight v x.map }) in
-      (λ i. option_and_then with_map (option_map (λ (x : Owned Device). x.row) (there i)))
+      (λ i. option_and_then with_map (option_map (λ (x : OfCustomer Device). x.row) (there i)))
       ∙ (λ i. Some (record { device = d.row; map = (sym (map_same s seat t d.row.map) ∙ known) i }))

@@ -4,6 +4,7 @@ use Rattle.std.specs.Prelude.{if◌then◌else◌}
 use Rattle.std.specs.List.{AllByRecursion}
 use Rattle.std.proofs.lemmas.Bool.{false≢true}
 use Rattle.sha2.specs.Sha256.{sha256}
+use Rattle.text_core.specs.Options.{first_that_holds}
 use Rattle.fusemap_core.specs.Map.{Map}
 use Rattle.site_core.specs.Section.{Section}
 use Rattle.office_tables.specs.declared.rows.Device.{Device}
@@ -13,15 +14,14 @@ use Rattle.office_commands.specs.declared.command.Change.TheVariants.{MakeOrder,
 use Rattle.office_commands.specs.declared.refusal.Refusal.{Refusal}
 use Rattle.import_rows.specs.declared.rows.ImportRow.{ImportRow}
 use Rattle.office_rules.specs.Ends.{scrap_refusals, ship_refusals}
-use Rattle.office_rules.specs.Identity.{refusals_in}
-use Rattle.office_rules.specs.Import.{Imported, conflict_in, conflicts_in, imported}
-use Rattle.office_rules.specs.Lowest.{lowest}
+use Rattle.office_rules.specs.Identity.{number_and_key_refusals}
+use Rattle.office_rules.specs.Import.{ImportResult, conflict_refusals, rows_refusals, import_result}
 use Rattle.office_rules.specs.Machine.{refusals}
 use Rattle.office_rules.specs.Map.{bad_map, map_fault, text_refusals}
 use Rattle.office_rules.specs.Plan.{plan_refusals}
-use Rattle.office_rules.specs.ReadBack.{read_refusals}
-use Rattle.office_rules.specs.Registration.{fits, readback_refusals}
-use Rattle.office_rules.specs.Sight.{GivenIn, OrderSight, Sight, device_in_sight, map_in_sight, refusals_with, step_refusals}
+use Rattle.office_rules.specs.ReadBack.{read_back_refusals}
+use Rattle.office_rules.specs.Registration.{words_fit_map, readback_refusals}
+use Rattle.office_rules.specs.Sight.{IssuedIn, OrderSight, Sight, device_in_sight, map_in_sight, known_map_refusals, step_refusals}
 use Rattle.office_rules.specs.declared.device_step.FoundDevice.{FoundDevice}
 
 -- each number is above the one before it, and the first above n
@@ -48,14 +48,14 @@ none_below r [] up = tt
 none_below r (c ∷ cs) up = (λ _. omega (arith, up.0), none_below r cs up.1)
 
 first_is_lowest : (holds : Bool) (first r : Refusal) (cs : List (Bool × Refusal)) → AscendFrom (refusal_number first) cs
-    → (lowest cs ≡ Some r → NoneBelow r cs) → (if holds then Some first else lowest cs) ≡ Some r
+    → (first_that_holds cs ≡ Some r → NoneBelow r cs) → (if holds then Some first else first_that_holds cs) ≡ Some r
     → (holds ≡ true → refusal_number r ≤ refusal_number first) × NoneBelow r cs
 first_is_lowest true first r cs up later e =
     let same : first ≡ r = cc in
     rw (← same) (λ _. omega arith, none_below first cs (above (refusal_number first) cs up))
 first_is_lowest false first r cs up later e = (λ h. absurd (false≢true h), later e)
 
-pub lowest_of_ascending : (n : ℕ) (cs : List (Bool × Refusal)) (r : Refusal) → AscendFrom n cs → lowest cs ≡ Some r → NoneBelow r cs
+pub lowest_of_ascending : (n : ℕ) (cs : List (Bool × Refusal)) (r : Refusal) → AscendFrom n cs → first_that_holds cs ≡ Some r → NoneBelow r cs
 lowest_of_ascending n [] r up e = cc
 lowest_of_ascending n (c ∷ cs) r up e = first_is_lowest c.0 c.1 r cs up.1 (lowest_of_ascending (refusal_number c.1) cs r up.1) e
 
@@ -74,7 +74,7 @@ shown_ascends false coding hidden bad first second other = (other, tt)
 
 readback_ascends : (map : Option Map) (words : List (List ℕ)) → AscendFrom 18 (readback_refusals map words)
 readback_ascends None words = tt
-readback_ascends (Some m) words = shown_ascends (fits m words) _ _ _ (omega arith) (omega arith) (omega arith)
+readback_ascends (Some m) words = shown_ascends (words_fit_map m words) _ _ _ (omega arith) (omega arith) (omega arith)
 
 -- those of a step of a device that was looked up
 step_ascends : (against : Map → Device → List (Bool × Refusal)) → ((m : Map) (d : Device) → AscendFrom 12 (against m d)) → (found : Option FoundDevice)
@@ -82,25 +82,25 @@ step_ascends : (against : Map → Device → List (Bool × Refusal)) → ((m : M
 step_ascends against each None = (omega arith, tt)
 step_ascends against each (Some found) = with_map found.map found.device
   where
-    with_map : (map : Option Map) (d : Device) → AscendFrom 12 (refusals_with against map d)
+    with_map : (map : Option Map) (d : Device) → AscendFrom 12 (known_map_refusals against map d)
     with_map None d = tt
     with_map (Some m) d = each m d
 
 identity_ascends : (key : List ℕ) (order : Option OrderSight) (m : Map) (d : Device)
-    → AscendFrom 12 (refusals_in key order m d)
+    → AscendFrom 12 (number_and_key_refusals key order m d)
 identity_ascends key None m d = tt
 identity_ascends key (Some o) m d = (omega arith, (omega arith, (omega arith, tt)))
 
 -- those of an import
-conflict_ascends : (found : Result Imported (List ℕ)) → AscendFrom 37 (conflict_in found)
+conflict_ascends : (found : Result ImportResult (List ℕ)) → AscendFrom 37 (conflict_refusals found)
 conflict_ascends (Ok i) = tt
 conflict_ascends (Err serial) = (omega arith, tt)
 
-conflicts_in_ascend : (given : Option GivenIn) (rows : Option (List ImportRow))
-    → AscendFrom 37 (conflicts_in given rows)
+conflicts_in_ascend : (given : Option IssuedIn) (rows : Option (List ImportRow))
+    → AscendFrom 37 (rows_refusals given rows)
 conflicts_in_ascend None rows = tt
 conflicts_in_ascend (Some g) None = tt
-conflicts_in_ascend (Some g) (Some rows) = conflict_ascends (imported g rows)
+conflicts_in_ascend (Some g) (Some rows) = conflict_ascends (import_result g rows)
 
 -- those of each command stand in the order of their numbers, after those of the retry rule
 pub refusals_ascend : (s : Section) (v : Sight) (c : Change) → AscendFrom 12 (refusals s v c)
@@ -162,7 +162,7 @@ refusals_ascend s v (PlanDevice p) =
       ),
     )) (device_in_sight v p.chip)
 refusals_ascend s v (ReadBack r) =
-    step_ascends (read_refusals r.blocks) (λ m d. (omega arith, (omega arith, tt)))
+    step_ascends (read_back_refusals r.blocks) (λ m d. (omega arith, (omega arith, tt)))
     (device_in_sight v r.chip)
 refusals_ascend s v (Identify i) =
     step_ascends _ (λ m d. identity_ascends i.key (v.order d.order) m d)

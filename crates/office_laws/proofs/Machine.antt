@@ -3,9 +3,10 @@
 use Rattle.std.proofs.Common.{◌≡◌, ℕ, false, List, [], ◌∷◌, ◌++◌, map, Option, Some, None, refl, sym, ap, ◌∙◌, subst}
 use Rattle.std.specs.Prelude.{bytes_eq, is_some, if◌then◌else◌, option_map, Result, Ok, Err}
 use Rattle.std.specs.List.{AllByRecursion}
+use Rattle.text_core.specs.Options.{first_that_holds}
 use Rattle.http_replies.specs.Replies.{Answer}
 use Rattle.site_core.specs.Section.{Section}
-use Rattle.site_core.specs.Owners.{IsSection, Owners}
+use Rattle.site_core.specs.Ownership.{IsSection, Ownership}
 use Rattle.import_rows.specs.declared.rows.ImportRow.{ImportRow}
 use Rattle.office_tables.specs.Tables.{Tables}
 use Rattle.office_commands.specs.declared.command.Change.{Change as Changing}
@@ -16,17 +17,16 @@ use Rattle.office_commands.specs.declared.command.Request.{Request}
 use Rattle.office_commands.specs.declared.refusal.Refusal.{Refusal}
 use Rattle.office_rules.specs.Effect.{StepRule, Effect, Put, map_put, record_put, step_effect}
 use Rattle.office_rules.specs.Ends.{scraps, ships}
-use Rattle.office_rules.specs.Import.{Imported, imported, imported_row, rows_effect}
-use Rattle.office_rules.specs.Lowest.{lowest}
-use Rattle.office_rules.specs.Machine.{Response, decide, effect, refusals, respond_in_turn, respond_to, response}
+use Rattle.office_rules.specs.Import.{ImportResult, import_result, row_of_import, rows_effect}
+use Rattle.office_rules.specs.Machine.{Response, decide, effect, refusals, respond_by_retry, respond_to, response}
 use Rattle.office_rules.specs.Map.{bad_map, map_fault, text_refusals}
 use Rattle.office_rules.specs.OfficeMachine.{Step, office_sight}
 use Rattle.office_rules.specs.Plan.{plans}
 use Rattle.office_rules.specs.ReadBack.{reads}
-use Rattle.office_rules.specs.Retry.{turn}
-use Rattle.office_rules.specs.Sight.{GivenIn, Sight, map_in_sight}
-use Rattle.office_rules.specs.declared.turn.Turn.{Turn}
-use Rattle.office_rules.specs.declared.turn.Turn.TheVariants.{Repeats, Differs, Next, Skips}
+use Rattle.office_rules.specs.Retry.{retry_of}
+use Rattle.office_rules.specs.Sight.{IssuedIn, Sight, map_in_sight}
+use Rattle.office_rules.specs.declared.retry.Retry.{Retry}
+use Rattle.office_rules.specs.declared.retry.Retry.TheVariants.{Repeats, Differs, Next, Skips}
 use Rattle.office_laws.specs.SoloMachine.{after_response, solo_step}
 use Rattle.office_laws.specs.Sound.{IsSound}
 use Rattle.office_laws.specs.View.{view}
@@ -37,7 +37,7 @@ use Rattle.office_laws.proofs.Seen.{seen_own}
 use Rattle.office_laws.proofs.Tidy.{IsDue, puts_act, sound_is_tidy}
 use Rattle.office_laws.proofs.Unread.{all_with}
 
-module _ {owners : Owners} {t : Tables} (sound : IsSound owners t) (s : Section)
+module _ {owners : Ownership} {t : Tables} (sound : IsSound owners t) (s : Section)
     (section : IsSection owners s) (seat : List ℕ) (mine : owners.seat seat ≡ Some s.name) where
   abbrev v : Sight
   v = office_sight s seat t
@@ -49,7 +49,7 @@ module _ {owners : Owners} {t : Tables} (sound : IsSound owners t) (s : Section)
   these {made} {o} e due = subst (λ (x : Effect). AreDue x.puts) (some_is e) due
 
   -- an issuer that is looked up is the customer's
-  issuer_mine : (issuer : List ℕ) (given : GivenIn) → v.issuer issuer ≡ Some given
+  issuer_mine : (issuer : List ℕ) (given : IssuedIn) → v.issuer issuer ≡ Some given
       → owners.issuer issuer ≡ Some s.name
   issuer_mine issuer given e = issuer_owner s section issuer (issuer_found s t issuer given e).0
 
@@ -61,25 +61,25 @@ module _ {owners : Owners} {t : Tables} (sound : IsSound owners t) (s : Section)
       these m.2 (tt, tt)
 
   text_due : (text : List ℕ) (found : Option (List ℕ)) (fault : Option ℕ) → map_fault text ≡ fault
-      → lowest (bad_map fault ++ text_refusals text found v.maps) ≡ None
+      → first_that_holds (bad_map fault ++ text_refusals text found v.maps) ≡ None
       → AreDue (if is_some found then [] else map_put text ∷ [])
   text_due text (Some other) fault e free = tt
   text_due text None None e free = (e, tt)
   text_due text None (Some fault) e free = cc
 
   rows_due : (issuer : List ℕ) → owners.issuer issuer ≡ Some s.name → (rows : List ImportRow)
-      → AreDue (map (λ r. record_put (imported_row issuer r)) rows)
+      → AreDue (map (λ r. record_put (row_of_import issuer r)) rows)
   rows_due issuer mine [] = tt
   rows_due issuer mine (r ∷ rs) = (mine, rows_due issuer mine rs)
 
   adds_due : (issuer : List ℕ) → owners.issuer issuer ≡ Some s.name
-      → (made : Result Imported (List ℕ)) (o : Effect) → rows_effect issuer made ≡ Some o
+      → (made : Result ImportResult (List ℕ)) (o : Effect) → rows_effect issuer made ≡ Some o
       → AreDue o.puts
   adds_due issuer mine (Err serial) o e = cc
   adds_due issuer mine (Ok i) o e = these e (rows_due issuer mine i.added)
 
   -- the puts of a command are due
-  outcome_due : (c : Changing) (o : Effect) → lowest (refusals s v c) ≡ None
+  outcome_due : (c : Changing) (o : Effect) → first_that_holds (refusals s v c) ≡ None
       → effect s seat v c ≡ Some o → AreDue o.puts
   outcome_due (MakeOrder n) o free e = these (gave (v.issuer n.issuer) _ o e).2 (refl, tt)
   outcome_due (ImportMap text) o free e =
@@ -96,7 +96,7 @@ module _ {owners : Owners} {t : Tables} (sound : IsSound owners t) (s : Section)
   outcome_due (Import n) o free e =
       let rows = gave n.rows _ o e in
       let given = gave (v.issuer n.issuer) _ o rows.2 in
-      adds_due n.issuer (issuer_mine n.issuer given.0 given.1) (imported given.0 rows.0) o given.2
+      adds_due n.issuer (issuer_mine n.issuer given.0 given.1) (import_result given.0 rows.0) o given.2
 
   module _ (r : Request) where
     none_due : {made p : Response} → Some made ≡ Some p → made.puts ≡ [] → AreDue p.puts
@@ -104,7 +104,7 @@ module _ {owners : Owners} {t : Tables} (sound : IsSound owners t) (s : Section)
         subst (λ (x : Response). AreDue x.puts) (some_is e) (subst AreDue (sym none) tt)
 
     judged_due : (c : Changing) (p : Response) (found : Option Refusal)
-        → lowest (refusals s v c) ≡ found → (made : Option Effect) → effect s seat v c ≡ made
+        → first_that_holds (refusals s v c) ≡ found → (made : Option Effect) → effect s seat v c ≡ made
         → decide seat r found made ≡ Some p → AreDue p.puts
     judged_due c p (Some reason) free made is e = none_due e refl
     judged_due c p None free None is e = cc
@@ -112,17 +112,17 @@ module _ {owners : Owners} {t : Tables} (sound : IsSound owners t) (s : Section)
         subst (λ (x : Response). AreDue x.puts) (some_is e)
         (all_with (IsDue owners s.name) o.puts _ (outcome_due c o free is) mine)
 
-    turned_due : (c : Changing) (p : Response) (turns : Turn)
-        → respond_in_turn s seat v r c turns ≡ Some p → AreDue p.puts
+    turned_due : (c : Changing) (p : Response) (turns : Retry)
+        → respond_by_retry s seat v r c turns ≡ Some p → AreDue p.puts
     turned_due c p (Repeats body) e = none_due e refl
     turned_due c p Differs e = none_due e refl
     turned_due c p (Skips expected) e = none_due e refl
-    turned_due c p Next e = judged_due c p (lowest (refusals s v c)) refl (effect s seat v c) refl e
+    turned_due c p Next e = judged_due c p (first_that_holds (refusals s v c)) refl (effect s seat v c) refl e
 
     served_due : (command : Command) (p : Response) → respond_to s seat v r command ≡ Some p
         → AreDue p.puts
     served_due (Show asked) p e = none_due e refl
-    served_due (Change c) p e = turned_due c p (turn v.seat r.number r.digest) e
+    served_due (Change c) p e = turned_due c p (retry_of v.seat r.number r.digest) e
 
     -- a step is the own machine's on the customer's view, and none on another's
     pub step_own : (reply : Answer) (t2 : Tables) → Step s seat t r reply t2

@@ -2,17 +2,17 @@
 use Rattle.std.proofs.Common.{◌≡◌, ◌∙◌, ◌++◌, ℕ, Bool, List, [], ◌∷◌, Option, Some, None, refl, sym, ap}
 use Rattle.std.specs.Prelude.{if◌then◌else◌, is_some, option_map}
 use Rattle.sha2.specs.Sha256.{sha256}
-use Rattle.site_core.specs.Owners.{IsSection, Owners}
+use Rattle.text_core.specs.Options.{first_that_holds}
+use Rattle.site_core.specs.Ownership.{IsSection, Ownership}
 use Rattle.site_core.specs.Section.{Section}
 use Rattle.office_tables.specs.declared.rows.Link.{Link}
 use Rattle.office_tables.specs.declared.rows.MapRow.{MapRow}
-use Rattle.office_tables.specs.declared.rows.Owned.{Owned}
+use Rattle.office_tables.specs.declared.rows.OfCustomer.{OfCustomer}
 use Rattle.office_tables.specs.Tables.{Tables, link_at, map_at, map_with, with_link, with_map}
 use Rattle.office_commands.specs.declared.refusal.Refusal.{Refusal}
 use Rattle.office_rules.specs.Effect.{map_put}
-use Rattle.office_rules.specs.Lowest.{lowest}
 use Rattle.office_rules.specs.Map.{bad_map, map_effect, map_fault, map_refusals, text_refusals}
-use Rattle.office_rules.specs.OfficeMachine.{Links, MakesPuts, its, office_sight, text_in}
+use Rattle.office_rules.specs.OfficeMachine.{Links, MakesPuts, its, office_sight, body_of_map}
 use Rattle.office_rules.specs.Sight.{Sight}
 use Rattle.office_laws.specs.Grows.{Grows}
 use Rattle.office_laws.specs.Sound.{IsLinked, IsSound}
@@ -23,11 +23,11 @@ use Rattle.office_laws.proofs.MapRows.{map_of_text, new_map_found}
 
 -- a text that nothing refuses has no fault
 no_fault_of : (text : List ℕ) (fault : Option ℕ) (later : List (Bool × Refusal))
-    → map_fault text ≡ fault → lowest (bad_map fault ++ later) ≡ None → map_fault text ≡ None
+    → map_fault text ≡ fault → first_that_holds (bad_map fault ++ later) ≡ None → map_fault text ≡ None
 no_fault_of text None later e free = e
 no_fault_of text (Some fault) later e free = cc
 
-module _ {owners : Owners} {t : Tables} (sound : IsSound owners t) (s : Section)
+module _ {owners : Ownership} {t : Tables} (sound : IsSound owners t) (s : Section)
     (section : IsSection owners s) where
   -- a link to a map that is there, or was just made
   link_kept : (text : List ℕ) (mapped : Tables) (l : Link) (m : MapRow) → IsSound owners mapped
@@ -59,12 +59,12 @@ module _ {owners : Owners} {t : Tables} (sound : IsSound owners t) (s : Section)
     abbrev v : Sight
     v = office_sight s seat t
 
-    pub map_kept : (text : List ℕ) (mid : Tables) → lowest (map_refusals v text) ≡ None
+    pub map_kept : (text : List ℕ) (mid : Tables) → first_that_holds (map_refusals v text) ≡ None
         → MakesPuts s (map_effect v text).puts t mid → Lasts owners t mid
     map_kept text mid free puts = by (link_at s.name (sha256 text) t) refl puts
       where
-        by : (found : Option (Owned Link)) → link_at s.name (sha256 text) t ≡ found
-            → MakesPuts s (if is_some (option_map (λ l. text_in (map_at l.row.map t)) found) then []
+        by : (found : Option (OfCustomer Link)) → link_at s.name (sha256 text) t ≡ found
+            → MakesPuts s (if is_some (option_map (λ l. body_of_map (map_at l.row.map t)) found) then []
             else map_put text ∷ []) t mid → Lasts owners t mid
         by (Some l) there puts = lasts_named puts (lasts_itself sound)
         by None there (next, put, last) =

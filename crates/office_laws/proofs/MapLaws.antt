@@ -4,16 +4,16 @@ use Rattle.std.specs.List.{AllByRecursion}
 use Rattle.std.specs.Ordering.{ordering_then}
 use Rattle.std.specs.Cmp.{IsTotalOrder}
 use Rattle.std.proofs.lemmas.Cmp.{on_total, then_total, nat_list_cmp_total, tied_itself}
-use Rattle.site_core.specs.Owners.{Owners}
-use Rattle.office_tables.specs.declared.rows.Owned.{Owned}
+use Rattle.site_core.specs.Ownership.{Ownership}
+use Rattle.office_tables.specs.declared.rows.OfCustomer.{OfCustomer}
 use Rattle.office_tables.specs.declared.rows.Link.{Link}
 use Rattle.office_tables.specs.declared.rows.MapRow.{MapRow}
-use Rattle.office_tables.specs.Tables.{Tables, is_of, link_at, link_cmp, map_at, map_cmp, map_with, placed, text_cmp, with_link, with_map}
+use Rattle.office_tables.specs.Tables.{Tables, is_of, link_at, link_cmp, map_at, map_cmp, map_with, with_row, text_cmp, with_link, with_map}
 use Rattle.office_tables.proofs.Placing.{all_map, all_placed, placed_in_order}
 use Rattle.office_rules.specs.OfficeMachine.{map_named}
 use Rattle.office_rules.proofs.Ties.{first_equal, same_place, same_text}
 use Rattle.office_laws.specs.Sound.{AreSoundMaps, IsLinked, IsSound}
-use Rattle.office_laws.specs.SoundDevices.{Named}
+use Rattle.office_laws.specs.SoundDevices.{MapOf}
 use Rattle.office_laws.proofs.MapRows.{body_is_new, linked_after, maps_total, texts_apart_placed}
 use Rattle.office_laws.proofs.NamedMaps.{named_after_link, named_after_map}
 use Rattle.office_laws.proofs.DeviceRows.{ledgers_kept, referred_after_link}
@@ -23,11 +23,11 @@ links_total =
     then_total (on_total (λ o. o.customer) nat_list_cmp_total)
     (on_total (λ o. o.row.digest) nat_list_cmp_total)
 
-abbrev pub own_link_cmp : Link → Link → Ordering
-own_link_cmp a b = text_cmp a.digest b.digest
+abbrev pub solo_link_cmp : Link → Link → Ordering
+solo_link_cmp a b = text_cmp a.digest b.digest
 
-pub link_agree : (c : List ℕ) (a b : Owned Link) → is_of c a ≡ true → is_of c b ≡ true
-    → link_cmp a b ≡ own_link_cmp a.row b.row
+pub link_agree : (c : List ℕ) (a b : OfCustomer Link) → is_of c a ≡ true → is_of c b ≡ true
+    → link_cmp a b ≡ solo_link_cmp a.row b.row
 link_agree c a b p q =
     let same : b.customer ≡ a.customer =
     sym (same_text c b.customer q) ∙ same_text c a.customer p in
@@ -37,16 +37,16 @@ link_agree c a b p q =
     ap (λ r. ordering_then r (text_cmp a.row.digest b.row.digest)) tied
 
 -- a link whose place another has is the same customer's
-pub link_place : (l : Owned Link) (rows : List (Owned Link))
+pub link_place : (l : OfCustomer Link) (rows : List (OfCustomer Link))
     → AllByRecursion (λ y. link_cmp l y ≡ Equal → l.customer ≡ y.customer) rows
 link_place l [] = tt
 link_place l (y ∷ ys) =
     ((λ e. same_place l.customer y.customer (first_equal _ _ e)), link_place l ys)
 
 -- maps and links, with a link to a map that is there, or with a new map that nobody has a link to
-module _ {owners : Owners} (t : Tables) (sound : AreSoundMaps owners t.maps t.links) where
-  pub maps_with_link : (l : Owned Link) → owners.customer l.customer ≡ true → IsLinked t.maps l
-      → AreSoundMaps owners t.maps (placed link_cmp l t.links)
+module _ {owners : Ownership} (t : Tables) (sound : AreSoundMaps owners t.maps t.links) where
+  pub maps_with_link : (l : OfCustomer Link) → owners.customer l.customer ≡ true → IsLinked t.maps l
+      → AreSoundMaps owners t.maps (with_row link_cmp l t.links)
   maps_with_link l mine linked = record {
     maps_in_order = sound.maps_in_order;
     texts_apart = sound.texts_apart;
@@ -56,7 +56,7 @@ module _ {owners : Owners} (t : Tables) (sound : AreSoundMaps owners t.maps t.li
   }
 
   pub maps_with_map : (id : ℕ) (body : List ℕ) → map_at id t ≡ None → map_with body t ≡ None
-      → AreSoundMaps owners (placed map_cmp (record { id = id; body = body }) t.maps) t.links
+      → AreSoundMaps owners (with_row map_cmp (record { id = id; body = body }) t.maps) t.links
   maps_with_map id body fresh new =
       let m : MapRow = record { id = id; body = body } in
       record {
@@ -64,15 +64,15 @@ module _ {owners : Owners} (t : Tables) (sound : AreSoundMaps owners t.maps t.li
         texts_apart = texts_apart_placed m t.maps (body_is_new body t new) sound.texts_apart;
         links_in_order = sound.links_in_order;
         owned = sound.owned;
-        linked = all_map (IsLinked t.maps) (IsLinked (placed map_cmp m t.maps))
+        linked = all_map (IsLinked t.maps) (IsLinked (with_row map_cmp m t.maps))
             (linked_after t id body fresh) t.links sound.linked;
       }
 
-module _ {owners : Owners} {t : Tables} (sound : IsSound owners t) where
-  abbrev named : Tables → Named
+module _ {owners : Ownership} {t : Tables} (sound : IsSound owners t) where
+  abbrev named : Tables → MapOf
   named t = λ customer digest. map_named customer digest t
 
-  pub link_sound : (l : Owned Link) → owners.customer l.customer ≡ true → IsLinked t.maps l
+  pub link_sound : (l : OfCustomer Link) → owners.customer l.customer ≡ true → IsLinked t.maps l
       → link_at l.customer l.row.digest t ≡ None → IsSound owners (with_link l t)
   link_sound l mine linked none = record {
     seats = sound.seats;

@@ -3,16 +3,16 @@
 use Rattle.std.proofs.Common.{◌≡◌, ℕ, false, List, Some, sym, ap}
 use Rattle.std.specs.Prelude.{bytes_eq}
 use Rattle.http_replies.specs.Replies.{Answer}
-use Rattle.site_core.specs.Owners.{AreApart, IsSection, Owners}
+use Rattle.site_core.specs.Ownership.{PoolsDisjoint, IsSection, Ownership}
 use Rattle.site_core.specs.Section.{Section}
 use Rattle.office_tables.specs.Tables.{Tables}
 use Rattle.office_commands.specs.Asked.{IsAsked}
 use Rattle.office_commands.specs.declared.command.Request.{Request}
 use Rattle.office_commands.specs.declared.new_identity.NewIdentity.{NewIdentity}
 use Rattle.office_rules.specs.OfficeMachine.{Step, asks_identity}
-use Rattle.office_laws.specs.Fresh.{GivesAnew}
+use Rattle.office_laws.specs.Fresh.{IssuesFresh}
 use Rattle.office_laws.specs.Grows.{Grows}
-use Rattle.office_laws.specs.SoloMachine.{State, or_unkept, solo}
+use Rattle.office_laws.specs.SoloMachine.{SoloState, or_unkept, solo}
 use Rattle.office_laws.specs.Sound.{IsSound}
 use Rattle.office_laws.specs.View.{view}
 use Rattle.office_laws.proofs.Fresh.{gives_anew}
@@ -21,15 +21,15 @@ use Rattle.office_laws.proofs.StepLasts.{step_lasts}
 use Rattle.office_laws.proofs.Steps.{step_exists}
 
 -- a reply and tables after it are those of the customer's own machine; another view stays
-pub record Obeys (owners : Owners) (c : List ℕ) (t : Tables) (reply : Answer) (t2 : Tables)
-    (said : Answer × State) : Type 0 where
+pub record Obeys (owners : Ownership) (c : List ℕ) (t : Tables) (reply : Answer) (t2 : Tables)
+    (said : Answer × SoloState) : Type 0 where
   pub sound : IsSound owners t2
   pub grows : Grows t t2
   pub own : (reply, view c t2) ≡ said
   pub other : (d : List ℕ) → bytes_eq d c ≡ false → view d t2 ≡ view d t
 
-module _ {owners : Owners} {t : Tables} (sound : IsSound owners t) (s : Section) (seat : List ℕ) where
-  pub step_obeys : AreApart owners → IsSection owners s → (r : Request) (reply : Answer)
+module _ {owners : Ownership} {t : Tables} (sound : IsSound owners t) (s : Section) (seat : List ℕ) where
+  pub step_obeys : PoolsDisjoint owners → IsSection owners s → (r : Request) (reply : Answer)
       (t2 : Tables) → IsAsked r → owners.seat seat ≡ Some s.name → Step s seat t r reply t2
       → Obeys owners s.name t reply t2 (solo s seat (view s.name t) r)
   step_obeys apart section r reply t2 asked mine step =
@@ -44,7 +44,7 @@ module _ {owners : Owners} {t : Tables} (sound : IsSound owners t) (s : Section)
 
   pub step_anew : (number : ℕ) (digest : List ℕ) (i : NewIdentity) (reply : Answer) (t2 : Tables)
       → IsSound owners t2 → Step s seat t (asks_identity number digest i) reply t2
-      → GivesAnew s seat number digest i t reply t2
+      → IssuesFresh s seat number digest i t reply t2
   step_anew number digest i reply t2 later step =
       gives_anew s seat t i number digest reply t2 later step
 

@@ -1,33 +1,33 @@
 -- A new order keeps the tables sound, and forgets nothing.
 use Rattle.std.proofs.Common.{◌≡◌, ◌∙◌, ℕ, List, None, Some, arith, refl, sym, ap, subst}
 use Rattle.std.specs.List.{AllByRecursion}
-use Rattle.site_core.specs.Owners.{AreApart, IsSection, Owners}
+use Rattle.text_core.specs.Options.{first_that_holds}
+use Rattle.site_core.specs.Ownership.{PoolsDisjoint, IsSection, Ownership}
 use Rattle.site_core.specs.Section.{Section}
 use Rattle.office_tables.specs.declared.rows.Order.{Order}
-use Rattle.office_tables.specs.declared.rows.Owned.{Owned}
-use Rattle.office_tables.specs.Tables.{Tables, is_order, order_at, order_cmp, own, with_order}
+use Rattle.office_tables.specs.declared.rows.OfCustomer.{OfCustomer}
+use Rattle.office_tables.specs.Tables.{Tables, is_order, order_at, order_cmp, rows_of, with_order}
 use Rattle.office_tables.proofs.Finding.{still_there}
 use Rattle.office_commands.specs.NewOrders.{IsNewOrder}
 use Rattle.office_commands.specs.declared.new_order.NewOrder.{NewOrder}
 use Rattle.office_rules.specs.Effect.{Effect}
-use Rattle.office_rules.specs.Lowest.{lowest}
 use Rattle.office_rules.specs.OfficeMachine.{MakesPuts, at_first, its, office_order_sight, office_sight}
-use Rattle.office_rules.specs.Order.{order_effect, order_refusals, wanted, wanted_order}
+use Rattle.office_rules.specs.Order.{order_effect, order_refusals, order_of_request, made_order}
 use Rattle.office_rules.specs.Sight.{Sight}
-use Rattle.office_rules.proofs.Refusing.{is_some_map, none_from_test}
+use Rattle.office_rules.proofs.Refusing.{is_some_map, lowest_none, none_from_test}
 use Rattle.office_laws.specs.Sound.{AreDisjoint, IsInPool, IsOrder, IsSound}
 use Rattle.office_laws.proofs.Addresses.{each_apart_placed, wanted_apart, wanted_in_pool}
 use Rattle.office_laws.proofs.DeviceRows.{each_order}
 use Rattle.office_laws.proofs.Growing.{order_grows}
 use Rattle.office_laws.proofs.Lasting.{Lasts, lasts_named}
-use Rattle.office_laws.proofs.Looking.{gave, issuer_found, lowest_none, puts_of}
+use Rattle.office_laws.proofs.Looking.{gave, issuer_found, puts_of}
 use Rattle.office_laws.proofs.Readings.{issuer_owner, wanted_at_first}
 use Rattle.office_laws.proofs.RecordRows.{record_after_order}
 use Rattle.office_laws.proofs.SoundRows.{order_placed}
 use Rattle.office_laws.proofs.Terms.{wanted_terms}
 
 -- a new order whose addresses are its own
-order_sound : {owners : Owners} {t : Tables} → IsSound owners t → (o : Owned Order)
+order_sound : {owners : Ownership} {t : Tables} → IsSound owners t → (o : OfCustomer Order)
     → owners.issuer o.row.issuer ≡ Some o.customer → IsOrder o.row → IsInPool owners o
     → AllByRecursion (λ other. AreDisjoint o.row other.row) t.orders
     → order_at o.customer o.row.name t ≡ None → at_first o.row ≡ o.row
@@ -42,21 +42,21 @@ order_sound {t = t} sound o mine terms in_pool apart new first =
     (λ n least below. absurd (omega (arith, least, below, start)))
 
 -- an order that is asked for, where nothing refuses it
-module _ {owners : Owners} {t : Tables} (sound : IsSound owners t) (apart : AreApart owners)
+module _ {owners : Ownership} {t : Tables} (sound : IsSound owners t) (apart : PoolsDisjoint owners)
     (s : Section) (section : IsSection owners s) (seat : List ℕ) where
   abbrev v : Sight
   v = office_sight s seat t
 
   pub order_kept : (n : NewOrder) (e : Effect) (mid : Tables) → IsNewOrder n
-      → lowest (order_refusals s v n) ≡ None → order_effect s v n ≡ Some e
+      → first_that_holds (order_refusals s v n) ≡ None → order_effect s v n ≡ Some e
       → MakesPuts s e.puts t mid → Lasts owners t mid
   order_kept n e mid asked free is puts =
       let none = lowest_none (order_refusals s v n) free in
       let given = gave (v.issuer n.issuer) _ e is in
       let mine = issuer_owner s section n.issuer
       (issuer_found s t n.issuer given.0 given.1).0 in
-      let w : Order = wanted_order s v n in
-      let same : wanted s.pools (own s.name t.orders) n ≡ w = wanted_at_first s t n in
+      let w : Order = made_order s v n in
+      let same : order_of_request s.pools (rows_of s.name t.orders) n ≡ w = wanted_at_first s t n in
       let new : order_at s.name n.name t ≡ None = none_from_test _
       (sym (is_some_map (office_order_sight s.name t) (order_at s.name n.name t)) ∙ none.0) in
       let change = puts_of s t mid given.2 puts in

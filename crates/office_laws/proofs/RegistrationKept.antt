@@ -3,51 +3,52 @@ use Rattle.std.proofs.Common.{◌≡◌, ◌∙◌, ℕ, true, false, List, [], 
 use Rattle.std.specs.Prelude.{if◌then◌else◌, is_some}
 use Rattle.std.proofs.lemmas.Bool.{not-false}
 use Rattle.std.proofs.lemmas.Slice.Eq.{bytes_eq-Decides}
+use Rattle.text_core.specs.Options.{first_that_holds}
 use Rattle.fusemap_core.specs.Map.{Map}
-use Rattle.fuse_redaction.specs.Redaction.{Fits, redacted}
-use Rattle.site_core.specs.Owners.{IsSection, Owners}
+use Rattle.fuse_image.specs.Redaction.{WordsFitMap, redacted}
+use Rattle.site_core.specs.Ownership.{IsSection, Ownership}
 use Rattle.site_core.specs.Section.{Section}
 use Rattle.office_tables.specs.declared.rows.Device.{Device}
 use Rattle.office_tables.specs.declared.rows.Entry.{Entry}
-use Rattle.office_tables.specs.declared.rows.Owned.{Owned}
+use Rattle.office_tables.specs.declared.rows.OfCustomer.{OfCustomer}
 use Rattle.office_tables.specs.Tables.{Tables, device_at, entry_under, link_at, order_at}
 use Rattle.office_commands.specs.declared.new_device.NewDevice.{NewDevice}
 use Rattle.office_commands.specs.declared.refusal.Refusal.TheVariants.{BadReadback}
 use Rattle.office_rules.specs.Effect.{Effect}
-use Rattle.office_rules.specs.Lowest.{lowest}
 use Rattle.office_rules.specs.OfficeMachine.{MakesPuts, its, map_named, map_text, office_order_sight, office_sight}
-use Rattle.office_rules.specs.Registration.{fits, readback_refusals, registration, registration_effect, registration_refusals, shown_refusals}
+use Rattle.office_rules.specs.Registration.{words_fit_map, readback_refusals, step_of_registration, registration_effect, registration_refusals}
+use Rattle.office_rules.specs.Registration.{redaction_refusals}
 use Rattle.office_rules.specs.Sight.{Sight, map_in_sight}
 use Rattle.office_rules.specs.declared.device_step.DeviceStep.{DeviceStep}
 use Rattle.office_rules.proofs.Linked.{map_is_linked}
-use Rattle.office_rules.proofs.Refusing.{is_some_map, none_from_test}
+use Rattle.office_rules.proofs.Refusing.{NoneHolds, is_some_map, lowest_none, none_from_test}
 use Rattle.office_rules.proofs.Sights.{map_same}
 use Rattle.office_laws.specs.Sound.{IsSound}
-use Rattle.office_laws.specs.SoundDevices.{IsKept}
+use Rattle.office_laws.specs.SoundDevices.{FitsFuseMap}
 use Rattle.office_laws.proofs.DeviceLaws.{new_ledger, step_sound}
 use Rattle.office_laws.proofs.Growing.{device_grows}
 use Rattle.office_laws.proofs.Lasting.{Lasts, lasts_named}
-use Rattle.office_laws.proofs.Looking.{NoneHolds, gave, lowest_none, puts_of}
+use Rattle.office_laws.proofs.Looking.{gave, puts_of}
 use Rattle.office_laws.proofs.Registrations.{found_is_map, registered_kept}
 use Rattle.office_laws.proofs.StepKept.{entry_made, step_made}
 
 -- what nothing refuses of a read-back fits the map
 fits_from : (m : Map) (blocks : List (List ℕ)) → NoneHolds (readback_refusals (Some m) blocks)
-    → fits m blocks ≡ true
+    → words_fit_map m blocks ≡ true
 fits_from m blocks none =
-    elim (fits m blocks) as (λ b. NoneHolds (if b then shown_refusals m (redacted m blocks)
+    elim (words_fit_map m blocks) as (λ b. NoneHolds (if b then redaction_refusals m (redacted m blocks)
     else (true, BadReadback) ∷ []) → b ≡ true) [
       | true ↦ λ _. refl
       | false ↦ λ none. let no = none.0 in cc
     ] none
 
-module _ {owners : Owners} {t : Tables} (sound : IsSound owners t) (s : Section)
+module _ {owners : Ownership} {t : Tables} (sound : IsSound owners t) (s : Section)
     (section : IsSection owners s) (seat : List ℕ) where
   abbrev v : Sight
   v = office_sight s seat t
 
   pub registration_kept : (n : NewDevice) (e : Effect) (mid : Tables)
-      → lowest (registration_refusals v n) ≡ None → registration_effect seat v n ≡ Some e
+      → first_that_holds (registration_refusals v n) ≡ None → registration_effect seat v n ≡ Some e
       → MakesPuts s e.puts t mid → Lasts owners t mid
   registration_kept n e mid free is puts =
       let none = lowest_none (registration_refusals v n) free in
@@ -58,18 +59,18 @@ module _ {owners : Owners} {t : Tables} (sound : IsSound owners t) (s : Section)
       sym (is_some_map (office_order_sight s.name t) (order_at s.name n.order t))
       ∙ not-false _ none.1.0 in
       let new : device_at s.name n.chip t ≡ None = none_from_test _
-      (sym (is_some_map (λ (d : Owned Device). d.row) (device_at s.name n.chip t)) ∙ none.1.1.0) in
-      let fit : Fits m n.blocks = (bytes_eq-Decides _ _).0 (fits_from m n.blocks
+      (sym (is_some_map (λ (d : OfCustomer Device). d.row) (device_at s.name n.chip t)) ∙ none.1.1.0) in
+      let fit : WordsFitMap m n.blocks = (bytes_eq-Decides _ _).0 (fits_from m n.blocks
       (subst (λ x. NoneHolds (readback_refusals x n.blocks)) found.1 none.1.1.1.1)) in
-      let step : DeviceStep = registration m n (redacted m n.blocks) in
+      let step : DeviceStep = step_of_registration m n (redacted m n.blocks) in
       let puts = puts_of s t mid found.2 puts in
       let change = step_made s seat t step puts.0 puts.1 in
       let id = change.0 in
-      let entry : Owned Entry = entry_under (entry_made s seat t step) id in
+      let entry : OfCustomer Entry = entry_under (entry_made s seat t step) id in
       let kept : (also : Map) → map_named s.name n.map t ≡ Some also
-      → IsKept also step.device (entry ∷ []) = λ other also.
+      → FitsFuseMap also step.device (entry ∷ []) = λ other also.
       let same : m ≡ other = cc (known, also) in
-      subst (λ (x : Map). IsKept x step.device (entry ∷ [])) same (registered_kept m
+      subst (λ (x : Map). FitsFuseMap x step.device (entry ∷ [])) same (registered_kept m
       (found_is_map (map_text s.name n.map t) m known) n fit entry refl refl) in
       lasts_named (puts.2 ∙ change.2) (record {
         sound = step_sound sound s.name seat step id (record {

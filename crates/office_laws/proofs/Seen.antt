@@ -4,29 +4,30 @@ use Rattle.std.specs.Prelude.{bytes_eq, is_some, if◌then◌else◌, option_map
 use Rattle.std.specs.List.{list_any}
 use Rattle.std.proofs.lemmas.List.{length-map}
 use Rattle.site_core.specs.Section.{Section}
-use Rattle.site_core.specs.Owners.{IsSection, Owners}
+use Rattle.site_core.specs.Ownership.{IsSection, Ownership}
 use Rattle.office_tables.specs.declared.rows.Order.{Order}
-use Rattle.office_tables.specs.declared.rows.Owned.{Owned}
+use Rattle.office_tables.specs.declared.rows.OfCustomer.{OfCustomer}
 use Rattle.office_tables.specs.OrderPlaces.{places_taken}
-use Rattle.office_tables.specs.Tables.{Tables, given_by_key, link_at, order_at, own}
-use Rattle.office_rules.specs.OfficeMachine.{at_first, given_in, office_order_sight, office_sight}
+use Rattle.office_tables.specs.Tables.{Tables, given_by_key, link_at, order_at, rows_of}
+use Rattle.office_rules.specs.OfficeMachine.{at_first, issued_in, office_order_sight, office_sight}
 use Rattle.office_rules.proofs.Refusing.{is_some_map}
-use Rattle.office_laws.specs.SoloMachine.{State, solo_given_in, solo_order_sight, solo_sight}
+use Rattle.office_laws.specs.SoloMachine.{SoloState, solo_issued_in, solo_order_sight, solo_sight}
 use Rattle.office_laws.specs.Sound.{IsSound}
-use Rattle.office_laws.specs.View.{own_map, view}
-use Rattle.office_laws.proofs.Readings.{bound_own, device_own, entries_own, given_in_own, issuer_owner, map_map, map_own, order_issuer, order_next_own, order_own, seat_own}
+use Rattle.office_laws.specs.View.{solo_map, view}
+use Rattle.office_laws.proofs.Readings.{bound_own, device_own, entries_own, given_in_own, issuer_owner, map_map, map_own, order_issuer}
+use Rattle.office_laws.proofs.Readings.{order_next_own, order_own, seat_own}
 
-module _ {owners : Owners} {t : Tables} (sound : IsSound owners t) (s : Section) (section : IsSection owners s) where
-  abbrev v : State
+module _ {owners : Ownership} {t : Tables} (sound : IsSound owners t) (s : Section) (section : IsSection owners s) where
+  abbrev v : SoloState
   v = view s.name t
 
-  order_by : (name : List ℕ) (found : Option (Owned Order)) → order_at s.name name t ≡ found
+  order_by : (name : List ℕ) (found : Option (OfCustomer Order)) → order_at s.name name t ≡ found
       → option_map (office_order_sight s.name t) found ≡ option_map (solo_order_sight v) (option_map (λ o. at_first o.row) found)
   order_by name None e = refl
   order_by name (Some o) e = λ i. Some (record {
     order = at_first o.row;
     next = order_next_own sound s.name name o e i;
-    places = places_taken o.row.name (own s.name t.devices);
+    places = places_taken o.row.name (rows_of s.name t.devices);
     is_bound = λ key.
         (sym (is_some_map (λ g. g.row) (given_by_key o.row.issuer key t))
         ∙ ap is_some (bound_own sound s.name o.row.issuer (order_issuer sound s.name name o e) key)) i;
@@ -37,21 +38,21 @@ module _ {owners : Owners} {t : Tables} (sound : IsSound owners t) (s : Section)
 
   issuer_seen : (issuer : List ℕ) → (office_sight s issuer t).issuer issuer ≡ (solo_sight s issuer v).issuer issuer
   issuer_seen issuer = elim (list_any (bytes_eq issuer) s.issuers) as (λ b. list_any (bytes_eq issuer) s.issuers ≡ b
-      → (if b then Some (given_in issuer t) else None) ≡ (if b then Some (solo_given_in issuer v) else None)) [
+      → (if b then Some (issued_in issuer t) else None) ≡ (if b then Some (solo_issued_in issuer v) else None)) [
         | true ↦ λ is. ap Some (given_in_own sound s.name issuer (issuer_owner s section issuer is))
         | false ↦ λ _. refl
       ] refl
 
   text_seen : (digest : List ℕ) → (office_sight s digest t).text digest ≡ (solo_sight s digest v).text digest
-  text_seen digest = sym (map_map (λ l. own_map t l.row) (λ m. m.text) (link_at s.name digest t)) ∙ ap (option_map (λ m. m.text)) (map_own sound s.name digest)
+  text_seen digest = sym (map_map (λ l. solo_map t l.row) (λ m. m.text) (link_at s.name digest t)) ∙ ap (option_map (λ m. m.text)) (map_own sound s.name digest)
 
   pub seen_own : (seat : List ℕ) → owners.seat seat ≡ Some s.name → office_sight s seat t ≡ solo_sight s seat (view s.name t)
   seen_own seat mine = λ i. record {
     seat = seat_own sound s.name seat mine i;
-    orders = map at_first (own s.name t.orders);
+    orders = map at_first (rows_of s.name t.orders);
     order = λ name. order_seen name i;
     issuer = λ issuer. issuer_seen issuer i;
-    maps = sym (length-map (own s.name t.links) (own_map t)) i;
+    maps = sym (length-map (rows_of s.name t.links) (solo_map t)) i;
     text = λ digest. text_seen digest i;
     device = λ chip. device_own s.name chip t i;
     ledger = λ chip. entries_own s.name chip t.ledger i;

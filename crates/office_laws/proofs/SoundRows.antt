@@ -3,47 +3,47 @@ use Rattle.std.proofs.Common.{◌≡◌, ℕ, true, List, Option, Some, Ordering
 use Rattle.std.specs.Prelude.{find, is_some}
 use Rattle.std.specs.Cmp.{IsTotalOrder}
 use Rattle.std.specs.List.{AllByRecursion}
-use Rattle.site_core.specs.Owners.{Owners}
+use Rattle.site_core.specs.Ownership.{Ownership}
 use Rattle.office_tables.specs.declared.rows.Given.{Given}
 use Rattle.office_tables.specs.declared.rows.Order.{Order}
-use Rattle.office_tables.specs.declared.rows.Owned.{Owned}
-use Rattle.office_tables.specs.Tables.{Tables, is_order, order_cmp, placed, with_order}
+use Rattle.office_tables.specs.declared.rows.OfCustomer.{OfCustomer}
+use Rattle.office_tables.specs.Tables.{Tables, is_order, order_cmp, with_row, with_order}
 use Rattle.office_tables.proofs.Placing.{all_map, all_placed, placed_in_order}
 use Rattle.office_laws.specs.Sound.{EachApart, IsInPool, IsOrder, IsSound}
-use Rattle.office_laws.specs.SoundRecords.{IsGivenBelow, IsRecordOf}
+use Rattle.office_laws.specs.SoundRecords.{IsIssuedBelow, IsRecordOf}
 use Rattle.office_laws.specs.SoundRows.{AreOwned}
 use Rattle.office_laws.proofs.DeviceRows.{referred_after_orders}
 use Rattle.office_laws.proofs.Readings.{orders_total}
 
-module _ {A : Type 0} {cmp : Owned A → Owned A → Ordering} {owner : A → Option (List ℕ)}
-    {rows : List (Owned A)} (are : AreOwned cmp owner rows) (x : Owned A)
+module _ {A : Type 0} {cmp : OfCustomer A → OfCustomer A → Ordering} {owner : A → Option (List ℕ)}
+    {rows : List (OfCustomer A)} (are : AreOwned cmp owner rows) (x : OfCustomer A)
     (mine : owner x.row ≡ Some x.customer) where
   -- a row of its owner's
-  pub owned_placed : IsTotalOrder cmp → AreOwned cmp owner (placed cmp x rows)
+  pub owned_placed : IsTotalOrder cmp → AreOwned cmp owner (with_row cmp x rows)
   owned_placed total = record {
     in_order = placed_in_order cmp total x rows are.in_order;
     owned = all_placed (λ o. owner o.row ≡ Some o.customer) cmp x rows mine are.owned;
   }
 
   -- a row whose place it takes is the same customer's, where both name one thing
-  pub owned_place : ((y : Owned A) → cmp x y ≡ Equal → owner x.row ≡ owner y.row)
+  pub owned_place : ((y : OfCustomer A) → cmp x y ≡ Equal → owner x.row ≡ owner y.row)
       → AllByRecursion (λ y. cmp x y ≡ Equal → x.customer ≡ y.customer) rows
   owned_place tied = all_map (λ o. owner o.row ≡ Some o.customer)
       (λ y. cmp x y ≡ Equal → x.customer ≡ y.customer)
       (λ y its same. let one = tied y same in cc (one, mine, its)) rows are.owned
 
 -- an order, where each order that was there is there still, and each record is its order's
-module _ {owners : Owners} {t : Tables} (sound : IsSound owners t) (o : Owned Order) where
-  abbrev after : List (Owned Order)
-  after = placed order_cmp o t.orders
+module _ {owners : Ownership} {t : Tables} (sound : IsSound owners t) (o : OfCustomer Order) where
+  abbrev after : List (OfCustomer Order)
+  after = with_row order_cmp o t.orders
 
   pub order_placed : owners.issuer o.row.issuer ≡ Some o.customer → IsOrder o.row
       → IsInPool owners o → EachApart after
-      → ((g : Owned Given) → IsRecordOf t.orders t.devices g g.row.chip
+      → ((g : OfCustomer Given) → IsRecordOf t.orders t.devices g g.row.chip
       → IsRecordOf after t.devices g g.row.chip)
       → ((customer name : List ℕ) → is_some (find (is_order customer name) t.orders) ≡ true
       → is_some (find (is_order customer name) after) ≡ true)
-      → IsGivenBelow t.given o → IsSound owners (with_order o t)
+      → IsIssuedBelow t.given o → IsSound owners (with_order o t)
   order_placed mine terms in_pool apart origin there below = record {
     seats = sound.seats;
     orders = record {
@@ -57,7 +57,7 @@ module _ {owners : Owners} {t : Tables} (sound : IsSound owners t) (o : Owned Or
     devices = sound.devices;
     origins = all_map (λ g. IsRecordOf t.orders t.devices g g.row.chip)
         (λ g. IsRecordOf after t.devices g g.row.chip) origin t.given sound.origins;
-    cursors = all_placed (IsGivenBelow t.given) order_cmp o t.orders below sound.cursors;
+    cursors = all_placed (IsIssuedBelow t.given) order_cmp o t.orders below sound.cursors;
     references = referred_after_orders t.orders t.links t.devices after there sound.references;
     ledgers = sound.ledgers;
   }

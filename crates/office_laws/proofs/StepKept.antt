@@ -2,26 +2,26 @@
 use Rattle.std.proofs.Common.{◌≡◌, ◌+◌, ◌∙◌, ◌++◌, ℕ, Bool, List, [], ◌∷◌, Option, Some, None, refl, sym, ap, subst}
 use Rattle.std.specs.Prelude.{bytes_eq, option_and_then, option_map}
 use Rattle.std.proofs.lemmas.Bool.{and_parts}
+use Rattle.text_core.specs.Options.{first_that_holds}
 use Rattle.fusemap_core.specs.Map.{IsMap, Map}
-use Rattle.site_core.specs.Owners.{IsSection, Owners}
+use Rattle.site_core.specs.Ownership.{IsSection, Ownership}
 use Rattle.site_core.specs.Section.{Section}
 use Rattle.office_tables.specs.declared.rows.Device.{Device}
 use Rattle.office_tables.specs.declared.rows.Entry.{Entry}
 use Rattle.office_tables.specs.declared.rows.NewEntry.{NewEntry}
-use Rattle.office_tables.specs.declared.rows.Owned.{Owned}
+use Rattle.office_tables.specs.declared.rows.OfCustomer.{OfCustomer}
 use Rattle.office_tables.specs.Tables.{Tables, device_at, entry_under, entry_with, is_device, last_number, with_device, with_new_entry}
 use Rattle.office_commands.specs.declared.refusal.Refusal.{Refusal}
 use Rattle.office_rules.specs.Effect.{StepRule, Effect, entry_of, step_effect, step_put}
-use Rattle.office_rules.specs.Lowest.{lowest}
 use Rattle.office_rules.specs.OfficeMachine.{MakesPut, MakesPuts, its, map_named, map_text, office_sight}
 use Rattle.office_rules.specs.Sight.{Sight, device_in_sight, map_in_sight, step_refusals}
 use Rattle.office_rules.specs.declared.device_step.DeviceStep.{DeviceStep}
 use Rattle.office_rules.proofs.Sights.{entry_same, map_same}
 use Rattle.office_rules.proofs.Ties.{same_text}
-use Rattle.office_laws.specs.Grows.{Stays}
+use Rattle.office_laws.specs.Grows.{DeviceStays}
 use Rattle.office_laws.specs.Sound.{IsSound}
-use Rattle.office_laws.specs.SoundDevices.{IsKept, IsReferred}
-use Rattle.office_laws.specs.SoundRecords.{IsNumbered}
+use Rattle.office_laws.specs.SoundDevices.{FitsFuseMap, IsReferred}
+use Rattle.office_laws.specs.SoundRecords.{SerialIsOfIdentified}
 use Rattle.office_laws.proofs.DeviceLaws.{next_ledger, step_sound}
 use Rattle.office_laws.proofs.Growing.{device_grows, stays_known}
 use Rattle.office_laws.proofs.Lasting.{Lasts, lasts_named}
@@ -32,7 +32,7 @@ use Rattle.office_laws.proofs.Keeping.{Keeps}
 
 module _ (s : Section) (seat : List ℕ) (t : Tables) where
   -- the entry of a step, and the tables with both
-  abbrev pub entry_made : DeviceStep → Owned NewEntry
+  abbrev pub entry_made : DeviceStep → OfCustomer NewEntry
   entry_made step = its s (entry_of seat (last_number s.name step.device.chip t + 1) step)
 
   abbrev pub stepped : DeviceStep → ℕ → Tables
@@ -49,13 +49,13 @@ module _ (s : Section) (seat : List ℕ) (t : Tables) where
         (with_device (its s step.device) t)) (entry_same s seat t step.device.chip),
   )
 
-module _ {owners : Owners} {t : Tables} (sound : IsSound owners t) (s : Section)
+module _ {owners : Ownership} {t : Tables} (sound : IsSound owners t) (s : Section)
     (section : IsSection owners s) (seat : List ℕ) where
   abbrev v : Sight
   v = office_sight s seat t
 
   -- a step of a device that is there
-  pub step_kept : (chip : List ℕ) (old : Owned Device) (m : Map) (step : DeviceStep) (id : ℕ)
+  pub step_kept : (chip : List ℕ) (old : OfCustomer Device) (m : Map) (step : DeviceStep) (id : ℕ)
       → device_at s.name chip t ≡ Some old → map_named s.name old.row.map t ≡ Some m
       → Keeps m old.row step → entry_with id t ≡ None → Lasts owners t (stepped s seat t step id)
   step_kept chip old m step id there known keeps fresh =
@@ -66,7 +66,7 @@ module _ {owners : Owners} {t : Tables} (sound : IsSound owners t) (s : Section)
       let its_chip : chip ≡ step.device.chip =
       same_text chip old.row.chip parts.1 ∙ sym keeps.chip in
       let there_still : device_at s.name step.device.chip t ≡ Some old = rw (← its_chip) there in
-      let entry : Owned Entry = entry_under (entry_made s seat t step) id in
+      let entry : OfCustomer Entry = entry_under (entry_made s seat t step) id in
       record {
         sound = step_sound sound s.name seat step id (record {
           mine = section.customer;
@@ -76,33 +76,33 @@ module _ {owners : Owners} {t : Tables} (sound : IsSound owners t) (s : Section)
           follows = λ other also.
               let same : old ≡ other = cc (there_still, also) in
               record {
-                order = subst (λ (o : Owned Device). o.row.order ≡ step.device.order) same
+                order = subst (λ (o : OfCustomer Device). o.row.order ≡ step.device.order) same
                     (sym keeps.order);
                 serial = λ serial has. keeps.serial serial
-                    (subst (λ (o : Owned Device). o.row.serial ≡ Some serial) (sym same) has);
+                    (subst (λ (o : OfCustomer Device). o.row.serial ≡ Some serial) (sym same) has);
               };
           numbered = keeps.numbered;
           ledger = next_ledger sound s.name seat step id old there_still keeps.map
               (λ other also es was.
               let same : m ≡ other = cc (known, also) in
-              subst (λ (x : Map). IsKept x old.row es → IsKept x step.device (es ++ entry ∷ []))
+              subst (λ (x : Map). FitsFuseMap x old.row es → FitsFuseMap x step.device (es ++ entry ∷ []))
               same (λ kept. keeps.kept es entry refl refl kept) was);
         });
         grows = device_grows t (its s step.device) (λ other also.
             let same : old ≡ other = cc (there_still, also) in
-            let by_map : Stays (map_named s.name old.row.map t) old.row step.device =
+            let by_map : DeviceStays (map_named s.name old.row.map t) old.row step.device =
             stays_known (map_named s.name old.row.map t) m old.row step.device known keeps.order
             keeps.map keeps.burnt in
-            subst (λ (o : Owned Device). Stays (map_named s.name o.row.map t) o.row step.device)
+            subst (λ (o : OfCustomer Device). DeviceStays (map_named s.name o.row.map t) o.row step.device)
             same by_map) (entry_made s seat t step) id;
       }
 
   -- a command that makes a step of a device, where nothing refuses it
   pub steps_kept : (does : StepRule) (against : Map → Device → List (Bool × Refusal)) (chip : List ℕ)
-      (e : Effect) (mid : Tables) → lowest (step_refusals against (device_in_sight v chip)) ≡ None
+      (e : Effect) (mid : Tables) → first_that_holds (step_refusals against (device_in_sight v chip)) ≡ None
       → step_effect seat v does chip ≡ Some e
-      → ((old : Owned Device) (m : Map) → IsNumbered old → IsMap m
-      → lowest (against m old.row) ≡ None → Keeps m old.row (does m old.row).0)
+      → ((old : OfCustomer Device) (m : Map) → SerialIsOfIdentified old → IsMap m
+      → first_that_holds (against m old.row) ≡ None → Keeps m old.row (does m old.row).0)
       → MakesPuts s e.puts t mid → Lasts owners t mid
   steps_kept does against chip e mid free is keeps puts =
       by (device_at s.name chip t) refl is
@@ -110,7 +110,7 @@ module _ {owners : Owners} {t : Tables} (sound : IsSound owners t) (s : Section)
       made : Device → Map → Effect
       made d m = record { body = (does m d).1; puts = step_put seat v (does m d).0 ∷ [] }
 
-      by : (found : Option (Owned Device)) → device_at s.name chip t ≡ found
+      by : (found : Option (OfCustomer Device)) → device_at s.name chip t ≡ found
           → option_and_then (λ d. option_and_then (λ m. Some (made d m)) (map_in_sight v d.map))
           (option_map (λ d. d.row) found) ≡ Some e → Lasts owners t mid
       by None there is = cc
@@ -118,10 +118,10 @@ module _ {owners : Owners} {t : Tables} (sound : IsSound owners t) (s : Section)
           let m = gave (map_in_sight v old.row.map) _ e is in
           let known : map_named s.name old.row.map t ≡ Some m.0 =
           map_same s seat t old.row.map ∙ m.1 in
-          let refused : lowest (against m.0 old.row) ≡ None =
-          subst (λ found. lowest (step_refusals against found) ≡ None)
+          let refused : first_that_holds (against m.0 old.row) ≡ None =
+          subst (λ found. first_that_holds (step_refusals against found) ≡ None)
           (device_seen s t seat chip old m.0 there known) free in
-          let numbered = find_holds IsNumbered (is_device s.name chip) t.devices old
+          let numbered = find_holds SerialIsOfIdentified (is_device s.name chip) t.devices old
           sound.devices.numbered there in
           let keep = keeps old m.0 numbered.0
           (found_is_map (map_text s.name old.row.map t) m.0 known) refused in

@@ -2,13 +2,14 @@
 use Rattle.std.proofs.Common.{◌≡◌, ◌++◌, ℕ, true, List, [], ◌∷◌, Option, Some, None, refl, sym, subst}
 use Rattle.std.proofs.lemmas.Bool.{not-false}
 use Rattle.std.proofs.lemmas.Slice.Eq.{bytes_eq-Decides}
+use Rattle.text_core.specs.Options.{first_that_holds}
 use Rattle.http_replies.specs.Replies.{Answer}
-use Rattle.fuse_redaction.specs.Redaction.{Fits, redacted}
-use Rattle.fuse_columns.specs.Lying.{ReadBackLies}
+use Rattle.fuse_image.specs.Redaction.{WordsFitMap, redacted}
+use Rattle.fuse_columns.specs.InMap.{ReadBackInMap}
 use Rattle.fuse_columns.proofs.Lies.{read_backs_lie}
-use Rattle.site_core.specs.Owners.{AreApart, IsSection, Owners}
+use Rattle.site_core.specs.Ownership.{PoolsDisjoint, IsSection, Ownership}
 use Rattle.site_core.specs.Section.{Section}
-use Rattle.office_tables.specs.declared.rows.Owned.{Owned}
+use Rattle.office_tables.specs.declared.rows.OfCustomer.{OfCustomer}
 use Rattle.office_tables.specs.declared.rows.SeatState.{SeatState}
 use Rattle.office_tables.specs.Tables.{Tables, with_seat}
 use Rattle.office_commands.specs.Asked.{IsAsked, IsChange, IsCommand}
@@ -21,22 +22,22 @@ use Rattle.office_commands.specs.Replies.{refusal}
 use Rattle.office_commands.specs.declared.refusal.Refusal.{Refusal}
 use Rattle.office_rules.specs.Effect.{Effect, Put, seat_put}
 use Rattle.office_rules.specs.Ends.{scrap_refusals, scraps, ship_refusals, ships}
-use Rattle.office_rules.specs.Lowest.{lowest}
-use Rattle.office_rules.specs.Machine.{Response, decide, effect, refusals, reply_only, respond_in_turn, respond_to}
+use Rattle.office_rules.specs.Machine.{Response, decide, effect, refusals, reply_only, respond_by_retry, respond_to}
 use Rattle.office_rules.specs.OfficeMachine.{MakesPut, MakesPuts, Step, its, office_sight}
 use Rattle.office_rules.specs.Plan.{known_of, may_be_planned, plan_refusals, plans}
-use Rattle.office_rules.specs.ReadBack.{is_awaited, read_refusals, reads}
-use Rattle.office_rules.specs.Retry.{kept_of, turn}
+use Rattle.office_rules.specs.ReadBack.{is_awaited, read_back_refusals, reads}
+use Rattle.office_rules.specs.Retry.{kept_of, retry_of}
 use Rattle.office_rules.specs.Sight.{Sight}
-use Rattle.office_rules.specs.declared.turn.Turn.{Turn}
-use Rattle.office_rules.specs.declared.turn.Turn.TheVariants.{Repeats, Differs, Next, Skips}
+use Rattle.office_rules.specs.declared.retry.Retry.{Retry}
+use Rattle.office_rules.specs.declared.retry.Retry.TheVariants.{Repeats, Differs, Next, Skips}
+use Rattle.office_rules.proofs.Refusing.{lowest_none}
 use Rattle.office_laws.specs.Sound.{IsSound}
 use Rattle.office_laws.proofs.Ends.{scrap_keeps, ship_keeps}
 use Rattle.office_laws.proofs.Growing.{seat_grows}
 use Rattle.office_laws.proofs.IdentityKept.{identity_kept}
 use Rattle.office_laws.proofs.ImportKept.{import_kept}
 use Rattle.office_laws.proofs.Lasting.{Lasts, lasts_itself, lasts_named}
-use Rattle.office_laws.proofs.Looking.{lowest_none, puts_of, some_is}
+use Rattle.office_laws.proofs.Looking.{puts_of, some_is}
 use Rattle.office_laws.proofs.MapKept.{map_kept}
 use Rattle.office_laws.proofs.OrderKept.{order_kept}
 use Rattle.office_laws.proofs.Planning.{missing_digests, plan_keeps, unnumbered_from}
@@ -47,7 +48,7 @@ use Rattle.office_laws.proofs.SoundRows.{owned_placed}
 use Rattle.office_laws.proofs.StepKept.{steps_kept}
 
 -- a seat's row
-seat_sound : {owners : Owners} {t : Tables} → IsSound owners t → (r : Owned SeatState)
+seat_sound : {owners : Ownership} {t : Tables} → IsSound owners t → (r : OfCustomer SeatState)
     → owners.seat r.row.name ≡ Some r.customer → IsSound owners (with_seat r t)
 seat_sound sound r mine = record {
   seats = owned_placed sound.seats r mine seats_total;
@@ -69,14 +70,14 @@ first_puts s [] p t t2 (mid, put, last) = (t, refl, subst (MakesPut s p t) (sym 
 first_puts s (q ∷ qs) p t t2 (next, put, later) =
     let rest = first_puts s qs p next t2 later in (rest.0, (next, put, rest.1), rest.2)
 
-module _ {owners : Owners} {t : Tables} (sound : IsSound owners t) (apart : AreApart owners)
+module _ {owners : Ownership} {t : Tables} (sound : IsSound owners t) (apart : PoolsDisjoint owners)
     (s : Section) (section : IsSection owners s) (seat : List ℕ) where
   abbrev v : Sight
   v = office_sight s seat t
 
   -- the puts of a command
   pub command_kept : (c : Changing) (e : Effect) (mid : Tables) → IsChange c
-      → lowest (refusals s v c) ≡ None → effect s seat v c ≡ Some e → MakesPuts s e.puts t mid
+      → first_that_holds (refusals s v c) ≡ None → effect s seat v c ≡ Some e → MakesPuts s e.puts t mid
       → Lasts owners t mid
   command_kept (MakeOrder n) e mid asked free is puts =
       order_kept sound apart s section seat n e mid asked free is puts
@@ -93,12 +94,12 @@ module _ {owners : Owners} {t : Tables} (sound : IsSound owners t) (apart : AreA
       (missing_digests m (known_of m old.row) n.wishes asked) (unnumbered_from old numbered may))
       puts
   command_kept (ReadBack n) e mid asked free is puts =
-      steps_kept sound s section seat (reads n.blocks) (read_refusals n.blocks) n.chip e mid free is
+      steps_kept sound s section seat (reads n.blocks) (read_back_refusals n.blocks) n.chip e mid free is
       (λ old m numbered is_map refused.
-      let none = lowest_none (read_refusals n.blocks m old.row) refused in
+      let none = lowest_none (read_back_refusals n.blocks m old.row) refused in
       let may : is_awaited old.row.state ≡ true = not-false _ none.0 in
-      let fit : Fits m n.blocks = (bytes_eq-Decides _ _).0 (not-false _ none.1.0) in
-      let lies : ReadBackLies m n.blocks = read_backs_lie m n.blocks fit in
+      let fit : WordsFitMap m n.blocks = (bytes_eq-Decides _ _).0 (not-false _ none.1.0) in
+      let lies : ReadBackInMap m n.blocks = read_backs_lie m n.blocks fit in
       read_keeps m is_map old.row (redacted m n.blocks) lies.ones lies.shown may
       (unnumbered_awaited old numbered may)) puts
   command_kept (Identify n) e mid asked free is puts =
@@ -122,7 +123,7 @@ module _ {owners : Owners} {t : Tables} (sound : IsSound owners t) (apart : AreA
         (lasts_itself sound)
 
     decided : (c : Changing) (p : Response) → IsChange c → (found : Option Refusal)
-        → lowest (refusals s v c) ≡ found → (made : Option Effect) → effect s seat v c ≡ made
+        → first_that_holds (refusals s v c) ≡ found → (made : Option Effect) → effect s seat v c ≡ made
         → decide seat r found made ≡ Some p → MakesPuts s p.puts t t2 → Lasts owners t t2
     decided c p asked (Some reason) free made is e puts = none_kept (refusal reason) p e puts
     decided c p asked None free None is e puts = cc
@@ -136,20 +137,20 @@ module _ {owners : Owners} {t : Tables} (sound : IsSound owners t) (apart : AreA
           grows = seat_grows t parts.0 (its s row) made.grows;
         })
 
-    in_turn : (c : Changing) (p : Response) → IsChange c → (turns : Turn)
-        → respond_in_turn s seat v r c turns ≡ Some p → MakesPuts s p.puts t t2
+    in_turn : (c : Changing) (p : Response) → IsChange c → (turns : Retry)
+        → respond_by_retry s seat v r c turns ≡ Some p → MakesPuts s p.puts t t2
         → Lasts owners t t2
     in_turn c p asked (Repeats body) e puts = none_kept _ p e puts
     in_turn c p asked Differs e puts = none_kept _ p e puts
     in_turn c p asked (Skips expected) e puts = none_kept _ p e puts
     in_turn c p asked Next e puts =
-        decided c p asked (lowest (refusals s v c)) refl (effect s seat v c) refl e puts
+        decided c p asked (first_that_holds (refusals s v c)) refl (effect s seat v c) refl e puts
 
     responded : (command : Command) (p : Response) → IsCommand command
         → respond_to s seat v r command ≡ Some p → MakesPuts s p.puts t t2 → Lasts owners t t2
     responded (Show asked) p is e puts = none_kept _ p e puts
     responded (Change c) p asked e puts =
-        in_turn c p asked (turn v.seat r.number r.digest) e puts
+        in_turn c p asked (retry_of v.seat r.number r.digest) e puts
 
     pub step_lasts : (reply : Answer) → IsAsked r → Step s seat t r reply t2 → Lasts owners t t2
     step_lasts reply asked (puts, is, made) =

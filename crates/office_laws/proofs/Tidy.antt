@@ -7,7 +7,7 @@ use Rattle.std.specs.declared.cmp.Ordering.{Ordering}
 use Rattle.std.specs.Cmp.{IsTotalOrder}
 use Rattle.sha2.specs.Sha256.{sha256}
 use Rattle.site_core.specs.Section.{Section}
-use Rattle.site_core.specs.Owners.{IsSection, Owners}
+use Rattle.site_core.specs.Ownership.{IsSection, Ownership}
 use Rattle.office_tables.specs.declared.rows.Cursor.{Cursor}
 use Rattle.office_tables.specs.declared.rows.Device.{Device}
 use Rattle.office_tables.specs.declared.rows.Entry.{Entry}
@@ -16,23 +16,25 @@ use Rattle.office_tables.specs.declared.rows.Link.{Link}
 use Rattle.office_tables.specs.declared.rows.MapRow.{MapRow}
 use Rattle.office_tables.specs.declared.rows.NewEntry.{NewEntry}
 use Rattle.office_tables.specs.declared.rows.Order.{Order}
-use Rattle.office_tables.specs.declared.rows.Owned.{Owned}
+use Rattle.office_tables.specs.declared.rows.OfCustomer.{OfCustomer}
 use Rattle.office_tables.specs.declared.rows.SeatState.{SeatState}
-use Rattle.office_tables.specs.Tables.{IsInOrder, Tables, device_cmp, entry_cmp, entry_under, given_cmp, is_of, is_order, link_cmp, map_at, map_cmp, map_with, order_at, order_cmp, own, placed, seat_cmp, with_cursor, with_cursor_of, with_device, with_given, with_link, with_map, with_new_entry, with_order, with_seat}
+use Rattle.office_tables.specs.Tables.{IsInOrder, Tables, device_cmp, entry_cmp, entry_under, given_cmp, is_of, is_order, link_cmp, map_at, map_cmp}
+use Rattle.office_tables.specs.Tables.{map_with, order_at, order_cmp, rows_of, with_row, seat_cmp, with_cursor, with_cursor_of, with_device}
+use Rattle.office_tables.specs.Tables.{with_given, with_link, with_map, with_new_entry, with_order, with_seat}
 use Rattle.office_tables.proofs.Placing.{all_map, placed_in_order, placed_other, placed_own}
 use Rattle.office_rules.specs.Effect.{Put, device_put, map_put, number_put, order_put, record_put, seat_put}
 use Rattle.office_rules.specs.Map.{map_fault}
-use Rattle.office_rules.specs.OfficeMachine.{Links, MakesPut, MakesPuts, at_first, its, own_entry, text_in}
+use Rattle.office_rules.specs.OfficeMachine.{Links, MakesPut, MakesPuts, at_first, its, entry_of_chip, body_of_map}
 use Rattle.office_rules.proofs.Ties.{first_equal, same_place, text_itself}
-use Rattle.office_laws.specs.SoloMachine.{State, own_entry_cmp, own_given_cmp, with_put, with_puts}
-use Rattle.office_laws.proofs.OwnPlaces.{own_device_cmp, own_map_cmp, own_order_cmp, own_seat_cmp}
+use Rattle.office_laws.specs.SoloMachine.{SoloState, solo_entry_cmp, solo_given_cmp, with_put, with_puts}
+use Rattle.office_laws.proofs.OwnPlaces.{solo_device_cmp, solo_map_cmp, solo_order_cmp, solo_seat_cmp}
 use Rattle.office_laws.specs.Sound.{AreSoundMaps, IsLinked, IsSound}
 use Rattle.office_laws.specs.SoundRows.{AreOwned}
-use Rattle.office_laws.specs.View.{own_map, view}
+use Rattle.office_laws.specs.View.{solo_map, view}
 use Rattle.office_laws.proofs.CursorLaws.{moved, moved_same, own_same}
 use Rattle.office_laws.proofs.DeviceLaws.{device_agree, device_place, devices_total, entries_total, entry_agree, entry_place, entry_row_cmp}
 use Rattle.office_laws.proofs.GivenLaws.{given_total}
-use Rattle.office_laws.proofs.MapLaws.{link_agree, link_place, links_total, maps_with_link, maps_with_map, own_link_cmp}
+use Rattle.office_laws.proofs.MapLaws.{link_agree, link_place, links_total, maps_with_link, maps_with_map, solo_link_cmp}
 use Rattle.office_laws.proofs.MapRows.{map_of_text, new_map_found, own_maps_after}
 use Rattle.office_laws.proofs.Placed.{map_placed}
 use Rattle.office_laws.proofs.Readings.{order_agree, orders_total, seats_total}
@@ -40,7 +42,7 @@ use Rattle.office_laws.proofs.SoundRows.{owned_place, owned_placed}
 
 -- what views ask of tables: rows in order, seats, records and links with their owners, and links
 -- that name maps
-pub record IsTidy (owners : Owners) (t : Tables) : Type 0 where
+pub record IsTidy (owners : Ownership) (t : Tables) : Type 0 where
   pub seats : AreOwned seat_cmp (λ r. owners.seat r.name) t.seats
   pub orders : IsInOrder order_cmp t.orders
   pub given : AreOwned given_cmp (λ g. owners.issuer g.issuer) t.given
@@ -48,7 +50,7 @@ pub record IsTidy (owners : Owners) (t : Tables) : Type 0 where
   pub devices : IsInOrder device_cmp t.devices
   pub ledger : IsInOrder entry_cmp t.ledger
 
-pub sound_is_tidy : {owners : Owners} {t : Tables} → IsSound owners t → IsTidy owners t
+pub sound_is_tidy : {owners : Ownership} {t : Tables} → IsSound owners t → IsTidy owners t
 sound_is_tidy sound = record {
   seats = sound.seats;
   orders = sound.orders.rows.in_order;
@@ -60,7 +62,7 @@ sound_is_tidy sound = record {
 
 -- what a put asks for: its seat, its issuer, is the customer's, its order has its cursor at its
 -- first number, its text is a map's
-abbrev pub IsDue : Owners → List ℕ → Put → Type 0
+abbrev pub IsDue : Ownership → List ℕ → Put → Type 0
 IsDue owners c (seat_put r) = owners.seat r.name ≡ Some c
 IsDue owners c (order_put o) = at_first o ≡ o
 IsDue owners c (map_put text) = map_fault text ≡ None
@@ -69,13 +71,13 @@ IsDue owners c (record_put g) = owners.issuer g.issuer ≡ Some c
 IsDue owners c (number_put order number g) = owners.issuer g.issuer ≡ Some c
 
 -- the tables stay tidy, the customer sees this, and another what they saw
-pub record Acts (owners : Owners) (c : List ℕ) (t t2 : Tables) (seen : State) : Type 0 where
+pub record Acts (owners : Ownership) (c : List ℕ) (t t2 : Tables) (seen : SoloState) : Type 0 where
   pub tidy : IsTidy owners t2
   pub own : view c t2 ≡ seen
   pub other : (d : List ℕ) → bytes_eq d c ≡ false → view d t2 ≡ view d t
 
 -- rows whose place is that of the customer's are the customer's own, and not another's
-module _ {A : Type 0} (cmp : Owned A → Owned A → Ordering) (x : Owned A) (rows : List (Owned A))
+module _ {A : Type 0} (cmp : OfCustomer A → OfCustomer A → Ordering) (x : OfCustomer A) (rows : List (OfCustomer A))
     (place : AllByRecursion (λ y. cmp x y ≡ Equal → x.customer ≡ y.customer) rows) where
   own_place : AllByRecursion (λ y. cmp x y ≡ Equal → is_of x.customer y ≡ true) rows
   own_place = all_map (λ y. cmp x y ≡ Equal → x.customer ≡ y.customer)
@@ -90,25 +92,25 @@ module _ {A : Type 0} (cmp : Owned A → Owned A → Ordering) (x : Owned A) (ro
 
   -- so a table with the row is seen by its customer with it, and by another as before
   pub row_own : (own_cmp : A → A → Ordering) → IsTotalOrder cmp
-      → ((a b : Owned A) → is_of x.customer a ≡ true → is_of x.customer b ≡ true
+      → ((a b : OfCustomer A) → is_of x.customer a ≡ true → is_of x.customer b ≡ true
       → cmp a b ≡ own_cmp a.row b.row)
       → IsInOrder cmp rows
-      → own x.customer (placed cmp x rows) ≡ placed own_cmp x.row (own x.customer rows)
+      → rows_of x.customer (with_row cmp x rows) ≡ with_row own_cmp x.row (rows_of x.customer rows)
   row_own own_cmp total agree in_order = placed_own x.customer cmp own_cmp total agree x
       (text_itself x.customer x.customer refl) rows in_order own_place
 
   pub row_other : (d : List ℕ) → bytes_eq d x.customer ≡ false
-      → own d (placed cmp x rows) ≡ own d rows
+      → rows_of d (with_row cmp x rows) ≡ rows_of d rows
   row_other d other = placed_other d cmp x other rows (other_place d other)
 
-order_place : (o : Owned Order) (rows : List (Owned Order))
+order_place : (o : OfCustomer Order) (rows : List (OfCustomer Order))
     → AllByRecursion (λ y. order_cmp o y ≡ Equal → o.customer ≡ y.customer) rows
 order_place o [] = tt
 order_place o (y ∷ ys) =
     ((λ e. same_place o.customer y.customer (first_equal _ _ e)), order_place o ys)
 
-module _ {owners : Owners} {t : Tables} (tidy : IsTidy owners t) (c : List ℕ) where
-  abbrev owned : {A : Type 0} → A → Owned A
+module _ {owners : Ownership} {t : Tables} (tidy : IsTidy owners t) (c : List ℕ) where
+  abbrev owned : {A : Type 0} → A → OfCustomer A
   owned x = record { customer = c; row = x }
 
   seat_acts : (r : SeatState) → owners.seat r.name ≡ Some c
@@ -126,7 +128,7 @@ module _ {owners : Owners} {t : Tables} (tidy : IsTidy owners t) (c : List ℕ) 
           ledger = tidy.ledger;
         };
         own = λ i. record (view c t) {
-          seats = row_own seat_cmp (owned r) t.seats place own_seat_cmp seats_total
+          seats = row_own seat_cmp (owned r) t.seats place solo_seat_cmp seats_total
               (λ _ _ _ _. refl) tidy.seats.in_order i;
         };
         other = λ d ne i. record (view d t) {
@@ -135,7 +137,7 @@ module _ {owners : Owners} {t : Tables} (tidy : IsTidy owners t) (c : List ℕ) 
       }
 
   -- an order that is placed, as new or with another cursor
-  with_order_tidy : (o : Owned Order) → IsTidy owners (with_order o t)
+  with_order_tidy : (o : OfCustomer Order) → IsTidy owners (with_order o t)
   with_order_tidy o = record {
     seats = tidy.seats;
     orders = placed_in_order order_cmp orders_total o t.orders tidy.orders;
@@ -151,9 +153,9 @@ module _ {owners : Owners} {t : Tables} (tidy : IsTidy owners t) (c : List ℕ) 
     tidy = with_order_tidy (owned o);
     own = λ i. record (view c t) {
       orders = (ap (map at_first) (row_own order_cmp (owned o) t.orders
-          (order_place (owned o) t.orders) own_order_cmp orders_total (order_agree c) tidy.orders)
-          ∙ (map_placed at_first own_order_cmp own_order_cmp (λ _ _. refl) o (own c t.orders)
-          ∙ ap (λ (x : Order). placed own_order_cmp x (map at_first (own c t.orders))) first)) i;
+          (order_place (owned o) t.orders) solo_order_cmp orders_total (order_agree c) tidy.orders)
+          ∙ (map_placed at_first solo_order_cmp solo_order_cmp (λ _ _. refl) o (rows_of c t.orders)
+          ∙ ap (λ (x : Order). with_row solo_order_cmp x (map at_first (rows_of c t.orders))) first)) i;
     };
     other = λ d ne i. record (view d t) {
       orders = map at_first (row_other order_cmp (owned o) t.orders
@@ -176,7 +178,7 @@ module _ {owners : Owners} {t : Tables} (tidy : IsTidy owners t) (c : List ℕ) 
           ledger = tidy.ledger;
         };
         own = λ i. record (view c t) {
-          given = row_own given_cmp (owned g) t.given place own_given_cmp given_total
+          given = row_own given_cmp (owned g) t.given place solo_given_cmp given_total
               (λ _ _ _ _. refl) tidy.given.in_order i;
         };
         other = λ d ne i. record (view d t) {
@@ -188,7 +190,7 @@ module _ {owners : Owners} {t : Tables} (tidy : IsTidy owners t) (c : List ℕ) 
       → Acts owners c t (with_new_entry (owned e) id (with_device (owned d) t))
       (with_put (device_put d e) (view c t))
   device_acts d e id =
-      let entry : Owned Entry = entry_under (owned e) id in
+      let entry : OfCustomer Entry = entry_under (owned e) id in
       record {
         tidy = record {
           seats = tidy.seats;
@@ -200,16 +202,16 @@ module _ {owners : Owners} {t : Tables} (tidy : IsTidy owners t) (c : List ℕ) 
         };
         own = λ i. record (view c t) {
           devices = row_own device_cmp (owned d) t.devices (device_place (owned d) t.devices)
-              own_device_cmp devices_total (device_agree c) tidy.devices i;
-          ledger = (ap (map own_entry) (row_own entry_cmp entry t.ledger
+              solo_device_cmp devices_total (device_agree c) tidy.devices i;
+          ledger = (ap (map entry_of_chip) (row_own entry_cmp entry t.ledger
               (entry_place entry t.ledger) entry_row_cmp entries_total (entry_agree c) tidy.ledger)
-              ∙ map_placed own_entry entry_row_cmp own_entry_cmp (λ _ _. refl) entry.row
-              (own c t.ledger)) i;
+              ∙ map_placed entry_of_chip entry_row_cmp solo_entry_cmp (λ _ _. refl) entry.row
+              (rows_of c t.ledger)) i;
         };
         other = λ other ne i. record (view other t) {
           devices = row_other device_cmp (owned d) t.devices (device_place (owned d) t.devices)
               other ne i;
-          ledger = map own_entry (row_other entry_cmp entry t.ledger (entry_place entry t.ledger)
+          ledger = map entry_of_chip (row_other entry_cmp entry t.ledger (entry_place entry t.ledger)
               other ne i);
         };
       }
@@ -218,21 +220,21 @@ module _ {owners : Owners} {t : Tables} (tidy : IsTidy owners t) (c : List ℕ) 
   cursor_acts : (cursor : Cursor) → Acts owners c t (with_cursor (owned cursor) t) (view c t)
   cursor_acts cursor = by (order_at c cursor.order t) refl
     where
-      by : (found : Option (Owned Order)) → order_at c cursor.order t ≡ found
+      by : (found : Option (OfCustomer Order)) → order_at c cursor.order t ≡ found
           → Acts owners c t (with_cursor_of found cursor.number t) (view c t)
       by None there = record { tidy = tidy; own = refl; other = λ _ _. refl }
       by (Some o) there =
-          let later : Owned Order = moved cursor.number o in
+          let later : OfCustomer Order = moved cursor.number o in
           let same = moved_same (is_order c cursor.order) o cursor.number t.orders tidy.orders
           there in
           let seen : (d : List ℕ) → view d (with_order later t) ≡ view d t = λ d i.
           record (view d t) {
-            orders = own_same t.orders (placed order_cmp later t.orders) same d i;
+            orders = own_same t.orders (with_row order_cmp later t.orders) same d i;
           } in
           record { tidy = with_order_tidy later; own = seen c; other = λ d _. seen d }
 
   -- what changes maps and links alone
-  with_maps_tidy : (maps : List MapRow) (links : List (Owned Link))
+  with_maps_tidy : (maps : List MapRow) (links : List (OfCustomer Link))
       → AreSoundMaps owners maps links → IsTidy owners (record t { maps = maps; links = links })
   with_maps_tidy maps links sound = record {
     seats = tidy.seats;
@@ -245,18 +247,18 @@ module _ {owners : Owners} {t : Tables} (tidy : IsTidy owners t) (c : List ℕ) 
 
   link_acts : (l : Link) → owners.customer c ≡ true → IsLinked t.maps (owned l)
       → Acts owners c t (with_link (owned l) t)
-      (let s = view c t in record s { maps = placed own_map_cmp (own_map t l) s.maps })
+      (let s = view c t in record s { maps = with_row solo_map_cmp (solo_map t l) s.maps })
   link_acts l mine linked = record {
-    tidy = with_maps_tidy t.maps (placed link_cmp (owned l) t.links)
+    tidy = with_maps_tidy t.maps (with_row link_cmp (owned l) t.links)
         (maps_with_link t tidy.maps (owned l) mine linked);
     own = λ i. record (view c t) {
-      maps = (ap (map (own_map t)) (row_own link_cmp (owned l) t.links
-          (link_place (owned l) t.links) own_link_cmp links_total (link_agree c)
+      maps = (ap (map (solo_map t)) (row_own link_cmp (owned l) t.links
+          (link_place (owned l) t.links) solo_link_cmp links_total (link_agree c)
           tidy.maps.links_in_order)
-          ∙ map_placed (own_map t) own_link_cmp own_map_cmp (λ _ _. refl) l (own c t.links)) i;
+          ∙ map_placed (solo_map t) solo_link_cmp solo_map_cmp (λ _ _. refl) l (rows_of c t.links)) i;
     };
     other = λ d ne i. record (view d t) {
-      maps = map (own_map t) (row_other link_cmp (owned l) t.links
+      maps = map (solo_map t) (row_other link_cmp (owned l) t.links
           (link_place (owned l) t.links) d ne i);
     };
   }
@@ -270,14 +272,14 @@ module _ {owners : Owners} {t : Tables} (tidy : IsTidy owners t) (c : List ℕ) 
         maps = own_maps_after t id body fresh d t.links tidy.maps.linked i;
       } in
       record {
-        tidy = with_maps_tidy (placed map_cmp m t.maps) t.links
+        tidy = with_maps_tidy (with_row map_cmp m t.maps) t.links
             (maps_with_map t tidy.maps id body fresh new);
         own = seen c;
         other = λ d _. seen d;
       }
 
 -- one after the other
-pub then : {owners : Owners} {c : List ℕ} {t mid t2 : Tables} {seen later : State}
+pub then : {owners : Ownership} {c : List ℕ} {t mid t2 : Tables} {seen later : SoloState}
     → Acts owners c t mid seen → Acts owners c mid t2 later → Acts owners c t t2 later
 then first second = record {
   tidy = second.tidy;
@@ -286,14 +288,14 @@ then first second = record {
 }
 
 -- and with other names for what is there
-pub renamed : {owners : Owners} {c : List ℕ} {t t2 other_t2 : Tables} {seen other_seen : State}
+pub renamed : {owners : Ownership} {c : List ℕ} {t t2 other_t2 : Tables} {seen other_seen : SoloState}
     → other_t2 ≡ t2 → seen ≡ other_seen → Acts owners c t t2 seen
     → Acts owners c t other_t2 other_seen
 renamed {owners} {c} {t} {t2} {other_t2} {seen} {other_seen} same_tables same acts =
     subst (λ x. Acts owners c t x other_seen) (sym same_tables)
     (subst (Acts owners c t t2) same acts)
 
-module _ {owners : Owners} (s : Section) (section : IsSection owners s) where
+module _ {owners : Ownership} (s : Section) (section : IsSection owners s) where
   -- a text gets its link, to the map that has it or to a new one
   text_acts : {t : Tables} → IsTidy owners t → (text : List ℕ) → map_fault text ≡ None
       → (found : Option MapRow) → map_with text t ≡ found → (t2 : Tables)
@@ -304,8 +306,8 @@ module _ {owners : Owners} (s : Section) (section : IsSection owners s) where
       let linked : IsLinked t.maps (its s l) =
       rw (at.0) (ap sha256 at.1, ap map_fault (sym at.1) ∙ no_fault) in
       renamed is (λ i. record (view s.name t) {
-        maps = placed own_map_cmp
-            (record { digest = sha256 text; text = (ap text_in at.0 ∙ sym at.1) i })
+        maps = with_row solo_map_cmp
+            (record { digest = sha256 text; text = (ap body_of_map at.0 ∙ sym at.1) i })
             (view s.name t).maps;
       }) (link_acts tidy s.name l section.customer linked)
   text_acts {t} tidy text no_fault None e t2 (id, fresh, is) =
@@ -315,7 +317,7 @@ module _ {owners : Owners} (s : Section) (section : IsSection owners s) where
       let found = new_map_found t id text fresh in
       let linked : IsLinked mapped.maps (its s l) = rw found (refl, no_fault) in
       renamed is (λ i. record (made.own i) {
-        maps = placed own_map_cmp (record { digest = sha256 text; text = ap text_in found i })
+        maps = with_row solo_map_cmp (record { digest = sha256 text; text = ap body_of_map found i })
             (made.own i).maps;
       }) (then made (link_acts made.tidy s.name l section.customer linked))
 

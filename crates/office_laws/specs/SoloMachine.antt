@@ -12,27 +12,27 @@ use Rattle.office_tables.specs.declared.rows.NewEntry.{NewEntry}
 use Rattle.office_tables.specs.declared.rows.Order.{Order}
 use Rattle.office_tables.specs.declared.rows.SeatState.{SeatState}
 use Rattle.office_tables.specs.OrderPlaces.{places_taken}
-use Rattle.office_tables.specs.Tables.{placed, text_cmp}
+use Rattle.office_tables.specs.Tables.{with_row, text_cmp}
 use Rattle.office_commands.specs.declared.command.Request.{Request}
 use Rattle.office_commands.specs.declared.refusal.Refusal.TheVariants.{Unkept}
 use Rattle.office_commands.specs.Replies.{refusal}
 use Rattle.office_rules.specs.Effect.{Put, device_put, map_put, number_put, order_put, record_put, seat_put}
 use Rattle.office_rules.specs.Machine.{Response, response}
 use Rattle.office_rules.specs.OfficeMachine.{has_issuer}
-use Rattle.office_rules.specs.Sight.{GivenIn, OrderSight, Sight}
+use Rattle.office_rules.specs.Sight.{IssuedIn, OrderSight, Sight}
 
 -- a fuse map of the customer's, by the digest of its text
-pub record OwnMap : Type 0 where
+pub record SoloMap : Type 0 where
   pub digest : List ℕ
   pub text : List ℕ
 
 -- the customer's tables, each in the order of its key. An order's cursor stands at its first number:
 -- the machine has no use for one
-pub record State : Type 0 where
+pub record SoloState : Type 0 where
   pub seats : List SeatState
   pub orders : List Order
   pub given : List Given
-  pub maps : List OwnMap
+  pub maps : List SoloMap
   pub devices : List Device
   pub ledger : List NewEntry
 
@@ -41,48 +41,48 @@ abbrev pub by_text : {A : Type 0} → (A → List ℕ) → A → A → Ordering
 by_text text a b = text_cmp (text a) (text b)
 
 -- a serial number's place: by issuer, then by its text
-abbrev pub own_given_cmp : Given → Given → Ordering
-own_given_cmp a b = ordering_then (text_cmp a.issuer b.issuer) (text_cmp a.serial b.serial)
+abbrev pub solo_given_cmp : Given → Given → Ordering
+solo_given_cmp a b = ordering_then (text_cmp a.issuer b.issuer) (text_cmp a.serial b.serial)
 
 -- an entry's place: by its device, then by its number
-abbrev pub own_entry_cmp : NewEntry → NewEntry → Ordering
-own_entry_cmp a b = ordering_then (text_cmp a.chip b.chip) (nat_cmp a.number b.number)
+abbrev pub solo_entry_cmp : NewEntry → NewEntry → Ordering
+solo_entry_cmp a b = ordering_then (text_cmp a.chip b.chip) (nat_cmp a.number b.number)
 
-abbrev pub seat_named : List ℕ → State → Option SeatState
+abbrev pub seat_named : List ℕ → SoloState → Option SeatState
 seat_named name s = find (λ r. bytes_eq name r.name) s.seats
 
 -- the records of an issuer by their serial numbers and by their keys
-abbrev pub given_named : List ℕ → List ℕ → State → Option Given
-given_named issuer serial s = find (λ g. bytes_eq issuer g.issuer && bytes_eq serial g.serial) s.given
+abbrev pub record_of_serial : List ℕ → List ℕ → SoloState → Option Given
+record_of_serial issuer serial s = find (λ g. bytes_eq issuer g.issuer && bytes_eq serial g.serial) s.given
 
-abbrev pub given_bound : List ℕ → List ℕ → State → Option Given
-given_bound issuer key s = find (λ g. bytes_eq issuer g.issuer && bytes_eq key g.key) s.given
+abbrev pub record_of_key : List ℕ → List ℕ → SoloState → Option Given
+record_of_key issuer key s = find (λ g. bytes_eq issuer g.issuer && bytes_eq key g.key) s.given
 
-abbrev pub has_given : State → List ℕ → List ℕ → Bool
-has_given s issuer serial = is_some (given_named issuer serial s)
+abbrev pub is_issued : SoloState → List ℕ → List ℕ → Bool
+is_issued s issuer serial = is_some (record_of_serial issuer serial s)
 
 -- an order's next number is the least of all whose serial number isn't given
-abbrev pub solo_order_sight : State → Order → OrderSight
+abbrev pub solo_order_sight : SoloState → Order → OrderSight
 solo_order_sight s o = record {
   order = o;
-  next = next_serial (has_given s o.issuer) o.range;
+  next = next_serial (is_issued s o.issuer) o.range;
   places = places_taken o.name s.devices;
-  is_bound = λ key. is_some (given_bound o.issuer key s);
+  is_bound = λ key. is_some (record_of_key o.issuer key s);
 }
 
-abbrev pub solo_given_in : List ℕ → State → GivenIn
-solo_given_in issuer s = record {
-  key_of = λ serial. option_map (λ g. g.key) (given_named issuer serial s);
-  serial_of = λ key. option_map (λ g. g.serial) (given_bound issuer key s);
+abbrev pub solo_issued_in : List ℕ → SoloState → IssuedIn
+solo_issued_in issuer s = record {
+  key_of = λ serial. option_map (λ g. g.key) (record_of_serial issuer serial s);
+  serial_of = λ key. option_map (λ g. g.serial) (record_of_key issuer key s);
 }
 
 -- what a seat sees of its customer's rows
-abbrev pub solo_sight : Section → List ℕ → State → Sight
+abbrev pub solo_sight : Section → List ℕ → SoloState → Sight
 solo_sight c seat s = record {
   seat = find (λ r. bytes_eq seat r.name) s.seats;
   orders = s.orders;
   order = λ name. option_map (solo_order_sight s) (find (λ o. bytes_eq name o.name) s.orders);
-  issuer = λ issuer. if has_issuer c issuer then Some (solo_given_in issuer s) else None;
+  issuer = λ issuer. if has_issuer c issuer then Some (solo_issued_in issuer s) else None;
   maps = length s.maps;
   text = λ digest. option_map (λ m. m.text) (find (λ m. bytes_eq digest m.digest) s.maps);
   device = λ chip. find (λ d. bytes_eq chip d.chip) s.devices;
@@ -90,37 +90,37 @@ solo_sight c seat s = record {
 }
 
 -- a put stands in its place; the own machine has no cursor
-abbrev pub with_put : Put → State → State
-with_put (seat_put r) s = record s { seats = placed (by_text (λ r. r.name)) r s.seats }
-with_put (order_put o) s = record s { orders = placed (by_text (λ o. o.name)) o s.orders }
+abbrev pub with_put : Put → SoloState → SoloState
+with_put (seat_put r) s = record s { seats = with_row (by_text (λ r. r.name)) r s.seats }
+with_put (order_put o) s = record s { orders = with_row (by_text (λ o. o.name)) o s.orders }
 with_put (map_put text) s =
     record s {
-      maps = placed (by_text (λ m. m.digest))
+      maps = with_row (by_text (λ m. m.digest))
           (record { digest = sha256 text; text = text }) s.maps;
     }
 with_put (device_put d e) s =
     record s {
-      devices = placed (by_text (λ d. d.chip)) d s.devices;
-      ledger = placed own_entry_cmp e s.ledger;
+      devices = with_row (by_text (λ d. d.chip)) d s.devices;
+      ledger = with_row solo_entry_cmp e s.ledger;
     }
-with_put (record_put g) s = record s { given = placed own_given_cmp g s.given }
-with_put (number_put order number g) s = record s { given = placed own_given_cmp g s.given }
+with_put (record_put g) s = record s { given = with_row solo_given_cmp g s.given }
+with_put (number_put order number g) s = record s { given = with_row solo_given_cmp g s.given }
 
-abbrev pub with_puts : List Put → State → State
+abbrev pub with_puts : List Put → SoloState → SoloState
 with_puts [] s = s
 with_puts (p ∷ ps) s = with_puts ps (with_put p s)
 
 -- the reply to a seat's request, and the state after it
-abbrev pub after_response : State → Response → Answer × State
+abbrev pub after_response : SoloState → Response → Answer × SoloState
 after_response s r = (r.reply, with_puts r.puts s)
 
-abbrev pub solo_step : Section → List ℕ → State → Request → Option (Answer × State)
+abbrev pub solo_step : Section → List ℕ → SoloState → Request → Option (Answer × SoloState)
 solo_step c seat s r = option_map (after_response s) (response c seat (solo_sight c seat s) r)
 
 -- for runs, where a reply is wanted of each: none is 503, and changes nothing
-abbrev pub or_unkept : State → Option (Answer × State) → Answer × State
+abbrev pub or_unkept : SoloState → Option (Answer × SoloState) → Answer × SoloState
 or_unkept s None = (refusal Unkept, s)
 or_unkept s (Some made) = made
 
-abbrev pub solo : Section → List ℕ → State → Request → Answer × State
+abbrev pub solo : Section → List ℕ → SoloState → Request → Answer × SoloState
 solo c seat s r = or_unkept s (solo_step c seat s r)

@@ -1,21 +1,21 @@
 // Laws of the office, over its definitions alone.
 ghost use Rattle.std.specs.Prelude.{◌≡◌, false, List, ℕ, Some, bytes_eq};
 ghost use Rattle.http_replies.specs.Replies.{Answer};
-ghost use Rattle.site_core.specs.Owners.{AreApart, IsSection, Owners};
+ghost use Rattle.site_core.specs.Ownership.{PoolsDisjoint, IsSection, Ownership};
 ghost use Rattle.site_core.specs.Section.{Section};
 ghost use Rattle.office_tables.specs.Tables.{Tables, device_at, no_rows};
 ghost use Rattle.office_tables.specs.declared.rows.Device.{Device};
-ghost use Rattle.office_tables.specs.declared.rows.Owned.{Owned};
+ghost use Rattle.office_tables.specs.declared.rows.OfCustomer.{OfCustomer};
 ghost use Rattle.fusemap_core.specs.Map.{Map};
-ghost use Rattle.fuse_redaction.specs.Redaction.{redacted};
+ghost use Rattle.fuse_image.specs.Redaction.{redacted};
 ghost use Rattle.office_commands.specs.Asked.{IsAsked};
 ghost use Rattle.office_commands.specs.declared.new_device.NewDevice.{NewDevice};
 ghost use Rattle.office_commands.specs.declared.new_plan.NewReadBack.{NewReadBack};
 ghost use Rattle.office_rules.specs.OfficeMachine.{Step, asks_identity, map_named, reads_back, registers};
-ghost use Rattle.office_rules.specs.Registration.{fits};
+ghost use Rattle.office_rules.specs.Registration.{words_fit_map};
 ghost use Rattle.office_commands.specs.declared.command.Request.{Request};
 ghost use Rattle.office_commands.specs.declared.new_identity.NewIdentity.{NewIdentity};
-ghost use Rattle.office_laws.specs.Fresh.{GivesAnew};
+ghost use Rattle.office_laws.specs.Fresh.{IssuesFresh};
 ghost use Rattle.office_laws.specs.Grows.{Grows};
 ghost use Rattle.office_laws.specs.SoloMachine.{solo_step};
 ghost use Rattle.office_laws.specs.View.{view};
@@ -27,42 +27,42 @@ ghost use Rattle.office_laws.specs.Sound.{IsSound};
 /// is given stays; and an identity gives what was nobody's. As the own machine is a function of the
 /// view, equal views give equal replies.
 pub fn steps_are_the_customers_own()
-    ensures own { (owners : Owners) (s : Section) (seat : List ℕ) (t : Tables) (r : Request)
+    ensures own { (owners : Ownership) (s : Section) (seat : List ℕ) (t : Tables) (r : Request)
         (reply : Answer) (t2 : Tables)
         → IsSection owners s → owners.seat seat ≡ Some s.name → IsSound owners t
         → Step s seat t r reply t2
         → solo_step s seat (view s.name t) r ≡ Some (reply, view s.name t2) }
-    ensures other { (owners : Owners) (s : Section) (seat : List ℕ) (t : Tables) (r : Request)
+    ensures other { (owners : Ownership) (s : Section) (seat : List ℕ) (t : Tables) (r : Request)
         (reply : Answer) (t2 : Tables)
         → IsSection owners s → owners.seat seat ≡ Some s.name → IsSound owners t
         → Step s seat t r reply t2
         → (customer : List ℕ) → bytes_eq customer s.name ≡ false → view customer t2 ≡ view customer t }
-    ensures sound { (owners : Owners) (s : Section) (seat : List ℕ) (t : Tables) (r : Request)
+    ensures sound { (owners : Ownership) (s : Section) (seat : List ℕ) (t : Tables) (r : Request)
         (reply : Answer) (t2 : Tables)
-        → AreApart owners → IsSection owners s → owners.seat seat ≡ Some s.name → IsAsked r
+        → PoolsDisjoint owners → IsSection owners s → owners.seat seat ≡ Some s.name → IsAsked r
         → IsSound owners t → Step s seat t r reply t2
         → IsSound owners t2 }
-    ensures grows { (owners : Owners) (s : Section) (seat : List ℕ) (t : Tables) (r : Request)
+    ensures grows { (owners : Ownership) (s : Section) (seat : List ℕ) (t : Tables) (r : Request)
         (reply : Answer) (t2 : Tables)
-        → AreApart owners → IsSection owners s → owners.seat seat ≡ Some s.name → IsAsked r
+        → PoolsDisjoint owners → IsSection owners s → owners.seat seat ≡ Some s.name → IsAsked r
         → IsSound owners t → Step s seat t r reply t2
         → Grows t t2 }
-    ensures anew { (owners : Owners) (s : Section) (seat : List ℕ) (t : Tables) (number : ℕ)
+    ensures fresh { (owners : Ownership) (s : Section) (seat : List ℕ) (t : Tables) (number : ℕ)
         (digest : List ℕ) (i : NewIdentity) (reply : Answer) (t2 : Tables)
-        → AreApart owners → IsSection owners s → owners.seat seat ≡ Some s.name
+        → PoolsDisjoint owners → IsSection owners s → owners.seat seat ≡ Some s.name
         → IsSound owners t → Step s seat t (asks_identity number digest i) reply t2
-        → GivesAnew s seat number digest i t reply t2 }
+        → IssuesFresh s seat number digest i t reply t2 }
 {}
 
 /// No rows are sound, so each store begins with sound tables.
 pub fn no_rows_are_sound()
-    ensures { (owners : Owners) → IsSound owners no_rows }
+    ensures { (owners : Ownership) → IsSound owners no_rows }
 {}
 
 /// From sound tables every request has a step: no key of a row stands in its way, and each device has
 /// its fuse map.
 pub fn always_a_step()
-    ensures { (owners : Owners) (s : Section) (seat : List ℕ) (t : Tables) (r : Request)
+    ensures { (owners : Ownership) (s : Section) (seat : List ℕ) (t : Tables) (r : Request)
         → IsSound owners t → (reply : Answer) × (t2 : Tables) × Step s seat t r reply t2 }
 {}
 
@@ -73,15 +73,15 @@ pub fn always_a_step()
 pub fn only_the_redaction_is_kept()
     ensures registration { (s : Section) (seat : List ℕ) (t : Tables) (m : Map) (number : ℕ)
         (digest : List ℕ) (d : NewDevice) (blocks : List (List ℕ)) (reply : Answer) (t2 : Tables)
-        → map_named s.name d.map t ≡ Some m → fits m d.blocks ≡ fits m blocks
+        → map_named s.name d.map t ≡ Some m → words_fit_map m d.blocks ≡ words_fit_map m blocks
         → redacted m d.blocks ≡ redacted m blocks
         → Step s seat t (registers number digest d) reply t2
         → Step s seat t (registers number digest (record d { blocks = blocks })) reply t2 }
-    ensures readback { (s : Section) (seat : List ℕ) (t : Tables) (d : Owned Device) (m : Map)
+    ensures readback { (s : Section) (seat : List ℕ) (t : Tables) (d : OfCustomer Device) (m : Map)
         (number : ℕ) (digest : List ℕ) (r : NewReadBack) (blocks : List (List ℕ)) (reply : Answer)
         (t2 : Tables)
         → device_at s.name r.chip t ≡ Some d → map_named s.name d.row.map t ≡ Some m
-        → fits m r.blocks ≡ fits m blocks → redacted m r.blocks ≡ redacted m blocks
+        → words_fit_map m r.blocks ≡ words_fit_map m blocks → redacted m r.blocks ≡ redacted m blocks
         → Step s seat t (reads_back number digest r) reply t2
         → Step s seat t (reads_back number digest (record r { blocks = blocks })) reply t2 }
 {}

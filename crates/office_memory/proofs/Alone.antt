@@ -3,8 +3,8 @@ use Rattle.std.proofs.Common.{◌≡◌, ◌≤◌, ◌+◌, ◌∙◌, ℕ, ari
 use Rattle.std.proofs.Common.{sym, ap, subst}
 use Rattle.std.specs.Prelude.{filter, find}
 use Rattle.std.specs.Ordering.{is_eq, match_ordering}
-use Rattle.office_tables.specs.Tables.{placed}
-use Rattle.office_memory.specs.Indexing.{IsAlone}
+use Rattle.office_tables.specs.Tables.{with_row}
+use Rattle.office_memory.specs.Indexing.{IsAtMostOne}
 use Rattle.office_memory.specs.Unplaced.{without}
 
 module _ {A : Type 0} (test : A → Bool) where
@@ -30,28 +30,28 @@ module _ {A : Type 0} (test : A → Bool) where
 
   -- a new row is placed
   module _ (cmp : A → A → Ordering) (x : A) where
-    pub passing-placed : (rows : List A) → find (λ y. is_eq (cmp x y)) rows ≡ None → passing (placed cmp x rows) ≡ passing rows + cond (test x) 1 0
+    pub passing-placed : (rows : List A) → find (λ y. is_eq (cmp x y)) rows ≡ None → passing (with_row cmp x rows) ≡ passing rows + cond (test x) 1 0
     passing-placed [] free = first_passing x [] ∙ omega arith
     passing-placed (y ∷ ys) free =
         elim (cmp x y) as (λ o. cond (is_eq o) (Some y) (find (λ z. is_eq (cmp x z)) ys) ≡ None
-        → passing (match_ordering o (x ∷ y ∷ ys) (x ∷ ys) (y ∷ placed cmp x ys)) ≡ passing (y ∷ ys) + cond (test x) 1 0) [
+        → passing (match_ordering o (x ∷ y ∷ ys) (x ∷ ys) (y ∷ with_row cmp x ys)) ≡ passing (y ∷ ys) + cond (test x) 1 0) [
           | Less ↦ λ none. let split = first_passing x (y ∷ ys) in omega (arith, split)
           | Equal ↦ λ none. cc
-          | Greater ↦ λ none. let split = first_passing y (placed cmp x ys) in let was = first_passing y ys in let later =
+          | Greater ↦ λ none. let split = first_passing y (with_row cmp x ys) in let was = first_passing y ys in let later =
               passing-placed ys none in omega (arith, split, was, later)
         ] free
 
     -- it is found where it passes and none did, and else what was found
     pub find-placed : (rows : List A) → find (λ y. is_eq (cmp x y)) rows ≡ None → (test x ≡ true → find test rows ≡ None)
-        → find test (placed cmp x rows) ≡ cond (test x) (Some x) (find test rows)
+        → find test (with_row cmp x rows) ≡ cond (test x) (Some x) (find test rows)
     find-placed [] free alone = refl
     find-placed (y ∷ ys) free alone =
         elim (cmp x y) as (λ o. cond (is_eq o) (Some y) (find (λ z. is_eq (cmp x z)) ys) ≡ None
-        → find test (match_ordering o (x ∷ y ∷ ys) (x ∷ ys) (y ∷ placed cmp x ys)) ≡ cond (test x) (Some x) (find test (y ∷ ys))) [
+        → find test (match_ordering o (x ∷ y ∷ ys) (x ∷ ys) (y ∷ with_row cmp x ys)) ≡ cond (test x) (Some x) (find test (y ∷ ys))) [
           | Less ↦ λ none. refl
           | Equal ↦ λ none. cc
           | Greater ↦ λ none.
-              elim (test y) as (λ b. test y ≡ b → cond b (Some y) (find test (placed cmp x ys)) ≡ cond (test x) (Some x) (cond b (Some y) (find test ys))) [
+              elim (test y) as (λ b. test y ≡ b → cond b (Some y) (find test (with_row cmp x ys)) ≡ cond (test x) (Some x) (cond b (Some y) (find test ys))) [
                 | true ↦ λ is. elim (test x) as (λ a. test x ≡ a → Some y ≡ cond a (Some x) (Some y)) [
                   | true ↦
                       λ also. absurd (let miss : find test (y ∷ ys) ≡ None = alone also in let some : find test (y ∷ ys)
@@ -112,15 +112,15 @@ module _ {A : Type 0} (test : A → Bool) where
 
 -- at most one row passes, where none did whose place the new one takes
 pub still_alone : {A : Type 0} (cmp : A → A → Ordering) (test : A → Bool) (o : A) (rows : List A) → find (λ y.
-    is_eq (cmp o y)) rows ≡ None → (test o ≡ true → find test rows ≡ None) → IsAlone test rows → IsAlone test (placed cmp o rows)
+    is_eq (cmp o y)) rows ≡ None → (test o ≡ true → find test rows ≡ None) → IsAtMostOne test rows → IsAtMostOne test (with_row cmp o rows)
 still_alone cmp test o rows free alone one =
     let more = passing-placed test cmp o rows free in
-    elim (test o) as (λ b. test o ≡ b → IsAlone test (placed cmp o rows)) [
+    elim (test o) as (λ b. test o ≡ b → IsAtMostOne test (with_row cmp o rows)) [
       | true ↦ λ is. let none = none_passing test rows (alone is) in let this : ◌≡◌ {A = ℕ} (cond (test o) 1 0) 1 =
           rw is refl in omega (arith, more, none, this)
       | false ↦ λ is. let this : ◌≡◌ {A = ℕ} (cond (test o) 1 0) 0 = rw is refl in omega (arith, more, one, this)
     ] refl
 
-pub alone_without : {A : Type 0} (test other : A → Bool) (o : A) (rows : List A) → find other rows ≡ Some o → IsAlone test rows
-    → IsAlone test (without other rows)
+pub alone_without : {A : Type 0} (test other : A → Bool) (o : A) (rows : List A) → find other rows ≡ Some o → IsAtMostOne test rows
+    → IsAtMostOne test (without other rows)
 alone_without test other o rows found one = let less = passing-without test other o rows found in omega (arith, less, one)

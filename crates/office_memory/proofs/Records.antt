@@ -13,9 +13,9 @@ use Rattle.std.proofs.lemmas.Cmp.{tied_itself}
 use Rattle.std.proofs.lemmas.Bool.{eqb-true, eq-eqb}
 use Rattle.std.proofs.lemmas.Slice.Eq.{bytes_eq-Decides}
 use Rattle.text_core.specs.Serial.{is_serial, serial_of_text}
-use Rattle.office_tables.specs.declared.rows.Owned.{Owned}
+use Rattle.office_tables.specs.declared.rows.OfCustomer.{OfCustomer}
 use Rattle.office_tables.specs.declared.rows.Given.{Given}
-use Rattle.office_tables.specs.Tables.{given_cmp, has_address, is_address, is_bound, is_given, is_of_issuer, placed, text_cmp, IsAddressFree}
+use Rattle.office_tables.specs.Tables.{given_cmp, has_address, is_address, is_bound, is_serial_of, is_of_issuer, with_row, text_cmp, IsAddressFree}
 use Rattle.office_tables.proofs.Placing.{all_placed}
 use Rattle.office_memory.specs.Indexing.{has_mac, serial_of, AreIndexed}
 use Rattle.office_memory.specs.Unplaced.{without}
@@ -28,26 +28,26 @@ use Rattle.office_memory.proofs.Keys.{between, both_equal}
 use Rattle.office_memory.proofs.MapNumbers.{without-placed_new}
 
 -- a record has a key where it is the issuer's record of the serial number
-same_given : (issuer serial : List ℕ) → (λ (o : Owned Given). is_eq (ordering_then (text_cmp issuer o.row.issuer) (text_cmp serial o.row.serial)))
-    ≡ is_given issuer serial
+same_given : (issuer serial : List ℕ) → (λ (o : OfCustomer Given). is_eq (ordering_then (text_cmp issuer o.row.issuer) (text_cmp serial o.row.serial)))
+    ≡ is_serial_of issuer serial
 same_given issuer serial =
     fun_ext (λ o. both_equal (text_cmp issuer o.row.issuer) (text_cmp serial o.row.serial)
     ∙ rw (texts_ties issuer o.row.issuer, texts_ties serial o.row.serial) refl)
 
-pub find_given : (issuer serial : List ℕ) (rows : List (Owned Given)) → find (λ o.
-    is_eq (ordering_then (text_cmp issuer o.row.issuer) (text_cmp serial o.row.serial))) rows ≡ find (is_given issuer serial) rows
-find_given issuer serial rows = ap (λ (test : Owned Given → Bool). find test rows) (same_given issuer serial)
+pub find_given : (issuer serial : List ℕ) (rows : List (OfCustomer Given)) → find (λ o.
+    is_eq (ordering_then (text_cmp issuer o.row.issuer) (text_cmp serial o.row.serial))) rows ≡ find (is_serial_of issuer serial) rows
+find_given issuer serial rows = ap (λ (test : OfCustomer Given → Bool). find test rows) (same_given issuer serial)
 
-pub without_given : (issuer serial : List ℕ) (rows : List (Owned Given)) → without (λ o.
-    is_eq (ordering_then (text_cmp issuer o.row.issuer) (text_cmp serial o.row.serial))) rows ≡ without (is_given issuer serial) rows
-without_given issuer serial rows = ap (λ (test : Owned Given → Bool). without test rows) (same_given issuer serial)
+pub without_given : (issuer serial : List ℕ) (rows : List (OfCustomer Given)) → without (λ o.
+    is_eq (ordering_then (text_cmp issuer o.row.issuer) (text_cmp serial o.row.serial))) rows ≡ without (is_serial_of issuer serial) rows
+without_given issuer serial rows = ap (λ (test : OfCustomer Given → Bool). without test rows) (same_given issuer serial)
 
 -- the records from the start of an issuer's to their end
-pub filter_issuer : (issuer : List ℕ) (rows : List (Owned Given)) → filter (λ o.
+pub filter_issuer : (issuer : List ℕ) (rows : List (OfCustomer Given)) → filter (λ o.
     is_le (ordering_then (text_cmp issuer o.row.issuer) Less) && not (is_lt (ordering_then (text_cmp issuer o.row.issuer) Greater))) rows
     ≡ filter (is_of_issuer issuer) rows
 filter_issuer issuer rows =
-    ap (λ (test : Owned Given → Bool). filter test rows) (fun_ext (λ o. between (text_cmp issuer o.row.issuer) ∙ sym (texts_ties issuer o.row.issuer)))
+    ap (λ (test : OfCustomer Given → Bool). filter test rows) (fun_ext (λ o. between (text_cmp issuer o.row.issuer) ∙ sym (texts_ties issuer o.row.issuer)))
 
 -- what the text of a serial number is
 pub text_of : (serial text : List ℕ) → Some serial ≡ serial_of_text text → serial ≡ text
@@ -55,11 +55,11 @@ text_of serial text is =
     elim (is_serial text) as (λ b. Some serial ≡ cond b (Some text) None → serial ≡ text) [ true ↦ λ e. cc | false ↦ λ e. cc ] is
 
 -- where a text is no serial number, no record has it
-pub no_record : (issuer text : List ℕ) (rows : List (Owned Given)) → AllByRecursion (λ o.
-    is_serial o.row.serial ≡ true) rows → None ≡ serial_of_text text → find (is_given issuer text) rows ≡ None
+pub no_record : (issuer text : List ℕ) (rows : List (OfCustomer Given)) → AllByRecursion (λ o.
+    is_serial o.row.serial ≡ true) rows → None ≡ serial_of_text text → find (is_serial_of issuer text) rows ≡ None
 no_record issuer text [] all none = refl
 no_record issuer text (y ∷ ys) all none =
-    elim (is_given issuer text y) as (λ b. is_given issuer text y ≡ b → cond b (Some y) (find (is_given issuer text) ys) ≡ None) [
+    elim (is_serial_of issuer text y) as (λ b. is_serial_of issuer text y ≡ b → cond b (Some y) (find (is_serial_of issuer text) ys) ≡ None) [
       | true ↦ λ is.
           let parts = both_true (bytes_eq issuer y.row.issuer) (bytes_eq text y.row.serial) is in
           let same : text ≡ y.row.serial = (bytes_eq-Decides text y.row.serial).0 parts.1 in
@@ -70,95 +70,96 @@ no_record issuer text (y ∷ ys) all none =
     ] refl
 
 -- a key that is found in the index finds its record
-pub record_of_key : (rows : List (Owned Given)) (i : GivenIndex) (issuer key serial : List ℕ) → AreIndexed rows i → Some serial ≡ serial_of issuer key i
-    → find (is_given issuer serial) rows ≡ find (is_bound issuer key) rows
+pub record_of_key : (rows : List (OfCustomer Given)) (i : GivenIndex) (issuer key serial : List ℕ) → AreIndexed rows i → Some serial ≡ serial_of issuer key i
+    → find (is_serial_of issuer serial) rows ≡ find (is_bound issuer key) rows
 record_of_key rows i issuer key serial indexed is =
-    let there : Some serial ≡ option_map (λ (o : Owned Given). o.row.serial) (find (is_bound issuer key) rows) = is ∙ indexed.serials issuer key in
-    elim (find (is_bound issuer key) rows) as (λ f. find (is_bound issuer key) rows ≡ f → Some serial ≡ option_map (λ (o : Owned Given). o.row.serial) f
-    → find (is_given issuer serial) rows ≡ f) [
+    let there : Some serial ≡ option_map (λ (o : OfCustomer Given). o.row.serial) (find (is_bound issuer key) rows) = is ∙ indexed.serials issuer key in
+    elim (find (is_bound issuer key) rows) as (λ f. find (is_bound issuer key) rows ≡ f → Some serial ≡ option_map (λ (o : OfCustomer Given). o.row.serial) f
+    → find (is_serial_of issuer serial) rows ≡ f) [
       | None ↦ λ found e. cc
       | Some o ↦ λ found e.
           let same : serial ≡ o.row.serial = cc in
           let parts = both_true (bytes_eq issuer o.row.issuer) (bytes_eq key o.row.key) (found_passes (is_bound issuer key) o rows found) in
-          let passes : is_given issuer serial o ≡ true = rw (parts.0, (bytes_eq-Decides serial o.row.serial).1 same) refl in
-          found_also (is_given issuer serial) (is_bound issuer key) o rows found passes (indexed.one_serial issuer serial)
+          let passes : is_serial_of issuer serial o ≡ true = rw (parts.0, (bytes_eq-Decides serial o.row.serial).1 same) refl in
+          found_also (is_serial_of issuer serial) (is_bound issuer key) o rows found passes (indexed.one_serial issuer serial)
     ] refl there
 
 -- the key of a record in the index
-at_bound : (o : Owned Given) (issuer key : List ℕ) → is_at (text_pair_cmp (o.row.issuer, o.row.key)) (issuer, key) ≡ is_bound issuer key o
+at_bound : (o : OfCustomer Given) (issuer key : List ℕ) → is_at (text_pair_cmp (o.row.issuer, o.row.key)) (issuer, key) ≡ is_bound issuer key o
 at_bound o issuer key =
     both_equal (text_cmp o.row.issuer issuer) (text_cmp o.row.key key)
     ∙ rw (← (texts_ties o.row.issuer issuer), ← (texts_ties o.row.key key), same_both_ways issuer o.row.issuer, same_both_ways key o.row.key) refl
 
-abbrev pub Writes-serial : GivenIndex → GivenIndex → Owned Given → Option (List ℕ) → Type 0
+abbrev pub Writes-serial : GivenIndex → GivenIndex → OfCustomer Given → Option (List ℕ) → Type 0
 Writes-serial i n o v =
     (q : List ℕ × List ℕ) → get text_pair_cmp n.serials q ≡ cond (is_at (text_pair_cmp (o.row.issuer, o.row.key)) q) v (get text_pair_cmp i.serials q)
 
-pub serials_put : (i n : GivenIndex) (o : Owned Given) (v : Option (List ℕ)) → Writes-serial i n o v → (issuer key : List ℕ)
+pub serials_put : (i n : GivenIndex) (o : OfCustomer Given) (v : Option (List ℕ)) → Writes-serial i n o v → (issuer key : List ℕ)
     → serial_of issuer key n ≡ cond (is_bound issuer key o) v (serial_of issuer key i)
 serials_put i n o v writes issuer key = writes (issuer, key) ∙ ap (λ b. cond b v (serial_of issuer key i)) (at_bound o issuer key)
 
 -- where the record's key was free, nothing is left of it
-pub serials_back : (o : Owned Given) (x v : Option (List ℕ)) (issuer key : List ℕ) → (is_bound issuer key o ≡ true → x ≡ None)
+pub serials_back : (o : OfCustomer Given) (x v : Option (List ℕ)) (issuer key : List ℕ) → (is_bound issuer key o ≡ true → x ≡ None)
     → cond (is_bound issuer key o) None (cond (is_bound issuer key o) v x) ≡ x
 serials_back o x v issuer key free =
     elim (is_bound issuer key o) as (λ b. is_bound issuer key o ≡ b → cond b None (cond b v x) ≡ x) [ true ↦ λ is. sym (free is) | false ↦ λ is. refl ] refl
 
-pub free_serial : (i : GivenIndex) (o : Owned Given) → serial_of o.row.issuer o.row.key i ≡ None → (issuer key : List ℕ) → is_bound issuer key o ≡ true
+pub free_serial : (i : GivenIndex) (o : OfCustomer Given) → serial_of o.row.issuer o.row.key i ≡ None → (issuer key : List ℕ) → is_bound issuer key o ≡ true
     → serial_of issuer key i ≡ None
 free_serial i o free issuer key is =
     let parts = both_true (bytes_eq issuer o.row.issuer) (bytes_eq key o.row.key) is in
     rw ((bytes_eq-Decides issuer o.row.issuer).0 parts.0, (bytes_eq-Decides key o.row.key).0 parts.1) free
 
-pub free_bound : (rows : List (Owned Given)) (o : Owned Given) → find (is_bound o.row.issuer o.row.key) rows ≡ None → (issuer key : List ℕ)
+pub free_bound : (rows : List (OfCustomer Given)) (o : OfCustomer Given) → find (is_bound o.row.issuer o.row.key) rows ≡ None → (issuer key : List ℕ)
     → is_bound issuer key o ≡ true → find (is_bound issuer key) rows ≡ None
 free_bound rows o free issuer key is =
     let parts = both_true (bytes_eq issuer o.row.issuer) (bytes_eq key o.row.key) is in
     rw ((bytes_eq-Decides issuer o.row.issuer).0 parts.0, (bytes_eq-Decides key o.row.key).0 parts.1) free
 
-free_given : (rows : List (Owned Given)) (o : Owned Given) → find (is_given o.row.issuer o.row.serial) rows ≡ None → (issuer serial : List ℕ)
-    → is_given issuer serial o ≡ true → find (is_given issuer serial) rows ≡ None
+free_given : (rows : List (OfCustomer Given)) (o : OfCustomer Given) → find (is_serial_of o.row.issuer o.row.serial) rows ≡ None → (issuer serial : List ℕ)
+    → is_serial_of issuer serial o ≡ true → find (is_serial_of issuer serial) rows ≡ None
 free_given rows o free issuer serial is =
     let parts = both_true (bytes_eq issuer o.row.issuer) (bytes_eq serial o.row.serial) is in
     rw ((bytes_eq-Decides issuer o.row.issuer).0 parts.0, (bytes_eq-Decides serial o.row.serial).0 parts.1) free
 
-free_address : (rows : List (Owned Given)) (own : Option ℕ) → IsAddressFree own rows → (mac : ℕ) → is_address mac own ≡ true
+free_address : (rows : List (OfCustomer Given)) (own : Option ℕ) → IsAddressFree own rows → (mac : ℕ) → is_address mac own ≡ true
     → find (has_address mac) rows ≡ None
 free_address rows None free mac is = cc
 free_address rows (Some own) free mac is = let same : mac ≡ own = eqb-true mac own is in rw same free
 
-map_cond : (b : Bool) (x f : Option (Owned Given)) → option_map (λ (o : Owned Given). o.row.serial) (cond b x f)
-    ≡ cond b (option_map (λ (o : Owned Given). o.row.serial) x) (option_map (λ (o : Owned Given). o.row.serial) f)
+map_cond : (b : Bool) (x f : Option (OfCustomer Given)) → option_map (λ (o : OfCustomer Given). o.row.serial) (cond b x f)
+    ≡ cond b (option_map (λ (o : OfCustomer Given). o.row.serial) x) (option_map (λ (o : OfCustomer Given). o.row.serial) f)
 map_cond true x f = refl
 map_cond false x f = refl
 
-some_or : (b : Bool) (o : Owned Given) (f : Option (Owned Given)) → is_some (cond b (Some o) f) ≡ (b || is_some f)
+some_or : (b : Bool) (o : OfCustomer Given) (f : Option (OfCustomer Given)) → is_some (cond b (Some o) f) ≡ (b || is_some f)
 some_or true o f = refl
 some_or false o f = refl
 
-none_and : (b : Bool) (f : Option (Owned Given)) → is_some (cond b None f) ≡ (not b && is_some f)
+none_and : (b : Bool) (f : Option (OfCustomer Given)) → is_some (cond b None f) ≡ (not b && is_some f)
 none_and true f = refl
 none_and false f = refl
 
-module _ (rows : List (Owned Given)) (i i2 : GivenIndex) (indexed : AreIndexed rows i) (o : Owned Given) where
+module _ (rows : List (OfCustomer Given)) (i i2 : GivenIndex) (indexed : AreIndexed rows i) (o : OfCustomer Given) where
   -- a new record is indexed
-  pub indexed-placed : find (is_given o.row.issuer o.row.serial) rows ≡ None → find (is_bound o.row.issuer o.row.key) rows ≡ None → IsAddressFree o.row.mac rows
+  pub indexed-placed : find (is_serial_of o.row.issuer o.row.serial) rows ≡ None
+      → find (is_bound o.row.issuer o.row.key) rows ≡ None → IsAddressFree o.row.mac rows
       → is_serial o.row.serial ≡ true
       → ((issuer key : List ℕ) → serial_of issuer key i2 ≡ cond (is_bound issuer key o) (Some o.row.serial) (serial_of issuer key i))
       → ((mac : ℕ) → has_mac (Some mac) i2 ≡ (is_address mac o.row.mac || has_mac (Some mac) i))
-      → AreIndexed (placed given_cmp o rows) i2
+      → AreIndexed (with_row given_cmp o rows) i2
   indexed-placed free_serial free_key free_mac valid serials macs =
       let free : find (λ y. is_eq (given_cmp o y)) rows ≡ None = find_given o.row.issuer o.row.serial rows ∙ free_serial in
       record {
         serials = λ issuer key. serials issuer key ∙ (ap (λ x. cond (is_bound issuer key o) (Some o.row.serial) x) (indexed.serials issuer key)
             ∙ (sym (map_cond (is_bound issuer key o) (Some o) (find (is_bound issuer key) rows))
-            ∙ sym (ap (option_map (λ (o : Owned Given). o.row.serial))
+            ∙ sym (ap (option_map (λ (o : OfCustomer Given). o.row.serial))
             (find-placed (is_bound issuer key) given_cmp o rows free (free_bound rows o free_key issuer key)))));
         macs = λ mac. macs mac ∙ (ap (λ x. is_address mac o.row.mac || x) (indexed.macs mac)
             ∙ (sym (some_or (is_address mac o.row.mac) o (find (has_address mac) rows))
             ∙ sym (ap is_some (find-placed (has_address mac) given_cmp o rows free (free_address rows o.row.mac free_mac mac)))));
         one_serial =
-            λ issuer serial. still_alone given_cmp (is_given issuer serial) o rows free (free_given rows o free_serial issuer serial)
+            λ issuer serial. still_alone given_cmp (is_serial_of issuer serial) o rows free (free_given rows o free_serial issuer serial)
             (indexed.one_serial issuer serial);
         one_key = λ issuer key. still_alone given_cmp (is_bound issuer key) o rows free (free_bound rows o free_key issuer key) (indexed.one_key issuer key);
         one_mac = λ mac. still_alone given_cmp (has_address mac) o rows free (free_address rows o.row.mac free_mac mac) (indexed.one_mac mac);
@@ -166,29 +167,29 @@ module _ (rows : List (Owned Given)) (i i2 : GivenIndex) (indexed : AreIndexed r
       }
 
   -- the others are, without a record that is taken out
-  pub indexed-without : (issuer serial : List ℕ) → find (is_given issuer serial) rows ≡ Some o
+  pub indexed-without : (issuer serial : List ℕ) → find (is_serial_of issuer serial) rows ≡ Some o
       → ((issuer key : List ℕ) → serial_of issuer key i2 ≡ cond (is_bound issuer key o) None (serial_of issuer key i))
       → ((mac : ℕ) → has_mac (Some mac) i2 ≡ (not (is_address mac o.row.mac) && has_mac (Some mac) i))
-      → AreIndexed (without (is_given issuer serial) rows) i2
+      → AreIndexed (without (is_serial_of issuer serial) rows) i2
   indexed-without issuer0 serial0 found serials macs = record {
     serials = λ issuer key. serials issuer key ∙ (ap (λ x. cond (is_bound issuer key o) None x) (indexed.serials issuer key)
         ∙ (sym (map_cond (is_bound issuer key o) None (find (is_bound issuer key) rows))
-        ∙ sym (ap (option_map (λ (o : Owned Given). o.row.serial))
-        (find-without (is_bound issuer key) (is_given issuer0 serial0) o rows found (indexed.one_key issuer key)))));
+        ∙ sym (ap (option_map (λ (o : OfCustomer Given). o.row.serial))
+        (find-without (is_bound issuer key) (is_serial_of issuer0 serial0) o rows found (indexed.one_key issuer key)))));
     macs = λ mac. macs mac ∙ (ap (λ x. not (is_address mac o.row.mac) && x) (indexed.macs mac)
         ∙ (sym (none_and (is_address mac o.row.mac) (find (has_address mac) rows))
-        ∙ sym (ap is_some (find-without (has_address mac) (is_given issuer0 serial0) o rows found (indexed.one_mac mac)))));
-    one_serial = λ issuer serial. alone_without (is_given issuer serial) (is_given issuer0 serial0) o rows found (indexed.one_serial issuer serial);
-    one_key = λ issuer key. alone_without (is_bound issuer key) (is_given issuer0 serial0) o rows found (indexed.one_key issuer key);
-    one_mac = λ mac. alone_without (has_address mac) (is_given issuer0 serial0) o rows found (indexed.one_mac mac);
-    are_serials = all_without (λ r. is_serial r.row.serial ≡ true) (is_given issuer0 serial0) rows indexed.are_serials;
+        ∙ sym (ap is_some (find-without (has_address mac) (is_serial_of issuer0 serial0) o rows found (indexed.one_mac mac)))));
+    one_serial = λ issuer serial. alone_without (is_serial_of issuer serial) (is_serial_of issuer0 serial0) o rows found (indexed.one_serial issuer serial);
+    one_key = λ issuer key. alone_without (is_bound issuer key) (is_serial_of issuer0 serial0) o rows found (indexed.one_key issuer key);
+    one_mac = λ mac. alone_without (has_address mac) (is_serial_of issuer0 serial0) o rows found (indexed.one_mac mac);
+    are_serials = all_without (λ r. is_serial r.row.serial ≡ true) (is_serial_of issuer0 serial0) rows indexed.are_serials;
   }
 
 -- a new record is placed and taken out again
-pub without-placed_given : (o : Owned Given) (rows : List (Owned Given)) → find (is_given o.row.issuer o.row.serial) rows ≡ None
-    → without (is_given o.row.issuer o.row.serial) (placed given_cmp o rows) ≡ rows
+pub without-placed_given : (o : OfCustomer Given) (rows : List (OfCustomer Given)) → find (is_serial_of o.row.issuer o.row.serial) rows ≡ None
+    → without (is_serial_of o.row.issuer o.row.serial) (with_row given_cmp o rows) ≡ rows
 without-placed_given o rows free =
-    sym (without_given o.row.issuer o.row.serial (placed given_cmp o rows))
+    sym (without_given o.row.issuer o.row.serial (with_row given_cmp o rows))
     ∙ without-placed_new given_cmp o rows (rw (tied_itself nat_list_cmp_total o.row.issuer, tied_itself nat_list_cmp_total o.row.serial) refl)
     (find_given o.row.issuer o.row.serial rows ∙ free)
 
@@ -220,16 +221,16 @@ macs_taken s n own writes mac =
     writes mac ∙ (ap (λ b. cond b false (contains nat_cmp s mac)) (at_mac own mac) ∙ elim (mac == own) as (λ b.
     cond b false (contains nat_cmp s mac) ≡ (not b && contains nat_cmp s mac)) [ true ↦ refl | false ↦ refl ])
 
-pub key_free : (rows : List (Owned Given)) (i : GivenIndex) → AreIndexed rows i → (issuer key : List ℕ) → find (is_bound issuer key) rows ≡ None
+pub key_free : (rows : List (OfCustomer Given)) (i : GivenIndex) → AreIndexed rows i → (issuer key : List ℕ) → find (is_bound issuer key) rows ≡ None
     → serial_of issuer key i ≡ None
-key_free rows i indexed issuer key free = indexed.serials issuer key ∙ ap (option_map (λ (o : Owned Given). o.row.serial)) free
+key_free rows i indexed issuer key free = indexed.serials issuer key ∙ ap (option_map (λ (o : OfCustomer Given). o.row.serial)) free
 
-pub mac_free : (rows : List (Owned Given)) (i : GivenIndex) → AreIndexed rows i → (mac : Option ℕ) → IsAddressFree mac rows → has_mac mac i ≡ false
+pub mac_free : (rows : List (OfCustomer Given)) (i : GivenIndex) → AreIndexed rows i → (mac : Option ℕ) → IsAddressFree mac rows → has_mac mac i ≡ false
 mac_free rows i indexed None free = refl
 mac_free rows i indexed (Some mac) free = indexed.macs mac ∙ ap is_some free
 
 -- the indexes are those of the rows as before
-pub indexed_same : (rows : List (Owned Given)) (i n : GivenIndex) → AreIndexed rows i
+pub indexed_same : (rows : List (OfCustomer Given)) (i n : GivenIndex) → AreIndexed rows i
     → ((issuer key : List ℕ) → serial_of issuer key n ≡ serial_of issuer key i) → ((mac : ℕ) → has_mac (Some mac) n ≡ has_mac (Some mac) i) → AreIndexed rows n
 indexed_same rows i n indexed serials macs = record {
   serials = λ issuer key. serials issuer key ∙ indexed.serials issuer key;
@@ -245,7 +246,8 @@ mac_back true x free = sym (free refl)
 mac_back false x free = refl
 
 -- a record that was free is added to the indexes and taken out again
-pub indexed_back : (rows : List (Owned Given)) (i i1 i2 : GivenIndex) (o : Owned Given) → AreIndexed rows i → find (is_bound o.row.issuer o.row.key) rows ≡ None
+pub indexed_back : (rows : List (OfCustomer Given)) (i i1 i2 : GivenIndex) (o : OfCustomer Given)
+    → AreIndexed rows i → find (is_bound o.row.issuer o.row.key) rows ≡ None
     → IsAddressFree o.row.mac rows
     → ((issuer key : List ℕ) → serial_of issuer key i1 ≡ cond (is_bound issuer key o) (Some o.row.serial) (serial_of issuer key i))
     → ((mac : ℕ) → has_mac (Some mac) i1 ≡ (is_address mac o.row.mac || has_mac (Some mac) i))

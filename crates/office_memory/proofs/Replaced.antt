@@ -2,11 +2,11 @@
 use Rattle.std.proofs.Common.{◌≡◌, ◌<◌, ◌+◌, ◌-◌, ◌^◌, ◌∙◌, ℕ, arith, Bool, true, false, List, length, Some, refl, sym}
 use Rattle.std.specs.Prelude.{bytes_eq, find, not}
 use Rattle.std.proofs.lemmas.Slice.Eq.{bytes_eq-Decides}
-use Rattle.office_tables.specs.declared.rows.Owned.{Owned}
+use Rattle.office_tables.specs.declared.rows.OfCustomer.{OfCustomer}
 use Rattle.office_tables.specs.declared.rows.Device.{Device}
 use Rattle.office_tables.specs.Tables.{device_cmp, is_device}
-use Rattle.office_memory.specs.Counting.{count_at, is_counted, place_of, AreCounted, KeepsCounts}
-use Rattle.office_memory.specs.Unplaced.{unplaced, with_device, with_other}
+use Rattle.office_memory.specs.Counting.{count_of_order, is_counted, place_of_device, AreCounted, KeepsCounts}
+use Rattle.office_memory.specs.Unplaced.{unplaced, with_device_row, with_other}
 use Rattle.office_memory.specs.declared.devices.PlaceCounts.{PlaceCounts}
 use Rattle.office_memory.proofs.Counted.{all_kept, all_other, find_other, found_has, found_passes, itself, places_few, places_other, places_without}
 use Rattle.office_memory.proofs.Truth.{both_true}
@@ -17,7 +17,7 @@ pub same_from : (same differs : Bool) → differs ≡ not same → differs ≡ f
 same_from true differs is equal = refl
 same_from false differs is equal = cc
 
-module _ (row old : Owned Device) (rows : List (Owned Device)) (found : find (is_device row.customer row.row.chip) rows ≡ Some old)
+module _ (row old : OfCustomer Device) (rows : List (OfCustomer Device)) (found : find (is_device row.customer row.row.chip) rows ≡ Some old)
     (same_order : bytes_eq old.row.order row.row.order ≡ true) where
   parts : (bytes_eq row.customer old.customer ≡ true) × (bytes_eq row.row.chip old.row.chip ≡ true)
   parts =
@@ -33,12 +33,12 @@ module _ (row old : Owned Device) (rows : List (Owned Device)) (found : find (is
   order = (bytes_eq-Decides old.row.order row.row.order).0 same_order
 
   -- the rows with the device in the other's place
-  pub with_device-found : with_other (is_device row.customer row.row.chip) row rows ≡ with_device row rows
+  pub with_device-found : with_other (is_device row.customer row.row.chip) row rows ≡ with_device_row row rows
   with_device-found = rw (found, same_order) refl
 
   -- the other one is put back
   pub with_device-back : unplaced device_cmp row (Some old) (with_other (is_device row.customer row.row.chip) row rows) ≡ rows
-      → with_device old (with_other (is_device row.customer row.row.chip) row rows) ≡ rows
+      → with_device_row old (with_other (is_device row.customer row.row.chip) row rows) ≡ rows
   with_device-back back =
       let there : find (is_device old.customer old.row.chip) (with_other (is_device row.customer row.row.chip) row rows) ≡ Some row =
       rw (← customer, ← chip) (find_other (is_device row.customer row.row.chip) row old rows (itself row) found) in
@@ -53,8 +53,8 @@ module _ (row old : Owned Device) (rows : List (Owned Device)) (found : find (is
         kept row.customer row.row.order (rw (customer, ← order) was)
 
     -- and it has room for one more
-    pub room_again : ((c o : List ℕ) → count_at c o p1 ≡ count_at c o p - place_of c o old) → length rows < 2 ^ 63
-        → count_at row.customer row.row.order p1 < 2 ^ 63
+    pub room_again : ((c o : List ℕ) → count_of_order c o p1 ≡ count_of_order c o p - place_of_device c o old) → length rows < 2 ^ 63
+        → count_of_order row.customer row.row.order p1 < 2 ^ 63
     room_again less few =
         let l = less row.customer row.row.order in
         let right = counted.right row.customer row.row.order in
@@ -62,8 +62,8 @@ module _ (row old : Owned Device) (rows : List (Owned Device)) (found : find (is
         omega (arith, l, right, low, few)
 
     -- the numbers are right again
-    pub counted_again : (p2 : PlaceCounts) → ((c o : List ℕ) → count_at c o p1 ≡ count_at c o p - place_of c o old)
-        → ((c o : List ℕ) → count_at c o p2 ≡ count_at c o p1 + place_of c o row) → KeepsCounts p1 p2
+    pub counted_again : (p2 : PlaceCounts) → ((c o : List ℕ) → count_of_order c o p1 ≡ count_of_order c o p - place_of_device c o old)
+        → ((c o : List ℕ) → count_of_order c o p2 ≡ count_of_order c o p1 + place_of_device c o row) → KeepsCounts p1 p2
         → AreCounted (with_other (is_device row.customer row.row.chip) row rows) p2
     counted_again p2 less more kept2 = record {
       right = λ c o.

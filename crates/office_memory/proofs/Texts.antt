@@ -9,7 +9,7 @@ use Rattle.std.specs.String.{string_bytes}
 use Rattle.std.specs.declared.string.String.{String}
 use Rattle.std.proofs.lemmas.Slice.Eq.{bytes_eq-Decides}
 use Rattle.office_tables.specs.declared.rows.MapRow.{MapRow}
-use Rattle.office_tables.specs.Tables.{has_body, has_id, map_cmp, placed}
+use Rattle.office_tables.specs.Tables.{has_body, has_id, map_cmp, with_row}
 use Rattle.office_memory.specs.Indexing.{AreFoundByText}
 use Rattle.office_memory.specs.Unplaced.{without}
 use Rattle.office_memory.proofs.Alone.{find-placed, find-without, still_alone, alone_without}
@@ -36,7 +36,7 @@ same_text rows m free text is = rw ((bytes_eq-Decides text m.body).0 is) free
 module _ {Y : Type 0} (rows : List MapRow) (ids n : BTreeMap (String Y) ℕ) (found : AreFoundByText rows ids) (m : MapRow) where
   -- a new map is found by its text
   pub found-placed : find (has_id m.id) rows ≡ None → find (has_body m.body) rows ≡ None → WritesAt ids n m.body (Some m.id)
-      → AreFoundByText (placed map_cmp m rows) n
+      → AreFoundByText (with_row map_cmp m rows) n
   found-placed free_id free_text writes =
       let free : find (λ y. is_eq (map_cmp m y)) rows ≡ None = find_map m.id rows ∙ free_id in
       record {

@@ -4,8 +4,8 @@ ghost use Rattle.std.specs.Prelude.{filter, find, if◌then◌else◌, OnOk, OnE
 ghost use Rattle.std.specs.Option.{option_copied};
 ghost use Rattle.text_core.specs.Serial.{is_serial};
 ghost use Rattle.office_tables.specs.Keeping.{Visits};
-ghost use Rattle.office_tables.specs.Tables.{given_cmp, is_address, is_bound, is_given};
-ghost use Rattle.office_tables.specs.Tables.{is_of_issuer, placed, IsAddressFree};
+ghost use Rattle.office_tables.specs.Tables.{given_cmp, is_address, is_bound, is_serial_of};
+ghost use Rattle.office_tables.specs.Tables.{is_of_issuer, with_row, IsAddressFree};
 ghost use Rattle.office_memory.specs.Indexing.{has_mac, serial_of};
 ghost use Rattle.office_memory.specs.Unplaced.{without};
 
@@ -94,11 +94,11 @@ pub(crate) struct GivenRows {
 
 impl Model for GivenRows {
     ghost use Rattle.std.specs.Prelude.{List};
-    ghost use Rattle.office_tables.specs.declared.rows.Owned.{Owned};
+    ghost use Rattle.office_tables.specs.declared.rows.OfCustomer.{OfCustomer};
     ghost use Rattle.office_tables.specs.declared.rows.Given.{Given};
     ghost use Rattle.office_memory.specs.Indexing.{AreIndexed};
 
-    ghost Value = { List (Owned Given) };
+    ghost Value = { List (OfCustomer Given) };
 
     ghost view = { λ g. g.rows };
 
@@ -122,7 +122,7 @@ impl GivenRows {
     /// The record of a serial number of an issuer. There is none where the text is no serial
     /// number.
     pub(crate) fn get(&self, issuer: &Name, serial: &str) -> Option<&GivenRow>
-        ensures { option_copied result ≡ find (is_given issuer.now serial.now) self.now }
+        ensures { option_copied result ≡ find (is_serial_of issuer.now serial.now) self.now }
     {
         let rows = &self.rows;
         let serial = Serial::parse(serial)?;
@@ -141,8 +141,8 @@ impl GivenRows {
     /// its address.
     pub(crate) fn add(&mut self, row: &GivenRow) -> Result<(), Unkept>
         ensures free { OnOk result (IsAddressFree row.now.row.mac self.old) }
-        ensures placed { OnOk result (self.new ≡ placed given_cmp row.now self.old) }
-        ensures undone { OnOk result (without (is_given row.now.row.issuer row.now.row.serial)
+        ensures placed { OnOk result (self.new ≡ with_row given_cmp row.now self.old) }
+        ensures undone { OnOk result (without (is_serial_of row.now.row.issuer row.now.row.serial)
             self.new ≡ self.old) }
         ensures err { OnErr result (self.new ≡ self.old) }
     {
@@ -161,7 +161,7 @@ impl GivenRows {
 
     /// Whether a record has the serial number or the key in its issuer, or the address.
     fn is_taken(&self, row: &GivenRow) -> bool
-        ensures serial { result ≡ false → find (is_given row.now.row.issuer row.now.row.serial)
+        ensures serial { result ≡ false → find (is_serial_of row.now.row.issuer row.now.row.serial)
             self.now ≡ None }
         ensures key { result ≡ false → find (is_bound row.now.row.issuer row.now.row.key) self.now
             ≡ None }
@@ -176,7 +176,7 @@ impl GivenRows {
 
     /// Takes a record out again. This takes no memory.
     pub(crate) fn remove(&mut self, row: &GivenRow)
-        ensures { self.new ≡ without (is_given row.now.row.issuer row.now.row.serial) self.old }
+        ensures { self.new ≡ without (is_serial_of row.now.row.issuer row.now.row.serial) self.old }
     {
         let key = given_key(row.row.issuer, Point::At(row.row.serial));
         if let Some(removed) = self.rows.remove(&key) {

@@ -1,7 +1,7 @@
 // The maps, found by their numbers and by their texts.
 ghost use Rattle.std.specs.Prelude.{◌≡◌, [], None, find, option_map, IfOk, IfSome, OnErr};
 ghost use Rattle.std.specs.Option.{option_copied};
-ghost use Rattle.office_tables.specs.Tables.{has_body, has_id, map_cmp, placed};
+ghost use Rattle.office_tables.specs.Tables.{has_body, has_id, map_cmp, with_row};
 ghost use Rattle.office_memory.specs.Unplaced.{without};
 
 use crate::table::Table;
@@ -59,7 +59,7 @@ impl MapRows {
     /// refused where a map has the text.
     pub(crate) fn add(&mut self, body: Text) -> Result<u64, Unkept>
         ensures free { IfOk result (λ id. find (has_id id) self.old ≡ None) }
-        ensures placed { IfOk result (λ id. self.new ≡ placed map_cmp
+        ensures placed { IfOk result (λ id. self.new ≡ with_row map_cmp
             (record { id = id; body = body }) self.old) }
         ensures undone { IfOk result (λ id. without (has_id id) self.new ≡ self.old) }
         ensures err { OnErr result (self.new ≡ self.old) }

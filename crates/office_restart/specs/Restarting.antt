@@ -5,18 +5,23 @@ use Rattle.sqlite_disk.specs.declared.Files.{Files}
 use Rattle.sqlite_store.specs.declared.store.FileStore.{FileStore}
 use Rattle.sqlite.specs.Files.{image_of, over_files}
 use Rattle.sqlite.specs.Held.{Held}
-use Rattle.site_core.specs.Owners.{Owners, OwnersGrow}
+use Rattle.site_core.specs.Ownership.{Ownership, OwnershipGrows}
 use Rattle.office_tables.specs.Keeping.{Stands}
 use Rattle.office_tables.specs.Tables.{Tables}
 use Rattle.office_laws.specs.Sound.{IsSound}
 use Rattle.office_runs.specs.Exchanges.{Exchange, IsRun}
 use Rattle.office_runs.specs.Promises.{Promises}
-use Rattle.office_runs.specs.Stops.{IsLeft, IsUnsettled}
+use Rattle.office_runs.specs.Stops.{IsLeft, IsUnanswered}
 use Rattle.office_store.specs.Keeping.{is_open_at, tables_of}
 use Rattle.office_store.specs.Opening.{HasTablesOf}
 
--- The files held the first tables. What was answered before the crash led from them to those that stood; the crash left these, or those after one step more, of a request that was answered 503 since the last one that wasn't; and what was answered after it led from what was left to the last, which stand. All of it is one run: from tables that were sound for the first site, or for one that it grew from, all is promised of it that is promised of a run under the second.
-pub record GoesOn {D : Type 0} (g : Ghosts D) (site grown : Owners) (files : Files D) (before after : List Exchange) (store : Held (FileStore D g)) : Type 0 where
+-- The files held the first tables. What was answered before the crash led from them to those that
+-- stood; the crash left these, or those after one step more, of a request that was answered 503
+-- since the last one that wasn't; and what was answered after it led from what was left to the
+-- last, which stand. All of it is one run: from tables that were sound for the first site, or for
+-- one that it grew from, all is promised of it that is promised of a run under the second.
+pub record GoesOn {D : Type 0} (g : Ghosts D) (site grown : Ownership) (files : Files D)
+    (before after : List Exchange) (store : Held (FileStore D g)) : Type 0 where
   pub first : Tables
   pub stood : Tables
   pub more : List Exchange
@@ -24,7 +29,7 @@ pub record GoesOn {D : Type 0} (g : Ghosts D) (site grown : Owners) (files : Fil
   pub last : Tables
   pub held : HasTablesOf (image_of g files) first
   pub answered_before : IsRun before first stood
-  pub leaves : IsLeft (IsUnsettled before) stood more left
+  pub leaves : IsLeft (IsUnanswered before) stood more left
   pub answered_after : IsRun after left last
   pub stands : Stands (is_open_at over_files) (tables_of over_files) store last
-  pub promises : (older : Owners) → OwnersGrow older site → IsSound older first → Promises grown (before ++ (more ++ after)) first last
+  pub promises : (older : Ownership) → OwnershipGrows older site → IsSound older first → Promises grown (before ++ (more ++ after)) first last

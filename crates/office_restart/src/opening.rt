@@ -29,12 +29,13 @@ fn adopted<S: Alter + Drop>(
         → HoldsText site.now.text (state S.Store keep.conn).now.trees) }
     ensures grown { IfOk result (λ keep. is_honest_at S.Store keep.conn
         → TakesGrowth site.now.site (state S.Store conn).committed.trees) }
-    ensures open { IfOk result (λ keep. is_honest_at S.Store keep.conn → is_open_at S.Store keep.conn) }
+    ensures open { IfOk result (λ keep. is_honest_at S.Store keep.conn
+        → is_open_at S.Store keep.conn) }
     ensures was_honest { IfOk result (λ keep.
         is_honest_at S.Store keep.conn → is_honest_at S.Store conn) }
     ensures tables { IfOk result (λ keep.
         is_honest_at S.Store keep.conn → tables_of S.Store keep.conn ≡ tables_of S.Store conn) }
-    ensures settled { IfOk result (λ keep. is_honest_at S.Store keep.conn
+    ensures only_committed { IfOk result (λ keep. is_honest_at S.Store keep.conn
         → (left : Tables) → may_leave_at S.Store keep.conn left → left ≡ tables_of S.Store keep.conn) }
 {
     match adopt(alloc, conn, site) {
@@ -66,12 +67,13 @@ pub fn open_files<D: Disk + Drop>(
         → HoldsText site.now.text (state over_files keep.conn).now.trees) }
     ensures grown { IfOk result (λ keep. is_honest_at over_files keep.conn
         → (db : Trees) → HoldsDatabase (image_of D.Disk files) db → TakesGrowth site.now.site db) }
-    ensures open { IfOk result (λ keep. is_honest_at over_files keep.conn → is_open_at over_files keep.conn) }
+    ensures open { IfOk result (λ keep. is_honest_at over_files keep.conn
+        → is_open_at over_files keep.conn) }
     ensures was_honest { IfOk result (λ keep.
         is_honest_at over_files keep.conn → AreClean D.Disk files.log files.db) }
     ensures tables { IfOk result (λ keep. is_honest_at over_files keep.conn
         → HasTablesOf (image_of D.Disk files) (tables_of over_files keep.conn)) }
-    ensures settled { IfOk result (λ keep. is_honest_at over_files keep.conn
+    ensures only_committed { IfOk result (λ keep. is_honest_at over_files keep.conn
         → (left : Tables) → may_leave_at over_files keep.conn left → left ≡ tables_of over_files keep.conn) }
 {
     let conn = match Connection::open_files(alloc, files, options) {

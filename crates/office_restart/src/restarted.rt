@@ -4,7 +4,7 @@ ghost use Rattle.std.specs.List.{AllByRecursion};
 ghost use Rattle.sqlite.specs.Files.{over_files};
 ghost use Rattle.site_core.specs.Caller.{IsSeatCaller};
 ghost use Rattle.site_core.specs.Growth.{IsGrowth};
-ghost use Rattle.site_core.specs.Owners.{AreApart, owners_of};
+ghost use Rattle.site_core.specs.Ownership.{PoolsDisjoint, ownership_of};
 ghost use Rattle.site_core.specs.Site.{IsSite};
 ghost use Rattle.office_runs.specs.Growth.{IsSeat};
 ghost use Rattle.office_core.specs.Replaying.{KeepsPromises, calls_in, exchanges_in};
@@ -60,9 +60,9 @@ fn replay_text<K: Keep>(
     ensures site { IsSite site.now.site }
     ensures was_honest { K.is_honest keep.new → K.is_honest keep.old }
     ensures count { IfOk result (λ replies. length replies.items ≡ length requests.now) }
-    ensures apart { IfOk result (λ _. AreApart (owners_of site.now.site)) }
+    ensures apart { IfOk result (λ _. PoolsDisjoint (ownership_of site.now.site)) }
     ensures seats { IfOk result (λ _.
-        AllByRecursion (IsSeat (owners_of site.now.site)) (calls_in site.now.site requests.now)) }
+        AllByRecursion (IsSeat (ownership_of site.now.site)) (calls_in site.now.site requests.now)) }
     ensures run { IfOk result (λ replies.
         KeepsPromises K.Keep (site.now.site ∷ []) keep.old keep.new
         (exchanges_in site.now.site requests.now replies.items)) }
@@ -102,7 +102,7 @@ pub fn replay_through_crash<D: Crash + Drop>(
     ensures count { IfOk result (λ done. (length done.before.items ≡ length first.now)
         × (length done.after.items ≡ length second.now)) }
     ensures run { IfOk result (λ done. is_honest_at over_files done.keep.conn
-        → ∥ GoesOn D.Disk (owners_of site.now.site) (owners_of grown.now.site) files
+        → ∥ GoesOn D.Disk (ownership_of site.now.site) (ownership_of grown.now.site) files
         (exchanges_in site.now.site first.now done.before.items)
         (exchanges_in grown.now.site second.now done.after.items) done.keep.conn ∥₁) }
 {

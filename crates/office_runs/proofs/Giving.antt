@@ -4,14 +4,15 @@ use Rattle.std.specs.Prelude.{◌&&◌, bytes_eq, filter, is_some, nat_lt, not, 
 use Rattle.std.specs.List.{AllByRecursion}
 use Rattle.std.proofs.lemmas.Bool.{and_parts}
 use Rattle.std.proofs.lemmas.Bool.Decides.{nat_tests}
+use Rattle.text_core.specs.Options.{first_that_holds}
 use Rattle.http_replies.specs.Replies.{Answer, code_of, is_unavailable}
 use Rattle.id_ranges.specs.Idevid.{Idevid}
-use Rattle.site_core.specs.Owners.{Owners}
+use Rattle.site_core.specs.Ownership.{Ownership}
 use Rattle.site_core.specs.Section.{Section}
 use Rattle.office_tables.specs.declared.rows.Given.{Given}
-use Rattle.office_tables.specs.declared.rows.Owned.{Owned}
+use Rattle.office_tables.specs.declared.rows.OfCustomer.{OfCustomer}
 use Rattle.office_tables.specs.declared.rows.SeatState.{SeatState}
-use Rattle.office_tables.specs.Tables.{Tables, given_at, is_given}
+use Rattle.office_tables.specs.Tables.{Tables, given_at, is_serial_of}
 use Rattle.office_commands.specs.IdentityReplies.{identity_body}
 use Rattle.office_commands.specs.Replies.{acceptance, refusal}
 use Rattle.office_commands.specs.declared.command.Change.{Change as Changing}
@@ -23,39 +24,38 @@ use Rattle.office_commands.specs.declared.refusal.Refusal.{Refusal}
 use Rattle.office_commands.specs.declared.refusal.Refusal.TheVariants.{OtherBody, Unkept, WrongNumber}
 use Rattle.office_rules.specs.Effect.{Put}
 use Rattle.office_rules.specs.Identity.{row_of}
-use Rattle.office_rules.specs.Lowest.{lowest}
-use Rattle.office_rules.specs.Machine.{Response, decide, effect, refusals, reply_only, respond_in_turn}
-use Rattle.office_rules.specs.OfficeMachine.{Step, asks_identity, office_sight, turn_at}
-use Rattle.office_rules.specs.Retry.{turn}
-use Rattle.office_rules.specs.declared.turn.Turn.{Turn}
-use Rattle.office_rules.specs.declared.turn.Turn.TheVariants.{Repeats, Differs, Next, Skips}
+use Rattle.office_rules.specs.Machine.{Response, decide, effect, refusals, reply_only, respond_by_retry}
+use Rattle.office_rules.specs.OfficeMachine.{Step, asks_identity, office_sight, retry_at}
+use Rattle.office_rules.specs.Retry.{retry_of}
+use Rattle.office_rules.specs.declared.retry.Retry.{Retry}
+use Rattle.office_rules.specs.declared.retry.Retry.TheVariants.{Repeats, Differs, Next, Skips}
 use Rattle.office_rules.proofs.Ties.{same_text}
-use Rattle.office_laws.specs.Fresh.{AreApart, IsNew, addresses_of}
+use Rattle.office_laws.specs.Fresh.{BlocksDisjoint, IsFreshRecord, addresses_of}
 use Rattle.office_laws.specs.Grows.{Grows}
-use Rattle.office_laws.specs.SoloMachine.{State, seat_named}
+use Rattle.office_laws.specs.SoloMachine.{SoloState, seat_named}
 use Rattle.office_laws.specs.Sound.{IsSound}
 use Rattle.office_laws.specs.View.{view}
 use Rattle.office_laws.proofs.Obeying.{step_anew}
 use Rattle.office_laws.proofs.Readings.{find_holds, seat_own}
 use Rattle.office_laws.proofs.RecordAddresses.{addresses_apart, addresses_begin}
-use Rattle.office_runs.specs.Exchanges.{Exchange, IsRun, Meets, Passes, Wanted, asks, reports, refused, calls_of}
+use Rattle.office_runs.specs.Exchanges.{Exchange, IsRun, FulfilsWanted, Passes, Wanted, asks, reports, refused, calls_of}
 use Rattle.office_runs.specs.Growth.{AreSeats, IsSeat}
 use Rattle.office_runs.specs.Alone.{is_own}
-use Rattle.office_runs.specs.Gifts.{AreGifts, GivesOnce, IsGift, identity_of, identity_wanted, is_new_identity, last_of, new_identities}
-use Rattle.office_runs.specs.Once.{is_accepted, is_again, number_of, once, writes}
+use Rattle.office_runs.specs.Gifts.{AreGifts, IssuesOnce, IsGift, identity_of_command, identity_wanted, is_new_identity, last_number_of_seat, new_identities}
+use Rattle.office_runs.specs.Once.{is_accepted, is_again, number_of_wanted, once, writes}
 use Rattle.office_runs.proofs.Acting.{accepts, last_at, last_is, unaccepted}
 use Rattle.office_runs.proofs.Grown.{sound_grown}
-use Rattle.office_runs.proofs.OwnTurns.{Accepts, not_success, turn_repeats}
+use Rattle.office_runs.proofs.OwnRetries.{Accepts, not_success, retry_repeats}
 use Rattle.office_runs.proofs.Passing.{Serves as IsServed}
 use Rattle.office_runs.proofs.RunLaws.{run_grows, run_sound, serves_grown}
 
 -- a number comes after a seat's last one
-abbrev is_after : List ℕ → State → ℕ → Bool
+abbrev is_after : List ℕ → SoloState → ℕ → Bool
 is_after seat s number = nat_lt (last_at seat s) number
 
 -- the exchange's number does
-abbrev is_past : State → Exchange → Bool
-is_past s x = is_after x.0.seat s (number_of x.0.wanted)
+abbrev is_past : SoloState → Exchange → Bool
+is_past s x = is_after x.0.seat s (number_of_wanted x.0.wanted)
 
 -- an answer that is a refusal isn't 200
 refused_is_not : {A : Type 0} (reply : Answer) (reason : Refusal) → reply ≡ refusal reason
@@ -73,9 +73,9 @@ abbrev Shows : Section → NewIdentity → Tables → Answer → Tables → Type
 Shows s i t reply mid =
     (record_of : Idevid) × (record_of.key ≡ i.key)
     × (reply ≡ acceptance (identity_body i.chip record_of))
-    × IsNew t mid (record { customer = s.name; row = row_of record_of (Some i.chip) })
+    × IsFreshRecord t mid (record { customer = s.name; row = row_of record_of (Some i.chip) })
 
-module _ {site : Owners} (t mid : Tables) (sound : IsSound site t) (later : IsSound site mid)
+module _ {site : Ownership} (t mid : Tables) (sound : IsSound site t) (later : IsSound site mid)
     (s : Section) (seat : List ℕ) (mine : site.seat seat ≡ Some s.name) (reply : Answer)
     (accepted : (code_of reply.status == 200) ≡ true) where
   -- what the machine responds is replied
@@ -87,9 +87,9 @@ module _ {site : Owners} (t mid : Tables) (sound : IsSound site t) (later : IsSo
       refused_is_not reply reason (sym (ap (λ (p : Response). p.reply) (some_is is))) accepted
 
   of_lowest : (number : ℕ) (digest : List ℕ) (i : NewIdentity)
-      → turn_at seat (asks_identity number digest i) t ≡ Next
+      → retry_at seat (asks_identity number digest i) t ≡ Next
       → Step s seat t (asks_identity number digest i) reply mid
-      → (found : Option Refusal) → lowest (refusals s (office_sight s seat t) (Identify i)) ≡ found
+      → (found : Option Refusal) → first_that_holds (refusals s (office_sight s seat t) (Identify i)) ≡ found
       → Responds (decide seat (asks_identity number digest i) found
       (effect s seat (office_sight s seat t) (Identify i)))
       → Shows s i t reply mid
@@ -100,27 +100,27 @@ module _ {site : Owners} (t mid : Tables) (sound : IsSound site t) (later : IsSo
   of_turn : (number : ℕ) (digest : List ℕ) (i : NewIdentity)
       → is_after seat (view s.name t) number ≡ true
       → Step s seat t (asks_identity number digest i) reply mid
-      → (turns : Turn)
-      → turn_at seat (asks_identity number digest i) t ≡ turns
-      → Responds (respond_in_turn s seat (office_sight s seat t) (asks_identity number digest i)
+      → (turns : Retry)
+      → retry_at seat (asks_identity number digest i) t ≡ turns
+      → Responds (respond_by_retry s seat (office_sight s seat t) (asks_identity number digest i)
       (Identify i) turns)
       → Shows s i t reply mid
   of_turn number digest i past step (Repeats body) is responds =
-      let own : turn (seat_named seat (view s.name t)) number digest ≡ Repeats body =
-      ap (λ (found : Option SeatState). turn found number digest)
+      let own : retry_of (seat_named seat (view s.name t)) number digest ≡ Repeats body =
+      ap (λ (found : Option SeatState). retry_of found number digest)
       (sym (seat_own sound s.name seat mine)) ∙ is in
-      let kept = turn_repeats (seat_named seat (view s.name t)) number digest body own in
-      let last : last_at seat (view s.name t) ≡ number = ap last_of kept.1 ∙ kept.2 in
+      let kept = retry_repeats (seat_named seat (view s.name t)) number digest body own in
+      let last : last_at seat (view s.name t) ≡ number = ap last_number_of_seat kept.1 ∙ kept.2 in
       absurd (grind (arith, nat_tests, last, past))
   of_turn number digest i past step Differs is responds = is_refused OtherBody responds
   of_turn number digest i past step (Skips expected) is responds =
       is_refused (WrongNumber expected) responds
   of_turn number digest i past step Next is responds =
       of_lowest number digest i is step
-      (lowest (refusals s (office_sight s seat t) (Identify i))) refl responds
+      (first_that_holds (refusals s (office_sight s seat t) (Identify i))) refl responds
 
   of_change : (number : ℕ) (digest : List ℕ) (change : Changing) (i : NewIdentity)
-      → identity_of (Change change) ≡ Some i
+      → identity_of_command (Change change) ≡ Some i
       → is_after seat (view s.name t) number ≡ true
       → Step s seat t (record { number = number; digest = digest; command = Change change }) reply
       mid
@@ -133,14 +133,14 @@ module _ {site : Owners} (t mid : Tables) (sound : IsSound site t) (later : IsSo
   of_change number digest (Identify j) i is past step =
       let same : j ≡ i = cc in
       subst (λ (i : NewIdentity). Shows s i t reply mid) same
-      (of_turn number digest j past step (turn_at seat (asks_identity number digest j) t) refl
+      (of_turn number digest j past step (retry_at seat (asks_identity number digest j) t) refl
       (step.0, step.1))
   of_change number digest (Ship chip) i is past step = cc
   of_change number digest (Scrap chip) i is past step = cc
   of_change number digest (Import x) i is past step = cc
 
   of_command : (number : ℕ) (digest : List ℕ) (command : Command) (i : NewIdentity)
-      → identity_of command ≡ Some i
+      → identity_of_command command ≡ Some i
       → is_after seat (view s.name t) number ≡ true
       → Step s seat t (record { number = number; digest = digest; command = command }) reply mid
       → Shows s i t reply mid
@@ -149,7 +149,7 @@ module _ {site : Owners} (t mid : Tables) (sound : IsSound site t) (later : IsSo
       of_change number digest change i is past step
 
 -- an accepted identity that is no repeat shows a record that is new
-module _ {site : Owners} (t mid : Tables) (sound : IsSound site t) (later : IsSound site mid)
+module _ {site : Ownership} (t mid : Tables) (sound : IsSound site t) (later : IsSound site mid)
     (x : Exchange) (seat : IsSeat site x.0) (passes : Passes t x.0 x.1 mid)
     (is : is_accepted x ≡ true) where
   accepted : (code_of x.1.status == 200) ≡ true
@@ -158,13 +158,13 @@ module _ {site : Owners} (t mid : Tables) (sound : IsSound site t) (later : IsSo
   available : is_unavailable x.1.status ≡ false
   available = grind (arith, nat_tests, accepted)
 
-  meets : Meets x.0 x.0.wanted t x.1 mid
+  meets : FulfilsWanted x.0 x.0.wanted t x.1 mid
   meets = let p : MatchBool (is_unavailable x.1.status) ((x.1 ≡ refusal Unkept) × (mid ≡ t))
-      (Meets x.0 x.0.wanted t x.1 mid) = passes in rw available at p
+      (FulfilsWanted x.0 x.0.wanted t x.1 mid) = passes in rw available at p
 
   of_wanted : (w : Wanted) (i : NewIdentity) → identity_wanted w ≡ Some i
-      → is_after x.0.seat (view x.0.section.name t) (number_of w) ≡ true
-      → Meets x.0 w t x.1 mid → Shows x.0.section i t x.1 mid
+      → is_after x.0.seat (view x.0.section.name t) (number_of_wanted w) ≡ true
+      → FulfilsWanted x.0 w t x.1 mid → Shows x.0.section i t x.1 mid
   of_wanted (refused reason) i is past made = cc
   of_wanted reports i is past made = cc
   of_wanted (asks r) i is past made =
@@ -188,67 +188,67 @@ and_turned false true c = refl
 and_turned false false c = refl
 
 -- what is new before an exchange, and is none that it repeats, is what is new after it
-module _ {site : Owners} (x : Exchange) (t mid : Tables) (one : IsServed site x t mid)
+module _ {site : Ownership} (x : Exchange) (t mid : Tables) (one : IsServed site x t mid)
     (is : is_accepted x ≡ true) where
   mine : is_own x.0.section.name x ≡ true
-      → Accepts x.0.seat (number_of x.0.wanted) x.1 (view x.0.section.name t)
+      → Accepts x.0.seat (number_of_wanted x.0.wanted) x.1 (view x.0.section.name t)
       (view x.0.section.name mid)
   mine own =
       accepts x (view x.0.section.name t) (view x.0.section.name mid)
       (one.own x.0.section.name own) is
 
   past_at : (own : is_own x.0.section.name x ≡ true) (m : ℕ)
-      → (not (m == number_of x.0.wanted) && is_after x.0.seat (view x.0.section.name t) m)
-      ≡ nat_lt (number_of x.0.wanted) m
+      → (not (m == number_of_wanted x.0.wanted) && is_after x.0.seat (view x.0.section.name t) m)
+      ≡ nat_lt (number_of_wanted x.0.wanted) m
   past_at own m = by (mine own).before
     where
-      by : ((number_of x.0.wanted ≡ last_at x.0.seat (view x.0.section.name t))
+      by : ((number_of_wanted x.0.wanted ≡ last_at x.0.seat (view x.0.section.name t))
           × (view x.0.section.name mid ≡ view x.0.section.name t))
-          ⊎ (number_of x.0.wanted ≡ last_at x.0.seat (view x.0.section.name t) + 1)
-          → (not (m == number_of x.0.wanted) && is_after x.0.seat (view x.0.section.name t) m)
-          ≡ nat_lt (number_of x.0.wanted) m
+          ⊎ (number_of_wanted x.0.wanted ≡ last_at x.0.seat (view x.0.section.name t) + 1)
+          → (not (m == number_of_wanted x.0.wanted) && is_after x.0.seat (view x.0.section.name t) m)
+          ≡ nat_lt (number_of_wanted x.0.wanted) m
       by (inl again) = past_again _ _ m again.0
       by (inr next) = past_next _ _ m next
 
   -- of the same customer
   same_customer : (own : is_own x.0.section.name x ≡ true) (seat : List ℕ) (m : ℕ)
-      → (not (bytes_eq seat x.0.seat && m == number_of x.0.wanted)
+      → (not (bytes_eq seat x.0.seat && m == number_of_wanted x.0.wanted)
       && is_after seat (view x.0.section.name t) m)
       ≡ is_after seat (view x.0.section.name mid) m
   same_customer own seat m =
       elim (bytes_eq seat x.0.seat) as
       (λ b. bytes_eq seat x.0.seat ≡ b
-      → (not (b && m == number_of x.0.wanted) && is_after seat (view x.0.section.name t) m)
+      → (not (b && m == number_of_wanted x.0.wanted) && is_after seat (view x.0.section.name t) m)
       ≡ is_after seat (view x.0.section.name mid) m) [
         | true ↦ λ same.
             subst (λ (seat : List ℕ).
-            (not (m == number_of x.0.wanted) && is_after seat (view x.0.section.name t) m)
+            (not (m == number_of_wanted x.0.wanted) && is_after seat (view x.0.section.name t) m)
             ≡ is_after seat (view x.0.section.name mid) m) (sym (same_text seat x.0.seat same))
             (past_at own m ∙ ap (λ (n : ℕ). nat_lt n m)
             (sym (last_is x (view x.0.section.name t) (view x.0.section.name mid) (mine own))))
-        | false ↦ λ differs. ap (λ (found : Option SeatState). nat_lt (last_of found) m)
+        | false ↦ λ differs. ap (λ (found : Option SeatState). nat_lt (last_number_of_seat found) m)
             (sym ((mine own).others seat differs))
       ] refl
 
   any_customer : is_unavailable x.1.status ≡ false → (customer seat : List ℕ) (m : ℕ)
       → (not (bytes_eq customer x.0.section.name && bytes_eq seat x.0.seat
-      && m == number_of x.0.wanted) && is_after seat (view customer t) m)
+      && m == number_of_wanted x.0.wanted) && is_after seat (view customer t) m)
       ≡ is_after seat (view customer mid) m
   any_customer available customer seat m =
       elim (bytes_eq customer x.0.section.name) as
       (λ b. bytes_eq customer x.0.section.name ≡ b
-      → (not (b && bytes_eq seat x.0.seat && m == number_of x.0.wanted)
+      → (not (b && bytes_eq seat x.0.seat && m == number_of_wanted x.0.wanted)
       && is_after seat (view customer t) m) ≡ is_after seat (view customer mid) m) [
         | true ↦ λ same.
             let own : is_own x.0.section.name x ≡ true =
             subst (λ (c : List ℕ). is_own c x ≡ true) (same_text customer x.0.section.name same)
             (rw (same, available) refl) in
             subst (λ (c : List ℕ).
-            (not (bytes_eq seat x.0.seat && m == number_of x.0.wanted)
+            (not (bytes_eq seat x.0.seat && m == number_of_wanted x.0.wanted)
             && is_after seat (view c t) m) ≡ is_after seat (view c mid) m)
             (sym (same_text customer x.0.section.name same))
             (same_customer own seat m)
-        | false ↦ λ differs. ap (λ (s : State). is_after seat s m)
+        | false ↦ λ differs. ap (λ (s : SoloState). is_after seat s m)
             (sym (one.other customer (rw differs refl)))
       ] refl
 
@@ -258,7 +258,7 @@ module _ {site : Owners} (x : Exchange) (t mid : Tables) (one : IsServed site x 
       and_turned (not (is_again x y)) (is_some (identity_wanted y.0.wanted))
       (is_past (view y.0.section.name t) y)
       ∙ ap (λ (b : Bool). is_some (identity_wanted y.0.wanted) && b)
-      (any_customer available y.0.section.name y.0.seat (number_of y.0.wanted))
+      (any_customer available y.0.section.name y.0.seat (number_of_wanted y.0.wanted))
 
 -- two filters as one
 filter_twice : {A : Type 0} (p q r : A → Bool) → ((x : A) → (q x && p x) ≡ r x) → (xs : List A)
@@ -280,13 +280,13 @@ filter_same p q same (x ∷ xs) =
     λ i. cond (same x i) (x ∷ filter_same p q same xs i) (filter_same p q same xs i)
 
 -- a record that is there stands on, and one that isn't there later wasn't before
-free_before : (issuer serial : List ℕ) (before : Option (Owned Given))
-    (after : Option (Owned Given))
+free_before : (issuer serial : List ℕ) (before : Option (OfCustomer Given))
+    (after : Option (OfCustomer Given))
     → IfSome before (λ g. after ≡ Some g) → after ≡ None → before ≡ None
 free_before issuer serial None after kept free = refl
 free_before issuer serial (Some g) after kept free = cc (kept, free)
 
-new_before : (t mid t2 : Tables) → Grows t mid → (g : Owned Given) → IsNew mid t2 g → IsNew t t2 g
+new_before : (t mid t2 : Tables) → Grows t mid → (g : OfCustomer Given) → IsFreshRecord mid t2 g → IsFreshRecord t t2 g
 new_before t mid t2 grows g new = record {
   was_free = free_before g.row.issuer g.row.serial (given_at g.row.issuer g.row.serial t)
       (given_at g.row.issuer g.row.serial mid) (grows.given g.row.issuer g.row.serial) new.was_free;
@@ -295,14 +295,14 @@ new_before t mid t2 grows g new = record {
   addresses = new.addresses;
 }
 
-all_before : (t mid t2 : Tables) → Grows t mid → (gs : List (Owned Given))
-    → AllByRecursion (IsNew mid t2) gs → AllByRecursion (IsNew t t2) gs
+all_before : (t mid t2 : Tables) → Grows t mid → (gs : List (OfCustomer Given))
+    → AllByRecursion (IsFreshRecord mid t2) gs → AllByRecursion (IsFreshRecord t t2) gs
 all_before t mid t2 grows [] all = tt
 all_before t mid t2 grows (g ∷ gs) all =
     (new_before t mid t2 grows g all.0, all_before t mid t2 grows gs all.1)
 
-new_at_end : {last : Owners} (t mid t2 : Tables) → IsSound last t2 → Grows mid t2
-    → (g : Owned Given) → IsNew t mid g → IsNew t t2 g
+new_at_end : {last : Ownership} (t mid t2 : Tables) → IsSound last t2 → Grows mid t2
+    → (g : OfCustomer Given) → IsFreshRecord t mid g → IsFreshRecord t t2 g
 new_at_end t mid t2 sound grows g new =
     let stands : given_at g.row.issuer g.row.serial t2 ≡ Some g =
     (let kept = grows.given g.row.issuer g.row.serial in rw new.stands at kept) in
@@ -314,24 +314,24 @@ new_at_end t mid t2 sound grows g new =
     }
 
 -- a record that stands at one moment, and one that isn't there at that moment
-apart_from : (mid t2 : Tables) (g other : Owned Given)
+apart_from : (mid t2 : Tables) (g other : OfCustomer Given)
     → given_at g.row.issuer g.row.serial mid ≡ Some g
-    → AllByRecursion (λ other. is_given g.row.issuer g.row.serial other ≡ false
-    → AreApart (addresses_of t2 g) (addresses_of t2 other)) t2.given
-    → IsNew mid t2 other
-    → (is_given g.row.issuer g.row.serial other ≡ false)
-    × AreApart (addresses_of t2 g) (addresses_of t2 other)
+    → AllByRecursion (λ other. is_serial_of g.row.issuer g.row.serial other ≡ false
+    → BlocksDisjoint (addresses_of t2 g) (addresses_of t2 other)) t2.given
+    → IsFreshRecord mid t2 other
+    → (is_serial_of g.row.issuer g.row.serial other ≡ false)
+    × BlocksDisjoint (addresses_of t2 g) (addresses_of t2 other)
 apart_from mid t2 g other stands addresses there =
-    let differs : is_given g.row.issuer g.row.serial other ≡ false =
-    by (is_given g.row.issuer g.row.serial other) refl in (
+    let differs : is_serial_of g.row.issuer g.row.serial other ≡ false =
+    by (is_serial_of g.row.issuer g.row.serial other) refl in (
       differs,
-      (find_holds (λ (other : Owned Given). is_given g.row.issuer g.row.serial other ≡ false
-          → AreApart (addresses_of t2 g) (addresses_of t2 other))
-          (is_given other.row.issuer other.row.serial) t2.given other addresses there.stands).0
+      (find_holds (λ (other : OfCustomer Given). is_serial_of g.row.issuer g.row.serial other ≡ false
+          → BlocksDisjoint (addresses_of t2 g) (addresses_of t2 other))
+          (is_serial_of other.row.issuer other.row.serial) t2.given other addresses there.stands).0
           differs,
     )
   where
-    by : (b : Bool) → is_given g.row.issuer g.row.serial other ≡ b → b ≡ false
+    by : (b : Bool) → is_serial_of g.row.issuer g.row.serial other ≡ b → b ≡ false
     by false is = refl
     by true is =
         let parts = and_parts (bytes_eq g.row.issuer other.row.issuer)
@@ -345,13 +345,13 @@ apart_from mid t2 g other stands addresses there =
         let here : Some g ≡ None = sym stands ∙ (same ∙ free) in
         cc here
 
-all_apart_from : (mid t2 : Tables) (g : Owned Given)
+all_apart_from : (mid t2 : Tables) (g : OfCustomer Given)
     → given_at g.row.issuer g.row.serial mid ≡ Some g
-    → AllByRecursion (λ other. is_given g.row.issuer g.row.serial other ≡ false
-    → AreApart (addresses_of t2 g) (addresses_of t2 other)) t2.given
-    → (gs : List (Owned Given)) → AllByRecursion (IsNew mid t2) gs
-    → AllByRecursion (λ other. (is_given g.row.issuer g.row.serial other ≡ false)
-    × AreApart (addresses_of t2 g) (addresses_of t2 other)) gs
+    → AllByRecursion (λ other. is_serial_of g.row.issuer g.row.serial other ≡ false
+    → BlocksDisjoint (addresses_of t2 g) (addresses_of t2 other)) t2.given
+    → (gs : List (OfCustomer Given)) → AllByRecursion (IsFreshRecord mid t2) gs
+    → AllByRecursion (λ other. (is_serial_of g.row.issuer g.row.serial other ≡ false)
+    × BlocksDisjoint (addresses_of t2 g) (addresses_of t2 other)) gs
 all_apart_from mid t2 g stands addresses [] all = tt
 all_apart_from mid t2 g stands addresses (other ∷ others) all = (
   apart_from mid t2 g other stands addresses all.0,
@@ -360,15 +360,15 @@ all_apart_from mid t2 g stands addresses (other ∷ others) all = (
 )
 
 -- a record that an import made has no chip, and that of an identity has one
-gift_chip : (x : Exchange) (g : Owned Given) → IsGift x g → is_some g.row.chip ≡ true
-gift_chip x g gift = ap (λ (h : Owned Given). is_some h.row.chip) gift.5
+gift_chip : (x : Exchange) (g : OfCustomer Given) → IsGift x g → is_some g.row.chip ≡ true
+gift_chip x g gift = ap (λ (h : OfCustomer Given). is_some h.row.chip) gift.5
 
-not_imported : (t t2 : Tables) (issuer serial : List ℕ) (r g : Owned Given)
+not_imported : (t t2 : Tables) (issuer serial : List ℕ) (r g : OfCustomer Given)
     → given_at issuer serial t2 ≡ Some r → r.row.chip ≡ None → is_some g.row.chip ≡ true
-    → IsNew t t2 g → is_given issuer serial g ≡ false
-not_imported t t2 issuer serial r g stands none chip new = by (is_given issuer serial g) refl
+    → IsFreshRecord t t2 g → is_serial_of issuer serial g ≡ false
+not_imported t t2 issuer serial r g stands none chip new = by (is_serial_of issuer serial g) refl
   where
-    by : (b : Bool) → is_given issuer serial g ≡ b → b ≡ false
+    by : (b : Bool) → is_serial_of issuer serial g ≡ b → b ≡ false
     by false is = refl
     by true is =
         let parts = and_parts (bytes_eq issuer g.row.issuer) (bytes_eq serial g.row.serial) is in
@@ -380,19 +380,19 @@ not_imported t t2 issuer serial r g stands none chip new = by (is_given issuer s
         let one : Some r ≡ Some g = sym stands ∙ (same ∙ there) in
         let row : r ≡ g = cc one in
         let chip_none : is_some g.row.chip ≡ false =
-        ap (λ (h : Owned Given). is_some h.row.chip) (sym row) ∙ ap is_some none in
+        ap (λ (h : OfCustomer Given). is_some h.row.chip) (sym row) ∙ ap is_some none in
         cc (chip, chip_none)
 
-none_imported : (t t2 : Tables) (xs : List Exchange) (gs : List (Owned Given)) → AreGifts xs gs
-    → AllByRecursion (IsNew t t2) gs
-    → (issuer serial : List ℕ) (found : Option (Owned Given)) → given_at issuer serial t2 ≡ found
+none_imported : (t t2 : Tables) (xs : List Exchange) (gs : List (OfCustomer Given)) → AreGifts xs gs
+    → AllByRecursion (IsFreshRecord t t2) gs
+    → (issuer serial : List ℕ) (found : Option (OfCustomer Given)) → given_at issuer serial t2 ≡ found
     → IfSome found (λ r. r.row.chip ≡ None
-    → AllByRecursion (λ g. is_given issuer serial g ≡ false) gs)
+    → AllByRecursion (λ g. is_serial_of issuer serial g ≡ false) gs)
 none_imported t t2 xs gs gifts new issuer serial None is = tt
 none_imported t t2 xs gs gifts new issuer serial (Some r) is = λ none. all none xs gs gifts new
   where
-    all : r.row.chip ≡ None → (xs : List Exchange) (gs : List (Owned Given)) → AreGifts xs gs
-        → AllByRecursion (IsNew t t2) gs → AllByRecursion (λ g. is_given issuer serial g ≡ false) gs
+    all : r.row.chip ≡ None → (xs : List Exchange) (gs : List (OfCustomer Given)) → AreGifts xs gs
+        → AllByRecursion (IsFreshRecord t t2) gs → AllByRecursion (λ g. is_serial_of issuer serial g ≡ false) gs
     all none [] [] gifts new = tt
     all none [] (g ∷ gs) gifts new = absurd gifts
     all none (x ∷ xs) [] gifts new = absurd gifts
@@ -412,10 +412,10 @@ once_unaccepted : (x : Exchange) (xs : List Exchange) → is_accepted x ≡ fals
 once_unaccepted x xs is = rw is refl
 
 -- one exchange more before a run
-module _ {site last : Owners} (x : Exchange) (xs : List Exchange) (t mid t2 : Tables)
+module _ {site last : Ownership} (x : Exchange) (xs : List Exchange) (t mid t2 : Tables)
     (sound : IsSound site t) (one : IsServed site x t mid) (seat : IsSeat site x.0)
     (passes : Passes t x.0 x.1 mid) (end : IsSound last t2) (grows : Grows mid t2)
-    (later : GivesOnce xs mid t2) where
+    (later : IssuesOnce xs mid t2) where
   -- what is new in the run is what is new after the exchange, and the exchange itself where it is
   -- new
   same_identities : is_accepted x ≡ true
@@ -436,7 +436,7 @@ module _ {site last : Owners} (x : Exchange) (xs : List Exchange) (t mid t2 : Ta
         | false ↦ λ other. one.other customer other
       ] refl
 
-  without : new_identities t (x ∷ xs) ≡ new_identities mid xs → GivesOnce (x ∷ xs) t t2
+  without : new_identities t (x ∷ xs) ≡ new_identities mid xs → IssuesOnce (x ∷ xs) t t2
   without same = record {
     gifts = later.gifts;
     shown = rw same later.shown;
@@ -447,12 +447,12 @@ module _ {site last : Owners} (x : Exchange) (xs : List Exchange) (t mid t2 : Ta
 
   with_gift : new_identities t (x ∷ xs) ≡ x ∷ new_identities mid xs → (i : NewIdentity)
       → identity_wanted x.0.wanted ≡ Some i → Shows x.0.section i t x.1 mid
-      → GivesOnce (x ∷ xs) t t2
+      → IssuesOnce (x ∷ xs) t t2
   with_gift same i wanted shows =
-      let g : Owned Given =
+      let g : OfCustomer Given =
       record { customer = x.0.section.name; row = row_of shows.0 (Some i.chip) } in
-      let new : IsNew t t2 g = new_at_end t mid t2 end grows g shows.3 in
-      let all : AllByRecursion (IsNew t t2) (g ∷ later.gifts) =
+      let new : IsFreshRecord t t2 g = new_at_end t mid t2 end grows g shows.3 in
+      let all : AllByRecursion (IsFreshRecord t t2) (g ∷ later.gifts) =
       (new, all_before t mid t2 one.grows later.gifts later.new) in
       let shown : AreGifts (x ∷ new_identities mid xs) (g ∷ later.gifts) =
       ((i, shows.0, wanted, shows.1, shows.2, refl), later.shown) in
@@ -470,16 +470,16 @@ module _ {site last : Owners} (x : Exchange) (xs : List Exchange) (t mid t2 : Ta
 
   wanted_is : (found : Option NewIdentity) → identity_wanted x.0.wanted ≡ found
       → is_some found ≡ true → is_past (view x.0.section.name t) x ≡ true → is_accepted x ≡ true
-      → new_identities t (x ∷ xs) ≡ x ∷ new_identities mid xs → GivesOnce (x ∷ xs) t t2
+      → new_identities t (x ∷ xs) ≡ x ∷ new_identities mid xs → IssuesOnce (x ∷ xs) t t2
   wanted_is None is some past accepted same = cc
   wanted_is (Some i) is some past accepted same =
       with_gift same i is (identity_shows t mid sound one.sound x seat passes accepted i is past)
 
-  pub gives_more : GivesOnce (x ∷ xs) t t2
-  gives_more = elim (is_accepted x) as (λ b. is_accepted x ≡ b → GivesOnce (x ∷ xs) t t2) [
+  pub gives_more : IssuesOnce (x ∷ xs) t t2
+  gives_more = elim (is_accepted x) as (λ b. is_accepted x ≡ b → IssuesOnce (x ∷ xs) t t2) [
     | true ↦ λ is. elim (is_new_identity t x) as
         (λ b. is_new_identity t x ≡ b → new_identities t (x ∷ xs)
-        ≡ cond b (x ∷ new_identities mid xs) (new_identities mid xs) → GivesOnce (x ∷ xs) t t2) [
+        ≡ cond b (x ∷ new_identities mid xs) (new_identities mid xs) → IssuesOnce (x ∷ xs) t t2) [
           | true ↦ λ new same.
               let parts = and_parts (is_some (identity_wanted x.0.wanted))
               (is_past (view x.0.section.name t) x) new in
@@ -489,13 +489,13 @@ module _ {site last : Owners} (x : Exchange) (xs : List Exchange) (t mid t2 : Ta
     | false ↦ λ is. without
         (ap (filter (is_new_identity t)) (once_unaccepted x xs is)
         ∙ filter_same (is_new_identity t) (is_new_identity mid)
-        (λ y. ap (λ (s : State). is_some (identity_wanted y.0.wanted) && is_past s y)
+        (λ y. ap (λ (s : SoloState). is_some (identity_wanted y.0.wanted) && is_past s y)
         (sym (same_views is y.0.section.name))) (once xs))
   ] refl
 
 -- no identity of a run gives what another gave
-pub gives_once : (first : Owners) (xs : List Exchange) (last : Owners) (t t2 : Tables)
-    → IsSound first t → AreSeats first (calls_of xs) last → IsRun xs t t2 → GivesOnce xs t t2
+pub gives_once : (first : Ownership) (xs : List Exchange) (last : Ownership) (t t2 : Tables)
+    → IsSound first t → AreSeats first (calls_of xs) last → IsRun xs t t2 → IssuesOnce xs t t2
 gives_once first [] last t t2 sound seats run =
     record {
       gifts = [];

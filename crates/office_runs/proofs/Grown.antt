@@ -2,16 +2,16 @@
 use Rattle.std.proofs.Common.{◌≡◌, ◌*◌, ℕ, true, List, Option, Some, None, Ordering}
 use Rattle.std.specs.Prelude.{Any, IfSome}
 use Rattle.id_ranges.specs.Blocks as blocks
-use Rattle.site_core.specs.Owners.{Owners, OwnersGrow}
+use Rattle.site_core.specs.Ownership.{Ownership, OwnershipGrows}
 use Rattle.office_tables.specs.declared.rows.Order.{Order}
-use Rattle.office_tables.specs.declared.rows.Owned.{Owned}
+use Rattle.office_tables.specs.declared.rows.OfCustomer.{OfCustomer}
 use Rattle.office_tables.specs.Tables.{Tables}
 use Rattle.office_tables.proofs.Placing.{all_map}
 use Rattle.office_laws.specs.Sound.{IsInPool, IsSound}
 use Rattle.office_laws.specs.SoundRows.{AreOwned}
 
 -- a site as it was
-pub growth_itself : (site : Owners) → OwnersGrow site site
+pub growth_itself : (site : Ownership) → OwnershipGrows site site
 growth_itself site = record {
   customers = λ _ is. is;
   issuers = λ _ _ is. is;
@@ -20,20 +20,20 @@ growth_itself site = record {
 }
 
 -- an order's addresses lie within a pool of its customer still
-pool_grown : (old new : Owners) → OwnersGrow old new → (o : Owned Order) → IsInPool old o
+pool_grown : (old new : Ownership) → OwnershipGrows old new → (o : OfCustomer Order) → IsInPool old o
     → IsInPool new o
 pool_grown old new growth o = by o.row.mac
   where
     by : (mac : Option ℕ)
-        → IfSome mac (λ first. Any (blocks.IsWithin (first, o.row.range.quantity * o.row.macs))
+        → IfSome mac (λ first. Any (blocks.IsBlockWithin (first, o.row.range.quantity * o.row.macs))
         (old.pools o.customer))
-        → IfSome mac (λ first. Any (blocks.IsWithin (first, o.row.range.quantity * o.row.macs))
+        → IfSome mac (λ first. Any (blocks.IsBlockWithin (first, o.row.range.quantity * o.row.macs))
         (new.pools o.customer))
     by None is = tt
     by (Some first) is = growth.pools o.customer (first, o.row.range.quantity * o.row.macs) is
 
 -- rows that lie with their owners lie with them still
-owned_grown : {A : Type 0} {cmp : Owned A → Owned A → Ordering} {rows : List (Owned A)}
+owned_grown : {A : Type 0} {cmp : OfCustomer A → OfCustomer A → Ordering} {rows : List (OfCustomer A)}
     (old new : A → Option (List ℕ))
     → ((x : A) (customer : List ℕ) → old x ≡ Some customer → new x ≡ Some customer)
     → AreOwned cmp old rows → AreOwned cmp new rows
@@ -44,7 +44,7 @@ owned_grown {rows = rows} old new growth are = record {
 }
 
 -- tables that are sound for a site are sound for one that grew from it
-pub sound_grown : (old new : Owners) (t : Tables) → OwnersGrow old new → IsSound old t
+pub sound_grown : (old new : Ownership) (t : Tables) → OwnershipGrows old new → IsSound old t
     → IsSound new t
 sound_grown old new t growth sound = record {
   seats = owned_grown (λ r. old.seat r.name) (λ r. new.seat r.name)
@@ -87,8 +87,8 @@ sound_grown old new t growth sound = record {
 }
 
 -- a growth of a growth
-pub growth_more : (first site last : Owners) → OwnersGrow first site → OwnersGrow site last
-    → OwnersGrow first last
+pub growth_more : (first site last : Ownership) → OwnershipGrows first site → OwnershipGrows site last
+    → OwnershipGrows first last
 growth_more first site last one two = record {
   customers = λ customer is. two.customers customer (one.customers customer is);
   issuers = λ issuer customer is. two.issuers issuer customer (one.issuers issuer customer is);

@@ -5,7 +5,7 @@ pub mod Grown
 pub mod Leaving
 pub mod Moments
 pub mod OwnReports
-pub mod OwnTurns
+pub mod OwnRetries
 pub mod Passing
 pub mod Promising
 pub mod RunLaws

@@ -3,33 +3,33 @@ use Rattle.std.proofs.Common.{◌≡◌, ◌∙◌, ℕ, true, false, List, refl
 use Rattle.std.specs.Prelude.{bytes_eq, not, MatchBool}
 use Rattle.std.proofs.lemmas.Bool.{and_parts}
 use Rattle.http_replies.specs.Replies.{Answer, is_unavailable}
-use Rattle.site_core.specs.Owners.{AreApart, Owners}
+use Rattle.site_core.specs.Ownership.{PoolsDisjoint, Ownership}
 use Rattle.office_tables.specs.Tables.{Tables}
 use Rattle.office_commands.specs.declared.refusal.Refusal.TheVariants.{Unkept}
 use Rattle.office_commands.specs.Replies.{refusal}
 use Rattle.office_rules.proofs.Ties.{same_text}
 use Rattle.office_laws.specs.Grows.{Grows}
-use Rattle.office_laws.specs.SoloMachine.{State}
+use Rattle.office_laws.specs.SoloMachine.{SoloState}
 use Rattle.office_laws.specs.Sound.{IsSound}
 use Rattle.office_laws.specs.View.{view}
 use Rattle.office_laws.proofs.Growing.{grows_itself}
 use Rattle.office_laws.proofs.Obeying.{Obeys, step_obeys}
-use Rattle.office_runs.specs.Exchanges.{Exchange, Wanted, asks, reports, refused, Meets, Passes, reported}
+use Rattle.office_runs.specs.Exchanges.{Exchange, Wanted, asks, reports, refused, FulfilsWanted, Passes, report_reply}
 use Rattle.office_runs.specs.Growth.{CanAsk, IsSeat}
 use Rattle.office_runs.specs.Alone.{alone, alone_on, is_own}
 use Rattle.office_runs.proofs.OwnReports.{report_own}
 
 -- the tables stay sound, and keep what they have; to its customer the exchange is one of the
 -- customer's own machine, and it leaves each other view
-pub record Serves (site : Owners) (x : Exchange) (t mid : Tables) : Type 0 where
+pub record Serves (site : Ownership) (x : Exchange) (t mid : Tables) : Type 0 where
   pub sound : IsSound site mid
   pub grows : Grows t mid
   pub own : (customer : List ℕ) → is_own customer x ≡ true
-      → ◌≡◌ {A = Answer × State} (x.1, view customer mid) (alone x.0 (view customer t))
+      → ◌≡◌ {A = Answer × SoloState} (x.1, view customer mid) (alone x.0 (view customer t))
   pub other : (customer : List ℕ) → is_own customer x ≡ false → view customer mid ≡ view customer t
 
 -- a reply that changes nothing is one of the own machine that changes nothing
-pub tells : {site : Owners} {t : Tables} → IsSound site t
+pub tells : {site : Ownership} {t : Tables} → IsSound site t
     → (customer : List ℕ) (said reply : Answer) (t2 : Tables) → reply ≡ said → t2 ≡ t
     → Obeys site customer t reply t2 (said, view customer t)
 tells {site = site} {t = t} sound customer said reply t2 is same = record {
@@ -39,16 +39,16 @@ tells {site = site} {t = t} sound customer said reply t2 is same = record {
   other = λ other _. ap (view other) same;
 }
 
-module _ (site : Owners) (t : Tables) (sound : IsSound site t) (apart : AreApart site)
+module _ (site : Ownership) (t : Tables) (sound : IsSound site t) (apart : PoolsDisjoint site)
     (x : Exchange) (seat : IsSeat site x.0) (mid : Tables) where
   -- what isn't answered 503
-  met : (w : Wanted) → CanAsk w → Meets x.0 w t x.1 mid
+  met : (w : Wanted) → CanAsk w → FulfilsWanted x.0 w t x.1 mid
       → Obeys site x.0.section.name t x.1 mid (alone_on x.0 (view x.0.section.name t) w)
   met (asks r) can meets =
       step_obeys sound x.0.section x.0.seat apart seat.section r x.1 mid can seat.seat meets
   met reports can meets =
       tells sound x.0.section.name _ x.1 mid
-      (meets.0 ∙ ap reported (report_own sound x.0.section.name)) meets.1
+      (meets.0 ∙ ap report_reply (report_own sound x.0.section.name)) meets.1
   met (refused reason) can meets =
       tells sound x.0.section.name (refusal reason) x.1 mid meets.0 meets.1
 
@@ -86,7 +86,7 @@ module _ (site : Owners) (t : Tables) (sound : IsSound site t) (apart : AreApart
   pub serves : Passes t x.0 x.1 mid → Serves site x t mid
   serves passes = elim (is_unavailable x.1.status) as
       (λ b. is_unavailable x.1.status ≡ b
-      → MatchBool b ((x.1 ≡ refusal Unkept) × (mid ≡ t)) (Meets x.0 x.0.wanted t x.1 mid)
+      → MatchBool b ((x.1 ≡ refusal Unkept) × (mid ≡ t)) (FulfilsWanted x.0 x.0.wanted t x.1 mid)
       → Serves site x t mid) [
         | true ↦ λ is made. unserved is made.1
         | false ↦ λ is made. served is (met x.0.wanted seat.wanted made)

@@ -1,6 +1,6 @@
 -- A run from sound tables keeps what is promised.
 use Rattle.std.proofs.Common.{List}
-use Rattle.site_core.specs.Owners.{Owners}
+use Rattle.site_core.specs.Ownership.{Ownership}
 use Rattle.office_tables.specs.Tables.{Tables}
 use Rattle.office_laws.specs.Sound.{IsSound}
 use Rattle.office_runs.specs.Exchanges.{Exchange, IsRun, calls_of}
@@ -10,7 +10,7 @@ use Rattle.office_runs.proofs.Acting.{acts_once}
 use Rattle.office_runs.proofs.Giving.{gives_once}
 use Rattle.office_runs.proofs.RunLaws.{isolated, run_alone, run_grows, run_sound}
 
-pub promises : (first : Owners) (xs : List Exchange) (last : Owners) (t t2 : Tables)
+pub promises : (first : Ownership) (xs : List Exchange) (last : Ownership) (t t2 : Tables)
     → IsSound first t → AreSeats first (calls_of xs) last → IsRun xs t t2 → Promises last xs t t2
 promises first xs last t t2 sound seats run = record {
   sound = run_sound first xs last t t2 sound seats run;

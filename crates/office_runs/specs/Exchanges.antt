@@ -38,18 +38,19 @@ abbrev pub replies_of : List Exchange → List Answer
 replies_of xs = map (λ x. x.1) xs
 
 -- the answer to a request for a report
-abbrev pub reported : List ℕ → Answer
-reported text = record { status = Success; kind = Csv; body = text }
+abbrev pub report_reply : List ℕ → Answer
+report_reply text = record { status = Success; kind = Csv; body = text }
 
--- a request makes a step of the office; a report tells the rows of the seat's customer, and what is refused as it came gets its refusal, and both change nothing
-abbrev pub Meets : Call → Wanted → Tables → Answer → Tables → Type 0
-Meets c (asks request) t reply t2 = Step c.section c.seat t request reply t2
-Meets c reports t reply t2 = (reply ≡ reported (order_report_in c.section.name t)) × (t2 ≡ t)
-Meets c (refused reason) t reply t2 = (reply ≡ refusal reason) × (t2 ≡ t)
+-- a request makes a step of the office; a report tells the rows of the seat's customer, and what is
+-- refused as it came gets its refusal, and both change nothing
+abbrev pub FulfilsWanted : Call → Wanted → Tables → Answer → Tables → Type 0
+FulfilsWanted c (asks request) t reply t2 = Step c.section c.seat t request reply t2
+FulfilsWanted c reports t reply t2 = (reply ≡ report_reply (order_report_in c.section.name t)) × (t2 ≡ t)
+FulfilsWanted c (refused reason) t reply t2 = (reply ≡ refusal reason) × (t2 ≡ t)
 
 -- a call is answered 503, which is a constant and changes nothing, or gets what it asks for
 abbrev pub Passes : Machine Tables Call
-Passes t c reply t2 = MatchBool (is_unavailable reply.status) ((reply ≡ refusal Unkept) × (t2 ≡ t)) (Meets c c.wanted t reply t2)
+Passes t c reply t2 = MatchBool (is_unavailable reply.status) ((reply ≡ refusal Unkept) × (t2 ≡ t)) (FulfilsWanted c c.wanted t reply t2)
 
 -- these exchanges, one after another, lead from these tables to those
 abbrev pub IsRun : List Exchange → Tables → Tables → Type 0

@@ -1,34 +1,34 @@
 // Laws of whole runs, over the definitions alone.
 ghost use Rattle.std.specs.Prelude.{◌≡◌, ◌++◌, List, Some, ℕ};
 ghost use Rattle.site_core.specs.Growth.{IsGrowth};
-ghost use Rattle.site_core.specs.Owners.{Owners, OwnersGrow, owners_of};
+ghost use Rattle.site_core.specs.Ownership.{Ownership, OwnershipGrows, ownership_of};
 ghost use Rattle.site_core.specs.Section.{SiteValue};
 ghost use Rattle.site_core.specs.Site.{IsSite};
 ghost use Rattle.office_tables.specs.Tables.{Tables, given_at};
 ghost use Rattle.office_tables.specs.declared.rows.Given.{Given};
-ghost use Rattle.office_tables.specs.declared.rows.Owned.{Owned};
+ghost use Rattle.office_tables.specs.declared.rows.OfCustomer.{OfCustomer};
 ghost use Rattle.office_laws.specs.Fresh.{addresses_of};
 ghost use Rattle.office_laws.specs.Grows.{Grows};
 ghost use Rattle.office_laws.specs.Sound.{IsSound};
 ghost use Rattle.office_laws.specs.View.{view};
 ghost use Rattle.office_runs.specs.Exchanges.{Exchange, IsRun, calls_of, replies_of};
 ghost use Rattle.office_runs.specs.Growth.{AreSeats};
-ghost use Rattle.office_runs.specs.Alone.{IsIsolated, own_of};
-ghost use Rattle.office_runs.specs.Gifts.{AreNotImported, GivesOnce};
+ghost use Rattle.office_runs.specs.Alone.{IsIsolated, exchanges_of};
+ghost use Rattle.office_runs.specs.Gifts.{AreNotImported, IssuesOnce};
 ghost use Rattle.office_runs.specs.Once.{ActsOnce};
 ghost use Rattle.office_runs.specs.Promises.{Promises};
-ghost use Rattle.office_runs.specs.Stops.{AreSessions, IsLeft, IsPending, IsStoppedRun, Leaves, Session};
+ghost use Rattle.office_runs.specs.Stops.{AreSessions, IsLeft, IsCallPending, IsStoppedRun, Leaves, Session};
 
 /// A run from sound tables: the tables stay sound, though the site grew; each customer's replies
 /// and rows are those of the customer's own machine, run on the customer's own calls alone; and
 /// nothing that was burnt is forgotten, an order stays but for its cursor, and what is given stays.
 pub fn runs_are_the_customers_own()
-    ensures sound { (first : Owners) (xs : List Exchange) (last : Owners) (t t2 : Tables)
+    ensures sound { (first : Ownership) (xs : List Exchange) (last : Ownership) (t t2 : Tables)
         → IsSound first t → AreSeats first (calls_of xs) last → IsRun xs t t2 → IsSound last t2 }
-    ensures isolated { (first : Owners) (xs : List Exchange) (last : Owners) (t t2 : Tables)
+    ensures isolated { (first : Ownership) (xs : List Exchange) (last : Ownership) (t t2 : Tables)
         → IsSound first t → AreSeats first (calls_of xs) last → IsRun xs t t2
         → (customer : List ℕ) → IsIsolated customer xs t t2 }
-    ensures kept { (first : Owners) (xs : List Exchange) (last : Owners) (t t2 : Tables)
+    ensures grows { (first : Ownership) (xs : List Exchange) (last : Ownership) (t t2 : Tables)
         → IsSound first t → AreSeats first (calls_of xs) last → IsRun xs t t2 → Grows t t2 }
 {}
 
@@ -37,21 +37,21 @@ pub fn runs_are_the_customers_own()
 /// and seats, gets the same replies and has the same rows after.
 pub fn other_calls_make_no_difference()
     ensures { (customer : List ℕ)
-        (first : Owners) (xs : List Exchange) (last : Owners) (t t2 : Tables)
-        (other_first : Owners) (others : List Exchange) (other_last : Owners) (u u2 : Tables)
+        (first : Ownership) (xs : List Exchange) (last : Ownership) (t t2 : Tables)
+        (other_first : Ownership) (others : List Exchange) (other_last : Ownership) (u u2 : Tables)
         → IsSound first t → AreSeats first (calls_of xs) last → IsRun xs t t2
         → IsSound other_first u → AreSeats other_first (calls_of others) other_last
         → IsRun others u u2
         → view customer t ≡ view customer u
-        → calls_of (own_of customer xs) ≡ calls_of (own_of customer others)
-        → (replies_of (own_of customer xs) ≡ replies_of (own_of customer others))
+        → calls_of (exchanges_of customer xs) ≡ calls_of (exchanges_of customer others)
+        → (replies_of (exchanges_of customer xs) ≡ replies_of (exchanges_of customer others))
         × (view customer t2 ≡ view customer u2) }
 {}
 
 /// Over a run from sound tables, a customer's rows are those that the customer's own machine has
 /// after each accepted command once, and one that comes again gets the reply of the first.
 pub fn repeats_act_once()
-    ensures { (first : Owners) (xs : List Exchange) (last : Owners) (t t2 : Tables)
+    ensures { (first : Ownership) (xs : List Exchange) (last : Ownership) (t t2 : Tables)
         → IsSound first t → AreSeats first (calls_of xs) last → IsRun xs t t2
         → (customer : List ℕ) → ActsOnce customer xs t t2 }
 {}
@@ -61,25 +61,25 @@ pub fn repeats_act_once()
 /// the same; and none gives what an import recorded, nor what one has recorded at any moment of the
 /// run. The addresses of a record are the same at each moment, from when it was given on.
 pub fn identities_give_once()
-    ensures given { (first : Owners) (xs : List Exchange) (last : Owners) (t t2 : Tables)
+    ensures given { (first : Ownership) (xs : List Exchange) (last : Ownership) (t t2 : Tables)
         → IsSound first t → AreSeats first (calls_of xs) last → IsRun xs t t2
-        → GivesOnce xs t t2 }
-    ensures imported { (first : Owners) (front back : List Exchange) (last : Owners)
+        → IssuesOnce xs t t2 }
+    ensures imported { (first : Ownership) (front back : List Exchange) (last : Ownership)
         (t mid t2 : Tables)
         → IsSound first t → AreSeats first (calls_of (front ++ back)) last
         → IsRun front t mid → IsRun back mid t2
-        → (given : GivesOnce (front ++ back) t t2) → AreNotImported mid given.gifts }
-    ensures addresses { (first : Owners) (front back : List Exchange) (last : Owners)
+        → (given : IssuesOnce (front ++ back) t t2) → AreNotImported mid given.gifts }
+    ensures addresses { (first : Ownership) (front back : List Exchange) (last : Ownership)
         (t mid t2 : Tables)
         → IsSound first t → AreSeats first (calls_of (front ++ back)) last
         → IsRun front t mid → IsRun back mid t2
-        → (g : Owned Given) → given_at g.row.issuer g.row.serial mid ≡ Some g
+        → (g : OfCustomer Given) → given_at g.row.issuer g.row.serial mid ≡ Some g
         → addresses_of t2 g ≡ addresses_of mid g }
 {}
 
 /// All that is promised of a run from sound tables.
 pub fn runs_keep_the_promises()
-    ensures { (first : Owners) (xs : List Exchange) (last : Owners) (t t2 : Tables)
+    ensures { (first : Ownership) (xs : List Exchange) (last : Ownership) (t t2 : Tables)
         → IsSound first t → AreSeats first (calls_of xs) last → IsRun xs t t2
         → Promises last xs t t2 }
 {}
@@ -92,12 +92,12 @@ pub fn runs_keep_the_promises()
 pub fn stopped_runs_are_runs()
     ensures run { (ss : List Session) (all : List Exchange) (t t2 : Tables)
         → IsStoppedRun ss all t t2 → IsRun all t t2 }
-    ensures promises { (first : Owners) (ss : List Session) (all : List Exchange) (last : Owners)
-        (t t2 : Tables)
+    ensures promises { (first : Ownership) (ss : List Session) (all : List Exchange)
+        (last : Ownership) (t t2 : Tables)
         → IsSound first t → AreSessions first ss last → IsStoppedRun ss all t t2
         → Promises last all t t2 }
     ensures crash { (s : Session) (t left : Tables)
-        → Leaves s.exchanges t left → (more : List Exchange) × IsLeft (IsPending s) t more left }
+        → Leaves s.exchanges t left → (more : List Exchange) × IsLeft (IsCallPending s) t more left }
 {}
 
 /// A site may grow: tables that are sound for a site are sound for each that grew from it. A site is a
@@ -106,10 +106,10 @@ pub fn stopped_runs_are_runs()
 /// replies and rows, whatever the site gained (`other_calls_make_no_difference`).
 pub fn sites_may_grow()
     ensures sound { (old new : SiteValue) (t : Tables)
-        → IsSite new → IsGrowth old new → IsSound (owners_of old) t → IsSound (owners_of new) t }
-    ensures owners { (old new : Owners) (t : Tables)
-        → OwnersGrow old new → IsSound old t → IsSound new t }
-    ensures itself { (site : Owners) → OwnersGrow site site }
-    ensures again { (first site last : Owners)
-        → OwnersGrow first site → OwnersGrow site last → OwnersGrow first last }
+        → IsSite new → IsGrowth old new → IsSound (ownership_of old) t → IsSound (ownership_of new) t }
+    ensures owners { (old new : Ownership) (t : Tables)
+        → OwnershipGrows old new → IsSound old t → IsSound new t }
+    ensures itself { (site : Ownership) → OwnershipGrows site site }
+    ensures again { (first site last : Ownership)
+        → OwnershipGrows first site → OwnershipGrows site last → OwnershipGrows first last }
 {}

@@ -30,8 +30,11 @@ module _ (schema : Schema) (sql : List ℕ) (params : Row) (old new : State) (pl
       (subst (ShowsRows old new sql h.0 (timed params h.0.formats h.1.now) rows) none h.2).3
 
   module _ (from : Join) (tests shown : List Term) (order : List (Term × Key)) (names : List (List ℕ))
-      (is : command_of (understood schema sql) ≡ Select (record { lets = []; body = over from tests shown order }) names) (unlisted : reads_listing schema sql ≡ false) where
-    pub reads_over : old.now.schema ≡ schema → (rows : List Row) → Shown sql params old new rows → IsAnswer (over from tests shown order) (overlay old.now.trees []) params rows
+      (is : command_of (understood schema sql)
+      ≡ Select (record { lets = []; body = over from tests shown order }) names)
+      (unlisted : reads_listing schema sql ≡ false) where
+    pub reads_over : old.now.schema ≡ schema → (rows : List Row) → Shown sql params old new rows
+        → IsAnswer (over from tests shown order) (overlay old.now.trees []) params rows
     reads_over has rows h =
         (reads_as sql params old new schema has (Select (record { lets = []; body = over from tests shown order }) names) is plain unlisted rows h).answer Null
 
@@ -65,6 +68,9 @@ unfolding IsNotRun
 not_run_rests sql params old new e (inl h) = unchanged_rests old new h.1
 not_run_rests sql params old new e (inr h) = undone_rests old new h.3
 
-pub query_rests : {X : Type 0} (sql : List ℕ) (params : Row) (old new : State) (r : Result (Vec X Global) Error) (rows : Vec X Global → List Row) → IsBare sql → IfOk r (λ v. Shown sql params old new (rows v)) → IfErr r (FailsToQuery sql params old new) → Rests old new
+pub query_rests : {X : Type 0} (sql : List ℕ) (params : Row) (old new : State)
+    (r : Result (Vec X Global) Error) (rows : Vec X Global → List Row) → IsBare sql
+    → IfOk r (λ v. Shown sql params old new (rows v)) → IfErr r (FailsToQuery sql params old new)
+    → Rests old new
 query_rests sql params old new (Ok v) rows is ok err = shown_rests sql params old new (rows v) is ok
 query_rests sql params old new (Err e) rows is ok err = failed_rests sql params old new e is err

@@ -18,7 +18,9 @@ abbrev pub IsBare : List ℕ → Type 0
 IsBare text = IfOk (first text) (λ p. (schema : Schema) (base : ℕ) → returning schema base p.statement ≡ Ok None)
 
 tail : (M : Checked Command) (formats : List (List ℕ)) (p : Parsed) (c : Compiled)
-    → and_then (and_then (and_then (Ok None) (λ (shown : Option Returning). and_then M (λ k. Ok (k, shown)))) (λ found. Ok (formats, found))) (λ plan. Ok (with_command p plan)) ≡ Ok c → c.returning ≡ None
+    → and_then (and_then (and_then (Ok None) (λ (shown : Option Returning).
+    and_then M (λ k. Ok (k, shown)))) (λ found. Ok (formats, found))) (λ plan.
+    Ok (with_command p plan)) ≡ Ok c → c.returning ≡ None
 tail (Ok k) formats p c h = sym (ap (λ (d : Compiled). d.returning) (same_value h))
 tail (Err e) formats p c h = absurd (let f = h in cc)
 
@@ -31,7 +33,9 @@ after p schema c none h =
 
 bare : (text : List ℕ) → IsBare text → (schema : Schema) (c : Compiled) → compiled schema text ≡ Ok c → c.returning ≡ None
 unfolding compiled
-bare text = elim (first text) as (λ P. IfOk P (λ p. (schema : Schema) (base : ℕ) → returning schema base p.statement ≡ Ok None) → (schema : Schema) (c : Compiled)
+bare text = elim (first text) as (λ P.
+    IfOk P (λ p. (schema : Schema) (base : ℕ) → returning schema base p.statement ≡ Ok None)
+    → (schema : Schema) (c : Compiled)
     → and_then P (λ p. and_then (planned schema p) (λ plan. Ok (with_command p plan))) ≡ Ok c → c.returning ≡ None) [
       | Ok p ↦ λ none schema c h. after p schema c (none schema) h
       | Err e ↦ λ none schema c h. absurd (let f = h in cc)
@@ -51,6 +55,8 @@ bare_understood text is schema c =
     elim (reads_listing schema text) as (λ b. cond b (if_select (compiled listing_schema text)) (compiled schema text) ≡ Ok c → c.returning ≡ None)
     [ true ↦ λ h. bare text is listing_schema c (selected _ c h) | false ↦ λ h. bare text is schema c h ]
 
-pub bare_commits_nothing : (text : List ℕ) (params : Row) (old new : State) → IsBare text → Survives old new (CommitsShowing text params old) → Survives old new (λ _. ⊥)
+pub bare_commits_nothing : (text : List ℕ) (params : Row) (old new : State) → IsBare text
+    → Survives old new (CommitsShowing text params old) → Survives old new (λ _. ⊥)
 unfolding CommitsShowing
-bare_commits_nothing text params old new is s = survives_weaker old new _ _ (λ clean db h. absurd (let some = rw (bare_understood text is old.now.schema h.0 h.1.is) at h.2 in cc)) s
+bare_commits_nothing text params old new is s = survives_weaker old new _ _ (λ clean db h.
+    absurd (let some = rw (bare_understood text is old.now.schema h.0 h.1.is) at h.2 in cc)) s

@@ -22,13 +22,23 @@ next from r vs v i e = let n : suc i + from ≡ i + (from + 1) = omega arith in 
 here : (from : ℕ) (r vs : Row) → column vs 0 ≡ column r (0 + from) → column vs 0 ≡ column r from
 here from r vs e = let n : 0 + from ≡ from = omega arith in e ∙ ap (column r) n
 
-each : (from at : ℕ) (cs : List Column) (vs r : Row) → AllByRecursion (λ c. c.is_strict ≡ true) cs → ((i : ℕ) → column vs i ≡ column r (i + from)) → are_typed None at cs vs ≡ true → AreOf from cs r
+each : (from at : ℕ) (cs : List Column) (vs r : Row) → AllByRecursion (λ c. c.is_strict ≡ true) cs
+    → ((i : ℕ) → column vs i ≡ column r (i + from)) → are_typed None at cs vs ≡ true
+    → AreOf from cs r
 each from at [] vs r strict same typed = tt
-each from at (c ∷ cs) [] r strict same typed =
-    (ap (is_of c.kind) (sym (here from r [] (same 0))), each (from + 1) (at + 1) cs [] r strict.1 (λ i. next from r [] Null i (same (suc i))) (and_parts _ _ typed).1)
+each from at (c ∷ cs) [] r strict same typed = (
+  ap (is_of c.kind) (sym (here from r [] (same 0))),
+  each (from + 1) (at + 1) cs []
+      r strict.1 (λ i. next from r [] Null i (same (suc i))) (and_parts _ _ typed).1,
+)
 each from at (c ∷ cs) (v ∷ vs) r strict same typed =
-    let both = and_parts _ _ typed in
-    (ap (is_of c.kind) (sym (here from r (v ∷ vs) (same 0))) ∙ subst (λ b. cond b (is_of c.kind v) (has_affinity c.kind v) ≡ true) strict.0 both.0, each (from + 1) (at + 1) cs vs r strict.1 (λ i. next from r vs v i (same (suc i))) both.1)
+    let both = and_parts _ _ typed in (
+      ap (is_of c.kind) (sym (here from r (v ∷ vs) (same 0)))
+          ∙ subst (λ b. cond b (is_of c.kind v) (has_affinity c.kind v)
+          ≡ true) strict.0 both.0,
+      each (from + 1) (at + 1) cs vs r strict.1 (λ i.
+          next from r vs v i (same (suc i))) both.1,
+    )
 
 dropped : (r : Row) (i : ℕ) → column (drop 1 r) i ≡ column r (i + 1)
 dropped [] i = refl

@@ -19,8 +19,8 @@ use Rattle.sqlite_trees.proofs.ListLemmas.{map-map}
 use Rattle.office_tables.specs.Tables.{device_cmp, is_device, is_of}
 pub use Rattle.office_tables.proofs.Places.{device_total}
 use Rattle.office_sql.specs.Schema.{office_schema}
-use Rattle.office_sql.specs.Rows.{device_in}
-use Rattle.office_sql.specs.Scan.{scan, is_given, env, passes}
+use Rattle.office_sql.specs.Rows.{device_in_row}
+use Rattle.office_sql.specs.Scan.{scan, is_parameter, env, passes}
 use Rattle.office_sql.specs.OrderStates.{order_state, order_state_in}
 use Rattle.office_sql.specs.Tables.{AreRows, IsDeviceRow}
 use Rattle.office_sql.proofs.Kept.{shows_kept, kept_is}
@@ -50,15 +50,15 @@ by_key = (col 1 1, ascending Binary) ∷ (col 1 2, ascending Binary) ∷ []
 abbrev names : List (List ℕ)
 names = codes "customer" ∷ codes "chip" ∷ codes "ord" ∷ codes "map" ∷ codes "state" ∷ codes "reason" ∷ codes "bits" ∷ codes "keys" ∷ codes "todo" ∷ codes "serial" ∷ []
 
-pub one_read : IsRead office_schema one_text 9 (is_given 1 0 ∷ is_given 2 1 ∷ []) shown by_key
+pub one_read : IsRead office_schema one_text 9 (is_parameter 1 0 ∷ is_parameter 2 1 ∷ []) shown by_key
 unfolding understood everything
 one_read = record { names = names; is = refl; plain = (refl, refl); unlisted = refl; bare = λ schema base. refl; there = λ db. refl }
 
-pub own_read : IsRead office_schema own_text 9 (is_given 1 0 ∷ []) shown by_key
+pub own_read : IsRead office_schema own_text 9 (is_parameter 1 0 ∷ []) shown by_key
 unfolding understood everything
 own_read = record { names = names; is = refl; plain = (refl, refl); unlisted = refl; bare = λ schema base. refl; there = λ db. refl }
 
-pub states_read : IsRead office_schema states_text 9 (is_given 1 0 ∷ []) states_shown by_key
+pub states_read : IsRead office_schema states_text 9 (is_parameter 1 0 ∷ []) states_shown by_key
 unfolding understood everything
 states_read = record { names = codes "ord" ∷ codes "state" ∷ codes "reason" ∷ []; is = refl; plain = (refl, refl); unlisted = refl; bare = λ schema base. refl; there = λ db. refl }
 
@@ -69,39 +69,59 @@ abbrev pub by_chip : Row → Row → Ordering
 by_chip = on (λ r. column r 1 ∷ column r 2 ∷ []) (key_cmp 0 (ascending Binary ∷ ascending Binary ∷ []))
 
 pub by_chip_total : IsTotalOrder by_chip
-by_chip_total = on_total (λ r. column r 1 ∷ column r 2 ∷ []) (then_total (on_total (λ r. column r 0) value_cmp_total) (then_total (on_total (λ r. column r 1) value_cmp_total) level_total))
+by_chip_total = on_total (λ r. column r 1 ∷ column r 2
+    ∷ []) (then_total (on_total (λ r.
+    column r 0) value_cmp_total) (then_total (on_total (λ r.
+    column r 1) value_cmp_total) level_total))
 
-chips_order : (a b : Row) → IsDeviceRow a → IsDeviceRow b → by_chip a b ≡ device_cmp (device_in a) (device_in b)
+chips_order : (a b : Row) → IsDeviceRow a → IsDeviceRow b → by_chip a b ≡ device_cmp (device_in_row a) (device_in_row b)
 chips_order a b e f = ap₂ ordering_then (texts_cmp (column a 1) (column b 1) e.0 f.0) (then-Equal _ ∙ texts_cmp (column a 2) (column b 2) e.1 f.1)
 
-pub passes_device : (c n : List ℕ) (r : Row) → IsDeviceRow r → passes (is_given 1 0 ∷ is_given 2 1 ∷ []) (Words c ∷ Words n ∷ []) r ≡ is_device c n (device_in r)
+pub passes_device : (c n : List ℕ) (r : Row) → IsDeviceRow r
+    → passes (is_parameter 1 0 ∷ is_parameter 2 1 ∷ []) (Words c ∷ Words n ∷ []) r
+    ≡ is_device c n (device_in_row r)
 passes_device c n r e = ap₂ ◌&&◌ (text_is (column r 1) c e.0) (and_true _ ∙ text_is (column r 2) n e.1)
 
-pub passes_own : (c : List ℕ) (r : Row) → IsDeviceRow r → passes (is_given 1 0 ∷ []) (Words c ∷ []) r ≡ is_of c (device_in r)
+pub passes_own : (c : List ℕ) (r : Row) → IsDeviceRow r → passes (is_parameter 1 0 ∷ []) (Words c ∷ []) r ≡ is_of c (device_in_row r)
 passes_own c r e = and_true _ ∙ text_is (column r 1) c e.0
 
-pub one_shown : (c n : List ℕ) (all rows : List Row) → AreRows IsDeviceRow device_cmp device_in all → Scanned (is_given 1 0 ∷ is_given 2 1 ∷ []) shown by_key (Words c ∷ Words n ∷ []) all rows
-    → map (λ r. device_in (Null ∷ r)) rows ≡ filter (is_device c n) (sort_by device_cmp (map device_in all))
+pub one_shown : (c n : List ℕ) (all rows : List Row)
+    → AreRows IsDeviceRow device_cmp device_in_row all
+    → Scanned (is_parameter 1 0 ∷ is_parameter 2 1 ∷ []) shown by_key (Words c ∷ Words n
+    ∷ []) all rows
+    → map (λ r. device_in_row (Null ∷ r)) rows ≡ filter (is_device c n) (sort_by device_cmp (map device_in_row all))
 one_shown c n all rows are s =
-    shows_kept IsDeviceRow device_cmp device_total device_in by_chip by_chip_total chips_order (is_device c n) (is_given 1 0 ∷ is_given 2 1 ∷ []) (Words c ∷ Words n ∷ []) (passes_device c n)
-    shown by_key (λ r. device_in (Null ∷ r)) (λ r. refl) (λ a b. refl) all rows are s
+    shows_kept IsDeviceRow device_cmp device_total device_in_row by_chip by_chip_total chips_order
+    (is_device c n) (is_parameter 1 0 ∷ is_parameter 2 1 ∷ []) (Words c ∷ Words n
+    ∷ []) (passes_device c n)
+    shown by_key (λ r. device_in_row (Null ∷ r)) (λ r. refl) (λ a b. refl) all rows are s
 
-pub own_shown : (c : List ℕ) (all rows : List Row) → AreRows IsDeviceRow device_cmp device_in all → Scanned (is_given 1 0 ∷ []) shown by_key (Words c ∷ []) all rows
-    → map (λ r. device_in (Null ∷ r)) rows ≡ filter (is_of c) (sort_by device_cmp (map device_in all))
+pub own_shown : (c : List ℕ) (all rows : List Row)
+    → AreRows IsDeviceRow device_cmp device_in_row all
+    → Scanned (is_parameter 1 0 ∷ []) shown by_key (Words c ∷ []) all rows
+    → map (λ r. device_in_row (Null ∷ r)) rows ≡ filter (is_of c) (sort_by device_cmp (map device_in_row all))
 own_shown c all rows are s =
-    shows_kept IsDeviceRow device_cmp device_total device_in by_chip by_chip_total chips_order (is_of c) (is_given 1 0 ∷ []) (Words c ∷ []) (passes_own c)
-    shown by_key (λ r. device_in (Null ∷ r)) (λ r. refl) (λ a b. refl) all rows are s
+    shows_kept IsDeviceRow device_cmp device_total device_in_row by_chip by_chip_total chips_order
+    (is_of c) (is_parameter 1 0 ∷ []) (Words c ∷ []) (passes_own c)
+    shown by_key (λ r. device_in_row (Null ∷ r)) (λ r. refl) (λ a b. refl) all rows are s
 
-pub states_shown_are : (c : List ℕ) (all rows : List Row) → AreRows IsDeviceRow device_cmp device_in all → Scanned (is_given 1 0 ∷ []) states_shown by_key (Words c ∷ []) all rows
-    → map order_state_in rows ≡ map order_state (filter (is_of c) (sort_by device_cmp (map device_in all)))
+pub states_shown_are : (c : List ℕ) (all rows : List Row)
+    → AreRows IsDeviceRow device_cmp device_in_row all
+    → Scanned (is_parameter 1 0 ∷ []) states_shown by_key (Words c ∷ []) all rows
+    → map order_state_in rows ≡ map order_state (filter (is_of c) (sort_by device_cmp (map device_in_row all)))
 states_shown_are c all rows are s =
-    let tests = is_given 1 0 ∷ [] in
+    let tests = is_parameter 1 0 ∷ [] in
     let params : Row = Words c ∷ [] in
     let q = scan 0 tests states_shown by_key in
     let sorted = sorted_kept (λ r. output q (env params r)) (output_cmp q) s.kept s.sorted in
-    let is = kept_is IsDeviceRow device_cmp device_total device_in by_chip by_chip_total chips_order (is_of c) tests params (passes_own c) all s.kept are s.same sorted in
-    ap (map order_state_in) s.shows ∙ map-map order_state_in (λ r. eval_all states_shown (env params r)) s.kept ∙ sym (map-map order_state device_in s.kept) ∙ ap (map order_state) (sym is)
+    let is = kept_is IsDeviceRow device_cmp device_total device_in_row by_chip by_chip_total
+    chips_order (is_of c) tests params (passes_own c) all s.kept are s.same sorted in
+    ap (map order_state_in) s.shows
+    ∙ map-map order_state_in (λ r. eval_all states_shown (env params r)) s.kept
+    ∙ sym (map-map order_state device_in_row s.kept) ∙ ap (map order_state) (sym is)
 
 -- what is made of one row more
-pub one_more : {A B : Type 0} (f : A → B) (xs : List A) (i : ℕ) (x : A) (ys : List B) (y : B) → i < length xs → x ≡ get_or xs i x → ys ≡ map f (take i xs) → y ≡ f x → ys ++ y ∷ [] ≡ map f (take (i + 1) xs)
+pub one_more : {A B : Type 0} (f : A → B) (xs : List A) (i : ℕ) (x : A) (ys : List B) (y : B)
+    → i < length xs → x ≡ get_or xs i x → ys ≡ map f (take i xs) → y ≡ f x
+    → ys ++ y ∷ [] ≡ map f (take (i + 1) xs)
 one_more f xs i x ys y within here so made = rw (take_more xs i x within, map-append) (ap₂ (λ l z. l ++ z ∷ []) so (made ∙ ap f here))

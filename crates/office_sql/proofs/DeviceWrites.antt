@@ -1,5 +1,6 @@
 -- What the texts that write devices mean, and make of the tables.
-use Rattle.std.proofs.Common.{◌≡◌, inl, inr, ℕ, ℤ, true, ◌&&◌, List, [], ◌∷◌, codes, map, find, Option, Some, None, Ok, refl, sym, ap, ap₂, subst, ◌∙◌, arith, Ordering, Less, Equal, Greater, is_eq}
+use Rattle.std.proofs.Common.{◌≡◌, inl, inr, ℕ, ℤ, true, ◌&&◌, List, [], ◌∷◌, codes, map, find, Option, Some, None, Ok, refl, sym, ap, ap₂, subst}
+use Rattle.std.proofs.Common.{◌∙◌, arith, Ordering, Less, Equal, Greater, is_eq}
 use Rattle.std.specs.Prelude.{option_map, unwrap_or}
 use Rattle.std.specs.List.{AllByRecursion}
 use Rattle.std.specs.Ordering.{nat_cmp, ordering_then}
@@ -20,19 +21,20 @@ use Rattle.sqlite_rules.specs.Edit.{next_rowid}
 use Rattle.sqlite_tied.specs.Compute.{everything}
 use Rattle.sqlite_keyed.specs.Lists.{sort_by}
 use Rattle.sqlite_trees.proofs.ListLemmas.{all_weaker}
-use Rattle.office_tables.specs.declared.rows.Owned.{Owned}
+use Rattle.office_tables.specs.declared.rows.OfCustomer.{OfCustomer}
 use Rattle.office_tables.specs.declared.rows.Device.{Device}
 use Rattle.office_tables.specs.declared.rows.DeviceState.{DeviceState}
-use Rattle.office_tables.specs.declared.rows.DeviceState.TheVariants.{Registered, AwaitingFirst, AwaitingSecond, Settled, Identified, Shipped, Quarantined, Scrapped}
+use Rattle.office_tables.specs.declared.rows.DeviceState.TheVariants.{Registered, AwaitingFirst, AwaitingSecond, Settled, Identified, Shipped}
+use Rattle.office_tables.specs.declared.rows.DeviceState.TheVariants.{Quarantined, Scrapped}
 use Rattle.office_tables.specs.declared.rows.Reason.TheVariants as reason
 use Rattle.office_tables.specs.declared.rows.Write.TheVariants.{AddDevice, PutDevice}
 use Rattle.office_tables.specs.Quarantine.{reason_of}
 use Rattle.office_tables.specs.Texts.{state_text, reason_text, state_of_texts}
-use Rattle.office_tables.specs.Tables.{device_cmp, is_device, placed, IsFree}
-use Rattle.office_sql.specs.Change.{Adds, Wrote}
-use Rattle.office_sql.specs.Rows.{device_in, device_columns}
+use Rattle.office_tables.specs.Tables.{device_cmp, is_device, with_row, IsFree}
+use Rattle.office_sql.specs.Change.{SqlAdds, Wrote}
+use Rattle.office_sql.specs.Rows.{device_in_row, device_columns}
 use Rattle.office_sql.specs.Schema.{device_table, office_schema}
-use Rattle.office_sql.specs.Scan.{is_given}
+use Rattle.office_sql.specs.Scan.{is_parameter}
 use Rattle.office_sql.specs.Tables.{IsOffice, IsDeviceRow, tables_in, AreRows}
 use Rattle.office_sql.specs.Values.{state_in, text_if, text_value}
 use Rattle.office_sql.proofs.DeviceReads.{device_total, passes_device}
@@ -61,7 +63,7 @@ abbrev pub put_shown : List Term
 put_shown = col 1 0 ∷ col 1 0 ∷ col 1 1 ∷ col 1 2 ∷ col 0 2 ∷ col 0 3 ∷ col 0 4 ∷ col 0 5 ∷ col 0 6 ∷ col 0 7 ∷ col 0 8 ∷ col 0 9 ∷ []
 
 abbrev pub put_tests : List Term
-put_tests = is_given 1 0 ∷ is_given 2 1 ∷ []
+put_tests = is_parameter 1 0 ∷ is_parameter 2 1 ∷ []
 
 pub put_update : IsUpdate put_text 5 device_table put_tests put_shown
 unfolding understood everything
@@ -89,7 +91,7 @@ state_read_back Scrapped = refl
 state_back : (s : DeviceState) → state_in (state_text s) (text_if (text_value (option_map reason_text (reason_of s)))) ≡ s
 state_back s = ap (state_in (state_text s)) (text_back (option_map reason_text (reason_of s))) ∙ ap (λ found. unwrap_or found Scrapped) (state_read_back s)
 
-pub device_back : (id : ℤ) (d : Owned Device) → device_in (Int id ∷ device_columns d) ≡ d
+pub device_back : (id : ℤ) (d : OfCustomer Device) → device_in_row (Int id ∷ device_columns d) ≡ d
 device_back id d = ap₂ (λ s t. record d { row = record d.row { state = s; serial = t } }) (state_back d.row.state) (text_back d.row.serial)
 
 -- ---- what the columns make of the values
@@ -101,7 +103,7 @@ cast_text (Some t) = refl
 cast_words : (v : Value) → v ≡ Words (bytes v) → cast TextKind v ≡ v
 cast_words v e = ap (cast TextKind) e ∙ sym e
 
-pub add_casts : (d : Owned Device) → cast_row device_table (eval_all add_terms (device_columns d ∷ [])) ≡ Null ∷ device_columns d
+pub add_casts : (d : OfCustomer Device) → cast_row device_table (eval_all add_terms (device_columns d ∷ [])) ≡ Null ∷ device_columns d
 add_casts d = rw (cast_null, cast_text (option_map reason_text (reason_of d.row.state)), cast_text d.row.serial) refl
 
 -- ---- keys
@@ -111,72 +113,109 @@ tied_both Less b = refl
 tied_both Equal b = refl
 tied_both Greater b = refl
 
-device_tied : (x y : Owned Device) → is_eq (device_cmp x y) ≡ is_device x.customer x.row.chip y
+device_tied : (x y : OfCustomer Device) → is_eq (device_cmp x y) ≡ is_device x.customer x.row.chip y
 device_tied x y =
-    sym (tied_both (slice_cmp nat_cmp x.customer y.customer) (slice_cmp nat_cmp x.row.chip y.row.chip)) ∙ ap₂ ◌&&◌ (is_eq-slice_cmp x.customer y.customer) (is_eq-slice_cmp x.row.chip y.row.chip)
+    sym (tied_both (slice_cmp nat_cmp x.customer y.customer)
+    (slice_cmp nat_cmp x.row.chip y.row.chip))
+    ∙ ap₂ ◌&&◌ (is_eq-slice_cmp x.customer y.customer) (is_eq-slice_cmp x.row.chip y.row.chip)
 
 -- a key that isn't found is apart from each
-device_free : (x : Owned Device) (rows : List Row) → find (is_device x.customer x.row.chip) (sort_by device_cmp (map device_in rows)) ≡ None → AllByRecursion (Apart device_cmp device_total x) (map device_in rows)
-device_free x rows none = all_weaker _ (Apart device_cmp device_total x) (λ y other. device_tied x y ∙ other) _ (unkeyed device_cmp device_total (is_device x.customer x.row.chip) (map device_in rows) none)
+device_free : (x : OfCustomer Device) (rows : List Row)
+    → find (is_device x.customer x.row.chip) (sort_by device_cmp (map device_in_row rows)) ≡ None
+    → AllByRecursion (Apart device_cmp device_total x) (map device_in_row rows)
+device_free x rows none = all_weaker _ (Apart device_cmp device_total x) (λ y other. device_tied x y
+    ∙ other) _
+    (unkeyed device_cmp device_total (is_device x.customer x.row.chip) (map device_in_row rows)
+    none)
 
 -- ---- what is written
 
-pub device_added : (d : Owned Device) (old new : Database) → IsOffice old → IsFree (AddDevice d) (tables_in old.trees) → Adds 9 (device_columns d) old new → Wrote (AddDevice d) old new
+pub device_added : (d : OfCustomer Device) (old new : Database) → IsOffice old
+    → IsFree (AddDevice d) (tables_in old.trees) → SqlAdds 9 (device_columns d) old new
+    → Wrote (AddDevice d) old new
 device_added d old new office free adds =
     let rows = old.trees 9 in
     let id = next_rowid rows in
     let is = device_back id d in
-    let it = row_added IsDeviceRow device_cmp device_total device_in (device_columns d) rows office.rows.devices (refl, refl, refl)
-    (subst (λ x. AllByRecursion (Apart device_cmp device_total x) (map device_in rows)) (sym is) (device_free d rows free.0)) in
-    let changed = devices_changed old new office adds.schema adds.sound adds.others (subst (AreRows IsDeviceRow device_cmp device_in) (sym adds.row) it.0) (placed device_cmp d (sort_by device_cmp (map device_in rows)))
-    (ap (λ l. sort_by device_cmp (map device_in l)) adds.row ∙ it.1 ∙ ap (λ x. placed device_cmp x (sort_by device_cmp (map device_in rows))) is) in
+    let it = row_added IsDeviceRow device_cmp device_total device_in_row (device_columns d) rows office.rows.devices (refl, refl, refl)
+    (subst (λ x. AllByRecursion (Apart device_cmp device_total x) (map device_in_row rows)) (sym is) (device_free d rows free.0)) in
+    let changed = devices_changed old new office adds.schema adds.sound adds.others
+    (subst (AreRows IsDeviceRow device_cmp device_in_row) (sym adds.row) it.0)
+    (with_row device_cmp d (sort_by device_cmp (map device_in_row rows)))
+    (ap (λ l. sort_by device_cmp (map device_in_row l)) adds.row ∙ it.1 ∙ ap (λ x. with_row device_cmp x (sort_by device_cmp (map device_in_row rows))) is) in
     record { office = changed.0; made = changed.1; rows = adds; told = told_stays 9 old.trees new.trees (λ e. cc) (λ e. cc) adds.others }
 
 -- the columns of the row that takes the place of another
-abbrev put_columns : Owned Device → Row → Row
-put_columns d r = column r 1 ∷ column r 2 ∷ Words d.row.order ∷ Bytes d.row.map ∷ Words (state_text d.row.state) ∷ text_value (option_map reason_text (reason_of d.row.state)) ∷ Bytes d.row.bits ∷ Bytes d.row.keys ∷ Bytes d.row.todo ∷ text_value d.row.serial ∷ []
+abbrev put_columns : OfCustomer Device → Row → Row
+put_columns d r = column r 1 ∷ column r 2 ∷ Words d.row.order ∷ Bytes d.row.map
+    ∷ Words (state_text d.row.state) ∷ text_value (option_map reason_text (reason_of d.row.state))
+    ∷ Bytes d.row.bits ∷ Bytes d.row.keys ∷ Bytes d.row.todo ∷ text_value d.row.serial ∷ []
 
 -- devices of one key tie
-device_ties : (c n : List ℕ) (a b : Owned Device) → is_device c n a ≡ true → is_device c n b ≡ true → device_cmp a b ≡ Equal
+device_ties : (c n : List ℕ) (a b : OfCustomer Device) → is_device c n a ≡ true → is_device c n b ≡ true → device_cmp a b ≡ Equal
 device_ties c n a b p q =
     let s = both_true _ _ p in
     let t = both_true _ _ q in
     rw (texts_tied c _ _ s.0 t.0, texts_tied n _ _ s.1 t.1) refl
 
-put_set : (d : Owned Device) → IsSet IsDeviceRow device_cmp device_in (is_device d.customer d.row.chip) device_table put_tests put_shown (device_columns d) (put_columns d)
+put_set : (d : OfCustomer Device)
+    → IsSet IsDeviceRow device_cmp device_in_row (is_device d.customer d.row.chip) device_table
+    put_tests put_shown (device_columns d) (put_columns d)
 put_set d = record {
   tested = passes_device d.customer d.row.chip;
   evals = λ r. refl;
-  casts = λ id r typed. rw (cast_int id, cast_words (column r 1) typed.0, cast_words (column r 2) typed.1, cast_text (option_map reason_text (reason_of d.row.state)), cast_text d.row.serial) refl;
+  casts = λ id r typed.
+      rw (
+        cast_int id,
+        cast_words (column r 1) typed.0,
+        cast_words (column r 2)
+            typed.1,
+        cast_text (option_map reason_text (reason_of d.row.state)),
+        cast_text d.row.serial,
+      )
+      refl;
   typed = λ id r typed. (typed.0, typed.1, refl);
-  tied = λ id r typed passed. tied_itself device_total (device_in r);
+  tied = λ id r typed passed. tied_itself device_total (device_in_row r);
 }
 
-put_back : (d : Owned Device) (id : ℤ) (r : Row) → is_device d.customer d.row.chip (device_in r) ≡ true → device_in (Int id ∷ put_columns d r) ≡ d
+put_back : (d : OfCustomer Device) (id : ℤ) (r : Row) → is_device d.customer d.row.chip (device_in_row r) ≡ true → device_in_row (Int id ∷ put_columns d r) ≡ d
 put_back d id r passed =
     let same = both_true _ _ passed in
-    let back : Owned Device = device_in (Int id ∷ device_columns d) in
-    ap₂ (λ c n. record { customer = c; row = record back.row { chip = n } }) (sym (same_text d.customer (bytes (column r 1)) same.0)) (sym (same_text d.row.chip (bytes (column r 2)) same.1)) ∙ device_back id d
+    let back : OfCustomer Device = device_in_row (Int id ∷ device_columns d) in
+    ap₂ (λ c n.
+    record { customer = c; row = record back.row { chip = n } })
+    (sym (same_text d.customer (bytes (column r 1)) same.0))
+    (sym (same_text d.row.chip (bytes (column r 2)) same.1)) ∙ device_back id d
 
 -- its key is the device's, so that they are the device's columns
-put_same : (d : Owned Device) (r : Row) → IsDeviceRow r → is_device d.customer d.row.chip (device_in r) ≡ true → put_columns d r ≡ device_columns d
+put_same : (d : OfCustomer Device) (r : Row) → IsDeviceRow r → is_device d.customer d.row.chip (device_in_row r) ≡ true → put_columns d r ≡ device_columns d
 put_same d r typed passed =
     let same = both_true _ _ passed in
     let customer : column r 1 ≡ Words d.customer = typed.0 ∙ ap Words (sym (same_text d.customer (bytes (column r 1)) same.0)) in
     let chip : column r 2 ≡ Words d.row.chip = typed.1 ∙ ap Words (sym (same_text d.row.chip (bytes (column r 2)) same.1)) in
     rw (customer, chip) refl
 
-pub device_put : (d : Owned Device) (old new : State) (count : ℕ) → IsOffice old.now → Executes put_text (device_columns d) old new (Ok count) → count ≡ 1 → Wrote (PutDevice d) old.now new.now
+pub device_put : (d : OfCustomer Device) (old new : State) (count : ℕ) → IsOffice old.now
+    → Executes put_text (device_columns d) old new (Ok count) → count ≡ 1
+    → Wrote (PutDevice d) old.now new.now
 device_put d old new count office ran one =
-    elim (sets IsDeviceRow device_cmp device_total device_in (is_device d.customer d.row.chip) (device_ties d.customer d.row.chip) put_text 5 device_table put_tests put_shown put_update (device_columns d) (put_columns d) (put_set d) old new count office.schema office.rows.devices ran) [
+    elim (sets IsDeviceRow device_cmp device_total device_in_row (is_device d.customer d.row.chip)
+    (device_ties d.customer d.row.chip) put_text 5 device_table put_tests put_shown put_update
+    (device_columns d) (put_columns d) (put_set d) old new count office.schema
+    office.rows.devices ran) [
       | inl it ↦ absurd (omega (arith, it.counted))
       | inr it ↦ (
-          let changed = devices_changed old.now new.now office it.replaced.schema it.replaced.sound it.replaced.others it.rows (placed device_cmp d (sort_by device_cmp (map device_in (old.now.trees 9))))
-          (it.placed_is ∙ ap (λ x. placed device_cmp x (sort_by device_cmp (map device_in (old.now.trees 9)))) (put_back d it.id it.was it.one.passed)) in
+          let changed = devices_changed old.now new.now office it.replaced.schema it.replaced.sound
+          it.replaced.others it.rows
+          (with_row device_cmp d (sort_by device_cmp (map device_in_row (old.now.trees 9))))
+          (it.placed_is ∙ ap (λ x. with_row device_cmp x (sort_by device_cmp (map device_in_row (old.now.trees 9)))) (put_back d it.id it.was it.one.passed)) in
           record {
             office = changed.0;
             made = changed.1;
-            rows = remade IsDeviceRow device_cmp device_in (is_device d.customer d.row.chip) 9 (put_columns d) (λ _. device_columns d) old.now new.now count it (put_same d it.was it.one.typed it.one.passed);
+            rows = remade IsDeviceRow device_cmp device_in_row (is_device d.customer d.row.chip) 9
+                (put_columns d) (λ _.
+                device_columns d)
+                old.now new.now count it (put_same d it.was it.one.typed it.one.passed);
             told = told_stays 9 old.now.trees new.now.trees (λ e. cc) (λ e. cc) it.replaced.others;
           })
     ]

@@ -1,10 +1,12 @@
 -- What rows that are made of a table's rows, one of each, are to it.
-use Rattle.std.proofs.Common.{◌≡◌, ℤ, suc, Bool, true, false, cond, List, [], ◌∷◌, ◌++◌, map, filter, find, length, Some, refl, sym, ap, subst, ◌∙◌, Ordering, is_eq, IsPermutation, IsTrue, arith}
+use Rattle.std.proofs.Common.{◌≡◌, ℤ, suc, Bool, true, false, cond, List, [], ◌∷◌, ◌++◌, map, filter, find, length, Some, refl, sym, ap, subst, ◌∙◌}
+use Rattle.std.proofs.Common.{Ordering, is_eq, IsPermutation, IsTrue, arith}
 use Rattle.std.specs.Prelude.{is_some}
 use Rattle.std.specs.List.{AllByRecursion}
 use Rattle.std.specs.Cmp.{IsTotalOrder}
 use Rattle.std.proofs.lemmas.Cmp.{tied_itself}
-use Rattle.std.proofs.lemmas.List.Sorted.{length_permutation, IsPermutation-refl, IsPermutation-sym, IsPermutation-trans, IsPermutation-append, IsPermutation-middle}
+use Rattle.std.proofs.lemmas.List.Sorted.{length_permutation, IsPermutation-refl, IsPermutation-sym, IsPermutation-trans, IsPermutation-append}
+use Rattle.std.proofs.lemmas.List.Sorted.{IsPermutation-middle}
 use Rattle.sqlite.specs.declared.types.Value.TheVariants.{Null, Int}
 use Rattle.sqlite.specs.Order.{Row}
 use Rattle.sqlite.specs.View.{is_int}
@@ -39,7 +41,8 @@ pub record Grows (rows news : List Row) : Type 0 where
   pub numbered : AllByRecursion (λ r. IsTrue (is_int (rowid r))) (put_all rows news)
   pub same : IsPermutation (put_all rows news) (news ++ rows)
 
-pub grows : (columns : Row → Row) (kept rows : List Row) → IsTable rows → AllByRecursion (λ r. IsTrue (is_int (rowid r))) rows → Grows rows (news_of columns rows kept)
+pub grows : (columns : Row → Row) (kept rows : List Row) → IsTable rows
+    → AllByRecursion (λ r. IsTrue (is_int (rowid r))) rows → Grows rows (news_of columns rows kept)
 grows columns [] rows up whole = record { rising = up; numbered = whole; same = IsPermutation-refl _ }
 grows columns (r ∷ kept) rows up whole =
     let new : Row = Int (next_rowid rows) ∷ columns r in
@@ -48,7 +51,10 @@ grows columns (r ∷ kept) rows up whole =
     record {
       rising = it.rising;
       numbered = it.numbered;
-      same = IsPermutation-trans _ _ _ it.same (IsPermutation-trans _ _ _ (IsPermutation-append more more _ _ (IsPermutation-refl more) (put_next (columns r) rows up whole)) (IsPermutation-middle more new rows));
+      same = IsPermutation-trans _ _ _ it.same
+          (IsPermutation-trans _ _ _
+          (IsPermutation-append more more _ _ (IsPermutation-refl more)
+          (put_next (columns r) rows up whole)) (IsPermutation-middle more new rows));
     }
 
 only : (l : List Row) → length l ≡ 1 → (s : Row) × (l ≡ s ∷ [])
@@ -68,16 +74,21 @@ finds_itself (r ∷ rows) =
     later : (p : Row → Bool) → is_some (find p rows) ≡ true → is_some (cond (p r) (Some r) (find p rows)) ≡ true
     later p h = elim (p r) as (λ b. is_some (cond b (Some r) (find p rows)) ≡ true) [ true ↦ refl | false ↦ h ]
 
-made_all : (columns : Row → Row) (P : Row → Type 0) (kept news : List Row) → AreMade columns kept news → AllByRecursion (λ r. (id : ℤ) → P (Int id ∷ columns r)) kept → AllByRecursion P news
+made_all : (columns : Row → Row) (P : Row → Type 0) (kept news : List Row)
+    → AreMade columns kept news → AllByRecursion (λ r. (id : ℤ) → P (Int id ∷ columns r)) kept
+    → AllByRecursion P news
 made_all columns P [] [] made all = tt
 made_all columns P [] (s ∷ news) made all = absurd made
 made_all columns P (r ∷ kept) [] made all = absurd made
 made_all columns P (r ∷ kept) (s ∷ news) made all = (subst P (sym made.0.1) (all.0 made.0.0), made_all columns P kept news made.1 all.1)
 
-module _ {A : Type 0} (Typed : Row → Type 0) (cmp : A → A → Ordering) (total : IsTotalOrder cmp) (value : Row → A) (is_for : A → Row → Bool) (columns : Row → Row)
+module _ {A : Type 0} (Typed : Row → Type 0) (cmp : A → A
+    → Ordering) (total : IsTotalOrder cmp) (value : Row → A) (is_for : A → Row
+    → Bool) (columns : Row → Row)
     (tied : (a : A) (id : ℤ) (r : Row) → Typed r → is_for a (Int id ∷ columns r) ≡ is_eq (cmp a (value r)))
     (texts : (id : ℤ) (r : Row) → Typed r → IsText 1 (Int id ∷ columns r) × IsText 2 (Int id ∷ columns r)) where
-  counted : (a : A) (kept news : List Row) → AreMade columns kept news → AllByRecursion Typed kept → length (filter (is_for a) news) ≡ length (filter (λ r. is_eq (cmp a (value r))) kept)
+  counted : (a : A) (kept news : List Row) → AreMade columns kept news → AllByRecursion Typed kept
+      → length (filter (is_for a) news) ≡ length (filter (λ r. is_eq (cmp a (value r))) kept)
   counted a [] [] made all = refl
   counted a [] (s ∷ news) made all = absurd made
   counted a (r ∷ kept) [] made all = absurd made
@@ -85,7 +96,11 @@ module _ {A : Type 0} (Typed : Row → Type 0) (cmp : A → A → Ordering) (tot
       let more = counted a kept news made.1 all.1 in
       let same : is_for a s ≡ is_eq (cmp a (value r)) = ap (is_for a) made.0.1 ∙ tied a made.0.0 r all.0 in
       ap (λ b. length (cond b (s ∷ filter (is_for a) news) (filter (is_for a) news))) same
-      ∙ elim (is_eq (cmp a (value r))) as (λ b. length (cond b (s ∷ filter (is_for a) news) (filter (is_for a) news)) ≡ length (cond b (r ∷ filter (λ x. is_eq (cmp a (value x))) kept) (filter (λ x. is_eq (cmp a (value x))) kept)))
+      ∙ elim (is_eq (cmp a (value r))) as (λ b.
+      length (cond b (s ∷ filter (is_for a) news) (filter (is_for a) news))
+      ≡ length (cond b (r
+      ∷ filter (λ x. is_eq (cmp a (value x))) kept) (filter (λ x.
+      is_eq (cmp a (value x))) kept)))
       [ true ↦ ap suc more | false ↦ more ]
 
   -- of rows whose keys differ each has its key alone
@@ -94,9 +109,16 @@ module _ {A : Type 0} (Typed : Row → Type 0) (cmp : A → A → Ordering) (tot
   alone (r ∷ rows) keyed =
       let apart : AllByRecursion (λ x. is_eq (cmp (value r) (value x)) ≡ false) rows = all_unmap (λ b. is_eq (cmp (value r) b) ≡ false) value rows keyed.0 in
       let rest : filter (λ x. is_eq (cmp (value r) (value x))) rows ≡ [] = none_kept _ rows apart in (
-        ap (λ o. length (cond (is_eq o) (r ∷ filter (λ x. is_eq (cmp (value r) (value x))) rows) (filter (λ x. is_eq (cmp (value r) (value x))) rows))) (tied_itself total (value r)) ∙ ap (λ l. suc (length l)) rest,
+        ap (λ o. length (cond (is_eq o) (r
+            ∷ filter (λ x. is_eq (cmp (value r) (value x))) rows) (filter (λ x.
+            is_eq (cmp (value r) (value x))) rows))) (tied_itself total (value r))
+            ∙ ap (λ l. suc (length l)) rest,
         all_both (λ x. is_eq (cmp (value r) (value x)) ≡ false) (λ x. length (filter (λ y. is_eq (cmp (value x) (value y))) rows) ≡ 1) _
-            (λ x e h. ap (λ b. length (cond b (r ∷ filter (λ y. is_eq (cmp (value x) (value y))) rows) (filter (λ y. is_eq (cmp (value x) (value y))) rows))) (apart_back cmp total (value r) (value x) e) ∙ h) rows apart (alone rows keyed.1),
+            (λ x e h.
+            ap (λ b. length (cond b (r
+            ∷ filter (λ y. is_eq (cmp (value x) (value y))) rows) (filter (λ y.
+            is_eq (cmp (value x) (value y))) rows)))
+            (apart_back cmp total (value r) (value x) e) ∙ h) rows apart (alone rows keyed.1),
       )
 
   -- rows that are made of all rows of a table, one of each, start them
@@ -111,17 +133,24 @@ module _ {A : Type 0} (Typed : Row → Type 0) (cmp : A → A → Ordering) (tot
         typed = all-permutation (λ s. IsText 1 s × IsText 2 s) news starts back
             (made_all columns (λ s. IsText 1 s × IsText 2 s) kept news made (all_weaker Typed _ (λ r t id. texts id r t) kept typed));
         one = all_weaker _ (λ r. HasOne is_for starts (value r))
-            (λ r e. only (filter (is_for (value r)) starts) (sym (length_permutation _ _ (IsPermutation-filter (is_for (value r)) starts news same)) ∙ counted (value r) kept news made typed
+            (λ r e. only (filter (is_for (value r)) starts)
+            (sym (length_permutation _ _
+            (IsPermutation-filter (is_for (value r)) starts news same))
+            ∙ counted (value r) kept news made typed
             ∙ length_permutation _ _ (IsPermutation-filter (λ x. is_eq (cmp (value r) (value x))) rows kept along) ∙ e)) rows (alone rows are.keyed);
         for_one = all-permutation (λ s. is_some (find (λ r. is_for (value r) s) rows) ≡ true) news starts back
             (made_all columns (λ s. is_some (find (λ r. is_for (value r) s) rows) ≡ true) kept news made
             (all-permutation (λ r. (id : ℤ) → is_some (find (λ x. is_for (value x) (Int id ∷ columns r)) rows) ≡ true) rows kept along
             (all_both Typed (λ r. (p : Row → Bool) → p r ≡ true → is_some (find p rows) ≡ true) _
-            (λ r t h id. h (λ x. is_for (value x) (Int id ∷ columns r)) (tied (value r) id r t ∙ ap is_eq (tied_itself total (value r)))) rows are.typed (finds_itself rows))));
+            (λ r t h id.
+            h (λ x. is_for (value x) (Int id ∷ columns r)) (tied (value r) id r t
+            ∙ ap is_eq (tied_itself total (value r)))) rows are.typed (finds_itself rows))));
       }
 
 -- what holds of each that is made
-pub each_made : (columns : Row → Row) (P : Row → Type 0) (kept news starts : List Row) → AreMade columns kept news → IsPermutation starts news → ((id : ℤ) (r : Row) → P (Int id ∷ columns r)) → AllByRecursion P starts
+pub each_made : (columns : Row → Row) (P : Row → Type 0) (kept news starts : List Row)
+    → AreMade columns kept news → IsPermutation starts news
+    → ((id : ℤ) (r : Row) → P (Int id ∷ columns r)) → AllByRecursion P starts
 each_made columns P kept news starts made same is =
     all-permutation P news starts (IsPermutation-sym starts news same) (made_all columns P kept news made (each kept))
   where

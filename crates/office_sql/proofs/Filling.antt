@@ -1,5 +1,6 @@
 -- What an INSERT of what a query over one table shows does to an empty table.
-use Rattle.std.proofs.Common.{◌≡◌, ℕ, cond, false, slice_get, Option, Some, None, List, [], ◌∷◌, ◌++◌, length, drop, ◌-◌, fold, map, Ok, append-nil, refl, sym, ap, ap₂, subst, ◌∙◌, IsPermutation}
+use Rattle.std.proofs.Common.{◌≡◌, ℕ, cond, false, slice_get, Option, Some, None, List, [], ◌∷◌, ◌++◌, length, drop, ◌-◌, fold, map, Ok, append-nil}
+use Rattle.std.proofs.Common.{refl, sym, ap, ap₂, subst, ◌∙◌, IsPermutation}
 use Rattle.std.specs.List.{AllByRecursion, flat_map}
 use Rattle.sqlite.specs.declared.types.Value.TheVariants.{Null}
 use Rattle.sqlite.specs.Collation.{Collation}
@@ -57,8 +58,11 @@ each_alone : {X Y : Type 0} (f : X → Y) (xs : List X) → flat_map (λ x. f x 
 each_alone f [] = refl
 each_alone f (x ∷ xs) = ap (λ l. f x ∷ l) (each_alone f xs)
 
-module _ (text : List ℕ) (at : ℕ) (table : Table) (tree : ℕ) (by : List Collation) (shown : List Term) (fill : IsFill text at table (over_by by (inner tree end) [] shown [])) (there : (db : Trees) → overlay db [] tree ≡ db tree)
-    (params : Row) (Typed : Row → Type 0) (columns : Row → Row) (casts : (r : Row) → Typed r → cast_row table (eval_all shown (env params r)) ≡ Null ∷ columns r) where
+module _ (text : List ℕ) (at : ℕ) (table : Table) (tree : ℕ) (by : List Collation)
+    (shown : List Term) (fill : IsFill text at table (over_by by (inner tree end) [] shown []))
+    (there : (db : Trees) → overlay db [] tree ≡ db tree)
+    (params : Row) (Typed : Row → Type 0) (columns : Row → Row) (casts : (r : Row) → Typed r
+    → cast_row table (eval_all shown (env params r)) ≡ Null ∷ columns r) where
   abbrev program : Program
   program = record { lets = []; body = over_by by (inner tree end) [] shown [] }
 
@@ -72,11 +76,16 @@ module _ (text : List ℕ) (at : ℕ) (table : Table) (tree : ℕ) (by : List Co
       let answers : Answers (record { schema = office_schema; trees = db }) program params given.0 =
       subst (λ ps. Answers (record { schema = office_schema; trees = db }) program ps given.0)
       (ap (λ ts. params ++ eval_all ts (drop (length params - length table.stamps.formats) params ∷ [])) fill.unstamped ∙ append-nil params) given.1 in
-      let s = listed by (inner tree end) [] shown [] (overlay db []) params (env params) (overlay db [] tree) given.0 (each_alone (env params) (overlay db [] tree)) (answers.answer Null) in
+      let s = listed by (inner tree end) [] shown [] (overlay db []) params (env params)
+      (overlay db [] tree) given.0 (each_alone (env params) (overlay db [] tree))
+      (answers.answer Null) in
       let along : IsPermutation (db tree) s.kept = subst (λ l. IsPermutation l s.kept) (there db) s.same in
       let sources : map (λ r. cast_row table r) given.0 ≡ map (λ r. Null ∷ columns r) s.kept =
       ap (map (λ r. cast_row table r)) s.shows ∙ map-map (λ r. cast_row table r) (λ r. eval_all shown (env params r)) s.kept
-      ∙ map_each (λ r. cast_row table (eval_all shown (env params r))) (λ r. Null ∷ columns r) s.kept (all_weaker Typed _ casts s.kept (all-permutation Typed (db tree) s.kept along typed)) in
+      ∙ map_each (λ r. cast_row table (eval_all shown (env params r))) (λ r. Null
+      ∷ columns r)
+      s.kept (all_weaker Typed _ casts s.kept
+      (all-permutation Typed (db tree) s.kept along typed)) in
       let counter = went given.2 in
       let written = went counter.2 in
       let counted = went written.2 in
@@ -85,7 +94,10 @@ module _ (text : List ℕ) (at : ℕ) (table : Table) (tree : ℕ) (by : List Co
       let trees : done.0.trees ≡ written.0 = ap (λ (it : Written). it.trees) (same_value counted.2) ∙ stays in
       let edit = edit_of db table [] Chosen 0 given.0 in
       let made : Edited office_schema Enforced db edit (Ok written.0) =
-      subst (λ b. Edited office_schema Enforced db (edit_of db table [] (cond b (Above (count_of counter.0)) Chosen) 0 given.0) (Ok written.0)) fill.uncounted written.1 in
+      subst (λ b.
+      Edited office_schema Enforced db
+      (edit_of db table [] (cond b (Above (count_of counter.0)) Chosen) 0 given.0)
+      (Ok written.0)) fill.uncounted written.1 in
       let step = one_step office_schema Enforced db written.0 edit (no_works office_schema Enforced 0 table.tree edit.news) made in
       let rows : edited db edit ≡ put_all [] (news_of columns [] s.kept) = ap₂ (λ l all. put_all l (numbered Chosen l all)) empty sources in
       record {
@@ -98,10 +110,19 @@ module _ (text : List ℕ) (at : ℕ) (table : Table) (tree : ℕ) (by : List Co
       }
 
   -- it fills the table
-  pub fills : (old new : State) (count : ℕ) → old.now.schema ≡ office_schema → old.now.trees table.tree ≡ [] → AllByRecursion Typed (old.now.trees tree) → Executes text params old new (Ok count) → Fills columns tree table.tree old.now new.now
+  pub fills : (old new : State) (count : ℕ) → old.now.schema ≡ office_schema
+      → old.now.trees table.tree ≡ [] → AllByRecursion Typed (old.now.trees tree)
+      → Executes text params old new (Ok count) → Fills columns tree table.tree old.now new.now
   fills old new count has empty typed h =
       let command = Insert at (Selected program) in
       let w = runs_as text params old new office_schema has command fill.is fill.plain count h in
       let words = statement_of text (understood office_schema text) in
-      let does = subst (λ s. Does old.step_limit (mode_of old) params (record old.now { schema = s }) words None command (Ok (w.tally, new.now))) has w.changed in
-      puts old.step_limit old.now (w.tally, new.now) w.sound empty typed (subst (λ o. AtPlace (λ t. OnRows (task_on old.step_limit params t) enforced None command old.now.trees) o (Ok (w.tally, new.now))) fill.there does)
+      let does = subst (λ s.
+      Does old.step_limit (mode_of old) params (record old.now {
+        schema =
+            s;
+      }) words None command (Ok (w.tally, new.now))) has w.changed in
+      puts old.step_limit old.now (w.tally, new.now) w.sound empty typed (subst (λ o.
+      AtPlace (λ t.
+      OnRows (task_on old.step_limit params t) enforced None command old.now.trees)
+      o (Ok (w.tally, new.now))) fill.there does)

@@ -1,5 +1,6 @@
 -- What is found among rows in order, and rows with one key.
-use Rattle.std.proofs.Common.{◌≡◌, map, ℕ, Bool, true, false, cond, ◌&&◌, List, [], ◌∷◌, filter, find, slice_get, IsPermutation, Some, None, refl, ap, subst, sym, ◌∙◌, Ordering, Less, Equal, Greater, is_eq, true≢false}
+use Rattle.std.proofs.Common.{◌≡◌, map, ℕ, Bool, true, false, cond, ◌&&◌, List, [], ◌∷◌, filter, find, slice_get, IsPermutation, Some, None, refl}
+use Rattle.std.proofs.Common.{ap, subst, sym, ◌∙◌, Ordering, Less, Equal, Greater, is_eq, true≢false}
 use Rattle.std.specs.List.{AllByRecursion}
 use Rattle.std.specs.Str.{bytes_eq}
 use Rattle.std.specs.Ordering.{nat_cmp}
@@ -61,8 +62,15 @@ same_bytes t = (bytes_eq-Decides t t).1 refl
 
 module _ {A : Type 0} (cmp : A → A → Ordering) (total : IsTotalOrder cmp) (value : Row → A) (p : A → Bool) where
   -- the one row that passes is found
-  pub only_found : (rows : List Row) (r : Row) → AreKeyed cmp (map value rows) → filter (λ x. p (value x)) rows ≡ r ∷ [] → find p (sort_by cmp (map value rows)) ≡ Some (value r)
+  pub only_found : (rows : List Row) (r : Row) → AreKeyed cmp (map value rows)
+      → filter (λ x. p (value x)) rows ≡ r ∷ []
+      → find p (sort_by cmp (map value rows)) ≡ Some (value r)
   only_found rows r keyed one =
       let kept : filter p (map value rows) ≡ value r ∷ [] = filter-map p value rows ∙ ap (map value) one in
       sym (slice_get-filter p (sort_by cmp (map value rows)))
-      ∙ ap (λ l. slice_get l 0) (kept_in_order cmp total p (map value rows) (value r ∷ []) keyed (subst (λ l. IsPermutation l (value r ∷ [])) (sym kept) (IsPermutation-refl _)) (sorted_from_ascending cmp total (value r ∷ []) (tt, tt)))
+      ∙ ap (λ l.
+      slice_get l 0) (kept_in_order cmp total p (map value rows) (value r
+      ∷ []) keyed (subst (λ l.
+      IsPermutation l (value r
+      ∷ [])) (sym kept) (IsPermutation-refl _)) (sorted_from_ascending cmp total (value r
+      ∷ []) (tt, tt)))

@@ -18,7 +18,9 @@ text_or_null (Real x) is = absurd (true≢false (sym is))
 text_or_null (Text t) is = refl
 text_or_null (Blob b) is = absurd (true≢false (sym is))
 
-typed_next : (at : ℕ) (c : Column) (cs : List Column) (v : Value) (vs : Row) → are_typed None at (c ∷ cs) (v ∷ vs) ≡ true → (suits c v ≡ true) × (are_typed None (at + 1) cs vs ≡ true)
+typed_next : (at : ℕ) (c : Column) (cs : List Column) (v : Value) (vs : Row)
+    → are_typed None at (c ∷ cs) (v ∷ vs) ≡ true → (suits c v ≡ true)
+    × (are_typed None (at + 1) cs vs ≡ true)
 typed_next at c cs v vs h = and_parts (suits c v) (are_typed None (at + 1) cs vs) h
 
 -- the rule Datatype gives what `IsGivenRow` says of the column `mac`

@@ -20,13 +20,13 @@ use Rattle.sqlite_value.specs.declared.keys.Key.{Key}
 use Rattle.sqlite_value.specs.Keys.{ascending}
 use Rattle.sqlite_value.proofs.OrderLemmas.{value_cmp_total, then-Equal}
 use Rattle.sqlite_keyed.specs.Lists.{sort_by}
-use Rattle.office_tables.specs.declared.rows.Owned.{Owned}
+use Rattle.office_tables.specs.declared.rows.OfCustomer.{OfCustomer}
 use Rattle.office_tables.specs.declared.rows.Given.{Given}
-use Rattle.office_tables.specs.Tables.{given_cmp, is_given as is_serial_of, is_bound, is_of_issuer}
+use Rattle.office_tables.specs.Tables.{given_cmp, is_serial_of, is_bound, is_of_issuer}
 use Rattle.office_sql.specs.Schema.{office_schema}
-use Rattle.office_sql.specs.Rows.{given_in, starts_given, with_given_start, joined_given}
-use Rattle.office_sql.specs.Scan.{is_given, passes}
-use Rattle.office_sql.specs.Joins.{over, is_same, meets, pair, first_that}
+use Rattle.office_sql.specs.Rows.{given_in_row, starts_given, with_given_start, joined_given}
+use Rattle.office_sql.specs.Scan.{is_parameter, passes}
+use Rattle.office_sql.specs.Joins.{over, is_same, passes_join, pair, first_that}
 use Rattle.office_sql.specs.Tables.{AreRows, AreStarted, IsGivenRow, IsStartRow}
 use Rattle.office_sql.specs.Values.{text_if}
 use Rattle.office_sql.proofs.Kept.{shows_joined, start_is}
@@ -52,13 +52,13 @@ abbrev pub names : List (List ℕ)
 names = codes "issuer" ∷ codes "serial" ∷ codes "customer" ∷ codes "key" ∷ codes "chip" ∷ codes "mac" ∷ codes "not_after" ∷ codes "not_before" ∷ []
 
 abbrev pub at_tests : List Term
-at_tests = is_given 1 0 ∷ is_given 2 1 ∷ []
+at_tests = is_parameter 1 0 ∷ is_parameter 2 1 ∷ []
 
 abbrev pub key_tests : List Term
-key_tests = is_given 1 0 ∷ is_given 4 1 ∷ []
+key_tests = is_parameter 1 0 ∷ is_parameter 4 1 ∷ []
 
 abbrev pub all_tests : List Term
-all_tests = is_given 1 0 ∷ []
+all_tests = is_parameter 1 0 ∷ []
 
 -- the columns of the row and of its start that are one key
 abbrev pub on_start : List Term
@@ -86,59 +86,76 @@ abbrev pub by_serial : Row → Row → Ordering
 by_serial = on (λ r. column r 1 ∷ column r 2 ∷ []) (key_cmp 0 (ascending Binary ∷ ascending Binary ∷ []))
 
 by_serial_total : IsTotalOrder by_serial
-by_serial_total = on_total (λ r. column r 1 ∷ column r 2 ∷ []) (then_total (on_total (λ r. column r 0) value_cmp_total) (then_total (on_total (λ r. column r 1) value_cmp_total) level_total))
+by_serial_total = on_total (λ r. column r 1 ∷ column r 2
+    ∷ []) (then_total (on_total (λ r.
+    column r 0) value_cmp_total) (then_total (on_total (λ r.
+    column r 1) value_cmp_total) level_total))
 
-ordered : (a b : Row) → IsGivenRow a → IsGivenRow b → by_serial a b ≡ given_cmp (given_in a) (given_in b)
+ordered : (a b : Row) → IsGivenRow a → IsGivenRow b → by_serial a b ≡ given_cmp (given_in_row a) (given_in_row b)
 ordered a b e f = ap₂ ordering_then (texts_cmp (column a 1) (column b 1) e.0 f.0) (then-Equal _ ∙ texts_cmp (column a 2) (column b 2) e.1 f.1)
 
 -- records have one key where their issuers and their serial numbers are equal
-pub given_tied : (x y : Owned Given) → is_eq (given_cmp x y) ≡ is_serial_of x.row.issuer x.row.serial y
+pub given_tied : (x y : OfCustomer Given) → is_eq (given_cmp x y) ≡ is_serial_of x.row.issuer x.row.serial y
 given_tied x y = sym (tied_then _ _) ∙ ap₂ ◌&&◌ (is_eq-slice_cmp x.row.issuer y.row.issuer) (is_eq-slice_cmp x.row.serial y.row.serial)
 
-passes_at : (issuer serial : List ℕ) (r : Row) → IsGivenRow r → passes at_tests (Words issuer ∷ Words serial ∷ []) r ≡ is_serial_of issuer serial (given_in r)
+passes_at : (issuer serial : List ℕ) (r : Row) → IsGivenRow r
+    → passes at_tests (Words issuer ∷ Words serial ∷ []) r
+    ≡ is_serial_of issuer serial (given_in_row r)
 passes_at issuer serial r e = ap₂ ◌&&◌ (text_is (column r 1) issuer e.0) (and_true _ ∙ text_is (column r 2) serial e.1)
 
-passes_key : (issuer key : List ℕ) (r : Row) → IsGivenRow r → passes key_tests (Words issuer ∷ Bytes key ∷ []) r ≡ is_bound issuer key (given_in r)
+passes_key : (issuer key : List ℕ) (r : Row) → IsGivenRow r → passes key_tests (Words issuer ∷ Bytes key ∷ []) r ≡ is_bound issuer key (given_in_row r)
 passes_key issuer key r e = ap₂ ◌&&◌ (text_is (column r 1) issuer e.0) (and_true _ ∙ blob_is (column r 4) key e.2)
 
-passes_all : (issuer : List ℕ) (r : Row) → IsGivenRow r → passes all_tests (Words issuer ∷ []) r ≡ is_of_issuer issuer (given_in r)
+passes_all : (issuer : List ℕ) (r : Row) → IsGivenRow r → passes all_tests (Words issuer ∷ []) r ≡ is_of_issuer issuer (given_in_row r)
 passes_all issuer r e = and_true _ ∙ text_is (column r 1) issuer e.0
 
 -- the start's key is the record's
-fits : (params r s : Row) → IsGivenRow r → IsStartRow s → meets on_start params r s ≡ starts_given (given_in r) s
+fits : (params r s : Row) → IsGivenRow r → IsStartRow s → passes_join on_start params r s ≡ starts_given (given_in_row r) s
 fits params r s e f =
     ap₂ ◌&&◌ (ap (λ v. is_true (binary (Compare Eq Binary) (column s 1) v)) e.0 ∙ text_is (column s 1) _ f.0)
     (and_true _ ∙ ap (λ v. is_true (binary (Compare Eq Binary) (column s 2) v)) e.1 ∙ text_is (column s 2) _ f.1)
 
 -- with what a row of starts says
-abbrev with_row : Row → Owned Given → Owned Given
+abbrev with_row : Row → OfCustomer Given → OfCustomer Given
 with_row s g = record g { row = record g.row { not_before = text_if (column s 3) } }
 
-starts : (l : List Row) (all : List (Owned Given)) → map (λ g. with_row (first_that (starts_given g) l) g) all ≡ map (with_given_start l) all
-starts l all = ap (λ (f : Owned Given → Owned Given). map f all) (λ i g. record g { row = record g.row { not_before = start_is starts_given l g i } })
+starts : (l : List Row) (all : List (OfCustomer Given)) → map (λ g. with_row (first_that (starts_given g) l) g) all ≡ map (with_given_start l) all
+starts l all = ap (λ (f : OfCustomer Given → OfCustomer Given). map f all) (λ i g. record g { row = record g.row { not_before = start_is starts_given l g i } })
 
 -- a query that sorts by the key shows the records that pass its tests, which read the first table alone
-pub kept_shown : (p : Owned Given → Bool) → ((s : Row) (g : Owned Given) → p (with_row s g) ≡ p g) → (tests : List Term) (params : Row) → ((r : Row) → IsGivenRow r → passes tests params r ≡ p (given_in r))
+pub kept_shown : (p : OfCustomer Given → Bool)
+    → ((s : Row) (g : OfCustomer Given) → p (with_row s g) ≡ p g)
+    → (tests : List Term) (params : Row)
+    → ((r : Row) → IsGivenRow r → passes tests params r ≡ p (given_in_row r))
     → ((r s : Row) → list_all (holds (pair params r s)) tests ≡ passes tests params r)
-    → (db : Trees) (rows : List Row) → AreRows IsGivenRow given_cmp given_in (db 11) → AreStarted starts_given given_in (db 11) (db 19)
+    → (db : Trees) (rows : List Row) → AreRows IsGivenRow given_cmp given_in_row (db 11) → AreStarted starts_given given_in_row (db 11) (db 19)
     → IsAnswer (over (inner 11 (inner 19 end)) (on_start ++ tests) shown by_key) db params rows
-    → map joined_given rows ≡ filter p (map (with_given_start (db 19)) (sort_by given_cmp (map given_in (db 11))))
+    → map joined_given rows ≡ filter p (map (with_given_start (db 19)) (sort_by given_cmp (map given_in_row (db 11))))
 kept_shown p same tests params is blind db rows are started a =
-    shows_joined IsGivenRow given_cmp given_total given_in by_serial by_serial_total ordered p tests params is IsStartRow starts_given on_start (fits params) shown by_key joined_given with_row same
+    shows_joined IsGivenRow given_cmp given_total given_in_row by_serial by_serial_total ordered p
+    tests params is IsStartRow starts_given on_start (fits params) shown by_key joined_given
+    with_row same
     blind (λ r s. refl) (λ a b s t. refl) db 11 19 rows are started.typed started.one a
     ∙ ap (filter p) (starts (db 19) _)
 
-pub at_shown : (issuer serial : List ℕ) (db : Trees) (rows : List Row) → AreRows IsGivenRow given_cmp given_in (db 11) → AreStarted starts_given given_in (db 11) (db 19)
+pub at_shown : (issuer serial : List ℕ) (db : Trees) (rows : List Row)
+    → AreRows IsGivenRow given_cmp given_in_row (db 11)
+    → AreStarted starts_given given_in_row (db 11) (db 19)
     → IsAnswer (over (inner 11 (inner 19 end)) (on_start ++ at_tests) shown by_key) db (Words issuer ∷ Words serial ∷ []) rows
-    → map joined_given rows ≡ filter (is_serial_of issuer serial) (map (with_given_start (db 19)) (sort_by given_cmp (map given_in (db 11))))
-at_shown issuer serial = kept_shown (is_serial_of issuer serial) (λ s g. refl) at_tests (Words issuer ∷ Words serial ∷ []) (passes_at issuer serial) (λ r s. refl)
+    → map joined_given rows ≡ filter (is_serial_of issuer serial) (map (with_given_start (db 19)) (sort_by given_cmp (map given_in_row (db 11))))
+at_shown issuer serial = kept_shown (is_serial_of issuer serial) (λ s g.
+    refl) at_tests (Words issuer ∷ Words serial ∷ []) (passes_at issuer serial) (λ r s. refl)
 
-pub key_shown : (issuer key : List ℕ) (db : Trees) (rows : List Row) → AreRows IsGivenRow given_cmp given_in (db 11) → AreStarted starts_given given_in (db 11) (db 19)
+pub key_shown : (issuer key : List ℕ) (db : Trees) (rows : List Row)
+    → AreRows IsGivenRow given_cmp given_in_row (db 11)
+    → AreStarted starts_given given_in_row (db 11) (db 19)
     → IsAnswer (over (inner 11 (inner 19 end)) (on_start ++ key_tests) shown by_key) db (Words issuer ∷ Bytes key ∷ []) rows
-    → map joined_given rows ≡ filter (is_bound issuer key) (map (with_given_start (db 19)) (sort_by given_cmp (map given_in (db 11))))
+    → map joined_given rows ≡ filter (is_bound issuer key) (map (with_given_start (db 19)) (sort_by given_cmp (map given_in_row (db 11))))
 key_shown issuer key = kept_shown (is_bound issuer key) (λ s g. refl) key_tests (Words issuer ∷ Bytes key ∷ []) (passes_key issuer key) (λ r s. refl)
 
-pub all_shown : (issuer : List ℕ) (db : Trees) (rows : List Row) → AreRows IsGivenRow given_cmp given_in (db 11) → AreStarted starts_given given_in (db 11) (db 19)
+pub all_shown : (issuer : List ℕ) (db : Trees) (rows : List Row)
+    → AreRows IsGivenRow given_cmp given_in_row (db 11)
+    → AreStarted starts_given given_in_row (db 11) (db 19)
     → IsAnswer (over (inner 11 (inner 19 end)) (on_start ++ all_tests) shown by_key) db (Words issuer ∷ []) rows
-    → map joined_given rows ≡ filter (is_of_issuer issuer) (map (with_given_start (db 19)) (sort_by given_cmp (map given_in (db 11))))
+    → map joined_given rows ≡ filter (is_of_issuer issuer) (map (with_given_start (db 19)) (sort_by given_cmp (map given_in_row (db 11))))
 all_shown issuer = kept_shown (is_of_issuer issuer) (λ s g. refl) all_tests (Words issuer ∷ []) (passes_all issuer) (λ r s. refl)

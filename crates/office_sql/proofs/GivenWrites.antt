@@ -1,5 +1,6 @@
 -- What the texts that add a given serial number mean, and do.
-use Rattle.std.proofs.Common.{◌≡◌, ℕ, ℤ, ◌&&◌, Bool, true, false, List, [], ◌∷◌, ◌++◌, map, filter, codes, length, arith, Option, Some, None, refl, sym, ap, ap₂, subst, subst₂, ◌∙◌, Equal, true≢false}
+use Rattle.std.proofs.Common.{◌≡◌, ℕ, ℤ, ◌&&◌, Bool, true, false, List, [], ◌∷◌, ◌++◌, map, filter, codes, length, arith, Option, Some, None, refl}
+use Rattle.std.proofs.Common.{sym, ap, ap₂, subst, subst₂, ◌∙◌, Equal, true≢false}
 use Rattle.std.specs.Option.{option_map, option_and_then}
 use Rattle.std.specs.Ordering.{ordering_then}
 use Rattle.std.specs.Str.{bytes_eq}
@@ -26,15 +27,15 @@ use Rattle.sqlite_tied.specs.Compute.{everything}
 use Rattle.sqlite_trees.proofs.ListLemmas.{all_weaker, all-permutation}
 use Rattle.id_ranges.specs.Mac.{mac_text, mac_of_text}
 use Rattle.id_ranges.proofs.MacTexts.{mac_text_only}
-use Rattle.office_tables.specs.declared.rows.Owned.{Owned}
+use Rattle.office_tables.specs.declared.rows.OfCustomer.{OfCustomer}
 use Rattle.office_tables.specs.declared.rows.Given.{Given}
 use Rattle.office_tables.specs.declared.rows.Write.TheVariants.{AddGiven}
-use Rattle.office_tables.specs.Tables.{IsFree, IsAddressFree, is_address, has_address, given_cmp, is_given as is_serial_of, placed}
+use Rattle.office_tables.specs.Tables.{IsFree, IsAddressFree, is_address, has_address, given_cmp, is_serial_of, with_row}
 use Rattle.office_tables.proofs.Finding.{none_passes}
-use Rattle.office_sql.specs.Change.{Adds, SameBut, Wrote}
+use Rattle.office_sql.specs.Change.{SqlAdds, SameBut, Wrote}
 use Rattle.office_sql.specs.Joins.{over}
-use Rattle.office_sql.specs.Rows.{given_in, given_columns, starts_given, given_start_columns, with_given_start, joined_given}
-use Rattle.office_sql.specs.Scan.{is_given, passes}
+use Rattle.office_sql.specs.Rows.{given_in_row, given_columns, starts_given, given_start_columns, with_given_start, joined_given}
+use Rattle.office_sql.specs.Scan.{is_parameter, passes}
 use Rattle.office_sql.specs.Schema.{given_table, given_start_table, office_schema}
 use Rattle.office_sql.specs.Tables.{AreRows, AreStarted, IsGivenRow, IsOffice, tables_in, told_in}
 use Rattle.office_sql.specs.Values.{text_if, text_value, mac_if}
@@ -56,7 +57,7 @@ abbrev pub address_text : List ℕ
 address_text = codes "SELECT given.issuer, given.serial, customer, key, chip, mac, not_after, not_before FROM given JOIN given_start ON given_start.issuer = given.issuer AND given_start.serial = given.serial WHERE mac = ?1 ORDER BY given.issuer, given.serial"
 
 abbrev pub address_tests : List Term
-address_tests = is_given 6 0 ∷ []
+address_tests = is_parameter 6 0 ∷ []
 
 pub address_read : IsJoined office_schema address_text (inner 11 (inner 19 end)) (on_start ++ address_tests) shown by_key
 unfolding understood everything
@@ -85,25 +86,36 @@ null_is : (t : List ℕ) → is_true (binary (Compare Eq Binary) Null (Words t))
 unfolding binary
 null_is t = refl
 
-mac_is : (mac : ℕ) (text : List ℕ) (v : Value) → mac_of_text text ≡ Some mac → v ≡ text_value (text_if v) → is_true (binary (Compare Eq Binary) v (Words text)) ≡ is_address mac (mac_if v)
+mac_is : (mac : ℕ) (text : List ℕ) (v : Value) → mac_of_text text ≡ Some mac
+    → v ≡ text_value (text_if v)
+    → is_true (binary (Compare Eq Binary) v (Words text)) ≡ is_address mac (mac_if v)
 mac_is mac text v is e = go (text_if v) refl
   where
     go : (o : Option (List ℕ)) → text_if v ≡ o → is_true (binary (Compare Eq Binary) v (Words text)) ≡ is_address mac (option_and_then mac_of_text (text_if v))
-    go None h = ap (λ w. is_true (binary (Compare Eq Binary) w (Words text))) (e ∙ ap text_value h) ∙ null_is text ∙ sym (ap (λ o. is_address mac (option_and_then mac_of_text o)) h)
+    go None h = ap (λ w. is_true (binary (Compare Eq Binary) w (Words text))) (e ∙ ap text_value h)
+        ∙ null_is text ∙ sym (ap (λ o. is_address mac (option_and_then mac_of_text o)) h)
     go (Some t) h =
         let words : v ≡ Words t = e ∙ ap text_value h in
-        text_is v text (words ∙ sym (ap (λ w. Words (bytes w)) words)) ∙ ap (λ w. bytes_eq text (bytes w)) words ∙ same_address mac text t is ∙ sym (ap (λ o. is_address mac (option_and_then mac_of_text o)) h)
+        text_is v text (words ∙ sym (ap (λ w. Words (bytes w)) words))
+        ∙ ap (λ w. bytes_eq text (bytes w)) words ∙ same_address mac text t is
+        ∙ sym (ap (λ o. is_address mac (option_and_then mac_of_text o)) h)
 
-passes_address : (mac : ℕ) (text : List ℕ) → mac_of_text text ≡ Some mac → (r : Row) → IsGivenRow r → passes address_tests (Words text ∷ []) r ≡ has_address mac (given_in r)
+passes_address : (mac : ℕ) (text : List ℕ) → mac_of_text text ≡ Some mac → (r : Row) → IsGivenRow r
+    → passes address_tests (Words text ∷ []) r ≡ has_address mac (given_in_row r)
 passes_address mac text is r e = and_true _ ∙ mac_is mac text (column r 6) is e.3
 
-pub address_shown : (mac : ℕ) (text : List ℕ) → mac_of_text text ≡ Some mac → (db : Trees) (rows : List Row) → AreRows IsGivenRow given_cmp given_in (db 11) → AreStarted starts_given given_in (db 11) (db 19)
+pub address_shown : (mac : ℕ) (text : List ℕ) → mac_of_text text ≡ Some mac
+    → (db : Trees) (rows : List Row) → AreRows IsGivenRow given_cmp given_in_row (db 11)
+    → AreStarted starts_given given_in_row (db 11) (db 19)
     → IsAnswer (over (inner 11 (inner 19 end)) (on_start ++ address_tests) shown by_key) db (Words text ∷ []) rows
-    → map joined_given rows ≡ filter (has_address mac) (map (with_given_start (db 19)) (sort_by given_cmp (map given_in (db 11))))
+    → map joined_given rows ≡ filter (has_address mac) (map (with_given_start (db 19)) (sort_by given_cmp (map given_in_row (db 11))))
 address_shown mac text is = kept_shown (has_address mac) (λ s g. refl) address_tests (Words text ∷ []) (passes_address mac text is) (λ r s. refl)
 
 -- where no row is shown, no record has the address
-pub none_shown : (address : Option ℕ) (rows : List Row) (l : List (Owned Given)) → length rows ≡ 0 → ((mac : ℕ) → address ≡ Some mac → map joined_given rows ≡ filter (has_address mac) l) → IsAddressFree address l
+pub none_shown : (address : Option ℕ) (rows : List Row) (l : List (OfCustomer Given))
+    → length rows ≡ 0
+    → ((mac : ℕ) → address ≡ Some mac → map joined_given rows ≡ filter (has_address mac) l)
+    → IsAddressFree address l
 none_shown None rows l empty is = tt
 none_shown (Some mac) [] l empty is = sym (found joined_given (has_address mac) l [] (is mac refl))
 none_shown (Some mac) (r ∷ rows) l empty is = absurd (omega arith)
@@ -120,7 +132,7 @@ pub add_insert : IsInsert office_schema add_text 6 given_table add_terms 8
 unfolding understood everything
 add_insert = record { is = refl; plain = (refl, refl); there = refl; uncounted = refl; unstamped = refl; one = λ params. refl }
 
-pub add_casts : (g : Owned Given) → cast_row given_table (Null ∷ given_columns g) ≡ Null ∷ given_columns g
+pub add_casts : (g : OfCustomer Given) → cast_row given_table (Null ∷ given_columns g) ≡ Null ∷ given_columns g
 add_casts g = rw (cast_null, text_cast g.row.chip, text_cast (option_map mac_text g.row.mac)) refl
 
 -- ---- its beginning of validity
@@ -135,37 +147,45 @@ pub start_insert : IsInsert office_schema start_text 9 given_start_table start_t
 unfolding understood everything
 start_insert = record { is = refl; plain = (refl, refl); there = refl; uncounted = refl; unstamped = refl; one = λ params. refl }
 
-pub start_casts : (g : Owned Given) → cast_row given_start_table (Null ∷ given_start_columns g) ≡ Null ∷ given_start_columns g
+pub start_casts : (g : OfCustomer Given) → cast_row given_start_table (Null ∷ given_start_columns g) ≡ Null ∷ given_start_columns g
 start_casts g = rw (cast_null, text_cast g.row.not_before) refl
 
 -- ---- both
 
 -- two records with one start have one key
-given_ties : (a b : Owned Given) (s : Row) → starts_given a s ≡ true → starts_given b s ≡ true → given_cmp a b ≡ Equal
+given_ties : (a b : OfCustomer Given) (s : Row) → starts_given a s ≡ true → starts_given b s ≡ true → given_cmp a b ≡ Equal
 given_ties a b s e f =
     let p = both_true _ _ e in
     let q = both_true _ _ f in
     ap₂ ordering_then (texts_alike a.row.issuer b.row.issuer (bytes (column s 1)) p.0 q.0) (texts_alike a.row.serial b.row.serial (bytes (column s 2)) p.1 q.1)
 
-abbrev with_text : Option (List ℕ) → Owned Given → Owned Given
+abbrev with_text : Option (List ℕ) → OfCustomer Given → OfCustomer Given
 with_text t g = record g { row = record g.row { not_before = t } }
 
 -- its own start is for it
-own_start : (g : Owned Given) (id : ℤ) → starts_given g (Int id ∷ given_start_columns g) ≡ true
+own_start : (g : OfCustomer Given) (id : ℤ) → starts_given g (Int id ∷ given_start_columns g) ≡ true
 own_start g id = ap₂ ◌&&◌ (same_bytes g.row.issuer) (same_bytes g.row.serial)
 
 -- a record and its beginning leave what the database tells of itself
 told_after : (old mid new : Trees) → SameBut 11 old mid → SameBut 19 mid new → told_in new ≡ told_in old
 told_after old mid new adds starts = told_stays 19 mid new (λ e. cc) (λ e. cc) starts ∙ told_stays 11 old mid (λ e. cc) (λ e. cc) adds
 
-module _ (g : Owned Given) (address : option_and_then mac_of_text (option_map mac_text g.row.mac) ≡ g.row.mac) where
-  given_back : (id own : ℤ) → with_text (text_if (column (Int own ∷ given_start_columns g) 3)) (given_in (Int id ∷ given_columns g)) ≡ g
+module _ (g : OfCustomer Given) (address : option_and_then mac_of_text (option_map mac_text g.row.mac) ≡ g.row.mac) where
+  given_back : (id own : ℤ) → with_text (text_if (column (Int own ∷ given_start_columns g) 3)) (given_in_row (Int id ∷ given_columns g)) ≡ g
   given_back id own i =
-      record g { row = record g.row { chip = text_back g.row.chip i; mac = (ap (option_and_then mac_of_text) (text_back (option_map mac_text g.row.mac)) ∙ address) i; not_before = text_back g.row.not_before i } }
+      record g {
+        row = record g.row {
+          chip = text_back g.row.chip i;
+          mac =
+              (ap (option_and_then mac_of_text) (text_back (option_map mac_text g.row.mac))
+              ∙ address) i;
+          not_before = text_back g.row.not_before i;
+        };
+      }
 
   -- a record that was added, with its start
   pub given_wrote : (old mid new : Database) → IsOffice old → IsFree (AddGiven g) (tables_in old.trees) → IsAddressFree g.row.mac (tables_in old.trees).given
-      → Adds 11 (given_columns g) old mid → Adds 19 (given_start_columns g) mid new → Wrote (AddGiven g) old new
+      → SqlAdds 11 (given_columns g) old mid → SqlAdds 19 (given_start_columns g) mid new → Wrote (AddGiven g) old new
   given_wrote old mid new office free alone adds starts =
       let rows = old.trees 11 in
       let id = next_rowid rows in
@@ -173,14 +193,18 @@ module _ (g : Owned Given) (address : option_and_then mac_of_text (option_map ma
       let own = next_rowid (old.trees 19) in
       let own_row : Row = Int own ∷ given_start_columns g in
       let beside : mid.trees 19 ≡ old.trees 19 = adds.others.1.1.1.1.1.1.1.1.1.0 (λ e. cc) in
-      let others = all-permutation (λ y. is_serial_of g.row.issuer g.row.serial y ≡ false) _ _ (IsPermutation-sort_by given_cmp given_total (map given_in rows))
+      let others = all-permutation (λ y. is_serial_of g.row.issuer g.row.serial y
+      ≡ false) _ _ (IsPermutation-sort_by given_cmp given_total (map given_in_row rows))
       (all_unmap (λ y. is_serial_of g.row.issuer g.row.serial y ≡ false) (with_given_start (old.trees 19)) _ (none_passes _ _ free.0)) in
-      let apart = all_weaker _ (Apart given_cmp given_total (given_in new_row)) (λ y e. given_tied g y ∙ e) (map given_in rows) others in
-      let more = started_more IsGivenRow given_cmp given_total given_in starts_given with_text (λ t u a b. refl) given_ties
+      let apart = all_weaker _ (Apart given_cmp given_total (given_in_row new_row)) (λ y e. given_tied g y ∙ e) (map given_in_row rows) others in
+      let more = started_more IsGivenRow given_cmp given_total given_in_row starts_given with_text (λ t u a b. refl) given_ties
       (given_columns g) (given_start_columns g) rows (old.trees 19) office.rows.given office.given_started
       (refl, refl, refl, sym (ap text_value (text_back (option_map mac_text g.row.mac)))) (refl, refl) (own_start g own) apart in
       let after : new.trees 19 ≡ put_row own_row (old.trees 19) = starts.row ∙ ap (λ l. put_row (Int (next_rowid l) ∷ given_start_columns g) l) beside in
-      let it = given_grown old new office starts.schema starts.sound mid.trees adds.others starts.others (subst (AreRows IsGivenRow given_cmp given_in) (sym adds.row) more.are)
-      (subst₂ (AreStarted starts_given given_in) (sym adds.row) (sym after) more.started) _
-      (ap₂ (λ l k. map (with_given_start k) (sort_by given_cmp (map given_in l))) adds.row after ∙ more.placed_is ∙ ap (λ x. placed given_cmp x (tables_in old.trees).given) (given_back id own)) in
+      let it = given_grown old new office starts.schema starts.sound mid.trees adds.others
+      starts.others (subst (AreRows IsGivenRow given_cmp given_in_row) (sym adds.row) more.are)
+      (subst₂ (AreStarted starts_given given_in_row) (sym adds.row) (sym after) more.started) _
+      (ap₂ (λ l k. map (with_given_start k) (sort_by given_cmp (map given_in_row l))) adds.row after
+      ∙ more.placed_is
+      ∙ ap (λ x. with_row given_cmp x (tables_in old.trees).given) (given_back id own)) in
       record { office = it.0; made = (alone, it.1); rows = (mid, adds, starts); told = told_after old.trees mid.trees new.trees adds.others starts.others }

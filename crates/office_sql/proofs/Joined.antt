@@ -11,7 +11,7 @@ use Rattle.sqlite.specs.Tree.{Trees}
 use Rattle.sqlite.specs.Term.{Term, Env, holds}
 use Rattle.sqlite.specs.Query.{inner, end, IsAnswer}
 use Rattle.office_sql.specs.Scan.{passes, passing}
-use Rattle.office_sql.specs.Joins.{over, pair, meets, first_that, beside, HasBeside}
+use Rattle.office_sql.specs.Joins.{over, pair, passes_join, first_that, beside, HasBeside}
 use Rattle.office_sql.proofs.Scan.{Listed, listed, cut}
 
 pub same_each : (f g : Row → List Env) (rows : List Row) → AllByRecursion (λ r. f r ≡ g r) rows → flat_map f rows ≡ flat_map g rows
@@ -45,19 +45,26 @@ module _ (on tests : List Term) (params : Row) (blind : (r s : Row) → list_all
 
   one_match : (r : Row) → HasBeside on params side r → matched r ≡ cond (passes tests params r) (pair params r (beside on params side r) ∷ []) []
   one_match r has =
-      let whole : filter (meets on params r) side ≡ beside on params side r ∷ [] = has.1 ∙ ap (λ s. s ∷ []) (sym (only_first (meets on params r) side has.0 has.1)) in
+      let whole : filter (passes_join on params r) side ≡ beside on params side r ∷ [] =
+      has.1 ∙ ap (λ s. s ∷ []) (sym (only_first (passes_join on params r) side has.0 has.1)) in
       cut (pair params r) (λ s. list_all (holds (pair params r s)) (on ++ tests)) side
-      ∙ ap (λ p. map (pair params r) (filter p side)) (λ i s. (list_all-append (holds (pair params r s)) on tests ∙ ap (λ b. meets on params r s && b) (blind r s)) i)
-      ∙ ap (map (pair params r)) (also (meets on params r) (passes tests params r) side ∙ ap (λ l. cond (passes tests params r) l []) whole)
+      ∙ ap (λ p. map (pair params r) (filter p side)) (λ i s.
+      (list_all-append (holds (pair params r s)) on tests
+      ∙ ap (λ b. passes_join on params r s && b) (blind r s)) i)
+      ∙ ap (map (pair params r)) (also (passes_join on params r) (passes tests params r) side ∙ ap (λ l. cond (passes tests params r) l []) whole)
       ∙ mapped (passes tests params r)
     where
       mapped : (b : Bool) → map (pair params r) (cond b (beside on params side r ∷ []) []) ≡ cond b (pair params r (beside on params side r) ∷ []) []
       mapped true = refl
       mapped false = refl
 
-  pub pairs : (rows : List Row) → AllByRecursion (HasBeside on params side) rows → flat_map matched rows ≡ map (λ r. pair params r (beside on params side r)) (passing tests params rows)
+  pub pairs : (rows : List Row) → AllByRecursion (HasBeside on params side) rows
+      → flat_map matched rows
+      ≡ map (λ r. pair params r (beside on params side r)) (passing tests params rows)
   pairs rows has =
-      same_each matched (λ r. cond (passes tests params r) (pair params r (beside on params side r) ∷ []) []) rows (all_weaker (HasBeside on params side) _ one_match rows has)
+      same_each matched (λ r.
+      cond (passes tests params r) (pair params r (beside on params side r)
+      ∷ []) []) rows (all_weaker (HasBeside on params side) _ one_match rows has)
       ∙ cut (λ r. pair params r (beside on params side r)) (passes tests params) rows
 
 -- each row of the first table that passes, with the one row beside it

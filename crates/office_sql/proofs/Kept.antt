@@ -1,5 +1,6 @@
 -- What a query over a table and one beside it shows, as rows in the order of their keys, each with what the row beside it says.
-use Rattle.std.proofs.Common.{◌≡◌, Bool, false, List, [], ◌∷◌, ◌++◌, map, map-id, filter, find, refl, sym, ap, ap₂, ◌∙◌, subst, Ordering, is_gt, IsPermutation, IsSorted, slice_get, Some, None}
+use Rattle.std.proofs.Common.{◌≡◌, Bool, false, List, [], ◌∷◌, ◌++◌, map, map-id, filter, find, refl, sym, ap, ap₂, ◌∙◌, subst, Ordering, is_gt}
+use Rattle.std.proofs.Common.{IsPermutation, IsSorted, slice_get, Some, None}
 use Rattle.std.specs.Prelude.{unwrap_or, option_and_then}
 use Rattle.std.specs.List.{AllByRecursion, list_all}
 use Rattle.std.specs.Option.{option_map}
@@ -15,8 +16,8 @@ use Rattle.sqlite_exec.proofs.PartitionLemmas.{ascending_from_sorted, sorted_fro
 use Rattle.sqlite_keyed.proofs.ListLemmas.{slice_get-filter}
 use Rattle.sqlite_trees.proofs.ListLemmas.{all_weaker, all-filter, all-permutation, all_both, filter_same, filter-map, ascending-map, map-map}
 use Rattle.office_sql.specs.Scan.{env, passes, passing}
-use Rattle.office_sql.specs.Joins.{over, pair, meets, first_that, beside, HasBeside}
-use Rattle.office_sql.specs.Rows.{start_of}
+use Rattle.office_sql.specs.Joins.{over, pair, passes_join, first_that, beside, HasBeside}
+use Rattle.office_sql.specs.Rows.{start_in_rows}
 use Rattle.office_sql.specs.Tables.{AreRows, HasOne}
 use Rattle.office_sql.specs.Values.{text_if}
 use Rattle.office_sql.proofs.Keyed.{kept_in_order}
@@ -25,12 +26,15 @@ use Rattle.office_sql.proofs.Joined.{joined}
 use Rattle.office_sql.proofs.Scan.{Listed, Scanned}
 
 -- what holds of each two holds of each two in turn
-pub narrowed : {A : Type 0} (P : A → Type 0) (Q R : A → A → Type 0) → ((a b : A) → P a → P b → Q a b → R a b) → (xs : List A) → AllByRecursion P xs → IsAscending Q xs → IsAscending R xs
+pub narrowed : {A : Type 0} (P : A → Type 0) (Q R : A → A → Type 0)
+    → ((a b : A) → P a → P b → Q a b → R a b) → (xs : List A) → AllByRecursion P xs
+    → IsAscending Q xs → IsAscending R xs
 narrowed P Q R f [] all up = tt
 narrowed P Q R f (x ∷ xs) all up = (all_both P (Q x) (R x) (λ y py q. f x y all.0 py q) xs all.1 up.0, narrowed P Q R f xs all.1 up.1)
 
 -- the first of the rows that a query shows is what is found
-pub found : {A : Type 0} (read : Row → A) (p : A → Bool) (l : List A) (rows : List Row) → map read rows ≡ filter p l → option_map read (slice_get rows 0) ≡ find p l
+pub found : {A : Type 0} (read : Row → A) (p : A → Bool) (l : List A) (rows : List Row)
+    → map read rows ≡ filter p l → option_map read (slice_get rows 0) ≡ find p l
 found read p l rows h = first rows ∙ ap (λ k. slice_get k 0) h ∙ slice_get-filter p l
   where
     first : (rows : List Row) → option_map read (slice_get rows 0) ≡ slice_get (map read rows) 0
@@ -41,15 +45,26 @@ pub map_each : {X Y : Type 0} (f g : X → Y) (xs : List X) → AllByRecursion (
 map_each f g [] all = refl
 map_each f g (x ∷ xs) all = ap₂ ◌∷◌ all.0 (map_each f g xs all.1)
 
-module _ {A : Type 0} (Typed : Row → Type 0) (cmp : A → A → Ordering) (total : IsTotalOrder cmp) (value : Row → A) (by : Row → Row → Ordering) (by_total : IsTotalOrder by)
-    (ordered : (a b : Row) → Typed a → Typed b → by a b ≡ cmp (value a) (value b)) (p : A → Bool) (tests : List Term) (params : Row) (is : (r : Row) → Typed r → passes tests params r ≡ p (value r)) where
+module _ {A : Type 0} (Typed : Row → Type 0) (cmp : A → A
+    → Ordering) (total : IsTotalOrder cmp) (value : Row → A) (by : Row → Row
+    → Ordering) (by_total : IsTotalOrder by)
+    (ordered : (a b : Row) → Typed a → Typed b → by a b ≡ cmp (value a) (value b)) (p : A
+    → Bool) (tests : List Term) (params : Row) (is : (r : Row) → Typed r
+    → passes tests params r ≡ p (value r)) where
   -- what is kept, in the order of the key, is what the test keeps of the rows in order
-  pub kept_is : (rows kept : List Row) → AreRows Typed cmp value rows → IsPermutation (passing tests params rows) kept → IsSorted by kept → filter p (sort_by cmp (map value rows)) ≡ map value kept
+  pub kept_is : (rows kept : List Row) → AreRows Typed cmp value rows
+      → IsPermutation (passing tests params rows) kept → IsSorted by kept
+      → filter p (sort_by cmp (map value rows)) ≡ map value kept
   kept_is rows kept are same sorted =
       let here : IsPermutation (filter (λ r. p (value r)) rows) kept =
-      subst (λ l. IsPermutation l kept) (filter_same (passes tests params) (λ r. p (value r)) rows (all_weaker _ (λ r. passes tests params r ≡ p (value r)) is rows are.typed)) same in
+      subst (λ l.
+      IsPermutation l kept) (filter_same (passes tests params) (λ r.
+      p (value r)) rows (all_weaker _ (λ r. passes tests params r
+      ≡ p (value r)) is rows are.typed)) same in
       let typed = all-permutation Typed _ kept here (all-filter Typed (λ r. p (value r)) rows are.typed) in
-      let rises = narrowed Typed _ (λ a b. is_gt (cmp (value a) (value b)) ≡ false) (λ a b s t up. sym (ap is_gt (ordered a b s t)) ∙ up) kept typed (ascending_from_sorted by by_total kept sorted) in
+      let rises = narrowed Typed _ (λ a b. is_gt (cmp (value a) (value b))
+      ≡ false) (λ a b s t up. sym (ap is_gt (ordered a b s t))
+      ∙ up) kept typed (ascending_from_sorted by by_total kept sorted) in
       kept_in_order cmp total p (map value rows) (map value kept) are.keyed
       (subst (λ l. IsPermutation l (map value kept)) (sym (filter-map p value rows)) (IsPermutation-map value _ _ here))
       (sorted_from_ascending cmp total _ (ascending-map (λ a b. is_gt (cmp a b) ≡ false) value kept rises))
@@ -58,7 +73,9 @@ module _ {A : Type 0} (Typed : Row → Type 0) (cmp : A → A → Ordering) (tot
   pub shows_listed : (shown : List Term) (order : List (Term × Key)) (envs : Row → Env) (read : Row → A) (made : A → A) → ((a : A) → p (made a) ≡ p a)
       → ((r : Row) → Typed r → read (eval_all shown (envs r)) ≡ made (value r))
       → ((a b : Row) → output_cmp (over end [] shown order) (output (over end [] shown order) (envs a)) (output (over end [] shown order) (envs b)) ≡ by a b)
-      → (all rows : List Row) → AreRows Typed cmp value all → Listed shown order envs (passing tests params all) rows → map read rows ≡ filter p (map made (sort_by cmp (map value all)))
+      → (all rows : List Row) → AreRows Typed cmp value all
+      → Listed shown order envs (passing tests params all) rows
+      → map read rows ≡ filter p (map made (sort_by cmp (map value all)))
   shows_listed shown order envs read made blind reads orders all rows are s =
       let q = over end [] shown order in
       let sorted = subst (λ cmp. IsSorted cmp s.kept) (λ i a b. orders a b i) (sorted_kept (λ r. output q (envs r)) (output_cmp q) s.kept s.sorted) in
@@ -70,25 +87,38 @@ module _ {A : Type 0} (Typed : Row → Type 0) (cmp : A → A → Ordering) (tot
 
   -- a query over one table shows the rows themselves
   pub shows_kept : (shown : List Term) (order : List (Term × Key)) (read : Row → A) → ((r : Row) → read (eval_all shown (env params r)) ≡ value r)
-      → ((a b : Row) → output_cmp (over end [] shown order) (output (over end [] shown order) (env params a)) (output (over end [] shown order) (env params b)) ≡ by a b)
+      → ((a b : Row)
+      → output_cmp (over end [] shown order) (output (over end [] shown order) (env params a))
+      (output (over end [] shown order) (env params b)) ≡ by a b)
       → (all rows : List Row) → AreRows Typed cmp value all → Scanned tests shown order params all rows → map read rows ≡ filter p (sort_by cmp (map value all))
   shows_kept shown order read reads orders all rows are s =
-      shows_listed shown order (env params) read (λ a. a) (λ a. refl) (λ r t. reads r) orders all rows are s ∙ ap (filter p) (map-id (sort_by cmp (map value all)))
+      shows_listed shown order (env params) read (λ a. a) (λ a. refl) (λ r t.
+      reads r) orders all rows are s ∙ ap (filter p) (map-id (sort_by cmp (map value all)))
 
-  module _ (Beside : Row → Type 0) (is_for : A → Row → Bool) (on : List Term) (fits : (r s : Row) → Typed r → Beside s → meets on params r s ≡ is_for (value r) s) where
-    fit : (side : List Row) → AllByRecursion Beside side → (r : Row) → Typed r → filter (meets on params r) side ≡ filter (is_for (value r)) side
-    fit side typed r t = filter_same (meets on params r) (is_for (value r)) side (all_weaker Beside (λ s. meets on params r s ≡ is_for (value r) s) (λ s b. fits r s t b) side typed)
+  module _ (Beside : Row → Type 0) (is_for : A → Row → Bool) (on : List Term) (fits : (r s : Row)
+      → Typed r → Beside s → passes_join on params r s ≡ is_for (value r) s) where
+    fit : (side : List Row) → AllByRecursion Beside side → (r : Row) → Typed r → filter (passes_join on params r) side ≡ filter (is_for (value r)) side
+    fit side typed r t = filter_same (passes_join on params r) (is_for (value r)) side
+        (all_weaker Beside (λ s. passes_join on params r s
+        ≡ is_for (value r) s) (λ s b. fits r s t b) side typed)
 
     first : (side : List Row) → AllByRecursion Beside side → (r : Row) → Typed r → beside on params side r ≡ first_that (is_for (value r)) side
     first side typed r t =
-        ap (λ o. unwrap_or o []) (sym (slice_get-filter (meets on params r) side) ∙ ap (λ l. slice_get l 0) (fit side typed r t) ∙ slice_get-filter (is_for (value r)) side)
+        ap (λ o. unwrap_or o []) (sym (slice_get-filter (passes_join on params r) side)
+        ∙ ap (λ l. slice_get l 0) (fit side typed r t)
+        ∙ slice_get-filter (is_for (value r)) side)
 
     -- a query over a join with a table that has one row for each shows the rows that pass, each with what its row says
     pub shows_joined : (shown : List Term) (order : List (Term × Key)) (read : Row → A) (with_row : Row → A → A) → ((s : Row) (a : A) → p (with_row s a) ≡ p a)
         → ((r s : Row) → list_all (holds (pair params r s)) tests ≡ passes tests params r)
         → ((r s : Row) → read (eval_all shown (pair params r s)) ≡ with_row s (value r))
-        → ((a b s t : Row) → output_cmp (over end [] shown order) (output (over end [] shown order) (pair params a s)) (output (over end [] shown order) (pair params b t)) ≡ by a b)
-        → (db : Trees) (tree side : _) (rows : List Row) → AreRows Typed cmp value (db tree) → AllByRecursion Beside (db side) → AllByRecursion (λ r. HasOne is_for (db side) (value r)) (db tree)
+        → ((a b s t : Row)
+        → output_cmp (over end [] shown order)
+        (output (over end [] shown order) (pair params a s))
+        (output (over end [] shown order) (pair params b t)) ≡ by a b)
+        → (db : Trees) (tree side : _) (rows : List Row) → AreRows Typed cmp value (db tree)
+        → AllByRecursion Beside (db side)
+        → AllByRecursion (λ r. HasOne is_for (db side) (value r)) (db tree)
         → IsAnswer (over (inner tree (inner side end)) (on ++ tests) shown order) db params rows
         → map read rows ≡ filter p (map (λ a. with_row (first_that (is_for a) (db side)) a) (sort_by cmp (map value (db tree))))
     shows_joined shown order read with_row same blind reads orders db tree side rows are typed one a =
@@ -96,8 +126,11 @@ module _ {A : Type 0} (Typed : Row → Type 0) (cmp : A → A → Ordering) (tot
         (λ r t. reads r (beside on params (db side) r) ∙ ap (λ s. with_row s (value r)) (first (db side) typed r t))
         (λ a b. orders a b _ _) (db tree) rows are
         (joined db params tree side on tests shown order rows blind
-        (all_both Typed (λ r. HasOne is_for (db side) (value r)) (HasBeside on params (db side)) (λ r t h. (h.0, fit (db side) typed r t ∙ h.1)) (db tree) are.typed one) a)
+        (all_both Typed (λ r.
+        HasOne is_for (db side) (value r)) (HasBeside on params (db side)) (λ r t h.
+        (h.0, fit (db side) typed r t ∙ h.1)) (db tree) are.typed one) a)
 
 -- what the first row says
-pub start_is : {A : Type 0} (is_for : A → Row → Bool) (rows : List Row) (x : A) → text_if (column (first_that (is_for x) rows) 3) ≡ start_of is_for rows x
-start_is is_for rows x = elim (find (is_for x) rows) as (λ o. text_if (column (unwrap_or o []) 3) ≡ option_and_then (λ r. text_if (column r 3)) o) [ Some r ↦ refl | None ↦ refl ]
+pub start_is : {A : Type 0} (is_for : A → Row → Bool) (rows : List Row) (x : A) → text_if (column (first_that (is_for x) rows) 3) ≡ start_in_rows is_for rows x
+start_is is_for rows x = elim (find (is_for x) rows) as (λ o. text_if (column (unwrap_or o []) 3)
+    ≡ option_and_then (λ r. text_if (column r 3)) o) [ Some r ↦ refl | None ↦ refl ]

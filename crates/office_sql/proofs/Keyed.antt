@@ -1,5 +1,6 @@
 -- Rows whose keys differ have one order, whatever order they lie in.
-use Rattle.std.proofs.Common.{◌≡◌, Bool, true, false, cond, List, [], ◌∷◌, filter, refl, sym, ap, ◌∙◌, Ordering, Less, Equal, Greater, is_gt, is_eq, true≢false, IsPermutation, IsSorted}
+use Rattle.std.proofs.Common.{◌≡◌, Bool, true, false, cond, List, [], ◌∷◌, filter, refl, sym, ap, ◌∙◌, Ordering, Less, Equal, Greater, is_gt, is_eq}
+use Rattle.std.proofs.Common.{true≢false, IsPermutation, IsSorted}
 use Rattle.std.specs.List.{AllByRecursion}
 use Rattle.std.specs.Cmp.{IsTotalOrder}
 use Rattle.std.specs.Ordering.{ordering_reverse, match_ordering}
@@ -9,7 +10,7 @@ use Rattle.sqlite_keyed.specs.Lists.{insert_sorted, sort_by}
 use Rattle.sqlite_keyed.proofs.ListLemmas.{along_permutation, all_weaker, IsPermutation-filter, ascending-filter, ascending_weaker}
 use Rattle.sqlite_keyed.proofs.SortLemmas.{sorted_unique, IsPermutation-sort_by, sorted_is-sort_by}
 use Rattle.sqlite_exec.proofs.PartitionLemmas.{sorted_from_ascending}
-use Rattle.office_tables.specs.Tables.{placed}
+use Rattle.office_tables.specs.Tables.{with_row}
 use Rattle.office_sql.specs.Tables.{AreKeyed}
 
 module _ {A : Type 0} (cmp : A → A → Ordering) (total : IsTotalOrder cmp) where
@@ -39,7 +40,9 @@ module _ {A : Type 0} (cmp : A → A → Ordering) (total : IsTotalOrder cmp) wh
   all_inserted : (P : A → Type 0) (new : A) (xs : List A) → P new → AllByRecursion P xs → AllByRecursion P (insert_sorted cmp new xs)
   all_inserted P new [] h all = (h, tt)
   all_inserted P new (x ∷ xs) h all =
-      elim (is_gt (cmp new x)) as (λ b. AllByRecursion P (cond b (x ∷ insert_sorted cmp new xs) (new ∷ x ∷ xs))) [ true ↦ (all.0, all_inserted P new xs h all.1) | false ↦ (h, all) ]
+      elim (is_gt (cmp new x)) as (λ b.
+      AllByRecursion P (cond b (x ∷ insert_sorted cmp new xs) (new ∷ x
+      ∷ xs))) [ true ↦ (all.0, all_inserted P new xs h all.1) | false ↦ (h, all) ]
 
   pub all_sorted : (P : A → Type 0) (xs : List A) → AllByRecursion P xs → AllByRecursion P (sort_by cmp xs)
   all_sorted P [] all = tt
@@ -49,7 +52,8 @@ module _ {A : Type 0} (cmp : A → A → Ordering) (total : IsTotalOrder cmp) wh
   inserted_rises new [] apart up = (tt, tt)
   inserted_rises new (x ∷ xs) apart up = go (cmp new x) refl (inserted_rises new xs apart.1 up.1)
     where
-      go : (o : Ordering) → cmp new x ≡ o → IsAscending Below (insert_sorted cmp new xs) → IsAscending Below (cond (is_gt o) (x ∷ insert_sorted cmp new xs) (new ∷ x ∷ xs))
+      go : (o : Ordering) → cmp new x ≡ o → IsAscending Below (insert_sorted cmp new xs)
+          → IsAscending Below (cond (is_gt o) (x ∷ insert_sorted cmp new xs) (new ∷ x ∷ xs))
       go Less e more = ((e, all_weaker _ (λ y. cmp new y ≡ Less) (λ y. total.trans new x y e) xs up.0), up)
       go Equal e more = absurd (true≢false (sym (ap is_eq e) ∙ apart.0))
       go Greater e more = (all_inserted _ new xs (total.antisymm x new ∙ ap ordering_reverse e) up.0, more)
@@ -65,30 +69,37 @@ module _ {A : Type 0} (cmp : A → A → Ordering) (total : IsTotalOrder cmp) wh
   -- the order in which they lie is of no account
   pub sorted_along : (xs ys : List A) → IsPermutation xs ys → AreKeyed cmp xs → sort_by cmp ys ≡ sort_by cmp xs
   sorted_along xs ys same keyed =
-      sorted_is-sort_by cmp total xs (sort_by cmp ys) keyed (IsPermutation-trans xs ys (sort_by cmp ys) same (IsPermutation-sym _ _ (IsPermutation-sort_by cmp total ys))) (rising_sorted _ (rises ys (keyed_along xs ys same keyed)))
+      sorted_is-sort_by cmp total xs (sort_by cmp ys) keyed
+      (IsPermutation-trans xs ys (sort_by cmp ys)
+      same (IsPermutation-sym _ _ (IsPermutation-sort_by cmp total ys)))
+      (rising_sorted _ (rises ys (keyed_along xs ys same keyed)))
 
-  pub insert_places : (x : A) (l : List A) → AllByRecursion (Apart x) l → insert_sorted cmp x l ≡ placed cmp x l
+  pub insert_places : (x : A) (l : List A) → AllByRecursion (Apart x) l → insert_sorted cmp x l ≡ with_row cmp x l
   insert_places x [] apart = refl
   insert_places x (y ∷ ys) apart = go (cmp x y) apart.0 (insert_places x ys apart.1)
     where
-      go : (o : Ordering) → is_eq o ≡ false → insert_sorted cmp x ys ≡ placed cmp x ys → cond (is_gt o) (y ∷ insert_sorted cmp x ys) (x ∷ y ∷ ys) ≡ match_ordering o (x ∷ y ∷ ys) (x ∷ ys) (y ∷ placed cmp x ys)
+      go : (o : Ordering) → is_eq o ≡ false → insert_sorted cmp x ys ≡ with_row cmp x ys
+          → cond (is_gt o) (y ∷ insert_sorted cmp x ys) (x ∷ y ∷ ys)
+          ≡ match_ordering o (x ∷ y ∷ ys) (x ∷ ys) (y ∷ with_row cmp x ys)
       go Less apart more = refl
       go Equal apart more = absurd (true≢false apart)
       go Greater apart more = ap (λ l. y ∷ l) more
 
   -- a row with the key of one that is there takes its place
-  insert_replaces : (x old : A) → cmp x old ≡ Equal → (l : List A) → AllByRecursion (Apart old) l → placed cmp x (insert_sorted cmp old l) ≡ insert_sorted cmp x l
+  insert_replaces : (x old : A) → cmp x old ≡ Equal → (l : List A) → AllByRecursion (Apart old) l
+      → with_row cmp x (insert_sorted cmp old l) ≡ insert_sorted cmp x l
   insert_replaces x old tie [] apart = rw tie refl
   insert_replaces x old tie (y ∷ ys) apart = go (cmp old y) refl (total.congr x old y tie) apart.0 (insert_replaces x old tie ys apart.1)
     where
-      go : (o : Ordering) → cmp old y ≡ o → cmp x y ≡ cmp old y → is_eq o ≡ false → placed cmp x (insert_sorted cmp old ys) ≡ insert_sorted cmp x ys
-          → placed cmp x (cond (is_gt o) (y ∷ insert_sorted cmp old ys) (old ∷ y ∷ ys)) ≡ cond (is_gt (cmp x y)) (y ∷ insert_sorted cmp x ys) (x ∷ y ∷ ys)
+      go : (o : Ordering) → cmp old y ≡ o → cmp x y ≡ cmp old y → is_eq o ≡ false → with_row cmp x (insert_sorted cmp old ys) ≡ insert_sorted cmp x ys
+          → with_row cmp x (cond (is_gt o) (y ∷ insert_sorted cmp old ys) (old ∷ y ∷ ys)) ≡ cond (is_gt (cmp x y)) (y ∷ insert_sorted cmp x ys) (x ∷ y ∷ ys)
       go Less e same apart more = rw (same ∙ e, tie) refl
       go Equal e same apart more = absurd (true≢false apart)
       go Greater e same apart more = rw (same ∙ e) (ap (λ l. y ∷ l) more)
 
   -- a new row takes its place
-  pub gains : (x : A) (rows new : List A) → AreKeyed cmp (x ∷ rows) → IsPermutation (x ∷ rows) new → AreKeyed cmp new × (sort_by cmp new ≡ placed cmp x (sort_by cmp rows))
+  pub gains : (x : A) (rows new : List A) → AreKeyed cmp (x ∷ rows) → IsPermutation (x ∷ rows) new
+      → AreKeyed cmp new × (sort_by cmp new ≡ with_row cmp x (sort_by cmp rows))
   gains x rows new keyed same =
       (keyed_along (x ∷ rows) new same keyed, sorted_along (x ∷ rows) new same keyed ∙ insert_places x (sort_by cmp rows) (all_sorted _ rows keyed.0))
 
@@ -100,11 +111,13 @@ module _ {A : Type 0} (cmp : A → A → Ordering) (total : IsTotalOrder cmp) wh
 
   -- a row in place of the one that has its key
   pub replaces : (old x : A) (rest rows new : List A) → AreKeyed cmp rows → IsPermutation rows (old ∷ rest) → IsPermutation (x ∷ rest) new → cmp x old ≡ Equal
-      → AreKeyed cmp new × (sort_by cmp new ≡ placed cmp x (sort_by cmp rows))
+      → AreKeyed cmp new × (sort_by cmp new ≡ with_row cmp x (sort_by cmp rows))
   replaces old x rest rows new keyed was is tie =
       let split = keyed_along rows (old ∷ rest) was keyed in
       let apart : AllByRecursion (Apart x) rest = all_weaker (Apart old) (Apart x) (λ y e. ap is_eq (total.congr x old y tie) ∙ e) rest split.0 in
       let both = sorted_along (old ∷ rest) rows (IsPermutation-sym _ _ was) split in (
         keyed_along (x ∷ rest) new is (apart, split.1),
-        sorted_along (x ∷ rest) new is (apart, split.1) ∙ sym (insert_replaces x old tie (sort_by cmp rest) (all_sorted _ rest split.0)) ∙ ap (placed cmp x) (sym both),
+        sorted_along (x ∷ rest) new is (apart, split.1)
+            ∙ sym (insert_replaces x old tie (sort_by cmp rest) (all_sorted _ rest split.0))
+            ∙ ap (with_row cmp x) (sym both),
       )

@@ -17,8 +17,8 @@ use Rattle.sqlite_value.proofs.OrderLemmas.{then-Equal}
 use Rattle.sqlite_keyed.specs.Lists.{sort_by}
 use Rattle.office_tables.specs.Tables.{link_cmp, is_link, is_of}
 use Rattle.office_sql.specs.Schema.{office_schema}
-use Rattle.office_sql.specs.Rows.{link_in}
-use Rattle.office_sql.specs.Scan.{is_given, passes}
+use Rattle.office_sql.specs.Rows.{link_in_row}
+use Rattle.office_sql.specs.Scan.{is_parameter, passes}
 use Rattle.office_sql.specs.Tables.{AreRows, IsLinkRow}
 use Rattle.office_sql.proofs.Kept.{shows_kept}
 use Rattle.office_sql.proofs.Reading.{IsRead}
@@ -37,11 +37,11 @@ shown = col 1 1 ∷ col 1 2 ∷ col 1 3 ∷ []
 abbrev pub by_key : List (Term × Key)
 by_key = (col 1 1, ascending Binary) ∷ (col 1 2, ascending Binary) ∷ []
 
-pub one_read : IsRead office_schema one_text 5 (is_given 1 0 ∷ is_given 2 1 ∷ []) shown by_key
+pub one_read : IsRead office_schema one_text 5 (is_parameter 1 0 ∷ is_parameter 2 1 ∷ []) shown by_key
 unfolding understood everything
 one_read = record { names = codes "customer" ∷ codes "digest" ∷ codes "map" ∷ []; is = refl; plain = (refl, refl); unlisted = refl; bare = λ schema base. refl; there = λ db. refl }
 
-pub own_read : IsRead office_schema own_text 5 (is_given 1 0 ∷ []) shown by_key
+pub own_read : IsRead office_schema own_text 5 (is_parameter 1 0 ∷ []) shown by_key
 unfolding understood everything
 own_read = record { names = codes "customer" ∷ codes "digest" ∷ codes "map" ∷ []; is = refl; plain = (refl, refl); unlisted = refl; bare = λ schema base. refl; there = λ db. refl }
 
@@ -54,23 +54,30 @@ by_place = on (λ r. column r 1 ∷ column r 2 ∷ []) (key_cmp 0 (ascending Bin
 pub by_place_total : IsTotalOrder by_place
 by_place_total = on_total (λ r. column r 1 ∷ column r 2 ∷ []) (key_cmp_total (ascending Binary ∷ ascending Binary ∷ []) 0)
 
-ordered : (a b : Row) → IsLinkRow a → IsLinkRow b → by_place a b ≡ link_cmp (link_in a) (link_in b)
+ordered : (a b : Row) → IsLinkRow a → IsLinkRow b → by_place a b ≡ link_cmp (link_in_row a) (link_in_row b)
 ordered a b e f = ap₂ ordering_then (texts_cmp (column a 1) (column b 1) e.0 f.0) (then-Equal _ ∙ blobs_cmp (column a 2) (column b 2) e.1 f.1)
 
-pub passes_link : (c d : List ℕ) (r : Row) → IsLinkRow r → passes (is_given 1 0 ∷ is_given 2 1 ∷ []) (Words c ∷ Bytes d ∷ []) r ≡ is_link c d (link_in r)
+pub passes_link : (c d : List ℕ) (r : Row) → IsLinkRow r
+    → passes (is_parameter 1 0 ∷ is_parameter 2 1 ∷ []) (Words c ∷ Bytes d ∷ []) r
+    ≡ is_link c d (link_in_row r)
 passes_link c d r e = ap₂ ◌&&◌ (text_is (column r 1) c e.0) (and_true _ ∙ blob_is (column r 2) d e.1)
 
-pub passes_customer : (c : List ℕ) (r : Row) → IsLinkRow r → passes (is_given 1 0 ∷ []) (Words c ∷ []) r ≡ is_of c (link_in r)
+pub passes_customer : (c : List ℕ) (r : Row) → IsLinkRow r → passes (is_parameter 1 0 ∷ []) (Words c ∷ []) r ≡ is_of c (link_in_row r)
 passes_customer c r e = and_true _ ∙ text_is (column r 1) c e.0
 
-pub one_shown : (c d : List ℕ) (all rows : List Row) → AreRows IsLinkRow link_cmp link_in all → Scanned (is_given 1 0 ∷ is_given 2 1 ∷ []) shown by_key (Words c ∷ Bytes d ∷ []) all rows
-    → map (λ r. link_in (Null ∷ r)) rows ≡ filter (is_link c d) (sort_by link_cmp (map link_in all))
+pub one_shown : (c d : List ℕ) (all rows : List Row) → AreRows IsLinkRow link_cmp link_in_row all
+    → Scanned (is_parameter 1 0 ∷ is_parameter 2 1 ∷ []) shown by_key (Words c ∷ Bytes d
+    ∷ []) all rows
+    → map (λ r. link_in_row (Null ∷ r)) rows ≡ filter (is_link c d) (sort_by link_cmp (map link_in_row all))
 one_shown c d all rows are s =
-    shows_kept IsLinkRow link_cmp link_total link_in by_place by_place_total ordered (is_link c d) (is_given 1 0 ∷ is_given 2 1 ∷ []) (Words c ∷ Bytes d ∷ []) (passes_link c d)
-    shown by_key (λ r. link_in (Null ∷ r)) (λ r. refl) (λ a b. refl) all rows are s
+    shows_kept IsLinkRow link_cmp link_total link_in_row by_place by_place_total ordered
+    (is_link c d) (is_parameter 1 0 ∷ is_parameter 2 1 ∷ []) (Words c ∷ Bytes d
+    ∷ []) (passes_link c d)
+    shown by_key (λ r. link_in_row (Null ∷ r)) (λ r. refl) (λ a b. refl) all rows are s
 
-pub own_shown : (c : List ℕ) (all rows : List Row) → AreRows IsLinkRow link_cmp link_in all → Scanned (is_given 1 0 ∷ []) shown by_key (Words c ∷ []) all rows
-    → map (λ r. link_in (Null ∷ r)) rows ≡ filter (is_of c) (sort_by link_cmp (map link_in all))
+pub own_shown : (c : List ℕ) (all rows : List Row) → AreRows IsLinkRow link_cmp link_in_row all
+    → Scanned (is_parameter 1 0 ∷ []) shown by_key (Words c ∷ []) all rows
+    → map (λ r. link_in_row (Null ∷ r)) rows ≡ filter (is_of c) (sort_by link_cmp (map link_in_row all))
 own_shown c all rows are s =
-    shows_kept IsLinkRow link_cmp link_total link_in by_place by_place_total ordered (is_of c) (is_given 1 0 ∷ []) (Words c ∷ []) (passes_customer c)
-    shown by_key (λ r. link_in (Null ∷ r)) (λ r. refl) (λ a b. refl) all rows are s
+    shows_kept IsLinkRow link_cmp link_total link_in_row by_place by_place_total ordered (is_of c) (is_parameter 1 0 ∷ []) (Words c ∷ []) (passes_customer c)
+    shown by_key (λ r. link_in_row (Null ∷ r)) (λ r. refl) (λ a b. refl) all rows are s

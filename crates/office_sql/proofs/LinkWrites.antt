@@ -1,5 +1,6 @@
 -- What the text that adds a link means, and what it does to the tables.
-use Rattle.std.proofs.Common.{◌≡◌, ℕ, pos, ◌&&◌, List, [], ◌∷◌, codes, map, refl, sym, ap, ap₂, ◌∙◌, subst, Ordering, Less, Equal, Greater, is_eq, None, false, nat_cmp}
+use Rattle.std.proofs.Common.{◌≡◌, ℕ, pos, ◌&&◌, List, [], ◌∷◌, codes, map, refl, sym, ap, ap₂, ◌∙◌, subst, Ordering, Less, Equal, Greater, is_eq}
+use Rattle.std.proofs.Common.{None, false, nat_cmp}
 use Rattle.std.specs.Prelude.{find}
 use Rattle.std.specs.List.{AllByRecursion}
 use Rattle.std.specs.Ordering.{ordering_then}
@@ -15,14 +16,14 @@ use Rattle.sqlite_tied.specs.Compute.{everything}
 use Rattle.sqlite_trees.proofs.ListLemmas.{all_weaker, all-permutation}
 use Rattle.sqlite_keyed.specs.Lists.{sort_by}
 use Rattle.sqlite_keyed.proofs.SortLemmas.{IsPermutation-sort_by}
-use Rattle.office_tables.specs.declared.rows.Owned.{Owned}
+use Rattle.office_tables.specs.declared.rows.OfCustomer.{OfCustomer}
 use Rattle.office_tables.specs.declared.rows.Link.{Link}
 use Rattle.office_tables.specs.declared.rows.Write.TheVariants.{AddLink}
 use Rattle.office_tables.specs.Tables.{link_cmp, is_link, IsFree}
 use Rattle.office_tables.proofs.Finding.{none_passes}
 use Rattle.office_sql.specs.Schema.{link_table, office_schema}
-use Rattle.office_sql.specs.Rows.{link_in, link_columns}
-use Rattle.office_sql.specs.Change.{Adds, Wrote}
+use Rattle.office_sql.specs.Rows.{link_in_row, link_columns}
+use Rattle.office_sql.specs.Change.{SqlAdds, Wrote}
 use Rattle.office_sql.specs.Tables.{AreRows, IsLinkRow, IsOffice, tables_in}
 use Rattle.office_sql.proofs.Inserting.{IsInsert}
 use Rattle.office_sql.proofs.Keyed.{Apart}
@@ -41,7 +42,7 @@ pub add_insert : IsInsert office_schema add_text 3 link_table add_terms 4
 unfolding understood everything
 add_insert = record { is = refl; plain = (refl, refl); there = refl; uncounted = refl; unstamped = refl; one = λ params. refl }
 
-pub add_casts : (l : Owned Link) → cast_row link_table (eval_all add_terms (link_columns l ∷ [])) ≡ Null ∷ link_columns l
+pub add_casts : (l : OfCustomer Link) → cast_row link_table (eval_all add_terms (link_columns l ∷ [])) ≡ Null ∷ link_columns l
 add_casts l = rw (cast_null, cast_int (pos l.row.map)) refl
 
 both : (a b : Ordering) → is_eq (ordering_then a b) ≡ (is_eq a && is_eq b)
@@ -49,19 +50,29 @@ both Less b = refl
 both Equal b = refl
 both Greater b = refl
 
-tied : (x y : Owned Link) → is_eq (link_cmp x y) ≡ is_link x.customer x.row.digest y
+tied : (x y : OfCustomer Link) → is_eq (link_cmp x y) ≡ is_link x.customer x.row.digest y
 tied x y =
-    both (slice_cmp nat_cmp x.customer y.customer) (slice_cmp nat_cmp x.row.digest y.row.digest) ∙ ap₂ ◌&&◌ (is_eq-slice_cmp x.customer y.customer) (is_eq-slice_cmp x.row.digest y.row.digest)
+    both (slice_cmp nat_cmp x.customer y.customer) (slice_cmp nat_cmp x.row.digest y.row.digest)
+    ∙ ap₂ ◌&&◌ (is_eq-slice_cmp x.customer y.customer)
+    (is_eq-slice_cmp x.row.digest y.row.digest)
 
 -- a link that isn't found is apart from each
-free_apart : (x : Owned Link) (rows : List Row) → find (is_link x.customer x.row.digest) (sort_by link_cmp (map link_in rows)) ≡ None → AllByRecursion (Apart link_cmp link_total x) (map link_in rows)
+free_apart : (x : OfCustomer Link) (rows : List Row)
+    → find (is_link x.customer x.row.digest) (sort_by link_cmp (map link_in_row rows)) ≡ None
+    → AllByRecursion (Apart link_cmp link_total x) (map link_in_row rows)
 free_apart x rows none =
     all_weaker _ (Apart link_cmp link_total x) (λ y other. tied x y ∙ other) _
-    (all-permutation (λ y. is_link x.customer x.row.digest y ≡ false) _ _ (IsPermutation-sort_by link_cmp link_total (map link_in rows)) (none_passes (is_link x.customer x.row.digest) _ none))
+    (all-permutation (λ y. is_link x.customer x.row.digest y
+    ≡ false) _ _ (IsPermutation-sort_by link_cmp link_total (map link_in_row rows))
+    (none_passes (is_link x.customer x.row.digest) _ none))
 
-pub link_wrote : (l : Owned Link) (old new : Database) → IsOffice old → IsFree (AddLink l) (tables_in old.trees) → Adds 5 (link_columns l) old new → Wrote (AddLink l) old new
+pub link_wrote : (l : OfCustomer Link) (old new : Database) → IsOffice old
+    → IsFree (AddLink l) (tables_in old.trees) → SqlAdds 5 (link_columns l) old new
+    → Wrote (AddLink l) old new
 link_wrote l old new office free adds =
     let rows = old.trees 5 in
-    let it = row_added IsLinkRow link_cmp link_total link_in (link_columns l) rows office.rows.links (refl, refl) (free_apart l rows free.0) in
-    let now = links_changed old new office adds.schema adds.sound adds.others (subst (AreRows IsLinkRow link_cmp link_in) (sym adds.row) it.0) _ (ap (λ l. sort_by link_cmp (map link_in l)) adds.row ∙ it.1) in
+    let it = row_added IsLinkRow link_cmp link_total link_in_row (link_columns l) rows office.rows.links (refl, refl) (free_apart l rows free.0) in
+    let now = links_changed old new office adds.schema adds.sound adds.others
+    (subst (AreRows IsLinkRow link_cmp link_in_row) (sym adds.row) it.0) _ (ap (λ l.
+    sort_by link_cmp (map link_in_row l)) adds.row ∙ it.1) in
     record { office = now.0; made = now.1; rows = adds; told = told_stays 5 old.trees new.trees (λ e. cc) (λ e. cc) adds.others }

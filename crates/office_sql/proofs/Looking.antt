@@ -17,7 +17,7 @@ use Rattle.office_sql.specs.Schema.{office_schema}
 use Rattle.office_sql.specs.Asking.{HasOffice}
 use Rattle.office_sql.specs.Change.{Rests}
 use Rattle.office_sql.specs.Joins.{over}
-use Rattle.office_sql.specs.Looking.{Looks, Stands}
+use Rattle.office_sql.specs.Looking.{Looks, SqlUnchanged}
 use Rattle.office_sql.specs.Tables.{IsOffice, tables_in}
 use Rattle.office_sql.proofs.Asked.{leaves, reads_over, shown_open, shown_rests, failed_rests}
 use Rattle.office_sql.proofs.Reading.{IsJoined}
@@ -30,15 +30,22 @@ module _ {S : Type 0} (g : Ghosts S) (text : List ℕ) (from : Join) (tests show
   -- a call of `query_all` in a transaction on the office's tables asks what its text means
   pub looked : (r : Result (Vec Row Global) Error) (Says : Tables → Vec Row Global → Type 0)
       → HasOffice (state g old)
-      → ((rows : Vec Row Global) → IsOffice (state g old).now → IsAnswer (over from tests shown order) (overlay (state g old).now.trees []) values rows.items → Says (tables_in (state g old).now.trees) rows)
+      → ((rows : Vec Row Global) → IsOffice (state g old).now
+      → IsAnswer (over from tests shown order) (overlay (state g old).now.trees []) values
+      rows.items → Says (tables_in (state g old).now.trees) rows)
       → (HasCleanDisk (state g new) → IfOk r (λ v. Shown text params (state g old) (state g new) v.items))
-      → (HasCleanDisk (state g new) → IfErr r (λ e. FailsToQuery text params (state g old) (state g new) e ⊎ IsTooLate text params (state g old) (state g new) e))
+      → (HasCleanDisk (state g new)
+      → IfErr r (λ e.
+      FailsToQuery text params (state g old) (state g new) e ⊎ IsTooLate text params
+      (state g old) (state g new) e))
       → Survives (state g old) (state g new) (λ _. ⊥) → Looks g old new r Says
-  looked r Says has says ok err survives = record {
-    says = λ clean. IfOk-weaker r _ _ (λ rows h.
+  looked r Says has answer ok err survives = record {
+    answer = λ clean. IfOk-weaker r _ _ (λ rows h.
         let office = has (shown_open text params (state g old) (state g new) rows.items read.bare h) in
-        says rows office (subst (λ p. IsAnswer (over from tests shown order) (overlay (state g old).now.trees []) p rows.items) bound
-        (reads_over office_schema text params (state g old) (state g new) read.plain from tests shown order read.names read.is read.unlisted office.schema rows.items h))) (ok clean);
+        answer rows office (subst (λ p. IsAnswer (over from tests shown order) (overlay (state g old).now.trees []) p rows.items) bound
+        (reads_over office_schema text params (state g old) (state g new)
+        read.plain from tests shown order read.names read.is read.unlisted office.schema
+        rows.items h))) (ok clean);
     stands = λ clean. IfOk-weaker r _ _ (λ rows h.
         let office = has (shown_open text params (state g old) (state g new) rows.items read.bare h) in
         stands (leaves office_schema text params (state g old) (state g new) read.plain office.schema rows.items h)) (ok clean);
@@ -46,11 +53,13 @@ module _ {S : Type 0} (g : Ghosts S) (text : List ℕ) (from : Join) (tests show
     crash = survives;
   }
     where
-      stands : IsUnchanged (state g old) (state g new) → Stands (state g old) (state g new)
+      stands : IsUnchanged (state g old) (state g new) → SqlUnchanged (state g old) (state g new)
       stands h = record { was_open = λ _. h.0.was_open; now = h.0.now_is; committed = h.0.committed_is; mode = h.0.mode }
 
       keeps : (r : Result (Vec Row Global) Error) → IfOk r (λ v. Shown text params (state g old) (state g new) v.items)
-          → IfErr r (λ e. FailsToQuery text params (state g old) (state g new) e ⊎ IsTooLate text params (state g old) (state g new) e) → KeepsCommit (state g old) (state g new)
+          → IfErr r (λ e.
+          FailsToQuery text params (state g old) (state g new) e ⊎ IsTooLate text params
+          (state g old) (state g new) e) → KeepsCommit (state g old) (state g new)
       keeps (Ok v) shown failed = rests_keeps (state g old) (state g new) (shown_rests text params (state g old) (state g new) v.items read.bare shown)
       keeps (Err e) shown (inl failed) = rests_keeps (state g old) (state g new) (failed_rests text params (state g old) (state g new) e read.bare failed)
       keeps (Err e) shown (inr late) = record { was_open = λ _. late.5.0.was_open; committed = λ _. late.5.0.committed_is }
@@ -58,4 +67,4 @@ module _ {S : Type 0} (g : Ghosts S) (text : List ℕ) (from : Join) (tests show
 -- an answer that is made of another's
 pub looks_more : {S A B E : Type 0} (g : Ghosts S) (old new : Held S) (a : A) (b : B) (P : Tables → A → Type 0) (Q : Tables → B → Type 0)
     → Looks {E = E} g old new (Ok a) P → ((t : Tables) → P t a → Q t b) → Looks {E = E} g old new (Ok b) Q
-looks_more g old new a b P Q it says = record { says = λ clean. says _ (it.says clean); stands = it.stands; kept = it.kept; crash = it.crash }
+looks_more g old new a b P Q it answer = record { answer = λ clean. answer _ (it.answer clean); stands = it.stands; kept = it.kept; crash = it.crash }

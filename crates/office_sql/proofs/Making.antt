@@ -8,7 +8,8 @@ use Rattle.office_sql.specs.Change.{HasMade, IsInside, WritesAllRows, WritesRows
 use Rattle.office_sql.specs.Tables.{tables_in}
 
 -- the write at an index finds its key free
-pub free_at : (ws : List Write) (i : ℕ) (w : Write) (t mid : Tables) → i < length ws → w ≡ get_or ws i w → CanWrite ws t → Written (take i ws) t mid → IsFree w mid
+pub free_at : (ws : List Write) (i : ℕ) (w : Write) (t mid : Tables) → i < length ws
+    → w ≡ get_or ws i w → CanWrite ws t → Written (take i ws) t mid → IsFree w mid
 free_at [] i w t mid low is can h = absurd (omega arith)
 free_at (v ∷ ws) zero w t mid low is can h = rw (is, h) can.0
 free_at (v ∷ ws) (suc i) w t mid low is can h = free_at ws i w h.0 mid (omega arith) is (can.1 h.0 h.1) h.2
@@ -21,7 +22,8 @@ rows_push : (ws : List Write) (w : Write) (old mid new : Database) → WritesAll
 rows_push [] w old mid new h step = (new, subst (λ m. WritesRows w m new) h step, refl)
 rows_push (v ∷ ws) w old mid new h step = (h.0, h.1, rows_push ws w h.0 mid new h.2 step)
 
-pub made_more : (done : List Write) (w : Write) (old mid new : State) → HasMade done old mid → Wrote w mid.now new.now → IsInside mid new → HasMade (done ++ w ∷ []) old new
+pub made_more : (done : List Write) (w : Write) (old mid new : State) → HasMade done old mid
+    → Wrote w mid.now new.now → IsInside mid new → HasMade (done ++ w ∷ []) old new
 made_more done w old mid new h step inside = record {
   office = λ _. step.office;
   written = record {

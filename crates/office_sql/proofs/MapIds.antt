@@ -32,16 +32,33 @@ last_is_next text at table terms width insert params columns casts old new count
     let words = statement_of text (understood office_schema text) in
     let does = subst (λ s. Does old.step_limit (mode_of old) params (record old.now { schema = s }) words None command (Ok (w.tally, new.now))) has w.changed in
     let here = subst
-    (λ o. AtPlace (λ t. OnRows (record { limit = old.step_limit; keys = (mode_of old).keys; schema = office_schema; table = t; params = params }) (mode_of old) None command db) o (Ok (w.tally, new.now)))
+    (λ o. AtPlace (λ t.
+    OnRows (record {
+      limit = old.step_limit;
+      keys = (mode_of old).keys;
+      schema =
+          office_schema;
+      table =
+          t;
+      params = params;
+    }) (mode_of old) None command db) o (Ok (w.tally, new.now)))
     insert.there does in
     let done = went here in
     let given = went done.1 in
     let sources : given.0 ≡ eval_all terms (params ∷ []) ∷ [] =
-    subst (λ ts. given.0 ≡ value_rows (params ++ eval_all ts (drop (length params - length table.stamps.formats) params ∷ [])) width (length terms / width) terms) insert.unstamped given.1.1
+    subst (λ ts. given.0
+    ≡ value_rows (params
+    ++ eval_all ts (drop (length params - length table.stamps.formats) params
+    ∷ [])) width (length terms / width) terms) insert.unstamped given.1.1
     ∙ ap (λ p. value_rows p width (length terms / width) terms) (append-nil params) ∙ insert.one params in
     let counter = went given.2 in
     let counted = went (went counter.2).2 in
     let top = count_of counter.0 in
-    w.last_rowid ∙ ap (λ (p : Tally × Database). unwrap_or p.0.last old.last_rowid) (same_value (went (went done.2).2).2) ∙ ap (λ (it : Written). unwrap_or it.last old.last_rowid) (same_value counted.2)
+    w.last_rowid
+    ∙ ap (λ (p : Tally × Database).
+    unwrap_or p.0.last old.last_rowid) (same_value (went (went done.2).2).2)
+    ∙ ap (λ (it : Written). unwrap_or it.last old.last_rowid) (same_value counted.2)
     ∙ ap (λ b. unwrap_or (last_id (edit_of db table [] (cond b (Above top) Chosen) 0 given.0).news) old.last_rowid) insert.uncounted
-    ∙ ap (λ all. unwrap_or (last_id (edit_of db table [] Chosen 0 all).news) old.last_rowid) sources ∙ ap (λ r. unwrap_or (last_id (numbered Chosen (db table.tree) (r ∷ []))) old.last_rowid) casts
+    ∙ ap (λ all. unwrap_or (last_id (edit_of db table [] Chosen 0 all).news) old.last_rowid) sources
+    ∙ ap (λ r.
+    unwrap_or (last_id (numbered Chosen (db table.tree) (r ∷ []))) old.last_rowid) casts

@@ -19,9 +19,9 @@ use Rattle.office_tables.specs.declared.rows.MapRow.{MapRow}
 use Rattle.office_tables.specs.Tables.{map_cmp, has_id, has_body}
 use Rattle.std.specs.Option.{option_map}
 use Rattle.office_sql.specs.Schema.{office_schema}
-use Rattle.office_sql.specs.Values.{number_in}
-use Rattle.office_sql.specs.Rows.{map_in}
-use Rattle.office_sql.specs.Scan.{is_given, passes}
+use Rattle.office_sql.specs.Values.{number_in_cell}
+use Rattle.office_sql.specs.Rows.{map_in_row}
+use Rattle.office_sql.specs.Scan.{is_parameter, passes}
 use Rattle.office_sql.specs.Tables.{AreRows, IsMapRow}
 use Rattle.office_sql.proofs.Kept.{shows_kept}
 use Rattle.office_sql.proofs.Reading.{IsRead}
@@ -41,17 +41,17 @@ shown = col 1 0 ∷ col 1 2 ∷ []
 abbrev pub by_key : List (Term × Key)
 by_key = (col 1 0, ascending Binary) ∷ []
 
-pub one_read : IsRead office_schema one_text 3 (is_given 0 0 ∷ []) shown by_key
+pub one_read : IsRead office_schema one_text 3 (is_parameter 0 0 ∷ []) shown by_key
 unfolding understood everything
 one_read = record { names = codes "id" ∷ codes "body" ∷ []; is = refl; plain = (refl, refl); unlisted = refl; bare = λ schema base. refl; there = λ db. refl }
 
-pub body_read : IsRead office_schema body_text 3 (is_given 2 0 ∷ []) shown by_key
+pub body_read : IsRead office_schema body_text 3 (is_parameter 2 0 ∷ []) shown by_key
 unfolding understood everything
 body_read = record { names = codes "id" ∷ codes "body" ∷ []; is = refl; plain = (refl, refl); unlisted = refl; bare = λ schema base. refl; there = λ db. refl }
 
 -- a row that a query shows
 abbrev pub shown_map : Row → MapRow
-shown_map r = map_in (column r 0 ∷ r)
+shown_map r = map_in_row (column r 0 ∷ r)
 
 pub map_total : IsTotalOrder map_cmp
 map_total = on_total (λ m. m.id) nat_cmp_total
@@ -62,27 +62,29 @@ by_id = on (λ r. column r 0 ∷ []) (key_cmp 0 (ascending Binary ∷ []))
 pub by_id_total : IsTotalOrder by_id
 by_id_total = on_total (λ r. column r 0 ∷ []) (key_cmp_total (ascending Binary ∷ []) 0)
 
-ordered : (a b : Row) → IsMapRow a → IsMapRow b → by_id a b ≡ map_cmp (map_in a) (map_in b)
+ordered : (a b : Row) → IsMapRow a → IsMapRow b → by_id a b ≡ map_cmp (map_in_row a) (map_in_row b)
 ordered a b e f = then-Equal _ ∙ wholes_cmp (column a 0) (column b 0) e.0 f.0
 
-pub passes_id : (id : ℕ) (r : Row) → IsMapRow r → passes (is_given 0 0 ∷ []) (Int (pos id) ∷ []) r ≡ has_id id (map_in r)
+pub passes_id : (id : ℕ) (r : Row) → IsMapRow r → passes (is_parameter 0 0 ∷ []) (Int (pos id) ∷ []) r ≡ has_id id (map_in_row r)
 passes_id id r e = and_true _ ∙ whole_is (column r 0) id e.0
 
-pub passes_body : (body : List ℕ) (r : Row) → IsMapRow r → passes (is_given 2 0 ∷ []) (Words body ∷ []) r ≡ has_body body (map_in r)
+pub passes_body : (body : List ℕ) (r : Row) → IsMapRow r → passes (is_parameter 2 0 ∷ []) (Words body ∷ []) r ≡ has_body body (map_in_row r)
 passes_body body r e = and_true _ ∙ text_is (column r 2) body e.1
 
-pub one_shown : (id : ℕ) (all rows : List Row) → AreRows IsMapRow map_cmp map_in all → Scanned (is_given 0 0 ∷ []) shown by_key (Int (pos id) ∷ []) all rows
-    → map shown_map rows ≡ filter (has_id id) (sort_by map_cmp (map map_in all))
+pub one_shown : (id : ℕ) (all rows : List Row) → AreRows IsMapRow map_cmp map_in_row all
+    → Scanned (is_parameter 0 0 ∷ []) shown by_key (Int (pos id) ∷ []) all rows
+    → map shown_map rows ≡ filter (has_id id) (sort_by map_cmp (map map_in_row all))
 one_shown id all rows are s =
-    shows_kept IsMapRow map_cmp map_total map_in by_id by_id_total ordered (has_id id) (is_given 0 0 ∷ []) (Int (pos id) ∷ []) (passes_id id)
+    shows_kept IsMapRow map_cmp map_total map_in_row by_id by_id_total ordered (has_id id) (is_parameter 0 0 ∷ []) (Int (pos id) ∷ []) (passes_id id)
     shown by_key shown_map (λ r. refl) (λ a b. refl) all rows are s
 
-pub body_shown : (body : List ℕ) (all rows : List Row) → AreRows IsMapRow map_cmp map_in all → Scanned (is_given 2 0 ∷ []) shown by_key (Words body ∷ []) all rows
-    → map shown_map rows ≡ filter (has_body body) (sort_by map_cmp (map map_in all))
+pub body_shown : (body : List ℕ) (all rows : List Row) → AreRows IsMapRow map_cmp map_in_row all
+    → Scanned (is_parameter 2 0 ∷ []) shown by_key (Words body ∷ []) all rows
+    → map shown_map rows ≡ filter (has_body body) (sort_by map_cmp (map map_in_row all))
 body_shown body all rows are s =
-    shows_kept IsMapRow map_cmp map_total map_in by_id by_id_total ordered (has_body body) (is_given 2 0 ∷ []) (Words body ∷ []) (passes_body body)
+    shows_kept IsMapRow map_cmp map_total map_in_row by_id by_id_total ordered (has_body body) (is_parameter 2 0 ∷ []) (Words body ∷ []) (passes_body body)
     shown by_key shown_map (λ r. refl) (λ a b. refl) all rows are s
 
-pub id_shown : (row : Option Row) → option_map (λ r. number_in (column r 0)) row ≡ option_map (λ m. m.id) (option_map shown_map row)
+pub id_shown : (row : Option Row) → option_map (λ r. number_in_cell (column r 0)) row ≡ option_map (λ m. m.id) (option_map shown_map row)
 id_shown None = refl
 id_shown (Some r) = refl

@@ -10,7 +10,7 @@ use Rattle.sqlite_sql.specs.declared.ops.CompareOp.TheVariants.{Eq}
 use Rattle.sqlite_sql.specs.declared.ops.BinaryOp.TheVariants.{Compare}
 use Rattle.sqlite.specs.Collation.TheVariants.{Binary}
 use Rattle.sqlite_value.proofs.OrderLemmas.{value_cmp-Int}
-use Rattle.office_sql.specs.Values.{number_in}
+use Rattle.office_sql.specs.Values.{number_in_cell}
 
 told : (b : Bool) → is_true (from_truth (Some b)) ≡ b
 told true = refl
@@ -27,9 +27,10 @@ unfolding binary
 numbers_are m n = told _ ∙ ap is_eq (value_cmp-Int (pos m) (pos n) ∙ naturals_cmp m n) ∙ tied m n
 
 -- a column that is a whole number equals a number where it is that
-pub whole_is : (v : Value) (n : ℕ) → v ≡ Int (pos (number_in v)) → is_true (binary (Compare Eq Binary) v (Int (pos n))) ≡ (n == number_in v)
-whole_is v n e = ap (λ w. is_true (binary (Compare Eq Binary) w (Int (pos n)))) e ∙ numbers_are (number_in v) n
+pub whole_is : (v : Value) (n : ℕ) → v ≡ Int (pos (number_in_cell v)) → is_true (binary (Compare Eq Binary) v (Int (pos n))) ≡ (n == number_in_cell v)
+whole_is v n e = ap (λ w. is_true (binary (Compare Eq Binary) w (Int (pos n)))) e ∙ numbers_are (number_in_cell v) n
 
 -- columns of whole numbers are in the order of the numbers
-pub wholes_cmp : (v w : Value) → v ≡ Int (pos (number_in v)) → w ≡ Int (pos (number_in w)) → value_cmp v w ≡ nat_cmp (number_in v) (number_in w)
-wholes_cmp v w e f = ap₂ value_cmp e f ∙ value_cmp-Int _ _ ∙ naturals_cmp (number_in v) (number_in w)
+pub wholes_cmp : (v w : Value) → v ≡ Int (pos (number_in_cell v)) → w ≡ Int (pos (number_in_cell w))
+    → value_cmp v w ≡ nat_cmp (number_in_cell v) (number_in_cell w)
+wholes_cmp v w e f = ap₂ value_cmp e f ∙ value_cmp-Int _ _ ∙ naturals_cmp (number_in_cell v) (number_in_cell w)

@@ -1,5 +1,6 @@
 -- What the text that adds a map means, and what it does to the tables.
-use Rattle.std.proofs.Common.{◌≡◌, ℕ, ℤ, pos, ◌==◌, Bool, not, cond, false, true, List, [], ◌∷◌, codes, map, filter, refl, sym, ap, ◌∙◌, subst, is_eq, nat_cmp, arith}
+use Rattle.std.proofs.Common.{◌≡◌, ℕ, ℤ, pos, ◌==◌, Bool, not, cond, false, true, List, [], ◌∷◌, codes, map, filter, refl, sym, ap, ◌∙◌, subst}
+use Rattle.std.proofs.Common.{is_eq, nat_cmp, arith}
 use Rattle.std.specs.List.{AllByRecursion}
 use Rattle.std.specs.Prelude.{is_some}
 use Rattle.std.proofs.lemmas.Bool.Decides.{nat_tests}
@@ -14,7 +15,7 @@ use Rattle.sqlite_rules.specs.Edit.{next_rowid}
 use Rattle.sqlite_tied.specs.Compute.{everything}
 use Rattle.sqlite_trees.proofs.ListLemmas.{all_weaker, all-map, all_both}
 use Rattle.sqlite_keyed.specs.Lists.{sort_by}
-use Rattle.office_tables.specs.declared.rows.Owned.{Owned}
+use Rattle.office_tables.specs.declared.rows.OfCustomer.{OfCustomer}
 use Rattle.office_tables.specs.declared.rows.NewMap.{NewMap}
 use Rattle.office_tables.specs.declared.rows.MapRow.{MapRow}
 use Rattle.office_tables.specs.Tables.{map_cmp, has_id, map_at, link_at, with_map, with_link, IsFree}
@@ -22,9 +23,9 @@ use Rattle.office_tables.specs.declared.rows.Link.{Link}
 use Rattle.office_tables.specs.declared.rows.Write.TheVariants.{AddMap, AddLink}
 use Rattle.office_tables.proofs.Finding.{find_none, some_placed}
 use Rattle.office_sql.specs.Schema.{map_table, office_schema}
-use Rattle.office_sql.specs.Values.{number_in}
-use Rattle.office_sql.specs.Rows.{map_in, map_columns}
-use Rattle.office_sql.specs.Change.{Adds, Wrote}
+use Rattle.office_sql.specs.Values.{number_in_cell}
+use Rattle.office_sql.specs.Rows.{map_in_row, map_columns}
+use Rattle.office_sql.specs.Change.{SqlAdds, Wrote}
 use Rattle.office_sql.specs.Maps.{GainsMap}
 use Rattle.office_sql.specs.Tables.{AreRows, IsMapRow, IsOffice, tables_in}
 use Rattle.office_sql.proofs.Inserting.{IsInsert}
@@ -45,12 +46,17 @@ pub add_insert : IsInsert office_schema add_text 2 map_table add_terms 4
 unfolding understood everything
 add_insert = record { is = refl; plain = (refl, refl); there = refl; uncounted = refl; unstamped = refl; one = λ params. refl }
 
-pub add_casts : (m : Owned NewMap) → cast_row map_table (eval_all add_terms (map_columns m ∷ [])) ≡ Null ∷ Null ∷ map_columns m
+pub add_casts : (m : OfCustomer NewMap) → cast_row map_table (eval_all add_terms (map_columns m ∷ [])) ≡ Null ∷ Null ∷ map_columns m
 add_casts m = rw cast_null refl
 
 kept_pass : {A : Type 0} (p : A → Bool) (xs : List A) → AllByRecursion (λ x. p x ≡ true) (filter p xs)
 kept_pass p [] = tt
-kept_pass p (x ∷ xs) = elim (p x) as (λ b. p x ≡ b → AllByRecursion (λ x. p x ≡ true) (cond b (x ∷ filter p xs) (filter p xs))) [ true ↦ λ e. (e, kept_pass p xs) | false ↦ λ _. kept_pass p xs ] refl
+kept_pass p (x ∷ xs) = elim (p x) as (λ b. p x ≡ b
+    → AllByRecursion (λ x. p x ≡ true) (cond b (x ∷ filter p xs) (filter p xs))) [
+      | true ↦ λ e.
+          (e, kept_pass p xs)
+      | false ↦ λ _. kept_pass p xs
+    ] refl
 
 is_false : (b : Bool) → not b ≡ true → b ≡ false
 is_false true e = sym e
@@ -59,35 +65,52 @@ is_false false e = refl
 -- where no row goes, none has the rowid
 left_whole : (id : ℤ) (rows : List Row) → without_rowid id rows ≡ rows → AllByRecursion (λ r. has_rowid id r ≡ false) rows
 left_whole id rows e =
-    all_weaker (λ r. not (has_rowid id r) ≡ true) (λ r. has_rowid id r ≡ false) (λ r h. is_false _ h) rows (subst (AllByRecursion (λ r. not (has_rowid id r) ≡ true)) e (kept_pass (λ r. not (has_rowid id r)) rows))
+    all_weaker (λ r. not (has_rowid id r) ≡ true) (λ r. has_rowid id r
+    ≡ false) (λ r h.
+    is_false _ h) rows (subst (AllByRecursion (λ r. not (has_rowid id r)
+    ≡ true)) e (kept_pass (λ r. not (has_rowid id r)) rows))
 
 tied : (m n : ℕ) → is_eq (nat_cmp m n) ≡ (m == n)
 tied m n = grind (arith, nat_tests)
 
 -- the next number is no map's
-next_apart : (id : ℕ) (body : List ℕ) (rows : List Row) → AreRows IsMapRow map_cmp map_in rows → next_rowid rows ≡ pos id → AllByRecursion (Apart map_cmp map_total (record { id = id; body = body })) (map map_in rows)
+next_apart : (id : ℕ) (body : List ℕ) (rows : List Row) → AreRows IsMapRow map_cmp map_in_row rows
+    → next_rowid rows ≡ pos id
+    → AllByRecursion (Apart map_cmp map_total (record { id = id; body = body }))
+    (map map_in_row rows)
 next_apart id body rows are is =
     let m : MapRow = record { id = id; body = body } in
     let others = left_whole (next_rowid rows) rows (next_is_free rows are.rising are.numbered) in
-    all-map (Apart map_cmp map_total m) map_in rows
-    (all_both (λ r. has_rowid (next_rowid rows) r ≡ false) IsMapRow (λ r. Apart map_cmp map_total m (map_in r))
-    (λ r other whole. apart_back map_cmp map_total (map_in r) m (sym (ap is_eq (wholes_cmp (column r 0) (Int (pos id)) whole.0 refl)) ∙ ap (λ n. is_eq (value_cmp (column r 0) (Int n))) (sym is) ∙ other))
+    all-map (Apart map_cmp map_total m) map_in_row rows
+    (all_both (λ r. has_rowid (next_rowid rows) r ≡ false) IsMapRow (λ r. Apart map_cmp map_total m (map_in_row r))
+    (λ r other whole.
+    apart_back map_cmp map_total (map_in_row r) m
+    (sym (ap is_eq (wholes_cmp (column r 0) (Int (pos id)) whole.0 refl))
+    ∙ ap (λ n. is_eq (value_cmp (column r 0) (Int n))) (sym is) ∙ other))
     rows others are.typed)
 
-pub map_gained : (m : Owned NewMap) (id : ℕ) (old new : Database) → IsOffice old → next_rowid (old.trees 3) ≡ pos id → Adds 3 (Null ∷ map_columns m) old new
+pub map_gained : (m : OfCustomer NewMap) (id : ℕ) (old new : Database) → IsOffice old
+    → next_rowid (old.trees 3) ≡ pos id → SqlAdds 3 (Null ∷ map_columns m) old new
     → GainsMap m id old new
 map_gained m id old new office is adds =
     let rows = old.trees 3 in
     let row : MapRow = record { id = id; body = m.row.body } in
     let apart = next_apart id m.row.body rows office.rows.maps is in
-    let same : map_in (Int (next_rowid rows) ∷ Null ∷ map_columns m) ≡ row = ap (λ n. map_in (Int n ∷ Null ∷ map_columns m)) is in
-    let it = row_added IsMapRow map_cmp map_total map_in (Null ∷ map_columns m) rows office.rows.maps (ap Int is ∙ ap (λ n. Int (pos (number_in (Int n)))) (sym is), refl)
-    (subst (λ x. AllByRecursion (Apart map_cmp map_total x) (map map_in rows)) (sym same) apart) in
-    let now = maps_changed old new office adds.schema adds.sound adds.others (subst (AreRows IsMapRow map_cmp map_in) (sym adds.row) it.0) _ (ap (λ l. sort_by map_cmp (map map_in l)) adds.row ∙ it.1) in
-    let none = all_weaker (Apart map_cmp map_total row) (λ y. has_id id y ≡ false) (λ y e. sym (tied id y.id) ∙ e) (map map_in rows) apart in
+    let same : map_in_row (Int (next_rowid rows) ∷ Null ∷ map_columns m) ≡ row = ap (λ n. map_in_row (Int n ∷ Null ∷ map_columns m)) is in
+    let it = row_added IsMapRow map_cmp map_total map_in_row (Null
+    ∷ map_columns m) rows office.rows.maps (
+      ap Int is
+          ∙ ap (λ n. Int (pos (number_in_cell (Int n)))) (sym is),
+      refl,
+    )
+    (subst (λ x. AllByRecursion (Apart map_cmp map_total x) (map map_in_row rows)) (sym same) apart) in
+    let now = maps_changed old new office adds.schema adds.sound adds.others
+    (subst (AreRows IsMapRow map_cmp map_in_row) (sym adds.row) it.0) _ (ap (λ l.
+    sort_by map_cmp (map map_in_row l)) adds.row ∙ it.1) in
+    let none = all_weaker (Apart map_cmp map_total row) (λ y. has_id id y ≡ false) (λ y e. sym (tied id y.id) ∙ e) (map map_in_row rows) apart in
     record {
       office = now.0;
-      free = find_none (has_id id) _ (all_sorted map_cmp map_total (λ y. has_id id y ≡ false) (map map_in rows) none);
+      free = find_none (has_id id) _ (all_sorted map_cmp map_total (λ y. has_id id y ≡ false) (map map_in_row rows) none);
       made = now.1 ∙ ap (λ x. with_map x (tables_in old.trees)) same;
       number = is;
       row = adds;
@@ -97,7 +120,7 @@ same : (n : ℕ) → (n == n) ≡ true
 same n = grind (arith, nat_tests)
 
 -- the customer's link to the new map can be added
-pub link_free : (m : Owned NewMap) (id : ℕ) (old mid : Database) → IsFree (AddMap m) (tables_in old.trees) → GainsMap m id old mid
+pub link_free : (m : OfCustomer NewMap) (id : ℕ) (old mid : Database) → IsFree (AddMap m) (tables_in old.trees) → GainsMap m id old mid
     → IsFree (AddLink (record { customer = m.customer; row = record { digest = m.row.digest; map = id } })) (tables_in mid.trees)
 link_free m id old mid free gains =
     let row : MapRow = record { id = id; body = m.row.body } in (
@@ -105,10 +128,10 @@ link_free m id old mid free gains =
       ap (λ t. is_some (map_at id t)) gains.made ∙ some_placed (has_id id) map_cmp row (tables_in old.trees).maps (same id),
     )
 
-pub map_wrote : (m : Owned NewMap) (id : ℕ) (old mid new : Database) → GainsMap m id old mid
+pub map_wrote : (m : OfCustomer NewMap) (id : ℕ) (old mid new : Database) → GainsMap m id old mid
     → Wrote (AddLink (record { customer = m.customer; row = record { digest = m.row.digest; map = id } })) mid new → Wrote (AddMap m) old new
 map_wrote m id old mid new gains wrote =
-    let link : Owned Link = record { customer = m.customer; row = record { digest = m.row.digest; map = id } } in
+    let link : OfCustomer Link = record { customer = m.customer; row = record { digest = m.row.digest; map = id } } in
     record {
       office = wrote.office;
       made = (id, gains.free, wrote.made ∙ ap (with_link link) gains.made);

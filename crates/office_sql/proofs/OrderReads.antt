@@ -19,13 +19,13 @@ use Rattle.sqlite_value.specs.declared.keys.Key.{Key}
 use Rattle.sqlite_value.specs.Keys.{ascending}
 use Rattle.sqlite_value.proofs.OrderLemmas.{value_cmp_total, then-Equal}
 use Rattle.sqlite_keyed.specs.Lists.{sort_by}
-use Rattle.office_tables.specs.declared.rows.Owned.{Owned}
+use Rattle.office_tables.specs.declared.rows.OfCustomer.{OfCustomer}
 use Rattle.office_tables.specs.declared.rows.Order.{Order}
 use Rattle.office_tables.specs.Tables.{order_cmp, is_of, is_order}
 use Rattle.office_sql.specs.Schema.{office_schema}
-use Rattle.office_sql.specs.Rows.{order_in, starts_order, with_order_start, joined_order}
-use Rattle.office_sql.specs.Scan.{is_given, passes}
-use Rattle.office_sql.specs.Joins.{over, is_same, meets, first_that}
+use Rattle.office_sql.specs.Rows.{order_in_row, starts_order, with_order_start, joined_order}
+use Rattle.office_sql.specs.Scan.{is_parameter, passes}
+use Rattle.office_sql.specs.Joins.{over, is_same, passes_join, first_that}
 use Rattle.office_sql.specs.Tables.{AreRows, AreStarted, IsOrderRow, IsStartRow}
 use Rattle.office_sql.specs.Values.{text_if}
 use Rattle.office_sql.proofs.Kept.{shows_joined, start_is}
@@ -52,10 +52,10 @@ abbrev pub on_start : List Term
 on_start = is_same 1 1 ∷ is_same 2 2 ∷ []
 
 abbrev pub one_tests : List Term
-one_tests = is_given 1 0 ∷ is_given 2 1 ∷ []
+one_tests = is_parameter 1 0 ∷ is_parameter 2 1 ∷ []
 
 abbrev pub own_tests : List Term
-own_tests = is_given 1 0 ∷ []
+own_tests = is_parameter 1 0 ∷ []
 
 pub one_read : IsJoined office_schema one_text (inner 7 (inner 17 end)) (on_start ++ one_tests) shown by_key
 unfolding understood everything
@@ -75,48 +75,57 @@ abbrev pub by_name : Row → Row → Ordering
 by_name = on (λ r. column r 1 ∷ column r 2 ∷ []) (key_cmp 0 (ascending Binary ∷ ascending Binary ∷ []))
 
 pub by_name_total : IsTotalOrder by_name
-by_name_total = on_total (λ r. column r 1 ∷ column r 2 ∷ []) (then_total (on_total (λ r. column r 0) value_cmp_total) (then_total (on_total (λ r. column r 1) value_cmp_total) level_total))
+by_name_total = on_total (λ r. column r 1 ∷ column r 2
+    ∷ []) (then_total (on_total (λ r.
+    column r 0) value_cmp_total) (then_total (on_total (λ r.
+    column r 1) value_cmp_total) level_total))
 
-by_is : (a b : Row) → IsOrderRow a → IsOrderRow b → by_name a b ≡ order_cmp (order_in a) (order_in b)
+by_is : (a b : Row) → IsOrderRow a → IsOrderRow b → by_name a b ≡ order_cmp (order_in_row a) (order_in_row b)
 by_is a b e f = ap₂ ordering_then (texts_cmp (column a 1) (column b 1) e.0 f.0) (then-Equal _ ∙ texts_cmp (column a 2) (column b 2) e.1 f.1)
 
 -- orders have one key where their customers and their names are equal
-pub order_tied : (x y : Owned Order) → is_eq (order_cmp x y) ≡ is_order x.customer x.row.name y
+pub order_tied : (x y : OfCustomer Order) → is_eq (order_cmp x y) ≡ is_order x.customer x.row.name y
 order_tied x y = sym (tied_then _ _) ∙ ap₂ ◌&&◌ (is_eq-slice_cmp x.customer y.customer) (is_eq-slice_cmp x.row.name y.row.name)
 
-pub passes_order : (c n : List ℕ) (r : Row) → IsOrderRow r → passes one_tests (Words c ∷ Words n ∷ []) r ≡ is_order c n (order_in r)
+pub passes_order : (c n : List ℕ) (r : Row) → IsOrderRow r → passes one_tests (Words c ∷ Words n ∷ []) r ≡ is_order c n (order_in_row r)
 passes_order c n r e = ap₂ ◌&&◌ (text_is (column r 1) c e.0) (and_true _ ∙ text_is (column r 2) n e.1)
 
-pub passes_customer : (c : List ℕ) (r : Row) → IsOrderRow r → passes own_tests (Words c ∷ []) r ≡ is_of c (order_in r)
+pub passes_customer : (c : List ℕ) (r : Row) → IsOrderRow r → passes own_tests (Words c ∷ []) r ≡ is_of c (order_in_row r)
 passes_customer c r e = and_true _ ∙ text_is (column r 1) c e.0
 
 -- the start's key is the order's
-fits : (params r s : Row) → IsOrderRow r → IsStartRow s → meets on_start params r s ≡ starts_order (order_in r) s
+fits : (params r s : Row) → IsOrderRow r → IsStartRow s → passes_join on_start params r s ≡ starts_order (order_in_row r) s
 fits params r s e f =
     ap₂ ◌&&◌ (ap (λ v. is_true (binary (Compare Eq Binary) (column s 1) v)) e.0 ∙ text_is (column s 1) _ f.0)
     (and_true _ ∙ ap (λ v. is_true (binary (Compare Eq Binary) (column s 2) v)) e.1 ∙ text_is (column s 2) _ f.1)
 
 -- with what a row of starts says
-abbrev with_row : Row → Owned Order → Owned Order
+abbrev with_row : Row → OfCustomer Order → OfCustomer Order
 with_row s o = record o { row = record o.row { not_before = text_if (column s 3) } }
 
-starts : (l : List Row) (all : List (Owned Order)) → map (λ o. with_row (first_that (starts_order o) l) o) all ≡ map (with_order_start l) all
-starts l all = ap (λ (f : Owned Order → Owned Order). map f all) (λ i o. record o { row = record o.row { not_before = start_is starts_order l o i } })
+starts : (l : List Row) (all : List (OfCustomer Order)) → map (λ o. with_row (first_that (starts_order o) l) o) all ≡ map (with_order_start l) all
+starts l all = ap (λ (f : OfCustomer Order → OfCustomer Order). map f all) (λ i o. record o { row = record o.row { not_before = start_is starts_order l o i } })
 
-pub one_shown : (c n : List ℕ) (db : Trees) (rows : List Row) → AreRows IsOrderRow order_cmp order_in (db 7) → AreStarted starts_order order_in (db 7) (db 17)
+pub one_shown : (c n : List ℕ) (db : Trees) (rows : List Row)
+    → AreRows IsOrderRow order_cmp order_in_row (db 7)
+    → AreStarted starts_order order_in_row (db 7) (db 17)
     → IsAnswer (over (inner 7 (inner 17 end)) (on_start ++ one_tests) shown by_key) db (Words c ∷ Words n ∷ []) rows
-    → map joined_order rows ≡ filter (is_order c n) (map (with_order_start (db 17)) (sort_by order_cmp (map order_in (db 7))))
+    → map joined_order rows ≡ filter (is_order c n) (map (with_order_start (db 17)) (sort_by order_cmp (map order_in_row (db 7))))
 one_shown c n db rows are started a =
-    shows_joined IsOrderRow order_cmp order_total order_in by_name by_name_total by_is (is_order c n) one_tests (Words c ∷ Words n ∷ []) (passes_order c n)
-    IsStartRow starts_order on_start (fits (Words c ∷ Words n ∷ [])) shown by_key joined_order with_row (λ s o. refl) (λ r s. refl) (λ r s. refl) (λ a b s t. refl)
+    shows_joined IsOrderRow order_cmp order_total order_in_row by_name by_name_total by_is (is_order c n) one_tests (Words c ∷ Words n ∷ []) (passes_order c n)
+    IsStartRow starts_order on_start (fits (Words c ∷ Words n
+    ∷ [])) shown by_key joined_order with_row (λ s o. refl) (λ r s. refl) (λ r s.
+    refl) (λ a b s t. refl)
     db 7 17 rows are started.typed started.one a
     ∙ ap (filter (is_order c n)) (starts (db 17) _)
 
-pub own_shown : (c : List ℕ) (db : Trees) (rows : List Row) → AreRows IsOrderRow order_cmp order_in (db 7) → AreStarted starts_order order_in (db 7) (db 17)
+pub own_shown : (c : List ℕ) (db : Trees) (rows : List Row)
+    → AreRows IsOrderRow order_cmp order_in_row (db 7)
+    → AreStarted starts_order order_in_row (db 7) (db 17)
     → IsAnswer (over (inner 7 (inner 17 end)) (on_start ++ own_tests) shown by_key) db (Words c ∷ []) rows
-    → map joined_order rows ≡ filter (is_of c) (map (with_order_start (db 17)) (sort_by order_cmp (map order_in (db 7))))
+    → map joined_order rows ≡ filter (is_of c) (map (with_order_start (db 17)) (sort_by order_cmp (map order_in_row (db 7))))
 own_shown c db rows are started a =
-    shows_joined IsOrderRow order_cmp order_total order_in by_name by_name_total by_is (is_of c) own_tests (Words c ∷ []) (passes_customer c)
+    shows_joined IsOrderRow order_cmp order_total order_in_row by_name by_name_total by_is (is_of c) own_tests (Words c ∷ []) (passes_customer c)
     IsStartRow starts_order on_start (fits (Words c ∷ [])) shown by_key joined_order with_row (λ s o. refl) (λ r s. refl) (λ r s. refl) (λ a b s t. refl)
     db 7 17 rows are started.typed started.one a
     ∙ ap (filter (is_of c)) (starts (db 17) _)

@@ -1,5 +1,6 @@
 -- What the texts that write an order mean, and do.
-use Rattle.std.proofs.Common.{◌≡◌, inl, inr, ℕ, ℤ, pos, true, false, ◌&&◌, List, [], ◌∷◌, codes, map, Bool, arith, refl, sym, ap, ap₂, subst, subst₂, ◌∙◌, Equal, Option, None, Ok}
+use Rattle.std.proofs.Common.{◌≡◌, inl, inr, ℕ, ℤ, pos, true, false, ◌&&◌, List, [], ◌∷◌, codes, map, Bool, arith, refl, sym, ap, ap₂, subst, subst₂}
+use Rattle.std.proofs.Common.{◌∙◌, Equal, Option, None, Ok}
 use Rattle.std.specs.Option.{option_map, option_and_then}
 use Rattle.std.specs.Ordering.{ordering_then}
 use Rattle.std.proofs.lemmas.Cmp.{tied_itself, nat_list_cmp_total}
@@ -19,17 +20,17 @@ use Rattle.sqlite_keyed.proofs.SortLemmas.{IsPermutation-sort_by}
 use Rattle.sqlite_trees.proofs.ListLemmas.{all_weaker, all-permutation}
 use Rattle.sqlite_tied.specs.Compute.{everything}
 use Rattle.id_ranges.specs.Mac.{mac_text, mac_of_text}
-use Rattle.office_tables.specs.declared.rows.Owned.{Owned}
+use Rattle.office_tables.specs.declared.rows.OfCustomer.{OfCustomer}
 use Rattle.office_tables.specs.declared.rows.Order.{Order}
 use Rattle.office_tables.specs.declared.rows.Cursor.{Cursor}
 use Rattle.office_tables.specs.declared.rows.Write.TheVariants.{AddOrder, SetCursor}
-use Rattle.office_tables.specs.Tables.{is_order, order_at, order_cmp, placed, with_cursor_of}
+use Rattle.office_tables.specs.Tables.{is_order, order_at, order_cmp, with_row, with_cursor_of}
 use Rattle.office_sql.specs.Schema.{orders_table, order_start_table, office_schema}
-use Rattle.office_sql.specs.Scan.{is_given}
+use Rattle.office_sql.specs.Scan.{is_parameter}
 use Rattle.office_sql.specs.Values.{text_if, mac_if, mac_value, whole_value}
-use Rattle.office_sql.specs.Rows.{columns_with_cursor, order_in, order_columns, starts_order, order_start_columns, with_order_start}
+use Rattle.office_sql.specs.Rows.{columns_with_cursor, order_in_row, order_columns, starts_order, order_start_columns, with_order_start}
 use Rattle.office_sql.specs.Tables.{AreRows, AreStarted, IsOffice, IsOrderRow, tables_in, told_in}
-use Rattle.office_sql.specs.Change.{Adds, Wrote}
+use Rattle.office_sql.specs.Change.{SqlAdds, Wrote}
 use Rattle.office_sql.proofs.Finding.{find_none, only_found, both_true, texts_tied, texts_alike, same_bytes}
 use Rattle.office_sql.proofs.Inserting.{IsInsert}
 use Rattle.office_sql.proofs.Keyed.{Apart}
@@ -53,48 +54,67 @@ pub add_insert : IsInsert office_schema add_text 4 orders_table add_terms 11
 unfolding understood everything
 add_insert = record { is = refl; plain = (refl, refl); there = refl; uncounted = refl; unstamped = refl; one = λ params. refl }
 
-pub add_casts : (o : Owned Order) → cast_row orders_table (Null ∷ order_columns o) ≡ Null ∷ order_columns o
+pub add_casts : (o : OfCustomer Order) → cast_row orders_table (Null ∷ order_columns o) ≡ Null ∷ order_columns o
 add_casts o =
-    rw (cast_null, cast_int (pos o.row.range.width), cast_int (pos o.row.range.first), cast_int (pos o.row.range.quantity), cast_int (pos o.row.macs), text_cast (option_map mac_text o.row.mac), cast_int (pos o.row.cursor)) refl
+    rw (
+      cast_null,
+      cast_int (pos o.row.range.width),
+      cast_int (pos o.row.range.first),
+      cast_int
+          (pos o.row.range.quantity),
+      cast_int (pos o.row.macs),
+      text_cast
+          (option_map mac_text o.row.mac),
+      cast_int (pos o.row.cursor),
+    ) refl
 
 -- an address is read back where its text is
-pub address_back : (text : Option (List ℕ)) (mac : Option ℕ) → text ≡ option_map mac_text mac → option_and_then mac_of_text text ≡ mac → mac_if (mac_value mac) ≡ mac
+pub address_back : (text : Option (List ℕ)) (mac : Option ℕ) → text ≡ option_map mac_text mac
+    → option_and_then mac_of_text text ≡ mac → mac_if (mac_value mac) ≡ mac
 address_back text mac is back = ap (option_and_then mac_of_text) (text_back (option_map mac_text mac) ∙ sym is) ∙ back
 
 -- two orders with one start have one key
-order_ties : (a b : Owned Order) (s : Row) → starts_order a s ≡ true → starts_order b s ≡ true → order_cmp a b ≡ Equal
+order_ties : (a b : OfCustomer Order) (s : Row) → starts_order a s ≡ true → starts_order b s ≡ true → order_cmp a b ≡ Equal
 order_ties a b s e f =
     let p = both_true _ _ e in
     let q = both_true _ _ f in
     ap₂ ordering_then (texts_alike a.customer b.customer (bytes (column s 1)) p.0 q.0) (texts_alike a.row.name b.row.name (bytes (column s 2)) p.1 q.1)
 
-abbrev with_text : Option (List ℕ) → Owned Order → Owned Order
+abbrev with_text : Option (List ℕ) → OfCustomer Order → OfCustomer Order
 with_text t o = record o { row = record o.row { not_before = t } }
 
 -- its own start is for it
-own_start : (o : Owned Order) (id : ℤ) → starts_order o (Int id ∷ order_start_columns o) ≡ true
+own_start : (o : OfCustomer Order) (id : ℤ) → starts_order o (Int id ∷ order_start_columns o) ≡ true
 own_start o id = ap₂ ◌&&◌ (same_bytes o.customer) (same_bytes o.row.name)
 
-pub order_added : (o : Owned Order) → mac_if (mac_value o.row.mac) ≡ o.row.mac → (old mid new : Database) → IsOffice old → order_at o.customer o.row.name (tables_in old.trees) ≡ None
-    → Adds 7 (order_columns o) old mid → Adds 17 (order_start_columns o) mid new → Wrote (AddOrder o) old new
+pub order_added : (o : OfCustomer Order) → mac_if (mac_value o.row.mac) ≡ o.row.mac
+    → (old mid new : Database) → IsOffice old
+    → order_at o.customer o.row.name (tables_in old.trees) ≡ None
+    → SqlAdds 7 (order_columns o) old mid → SqlAdds 17 (order_start_columns o) mid new → Wrote (AddOrder o) old new
 order_added o back old mid new office none adds starts =
     let rows = old.trees 7 in
     let id = next_rowid rows in
     let new_row : Row = Int id ∷ order_columns o in
-    let told : told_in new.trees ≡ told_in old.trees = told_stays 17 mid.trees new.trees (λ e. cc) (λ e. cc) starts.others ∙ told_stays 7 old.trees mid.trees (λ e. cc) (λ e. cc) adds.others in
+    let told : told_in new.trees
+    ≡ told_in old.trees = told_stays 17 mid.trees new.trees (λ e. cc) (λ e. cc) starts.others
+    ∙ told_stays 7 old.trees mid.trees (λ e. cc) (λ e. cc) adds.others in
     let beside : mid.trees 17 ≡ old.trees 17 = adds.others.1.1.1.1.1.1.1.1.0 (λ e. cc) in
-    let unkeyed = all-permutation (λ y. is_order o.customer o.row.name y ≡ false) _ _ (IsPermutation-sort_by order_cmp order_total (map order_in rows))
+    let unkeyed = all-permutation (λ y. is_order o.customer o.row.name y ≡ false) _ _ (IsPermutation-sort_by order_cmp order_total (map order_in_row rows))
     (all_unmap (λ y. is_order o.customer o.row.name y ≡ false) (with_order_start (old.trees 17)) _ (find_none _ _ none)) in
-    let apart = all_weaker _ (Apart order_cmp order_total (order_in new_row)) (λ y e. order_tied o y ∙ e) (map order_in rows) unkeyed in
+    let apart = all_weaker _ (Apart order_cmp order_total (order_in_row new_row)) (λ y e. order_tied o y ∙ e) (map order_in_row rows) unkeyed in
     let own_row : Row = Int (next_rowid (old.trees 17)) ∷ order_start_columns o in
-    let more = started_more IsOrderRow order_cmp order_total order_in starts_order with_text (λ t u a b. refl) order_ties
+    let more = started_more IsOrderRow order_cmp order_total order_in_row starts_order with_text (λ t u a b. refl) order_ties
     (order_columns o) (order_start_columns o) rows (old.trees 17) office.rows.orders office.orders_started
     (refl, refl, rw (text_typed (option_map mac_text o.row.mac)) refl) (refl, refl) (own_start o (next_rowid (old.trees 17))) apart in
     let after : new.trees 17 ≡ put_row own_row (old.trees 17) = starts.row ∙ ap (λ l. put_row (Int (next_rowid l) ∷ order_start_columns o) l) beside in
-    let is : with_text (text_if (column own_row 3)) (order_in new_row) ≡ o = λ i. record o { row = record o.row { mac = back i; not_before = text_back o.row.not_before i } } in
-    let it = orders_grown old new office starts.schema starts.sound mid.trees adds.others starts.others (subst (AreRows IsOrderRow order_cmp order_in) (sym adds.row) more.are)
-    (subst₂ (AreStarted starts_order order_in) (sym adds.row) (sym after) more.started) _
-    (ap₂ (λ l k. map (with_order_start k) (sort_by order_cmp (map order_in l))) adds.row after ∙ more.placed_is ∙ ap (λ x. placed order_cmp x (tables_in old.trees).orders) is) in
+    let is : with_text (text_if (column own_row 3)) (order_in_row new_row) ≡ o =
+    λ i. record o
+    { row = record o.row { mac = back i; not_before = text_back o.row.not_before i } } in
+    let it = orders_grown old new office starts.schema starts.sound mid.trees adds.others
+    starts.others (subst (AreRows IsOrderRow order_cmp order_in_row) (sym adds.row) more.are)
+    (subst₂ (AreStarted starts_order order_in_row) (sym adds.row) (sym after) more.started) _
+    (ap₂ (λ l k. map (with_order_start k) (sort_by order_cmp (map order_in_row l))) adds.row after
+    ∙ more.placed_is ∙ ap (λ x. with_row order_cmp x (tables_in old.trees).orders) is) in
     record { office = it.0; made = it.1; rows = (mid, adds, starts); told = told }
 
 -- ---- its beginning of validity
@@ -109,7 +129,7 @@ pub start_insert : IsInsert office_schema start_text 8 order_start_table start_t
 unfolding understood everything
 start_insert = record { is = refl; plain = (refl, refl); there = refl; uncounted = refl; unstamped = refl; one = λ params. refl }
 
-pub start_casts : (o : Owned Order) → cast_row order_start_table (Null ∷ order_start_columns o) ≡ Null ∷ order_start_columns o
+pub start_casts : (o : OfCustomer Order) → cast_row order_start_table (Null ∷ order_start_columns o) ≡ Null ∷ order_start_columns o
 start_casts o = rw (cast_null, text_cast o.row.not_before) refl
 
 -- ---- a new cursor
@@ -120,18 +140,18 @@ set_text = codes "UPDATE orders SET cursor = ?3 WHERE customer = ?1 AND name = ?
 abbrev pub set_shown : List Term
 set_shown = col 1 0 ∷ col 1 0 ∷ col 1 1 ∷ col 1 2 ∷ col 1 3 ∷ col 1 4 ∷ col 1 5 ∷ col 1 6 ∷ col 1 7 ∷ col 1 8 ∷ col 1 9 ∷ col 0 2 ∷ []
 
-pub set_update : IsUpdate set_text 4 orders_table (is_given 1 0 ∷ is_given 2 1 ∷ []) set_shown
+pub set_update : IsUpdate set_text 4 orders_table (is_parameter 1 0 ∷ is_parameter 2 1 ∷ []) set_shown
 unfolding understood everything
 set_update = record { is = refl; plain = (refl, refl); there = refl; same = λ db. refl }
 
-module _ (c : Owned Cursor) where
+module _ (c : OfCustomer Cursor) where
   abbrev set_columns : Row → Row
   set_columns = columns_with_cursor c.row.number
 
   abbrev pub set_values : Row
   set_values = Words c.customer ∷ Words c.row.order ∷ whole_value c.row.number ∷ []
 
-  abbrev is_its : Owned Order → Bool
+  abbrev is_its : OfCustomer Order → Bool
   is_its = is_order c.customer c.row.order
 
   kinds : (r : Row) → IsOrderRow r → AreOf 1 orders_table.columns r
@@ -159,7 +179,7 @@ module _ (c : Owned Cursor) where
       let k = kinds r t in
       rw (k.0, k.1.0, k.1.1.0, k.1.1.1.0, k.1.1.1.1.0, k.1.1.1.1.1.0, k.1.1.1.1.1.1.0, k.1.1.1.1.1.1.1.0, k.1.1.1.1.1.1.1.1.0) refl
 
-  is_set : IsSet IsOrderRow order_cmp order_in is_its orders_table (is_given 1 0 ∷ is_given 2 1 ∷ []) set_shown set_values set_columns
+  is_set : IsSet IsOrderRow order_cmp order_in_row is_its orders_table (is_parameter 1 0 ∷ is_parameter 2 1 ∷ []) set_shown set_values set_columns
   is_set = record {
     tested = passes_order c.customer c.row.order;
     evals = λ r. refl;
@@ -168,33 +188,40 @@ module _ (c : Owned Cursor) where
     tied = λ id r t is. ap₂ ordering_then (tied_itself nat_list_cmp_total (bytes (column r 1))) (tied_itself nat_list_cmp_total (bytes (column r 2)));
   }
 
-  ties : (a b : Owned Order) → is_its a ≡ true → is_its b ≡ true → order_cmp a b ≡ Equal
+  ties : (a b : OfCustomer Order) → is_its a ≡ true → is_its b ≡ true → order_cmp a b ≡ Equal
   ties a b e f =
       let p = both_true _ _ e in
       let q = both_true _ _ f in
       ap₂ ordering_then (texts_tied c.customer a.customer b.customer p.0 q.0) (texts_tied c.row.order a.row.name b.row.name p.1 q.1)
 
   -- where a cursor is set, it is the order's
-  pub cursor_set : (old new : State) (count : ℕ) → IsOffice old.now → Executes set_text set_values old new (Ok count) → count ≡ 1 → Wrote (SetCursor c) old.now new.now
+  pub cursor_set : (old new : State) (count : ℕ) → IsOffice old.now
+      → Executes set_text set_values old new (Ok count) → count ≡ 1
+      → Wrote (SetCursor c) old.now new.now
   cursor_set old new count office ran one =
-      elim (sets IsOrderRow order_cmp order_total order_in is_its ties set_text 4 orders_table (is_given 1 0 ∷ is_given 2 1 ∷ []) set_shown set_update set_values set_columns is_set old new count office.schema office.rows.orders ran)
+      elim (sets IsOrderRow order_cmp order_total order_in_row is_its ties set_text 4 orders_table
+      (is_parameter 1 0 ∷ is_parameter 2 1
+      ∷ []) set_shown set_update set_values set_columns is_set old new count office.schema
+      office.rows.orders ran)
       [ inl none ↦ absurd (omega (arith, none.counted)) | inr one ↦ wrote one ]
     where
-      wrote : SetsOne IsOrderRow order_cmp order_in is_its 7 set_columns old.now new.now count → Wrote (SetCursor c) old.now new.now
+      wrote : SetsOne IsOrderRow order_cmp order_in_row is_its 7 set_columns old.now new.now count → Wrote (SetCursor c) old.now new.now
       wrote one =
           let rows = old.now.trees 7 in
           let starts = old.now.trees 17 in
-          let found = find_made is_its (with_order_start starts) (λ o. refl) (sort_by order_cmp (map order_in rows))
-          ∙ ap (option_map (with_order_start starts)) (only_found order_cmp order_total order_in is_its rows one.was office.rows.orders.keyed one.one.alone) in
-          let started = started_as_was IsOrderRow order_cmp order_total order_in starts_order with_text (λ t u a b. refl) order_ties
+          let found = find_made is_its (with_order_start starts) (λ o. refl) (sort_by order_cmp (map order_in_row rows))
+          ∙ ap (option_map (with_order_start starts))
+          (only_found order_cmp order_total order_in_row is_its rows one.was
+          office.rows.orders.keyed one.one.alone) in
+          let started = started_as_was IsOrderRow order_cmp order_total order_in_row starts_order with_text (λ t u a b. refl) order_ties
           one.id one.was (set_columns one.was) rows starts office.orders_started office.rows.orders.rising one.one.split (λ s. refl) in
           let it = orders_changed old.now new.now office one.replaced.schema one.replaced.sound one.replaced.others one.rows
-          (subst (λ l. AreStarted starts_order order_in l starts) (sym one.replaced.row) started) _
-          (replaced_with_starts IsOrderRow order_cmp order_total order_in starts_order with_text (λ t u a b. refl) order_ties starts
-          (order_in (Int one.id ∷ set_columns one.was)) (map order_in rows) (map order_in (new.now.trees 7)) one.placed_is) in
+          (subst (λ l. AreStarted starts_order order_in_row l starts) (sym one.replaced.row) started) _
+          (replaced_with_starts IsOrderRow order_cmp order_total order_in_row starts_order with_text (λ t u a b. refl) order_ties starts
+          (order_in_row (Int one.id ∷ set_columns one.was)) (map order_in_row rows) (map order_in_row (new.now.trees 7)) one.placed_is) in
           record {
             office = it.0;
             made = it.1 ∙ sym (ap (λ o. with_cursor_of o c.row.number (tables_in old.now.trees)) found);
-            rows = remade IsOrderRow order_cmp order_in is_its 7 set_columns set_columns old.now new.now count one refl;
+            rows = remade IsOrderRow order_cmp order_in_row is_its 7 set_columns set_columns old.now new.now count one refl;
             told = told_stays 7 old.now.trees new.now.trees (λ e. cc) (λ e. cc) one.replaced.others;
           }

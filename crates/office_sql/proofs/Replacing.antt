@@ -1,5 +1,6 @@
 -- What an UPDATE of the row with a key does. No reference acts on an update here, so a table that others refer to is as any other.
-use Rattle.std.proofs.Common.{◌≡◌, ◌≢◌, ◌⊎◌, ℕ, ℤ, Bool, true, false, not, cond, List, [], ◌∷◌, map, filter, length, slice_get, Option, Some, None, Ok, refl, sym, ap, Ordering, Less, Equal, is_eq, is_lt, true≢false, subst, ◌∙◌, inl, inr, arith}
+use Rattle.std.proofs.Common.{◌≡◌, ◌≢◌, ◌⊎◌, ℕ, ℤ, Bool, true, false, not, cond, List, [], ◌∷◌, map, filter, length, slice_get, Option, Some, None}
+use Rattle.std.proofs.Common.{Ok, refl, sym, ap, Ordering, Less, Equal, is_eq, is_lt, true≢false, subst, ◌∙◌, inl, inr, arith}
 use Rattle.std.specs.List.{AllByRecursion, filter_map, flat_map}
 use Rattle.std.specs.List.Sorted.{IsPermutation}
 use Rattle.std.proofs.lemmas.List.Sorted.{length_permutation}
@@ -42,19 +43,23 @@ use Rattle.office_sql.specs.Scan.{passes}
 use Rattle.office_sql.specs.Tables.{AreRows, AreKeyed}
 use Rattle.office_sql.specs.Schema.{office_schema}
 use Rattle.office_sql.specs.Scan.{scan, env, passing}
-use Rattle.office_sql.specs.Change.{Remakes, Replaces, Stays, SameBut}
+use Rattle.office_sql.specs.Change.{Remakes, Replaces, SqlStays, SameBut}
 use Rattle.office_sql.proofs.Inserting.{enforced, task_on}
 use Rattle.sqlite.specs.Command.{Command}
 use Rattle.office_sql.proofs.Scan.{scanned}
 use Rattle.office_sql.proofs.TableRows.{row_replaced}
 use Rattle.sqlite_keyed.specs.Lists.{sort_by}
-use Rattle.office_tables.specs.Tables.{placed}
+use Rattle.office_tables.specs.Tables.{with_row}
 use Rattle.office_sql.proofs.Stepping.{went, same_value}
 
 -- the references of the office act on nothing
 calm : (tree : ℕ) (olds news : List Row) → works office_schema Enforced 0 tree olds news ≡ []
 calm tree olds news =
-    elim (length news == 0) as (λ b. flat_map (λ child. filter_map (λ ref. work_by 0 tree (pairs olds news) child ref (deed_for Enforced b ref) (parent_key office_schema.tables ref)) child.references) office_schema.tables ≡ [])
+    elim (length news == 0) as (λ b.
+    flat_map (λ child.
+    filter_map (λ ref.
+    work_by 0 tree (pairs olds news) child ref (deed_for Enforced b ref)
+    (parent_key office_schema.tables ref)) child.references) office_schema.tables ≡ [])
     [ true ↦ refl | false ↦ refl ]
 
 nothing : {X : Type 0} (xs : List X) → length xs ≡ 0 → xs ≡ []
@@ -86,7 +91,9 @@ module _ (text : List ℕ) (at : ℕ) (table : Table) (tests shown : List Term) 
     others : SameBut table.tree old.trees new.trees
     counted : unwrap_or tally.rows 0 ≡ length (news old.trees sources)
 
-  puts : (limit : Option ℕ) (old : Database) (out : Tally × Database) → IsDatabase out.1 → (kept : List Row) → passing tests params (old.trees table.tree) ≡ kept → ((l : List Row) → IsPermutation kept l → l ≡ kept)
+  puts : (limit : Option ℕ) (old : Database) (out : Tally × Database) → IsDatabase out.1
+      → (kept : List Row) → passing tests params (old.trees table.tree) ≡ kept
+      → ((l : List Row) → IsPermutation kept l → l ≡ kept)
       → OnRows (task_on limit params table) enforced None command old.trees (Ok out) → Updates (map (λ r. eval_all shown (env params r)) kept) old out.1 out.0
   puts limit old out sound kept passed alone does =
       let db = old.trees in
@@ -108,16 +115,22 @@ module _ (text : List ℕ) (at : ℕ) (table : Table) (tests shown : List Term) 
         sound = sound;
         row = ap (λ (d : Database). d.trees table.tree) now ∙ ap (λ (t : Trees). t table.tree) trees ∙ step.rows;
         others = subst (λ (t : Trees). SameBut table.tree db t) (sym (ap (λ (d : Database). d.trees) now ∙ trees)) step.tables;
-        counted = ap (λ (p : Tally × Database). unwrap_or p.0.rows 0) (same_value end.2) ∙ ap (λ (it : Written). length it.rows) (same_value written.2) ∙ ap (λ all. length (news db all)) rows;
+        counted = ap (λ (p : Tally × Database). unwrap_or p.0.rows 0) (same_value end.2)
+            ∙ ap (λ (it : Written). length it.rows) (same_value written.2)
+            ∙ ap (λ all. length (news db all)) rows;
       }
 
-module _ (text : List ℕ) (at : ℕ) (table : Table) (tests shown : List Term) (update : IsUpdate text at table tests shown) (params : Row) (old new : State) (count : ℕ)
+module _ (text : List ℕ) (at : ℕ) (table : Table) (tests shown : List Term)
+    (update : IsUpdate text at table tests shown) (params : Row) (old new : State) (count : ℕ)
     (has : old.now.schema ≡ office_schema) (ran : Executes text params old new (Ok count)) where
   abbrev after : List Row → List Row
   after = rows_after text at table tests shown update params old.now.trees
 
   updates : (kept : List Row) → passing tests params (old.now.trees table.tree) ≡ kept → ((l : List Row) → IsPermutation kept l → l ≡ kept)
-      → (tally : Tally) × Updates text at table tests shown update params (map (λ r. eval_all shown (env params r)) kept) old.now new.now tally × (count ≡ unwrap_or tally.rows 0)
+      → (tally : Tally)
+      × Updates text at table tests shown update params (map (λ r.
+      eval_all shown (env params r)) kept) old.now new.now tally
+      × (count ≡ unwrap_or tally.rows 0)
   updates kept passed alone =
       let it = command text at table tests shown update params in
       let w = runs_as text params old new office_schema has it update.is update.plain count ran in
@@ -130,7 +143,9 @@ module _ (text : List ℕ) (at : ℕ) (table : Table) (tests shown : List Term) 
       )
 
   -- where one row passes, it is replaced
-  pub replaces : (r source columns : Row) (id : ℤ) → passing tests params (old.now.trees table.tree) ≡ r ∷ [] → eval_all shown (env params r) ≡ Int id ∷ source → cast_row table source ≡ Int id ∷ columns
+  pub replaces : (r source columns : Row) (id : ℤ)
+      → passing tests params (old.now.trees table.tree) ≡ r ∷ []
+      → eval_all shown (env params r) ≡ Int id ∷ source → cast_row table source ≡ Int id ∷ columns
       → Replaces table.tree id columns old.now new.now × (count ≡ 1)
   replaces r source columns id one evals casts =
       let it = updates (r ∷ []) one (one_permutation r) in
@@ -139,14 +154,22 @@ module _ (text : List ℕ) (at : ℕ) (table : Table) (tests shown : List Term) 
       (record { schema = it.1.schema; sound = it.1.sound; row = it.1.row ∙ shows; others = it.1.others }, it.2 ∙ it.1.counted)
 
   -- where none passes, nothing changes
-  pub stays : passing tests params (old.now.trees table.tree) ≡ [] → Stays old.now new.now × (count ≡ 0)
+  pub stays : passing tests params (old.now.trees table.tree) ≡ [] → SqlStays old.now new.now × (count ≡ 0)
   stays none =
       let it = updates [] none (λ l same. nothing l (length_permutation [] l same)) in (
         record {
           schema = it.1.schema;
           sound = it.1.sound;
-          tables = all_weaker (λ (t : Table). t.tree ≢ table.tree → new.now.trees t.tree ≡ old.now.trees t.tree) (λ t. new.now.trees t.tree ≡ old.now.trees t.tree)
-              (λ t other. elim (cases_eq t.tree table.tree) [ inl e ↦ subst (λ n. new.now.trees n ≡ old.now.trees n) (sym e) it.1.row | inr ne ↦ other ne ]) office_schema.tables it.1.others;
+          tables = all_weaker (λ (t : Table). t.tree ≢ table.tree
+              → new.now.trees t.tree ≡ old.now.trees t.tree) (λ t. new.now.trees t.tree
+              ≡ old.now.trees t.tree)
+              (λ t other.
+              elim (cases_eq t.tree table.tree) [
+                | inl e ↦ subst (λ n. new.now.trees n
+                    ≡ old.now.trees n) (sym e) it.1.row
+                | inr ne ↦ other ne
+              ])
+              office_schema.tables it.1.others;
         },
         it.2 ∙ it.1.counted,
       )
@@ -163,12 +186,18 @@ pub without_one : (rows : List Row) (r : Row) (id : ℤ) → IsTable rows → Ha
 without_one [] r id up has e = absurd has
 without_one (x ∷ rows) r id up (inl same) e =
     let here : has_rowid id x ≡ true = ap (λ v. is_eq (value_cmp v (Int id))) (ap rowid (sym same) ∙ e) ∙ ap is_eq (tied_itself value_cmp_total (Int id)) in
-    let low : is_lt (value_cmp (rowid x) (Int id)) ≡ false = ap (λ v. is_lt (value_cmp v (Int id))) (ap rowid (sym same) ∙ e) ∙ ap is_lt (tied_itself value_cmp_total (Int id)) in
-    let rest : without_rowid id rows ≡ rows = filter_all _ rows (all_weaker _ (λ y. not (has_rowid id y) ≡ true) (λ y k. ap not k) rows (later_rowids (Int id) x rows low up.0)) in
+    let low : is_lt (value_cmp (rowid x) (Int id))
+    ≡ false = ap (λ v. is_lt (value_cmp v (Int id))) (ap rowid (sym same) ∙ e)
+    ∙ ap is_lt (tied_itself value_cmp_total (Int id)) in
+    let rest : without_rowid id rows
+    ≡ rows = filter_all _ rows (all_weaker _ (λ y. not (has_rowid id y)
+    ≡ true) (λ y k. ap not k) rows (later_rowids (Int id) x rows low up.0)) in
     rw (here, rest, same) (IsPermutation-refl _)
 without_one (x ∷ rows) r id up (inr later) e =
     let below : value_cmp (rowid x) (Int id) ≡ Less = subst (λ v. value_cmp (rowid x) v ≡ Less) e (all_has _ rows r up.0 later) in
-    rw below (IsPermutation-trans _ _ _ (IsPermutation-cons x _ _ (without_one rows r id up.1 later e)) (IsPermutation-middle (x ∷ []) r (without_rowid id rows)))
+    rw below (IsPermutation-trans _ _ _
+    (IsPermutation-cons x _ _ (without_one rows r id up.1 later e)) (IsPermutation-middle (x
+    ∷ []) r (without_rowid id rows)))
 
 -- the row of a table that passes a test, and its rowid
 pub record IsTheRow {A : Type 0} (Typed : Row → Type 0) (value : Row → A) (p : A → Bool) (rows : List Row) (r : Row) (id : ℤ) : Type 0 where
@@ -178,7 +207,9 @@ pub record IsTheRow {A : Type 0} (Typed : Row → Type 0) (value : Row → A) (p
   pub alone : filter (λ x. p (value x)) rows ≡ r ∷ []
   pub split : IsPermutation rows (r ∷ without_rowid id rows)
 
-module _ {A : Type 0} (Typed : Row → Type 0) (cmp : A → A → Ordering) (total : IsTotalOrder cmp) (value : Row → A) (p : A → Bool) (ties : (a b : A) → p a ≡ true → p b ≡ true → cmp a b ≡ Equal) where
+module _ {A : Type 0} (Typed : Row → Type 0) (cmp : A → A
+    → Ordering) (total : IsTotalOrder cmp) (value : Row → A) (p : A → Bool) (ties : (a b : A)
+    → p a ≡ true → p b ≡ true → cmp a b ≡ Equal) where
   -- no two rows have one key
   twice : (rows : List Row) (a b : Row) (more : List Row) → AreRows Typed cmp value rows → filter (λ r. p (value r)) rows ≡ a ∷ b ∷ more → ⊥
   twice rows a b more are e =
@@ -188,62 +219,102 @@ module _ {A : Type 0} (Typed : Row → Type 0) (cmp : A → A → Ordering) (tot
       true≢false (ap is_eq (sym (ties (value a) (value b) pa pb)) ∙ two.0.0)
 
   -- no row of a table passes, or one
-  pub one_or_none : (tests : List Term) (params : Row) → ((r : Row) → Typed r → passes tests params r ≡ p (value r)) → (rows : List Row) → AreRows Typed cmp value rows
-      → ((passing tests params rows ≡ []) × AllByRecursion (λ x. p x ≡ false) (map value rows)) ⊎ ((r : Row) × (id : ℤ) × (passing tests params rows ≡ r ∷ []) × IsTheRow Typed value p rows r id)
+  pub one_or_none : (tests : List Term) (params : Row)
+      → ((r : Row) → Typed r → passes tests params r ≡ p (value r)) → (rows : List Row)
+      → AreRows Typed cmp value rows
+      → ((passing tests params rows ≡ [])
+      × AllByRecursion (λ x. p x ≡ false) (map value rows)) ⊎ ((r : Row) × (id : ℤ)
+      × (passing tests params rows ≡ r ∷ []) × IsTheRow Typed value p rows r id)
   one_or_none tests params is rows are = go (filter (λ r. p (value r)) rows) refl
     where
       same : passing tests params rows ≡ filter (λ r. p (value r)) rows
       same = filter_same (passes tests params) (λ r. p (value r)) rows (all_weaker _ (λ r. passes tests params r ≡ p (value r)) is rows are.typed)
 
       go : (l : List Row) → filter (λ r. p (value r)) rows ≡ l
-          → ((passing tests params rows ≡ []) × AllByRecursion (λ x. p x ≡ false) (map value rows)) ⊎ ((r : Row) × (id : ℤ) × (passing tests params rows ≡ r ∷ []) × IsTheRow Typed value p rows r id)
+          → ((passing tests params rows ≡ [])
+          × AllByRecursion (λ x. p x ≡ false) (map value rows)) ⊎ ((r : Row) × (id : ℤ)
+          × (passing tests params rows ≡ r ∷ []) × IsTheRow Typed value p rows r id)
       go [] e = inl (same ∙ e, all-map (λ x. p x ≡ false) value rows (none_passes (λ r. p (value r)) rows e))
       go (r ∷ []) e =
           let has = has_filtered (λ r. p (value r)) rows r (subst (λ l. Has l r) (sym e) (inl refl)) in
           let numbered = int_is (rowid r) (all_has _ rows r are.numbered has.0) in
-          inr (r, id_in (rowid r), same ∙ e, record { numbered = numbered; typed = all_has _ rows r are.typed has.0; passed = has.1; alone = e; split = without_one rows r (id_in (rowid r)) are.rising has.0 numbered })
+          inr (
+            r,
+            id_in (rowid r),
+            same
+                ∙ e,
+            record {
+              numbered = numbered;
+              typed = all_has _ rows r are.typed has.0;
+              passed =
+                  has.1;
+              alone =
+                  e;
+              split = without_one rows r (id_in (rowid r)) are.rising has.0 numbered;
+            },
+          )
       go (a ∷ b ∷ more) e = absurd (twice rows a b more are e)
 
 -- what an UPDATE of the row with a key leaves: no row has the key, and nothing changed, or the row with the key is replaced
 pub record SetsNone {A : Type 0} (value : Row → A) (p : A → Bool) (tree : ℕ) (old new : Database) (count : ℕ) : Type 0 where
-  pub stays : Stays old new
+  pub stays : SqlStays old new
   pub none : AllByRecursion (λ x. p x ≡ false) (map value (old.trees tree))
   pub counted : count ≡ 0
 
-pub record SetsOne {A : Type 0} (Typed : Row → Type 0) (cmp : A → A → Ordering) (value : Row → A) (p : A → Bool) (tree : ℕ) (columns : Row → Row) (old new : Database) (count : ℕ) : Type 0 where
+pub record SetsOne {A : Type 0} (Typed : Row → Type 0) (cmp : A → A → Ordering) (value : Row
+    → A) (p : A → Bool) (tree : ℕ) (columns : Row
+    → Row) (old new : Database) (count : ℕ) : Type 0 where
   pub was : Row
   pub id : ℤ
   pub one : IsTheRow Typed value p (old.trees tree) was id
   pub replaced : Replaces tree id (columns was) old new
   pub rows : AreRows Typed cmp value (new.trees tree)
-  pub placed_is : sort_by cmp (map value (new.trees tree)) ≡ placed cmp (value (Int id ∷ columns was)) (sort_by cmp (map value (old.trees tree)))
+  pub placed_is : sort_by cmp (map value (new.trees tree)) ≡ with_row cmp (value (Int id ∷ columns was)) (sort_by cmp (map value (old.trees tree)))
   pub counted : count ≡ 1
 
 -- it is remade, where its new columns are those of another rule
-pub remade : {A : Type 0} (Typed : Row → Type 0) (cmp : A → A → Ordering) (value : Row → A) (p : A → Bool) (tree : ℕ) (columns others : Row → Row) (old new : Database) (count : ℕ)
+pub remade : {A : Type 0} (Typed : Row → Type 0) (cmp : A → A → Ordering) (value : Row → A) (p : A
+    → Bool) (tree : ℕ) (columns others : Row → Row) (old new : Database) (count : ℕ)
     → (one : SetsOne Typed cmp value p tree columns old new count) → columns one.was ≡ others one.was → Remakes tree (λ r. p (value r)) others old new
-remade Typed cmp value p tree columns others old new count one same = (one.was, one.id, one.one.alone, one.one.numbered, subst (λ (c : Row). Replaces tree one.id c old new) same one.replaced)
+remade Typed cmp value p tree columns others old new count one same = (
+  one.was,
+  one.id,
+  one.one.alone,
+  one.one.numbered,
+  subst (λ (c : Row).
+      Replaces tree one.id c old new) same one.replaced,
+)
 
 -- the columns of the new row, made of the old one
-pub record IsSet {A : Type 0} (Typed : Row → Type 0) (cmp : A → A → Ordering) (value : Row → A) (p : A → Bool) (table : Table) (tests shown : List Term) (params : Row) (columns : Row → Row) : Type 0 where
+pub record IsSet {A : Type 0} (Typed : Row → Type 0) (cmp : A → A → Ordering) (value : Row
+    → A) (p : A → Bool) (table : Table) (tests shown : List Term) (params : Row) (columns : Row
+    → Row) : Type 0 where
   pub tested : (r : Row) → Typed r → passes tests params r ≡ p (value r)
   pub evals : (r : Row) → eval_all shown (env params r) ≡ rowid r ∷ rowid r ∷ columns r
   pub casts : (id : ℤ) (r : Row) → Typed r → cast_row table (Int id ∷ columns r) ≡ Int id ∷ columns r
   pub typed : (id : ℤ) (r : Row) → Typed r → Typed (Int id ∷ columns r)
   pub tied : (id : ℤ) (r : Row) → Typed r → p (value r) ≡ true → cmp (value (Int id ∷ columns r)) (value r) ≡ Equal
 
-module _ {A : Type 0} (Typed : Row → Type 0) (cmp : A → A → Ordering) (total : IsTotalOrder cmp) (value : Row → A) (p : A → Bool) (ties : (a b : A) → p a ≡ true → p b ≡ true → cmp a b ≡ Equal)
-    (text : List ℕ) (at : ℕ) (table : Table) (tests shown : List Term) (update : IsUpdate text at table tests shown) (params : Row) (columns : Row → Row) (set : IsSet Typed cmp value p table tests shown params columns) where
-  pub sets : (old new : State) (count : ℕ) → old.now.schema ≡ office_schema → AreRows Typed cmp value (old.now.trees table.tree) → Executes text params old new (Ok count)
+module _ {A : Type 0} (Typed : Row → Type 0) (cmp : A → A
+    → Ordering) (total : IsTotalOrder cmp) (value : Row → A) (p : A → Bool) (ties : (a b : A)
+    → p a ≡ true → p b ≡ true → cmp a b ≡ Equal)
+    (text : List ℕ) (at : ℕ) (table : Table) (tests shown : List Term)
+    (update : IsUpdate text at table tests shown) (params : Row) (columns : Row
+    → Row) (set : IsSet Typed cmp value p table tests shown params columns) where
+  pub sets : (old new : State) (count : ℕ) → old.now.schema ≡ office_schema
+      → AreRows Typed cmp value (old.now.trees table.tree) → Executes text params old new (Ok count)
       → SetsNone value p table.tree old.now new.now count ⊎ SetsOne Typed cmp value p table.tree columns old.now new.now count
   sets old new count has are ran = elim (one_or_none Typed cmp total value p ties tests params set.tested (old.now.trees table.tree) are) [
-    | inl none ↦ (let it = stays text at table tests shown update params old new count has ran none.0 in inl (record { stays = it.0; none = none.1; counted = it.1 }))
+    | inl none ↦
+        (let it = stays text at table tests shown update params old new count has ran none.0 in inl
+        (record { stays = it.0; none = none.1; counted = it.1 }))
     | inr one ↦ (let r = one.0 in
         let id = one.1 in
         let the = one.3 in
         let it = replaces text at table tests shown update params old new count has ran r (Int id ∷ columns r) (columns r) id one.2
         (set.evals r ∙ ap (λ v. v ∷ v ∷ columns r) the.numbered) (set.casts id r the.typed) in
-        let made = row_replaced Typed cmp total value id r (columns r) (old.now.trees table.tree) are the.split (set.typed id r the.typed) (set.tied id r the.typed the.passed) in
+        let made = row_replaced Typed cmp total value id r (columns r) (old.now.trees table.tree)
+        are the.split (set.typed id r the.typed) (set.tied id r the.typed the.passed) in
         inr (record {
           was = r;
           id = id;

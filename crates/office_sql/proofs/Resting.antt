@@ -7,7 +7,7 @@ use Rattle.office_sql.specs.Keeping.{IsReady}
 use Rattle.office_sql.specs.Tables.{IsOffice, tables_in, told_in}
 
 pub same_now : (old new : State) → IsReady old → Rests old new → IsTrue new.is_open → new.now ≡ old.now
-same_now old new rest r up = elim (r.now up) [ inl e ↦ e | inr e ↦ e ∙ sym (rest.settled (r.was_open up)) ]
+same_now old new rest r up = elim (r.now up) [ inl e ↦ e | inr e ↦ e ∙ sym (rest.shows_committed (r.was_open up)) ]
 
 -- no write is made by a read
 pub none_made : (old new : State) → IsReady old → IsUnchanged old new → IsMade [] old new
@@ -15,13 +15,18 @@ none_made old new ready same = record {
   was_open = same.0.was_open;
   is_open = same.0.is_open;
   office = subst IsOffice (sym same.0.now_is) (ready.office same.0.was_open);
-  written = record { tables = ap (λ (d : Database). tables_in d.trees) same.0.now_is; rows = same.0.now_is; told = ap (λ (d : Database). told_in d.trees) same.0.now_is };
-  committed = same.0.committed_is ∙ sym (ready.settled same.0.was_open) ∙ sym same.0.now_is;
+  written = record {
+    tables = ap (λ (d : Database). tables_in d.trees) same.0.now_is;
+    rows =
+        same.0.now_is;
+    told = ap (λ (d : Database). told_in d.trees) same.0.now_is;
+  };
+  committed = same.0.committed_is ∙ sym (ready.shows_committed same.0.was_open) ∙ sym same.0.now_is;
 }
 
 pub rest_undone : (old new : State) → IsReady old → Rests old new → IsUndone old new
 rest_undone old new ready r = record {
   was_open = r.was_open;
-  now = λ up. same_now old new ready r up ∙ ready.settled (r.was_open up);
+  now = λ up. same_now old new ready r up ∙ ready.shows_committed (r.was_open up);
   committed = r.committed;
 }

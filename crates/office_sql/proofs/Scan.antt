@@ -22,7 +22,8 @@ pub record Listed (shown : List Term) (order : List (Term × Key)) (envs : Row �
   pub shows : rows ≡ map (λ r. eval_all shown (envs r)) kept
 
 -- where the matches are those of some rows, one for each
-pub listed : (by : List Collation) (from : Join) (tests shown : List Term) (order : List (Term × Key)) (db : Trees) (params : Row) (envs : Row → Env) (passed rows : List Row)
+pub listed : (by : List Collation) (from : Join) (tests shown : List Term) (order : List (Term
+    × Key)) (db : Trees) (params : Row) (envs : Row → Env) (passed rows : List Row)
     → matches db tests from (params ∷ []) ≡ map envs passed → IsAnswer (over_by by from tests shown order) db params rows → Listed shown order envs passed rows
 listed by from tests shown order db params envs passed rows are a =
     let q = over_by by from tests shown order in

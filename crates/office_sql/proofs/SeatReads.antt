@@ -16,8 +16,8 @@ use Rattle.sqlite_value.proofs.OrderLemmas.{value_cmp_total, then-Equal}
 use Rattle.sqlite_keyed.specs.Lists.{sort_by}
 use Rattle.office_tables.specs.Tables.{seat_cmp, is_seat}
 use Rattle.office_sql.specs.Schema.{office_schema}
-use Rattle.office_sql.specs.Rows.{seat_in}
-use Rattle.office_sql.specs.Scan.{is_given, passes}
+use Rattle.office_sql.specs.Rows.{seat_in_row}
+use Rattle.office_sql.specs.Scan.{is_parameter, passes}
 use Rattle.office_sql.specs.Tables.{AreRows, IsSeatRow}
 use Rattle.office_sql.proofs.Kept.{shows_kept}
 use Rattle.office_sql.proofs.Reading.{IsRead}
@@ -33,7 +33,7 @@ shown = col 1 1 ∷ col 1 2 ∷ col 1 3 ∷ col 1 4 ∷ col 1 5 ∷ []
 abbrev pub by_key : List (Term × Key)
 by_key = (col 1 1, ascending Binary) ∷ []
 
-pub one_read : IsRead office_schema one_text 1 (is_given 1 0 ∷ []) shown by_key
+pub one_read : IsRead office_schema one_text 1 (is_parameter 1 0 ∷ []) shown by_key
 unfolding understood everything
 one_read = record { names = codes "name" ∷ codes "customer" ∷ codes "last" ∷ codes "digest" ∷ codes "reply" ∷ []; is = refl; plain = (refl, refl); unlisted = refl; bare = λ schema base. refl; there = λ db. refl }
 
@@ -49,11 +49,14 @@ by_name = on (λ r. column r 1 ∷ []) (key_cmp 0 (ascending Binary ∷ []))
 pub by_name_total : IsTotalOrder by_name
 by_name_total = on_total (λ r. column r 1 ∷ []) (then_total (on_total (λ r. column r 0) value_cmp_total) level_total)
 
-pub passes_seat : (n : List ℕ) (r : Row) → IsSeatRow r → passes (is_given 1 0 ∷ []) (Words n ∷ []) r ≡ is_seat n (seat_in r)
+pub passes_seat : (n : List ℕ) (r : Row) → IsSeatRow r → passes (is_parameter 1 0 ∷ []) (Words n ∷ []) r ≡ is_seat n (seat_in_row r)
 passes_seat n r e = and_true _ ∙ text_is (column r 1) n e
 
-pub one_shown : (n : List ℕ) (all rows : List Row) → AreRows IsSeatRow seat_cmp seat_in all → Scanned (is_given 1 0 ∷ []) shown by_key (Words n ∷ []) all rows
-    → map (λ r. seat_in (Null ∷ r)) rows ≡ filter (is_seat n) (sort_by seat_cmp (map seat_in all))
+pub one_shown : (n : List ℕ) (all rows : List Row) → AreRows IsSeatRow seat_cmp seat_in_row all
+    → Scanned (is_parameter 1 0 ∷ []) shown by_key (Words n ∷ []) all rows
+    → map (λ r. seat_in_row (Null ∷ r)) rows ≡ filter (is_seat n) (sort_by seat_cmp (map seat_in_row all))
 one_shown n all rows are s =
-    shows_kept IsSeatRow seat_cmp seat_total seat_in by_name by_name_total (λ a b e f. then-Equal _ ∙ texts_cmp (column a 1) (column b 1) e f) (is_seat n) (is_given 1 0 ∷ []) (Words n ∷ []) (passes_seat n)
-    shown by_key (λ r. seat_in (Null ∷ r)) (λ r. refl) (λ a b. refl) all rows are s
+    shows_kept IsSeatRow seat_cmp seat_total seat_in_row by_name by_name_total (λ a b e f.
+    then-Equal _ ∙ texts_cmp (column a 1) (column b 1) e f) (is_seat n) (is_parameter 1 0
+    ∷ []) (Words n ∷ []) (passes_seat n)
+    shown by_key (λ r. seat_in_row (Null ∷ r)) (λ r. refl) (λ a b. refl) all rows are s

@@ -17,16 +17,16 @@ use Rattle.sqlite.specs.State.{State, Executes}
 use Rattle.sqlite_keyed.specs.Lists.{sort_by}
 use Rattle.sqlite_trees.proofs.ListLemmas.{all_both, all_weaker}
 use Rattle.sqlite_tied.specs.Compute.{everything}
-use Rattle.office_tables.specs.declared.rows.Owned.{Owned}
+use Rattle.office_tables.specs.declared.rows.OfCustomer.{OfCustomer}
 use Rattle.office_tables.specs.declared.rows.SeatState.{SeatState}
 use Rattle.office_tables.specs.declared.rows.Write.TheVariants.{PutSeat}
-use Rattle.office_tables.specs.Tables.{Writes, is_seat, seat_at, seat_cmp, placed}
+use Rattle.office_tables.specs.Tables.{Writes, is_seat, seat_at, seat_cmp, with_row}
 use Rattle.office_sql.specs.Schema.{office_schema, seat_table}
-use Rattle.office_sql.specs.Scan.{is_given}
+use Rattle.office_sql.specs.Scan.{is_parameter}
 use Rattle.office_sql.specs.Values.{whole_value}
-use Rattle.office_sql.specs.Rows.{seat_in, seat_columns}
+use Rattle.office_sql.specs.Rows.{seat_in_row, seat_columns}
 use Rattle.office_sql.specs.Tables.{AreRows, IsOffice, IsSeatRow, tables_in}
-use Rattle.office_sql.specs.Change.{Adds, SameBut, Stays, WritesRows, Wrote}
+use Rattle.office_sql.specs.Change.{SqlAdds, SameBut, SqlStays, WritesRows, Wrote}
 use Rattle.office_sql.specs.Seats.{LacksSeat}
 use Rattle.office_sql.proofs.Finding.{unkeyed, unfound, same_text, texts_tied}
 use Rattle.office_sql.proofs.Inserting.{IsInsert}
@@ -47,7 +47,7 @@ pub add_insert : IsInsert office_schema add_text 1 seat_table add_terms 6
 unfolding understood everything
 add_insert = record { is = refl; plain = (refl, refl); there = refl; uncounted = refl; unstamped = refl; one = λ params. refl }
 
-pub add_casts : (s : Owned SeatState) → cast_row seat_table (Null ∷ seat_columns s) ≡ Null ∷ seat_columns s
+pub add_casts : (s : OfCustomer SeatState) → cast_row seat_table (Null ∷ seat_columns s) ≡ Null ∷ seat_columns s
 add_casts s = rw (cast_null, cast_int (pos s.row.last)) refl
 
 abbrev pub set_text : List ℕ
@@ -56,18 +56,18 @@ set_text = codes "UPDATE seat SET customer = ?2, last = ?3, digest = ?4, reply =
 abbrev pub set_shown : List Term
 set_shown = col 1 0 ∷ col 1 0 ∷ col 1 1 ∷ col 0 1 ∷ col 0 2 ∷ col 0 3 ∷ col 0 4 ∷ []
 
-pub set_update : IsUpdate set_text 1 seat_table (is_given 1 0 ∷ []) set_shown
+pub set_update : IsUpdate set_text 1 seat_table (is_parameter 1 0 ∷ []) set_shown
 unfolding understood everything
 set_update = record { is = refl; plain = (refl, refl); there = refl; same = λ db. refl }
 
-module _ (s : Owned SeatState) where
+module _ (s : OfCustomer SeatState) where
   abbrev set_columns : Row → Row
   set_columns r = column r 1 ∷ Words s.customer ∷ whole_value s.row.last ∷ Bytes s.row.digest ∷ Words s.row.reply ∷ []
 
   name_cast : (r : Row) → IsSeatRow r → cast Text (column r 1) ≡ column r 1
   name_cast r t = ap (cast Text) t ∙ sym t
 
-  is_set : IsSet IsSeatRow seat_cmp seat_in (is_seat s.row.name) seat_table (is_given 1 0 ∷ []) set_shown (seat_columns s) set_columns
+  is_set : IsSet IsSeatRow seat_cmp seat_in_row (is_seat s.row.name) seat_table (is_parameter 1 0 ∷ []) set_shown (seat_columns s) set_columns
   is_set = record {
     tested = passes_seat s.row.name;
     evals = λ r. refl;
@@ -77,43 +77,69 @@ module _ (s : Owned SeatState) where
   }
 
   -- the setting of a seat's row finds none, or one that it replaces
-  pub seat_set : (old new : State) (count : ℕ) → IsOffice old.now → Executes set_text (seat_columns s) old new (Ok count) → MatchBool (count == 0) (LacksSeat s.row.name old.now new.now) (Wrote (PutSeat s) old.now new.now)
+  pub seat_set : (old new : State) (count : ℕ) → IsOffice old.now
+      → Executes set_text (seat_columns s) old new (Ok count)
+      → MatchBool (count == 0) (LacksSeat s.row.name old.now new.now)
+      (Wrote (PutSeat s) old.now new.now)
   seat_set old new count office ran =
-      elim (sets IsSeatRow seat_cmp seat_total seat_in (is_seat s.row.name) (λ a b e f. texts_tied s.row.name a.row.name b.row.name e f) set_text 1 seat_table (is_given 1 0 ∷ []) set_shown set_update (seat_columns s) set_columns is_set
+      elim (sets IsSeatRow seat_cmp seat_total seat_in_row (is_seat s.row.name) (λ a b e f.
+      texts_tied s.row.name a.row.name b.row.name e f) set_text 1 seat_table (is_parameter 1 0
+      ∷ []) set_shown set_update (seat_columns s) set_columns is_set
       old new count office.schema office.rows.seats ran) [ inl none ↦ rw none.counted (lacks none) | inr one ↦ rw one.counted (wrote one) ]
     where
-      lacks : SetsNone seat_in (is_seat s.row.name) 1 old.now new.now count → LacksSeat s.row.name old.now new.now
+      lacks : SetsNone seat_in_row (is_seat s.row.name) 1 old.now new.now count → LacksSeat s.row.name old.now new.now
       lacks none = let it = office_stays old.now new.now office none.stays.schema none.stays.sound none.stays.tables in
-          record { office = it.0; stays = none.stays; same = it.1; lacks = ap (seat_at s.row.name) it.1 ∙ unfound seat_cmp seat_total (is_seat s.row.name) (map seat_in (old.now.trees 1)) none.none }
+          record {
+            office = it.0;
+            stays = none.stays;
+            same = it.1;
+            lacks = ap (seat_at s.row.name)
+                it.1 ∙ unfound seat_cmp seat_total (is_seat s.row.name)
+                (map seat_in_row (old.now.trees 1)) none.none;
+          }
 
-      wrote : SetsOne IsSeatRow seat_cmp seat_in (is_seat s.row.name) 1 set_columns old.now new.now count → Wrote (PutSeat s) old.now new.now
+      wrote : SetsOne IsSeatRow seat_cmp seat_in_row (is_seat s.row.name) 1 set_columns old.now new.now count → Wrote (PutSeat s) old.now new.now
       wrote one =
           let name : bytes (column one.was 1) ≡ s.row.name = sym (same_text s.row.name (bytes (column one.was 1)) one.one.passed) in
-          let is : seat_in (Int one.id ∷ set_columns one.was) ≡ s = ap (λ n. record s { row = record s.row { name = n } }) name in
-          let it = seats_changed old.now new.now office one.replaced.schema one.replaced.sound one.replaced.others one.rows _ (one.placed_is ∙ ap (λ x. placed seat_cmp x (sort_by seat_cmp (map seat_in (old.now.trees 1)))) is) in
-          let columns : set_columns one.was ≡ seat_columns s = ap (λ v. v ∷ Words s.customer ∷ whole_value s.row.last ∷ Bytes s.row.digest ∷ Words s.row.reply ∷ []) (one.one.typed ∙ ap Words name) in
+          let is : seat_in_row (Int one.id ∷ set_columns one.was) ≡ s = ap (λ n. record s { row = record s.row { name = n } }) name in
+          let it = seats_changed old.now new.now office one.replaced.schema one.replaced.sound
+          one.replaced.others one.rows _ (one.placed_is
+          ∙ ap (λ x.
+          with_row seat_cmp x (sort_by seat_cmp (map seat_in_row (old.now.trees 1)))) is) in
+          let columns : set_columns one.was
+          ≡ seat_columns s = ap (λ v. v ∷ Words s.customer ∷ whole_value s.row.last
+          ∷ Bytes s.row.digest ∷ Words s.row.reply ∷ []) (one.one.typed ∙ ap Words name) in
           record {
             office = it.0;
             made = it.1;
-            rows = inr (remade IsSeatRow seat_cmp seat_in (is_seat s.row.name) 1 set_columns (λ _. seat_columns s) old.now new.now count one columns);
+            rows = inr (remade IsSeatRow seat_cmp seat_in_row (is_seat s.row.name) 1 set_columns (λ _. seat_columns s) old.now new.now count one columns);
             told = told_stays 1 old.now.trees new.now.trees (λ e. cc) (λ e. cc) one.replaced.others;
           }
 
   -- a seat that had no row has one
-  pub seat_added : (old new : Database) → IsOffice old → seat_at s.row.name (tables_in old.trees) ≡ None → Adds 1 (seat_columns s) old new → Wrote (PutSeat s) old new
+  pub seat_added : (old new : Database) → IsOffice old
+      → seat_at s.row.name (tables_in old.trees) ≡ None → SqlAdds 1 (seat_columns s) old new
+      → Wrote (PutSeat s) old new
   seat_added old new office none adds =
       let rows = old.trees 1 in
-      let apart = all_weaker _ (Apart seat_cmp seat_total s) (λ y e. is_eq-slice_cmp s.row.name y.row.name ∙ e) (map seat_in rows) (unkeyed seat_cmp seat_total (is_seat s.row.name) (map seat_in rows) none) in
-      let made = row_added IsSeatRow seat_cmp seat_total seat_in (seat_columns s) rows office.rows.seats refl apart in
-      let it = seats_changed old new office adds.schema adds.sound adds.others (subst (AreRows IsSeatRow seat_cmp seat_in) (sym adds.row) made.0) _ (ap (λ l. sort_by seat_cmp (map seat_in l)) adds.row ∙ made.1) in
+      let apart = all_weaker _ (Apart seat_cmp seat_total s) (λ y e.
+      is_eq-slice_cmp s.row.name y.row.name
+      ∙ e) (map seat_in_row rows)
+      (unkeyed seat_cmp seat_total (is_seat s.row.name) (map seat_in_row rows) none) in
+      let made = row_added IsSeatRow seat_cmp seat_total seat_in_row (seat_columns s) rows office.rows.seats refl apart in
+      let it = seats_changed old new office adds.schema adds.sound adds.others
+      (subst (AreRows IsSeatRow seat_cmp seat_in_row) (sym adds.row) made.0) _ (ap (λ l.
+      sort_by seat_cmp (map seat_in_row l)) adds.row ∙ made.1) in
       record { office = it.0; made = it.1; rows = inl adds; told = told_stays 1 old.trees new.trees (λ e. cc) (λ e. cc) adds.others }
 
-  same_others : (old mid new : Database) → Stays old mid → SameBut 1 mid.trees new.trees → SameBut 1 old.trees new.trees
+  same_others : (old mid new : Database) → SqlStays old mid → SameBut 1 mid.trees new.trees → SameBut 1 old.trees new.trees
   same_others old mid new stays others =
-      all_both (λ (t : Table). t.tree ≢ 1 → new.trees t.tree ≡ mid.trees t.tree) (λ t. mid.trees t.tree ≡ old.trees t.tree) (λ t. t.tree ≢ 1 → new.trees t.tree ≡ old.trees t.tree)
+      all_both (λ (t : Table). t.tree ≢ 1
+      → new.trees t.tree ≡ mid.trees t.tree) (λ t. mid.trees t.tree
+      ≡ old.trees t.tree) (λ t. t.tree ≢ 1 → new.trees t.tree ≡ old.trees t.tree)
       (λ t f e other. f other ∙ e) office_schema.tables others stays.tables
 
-  same_rows : (old mid new : Database) → Stays old mid → WritesRows (PutSeat s) mid new → WritesRows (PutSeat s) old new
+  same_rows : (old mid new : Database) → SqlStays old mid → WritesRows (PutSeat s) mid new → WritesRows (PutSeat s) old new
   same_rows old mid new stays (inl adds) = inl (record {
     schema = adds.schema;
     sound = adds.sound;
@@ -123,7 +149,7 @@ module _ (s : Owned SeatState) where
   same_rows old mid new stays (inr (r, id, alone, numbered, replaces)) = inr (
     r,
     id,
-    subst (λ rows. filter (λ x. is_seat s.row.name (seat_in x)) rows ≡ r ∷ []) stays.tables.1.0 alone,
+    subst (λ rows. filter (λ x. is_seat s.row.name (seat_in_row x)) rows ≡ r ∷ []) stays.tables.1.0 alone,
     numbered,
     record {
       schema = replaces.schema;

@@ -1,5 +1,6 @@
 -- A table whose rows each have one start in another: both after a row more with its start, and after a row in place of one with its key.
-use Rattle.std.proofs.Common.{◌≡◌, ℤ, Bool, true, false, cond, List, [], ◌∷◌, ℕ, map, find, Option, Some, refl, sym, ap, ap₂, ◌∙◌, Ordering, Less, Equal, Greater, is_eq, IsPermutation, true≢false}
+use Rattle.std.proofs.Common.{◌≡◌, ℤ, Bool, true, false, cond, List, [], ◌∷◌, ℕ, map, find, Option, Some, refl, sym, ap, ap₂, ◌∙◌, Ordering, Less}
+use Rattle.std.proofs.Common.{Equal, Greater, is_eq, IsPermutation, true≢false}
 use Rattle.std.specs.Prelude.{is_some, option_and_then}
 use Rattle.std.specs.List.{AllByRecursion}
 use Rattle.std.specs.Option.{option_map}
@@ -14,8 +15,8 @@ use Rattle.sqlite_keyed.specs.Lists.{sort_by}
 use Rattle.sqlite_keyed.proofs.ListLemmas.{all_unmap}
 use Rattle.sqlite_trees.proofs.ListLemmas.{all_weaker, all-map}
 use Rattle.sqlite_trees.proofs.TreeLemmas.{IsTable-put_row, all-put_row}
-use Rattle.office_tables.specs.Tables.{placed}
-use Rattle.office_sql.specs.Rows.{start_of}
+use Rattle.office_tables.specs.Tables.{with_row}
+use Rattle.office_sql.specs.Rows.{start_in_rows}
 use Rattle.office_sql.specs.Tables.{AreRows, AreStarted, IsStartRow}
 use Rattle.office_sql.specs.Values.{text_if}
 use Rattle.office_sql.proofs.Finding.{none_found}
@@ -25,12 +26,16 @@ use Rattle.office_sql.proofs.Starts.{start_added, start_kept}
 use Rattle.office_sql.proofs.TableRows.{put_next, put_in_place, row_added}
 
 -- what is made of each row, where the order doesn't look at it
-map_placed : {A : Type 0} (cmp : A → A → Ordering) (f : A → A) → ((a b : A) → cmp (f a) (f b) ≡ cmp a b) → (x : A) (l : List A) → map f (placed cmp x l) ≡ placed cmp (f x) (map f l)
+map_placed : {A : Type 0} (cmp : A → A → Ordering) (f : A → A)
+    → ((a b : A) → cmp (f a) (f b) ≡ cmp a b) → (x : A) (l : List A)
+    → map f (with_row cmp x l) ≡ with_row cmp (f x) (map f l)
 map_placed cmp f same x [] = refl
 map_placed cmp f same x (y ∷ ys) =
-    elim (cmp x y) as (λ o. map f (match_ordering o (x ∷ y ∷ ys) (x ∷ ys) (y ∷ placed cmp x ys)) ≡ match_ordering o (f x ∷ f y ∷ map f ys) (f x ∷ map f ys) (f y ∷ placed cmp (f x) (map f ys)))
+    elim (cmp x y) as (λ o. map f (match_ordering o (x ∷ y ∷ ys) (x ∷ ys) (y ∷ with_row cmp x ys))
+    ≡ match_ordering o (f x ∷ f y ∷ map f ys) (f x ∷ map f ys) (f y
+    ∷ with_row cmp (f x) (map f ys)))
     [ Less ↦ refl | Equal ↦ refl | Greater ↦ ap (λ l. f y ∷ l) (map_placed cmp f same x ys) ]
-    ∙ ap (λ o. match_ordering o (f x ∷ f y ∷ map f ys) (f x ∷ map f ys) (f y ∷ placed cmp (f x) (map f ys))) (sym (same x y))
+    ∙ ap (λ o. match_ordering o (f x ∷ f y ∷ map f ys) (f x ∷ map f ys) (f y ∷ with_row cmp (f x) (map f ys))) (sym (same x y))
 
 -- and where a test doesn't
 pub find_made : {A : Type 0} (p : A → Bool) (f : A → A) → ((a : A) → p (f a) ≡ p a) → (l : List A) → find p (map f l) ≡ option_map f (find p l)
@@ -39,15 +44,25 @@ find_made p f same (y ∷ ys) =
     ap (λ b. cond b (Some (f y)) (find p (map f ys))) (same y)
     ∙ elim (p y) as (λ b. cond b (Some (f y)) (find p (map f ys)) ≡ option_map f (cond b (Some y) (find p ys))) [ true ↦ refl | false ↦ find_made p f same ys ]
 
-module _ {A : Type 0} (Typed : Row → Type 0) (cmp : A → A → Ordering) (total : IsTotalOrder cmp) (value : Row → A) (is_for : A → Row → Bool) (with_text : Option (List ℕ) → A → A)
-    (unread : (t u : Option (List ℕ)) (a b : A) → cmp (with_text t a) (with_text u b) ≡ cmp a b) (ties : (a b : A) (s : Row) → is_for a s ≡ true → is_for b s ≡ true → cmp a b ≡ Equal) where
+module _ {A : Type 0} (Typed : Row → Type 0) (cmp : A → A
+    → Ordering) (total : IsTotalOrder cmp) (value : Row → A) (is_for : A → Row
+    → Bool) (with_text : Option (List ℕ) → A → A)
+    (unread : (t u : Option (List ℕ)) (a b : A)
+    → cmp (with_text t a) (with_text u b) ≡ cmp a b) (ties : (a b : A) (s : Row)
+    → is_for a s ≡ true → is_for b s ≡ true → cmp a b ≡ Equal) where
   abbrev with_start : List Row → A → A
-  with_start starts a = with_text (start_of is_for starts a) a
+  with_start starts a = with_text (start_in_rows is_for starts a) a
 
   -- a start is not for two keys
   not_both : (a b : A) (s : Row) → is_eq (cmp a b) ≡ false → is_for a s ≡ true → is_for b s ≡ false
   not_both a b s apart its =
-      elim (is_for b s) as (λ v. is_for b s ≡ v → v ≡ false) [ true ↦ λ too. absurd (true≢false (ap is_eq (sym (ties a b s its too)) ∙ apart)) | false ↦ λ e. refl ] refl
+      elim (is_for b s) as (λ v. is_for b s ≡ v
+      → v ≡ false) [
+        | true ↦ λ too.
+            absurd (true≢false (ap is_eq (sym (ties a b s its too)) ∙ apart))
+        | false ↦ λ e.
+            refl
+      ] refl
 
   -- a key that no row has is no start's
   unstarted : (a : A) (rows starts : List Row) → AllByRecursion (λ r. is_eq (cmp a (value r)) ≡ false) rows
@@ -66,12 +81,15 @@ module _ {A : Type 0} (Typed : Row → Type 0) (cmp : A → A → Ordering) (tot
     pub are : AreRows Typed cmp value (put_row r rows)
     pub started : AreStarted is_for value (put_row r rows) (put_row s starts)
     pub placed_is : map (with_start (put_row s starts)) (sort_by cmp (map value (put_row r rows)))
-        ≡ placed cmp (with_text (text_if (column s 3)) (value r)) (map (with_start starts) (sort_by cmp (map value rows)))
+        ≡ with_row cmp (with_text (text_if (column s 3)) (value r)) (map (with_start starts) (sort_by cmp (map value rows)))
 
   -- a row more, with its start
   pub started_more : (columns own : Row) (rows starts : List Row) → AreRows Typed cmp value rows → AreStarted is_for value rows starts
-      → Typed (Int (next_rowid rows) ∷ columns) → IsStartRow (Int (next_rowid starts) ∷ own) → is_for (value (Int (next_rowid rows) ∷ columns)) (Int (next_rowid starts) ∷ own) ≡ true
-      → AllByRecursion (Apart cmp total (value (Int (next_rowid rows) ∷ columns))) (map value rows) → StartedMore (Int (next_rowid rows) ∷ columns) (Int (next_rowid starts) ∷ own) rows starts
+      → Typed (Int (next_rowid rows) ∷ columns) → IsStartRow (Int (next_rowid starts) ∷ own)
+      → is_for (value (Int (next_rowid rows) ∷ columns)) (Int (next_rowid starts) ∷ own) ≡ true
+      → AllByRecursion (Apart cmp total (value (Int (next_rowid rows) ∷ columns))) (map value rows)
+      → StartedMore (Int (next_rowid rows) ∷ columns) (Int (next_rowid starts)
+      ∷ own) rows starts
   started_more columns own rows starts are was typed texts its apart =
       let r : Row = Int (next_rowid rows) ∷ columns in
       let s : Row = Int (next_rowid starts) ∷ own in
@@ -91,17 +109,24 @@ module _ {A : Type 0} (Typed : Row → Type 0) (cmp : A → A → Ordering) (tot
         are = made.0;
         started = more.started;
         placed_is = ap (map (with_start (put_row s starts))) made.1 ∙ map_placed cmp (with_start (put_row s starts)) (λ a b. unread _ _ a b) (value r) sorted
-            ∙ ap₂ (placed cmp) (ap (λ o. with_text (option_and_then (λ t. text_if (column t 3)) o) (value r)) more.its) (map_each (with_start (put_row s starts)) (with_start starts) sorted same);
+            ∙ ap₂ (with_row cmp) (ap (λ o.
+            with_text (option_and_then (λ t.
+            text_if (column t 3)) o) (value r)) more.its)
+            (map_each (with_start (put_row s starts)) (with_start starts) sorted same);
       }
 
   -- a row in place of one with the same starts
-  pub started_as_was : (id : ℤ) (old columns : Row) (rows starts : List Row) → AreStarted is_for value rows starts → IsTable rows → IsPermutation rows (old ∷ without_rowid id rows)
-      → ((s : Row) → is_for (value (Int id ∷ columns)) s ≡ is_for (value old) s) → AreStarted is_for value (put_row (Int id ∷ columns) (without_rowid id rows)) starts
+  pub started_as_was : (id : ℤ) (old columns : Row) (rows starts : List Row)
+      → AreStarted is_for value rows starts → IsTable rows
+      → IsPermutation rows (old ∷ without_rowid id rows)
+      → ((s : Row) → is_for (value (Int id ∷ columns)) s ≡ is_for (value old) s)
+      → AreStarted is_for value (put_row (Int id ∷ columns) (without_rowid id rows)) starts
   started_as_was id old columns rows starts was up split =
       start_kept value is_for old (Int id ∷ columns) (without_rowid id rows) rows (put_row (Int id ∷ columns) (without_rowid id rows)) starts was split
       (IsPermutation-sym _ _ (put_in_place id columns rows up))
 
   -- in the order of the key
-  pub replaced_with_starts : (starts : List Row) (new : A) (old_rows new_rows : List A) → sort_by cmp new_rows ≡ placed cmp new (sort_by cmp old_rows)
-      → map (with_start starts) (sort_by cmp new_rows) ≡ placed cmp (with_start starts new) (map (with_start starts) (sort_by cmp old_rows))
-  replaced_with_starts starts new old_rows new_rows is = ap (map (with_start starts)) is ∙ map_placed cmp (with_start starts) (λ a b. unread _ _ a b) new (sort_by cmp old_rows)
+  pub replaced_with_starts : (starts : List Row) (new : A) (old_rows new_rows : List A) → sort_by cmp new_rows ≡ with_row cmp new (sort_by cmp old_rows)
+      → map (with_start starts) (sort_by cmp new_rows) ≡ with_row cmp (with_start starts new) (map (with_start starts) (sort_by cmp old_rows))
+  replaced_with_starts starts new old_rows new_rows is = ap (map (with_start starts)) is
+      ∙ map_placed cmp (with_start starts) (λ a b. unread _ _ a b) new (sort_by cmp old_rows)

@@ -1,5 +1,6 @@
 -- A row more with its start, and a row in place of one with the same key: each row has exactly one start still.
-use Rattle.std.proofs.Common.{◌≡◌, List, [], ◌∷◌, filter, find, length, slice_get, Bool, true, false, cond, Some, refl, sym, ap, subst, ◌∙◌, IsPermutation, IsTrue, true≢false, arith}
+use Rattle.std.proofs.Common.{◌≡◌, List, [], ◌∷◌, filter, find, length, slice_get, Bool, true, false, cond, Some, refl, sym, ap, subst, ◌∙◌}
+use Rattle.std.proofs.Common.{IsPermutation, IsTrue, true≢false, arith}
 use Rattle.std.specs.Prelude.{is_some}
 use Rattle.std.specs.List.{AllByRecursion}
 use Rattle.std.proofs.lemmas.List.Sorted.{length_permutation}
@@ -14,7 +15,10 @@ use Rattle.office_sql.specs.Tables.{AreStarted, HasOne, IsText}
 -- what is found is found in any order
 found_along : (p : Row → Bool) (xs ys : List Row) → IsPermutation xs ys → is_some (find p xs) ≡ true → is_some (find p ys) ≡ true
 found_along p xs ys same some =
-    sym (ap is_some (slice_get-filter p ys)) ∙ go (filter p xs) (filter p ys) (length_permutation _ _ (IsPermutation-filter p xs ys same)) (ap is_some (slice_get-filter p xs) ∙ some)
+    sym (ap is_some (slice_get-filter p ys))
+    ∙ go (filter p xs) (filter p ys)
+    (length_permutation _ _ (IsPermutation-filter p xs ys same))
+    (ap is_some (slice_get-filter p xs) ∙ some)
   where
     go : (l k : List Row) → length k ≡ length l → is_some (slice_get l 0) ≡ true → is_some (slice_get k 0) ≡ true
     go [] k e h = absurd (true≢false (sym h))
@@ -32,37 +36,57 @@ module _ {A : Type 0} (value : Row → A) (is_for : A → Row → Bool) where
     pub its : find (is_for (value r)) starts2 ≡ Some s
     pub others : AllByRecursion (λ x. find (is_for (value x)) starts2 ≡ find (is_for (value x)) starts) rows
 
-  pub start_added : (r s : Row) (rows starts rows2 starts2 : List Row) → AreStarted is_for value rows starts → IsPermutation (r ∷ rows) rows2 → IsPermutation (s ∷ starts) starts2
+  pub start_added : (r s : Row) (rows starts rows2 starts2 : List Row)
+      → AreStarted is_for value rows starts → IsPermutation (r ∷ rows) rows2
+      → IsPermutation (s ∷ starts) starts2
       → IsTable starts2 → AllByRecursion (λ t. IsTrue (is_int (rowid t))) starts2 → IsText 1 s × IsText 2 s
-      → is_for (value r) s ≡ true → AllByRecursion (λ t. is_for (value r) t ≡ false) starts → AllByRecursion (λ x. is_for (value x) s ≡ false) rows → Added r s rows starts rows2 starts2
+      → is_for (value r) s ≡ true → AllByRecursion (λ t. is_for (value r) t ≡ false) starts
+      → AllByRecursion (λ x. is_for (value x) s ≡ false) rows
+      → Added r s rows starts rows2 starts2
   start_added r s rows starts rows2 starts2 was more_rows more_starts up whole texts its none_its not_others =
       let alone : filter (is_for (value r)) (s ∷ starts) ≡ s ∷ [] = rw its (ap (λ l. s ∷ l) (filter_none (is_for (value r)) starts none_its)) in
       let there : filter (is_for (value r)) starts2 ≡ s ∷ [] = along (value r) s alone in
       let old : AllByRecursion (λ x. (h : HasOne is_for starts (value x)) × (filter (is_for (value x)) starts2 ≡ h.0 ∷ [])) rows =
-      all_both (λ x. HasOne is_for starts (value x)) (λ x. is_for (value x) s ≡ false) _ (λ x h e. (h, along (value x) h.0 (rw e h.1))) rows was.one not_others in
+      all_both (λ x. HasOne is_for starts (value x)) (λ x. is_for (value x) s
+      ≡ false) _ (λ x h e. (h, along (value x) h.0 (rw e h.1))) rows was.one not_others in
       record {
         started = record {
           rising = up;
           numbered = whole;
           typed = all-permutation (λ t. IsText 1 t × IsText 2 t) (s ∷ starts) starts2 more_starts (texts, was.typed);
-          one = all-permutation (λ x. HasOne is_for starts2 (value x)) (r ∷ rows) rows2 more_rows ((s, there), all_weaker _ (λ x. HasOne is_for starts2 (value x)) (λ x h. (h.0.0, h.1)) rows old);
+          one = all-permutation (λ x. HasOne is_for starts2 (value x)) (r
+              ∷ rows) rows2 more_rows (
+                (s, there),
+                all_weaker _ (λ x.
+                    HasOne is_for starts2 (value x)) (λ x h. (h.0.0, h.1)) rows old,
+              );
           for_one = all-permutation (λ t. is_some (find (λ x. is_for (value x) t) rows2) ≡ true) (s ∷ starts) starts2 more_starts (
             found_along (λ x. is_for (value x) s) (r ∷ rows) rows2 more_rows (rw its refl),
-            all_weaker (λ t. is_some (find (λ x. is_for (value x) t) rows) ≡ true) _ (λ t h. found_along (λ x. is_for (value x) t) (r ∷ rows) rows2 more_rows (later t h)) starts was.for_one,
+            all_weaker (λ t. is_some (find (λ x. is_for (value x) t) rows)
+                ≡ true) _ (λ t h.
+                found_along (λ x. is_for (value x) t) (r
+                ∷ rows) rows2 more_rows (later t h)) starts was.for_one,
           );
         };
         its = first_found (is_for (value r)) starts2 [] s there;
-        others = all_weaker _ (λ x. find (is_for (value x)) starts2 ≡ find (is_for (value x)) starts) (λ x h. first_found (is_for (value x)) starts2 [] h.0.0 h.1 ∙ sym (first_found (is_for (value x)) starts [] h.0.0 h.0.1)) rows old;
+        others = all_weaker _ (λ x. find (is_for (value x)) starts2
+            ≡ find (is_for (value x)) starts) (λ x h.
+            first_found (is_for (value x)) starts2 [] h.0.0 h.1
+            ∙ sym (first_found (is_for (value x)) starts [] h.0.0 h.0.1)) rows old;
       }
     where
       along : (a : A) (t : Row) → filter (is_for a) (s ∷ starts) ≡ t ∷ [] → filter (is_for a) starts2 ≡ t ∷ []
-      along a t e = one_permutation t _ (subst (λ l. IsPermutation l (filter (is_for a) starts2)) e (IsPermutation-filter (is_for a) (s ∷ starts) starts2 more_starts))
+      along a t e = one_permutation t _ (subst (λ l.
+          IsPermutation l (filter (is_for a) starts2)) e (IsPermutation-filter (is_for a) (s
+          ∷ starts) starts2 more_starts))
 
       later : (t : Row) → is_some (find (λ x. is_for (value x) t) rows) ≡ true → is_some (find (λ x. is_for (value x) t) (r ∷ rows)) ≡ true
       later t h = elim (is_for (value r) t) as (λ b. is_some (cond b (Some r) (find (λ x. is_for (value x) t) rows)) ≡ true) [ true ↦ refl | false ↦ h ]
 
   -- a row in place of one that has the same starts
-  pub start_kept : (old new : Row) (rest rows rows2 starts : List Row) → AreStarted is_for value rows starts → IsPermutation rows (old ∷ rest) → IsPermutation (new ∷ rest) rows2
+  pub start_kept : (old new : Row) (rest rows rows2 starts : List Row)
+      → AreStarted is_for value rows starts → IsPermutation rows (old ∷ rest)
+      → IsPermutation (new ∷ rest) rows2
       → ((t : Row) → is_for (value new) t ≡ is_for (value old) t) → AreStarted is_for value rows2 starts
   start_kept old new rest rows rows2 starts was split made same =
       let one = all-permutation (λ x. HasOne is_for starts (value x)) rows (old ∷ rest) split was.one in
@@ -70,11 +94,24 @@ module _ {A : Type 0} (value : Row → A) (is_for : A → Row → Bool) where
         rising = was.rising;
         numbered = was.numbered;
         typed = was.typed;
-        one = all-permutation (λ x. HasOne is_for starts (value x)) (new ∷ rest) rows2 made ((one.0.0, ap (λ (p : Row → Bool). filter p starts) (λ i t. same t i) ∙ one.0.1), one.1);
+        one = all-permutation (λ x. HasOne is_for starts (value x)) (new
+            ∷ rest) rows2 made (
+              (
+                one.0.0,
+                ap (λ (p : Row → Bool). filter p starts) (λ i t. same t i)
+                    ∙ one.0.1,
+              ),
+              one.1,
+            );
         for_one = all_weaker (λ t. is_some (find (λ x. is_for (value x) t) rows) ≡ true) _
-            (λ t h. found_along (λ x. is_for (value x) t) (new ∷ rest) rows2 made (first t (found_along (λ x. is_for (value x) t) rows (old ∷ rest) split h))) starts was.for_one;
+            (λ t h. found_along (λ x. is_for (value x) t) (new
+            ∷ rest) rows2 made (first t (found_along (λ x. is_for (value x) t) rows (old
+            ∷ rest) split h))) starts was.for_one;
       }
     where
       first : (t : Row) → is_some (find (λ x. is_for (value x) t) (old ∷ rest)) ≡ true → is_some (find (λ x. is_for (value x) t) (new ∷ rest)) ≡ true
       first t h = subst (λ b. is_some (cond b (Some new) (find (λ x. is_for (value x) t) rest)) ≡ true) (sym (same t))
-          (elim (is_for (value old) t) as (λ b. is_some (cond b (Some old) (find (λ x. is_for (value x) t) rest)) ≡ true → is_some (cond b (Some new) (find (λ x. is_for (value x) t) rest)) ≡ true) [ true ↦ λ _. refl | false ↦ λ k. k ] h)
+          (elim (is_for (value old) t) as (λ b.
+          is_some (cond b (Some old) (find (λ x. is_for (value x) t) rest)) ≡ true
+          → is_some (cond b (Some new) (find (λ x. is_for (value x) t) rest))
+          ≡ true) [ true ↦ λ _. refl | false ↦ λ k. k ] h)

@@ -22,7 +22,7 @@ use Rattle.office_sql.specs.Schema.{office_schema, order_start_table, given_star
 use Rattle.office_sql.specs.Scan.{env}
 use Rattle.office_sql.specs.Joins.{over_by}
 use Rattle.office_sql.specs.Change.{SameBut}
-use Rattle.office_sql.specs.Rows.{order_in, given_in, start_of, starts_order, starts_given}
+use Rattle.office_sql.specs.Rows.{order_in_row, given_in_row, start_in_rows, starts_order, starts_given}
 use Rattle.office_sql.specs.Values.{text_if}
 use Rattle.office_sql.specs.Tables.{AreRows, AreStarted, IsText, IsOrderRow, IsGivenRow}
 use Rattle.office_sql.proofs.Filled.{news_of, numbered_made, grows, started, each_made}
@@ -40,10 +40,13 @@ pub record Starts {A : Type 0} (value : Row → A) (is_for : A → Row → Bool)
   pub others : SameBut side old.trees new.trees
 
 -- starts that say nothing give none
-pub silent_start : {A : Type 0} (is_for : A → Row → Bool) (starts : List Row) (x : A) → AllByRecursion (λ s. column s 3 ≡ Null) starts → start_of is_for starts x ≡ None
+pub silent_start : {A : Type 0} (is_for : A → Row → Bool) (starts : List Row) (x : A)
+    → AllByRecursion (λ s. column s 3 ≡ Null) starts → start_in_rows is_for starts x ≡ None
 silent_start is_for [] x silent = refl
 silent_start is_for (s ∷ starts) x silent =
-    elim (is_for x s) as (λ b. option_and_then (λ r. text_if (column r 3)) (cond b (Some s) (find (is_for x) starts)) ≡ None) [ true ↦ ap text_if silent.0 | false ↦ silent_start is_for starts x silent.1 ]
+    elim (is_for x s) as (λ b.
+    option_and_then (λ r. text_if (column r 3)) (cond b (Some s) (find (is_for x) starts))
+    ≡ None) [ true ↦ ap text_if silent.0 | false ↦ silent_start is_for starts x silent.1 ]
 
 -- the key of a row, and no beginning of validity
 abbrev pub start_columns : Row → Row
@@ -58,7 +61,8 @@ plainly = Binary ∷ Binary ∷ Binary ∷ Binary ∷ []
 -- where the table of starts is filled with the rows' keys
 filled : {A : Type 0} (Typed : Row → Type 0) (cmp : A → A → Ordering) (total : IsTotalOrder cmp) (value : Row → A) (is_for : A → Row → Bool)
     → ((a : A) (id : ℤ) (r : Row) → Typed r → is_for a (Int id ∷ start_columns r) ≡ is_eq (cmp a (value r))) → ((r : Row) → Typed r → IsText 1 r × IsText 2 r)
-    → (tree side : ℕ) (old new : Database) → AreRows Typed cmp value (old.trees tree) → Fills start_columns tree side old new → Starts value is_for tree side old new
+    → (tree side : ℕ) (old new : Database) → AreRows Typed cmp value (old.trees tree)
+    → Fills start_columns tree side old new → Starts value is_for tree side old new
 filled Typed cmp total value is_for tied texts tree side old new are it =
     let news = news_of start_columns [] it.kept in
     let grown = grows start_columns it.kept [] tt tt in
@@ -68,8 +72,12 @@ filled Typed cmp total value is_for tied texts tree side old new are it =
       schema = it.schema;
       sound = it.sound;
       started = subst (AreStarted is_for value (old.trees tree)) (sym it.rows)
-          (started Typed cmp total value is_for start_columns tied (λ id r e. texts r e) (old.trees tree) it.kept news _ are it.along made grown.rising grown.numbered same);
-      silent = subst (AllByRecursion (λ s. column s 3 ≡ Null)) (sym it.rows) (each_made start_columns (λ s. column s 3 ≡ Null) it.kept news _ made same (λ id r. refl));
+          (started Typed cmp total value is_for start_columns tied (λ id r e.
+          texts r e) (old.trees tree)
+          it.kept news _ are it.along made grown.rising grown.numbered same);
+      silent = subst (AllByRecursion (λ s. column s 3
+          ≡ Null)) (sym it.rows) (each_made start_columns (λ s. column s 3
+          ≡ Null) it.kept news _ made same (λ id r. refl));
       others = it.others;
     }
 
@@ -85,11 +93,14 @@ order_fill = record { is = refl; plain = (refl, refl); there = refl; uncounted =
 order_casts : (r : Row) → IsOrderRow r → cast_row order_start_table (eval_all fill_shown (env [] r)) ≡ Null ∷ start_columns r
 order_casts r e = rw (cast_null, e.0, e.1) refl
 
-pub orders_filled : (old new : State) (count : ℕ) → old.now.schema ≡ office_schema → AreRows IsOrderRow order_cmp order_in (old.now.trees 7) → old.now.trees 17 ≡ []
-    → Executes order_fill_text [] old new (Ok count) → Starts order_in starts_order 7 17 old.now new.now
+pub orders_filled : (old new : State) (count : ℕ) → old.now.schema ≡ office_schema
+    → AreRows IsOrderRow order_cmp order_in_row (old.now.trees 7) → old.now.trees 17 ≡ []
+    → Executes order_fill_text [] old new (Ok count) → Starts order_in_row starts_order 7 17 old.now new.now
 orders_filled old new count has are empty ran =
-    filled IsOrderRow order_cmp order_total order_in starts_order (λ a id r e. sym (order_tied a (order_in r))) (λ r e. (e.0, e.1)) 7 17 old.now new.now are
-    (fills order_fill_text 8 order_start_table 7 plainly fill_shown order_fill (λ db. refl) [] IsOrderRow start_columns order_casts old new count has empty are.typed ran)
+    filled IsOrderRow order_cmp order_total order_in_row starts_order (λ a id r e.
+    sym (order_tied a (order_in_row r))) (λ r e. (e.0, e.1)) 7 17 old.now new.now are
+    (fills order_fill_text 8 order_start_table 7 plainly fill_shown order_fill (λ db.
+    refl) [] IsOrderRow start_columns order_casts old new count has empty are.typed ran)
 
 -- ---- the starts of records
 
@@ -103,8 +114,11 @@ given_fill = record { is = refl; plain = (refl, refl); there = refl; uncounted =
 given_casts : (r : Row) → IsGivenRow r → cast_row given_start_table (eval_all fill_shown (env [] r)) ≡ Null ∷ start_columns r
 given_casts r e = rw (cast_null, e.0, e.1) refl
 
-pub given_filled : (old new : State) (count : ℕ) → old.now.schema ≡ office_schema → AreRows IsGivenRow given_cmp given_in (old.now.trees 11) → old.now.trees 19 ≡ []
-    → Executes given_fill_text [] old new (Ok count) → Starts given_in starts_given 11 19 old.now new.now
+pub given_filled : (old new : State) (count : ℕ) → old.now.schema ≡ office_schema
+    → AreRows IsGivenRow given_cmp given_in_row (old.now.trees 11) → old.now.trees 19 ≡ []
+    → Executes given_fill_text [] old new (Ok count) → Starts given_in_row starts_given 11 19 old.now new.now
 given_filled old new count has are empty ran =
-    filled IsGivenRow given_cmp given_total given_in starts_given (λ a id r e. sym (given_tied a (given_in r))) (λ r e. (e.0, e.1)) 11 19 old.now new.now are
-    (fills given_fill_text 9 given_start_table 11 plainly fill_shown given_fill (λ db. refl) [] IsGivenRow start_columns given_casts old new count has empty are.typed ran)
+    filled IsGivenRow given_cmp given_total given_in_row starts_given (λ a id r e.
+    sym (given_tied a (given_in_row r))) (λ r e. (e.0, e.1)) 11 19 old.now new.now are
+    (fills given_fill_text 9 given_start_table 11 plainly fill_shown given_fill (λ db.
+    refl) [] IsGivenRow start_columns given_casts old new count has empty are.typed ran)

@@ -1,11 +1,13 @@
 -- What an edit of a table's rows makes of the rows in key order.
-use Rattle.std.proofs.Common.{◌≡◌, ℤ, pos, ◌+ℤ◌, true, false, not, cond, List, [], ◌∷◌, map, fold, refl, sym, ap, ◌∙◌, subst, arith, Ordering, Less, Equal, Greater, is_lt, is_eq, true≢false, IsPermutation, IsTrue}
+use Rattle.std.proofs.Common.{◌≡◌, ℤ, pos, ◌+ℤ◌, true, false, not, cond, List, [], ◌∷◌, map, fold, refl, sym, ap, ◌∙◌, subst, arith, Ordering, Less}
+use Rattle.std.proofs.Common.{Equal, Greater, is_lt, is_eq, true≢false, IsPermutation, IsTrue}
 use Rattle.std.specs.List.{AllByRecursion}
 use Rattle.std.specs.Ordering.{match_ordering}
 use Rattle.std.specs.Cmp.{IsTotalOrder}
 use Rattle.std.proofs.lemmas.Bool.Decides.{nat_tests}
 use Rattle.std.proofs.lemmas.Int.{ints}
-use Rattle.std.proofs.lemmas.List.Sorted.{IsPermutation-refl, IsPermutation-sym, IsPermutation-trans, IsPermutation-cons, IsPermutation-middle, IsPermutation-map}
+use Rattle.std.proofs.lemmas.List.Sorted.{IsPermutation-refl, IsPermutation-sym, IsPermutation-trans, IsPermutation-cons, IsPermutation-middle}
+use Rattle.std.proofs.lemmas.List.Sorted.{IsPermutation-map}
 use Rattle.sqlite.specs.declared.types.Value.{Value}
 use Rattle.sqlite.specs.declared.types.Value.TheVariants.{Null, Int, Real, Text, Blob}
 use Rattle.sqlite.specs.Order.{Row, value_cmp}
@@ -16,7 +18,7 @@ use Rattle.sqlite_trees.proofs.ListLemmas.{all_weaker, all-filter, filter_all, f
 use Rattle.sqlite_trees.proofs.TreeLemmas.{later_rowids, IsTable-put_row, all-put_row}
 use Rattle.sqlite_value.proofs.OrderLemmas.{value_cmp_total, value_cmp-Int}
 use Rattle.sqlite_keyed.specs.Lists.{sort_by}
-use Rattle.office_tables.specs.Tables.{placed}
+use Rattle.office_tables.specs.Tables.{with_row}
 use Rattle.office_sql.specs.Tables.{AreRows}
 use Rattle.office_sql.proofs.Keyed.{Apart, gains, replaces}
 
@@ -29,7 +31,8 @@ put_row_same id new keyed (r ∷ rows) table = rw keyed (go (value_cmp (rowid r)
     kept h = filter_all _ rows (all_weaker _ (λ x. not (has_rowid id x) ≡ true) (λ x k. ap not k) rows (later_rowids (Int id) r rows h table.0))
 
     go : (o : Ordering) → value_cmp (rowid r) (Int id) ≡ o → IsPermutation (put_row new rows) (new ∷ without_rowid id rows)
-        → IsPermutation (match_ordering o (r ∷ put_row new rows) (new ∷ rows) (new ∷ r ∷ rows)) (new ∷ cond (not (is_eq o)) (r ∷ without_rowid id rows) (without_rowid id rows))
+        → IsPermutation (match_ordering o (r ∷ put_row new rows) (new ∷ rows) (new ∷ r ∷ rows)) (new
+        ∷ cond (not (is_eq o)) (r ∷ without_rowid id rows) (without_rowid id rows))
     go Less e more = IsPermutation-trans _ _ _ (IsPermutation-cons r _ _ more) (IsPermutation-middle (r ∷ []) new _)
     go Equal e more = rw (kept (ap is_lt e)) (IsPermutation-refl _)
     go Greater e more = rw (kept (ap is_lt e)) (IsPermutation-refl _)
@@ -45,7 +48,9 @@ one_more (Text t) h = absurd (true≢false (sym h))
 one_more (Blob b) h = absurd (true≢false (sym h))
 
 -- the next rowid is above each
-below_next : (start : ℤ) (rows : List Row) → IsTable rows → AllByRecursion (λ r. IsTrue (is_int (rowid r))) rows → AllByRecursion (λ r. value_cmp (rowid r) (Int (after start rows)) ≡ Less) rows
+below_next : (start : ℤ) (rows : List Row) → IsTable rows
+    → AllByRecursion (λ r. IsTrue (is_int (rowid r))) rows
+    → AllByRecursion (λ r. value_cmp (rowid r) (Int (after start rows)) ≡ Less) rows
 below_next start [] up whole = tt
 below_next start (r ∷ []) up whole = (one_more (rowid r) whole.0, tt)
 below_next start (r ∷ s ∷ rows) up whole =
@@ -54,7 +59,8 @@ below_next start (r ∷ s ∷ rows) up whole =
 
 pub next_is_free : (rows : List Row) → IsTable rows → AllByRecursion (λ r. IsTrue (is_int (rowid r))) rows → without_rowid (next_rowid rows) rows ≡ rows
 next_is_free rows up whole =
-    filter_all _ rows (all_weaker _ (λ r. not (has_rowid (next_rowid rows) r) ≡ true) (λ r e. ap (λ o. not (is_eq o)) e) rows (below_next (pos 1) rows up whole))
+    filter_all _ rows (all_weaker _ (λ r. not (has_rowid (next_rowid rows) r)
+    ≡ true) (λ r e. ap (λ o. not (is_eq o)) e) rows (below_next (pos 1) rows up whole))
 
 -- the rows with a new one
 pub put_next : (columns : Row) (rows : List Row) → IsTable rows → AllByRecursion (λ r. IsTrue (is_int (rowid r))) rows
@@ -64,7 +70,9 @@ put_next columns rows up whole =
     subst (λ l. IsPermutation (put_row new rows) (new ∷ l)) (next_is_free rows up whole) (put_row_same (next_rowid rows) new refl rows up)
 
 -- the rows with one in place of that with its rowid
-pub put_in_place : (id : ℤ) (columns : Row) (rows : List Row) → IsTable rows → IsPermutation (put_row (Int id ∷ columns) (without_rowid id rows)) ((Int id ∷ columns) ∷ without_rowid id rows)
+pub put_in_place : (id : ℤ) (columns : Row) (rows : List Row) → IsTable rows
+    → IsPermutation (put_row (Int id ∷ columns) (without_rowid id rows)) ((Int id ∷ columns)
+    ∷ without_rowid id rows)
 put_in_place id columns rows up =
     let new : Row = Int id ∷ columns in
     let rest = without_rowid id rows in
@@ -75,23 +83,43 @@ module _ {A : Type 0} (Typed : Row → Type 0) (cmp : A → A → Ordering) (tot
   pub row_added : (columns : Row) (rows : List Row) → AreRows Typed cmp value rows → Typed (Int (next_rowid rows) ∷ columns)
       → AllByRecursion (Apart cmp total (value (Int (next_rowid rows) ∷ columns))) (map value rows)
       → AreRows Typed cmp value (put_row (Int (next_rowid rows) ∷ columns) rows)
-      × (sort_by cmp (map value (put_row (Int (next_rowid rows) ∷ columns) rows)) ≡ placed cmp (value (Int (next_rowid rows) ∷ columns)) (sort_by cmp (map value rows)))
+      × (sort_by cmp (map value (put_row (Int (next_rowid rows) ∷ columns) rows))
+      ≡ with_row cmp (value (Int (next_rowid rows) ∷ columns)) (sort_by cmp (map value rows)))
   row_added columns rows are is_typed free =
       let id = next_rowid rows in
       let new : Row = Int id ∷ columns in
       let there = IsPermutation-map value _ _ (IsPermutation-sym _ _ (put_next columns rows are.rising are.numbered)) in
-      let it = gains cmp total (value new) (map value rows) (map value (put_row new rows)) (free, are.keyed) there in
-      (record { rising = IsTable-put_row new rows are.rising; numbered = all-put_row _ new rows refl are.numbered; typed = all-put_row Typed new rows is_typed are.typed; keyed = it.0 }, it.1)
+      let it = gains cmp total (value new) (map value rows) (map value (put_row new rows)) (free, are.keyed) there in (
+        record {
+          rising = IsTable-put_row new rows are.rising;
+          numbered = all-put_row _ new rows refl
+              are.numbered;
+          typed = all-put_row Typed new rows is_typed are.typed;
+          keyed = it.0;
+        },
+        it.1,
+      )
 
   -- old is the row with this rowid, and has the key
-  pub row_replaced : (id : ℤ) (old columns : Row) (rows : List Row) → AreRows Typed cmp value rows → IsPermutation rows (old ∷ without_rowid id rows) → Typed (Int id ∷ columns)
+  pub row_replaced : (id : ℤ) (old columns : Row) (rows : List Row) → AreRows Typed cmp value rows
+      → IsPermutation rows (old ∷ without_rowid id rows) → Typed (Int id ∷ columns)
       → cmp (value (Int id ∷ columns)) (value old) ≡ Equal
       → AreRows Typed cmp value (put_row (Int id ∷ columns) (without_rowid id rows))
-      × (sort_by cmp (map value (put_row (Int id ∷ columns) (without_rowid id rows))) ≡ placed cmp (value (Int id ∷ columns)) (sort_by cmp (map value rows)))
+      × (sort_by cmp (map value (put_row (Int id ∷ columns) (without_rowid id rows))) ≡ with_row cmp (value (Int id ∷ columns)) (sort_by cmp (map value rows)))
   row_replaced id old columns rows are was is_typed tie =
       let new : Row = Int id ∷ columns in
       let rest = without_rowid id rows in
       let rising = ascending-filter _ _ rows are.rising in
       let there = IsPermutation-map value _ _ (IsPermutation-sym _ _ (put_in_place id columns rows are.rising)) in
-      let it = replaces cmp total (value old) (value new) (map value rest) (map value rows) (map value (put_row new rest)) are.keyed (IsPermutation-map value _ _ was) there tie in
-      (record { rising = IsTable-put_row new rest rising; numbered = all-put_row _ new rest refl (all-filter _ _ rows are.numbered); typed = all-put_row Typed new rest is_typed (all-filter Typed _ rows are.typed); keyed = it.0 }, it.1)
+      let it = replaces cmp total (value old) (value new) (map value rest) (map value rows)
+      (map value (put_row new rest)) are.keyed (IsPermutation-map value _ _ was) there tie in (
+        record {
+          rising = IsTable-put_row new rest rising;
+          numbered = all-put_row _ new rest refl
+              (all-filter _ _ rows are.numbered);
+          typed = all-put_row Typed new rest is_typed
+              (all-filter Typed _ rows are.typed);
+          keyed = it.0;
+        },
+        it.1,
+      )

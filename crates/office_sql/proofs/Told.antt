@@ -59,7 +59,9 @@ unfolding understood everything
 name_update = record { is = refl; plain = (refl, refl); there = refl; same = λ db. refl }
 
 -- where meta has one row, with this rowid and this number, its site is the parameter now, and its number as it was
-pub named : (r : Row) (number : ℕ) (site : List ℕ) (old new : State) (count : ℕ) → old.now.schema ≡ office_schema → old.now.trees 0 ≡ r ∷ [] → rowid r ≡ Int (pos 1) → column r 2 ≡ Int (pos number)
+pub named : (r : Row) (number : ℕ) (site : List ℕ) (old new : State) (count : ℕ)
+    → old.now.schema ≡ office_schema → old.now.trees 0 ≡ r ∷ [] → rowid r ≡ Int (pos 1)
+    → column r 2 ≡ Int (pos number)
     → Executes name_text (Bytes site ∷ []) old new (Ok count) → Replaces 0 (pos 1) (Null ∷ Int (pos number) ∷ Bytes site ∷ []) old.now new.now × (count ≡ 1)
 named r number site old new count has one id is ran =
     let params : Row = Bytes site ∷ [] in

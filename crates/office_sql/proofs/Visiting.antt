@@ -1,5 +1,6 @@
 -- What a sink has taken, a row at a time, are the rows of an answer.
-use Rattle.std.proofs.Common.{◌≡◌, ℕ, ◌++◌, List, [], ◌∷◌, Bool, false, map, Option, Some, None, inl, inr, refl, sym, ap, subst, ◌∙◌, append-nil, Result, Ok, Err, IfOk, OnOk, rules}
+use Rattle.std.proofs.Common.{◌≡◌, ℕ, ◌++◌, List, [], ◌∷◌, Bool, false, map, Option, Some, None, inl, inr, refl, sym, ap, subst, ◌∙◌, append-nil}
+use Rattle.std.proofs.Common.{Result, Ok, Err, IfOk, OnOk, rules}
 use Rattle.std.specs.Prelude.{IsSome, MatchBool}
 use Rattle.sqlite_value.specs.declared.keys.Key.{Key}
 use Rattle.sqlite_schema.specs.declared.command.Returning.{Returning}
@@ -24,7 +25,7 @@ use Rattle.sqlite.proofs.Callers.{command_of, EndsIn, begins_shown, unchanged_th
 use Rattle.sqlite.proofs.StateLemmas.{survives_weaker}
 use Rattle.office_tables.specs.Keeping.{Visits}
 use Rattle.office_tables.specs.Tables.{Tables}
-use Rattle.office_sql.specs.Asking.{Asks, HasOffice}
+use Rattle.office_sql.specs.Asking.{SqlReads, HasOffice}
 use Rattle.office_sql.specs.Change.{Rests}
 use Rattle.office_sql.specs.Schema.{office_schema}
 use Rattle.office_sql.specs.Joins.{over}
@@ -70,7 +71,9 @@ module _ (sql : List ℕ) (params : Row) (old new : State) (never : ¬ Returns (
   refused_rests e (inr h) = unchanged_rests old new (subst (FailsToShow old new sql h.0 (timed params h.0.formats h.1.now) e) (unreturned h.0 h.1.is) h.2).3
 
 -- an answer is one of a connection that was as it is
-pub shown_from : (sql : List ℕ) (params : Row) (first old new : State) (rows : List Row) → ¬ Returns (understood first.now.schema sql) → IsUnchanged first old → Shown sql params old new rows → Shown sql params first new rows
+pub shown_from : (sql : List ℕ) (params : Row) (first old new : State) (rows : List Row)
+    → ¬ Returns (understood first.now.schema sql) → IsUnchanged first old
+    → Shown sql params old new rows → Shown sql params first new rows
 unfolding Shown
 shown_from sql params first old new rows never same h =
     let full = timed params h.0.formats h.1.now in
@@ -79,7 +82,14 @@ shown_from sql params first old new rows never same h =
     let it = subst (ShowsRows old new sql h.0 full rows) none h.2 in (
       h.0,
       record { is = is; whole = h.1.whole; given = h.1.given; now = h.1.now },
-      subst (ShowsRows first new sql h.0 full rows) (sym none) (it.0, subst (λ (d : Database). IsSourceOf (reads_listing d.schema sql) d it.0) same.0.now_is it.1, it.2, unchanged_then first old new same it.3),
+      subst (ShowsRows first new sql h.0 full rows) (sym none) (
+        it.0,
+        subst (λ (d : Database).
+            IsSourceOf (reads_listing d.schema sql) d it.0)
+            same.0.now_is it.1,
+        it.2,
+        unchanged_then first old new same it.3,
+      ),
     )
 
 pub begun : {S : Type 0} (g : Ghosts S) (sql : List ℕ) (params : Row) (old new : Held S) → ¬ Returns (understood old.schema sql) → HasBegun g sql params old new
@@ -98,7 +108,9 @@ module _ {K R : Type 0} (takes : K → R → Bool → K → Type 0) (reads : Row
   pub one_more : (row : Row) (item : R) (goes_on : Bool) (next : K) → item ≡ reads row → takes mid item goes_on next → (more : List Row) (last : K)
       → MatchBool goes_on (Visits takes next (map reads more) last) (last ≡ next) → Visits takes before (map reads ((given ++ row ∷ []) ++ more)) last
   one_more row item goes_on next is took more last rest =
-      subst (λ l. Visits takes before (map reads l) last) (joined given more row) (so_far (row ∷ more) last (goes_on, next, subst (λ x. takes mid x goes_on next) is took, rest))
+      subst (λ l.
+      Visits takes before (map reads l) last) (joined given more row) (so_far (row
+      ∷ more) last (goes_on, next, subst (λ x. takes mid x goes_on next) is took, rest))
 
   pub no_more : Visits takes before (map reads given) mid
   no_more = subst (λ l. Visits takes before (map reads l) mid) (append-nil given) (so_far [] mid refl)
@@ -110,7 +122,9 @@ still old new same = (
   refl,
 )
 
-module _ (text : List ℕ) (from : Join) (tests shown : List Term) (order : List (Term × Key)) (read : IsJoined office_schema text from tests shown order) (params : Row) (old new : State)
+module _ (text : List ℕ) (from : Join) (tests shown : List Term) (order : List (Term
+    × Key)) (read : IsJoined office_schema text from tests shown order) (params : Row)
+    (old new : State)
     (has : old.now.schema ≡ office_schema) (same : IsUnchanged old new) where
   abbrev Answers : List Row → Type 0
   Answers rows = IsAnswer (over from tests shown order) (overlay old.now.trees []) params rows
@@ -118,10 +132,12 @@ module _ (text : List ℕ) (from : Join) (tests shown : List Term) (order : List
   answers : (first : State) → first.now ≡ old.now → (rows : List Row) → Shown text params first new rows → Answers rows
   answers first is rows h =
       subst (λ (d : Database). IsAnswer (over from tests shown order) (overlay d.trees []) params rows) is
-      (reads_over office_schema text params first new read.plain from tests shown order read.names read.is read.unlisted (ap (λ (d : Database). d.schema) is ∙ has) rows h)
+      (reads_over office_schema text params first new read.plain from tests shown order read.names
+      read.is read.unlisted (ap (λ (d : Database). d.schema) is ∙ has) rows h)
 
   -- what a sink has visited are rows that the text means
-  pub visited_rows : {K R : Type 0} (takes : K → R → Bool → K → Type 0) (reads : Row → R) (before after : K) → HasVisited takes reads text params old new before after
+  pub visited_rows : {K R : Type 0} (takes : K → R → Bool → K → Type 0) (reads : Row
+      → R) (before after : K) → HasVisited takes reads text params old new before after
       → (rows : List Row) × Answers rows × Visits takes before (map reads rows) after
   visited_rows takes reads before after (given, inl h) = (given, answers old refl given h.0, h.1)
   visited_rows takes reads before after (given, inr h) =
@@ -134,20 +150,40 @@ module _ (text : List ℕ) (from : Join) (tests shown : List Term) (order : List
 module _ {S : Type 0} (g : Ghosts S) (text : List ℕ) (from : Join) (tests shown : List Term) (order : List (Term × Key))
     (read : IsJoined office_schema text from tests shown order) (params values : Row) (bound : params ≡ values) (old new : Held S) where
   -- a sink that visits the office's database, with these values for the parameters, takes what the text means
-  pub visits_joined : {K R : Type 0} (takes : K → R → Bool → K → Type 0) (reads : Row → R) (r : Result (Unit {0}) Error) (before after : K) (kept : Tables → List R)
+  pub visits_joined : {K R : Type 0} (takes : K → R → Bool → K → Type 0) (reads : Row
+      → R) (r : Result (Unit {0}) Error) (before after : K) (kept : Tables → List R)
       → HasOffice (state g old)
-      → ((rows : List Row) → IsOffice (state g old).now → IsAnswer (over from tests shown order) (overlay (state g old).now.trees []) values rows → map reads rows ≡ kept (tables_in (state g old).now.trees))
-      → (HasCleanDisk (state g new) → OnOk r (HasVisited takes reads text params (state g old) (state g new) before after)) → (HasCleanDisk (state g new) → OnOk r (IsUnchanged (state g old) (state g new)))
-      → (HasCleanDisk (state g new) → Rests (state g old) (state g new)) → (old.in_transaction ≡ false → new.in_transaction ≡ false) → Survives (state g old) (state g new) (λ _. ⊥)
-      → Asks g old new r (λ t _. Visits takes before (kept t) after)
-  visits_joined takes reads r before after kept has says visited same rests mode crash = record { says = λ clean. said r (visited clean) (same clean); same = same; rests = rests; mode = mode; crash = crash }
+      → ((rows : List Row) → IsOffice (state g old).now
+      → IsAnswer (over from tests shown order) (overlay (state g old).now.trees []) values rows
+      → map reads rows ≡ kept (tables_in (state g old).now.trees))
+      → (HasCleanDisk (state g new)
+      → OnOk r (HasVisited takes reads text params (state g old) (state g new) before after))
+      → (HasCleanDisk (state g new) → OnOk r (IsUnchanged (state g old) (state g new)))
+      → (HasCleanDisk (state g new) → Rests (state g old) (state g new))
+      → (old.in_transaction ≡ false → new.in_transaction ≡ false)
+      → Survives (state g old) (state g new) (λ _. ⊥)
+      → SqlReads g old new r (λ t _. Visits takes before (kept t) after)
+  visits_joined takes reads r before after kept has answer visited same rests mode crash =
+      record {
+        answer = λ clean. said r (visited clean) (same clean);
+        same = same;
+        rests =
+            rests;
+        mode = mode;
+        crash = crash;
+      }
     where
-      said : (r : Result (Unit {0}) Error) → OnOk r (HasVisited takes reads text params (state g old) (state g new) before after) → OnOk r (IsUnchanged (state g old) (state g new))
+      said : (r : Result (Unit {0}) Error)
+          → OnOk r (HasVisited takes reads text params (state g old) (state g new) before after)
+          → OnOk r (IsUnchanged (state g old) (state g new))
           → IfOk r (λ _. Visits takes before (kept (tables_in (state g old).now.trees)) after)
       said (Ok x) h s =
           let office = has s.0.was_open in
           let it = visited_rows text from tests shown order read params (state g old) (state g new) office.schema s takes reads before after h in
-          subst (λ l. Visits takes before l after) (says it.0 office (subst (λ p. IsAnswer (over from tests shown order) (overlay (state g old).now.trees []) p it.0) bound it.1)) it.2
+          subst (λ l.
+          Visits takes before l after) (answer it.0 office (subst (λ p.
+          IsAnswer (over from tests shown order) (overlay (state g old).now.trees []) p it.0)
+          bound it.1)) it.2
       said (Err e) h s = tt
 
 module _ {S : Type 0} (g : Ghosts S) (text : List ℕ) (tree : ℕ) (tests shown : List Term) (order : List (Term × Key))
@@ -155,10 +191,18 @@ module _ {S : Type 0} (g : Ghosts S) (text : List ℕ) (tree : ℕ) (tests shown
   -- and of one table
   pub visits : {K R : Type 0} (takes : K → R → Bool → K → Type 0) (reads : Row → R) (r : Result (Unit {0}) Error) (before after : K) (kept : Tables → List R)
       → HasOffice (state g old)
-      → ((rows : List Row) → IsOffice (state g old).now → Scanned tests shown order values ((state g old).now.trees tree) rows → map reads rows ≡ kept (tables_in (state g old).now.trees))
-      → (HasCleanDisk (state g new) → OnOk r (HasVisited takes reads text params (state g old) (state g new) before after)) → (HasCleanDisk (state g new) → OnOk r (IsUnchanged (state g old) (state g new)))
-      → (HasCleanDisk (state g new) → Rests (state g old) (state g new)) → (old.in_transaction ≡ false → new.in_transaction ≡ false) → Survives (state g old) (state g new) (λ _. ⊥)
-      → Asks g old new r (λ t _. Visits takes before (kept t) after)
-  visits takes reads r before after kept has says =
-      visits_joined g text (inner tree end) tests shown order (joined_of office_schema text tree tests shown order read) params values bound old new takes reads r before after kept has
-      (λ rows office a. says rows office (scanned_of office_schema text tree tests shown order read (state g old).now.trees values rows a))
+      → ((rows : List Row) → IsOffice (state g old).now
+      → Scanned tests shown order values ((state g old).now.trees tree) rows
+      → map reads rows ≡ kept (tables_in (state g old).now.trees))
+      → (HasCleanDisk (state g new)
+      → OnOk r (HasVisited takes reads text params (state g old) (state g new) before after))
+      → (HasCleanDisk (state g new) → OnOk r (IsUnchanged (state g old) (state g new)))
+      → (HasCleanDisk (state g new) → Rests (state g old) (state g new))
+      → (old.in_transaction ≡ false → new.in_transaction ≡ false)
+      → Survives (state g old) (state g new) (λ _. ⊥)
+      → SqlReads g old new r (λ t _. Visits takes before (kept t) after)
+  visits takes reads r before after kept has answer =
+      visits_joined g text (inner tree end) tests shown order
+      (joined_of office_schema text tree tests shown order read) params values bound old new
+      takes reads r before after kept has
+      (λ rows office a. answer rows office (scanned_of office_schema text tree tests shown order read (state g old).now.trees values rows a))

@@ -14,7 +14,7 @@ use Rattle.office_tables.specs.declared.rows.Write.{Write}
 use Rattle.office_tables.specs.declared.rows.Write.TheVariants.{PutSeat, AddOrder, SetCursor, AddMap, AddLink, AddDevice, PutDevice, AddGiven, AddEntry}
 use Rattle.office_tables.specs.Tables.{Writes, Written, is_seat, is_order, is_device}
 use Rattle.office_sql.specs.Schema.{office_schema}
-use Rattle.office_sql.specs.Rows.{seat_in, order_in, device_in, seat_columns, map_columns, link_columns, order_columns, order_start_columns}
+use Rattle.office_sql.specs.Rows.{seat_in_row, order_in_row, device_in_row, seat_columns, map_columns, link_columns, order_columns, order_start_columns}
 use Rattle.office_sql.specs.Rows.{columns_with_cursor, device_columns, given_columns, given_start_columns, entry_columns}
 use Rattle.office_sql.specs.Tables.{IsOffice, office_over, tables_in, told_in}
 
@@ -23,7 +23,7 @@ abbrev pub SameBut : ℕ → Trees → Trees → Type 0
 SameBut tree old new = AllByRecursion (λ t. t.tree ≢ tree → new t.tree ≡ old t.tree) office_schema.tables
 
 -- the table has one row more, whose columns are these, and no other table changes
-pub record Adds (tree : ℕ) (columns : Row) (old new : Database) : Type 0 where
+pub record SqlAdds (tree : ℕ) (columns : Row) (old new : Database) : Type 0 where
   pub schema : new.schema ≡ office_schema
   pub sound : IsDatabase new
   pub row : new.trees tree ≡ put_row (Int (next_rowid (old.trees tree)) ∷ columns) (old.trees tree)
@@ -37,7 +37,7 @@ pub record Replaces (tree : ℕ) (id : ℤ) (columns : Row) (old new : Database)
   pub others : SameBut tree old.trees new.trees
 
 -- no table changes
-pub record Stays (old new : Database) : Type 0 where
+pub record SqlStays (old new : Database) : Type 0 where
   pub schema : new.schema ≡ office_schema
   pub sound : IsDatabase new
   pub tables : AllByRecursion (λ t. new.trees t.tree ≡ old.trees t.tree) office_schema.tables
@@ -56,21 +56,21 @@ Remakes tree test columns old new =
 -- what becomes of the rows by a write: their columns, to the byte
 abbrev pub WritesRows : Write → Database → Database → Type 0
 WritesRows (PutSeat s) old new =
-    Adds 1 (seat_columns s) old new ⊎ Remakes 1 (λ r. is_seat s.row.name (seat_in r)) (λ _. seat_columns s) old new
+    SqlAdds 1 (seat_columns s) old new ⊎ Remakes 1 (λ r. is_seat s.row.name (seat_in_row r)) (λ _. seat_columns s) old new
 WritesRows (AddOrder o) old new =
-    (mid : Database) × Adds 7 (order_columns o) old mid × Adds 17 (order_start_columns o) mid new
+    (mid : Database) × SqlAdds 7 (order_columns o) old mid × SqlAdds 17 (order_start_columns o) mid new
 WritesRows (SetCursor c) old new =
-    Remakes 7 (λ r. is_order c.customer c.row.order (order_in r)) (columns_with_cursor c.row.number) old new
+    Remakes 7 (λ r. is_order c.customer c.row.order (order_in_row r)) (columns_with_cursor c.row.number) old new
 WritesRows (AddMap m) old new =
-    (mid : Database) × (id : ℕ) × (next_rowid (old.trees 3) ≡ pos id) × Adds 3 (Null ∷ map_columns m) old mid
-    × Adds 5 (link_columns (record { customer = m.customer; row = record { digest = m.row.digest; map = id } })) mid new
-WritesRows (AddLink l) old new = Adds 5 (link_columns l) old new
-WritesRows (AddDevice d) old new = Adds 9 (device_columns d) old new
+    (mid : Database) × (id : ℕ) × (next_rowid (old.trees 3) ≡ pos id) × SqlAdds 3 (Null ∷ map_columns m) old mid
+    × SqlAdds 5 (link_columns (record { customer = m.customer; row = record { digest = m.row.digest; map = id } })) mid new
+WritesRows (AddLink l) old new = SqlAdds 5 (link_columns l) old new
+WritesRows (AddDevice d) old new = SqlAdds 9 (device_columns d) old new
 WritesRows (PutDevice d) old new =
-    Remakes 9 (λ r. is_device d.customer d.row.chip (device_in r)) (λ _. device_columns d) old new
+    Remakes 9 (λ r. is_device d.customer d.row.chip (device_in_row r)) (λ _. device_columns d) old new
 WritesRows (AddGiven g) old new =
-    (mid : Database) × Adds 11 (given_columns g) old mid × Adds 19 (given_start_columns g) mid new
-WritesRows (AddEntry e) old new = Adds 15 (Null ∷ entry_columns e) old new
+    (mid : Database) × SqlAdds 11 (given_columns g) old mid × SqlAdds 19 (given_start_columns g) mid new
+WritesRows (AddEntry e) old new = SqlAdds 15 (Null ∷ entry_columns e) old new
 
 -- by a list of writes, one after another
 abbrev pub WritesAllRows : List Write → Database → Database → Type 0

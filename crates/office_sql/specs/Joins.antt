@@ -37,8 +37,8 @@ abbrev pub pair : Row → Row → Row → Env
 pair params r s = params ∷ r ∷ s ∷ []
 
 -- the two rows pass each term of ON
-abbrev pub meets : List Term → Row → Row → Row → Bool
-meets on params r s = list_all (holds (pair params r s)) on
+abbrev pub passes_join : List Term → Row → Row → Row → Bool
+passes_join on params r s = list_all (holds (pair params r s)) on
 
 -- the first row that passes
 abbrev pub first_that : (Row → Bool) → List Row → Row
@@ -46,7 +46,7 @@ first_that p rows = unwrap_or (find p rows) []
 
 -- the first row beside a row, and that there is exactly one
 abbrev pub beside : List Term → Row → List Row → Row → Row
-beside on params side r = first_that (meets on params r) side
+beside on params side r = first_that (passes_join on params r) side
 
 abbrev pub HasBeside : List Term → Row → List Row → Row → Type 0
-HasBeside on params side r = (s : Row) × (filter (meets on params r) side ≡ s ∷ [])
+HasBeside on params side r = (s : Row) × (filter (passes_join on params r) side ≡ s ∷ [])

@@ -7,4 +7,4 @@ use Rattle.office_sql.specs.Tables.{IsOffice}
 pub record IsReady (s : State) : Type 0 where
   pub mode : s.in_transaction ≡ false
   pub office : IsTrue s.is_open → IsOffice s.now
-  pub settled : IsTrue s.is_open → s.now ≡ s.committed
+  pub shows_committed : IsTrue s.is_open → s.now ≡ s.committed

@@ -7,7 +7,7 @@ use Rattle.office_tables.specs.Tables.{Tables}
 use Rattle.office_sql.specs.Tables.{tables_in}
 
 -- it was open if it is, and shows what it showed
-pub record Stands (old new : State) : Type 0 where
+pub record SqlUnchanged (old new : State) : Type 0 where
   pub was_open : IsTrue new.is_open → IsTrue old.is_open
   pub now : new.now ≡ old.now
   pub committed : new.committed ≡ old.committed
@@ -15,7 +15,7 @@ pub record Stands (old new : State) : Type 0 where
 
 -- a read in a transaction: an answer says this of the tables, nothing is changed then, and the last commit stands
 pub record Looks {S A E : Type 0} (g : Ghosts S) (old new : Held S) (result : Result A E) (Says : Tables → A → Type 0) : Type 0 where
-  pub says : HasCleanDisk (state g new) → IfOk result (Says (tables_in (state g old).now.trees))
-  pub stands : HasCleanDisk (state g new) → OnOk result (Stands (state g old) (state g new))
+  pub answer : HasCleanDisk (state g new) → IfOk result (Says (tables_in (state g old).now.trees))
+  pub stands : HasCleanDisk (state g new) → OnOk result (SqlUnchanged (state g old) (state g new))
   pub kept : HasCleanDisk (state g new) → KeepsCommit (state g old) (state g new)
   pub crash : Survives (state g old) (state g new) (λ _. ⊥)

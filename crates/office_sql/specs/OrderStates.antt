@@ -1,11 +1,11 @@
 -- The order and the state of a device.
 use Rattle.sqlite.specs.Order.{Row, column, bytes}
-use Rattle.office_tables.specs.declared.rows.Owned.{Owned}
+use Rattle.office_tables.specs.declared.rows.OfCustomer.{OfCustomer}
 use Rattle.office_tables.specs.declared.rows.Device.{Device}
 use Rattle.office_sql.specs.declared.devices.OrderState.{OrderState}
 use Rattle.office_sql.specs.Values.{state_in, text_if}
 
-abbrev pub order_state : Owned Device → OrderState
+abbrev pub order_state : OfCustomer Device → OrderState
 order_state d = record { order = d.row.order; state = d.row.state }
 
 -- as a row of three columns shows them

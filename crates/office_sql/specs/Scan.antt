@@ -25,8 +25,8 @@ scan tree tests shown order = record {
 }
 
 -- the column is the parameter
-abbrev pub is_given : ℕ → ℕ → Term
-is_given place param = op2 (Compare Eq Binary) (col 1 place) (col 0 param)
+abbrev pub is_parameter : ℕ → ℕ → Term
+is_parameter place param = op2 (Compare Eq Binary) (col 1 place) (col 0 param)
 
 abbrev pub env : Row → Row → Env
 env params r = params ∷ r ∷ []

@@ -84,7 +84,8 @@ site_text_table = table_at 21 (codes "site_text") (column (codes "id") Integer f
 
 abbrev pub office_schema : Schema
 office_schema = record {
-  tables = meta_table ∷ seat_table ∷ map_table ∷ link_table ∷ orders_table ∷ device_table ∷ given_table ∷ ledger_table ∷ order_start_table ∷ given_start_table ∷ site_text_table ∷ [];
+  tables = meta_table ∷ seat_table ∷ map_table ∷ link_table ∷ orders_table ∷ device_table
+      ∷ given_table ∷ ledger_table ∷ order_start_table ∷ given_start_table ∷ site_text_table ∷ [];
   indexes = index_at 2 (codes "sqlite_autoindex_seat_1") 1 (1 ∷ []) ∷ index_at 4 (codes "sqlite_autoindex_map_1") 3 (2 ∷ []) ∷ index_at 6 (codes "sqlite_autoindex_link_1") 5 (1 ∷ 2 ∷ []) ∷ index_at 8 (codes "sqlite_autoindex_orders_1") 7 (1 ∷ 2 ∷ []) ∷ index_at 10 (codes "sqlite_autoindex_device_1") 9 (1 ∷ 2 ∷ []) ∷ index_at 12 (codes "sqlite_autoindex_given_1") 11 (1 ∷ 2 ∷ []) ∷ index_at 13 (codes "sqlite_autoindex_given_2") 11 (1 ∷ 4 ∷ []) ∷ index_at 14 (codes "sqlite_autoindex_given_3") 11 (6 ∷ 1 ∷ 2 ∷ []) ∷ index_at 16 (codes "sqlite_autoindex_ledger_1") 15 (2 ∷ 3 ∷ 4 ∷ []) ∷ index_at 18 (codes "sqlite_autoindex_order_start_1") 17 (1 ∷ 2 ∷ []) ∷ index_at 20 (codes "sqlite_autoindex_given_start_1") 19 (1 ∷ 2 ∷ []) ∷ [];
   views = [];
 }

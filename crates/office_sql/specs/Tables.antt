@@ -12,19 +12,20 @@ use Rattle.sqlite.specs.Effect.{Database, IsDatabase}
 use Rattle.sqlite_keyed.specs.Lists.{sort_by}
 use Rattle.office_tables.specs.Tables.{Tables, seat_cmp, order_cmp, map_cmp, link_cmp, device_cmp, given_cmp, entry_cmp}
 use Rattle.office_sql.specs.Schema.{office_schema, orders_table}
-use Rattle.office_sql.specs.Values.{number_in, text_if, text_value}
-use Rattle.office_sql.specs.Rows.{seat_in, map_in, link_in, order_in, device_in, given_in, entry_in, starts_order, starts_given, with_order_start, with_given_start}
+use Rattle.office_sql.specs.Values.{number_in_cell, text_if, text_value}
+use Rattle.office_sql.specs.Rows.{seat_in_row, map_in_row, link_in_row, order_in_row, device_in_row, given_in_row, entry_in_row, starts_order}
+use Rattle.office_sql.specs.Rows.{starts_given, with_order_start, with_given_start}
 
 -- the rows of each tree in the order of their keys; the trees are numbered as their tables and indexes are made
 abbrev pub tables_in : Trees → Tables
 tables_in db = record {
-  seats = sort_by seat_cmp (map seat_in (db 1));
-  orders = map (with_order_start (db 17)) (sort_by order_cmp (map order_in (db 7)));
-  devices = sort_by device_cmp (map device_in (db 9));
-  given = map (with_given_start (db 19)) (sort_by given_cmp (map given_in (db 11)));
-  maps = sort_by map_cmp (map map_in (db 3));
-  links = sort_by link_cmp (map link_in (db 5));
-  ledger = sort_by entry_cmp (map entry_in (db 15));
+  seats = sort_by seat_cmp (map seat_in_row (db 1));
+  orders = map (with_order_start (db 17)) (sort_by order_cmp (map order_in_row (db 7)));
+  devices = sort_by device_cmp (map device_in_row (db 9));
+  given = map (with_given_start (db 19)) (sort_by given_cmp (map given_in_row (db 11)));
+  maps = sort_by map_cmp (map map_in_row (db 3));
+  links = sort_by link_cmp (map link_in_row (db 5));
+  ledger = sort_by entry_cmp (map entry_in_row (db 15));
 }
 
 -- what a database tells of itself: the rows of meta, and those of its site's text
@@ -44,7 +45,7 @@ abbrev pub IsBlob : ℕ → Row → Type 0
 IsBlob place r = column r place ≡ Bytes (bytes (column r place))
 
 abbrev pub IsWhole : ℕ → Row → Type 0
-IsWhole place r = column r place ≡ Int (pos (number_in (column r place)))
+IsWhole place r = column r place ≡ Int (pos (number_in_cell (column r place)))
 
 -- or a text that may be missing
 abbrev pub IsTextIf : ℕ → Row → Type 0
@@ -94,13 +95,13 @@ IsStartRow r = IsText 1 r × IsText 2 r
 
 -- the rows of each table of the office are as its columns and keys have it
 pub record AreOfficeRows (db : Trees) : Type 0 where
-  pub seats : AreRows IsSeatRow seat_cmp seat_in (db 1)
-  pub maps : AreRows IsMapRow map_cmp map_in (db 3)
-  pub links : AreRows IsLinkRow link_cmp link_in (db 5)
-  pub orders : AreRows IsOrderRow order_cmp order_in (db 7)
-  pub devices : AreRows IsDeviceRow device_cmp device_in (db 9)
-  pub given : AreRows IsGivenRow given_cmp given_in (db 11)
-  pub ledger : AreRows IsEntryRow entry_cmp entry_in (db 15)
+  pub seats : AreRows IsSeatRow seat_cmp seat_in_row (db 1)
+  pub maps : AreRows IsMapRow map_cmp map_in_row (db 3)
+  pub links : AreRows IsLinkRow link_cmp link_in_row (db 5)
+  pub orders : AreRows IsOrderRow order_cmp order_in_row (db 7)
+  pub devices : AreRows IsDeviceRow device_cmp device_in_row (db 9)
+  pub given : AreRows IsGivenRow given_cmp given_in_row (db 11)
+  pub ledger : AreRows IsEntryRow entry_cmp entry_in_row (db 15)
 
 -- exactly one of the rows is for this order or record
 abbrev pub HasOne : {A : Type 0} → (A → Row → Bool) → List Row → A → Type 0
@@ -119,5 +120,5 @@ pub record IsOffice (db : Database) : Type 0 where
   pub schema : db.schema ≡ office_schema
   pub sound : IsDatabase db
   pub rows : AreOfficeRows db.trees
-  pub orders_started : AreStarted starts_order order_in (db.trees 7) (db.trees 17)
-  pub given_started : AreStarted starts_given given_in (db.trees 11) (db.trees 19)
+  pub orders_started : AreStarted starts_order order_in_row (db.trees 7) (db.trees 17)
+  pub given_started : AreStarted starts_given given_in_row (db.trees 11) (db.trees 19)

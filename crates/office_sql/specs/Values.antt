@@ -10,9 +10,9 @@ use Rattle.office_tables.specs.declared.rows.Event.TheVariants.{Registered}
 use Rattle.office_tables.specs.Texts.{state_of_texts, event_of_texts}
 
 -- a whole number
-abbrev pub number_in : Value → ℕ
-number_in (Int (pos n)) = n
-number_in _ = 0
+abbrev pub number_in_cell : Value → ℕ
+number_in_cell (Int (pos n)) = n
+number_in_cell _ = 0
 
 -- a text that may be missing
 abbrev pub text_if : Value → Option (List ℕ)

@@ -17,8 +17,10 @@ pub(crate) fn mac_text(alloc: Global, mac: Mac) -> Result<String, Error>
 }
 
 pub(crate) fn address_text(alloc: Global, mac: Option<Mac>) -> Result<Option<String>, Error>
-    ensures is { IfOk result (λ text. option_map (λ t. string_bytes t) text ≡ option_map spec.mac_text mac) }
-    ensures back { IfOk result (λ text. option_and_then mac_of_text (option_map (λ t. string_bytes t) text) ≡ mac) }
+    ensures is { IfOk result (λ text. option_map (λ t. string_bytes t) text
+        ≡ option_map spec.mac_text mac) }
+    ensures back { IfOk result (λ text.
+        option_and_then mac_of_text (option_map (λ t. string_bytes t) text) ≡ mac) }
 {
     match mac {
         Some(mac) => Ok(Some(mac_text(alloc, mac)?)),

@@ -1,7 +1,7 @@
 // Whether the store is open.
 ghost use Rattle.std.specs.Prelude.{⊤};
 ghost use Rattle.sqlite.specs.Held.{state};
-ghost use Rattle.office_sql.specs.Asking.{Asks};
+ghost use Rattle.office_sql.specs.Asking.{SqlReads};
 
 use sqlite::{Alter, Connection, Error};
 
@@ -11,7 +11,7 @@ use sqlite::{Alter, Connection, Error};
 ///
 /// `Closed` where the store is shut, and want of memory.
 pub fn ask_open<S: Alter>(conn: &mut Connection<S>) -> Result<(), Error>
-    ensures { Asks S.Store conn.old conn.new result (λ _ _. ⊤) }
+    ensures { SqlReads S.Store conn.old conn.new result (λ _ _. ⊤) }
 {
     match conn.prepare("") {
         Ok(_) => Ok(()),

@@ -9,10 +9,10 @@ ghost use Rattle.office_tables.specs.Quarantine.{reason_of};
 ghost use Rattle.office_tables.specs.Keeping.{Visits};
 ghost use Rattle.office_tables.specs.Tables.{is_of, is_device, device_at, IsFree};
 ghost use Rattle.office_tables.specs.Texts.{reason_text};
-ghost use Rattle.office_sql.specs.Asking.{Asks, Changes, HasOffice};
+ghost use Rattle.office_sql.specs.Asking.{SqlReads, SqlWrites, HasOffice};
 ghost use Rattle.office_sql.specs.Change.{Wrote};
 ghost use Rattle.office_sql.specs.OrderStates.{order_state, order_state_in};
-ghost use Rattle.office_sql.specs.Rows.{device_in, device_columns};
+ghost use Rattle.office_sql.specs.Rows.{device_in_row, device_columns};
 ghost use Rattle.office_sql.specs.Tables.{tables_in};
 ghost use Rattle.office_sql.specs.Values.{state_in, text_if};
 
@@ -20,7 +20,7 @@ use crate::read::{
     DAMAGED, chip_at, column_at, digest_at, name_at, serial_if_at, text_at, text_if_at,
 };
 use crate::visit::{ReadRow, visit_rows};
-use office_tables::{Device, DeviceRow, DeviceState, Owned, Sink};
+use office_tables::{Device, DeviceRow, DeviceState, OfCustomer, Sink};
 use sqlite::types::{ToSql, ValueRef};
 use sqlite::{Alter, Connection, Error, Row, Transaction, params};
 use std::alloc::Global;
@@ -40,7 +40,9 @@ fn device_rows<S: Alter>(
     chip: &Chip,
 ) -> Result<Vec<Row>, Error>
     requires { HasOffice (state S.Store conn.old) }
-    ensures { Asks S.Store conn.old conn.new result (λ t rows. map (λ r. device_in (Null ∷ r)) rows.items ≡ filter (is_device customer.now chip.now) t.devices) }
+    ensures { SqlReads S.Store conn.old conn.new result (λ t rows.
+        map (λ r. device_in_row (Null ∷ r)) rows.items
+        ≡ filter (is_device customer.now chip.now) t.devices) }
 {
     conn.query_all(
         "SELECT customer, chip, ord, map, state, reason, bits, keys, todo, serial FROM device WHERE customer = ?1 AND chip = ?2 ORDER BY customer, chip",
@@ -50,7 +52,8 @@ fn device_rows<S: Alter>(
 
 fn state_rows<S: Alter>(conn: &mut Connection<S>, customer: &Name) -> Result<Vec<Row>, Error>
     requires { HasOffice (state S.Store conn.old) }
-    ensures { Asks S.Store conn.old conn.new result (λ t rows. map order_state_in rows.items ≡ map order_state (filter (is_of customer.now) t.devices)) }
+    ensures { SqlReads S.Store conn.old conn.new result (λ t rows. map order_state_in rows.items
+        ≡ map order_state (filter (is_of customer.now) t.devices)) }
 {
     conn.query_all(
         "SELECT ord, state, reason FROM device WHERE customer = ?1 ORDER BY customer, chip",
@@ -59,7 +62,8 @@ fn state_rows<S: Alter>(conn: &mut Connection<S>, customer: &Name) -> Result<Vec
 }
 
 fn state_at(row: &Row, text: usize, reason: usize) -> Result<DeviceState, Error>
-    ensures { IfOk result (λ state. state ≡ state_in (bytes (column row.now text)) (text_if (column row.now reason))) }
+    ensures { IfOk result (λ state. state
+        ≡ state_in (bytes (column row.now text)) (text_if (column row.now reason))) }
 {
     DeviceState::parse(text_at(row, text)?, text_if_at(row, reason)?).ok_or(DAMAGED)
 }
@@ -67,9 +71,10 @@ fn state_at(row: &Row, text: usize, reason: usize) -> Result<DeviceState, Error>
 /// The device of a row, whose serial number the caller reads: the proof of a function that makes a
 /// list of devices needs a value of the number's type in that function.
 fn read_device(row: &Row, serial: Option<Serial>) -> Result<DeviceRow, Error>
-    ensures { IfOk result (λ device. serial ≡ text_if (column row.now 9) → device ≡ device_in (Null ∷ row.now)) }
+    ensures { IfOk result (λ device. serial ≡ text_if (column row.now 9)
+        → device ≡ device_in_row (Null ∷ row.now)) }
 {
-    Ok(Owned {
+    Ok(OfCustomer {
         customer: name_at(row, 0)?,
         row: Device {
             chip: chip_at(row, 1)?,
@@ -85,7 +90,8 @@ fn read_device(row: &Row, serial: Option<Serial>) -> Result<DeviceRow, Error>
 }
 
 fn first_device(rows: &[Row]) -> Result<Option<DeviceRow>, Error>
-    ensures { IfOk result (λ device. device ≡ option_map (λ r. device_in (Null ∷ r)) (slice_get rows.now 0)) }
+    ensures { IfOk result (λ device. device
+        ≡ option_map (λ r. device_in_row (Null ∷ r)) (slice_get rows.now 0)) }
 {
     match rows.first() {
         Some(row) => Ok(Some(DeviceRow::read_row(row)?)),
@@ -119,14 +125,15 @@ pub fn device_row<S: Alter>(
     chip: &Chip,
 ) -> Result<Option<DeviceRow>, Error>
     requires { HasOffice (state S.Store conn.old) }
-    ensures { Asks S.Store conn.old conn.new result (λ t row. row ≡ device_at customer.now chip.now t) }
+    ensures { SqlReads S.Store conn.old conn.new result (λ t row. row
+        ≡ device_at customer.now chip.now t) }
 {
     let rows = device_rows(conn, customer, chip)?;
     first_device(rows.as_slice())
 }
 
 impl ReadRow for DeviceRow {
-    ghost reads = { λ r. device_in (Null ∷ r) };
+    ghost reads = { λ r. device_in_row (Null ∷ r) };
 
     fn read_row(row: &Row) -> Result<DeviceRow, Error> {
         let serial = serial_if_at(row, 9)?;
@@ -141,7 +148,8 @@ pub fn visit_devices<S: Alter, K: Sink<DeviceRow>>(
     sink: &mut K,
 ) -> Result<(), Error>
     requires { HasOffice (state S.Store conn.old) }
-    ensures { Asks S.Store conn.old conn.new result (λ t _. Visits K.takes sink.old (filter (is_of customer.now) t.devices) sink.new) }
+    ensures { SqlReads S.Store conn.old conn.new result (λ t _.
+        Visits K.takes sink.old (filter (is_of customer.now) t.devices) sink.new) }
 {
     visit_rows::<S, DeviceRow, K>(
         conn,
@@ -158,7 +166,8 @@ pub fn order_states<S: Alter>(
     customer: &Name,
 ) -> Result<Vec<OrderState>, Error>
     requires { HasOffice (state S.Store conn.old) }
-    ensures { Asks S.Store conn.old conn.new result (λ t states. states.items ≡ map order_state (filter (is_of customer.now) t.devices)) }
+    ensures { SqlReads S.Store conn.old conn.new result (λ t states. states.items
+        ≡ map order_state (filter (is_of customer.now) t.devices)) }
 {
     let rows = state_rows(conn, customer)?;
     read_states(alloc, rows.as_slice())
@@ -202,9 +211,11 @@ fn values_of(device: &DeviceRow) -> [ValueRef<'_>; 10]
 
 fn insert_device<S: Alter>(tx: &mut Transaction<'_, S>, device: &DeviceRow) -> Result<usize, Error>
     requires office { HasOffice (state S.Store tx.old.conn.now) }
-    requires free { IsTrue (state S.Store tx.old.conn.now).is_open → IsFree (TheNewDevice device.now) (tables_in (state S.Store tx.old.conn.now).now.trees) }
+    requires free { IsTrue (state S.Store tx.old.conn.now).is_open
+        → IsFree (TheNewDevice device.now) (tables_in (state S.Store tx.old.conn.now).now.trees) }
     ensures same_reference { tx.new.conn.ghost_name ≡ tx.old.conn.ghost_name }
-    ensures changes { Changes S.Store tx.old.conn.now tx.new.conn.now result (λ old new _. Wrote (TheNewDevice device.now) old new) }
+    ensures changes { SqlWrites S.Store tx.old.conn.now tx.new.conn.now result (λ old new _.
+        Wrote (TheNewDevice device.now) old new) }
 {
     tx.execute(
         "INSERT INTO device (customer, chip, ord, map, state, reason, bits, keys, todo, serial) VALUES (?1, ?2, ?3, ?4, ?5, ?6, ?7, ?8, ?9, ?10)",
@@ -215,7 +226,8 @@ fn insert_device<S: Alter>(tx: &mut Transaction<'_, S>, device: &DeviceRow) -> R
 fn update_device<S: Alter>(tx: &mut Transaction<'_, S>, device: &DeviceRow) -> Result<usize, Error>
     requires { HasOffice (state S.Store tx.old.conn.now) }
     ensures same_reference { tx.new.conn.ghost_name ≡ tx.old.conn.ghost_name }
-    ensures changes { Changes S.Store tx.old.conn.now tx.new.conn.now result (λ old new count. count ≡ 1 → Wrote (TheDevice device.now) old new) }
+    ensures changes { SqlWrites S.Store tx.old.conn.now tx.new.conn.now result (λ old new count.
+        count ≡ 1 → Wrote (TheDevice device.now) old new) }
 {
     tx.execute(
         "UPDATE device SET ord = ?3, map = ?4, state = ?5, reason = ?6, bits = ?7, keys = ?8, todo = ?9, serial = ?10 WHERE customer = ?1 AND chip = ?2",
@@ -229,9 +241,11 @@ pub(crate) fn add_device<S: Alter>(
     device: &DeviceRow,
 ) -> Result<(), Error>
     requires office { HasOffice (state S.Store tx.old.conn.now) }
-    requires free { IsTrue (state S.Store tx.old.conn.now).is_open → IsFree (TheNewDevice device.now) (tables_in (state S.Store tx.old.conn.now).now.trees) }
+    requires free { IsTrue (state S.Store tx.old.conn.now).is_open
+        → IsFree (TheNewDevice device.now) (tables_in (state S.Store tx.old.conn.now).now.trees) }
     ensures same_reference { tx.new.conn.ghost_name ≡ tx.old.conn.ghost_name }
-    ensures changes { Changes S.Store tx.old.conn.now tx.new.conn.now result (λ old new _. Wrote (TheNewDevice device.now) old new) }
+    ensures changes { SqlWrites S.Store tx.old.conn.now tx.new.conn.now result (λ old new _.
+        Wrote (TheNewDevice device.now) old new) }
 {
     insert_device(tx, device)?;
     Ok(())
@@ -243,9 +257,11 @@ pub(crate) fn put_device<S: Alter>(
     device: &DeviceRow,
 ) -> Result<(), Error>
     requires office { HasOffice (state S.Store tx.old.conn.now) }
-    requires free { IsTrue (state S.Store tx.old.conn.now).is_open → IsFree (TheDevice device.now) (tables_in (state S.Store tx.old.conn.now).now.trees) }
+    requires free { IsTrue (state S.Store tx.old.conn.now).is_open
+        → IsFree (TheDevice device.now) (tables_in (state S.Store tx.old.conn.now).now.trees) }
     ensures same_reference { tx.new.conn.ghost_name ≡ tx.old.conn.ghost_name }
-    ensures changes { Changes S.Store tx.old.conn.now tx.new.conn.now result (λ old new _. Wrote (TheDevice device.now) old new) }
+    ensures changes { SqlWrites S.Store tx.old.conn.now tx.new.conn.now result (λ old new _.
+        Wrote (TheDevice device.now) old new) }
 {
     let count = update_device(tx, device)?;
     if count == 1 { Ok(()) } else { Err(DAMAGED) }

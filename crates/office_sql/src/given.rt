@@ -3,7 +3,7 @@ ghost use Rattle.std.specs.Prelude.{◌≡◌, ◌∷◌, ℕ, Some, IfOk, IsTru
 ghost use Rattle.sqlite.specs.Held.{state};
 ghost use Rattle.sqlite.specs.declared.types.Value.TheVariants.{Null};
 ghost use Rattle.office_tables.specs.Keeping.{Visits};
-ghost use Rattle.office_tables.specs.Tables.{IsAddressFree, IsFree, is_given, is_bound, is_of_issuer, has_address, given_at, given_by_key};
+ghost use Rattle.office_tables.specs.Tables.{IsAddressFree, IsFree, is_serial_of, is_bound, is_of_issuer, has_address, given_at, given_by_key};
 ghost use Rattle.office_tables.specs.declared.rows.Write.TheVariants.{AddGiven as TheGiven};
 ghost use Rattle.id_ranges.specs.Mac as spec;
 ghost use Rattle.id_ranges.specs.Mac.{mac_of_text};
@@ -12,8 +12,8 @@ ghost use Rattle.sqlite.specs.Order.{column};
 ghost use Rattle.office_sql.specs.Values.{text_if, mac_if};
 ghost use Rattle.office_sql.specs.Rows.{joined_given, given_columns, given_start_columns};
 ghost use Rattle.office_sql.specs.Tables.{tables_in};
-ghost use Rattle.office_sql.specs.Change.{Adds, Wrote};
-ghost use Rattle.office_sql.specs.Asking.{Asks, Changes, HasOffice, HasSchema};
+ghost use Rattle.office_sql.specs.Change.{SqlAdds, Wrote};
+ghost use Rattle.office_sql.specs.Asking.{SqlReads, SqlWrites, HasOffice, HasOfficeSchema};
 
 use crate::address::address_text;
 use crate::read::{
@@ -22,7 +22,7 @@ use crate::read::{
 use crate::start::start_text;
 use crate::visit::{ReadRow, visit_rows};
 use id_ranges::{KeyDigest, Mac, NotBefore};
-use office_tables::{Given, GivenRow, Owned, Sink};
+use office_tables::{Given, GivenRow, OfCustomer, Sink};
 use sqlite::{Alter, Connection, Error, Row, Transaction, params};
 use std::alloc::Global;
 use text_core::{Chip, Name};
@@ -33,7 +33,8 @@ fn rows_at<S: Alter>(
     serial: &str,
 ) -> Result<Vec<Row>, Error>
     requires { HasOffice (state S.Store conn.old) }
-    ensures { Asks S.Store conn.old conn.new result (λ t rows. map joined_given rows.items ≡ filter (is_given issuer.now serial.now) t.given) }
+    ensures { SqlReads S.Store conn.old conn.new result (λ t rows. map joined_given rows.items
+        ≡ filter (is_serial_of issuer.now serial.now) t.given) }
 {
     conn.query_all(
         "SELECT given.issuer, given.serial, customer, key, chip, mac, not_after, not_before FROM given JOIN given_start ON given_start.issuer = given.issuer AND given_start.serial = given.serial WHERE given.issuer = ?1 AND given.serial = ?2 ORDER BY given.issuer, given.serial",
@@ -47,7 +48,8 @@ fn rows_by_key<S: Alter>(
     key: &KeyDigest,
 ) -> Result<Vec<Row>, Error>
     requires { HasOffice (state S.Store conn.old) }
-    ensures { Asks S.Store conn.old conn.new result (λ t rows. map joined_given rows.items ≡ filter (is_bound issuer.now key.now) t.given) }
+    ensures { SqlReads S.Store conn.old conn.new result (λ t rows. map joined_given rows.items
+        ≡ filter (is_bound issuer.now key.now) t.given) }
 {
     conn.query_all(
         "SELECT given.issuer, given.serial, customer, key, chip, mac, not_after, not_before FROM given JOIN given_start ON given_start.issuer = given.issuer AND given_start.serial = given.serial WHERE given.issuer = ?1 AND key = ?2 ORDER BY given.issuer, given.serial",
@@ -56,7 +58,8 @@ fn rows_by_key<S: Alter>(
 }
 
 fn device_at(row: &Row) -> Result<(Option<Chip>, Option<Mac>), Error>
-    ensures { IfOk result (λ device. (device.0 ≡ text_if (column row.now 4)) × (device.1 ≡ mac_if (column row.now 5))) }
+    ensures { IfOk result (λ device. (device.0 ≡ text_if (column row.now 4))
+        × (device.1 ≡ mac_if (column row.now 5))) }
 {
     Ok((chip_if_at(row, 4)?, mac_if_at(row, 5)?))
 }
@@ -73,7 +76,7 @@ fn read_given(
     requires not_before { not_before ≡ text_if (column row.now 7) }
     ensures { IfOk result (λ given. given ≡ joined_given row.now) }
 {
-    Ok(Owned {
+    Ok(OfCustomer {
         customer: name_at(row, 2)?,
         row: Given {
             issuer: name_at(row, 0)?,
@@ -103,7 +106,8 @@ pub fn given_row<S: Alter>(
     serial: &str,
 ) -> Result<Option<GivenRow>, Error>
     requires { HasOffice (state S.Store conn.old) }
-    ensures { Asks S.Store conn.old conn.new result (λ t row. row ≡ given_at issuer.now serial.now t) }
+    ensures { SqlReads S.Store conn.old conn.new result (λ t row. row
+        ≡ given_at issuer.now serial.now t) }
 {
     let rows = rows_at(conn, issuer, serial)?;
     first_given(rows.as_slice())
@@ -116,7 +120,8 @@ pub fn given_by_key<S: Alter>(
     key: &KeyDigest,
 ) -> Result<Option<GivenRow>, Error>
     requires { HasOffice (state S.Store conn.old) }
-    ensures { Asks S.Store conn.old conn.new result (λ t row. row ≡ given_by_key issuer.now key.now t) }
+    ensures { SqlReads S.Store conn.old conn.new result (λ t row. row
+        ≡ given_by_key issuer.now key.now t) }
 {
     let rows = rows_by_key(conn, issuer, key)?;
     first_given(rows.as_slice())
@@ -139,7 +144,8 @@ pub fn visit_given<S: Alter, K: Sink<GivenRow>>(
     sink: &mut K,
 ) -> Result<(), Error>
     requires { HasOffice (state S.Store conn.old) }
-    ensures { Asks S.Store conn.old conn.new result (λ t _. Visits K.takes sink.old (filter (is_of_issuer issuer.now) t.given) sink.new) }
+    ensures { SqlReads S.Store conn.old conn.new result (λ t _.
+        Visits K.takes sink.old (filter (is_of_issuer issuer.now) t.given) sink.new) }
 {
     visit_rows::<S, GivenRow, K>(
         conn,
@@ -152,7 +158,9 @@ pub fn visit_given<S: Alter, K: Sink<GivenRow>>(
 fn rows_with_address<S: Alter>(tx: &mut Transaction<'_, S>, text: &str) -> Result<Vec<Row>, Error>
     requires { HasOffice (state S.Store tx.old.conn.now) }
     ensures same_reference { tx.new.conn.ghost_name ≡ tx.old.conn.ghost_name }
-    ensures looks { Looks S.Store tx.old.conn.now tx.new.conn.now result (λ t rows. (mac : ℕ) → mac_of_text text.now ≡ Some mac → map joined_given rows.items ≡ filter (has_address mac) t.given) }
+    ensures looks { Looks S.Store tx.old.conn.now tx.new.conn.now result (λ t rows. (mac : ℕ)
+        → mac_of_text text.now ≡ Some mac
+        → map joined_given rows.items ≡ filter (has_address mac) t.given) }
 {
     tx.query_all(
         "SELECT given.issuer, given.serial, customer, key, chip, mac, not_after, not_before FROM given JOIN given_start ON given_start.issuer = given.issuer AND given_start.serial = given.serial WHERE mac = ?1 ORDER BY given.issuer, given.serial",
@@ -163,7 +171,8 @@ fn rows_with_address<S: Alter>(tx: &mut Transaction<'_, S>, text: &str) -> Resul
 fn find_text_free<S: Alter>(tx: &mut Transaction<'_, S>, text: &str) -> Result<(), Error>
     requires { HasOffice (state S.Store tx.old.conn.now) }
     ensures same_reference { tx.new.conn.ghost_name ≡ tx.old.conn.ghost_name }
-    ensures looks { Looks S.Store tx.old.conn.now tx.new.conn.now result (λ t _. IsAddressFree (mac_of_text text.now) t.given) }
+    ensures looks { Looks S.Store tx.old.conn.now tx.new.conn.now result (λ t _.
+        IsAddressFree (mac_of_text text.now) t.given) }
 {
     let rows = rows_with_address(tx, text)?;
     if rows.is_empty() {
@@ -179,7 +188,9 @@ fn find_address_free<S: Alter>(
 ) -> Result<(), Error>
     requires { HasOffice (state S.Store tx.old.conn.now) }
     ensures same_reference { tx.new.conn.ghost_name ≡ tx.old.conn.ghost_name }
-    ensures looks { Looks S.Store tx.old.conn.now tx.new.conn.now result (λ t _. IsAddressFree (option_and_then mac_of_text (option_map (λ s. string_bytes s) address.now)) t.given) }
+    ensures looks { Looks S.Store tx.old.conn.now tx.new.conn.now result (λ t _.
+        IsAddressFree (option_and_then mac_of_text (option_map (λ s.
+        string_bytes s) address.now)) t.given) }
 {
     match address {
         Some(text) => find_text_free(tx, text.as_str()),
@@ -202,10 +213,12 @@ fn insert_given<S: Alter>(
     given: &GivenRow,
     address: &Option<String>,
 ) -> Result<usize, Error>
-    requires schema { HasSchema (state S.Store tx.old.conn.now) }
-    requires address_is { option_map (λ t. string_bytes t) address.now ≡ option_map spec.mac_text given.now.row.mac }
+    requires schema { HasOfficeSchema (state S.Store tx.old.conn.now) }
+    requires address_is { option_map (λ t. string_bytes t) address.now
+        ≡ option_map spec.mac_text given.now.row.mac }
     ensures same_reference { tx.new.conn.ghost_name ≡ tx.old.conn.ghost_name }
-    ensures changes { Changes S.Store tx.old.conn.now tx.new.conn.now result (λ old new _. Adds 11 (given_columns given.now) old new) }
+    ensures changes { SqlWrites S.Store tx.old.conn.now tx.new.conn.now result (λ old new _.
+        SqlAdds 11 (given_columns given.now) old new) }
 {
     tx.execute(
         "INSERT INTO given (issuer, serial, customer, key, chip, mac, not_after) VALUES (?1, ?2, ?3, ?4, ?5, ?6, ?7)",
@@ -226,9 +239,10 @@ fn insert_given_start<S: Alter>(
     tx: &mut Transaction<'_, S>,
     given: &GivenRow,
 ) -> Result<usize, Error>
-    requires { HasSchema (state S.Store tx.old.conn.now) }
+    requires { HasOfficeSchema (state S.Store tx.old.conn.now) }
     ensures same_reference { tx.new.conn.ghost_name ≡ tx.old.conn.ghost_name }
-    ensures changes { Changes S.Store tx.old.conn.now tx.new.conn.now result (λ old new _. Adds 19 (given_start_columns given.now) old new) }
+    ensures changes { SqlWrites S.Store tx.old.conn.now tx.new.conn.now result (λ old new _.
+        SqlAdds 19 (given_start_columns given.now) old new) }
 {
     tx.execute(
         "INSERT INTO given_start (issuer, serial, not_before) VALUES (?1, ?2, ?3)",
@@ -247,12 +261,18 @@ fn insert_record<S: Alter>(
     address: &Option<String>,
 ) -> Result<(), Error>
     requires office { HasOffice (state S.Store tx.old.conn.now) }
-    requires free { IsTrue (state S.Store tx.old.conn.now).is_open → IsFree (TheGiven given.now) (tables_in (state S.Store tx.old.conn.now).now.trees) }
-    requires address_is { option_map (λ t. string_bytes t) address.now ≡ option_map spec.mac_text given.now.row.mac }
-    requires address_back { option_and_then mac_of_text (option_map (λ t. string_bytes t) address.now) ≡ given.now.row.mac }
-    requires address_free { IsTrue (state S.Store tx.old.conn.now).is_open → IsAddressFree given.now.row.mac (tables_in (state S.Store tx.old.conn.now).now.trees).given }
+    requires free { IsTrue (state S.Store tx.old.conn.now).is_open
+        → IsFree (TheGiven given.now) (tables_in (state S.Store tx.old.conn.now).now.trees) }
+    requires address_is { option_map (λ t. string_bytes t) address.now
+        ≡ option_map spec.mac_text given.now.row.mac }
+    requires address_back { option_and_then mac_of_text (option_map (λ t.
+        string_bytes t) address.now) ≡ given.now.row.mac }
+    requires address_free { IsTrue (state S.Store tx.old.conn.now).is_open
+        → IsAddressFree given.now.row.mac
+        (tables_in (state S.Store tx.old.conn.now).now.trees).given }
     ensures same_reference { tx.new.conn.ghost_name ≡ tx.old.conn.ghost_name }
-    ensures changes { Changes S.Store tx.old.conn.now tx.new.conn.now result (λ old new _. Wrote (TheGiven given.now) old new) }
+    ensures changes { SqlWrites S.Store tx.old.conn.now tx.new.conn.now result (λ old new _.
+        Wrote (TheGiven given.now) old new) }
 {
     insert_given(tx, given, address)?;
     insert_given_start(tx, given)?;
@@ -267,9 +287,11 @@ pub(crate) fn add_given<S: Alter>(
     given: &GivenRow,
 ) -> Result<(), Error>
     requires office { HasOffice (state S.Store tx.old.conn.now) }
-    requires free { IsTrue (state S.Store tx.old.conn.now).is_open → IsFree (TheGiven given.now) (tables_in (state S.Store tx.old.conn.now).now.trees) }
+    requires free { IsTrue (state S.Store tx.old.conn.now).is_open
+        → IsFree (TheGiven given.now) (tables_in (state S.Store tx.old.conn.now).now.trees) }
     ensures same_reference { tx.new.conn.ghost_name ≡ tx.old.conn.ghost_name }
-    ensures changes { Changes S.Store tx.old.conn.now tx.new.conn.now result (λ old new _. Wrote (TheGiven given.now) old new) }
+    ensures changes { SqlWrites S.Store tx.old.conn.now tx.new.conn.now result (λ old new _.
+        Wrote (TheGiven given.now) old new) }
 {
     let address = address_text(alloc, given.row.mac)?;
     find_address_free(tx, &address)?;

@@ -5,15 +5,15 @@ ghost use Rattle.sqlite.specs.declared.types.Value.TheVariants.{Null};
 ghost use Rattle.office_tables.specs.declared.rows.Write.TheVariants.{AddLink as TheLink};
 ghost use Rattle.office_tables.specs.Keeping.{Visits};
 ghost use Rattle.office_tables.specs.Tables.{is_link, is_of, link_at, IsFree};
-ghost use Rattle.office_sql.specs.Rows.{link_in};
+ghost use Rattle.office_sql.specs.Rows.{link_in_row};
 ghost use Rattle.office_sql.specs.Tables.{tables_in};
 ghost use Rattle.office_sql.specs.Change.{Wrote};
-ghost use Rattle.office_sql.specs.Asking.{Asks, Changes, HasOffice};
+ghost use Rattle.office_sql.specs.Asking.{SqlReads, SqlWrites, HasOffice};
 
 use crate::number::whole;
 use crate::read::{digest_at, name_at, whole_at};
 use crate::visit::{ReadRow, visit_rows};
-use office_tables::{Link, LinkRow, Owned, Sink};
+use office_tables::{Link, LinkRow, OfCustomer, Sink};
 use sqlite::{Alter, Connection, Error, Row, Transaction, params};
 use std::alloc::Global;
 use text_core::{Digest, Name};
@@ -24,7 +24,9 @@ fn link_rows<S: Alter>(
     digest: &Digest,
 ) -> Result<Vec<Row>, Error>
     requires { HasOffice (state S.Store conn.old) }
-    ensures { Asks S.Store conn.old conn.new result (λ t rows. map (λ r. link_in (Null ∷ r)) rows.items ≡ filter (is_link customer.now digest.now) t.links) }
+    ensures { SqlReads S.Store conn.old conn.new result (λ t rows.
+        map (λ r. link_in_row (Null ∷ r)) rows.items
+        ≡ filter (is_link customer.now digest.now) t.links) }
 {
     conn.query_all(
         "SELECT customer, digest, map FROM link WHERE customer = ?1 AND digest = ?2 ORDER BY customer, digest",
@@ -33,9 +35,9 @@ fn link_rows<S: Alter>(
 }
 
 fn read_link(row: &Row) -> Result<LinkRow, Error>
-    ensures { IfOk result (λ link. link ≡ link_in (Null ∷ row.now)) }
+    ensures { IfOk result (λ link. link ≡ link_in_row (Null ∷ row.now)) }
 {
-    Ok(Owned {
+    Ok(OfCustomer {
         customer: name_at(row, 0)?,
         row: Link {
             digest: digest_at(row, 1)?,
@@ -45,7 +47,8 @@ fn read_link(row: &Row) -> Result<LinkRow, Error>
 }
 
 fn first_link(rows: &[Row]) -> Result<Option<LinkRow>, Error>
-    ensures { IfOk result (λ link. link ≡ option_map (λ r. link_in (Null ∷ r)) (slice_get rows.now 0)) }
+    ensures { IfOk result (λ link. link
+        ≡ option_map (λ r. link_in_row (Null ∷ r)) (slice_get rows.now 0)) }
 {
     match rows.first() {
         Some(row) => Ok(Some(read_link(row)?)),
@@ -60,14 +63,15 @@ pub fn link_row<S: Alter>(
     digest: &Digest,
 ) -> Result<Option<LinkRow>, Error>
     requires { HasOffice (state S.Store conn.old) }
-    ensures { Asks S.Store conn.old conn.new result (λ t row. row ≡ link_at customer.now digest.now t) }
+    ensures { SqlReads S.Store conn.old conn.new result (λ t row. row
+        ≡ link_at customer.now digest.now t) }
 {
     let rows = link_rows(conn, customer, digest)?;
     first_link(rows.as_slice())
 }
 
 impl ReadRow for LinkRow {
-    ghost reads = { λ r. link_in (Null ∷ r) };
+    ghost reads = { λ r. link_in_row (Null ∷ r) };
 
     fn read_row(row: &Row) -> Result<LinkRow, Error> {
         read_link(row)
@@ -81,7 +85,8 @@ pub fn visit_links<S: Alter, K: Sink<LinkRow>>(
     sink: &mut K,
 ) -> Result<(), Error>
     requires { HasOffice (state S.Store conn.old) }
-    ensures { Asks S.Store conn.old conn.new result (λ t _. Visits K.takes sink.old (filter (is_of customer.now) t.links) sink.new) }
+    ensures { SqlReads S.Store conn.old conn.new result (λ t _.
+        Visits K.takes sink.old (filter (is_of customer.now) t.links) sink.new) }
 {
     visit_rows::<S, LinkRow, K>(
         conn,
@@ -94,9 +99,11 @@ pub fn visit_links<S: Alter, K: Sink<LinkRow>>(
 /// Adds a customer's link to a map that is there.
 pub(crate) fn add_link<S: Alter>(tx: &mut Transaction<'_, S>, link: &LinkRow) -> Result<(), Error>
     requires office { HasOffice (state S.Store tx.old.conn.now) }
-    requires free { IsTrue (state S.Store tx.old.conn.now).is_open → IsFree (TheLink link.now) (tables_in (state S.Store tx.old.conn.now).now.trees) }
+    requires free { IsTrue (state S.Store tx.old.conn.now).is_open
+        → IsFree (TheLink link.now) (tables_in (state S.Store tx.old.conn.now).now.trees) }
     ensures same_reference { tx.new.conn.ghost_name ≡ tx.old.conn.ghost_name }
-    ensures changes { Changes S.Store tx.old.conn.now tx.new.conn.now result (λ old new _. Wrote (TheLink link.now) old new) }
+    ensures changes { SqlWrites S.Store tx.old.conn.now tx.new.conn.now result (λ old new _.
+        Wrote (TheLink link.now) old new) }
 {
     let map = whole(link.row.map)?;
     tx.execute(

@@ -4,23 +4,24 @@ ghost use Rattle.sqlite.specs.Held.{state};
 ghost use Rattle.sqlite.specs.Order.{column};
 ghost use Rattle.office_tables.specs.declared.rows.Write.TheVariants.{AddMap as TheMap};
 ghost use Rattle.office_tables.specs.Tables.{has_id, has_body, map_at, map_with, IsFree};
-ghost use Rattle.office_sql.specs.Values.{number_in};
-ghost use Rattle.office_sql.specs.Rows.{map_in};
+ghost use Rattle.office_sql.specs.Values.{number_in_cell};
+ghost use Rattle.office_sql.specs.Rows.{map_in_row};
 ghost use Rattle.office_sql.specs.Tables.{tables_in};
 ghost use Rattle.office_sql.specs.Change.{Wrote};
 ghost use Rattle.office_sql.specs.Maps.{GainsMap};
-ghost use Rattle.office_sql.specs.Asking.{Asks, Changes, HasOffice};
+ghost use Rattle.office_sql.specs.Asking.{SqlReads, SqlWrites, HasOffice};
 
 use crate::links::add_link;
 use crate::number::whole;
 use crate::read::{DAMAGED, owned_text_at, whole_at};
-use office_tables::{Link, MapRow, NewMap, Owned};
+use office_tables::{Link, MapRow, NewMap, OfCustomer};
 use sqlite::{Alter, Connection, Error, Row, Transaction, params};
 use std::alloc::Global;
 
 fn id_rows<S: Alter>(conn: &mut Connection<S>, id: u64) -> Result<Vec<Row>, Error>
     requires { HasOffice (state S.Store conn.old) }
-    ensures { Asks S.Store conn.old conn.new result (λ t rows. map (λ r. map_in (column r 0 ∷ r)) rows.items ≡ filter (has_id id) t.maps) }
+    ensures { SqlReads S.Store conn.old conn.new result (λ t rows.
+        map (λ r. map_in_row (column r 0 ∷ r)) rows.items ≡ filter (has_id id) t.maps) }
 {
     let id = whole(id)?;
     conn.query_all(
@@ -31,7 +32,8 @@ fn id_rows<S: Alter>(conn: &mut Connection<S>, id: u64) -> Result<Vec<Row>, Erro
 
 fn body_rows<S: Alter>(conn: &mut Connection<S>, body: &str) -> Result<Vec<Row>, Error>
     requires { HasOffice (state S.Store conn.old) }
-    ensures { Asks S.Store conn.old conn.new result (λ t rows. map (λ r. map_in (column r 0 ∷ r)) rows.items ≡ filter (has_body body.now) t.maps) }
+    ensures { SqlReads S.Store conn.old conn.new result (λ t rows.
+        map (λ r. map_in_row (column r 0 ∷ r)) rows.items ≡ filter (has_body body.now) t.maps) }
 {
     conn.query_all(
         "SELECT id, body FROM map WHERE body = ?1 ORDER BY id",
@@ -40,7 +42,7 @@ fn body_rows<S: Alter>(conn: &mut Connection<S>, body: &str) -> Result<Vec<Row>,
 }
 
 fn read_map(alloc: Global, row: &Row) -> Result<MapRow, Error>
-    ensures { IfOk result (λ map. map ≡ map_in (column row.now 0 ∷ row.now)) }
+    ensures { IfOk result (λ map. map ≡ map_in_row (column row.now 0 ∷ row.now)) }
 {
     Ok(MapRow {
         id: whole_at(row, 0)?,
@@ -49,7 +51,8 @@ fn read_map(alloc: Global, row: &Row) -> Result<MapRow, Error>
 }
 
 fn first_map(alloc: Global, rows: &[Row]) -> Result<Option<MapRow>, Error>
-    ensures { IfOk result (λ map. map ≡ option_map (λ r. map_in (column r 0 ∷ r)) (slice_get rows.now 0)) }
+    ensures { IfOk result (λ map. map
+        ≡ option_map (λ r. map_in_row (column r 0 ∷ r)) (slice_get rows.now 0)) }
 {
     match rows.first() {
         Some(row) => Ok(Some(read_map(alloc, row)?)),
@@ -58,7 +61,8 @@ fn first_map(alloc: Global, rows: &[Row]) -> Result<Option<MapRow>, Error>
 }
 
 fn first_id(rows: &[Row]) -> Result<Option<u64>, Error>
-    ensures { IfOk result (λ id. id ≡ option_map (λ r. number_in (column r 0)) (slice_get rows.now 0)) }
+    ensures { IfOk result (λ id. id
+        ≡ option_map (λ r. number_in_cell (column r 0)) (slice_get rows.now 0)) }
 {
     match rows.first() {
         Some(row) => Ok(Some(whole_at(row, 0)?)),
@@ -73,7 +77,7 @@ pub fn map_row<S: Alter>(
     id: u64,
 ) -> Result<Option<MapRow>, Error>
     requires { HasOffice (state S.Store conn.old) }
-    ensures { Asks S.Store conn.old conn.new result (λ t row. row ≡ map_at id t) }
+    ensures { SqlReads S.Store conn.old conn.new result (λ t row. row ≡ map_at id t) }
 {
     let rows = id_rows(conn, id)?;
     first_map(alloc, rows.as_slice())
@@ -82,7 +86,8 @@ pub fn map_row<S: Alter>(
 /// The number of the map with a text.
 pub fn map_id<S: Alter>(conn: &mut Connection<S>, body: &str) -> Result<Option<u64>, Error>
     requires { HasOffice (state S.Store conn.old) }
-    ensures { Asks S.Store conn.old conn.new result (λ t id. id ≡ option_map (λ m. m.id) (map_with body.now t)) }
+    ensures { SqlReads S.Store conn.old conn.new result (λ t id. id
+        ≡ option_map (λ m. m.id) (map_with body.now t)) }
 {
     let rows = body_rows(conn, body)?;
     first_id(rows.as_slice())
@@ -95,10 +100,11 @@ fn number_of(rowid: i64) -> Result<u64, Error>
 }
 
 // Adds the row of a map, and answers its number.
-fn new_map<S: Alter>(tx: &mut Transaction<'_, S>, map: &Owned<NewMap>) -> Result<u64, Error>
+fn new_map<S: Alter>(tx: &mut Transaction<'_, S>, map: &OfCustomer<NewMap>) -> Result<u64, Error>
     requires { HasOffice (state S.Store tx.old.conn.now) }
     ensures same_reference { tx.new.conn.ghost_name ≡ tx.old.conn.ghost_name }
-    ensures changes { Changes S.Store tx.old.conn.now tx.new.conn.now result (λ old new id. GainsMap map.now id old new) }
+    ensures changes { SqlWrites S.Store tx.old.conn.now tx.new.conn.now result (λ old new id.
+        GainsMap map.now id old new) }
 {
     tx.execute(
         "INSERT INTO map (body, digest) VALUES (?1, ?2)",
@@ -110,15 +116,17 @@ fn new_map<S: Alter>(tx: &mut Transaction<'_, S>, map: &Owned<NewMap>) -> Result
 /// Adds a new map, and its customer's link to it.
 pub(crate) fn add_map<S: Alter>(
     tx: &mut Transaction<'_, S>,
-    map: &Owned<NewMap>,
+    map: &OfCustomer<NewMap>,
 ) -> Result<(), Error>
     requires office { HasOffice (state S.Store tx.old.conn.now) }
-    requires free { IsTrue (state S.Store tx.old.conn.now).is_open → IsFree (TheMap map.now) (tables_in (state S.Store tx.old.conn.now).now.trees) }
+    requires free { IsTrue (state S.Store tx.old.conn.now).is_open
+        → IsFree (TheMap map.now) (tables_in (state S.Store tx.old.conn.now).now.trees) }
     ensures same_reference { tx.new.conn.ghost_name ≡ tx.old.conn.ghost_name }
-    ensures changes { Changes S.Store tx.old.conn.now tx.new.conn.now result (λ old new _. Wrote (TheMap map.now) old new) }
+    ensures changes { SqlWrites S.Store tx.old.conn.now tx.new.conn.now result (λ old new _.
+        Wrote (TheMap map.now) old new) }
 {
     let id = new_map(tx, map)?;
-    let link = Owned {
+    let link = OfCustomer {
         customer: map.customer,
         row: Link {
             digest: map.row.digest,

@@ -8,11 +8,11 @@ ghost use Rattle.sqlite.specs.declared.types.Value.TheVariants.{Null};
 ghost use Rattle.office_tables.specs.Keeping.{Visits};
 ghost use Rattle.office_tables.specs.Tables.{is_of, is_order, order_at, IsFree};
 ghost use Rattle.office_tables.specs.declared.rows.Write.TheVariants.{AddOrder as TheOrder, SetCursor as TheCursor};
-ghost use Rattle.office_sql.specs.Asking.{Asks, Changes, HasOffice, HasSchema};
-ghost use Rattle.office_sql.specs.Change.{Adds, Wrote};
+ghost use Rattle.office_sql.specs.Asking.{SqlReads, SqlWrites, HasOffice, HasOfficeSchema};
+ghost use Rattle.office_sql.specs.Change.{SqlAdds, Wrote};
 ghost use Rattle.office_sql.specs.Tables.{tables_in};
 ghost use Rattle.office_sql.specs.Rows.{joined_order, order_columns, order_start_columns};
-ghost use Rattle.office_sql.specs.Values.{mac_if, number_in, text_if};
+ghost use Rattle.office_sql.specs.Values.{mac_if, number_in_cell, text_if};
 
 use crate::address::address_text;
 use crate::number::whole;
@@ -20,7 +20,7 @@ use crate::read::{DAMAGED, mac_if_at, name_at, start_if_at, text_at, whole_at};
 use crate::start::start_text;
 use crate::visit::{ReadRow, visit_rows};
 use id_ranges::{Mac, NotBefore, SerialRange};
-use office_tables::{Cursor, Order, OrderRow, Owned, Sink};
+use office_tables::{Cursor, OfCustomer, Order, OrderRow, Sink};
 use sqlite::{Alter, Connection, Error, Row, Transaction, params};
 use std::alloc::Global;
 use text_core::{LARGEST_WHOLE, Name};
@@ -37,7 +37,8 @@ fn order_rows<S: Alter>(
     name: &Name,
 ) -> Result<Vec<Row>, Error>
     requires { HasOffice (state S.Store conn.old) }
-    ensures { Asks S.Store conn.old conn.new result (λ t rows. map joined_order rows.items ≡ filter (is_order customer.now name.now) t.orders) }
+    ensures { SqlReads S.Store conn.old conn.new result (λ t rows. map joined_order rows.items
+        ≡ filter (is_order customer.now name.now) t.orders) }
 {
     conn.query_all(
         "SELECT orders.customer, name, issuer, prefix, width, first, quantity, macs, mac, cursor, not_before FROM orders JOIN order_start ON order_start.customer = orders.customer AND ord = name WHERE orders.customer = ?1 AND name = ?2 ORDER BY orders.customer, name",
@@ -46,13 +47,13 @@ fn order_rows<S: Alter>(
 }
 
 fn small_at(row: &Row, at: usize) -> Result<u8, Error>
-    ensures { IfOk result (λ number. number ≡ number_in (column row.now at)) }
+    ensures { IfOk result (λ number. number ≡ number_in_cell (column row.now at)) }
 {
     u8::try_from(whole_at(row, at)?).map_err(|_| DAMAGED)
 }
 
 fn macs_at(row: &Row, at: usize) -> Result<u8, Error>
-    ensures { IfOk result (λ number. number ≡ number_in (column row.now at)) }
+    ensures { IfOk result (λ number. number ≡ number_in_cell (column row.now at)) }
 {
     let macs = small_at(row, at)?;
     if macs <= LARGEST_MACS {
@@ -63,7 +64,8 @@ fn macs_at(row: &Row, at: usize) -> Result<u8, Error>
 }
 
 fn range(prefix: &str, width: u8, first: u64, quantity: u64) -> Result<SerialRange, Error>
-    ensures { IfOk result (λ range. range ≡ record { prefix = prefix.now; width = width; first = first; quantity = quantity }) }
+    ensures { IfOk result (λ range. range
+        ≡ record { prefix = prefix.now; width = width; first = first; quantity = quantity }) }
 {
     let has_width = 1 <= width && width <= 9;
     let has_quantity = 1 <= quantity && quantity <= LARGEST_QUANTITY;
@@ -79,7 +81,7 @@ fn read_order(row: &Row, mac: Option<Mac>, not_before: Option<NotBefore>) -> Res
     requires not_before { not_before ≡ text_if (column row.now 10) }
     ensures { IfOk result (λ order. order ≡ joined_order row.now) }
 {
-    Ok(Owned {
+    Ok(OfCustomer {
         customer: name_at(row, 0)?,
         row: Order {
             name: name_at(row, 1)?,
@@ -114,7 +116,8 @@ pub fn order_row<S: Alter>(
     name: &Name,
 ) -> Result<Option<OrderRow>, Error>
     requires { HasOffice (state S.Store conn.old) }
-    ensures { Asks S.Store conn.old conn.new result (λ t row. row ≡ order_at customer.now name.now t) }
+    ensures { SqlReads S.Store conn.old conn.new result (λ t row. row
+        ≡ order_at customer.now name.now t) }
 {
     let rows = order_rows(conn, customer, name)?;
     first_order(rows.as_slice())
@@ -137,7 +140,8 @@ pub fn visit_orders<S: Alter, K: Sink<OrderRow>>(
     sink: &mut K,
 ) -> Result<(), Error>
     requires { HasOffice (state S.Store conn.old) }
-    ensures { Asks S.Store conn.old conn.new result (λ t _. Visits K.takes sink.old (filter (is_of customer.now) t.orders) sink.new) }
+    ensures { SqlReads S.Store conn.old conn.new result (λ t _.
+        Visits K.takes sink.old (filter (is_of customer.now) t.orders) sink.new) }
 {
     visit_rows::<S, OrderRow, K>(
         conn,
@@ -153,10 +157,12 @@ fn insert_order<S: Alter>(
     order: &OrderRow,
     address: &Option<String>,
 ) -> Result<usize, Error>
-    requires schema { HasSchema (state S.Store tx.old.conn.now) }
-    requires address_is { option_map (λ t. string_bytes t) address.now ≡ option_map spec.mac_text order.now.row.mac }
+    requires schema { HasOfficeSchema (state S.Store tx.old.conn.now) }
+    requires address_is { option_map (λ t. string_bytes t) address.now
+        ≡ option_map spec.mac_text order.now.row.mac }
     ensures same_reference { tx.new.conn.ghost_name ≡ tx.old.conn.ghost_name }
-    ensures changes { Changes S.Store tx.old.conn.now tx.new.conn.now result (λ old new _. Adds 7 (order_columns order.now) old new) }
+    ensures changes { SqlWrites S.Store tx.old.conn.now tx.new.conn.now result (λ old new _.
+        SqlAdds 7 (order_columns order.now) old new) }
 {
     let range = order.row.range;
     let prefix = range.prefix();
@@ -185,9 +191,10 @@ fn insert_order_start<S: Alter>(
     tx: &mut Transaction<'_, S>,
     order: &OrderRow,
 ) -> Result<usize, Error>
-    requires { HasSchema (state S.Store tx.old.conn.now) }
+    requires { HasOfficeSchema (state S.Store tx.old.conn.now) }
     ensures same_reference { tx.new.conn.ghost_name ≡ tx.old.conn.ghost_name }
-    ensures changes { Changes S.Store tx.old.conn.now tx.new.conn.now result (λ old new _. Adds 17 (order_start_columns order.now) old new) }
+    ensures changes { SqlWrites S.Store tx.old.conn.now tx.new.conn.now result (λ old new _.
+        SqlAdds 17 (order_start_columns order.now) old new) }
 {
     tx.execute(
         "INSERT INTO order_start (customer, ord, not_before) VALUES (?1, ?2, ?3)",
@@ -206,9 +213,11 @@ pub(crate) fn add_order<S: Alter>(
     order: &OrderRow,
 ) -> Result<(), Error>
     requires office { HasOffice (state S.Store tx.old.conn.now) }
-    requires free { IsTrue (state S.Store tx.old.conn.now).is_open → IsFree (TheOrder order.now) (tables_in (state S.Store tx.old.conn.now).now.trees) }
+    requires free { IsTrue (state S.Store tx.old.conn.now).is_open
+        → IsFree (TheOrder order.now) (tables_in (state S.Store tx.old.conn.now).now.trees) }
     ensures same_reference { tx.new.conn.ghost_name ≡ tx.old.conn.ghost_name }
-    ensures changes { Changes S.Store tx.old.conn.now tx.new.conn.now result (λ old new _. Wrote (TheOrder order.now) old new) }
+    ensures changes { SqlWrites S.Store tx.old.conn.now tx.new.conn.now result (λ old new _.
+        Wrote (TheOrder order.now) old new) }
 {
     let address = address_text(alloc, order.row.mac)?;
     insert_order(tx, order, &address)?;
@@ -219,13 +228,14 @@ pub(crate) fn add_order<S: Alter>(
 // Sets the cursor of an order, and answers of how many.
 fn update_cursor<S: Alter>(
     tx: &mut Transaction<'_, S>,
-    cursor: &Owned<Cursor>,
+    cursor: &OfCustomer<Cursor>,
     number: i64,
 ) -> Result<usize, Error>
     requires office { HasOffice (state S.Store tx.old.conn.now) }
     requires number { number ≡ pos cursor.now.row.number }
     ensures same_reference { tx.new.conn.ghost_name ≡ tx.old.conn.ghost_name }
-    ensures changes { Changes S.Store tx.old.conn.now tx.new.conn.now result (λ old new count. count ≡ 1 → Wrote (TheCursor cursor.now) old new) }
+    ensures changes { SqlWrites S.Store tx.old.conn.now tx.new.conn.now result (λ old new count.
+        count ≡ 1 → Wrote (TheCursor cursor.now) old new) }
 {
     tx.execute(
         "UPDATE orders SET cursor = ?3 WHERE customer = ?1 AND name = ?2",
@@ -236,11 +246,12 @@ fn update_cursor<S: Alter>(
 /// Sets the cursor of an order that is there.
 pub(crate) fn set_cursor<S: Alter>(
     tx: &mut Transaction<'_, S>,
-    cursor: &Owned<Cursor>,
+    cursor: &OfCustomer<Cursor>,
 ) -> Result<(), Error>
     requires office { HasOffice (state S.Store tx.old.conn.now) }
     ensures same_reference { tx.new.conn.ghost_name ≡ tx.old.conn.ghost_name }
-    ensures changes { Changes S.Store tx.old.conn.now tx.new.conn.now result (λ old new _. Wrote (TheCursor cursor.now) old new) }
+    ensures changes { SqlWrites S.Store tx.old.conn.now tx.new.conn.now result (λ old new _.
+        Wrote (TheCursor cursor.now) old new) }
 {
     let number = whole(cursor.row.number)?;
     if update_cursor(tx, cursor, number)? != 1 {

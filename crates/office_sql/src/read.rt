@@ -2,14 +2,14 @@
 // is the fault of a damaged database.
 ghost use Rattle.std.specs.Prelude.{◌≡◌, IfOk, option_map};
 ghost use Rattle.sqlite.specs.Order.{column, bytes};
-ghost use Rattle.office_sql.specs.Values.{number_in, text_if, mac_if};
+ghost use Rattle.office_sql.specs.Values.{number_in_cell, text_if, mac_if};
 
 use id_ranges::{KeyDigest, Mac, NotBefore};
 use sqlite::types::ValueRef;
 use sqlite::{Error, ErrorCode, Row};
 use std::alloc::Global;
 use std::str;
-use text_core::{Chip, Column, Digest, Name, Serial, Text, Time};
+use text_core::{Chip, Digest, Name, Serial, ShortBytes, Text, Time};
 
 /// The fault of a column that isn't of its form.
 pub const DAMAGED: Error = Error::SqliteFailure(ErrorCode::DatabaseCorrupt);
@@ -47,7 +47,7 @@ fn blob_at(row: &Row, at: usize) -> Result<&[u8], Error>
 
 /// A whole number that isn't below zero.
 pub fn whole_at(row: &Row, at: usize) -> Result<u64, Error>
-    ensures { IfOk result (λ number. number ≡ number_in (column row.now at)) }
+    ensures { IfOk result (λ number. number ≡ number_in_cell (column row.now at)) }
 {
     row.get(at)
 }
@@ -102,10 +102,10 @@ pub(crate) fn key_at(row: &Row, at: usize) -> Result<KeyDigest, Error>
     Ok(KeyDigest::from_bytes(bytes_at(row, at)?))
 }
 
-pub(crate) fn column_at<const N: usize>(row: &Row, at: usize) -> Result<Column<N>, Error>
+pub(crate) fn column_at<const N: usize>(row: &Row, at: usize) -> Result<ShortBytes<N>, Error>
     ensures { IfOk result (λ list. list ≡ bytes (column row.now at)) }
 {
-    Column::from_bytes(blob_at(row, at)?).ok_or(DAMAGED)
+    ShortBytes::from_bytes(blob_at(row, at)?).ok_or(DAMAGED)
 }
 
 pub(crate) fn chip_if_at(row: &Row, at: usize) -> Result<Option<Chip>, Error>

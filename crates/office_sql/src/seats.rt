@@ -3,8 +3,8 @@ ghost use Rattle.std.specs.Prelude.{◌≡◌, ◌==◌, ◌∷◌, pos, IfOk, I
 ghost use Rattle.sqlite.specs.Held.{state};
 ghost use Rattle.sqlite.specs.declared.types.Value.TheVariants.{Null};
 ghost use Rattle.office_tables.specs.Tables.{is_seat, seat_at};
-ghost use Rattle.office_sql.specs.Rows.{seat_in};
-ghost use Rattle.office_sql.specs.Asking.{Asks, Changes, HasOffice};
+ghost use Rattle.office_sql.specs.Rows.{seat_in_row};
+ghost use Rattle.office_sql.specs.Asking.{SqlReads, SqlWrites, HasOffice};
 ghost use Rattle.office_sql.specs.Change.{Wrote};
 ghost use Rattle.office_sql.specs.Seats.{LacksSeat};
 ghost use Rattle.office_sql.specs.Tables.{tables_in};
@@ -12,14 +12,15 @@ ghost use Rattle.office_tables.specs.declared.rows.Write.TheVariants.{PutSeat as
 
 use crate::number::whole;
 use crate::read::{digest_at, name_at, owned_text_at, whole_at};
-use office_tables::{Owned, SeatRow, SeatState};
+use office_tables::{OfCustomer, SeatRow, SeatState};
 use sqlite::{Alter, Connection, Error, Row, Transaction, params};
 use std::alloc::Global;
 use text_core::Name;
 
 fn seat_rows<S: Alter>(conn: &mut Connection<S>, name: &Name) -> Result<Vec<Row>, Error>
     requires { HasOffice (state S.Store conn.old) }
-    ensures { Asks S.Store conn.old conn.new result (λ t rows. map (λ r. seat_in (Null ∷ r)) rows.items ≡ filter (is_seat name.now) t.seats) }
+    ensures { SqlReads S.Store conn.old conn.new result (λ t rows.
+        map (λ r. seat_in_row (Null ∷ r)) rows.items ≡ filter (is_seat name.now) t.seats) }
 {
     conn.query_all(
         "SELECT name, customer, last, digest, reply FROM seat WHERE name = ?1 ORDER BY name",
@@ -28,9 +29,9 @@ fn seat_rows<S: Alter>(conn: &mut Connection<S>, name: &Name) -> Result<Vec<Row>
 }
 
 fn read_seat(alloc: Global, row: &Row) -> Result<SeatRow, Error>
-    ensures { IfOk result (λ seat. seat ≡ seat_in (Null ∷ row.now)) }
+    ensures { IfOk result (λ seat. seat ≡ seat_in_row (Null ∷ row.now)) }
 {
-    Ok(Owned {
+    Ok(OfCustomer {
         customer: name_at(row, 1)?,
         row: SeatState {
             name: name_at(row, 0)?,
@@ -42,7 +43,8 @@ fn read_seat(alloc: Global, row: &Row) -> Result<SeatRow, Error>
 }
 
 fn first_seat(alloc: Global, rows: &[Row]) -> Result<Option<SeatRow>, Error>
-    ensures { IfOk result (λ seat. seat ≡ option_map (λ r. seat_in (Null ∷ r)) (slice_get rows.now 0)) }
+    ensures { IfOk result (λ seat. seat
+        ≡ option_map (λ r. seat_in_row (Null ∷ r)) (slice_get rows.now 0)) }
 {
     match rows.first() {
         Some(row) => Ok(Some(read_seat(alloc, row)?)),
@@ -57,7 +59,7 @@ pub fn seat_row<S: Alter>(
     name: &Name,
 ) -> Result<Option<SeatRow>, Error>
     requires { HasOffice (state S.Store conn.old) }
-    ensures { Asks S.Store conn.old conn.new result (λ t row. row ≡ seat_at name.now t) }
+    ensures { SqlReads S.Store conn.old conn.new result (λ t row. row ≡ seat_at name.now t) }
 {
     let rows = seat_rows(conn, name)?;
     first_seat(alloc, rows.as_slice())
@@ -72,7 +74,9 @@ fn set_seat<S: Alter>(
     requires office { HasOffice (state S.Store tx.old.conn.now) }
     requires last { last ≡ pos seat.now.row.last }
     ensures same_reference { tx.new.conn.ghost_name ≡ tx.old.conn.ghost_name }
-    ensures changes { Changes S.Store tx.old.conn.now tx.new.conn.now result (λ old new count. MatchBool (count == 0) (LacksSeat seat.now.row.name old new) (Wrote (ThePut seat.now) old new)) }
+    ensures changes { SqlWrites S.Store tx.old.conn.now tx.new.conn.now result (λ old new count.
+        MatchBool (count == 0) (LacksSeat seat.now.row.name old new)
+        (Wrote (ThePut seat.now) old new)) }
 {
     tx.execute(
         "UPDATE seat SET customer = ?2, last = ?3, digest = ?4, reply = ?5 WHERE name = ?1",
@@ -93,10 +97,12 @@ fn new_seat<S: Alter>(
     last: i64,
 ) -> Result<usize, Error>
     requires office { HasOffice (state S.Store tx.old.conn.now) }
-    requires free { IsTrue (state S.Store tx.old.conn.now).is_open → seat_at seat.now.row.name (tables_in (state S.Store tx.old.conn.now).now.trees) ≡ None }
+    requires free { IsTrue (state S.Store tx.old.conn.now).is_open
+        → seat_at seat.now.row.name (tables_in (state S.Store tx.old.conn.now).now.trees) ≡ None }
     requires last { last ≡ pos seat.now.row.last }
     ensures same_reference { tx.new.conn.ghost_name ≡ tx.old.conn.ghost_name }
-    ensures changes { Changes S.Store tx.old.conn.now tx.new.conn.now result (λ old new _. Wrote (ThePut seat.now) old new) }
+    ensures changes { SqlWrites S.Store tx.old.conn.now tx.new.conn.now result (λ old new _.
+        Wrote (ThePut seat.now) old new) }
 {
     tx.execute(
         "INSERT INTO seat (name, customer, last, digest, reply) VALUES (?1, ?2, ?3, ?4, ?5)",
@@ -114,7 +120,8 @@ fn new_seat<S: Alter>(
 pub(crate) fn put_seat<S: Alter>(tx: &mut Transaction<'_, S>, seat: &SeatRow) -> Result<(), Error>
     requires office { HasOffice (state S.Store tx.old.conn.now) }
     ensures same_reference { tx.new.conn.ghost_name ≡ tx.old.conn.ghost_name }
-    ensures changes { Changes S.Store tx.old.conn.now tx.new.conn.now result (λ old new _. Wrote (ThePut seat.now) old new) }
+    ensures changes { SqlWrites S.Store tx.old.conn.now tx.new.conn.now result (λ old new _.
+        Wrote (ThePut seat.now) old new) }
 {
     let last = whole(seat.row.last)?;
     let count = set_seat(tx, seat, last)?;

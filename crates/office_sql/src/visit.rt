@@ -36,9 +36,14 @@ pub(crate) fn visit_rows<S: Alter, R: ReadRow + Drop, K: Sink<R>>(
     sink: &mut K,
 ) -> Result<(), Error>
     requires { ¬ Returns (understood conn.old.schema sql.now) }
-    ensures visited { HasCleanDisk (state S.Store conn.new) → OnOk result (HasVisited K.takes R.reads sql.now (bound params.now) (state S.Store conn.old) (state S.Store conn.new) sink.old sink.new) }
-    ensures same { HasCleanDisk (state S.Store conn.new) → OnOk result (IsUnchanged (state S.Store conn.old) (state S.Store conn.new)) }
-    ensures rests { HasCleanDisk (state S.Store conn.new) → Rests (state S.Store conn.old) (state S.Store conn.new) }
+    ensures visited { HasCleanDisk (state S.Store conn.new)
+        → OnOk result
+        (HasVisited K.takes R.reads sql.now (bound params.now) (state S.Store conn.old)
+        (state S.Store conn.new) sink.old sink.new) }
+    ensures same { HasCleanDisk (state S.Store conn.new)
+        → OnOk result (IsUnchanged (state S.Store conn.old) (state S.Store conn.new)) }
+    ensures rests { HasCleanDisk (state S.Store conn.new)
+        → Rests (state S.Store conn.old) (state S.Store conn.new) }
     ensures mode { conn.old.in_transaction ≡ false → conn.new.in_transaction ≡ false }
     ensures crash { Survives (state S.Store conn.old) (state S.Store conn.new) (λ _. ⊥) }
 {

@@ -5,7 +5,7 @@ ghost use Rattle.sqlite.specs.Held.{state};
 ghost use Rattle.office_tables.specs.Tables.{CanWrite, IsFree};
 ghost use Rattle.office_sql.specs.Tables.{tables_in};
 ghost use Rattle.office_sql.specs.Change.{IsMade, IsUndone, LeavesMade, Wrote};
-ghost use Rattle.office_sql.specs.Asking.{Changes, HasOffice};
+ghost use Rattle.office_sql.specs.Asking.{SqlWrites, HasOffice};
 ghost use Rattle.office_sql.specs.Keeping.{IsReady};
 
 use crate::ask::ask_open;
@@ -27,9 +27,11 @@ fn write_one<S: Alter>(
     write: &Write,
 ) -> Result<(), Error>
     requires office { HasOffice (state S.Store tx.old.conn.now) }
-    requires free { IsTrue (state S.Store tx.old.conn.now).is_open → IsFree write.now (tables_in (state S.Store tx.old.conn.now).now.trees) }
+    requires free { IsTrue (state S.Store tx.old.conn.now).is_open
+        → IsFree write.now (tables_in (state S.Store tx.old.conn.now).now.trees) }
     ensures same_reference { tx.new.conn.ghost_name ≡ tx.old.conn.ghost_name }
-    ensures changes { Changes S.Store tx.old.conn.now tx.new.conn.now result (λ old new _. Wrote write.now old new) }
+    ensures changes { SqlWrites S.Store tx.old.conn.now tx.new.conn.now result (λ old new _.
+        Wrote write.now old new) }
 {
     match write {
         Write::PutSeat(seat) => put_seat(tx, seat),
@@ -52,12 +54,16 @@ fn write_all<S: Alter>(
 ) -> Result<(), Error>
     requires mode { conn.old.in_transaction ≡ false }
     requires office { HasOffice (state S.Store conn.old) }
-    requires free { IsTrue (state S.Store conn.old).is_open → CanWrite writes.now (tables_in (state S.Store conn.old).now.trees) }
+    requires free { IsTrue (state S.Store conn.old).is_open
+        → CanWrite writes.now (tables_in (state S.Store conn.old).now.trees) }
     requires some { 0 < length writes.now }
     ensures mode { conn.new.in_transaction ≡ false }
-    ensures ok { HasCleanDisk (state S.Store conn.new) → OnOk result (IsMade writes.now (state S.Store conn.old) (state S.Store conn.new)) }
-    ensures err { HasCleanDisk (state S.Store conn.new) → OnErr result (IsUndone (state S.Store conn.old) (state S.Store conn.new)) }
-    ensures crash { Survives (state S.Store conn.old) (state S.Store conn.new) (LeavesMade writes.now (state S.Store conn.old)) }
+    ensures ok { HasCleanDisk (state S.Store conn.new)
+        → OnOk result (IsMade writes.now (state S.Store conn.old) (state S.Store conn.new)) }
+    ensures err { HasCleanDisk (state S.Store conn.new)
+        → OnErr result (IsUndone (state S.Store conn.old) (state S.Store conn.new)) }
+    ensures crash { Survives (state S.Store conn.old) (state S.Store conn.new)
+        (LeavesMade writes.now (state S.Store conn.old)) }
 {
     let mut tx = conn.transaction();
     for write in writes {
@@ -74,11 +80,15 @@ pub fn commit<S: Alter>(
     writes: &[Write],
 ) -> Result<(), Error>
     requires ready { IsReady (state S.Store conn.old) }
-    requires free { IsTrue (state S.Store conn.old).is_open → CanWrite writes.now (tables_in (state S.Store conn.old).now.trees) }
+    requires free { IsTrue (state S.Store conn.old).is_open
+        → CanWrite writes.now (tables_in (state S.Store conn.old).now.trees) }
     ensures mode { conn.new.in_transaction ≡ false }
-    ensures ok { HasCleanDisk (state S.Store conn.new) → OnOk result (IsMade writes.now (state S.Store conn.old) (state S.Store conn.new)) }
-    ensures err { HasCleanDisk (state S.Store conn.new) → OnErr result (IsUndone (state S.Store conn.old) (state S.Store conn.new)) }
-    ensures crash { Survives (state S.Store conn.old) (state S.Store conn.new) (LeavesMade writes.now (state S.Store conn.old)) }
+    ensures ok { HasCleanDisk (state S.Store conn.new)
+        → OnOk result (IsMade writes.now (state S.Store conn.old) (state S.Store conn.new)) }
+    ensures err { HasCleanDisk (state S.Store conn.new)
+        → OnErr result (IsUndone (state S.Store conn.old) (state S.Store conn.new)) }
+    ensures crash { Survives (state S.Store conn.old) (state S.Store conn.new)
+        (LeavesMade writes.now (state S.Store conn.old)) }
 {
     if writes.is_empty() {
         ask_open(conn)?;

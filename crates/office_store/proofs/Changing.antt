@@ -3,13 +3,13 @@ use Rattle.std.proofs.Common.{Result, Ok, Err, IfOk, OnOk, IsTrue}
 use Rattle.sqlite.specs.Effect.{Database}
 use Rattle.sqlite.specs.Held.{Held, state}
 use Rattle.sqlite.specs.Store.{Ghosts}
-use Rattle.office_sql.specs.Asking.{Changes}
+use Rattle.office_sql.specs.Asking.{SqlWrites}
 use Rattle.office_sql.specs.Change.{IsInside}
 
 -- what follows from what is said is said
 pub says_more : {S A E : Type 0} (g : Ghosts S) (old new : Held S) (r : Result A E) (P Q : Database → Database → A → Type 0)
-    → Changes g old new r P → ((x y : Database) (a : A) → P x y a → Q x y a) → Changes g old new r Q
-says_more {S} {A} {E} g old new r P Q it more = record { says = λ clean. said r (it.says clean); inside = it.inside; kept = it.kept; crash = it.crash }
+    → SqlWrites g old new r P → ((x y : Database) (a : A) → P x y a → Q x y a) → SqlWrites g old new r Q
+says_more {S} {A} {E} g old new r P Q it more = record { answer = λ clean. said r (it.answer clean); inside = it.inside; kept = it.kept; crash = it.crash }
   where
     said : (r : Result A E) → IfOk r (P (state g old).now (state g new).now) → IfOk r (Q (state g old).now (state g new).now)
     said (Ok a) h = more _ _ a h
@@ -17,9 +17,9 @@ says_more {S} {A} {E} g old new r P Q it more = record { says = λ clean. said r
 
 -- what is said of a call where its database is as is asked is said where an open connection has such a database
 pub said_if_open : {S A E : Type 0} (g : Ghosts S) (old new : Held S) (r : Result A E) (IsSo : Database → Type 0) (Says : Database → Database → A → Type 0)
-    → (IsTrue (state g old).is_open → IsSo (state g old).now) → Changes g old new r (λ x y a. IsSo x → Says x y a) → Changes g old new r Says
+    → (IsTrue (state g old).is_open → IsSo (state g old).now) → SqlWrites g old new r (λ x y a. IsSo x → Says x y a) → SqlWrites g old new r Says
 said_if_open {S} {A} {E} g old new r IsSo Says so it =
-    record { says = λ clean. said r (it.inside clean) (it.says clean); inside = it.inside; kept = it.kept; crash = it.crash }
+    record { answer = λ clean. said r (it.inside clean) (it.answer clean); inside = it.inside; kept = it.kept; crash = it.crash }
   where
     said : (r : Result A E) → OnOk r (IsInside (state g old) (state g new))
         → IfOk r (λ a. IsSo (state g old).now → Says (state g old).now (state g new).now a) → IfOk r (Says (state g old).now (state g new).now)

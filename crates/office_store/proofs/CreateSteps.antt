@@ -14,9 +14,9 @@ use Rattle.sqlite.specs.Held.{Held, state}
 use Rattle.sqlite.specs.State.{HasCleanDisk}
 use Rattle.sqlite.proofs.Callers.{IsPlain, command_of, statement_of}
 use Rattle.sqlite_trees.proofs.ListLemmas.{all-append, all_both}
-use Rattle.office_sql.specs.Asking.{Changes}
+use Rattle.office_sql.specs.Asking.{SqlWrites}
 use Rattle.office_sql.specs.Change.{Makes}
-use Rattle.office_store.specs.Meta.{HasRun, IsNew}
+use Rattle.office_store.specs.Meta.{HasRun, HasEmptyTables}
 use Rattle.office_store.proofs.Creates.{makes, makes_sound}
 
 -- what the text of a CREATE TABLE means, and the schema after it
@@ -29,11 +29,15 @@ pub record IsCreate (text : List ℕ) (schema : Schema) (table : Table) (next : 
   pub is : created schema (record table { tree = 0 }) ≡ next
 
 -- a table more, with no row
-grown : (schema next : Schema) (table : Table) (old new : Database) → created schema table ≡ next → Makes schema table old new → IsNew schema old → IsNew next new
+grown : (schema next : Schema) (table : Table) (old new : Database) → created schema table ≡ next
+    → Makes schema table old new → HasEmptyTables schema old → HasEmptyTables next new
 grown schema next table old new is made h = record {
   is = made.is ∙ is;
   empty = subst (λ s. AllByRecursion (λ t. new.trees t.tree ≡ []) s.tables) is
-      (all-append (λ t. new.trees t.tree ≡ []) schema.tables _ (all_both (λ t. new.trees t.tree ≡ old.trees t.tree) (λ t. old.trees t.tree ≡ []) (λ t. new.trees t.tree ≡ []) (λ t e f. e ∙ f) schema.tables made.others h.empty) (made.empty, tt));
+      (all-append (λ t. new.trees t.tree
+      ≡ []) schema.tables _ (all_both (λ t. new.trees t.tree
+      ≡ old.trees t.tree) (λ t. old.trees t.tree ≡ []) (λ t. new.trees t.tree ≡ []) (λ t e f. e
+      ∙ f) schema.tables made.others h.empty) (made.empty, tt));
 }
 
 -- a statement is run
@@ -44,9 +48,16 @@ Runs g text old new r = HasCleanDisk (state g new) → OnOk r (HasRun text (stat
 abbrev pub MakesIn : Schema → Table → Database → Database → Type 0
 MakesIn schema table x y = x.schema ≡ schema → IsDatabase y × Makes schema (record table { tree = 0 }) x y
 
-pub creates_table : {S A E : Type 0} (g : Ghosts S) (text : List ℕ) (schema next : Schema) (table : Table) → IsCreate text schema table next → (old new : Held S) (r : Result A E)
-    → (P : Database → Database → A → Type 0) → Changes g old new r P → Runs g text old new r → Changes g old new r (λ x y _. MakesIn schema table x y)
-creates_table {S} {A} {E} g text schema next table it old new r P ch runs = record { says = λ clean. said r (runs clean); inside = ch.inside; kept = ch.kept; crash = ch.crash }
+pub creates_table : {S A E : Type 0} (g : Ghosts S) (text : List ℕ) (schema next : Schema)
+    (table : Table) → IsCreate text schema table next → (old new : Held S) (r : Result A E)
+    → (P : Database → Database → A → Type 0) → SqlWrites g old new r P → Runs g text old new r → SqlWrites g old new r (λ x y _. MakesIn schema table x y)
+creates_table {S} {A} {E} g text schema next table it old new r P ch runs = record {
+  answer =
+      λ clean. said r (runs clean);
+  inside = ch.inside;
+  kept = ch.kept;
+  crash = ch.crash;
+}
   where
     said : (r : Result A E) → OnOk r (HasRun text (state g old) (state g new)) → IfOk r (λ _. MakesIn schema table (state g old).now (state g new).now)
     said (Ok a) h = λ was. (
@@ -56,13 +67,23 @@ creates_table {S} {A} {E} g text schema next table it old new r P ch runs = reco
     said (Err e) h = tt
 
 -- and so grows a database with no row
-pub creates : {S A E : Type 0} (g : Ghosts S) (text : List ℕ) (schema next : Schema) (table : Table) → IsCreate text schema table next → (old new : Held S) (r : Result A E)
-    → (P : Database → Database → A → Type 0) → Changes g old new r P → Runs g text old new r → Changes g old new r (λ x y _. IsNew schema x → IsNew next y)
-creates {S} {A} {E} g text schema next table it old new r P ch runs = record { says = λ clean. said r (made.says clean); inside = ch.inside; kept = ch.kept; crash = ch.crash }
+pub creates : {S A E : Type 0} (g : Ghosts S) (text : List ℕ) (schema next : Schema) (table : Table)
+    → IsCreate text schema table next → (old new : Held S) (r : Result A E)
+    → (P : Database → Database → A → Type 0) → SqlWrites g old new r P → Runs g text old new r
+    → SqlWrites g old new r (λ x y _. HasEmptyTables schema x → HasEmptyTables next y)
+creates {S} {A} {E} g text schema next table it old new r P ch runs = record {
+  answer =
+      λ clean. said r (made.answer clean);
+  inside = ch.inside;
+  kept = ch.kept;
+  crash = ch.crash;
+}
   where
-    made : Changes g old new r (λ x y _. MakesIn schema table x y)
+    made : SqlWrites g old new r (λ x y _. MakesIn schema table x y)
     made = creates_table g text schema next table it old new r P ch runs
 
-    said : (r : Result A E) → IfOk r (λ _. MakesIn schema table (state g old).now (state g new).now) → IfOk r (λ _. IsNew schema (state g old).now → IsNew next (state g new).now)
+    said : (r : Result A E) → IfOk r (λ _. MakesIn schema table (state g old).now (state g new).now)
+        → IfOk r (λ _. HasEmptyTables schema (state g old).now
+        → HasEmptyTables next (state g new).now)
     said (Ok a) h = λ was. grown schema next _ _ _ it.is (h was.is).1 was
     said (Err e) h = tt

@@ -14,8 +14,12 @@ use Rattle.office_sql.specs.Change.{Makes}
 use Rattle.office_sql.proofs.Stepping.{went, same_value}
 
 pub makes : (sql : List ℕ) (old new : State) (schema : Schema) (table : Table) (count : ℕ) → old.now.schema ≡ schema
-    → command_of (understood schema sql) ≡ CreateTable → statement_of sql (understood schema sql) ≡ sql → IsPlain (understood schema sql) → table_defined_by sql ≡ Ok (record table { tree = 0 })
-    → lacks_sequence (created schema (record table { tree = 0 })) ≡ false → Executes sql [] old new (Ok count) → Makes schema (record table { tree = 0 }) old.now new.now
+    → command_of (understood schema sql) ≡ CreateTable
+    → statement_of sql (understood schema sql) ≡ sql → IsPlain (understood schema sql)
+    → table_defined_by sql ≡ Ok (record table { tree = 0 })
+    → lacks_sequence (created schema (record table { tree = 0 })) ≡ false
+    → Executes sql [] old new (Ok count)
+    → Makes schema (record table { tree = 0 }) old.now new.now
 makes sql old new schema table count has command statement plain defined uncounted h =
     let bare : Table = record table { tree = 0 } in
     let w = subst (λ t. Writes old new None CreateTable t [] count) statement (runs_as sql [] old new schema has CreateTable command plain count h) in
@@ -30,7 +34,9 @@ makes sql old new schema table count has command statement plain defined uncount
     record {
       is = ap (λ (d : Database). d.schema) now ∙ is;
       empty = ap (λ (d : Database). d.trees (next_tree schema)) now ∙ subst (λ s. first.0.trees (next_tree s) ≡ []) has made.empty;
-      others = subst (λ (d : Database). KeepsRows schema.tables old.now.trees d.trees) (sym now) (subst (λ s. KeepsRows s.tables old.now.trees first.0.trees) has made.others);
+      others = subst (λ (d : Database).
+          KeepsRows schema.tables old.now.trees d.trees) (sym now) (subst (λ s.
+          KeepsRows s.tables old.now.trees first.0.trees) has made.others);
     }
 
 -- and it leaves a database

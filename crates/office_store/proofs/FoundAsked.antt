@@ -45,23 +45,36 @@ module _ {S : Type 0} (g : Ghosts S) (text : List ℕ) (body : Query) (bare : Is
   -- a query with no parameters, of a database whose schema is one under which its text is known
   pub tested : (r : Result (Vec Row Global) Error) (Says : Trees → Vec Row Global → Type 0)
       → (IsTrue (state g old).is_open → IsKnown (state g old).now.schema)
-      → ((rows : Vec Row Global) → IsTrue (state g old).is_open → IsAnswer body (overlay (state g old).now.trees []) [] rows.items → Says (state g old).now.trees rows)
-      → (HasCleanDisk (state g new) → IfOk r (λ v. Shown text [] (state g old) (state g new) v.items)) → (HasCleanDisk (state g new) → IfErr r (FailsToQuery text [] (state g old) (state g new)))
+      → ((rows : Vec Row Global) → IsTrue (state g old).is_open
+      → IsAnswer body (overlay (state g old).now.trees []) [] rows.items
+      → Says (state g old).now.trees rows)
+      → (HasCleanDisk (state g new)
+      → IfOk r (λ v. Shown text [] (state g old) (state g new) v.items))
+      → (HasCleanDisk (state g new)
+      → IfErr r (FailsToQuery text [] (state g old) (state g new)))
       → (old.in_transaction ≡ false → new.in_transaction ≡ false) → Survives (state g old) (state g new) (CommitsShowing text [] (state g old))
       → Tests g old new r Says
-  tested r Says known says ok err mode survives = record {
-    says = λ clean. IfOk-weaker r _ _ (λ rows h.
+  tested r Says known answer ok err mode survives = record {
+    answer = λ clean. IfOk-weaker r _ _ (λ rows h.
         let up = shown_open text [] (state g old) (state g new) rows.items bare h in
         let schema = (state g old).now.schema in
         let it = read schema (known up) in
-        says rows up ((reads_as text [] (state g old) (state g new) schema refl (Select (record { lets = []; body = body }) it.names) it.is it.plain it.unlisted rows.items h).answer Null)) (ok clean);
+        answer rows up
+        ((reads_as text [] (state g old) (state g new) schema refl (Select (record {
+          lets =
+              [];
+          body = body;
+        }) it.names) it.is it.plain it.unlisted rows.items h).answer Null))
+        (ok clean);
     same = λ clean. unchanged r (ok clean);
     rests = λ clean. query_rests text [] (state g old) (state g new) r (λ v. v.items) bare (ok clean) (err clean);
     mode = mode;
     crash = bare_commits_nothing text [] (state g old) (state g new) bare survives;
   }
     where
-      unchanged : (r : Result (Vec Row Global) Error) → IfOk r (λ v. Shown text [] (state g old) (state g new) v.items) → OnOk r (IsUnchanged (state g old) (state g new))
+      unchanged : (r : Result (Vec Row Global) Error)
+          → IfOk r (λ v. Shown text [] (state g old) (state g new) v.items)
+          → OnOk r (IsUnchanged (state g old) (state g new))
       unchanged (Ok v) h =
           let up = shown_open text [] (state g old) (state g new) v.items bare h in
           leaves (state g old).now.schema text [] (state g old) (state g new) (read (state g old).now.schema (known up)).plain refl v.items h
@@ -69,7 +82,15 @@ module _ {S : Type 0} (g : Ghosts S) (text : List ℕ) (body : Query) (bare : Is
 
 pub unchanged_then : (old mid new : State) → IsUnchanged old mid → IsUnchanged mid new → IsUnchanged old new
 unchanged_then old mid new h k = (
-  record { was_open = h.0.was_open; is_open = k.0.is_open; now_is = k.0.now_is ∙ h.0.now_is; committed_is = k.0.committed_is ∙ h.0.committed_is; mode = k.0.mode ∙ h.0.mode },
+  record {
+    was_open = h.0.was_open;
+    is_open = k.0.is_open;
+    now_is = k.0.now_is
+        ∙ h.0.now_is;
+    committed_is =
+        k.0.committed_is ∙ h.0.committed_is;
+    mode = k.0.mode ∙ h.0.mode;
+  },
   record { changes = k.1.changes ∙ h.1.changes; last_rowid = k.1.last_rowid ∙ h.1.last_rowid },
   k.2 ∙ h.2,
 )
@@ -86,13 +107,16 @@ through old mid new (Ok b) h k = unchanged_then old mid new h k
 through old mid new (Err e) h k = tt
 
 -- a test after one that was answered
-pub tests_then : {S A B D E : Type 0} (g : Ghosts S) (old mid new : Held S) (a : A) (q : Result B E) (d : Result D E) (P : Trees → A → Type 0) (Q : Trees → B → Type 0) (R : Trees → D → Type 0)
-    → Tests {E = E} g old mid (Ok a) P → Tests g mid new q Q → (P (state g old).now.trees a → IfOk q (Q (state g old).now.trees) → IfOk d (R (state g old).now.trees))
+pub tests_then : {S A B D E : Type 0} (g : Ghosts S) (old mid new : Held S) (a : A) (q : Result B E)
+    (d : Result D E) (P : Trees → A → Type 0) (Q : Trees → B → Type 0) (R : Trees → D → Type 0)
+    → Tests {E = E} g old mid (Ok a) P → Tests g mid new q Q
+    → (P (state g old).now.trees a → IfOk q (Q (state g old).now.trees)
+    → IfOk d (R (state g old).now.trees))
     → (OnOk q (IsUnchanged (state g old) (state g new)) → OnOk d (IsUnchanged (state g old) (state g new))) → Tests g old new d R
-tests_then g old mid new a q d P Q R one two says same =
+tests_then g old mid new a q d P Q R one two answer same =
     let calm = λ (clean : HasCleanDisk (state g new)). was_clean (state g mid) (state g new) (λ _. ⊥) two.crash clean in
     record {
-      says = λ clean. says (one.says (calm clean)) (subst (λ (n : Database). IfOk q (Q n.trees)) (one.same (calm clean)).0.now_is (two.says clean));
+      answer = λ clean. answer (one.answer (calm clean)) (subst (λ (n : Database). IfOk q (Q n.trees)) (one.same (calm clean)).0.now_is (two.answer clean));
       same = λ clean. same (through (state g old) (state g mid) (state g new) q (one.same (calm clean)) (two.same clean));
       rests = λ clean. rests_then (state g old) (state g mid) (state g new) (one.same (calm clean)) (two.rests clean);
       mode = λ m. two.mode (one.mode m);
@@ -100,13 +124,23 @@ tests_then g old mid new a q d P Q R one two says same =
     }
 
 -- what is said of an answer that is made of another
-pub tests_more : {S A B E F : Type 0} (g : Ghosts S) (old new : Held S) (r : Result A E) (q : Result B F) (P : Trees → A → Type 0) (Q : Trees → B → Type 0) → Tests g old new r P
+pub tests_more : {S A B E F : Type 0} (g : Ghosts S) (old new : Held S) (r : Result A E)
+    (q : Result B F) (P : Trees → A → Type 0) (Q : Trees → B → Type 0) → Tests g old new r P
     → (IfOk r (P (state g old).now.trees) → IfOk q (Q (state g old).now.trees))
     → (OnOk r (IsUnchanged (state g old) (state g new)) → OnOk q (IsUnchanged (state g old) (state g new))) → Tests g old new q Q
-tests_more g old new r q P Q it says same = record { says = λ clean. says (it.says clean); same = λ clean. same (it.same clean); rests = it.rests; mode = it.mode; crash = it.crash }
+tests_more g old new r q P Q it answer same = record {
+  answer = λ clean. answer (it.answer clean);
+  same =
+      λ clean. same (it.same clean);
+  rests = it.rests;
+  mode = it.mode;
+  crash = it.crash;
+}
 
 -- a schema of a version is one after a test
-pub still_known : {old new : State} → IsUnchanged old new → (version : Version) × (old.now.schema ≡ schema_of version) → (version : Version) × (new.now.schema ≡ schema_of version)
+pub still_known : {old new : State} → IsUnchanged old new → (version : Version)
+    × (old.now.schema ≡ schema_of version) → (version : Version)
+    × (new.now.schema ≡ schema_of version)
 still_known same it = (it.0, ap (λ (d : Database). d.schema) same.0.now_is ∙ it.1)
 
 -- and so is what was found

@@ -19,11 +19,11 @@ use Rattle.sqlite_store.specs.Listed.{catalog_rows, is_listed}
 use Rattle.sqlite_store.proofs.ListingLemmas.{all_ordered}
 use Rattle.sqlite_catalog.specs.Listing.{IsSound}
 use Rattle.office_sql.specs.Schema.{no_schema}
-use Rattle.office_sql.specs.Rows.{order_in, given_in, starts_order, starts_given}
+use Rattle.office_sql.specs.Rows.{order_in_row, given_in_row, starts_order, starts_given}
 use Rattle.office_store.specs.declared.version.Version.{Version}
 use Rattle.office_store.specs.declared.version.Version.TheVariants.{First, Second, Third}
 use Rattle.office_store.specs.Versions.{schema_of}
-use Rattle.office_store.specs.Adopting.{CanSettle}
+use Rattle.office_store.specs.Adopting.{CanPrepareTables}
 use Rattle.office_store.specs.Found.{AreAllStarted, AreStartsFound, HasWhole, IsFound}
 use Rattle.office_store.specs.Meta.{HasNothing}
 use Rattle.office_store.proofs.FoundNothing.{no_office_rows, no_starts, nothing_found, has_nothing}
@@ -44,14 +44,15 @@ file_order size wanted pages ours = (
 -- ---- an empty database
 none_started : (db : Trees) → IsEmpty db → AreAllStarted db
 none_started db none = record {
-  orders = no_starts starts_order order_in (db 7) (db 17) (none.0 7 (omega arith)) (none.0 17 (omega arith));
-  given = no_starts starts_given given_in (db 11) (db 19) (none.0 11 (omega arith)) (none.0 19 (omega arith));
+  orders = no_starts starts_order order_in_row (db 7) (db 17) (none.0 7 (omega arith)) (none.0 17 (omega arith));
+  given = no_starts starts_given given_in_row (db 11) (db 19) (none.0 11 (omega arith)) (none.0 19 (omega arith));
 }
 
 empty_found : (version : Version) (db : Trees) → IsSound (schema_of version) db → IsEmpty db → IsFound version (over version db)
 empty_found version db sound none =
     let at = λ (t : ℕ) (low : t < 2 ^ 32). none.0 t low in
-    let rows = no_office_rows db (at 1 (omega arith)) (at 3 (omega arith)) (at 5 (omega arith)) (at 7 (omega arith)) (at 9 (omega arith)) (at 11 (omega arith)) (at 15 (omega arith)) in
+    let rows = no_office_rows db (at 1 (omega arith)) (at 3 (omega arith)) (at 5 (omega arith))
+    (at 7 (omega arith)) (at 9 (omega arith)) (at 11 (omega arith)) (at 15 (omega arith)) in
     record { schema = refl; sound = sound; rows = rows; starts = starts version }
   where
     starts : (version : Version) → AreStartsFound version (over version db)
@@ -65,8 +66,10 @@ empty_nothing db none =
     (none.0 7 (omega arith)) (none.0 9 (omega arith)) (none.0 11 (omega arith)) (none.0 15 (omega arith))
 
 -- ---- what the files held
-version_in : (image : Image) (version : Version) (db : Trees) → AreFoundIn image db → IsSound (schema_of version) db → HasWhole db → IsFound version (over version db)
-version_in image version db (inl h) sound whole = let it = subst AreInOrder (sym h.5) (file_order h.0 h.2 h.1 h.4) in version_found version it.0 it.1 db sound it.2 it.3 whole
+version_in : (image : Image) (version : Version) (db : Trees) → AreFoundIn image db
+    → IsSound (schema_of version) db → HasWhole db → IsFound version (over version db)
+version_in image version db (inl h) sound whole = let it = subst AreInOrder (sym h.5)
+    (file_order h.0 h.2 h.1 h.4) in version_found version it.0 it.1 db sound it.2 it.3 whole
 version_in image version db (inr h) sound whole = empty_found version db sound h.1
 
 nothing_in : (image : Image) (db : Trees) → AreFoundIn image db → IsSound no_schema db → HasNothing db
@@ -74,14 +77,16 @@ nothing_in image db (inl h) sound = let it = subst AreInOrder (sym h.5) (file_or
 nothing_in image db (inr h) sound = empty_nothing db h.1
 
 -- a store in files that was opened can be settled
-pub can_settle : (image : Image) (s : State) → s.in_transaction ≡ false → (HasCleanDisk s → Opens s × IsLive s) → (HasCleanDisk s → FindsIn image s) → CanSettle s
+pub can_settle : (image : Image) (s : State) → s.in_transaction ≡ false
+    → (HasCleanDisk s → Opens s × IsLive s) → (HasCleanDisk s → FindsIn image s)
+    → CanPrepareTables s
 can_settle image s mode opened finds =
     let same = λ (clean : HasCleanDisk s). (opened clean).0.clean in
     let found = λ (clean : HasCleanDisk s). subst (AreFoundIn image) (sym (ap (λ (d : Database). d.trees) (same clean))) (finds clean).reads in
     let sound = λ (clean : HasCleanDisk s). ((opened clean).1 (opened clean).0.is_open).0 in
     record {
       mode = mode;
-      settled = same;
+      shows_committed = same;
       found = λ clean version has whole.
           let same : over version s.now.trees ≡ s.now = λ i. record { schema = sym has i; trees = s.now.trees } in
           subst (IsFound version) same (version_in image version s.now.trees (found clean) (subst (λ x. IsSound x s.now.trees) has (sound clean)) whole);

@@ -17,7 +17,8 @@ use Rattle.sqlite_schema.specs.declared.schema.Schema.{Schema}
 use Rattle.sqlite_schema.specs.declared.schema.Table.{Table}
 use Rattle.sqlite_rules.specs.Lists.{Has}
 use Rattle.sqlite_rules.proofs.ListLemmas.{some_from}
-use Rattle.office_sql.specs.Rows.{seat_in, map_in, link_in, order_in, device_in, given_in, entry_in, with_order_start, with_given_start}
+use Rattle.office_sql.specs.Rows.{seat_in_row, map_in_row, link_in_row, order_in_row, device_in_row, given_in_row, entry_in_row, with_order_start}
+use Rattle.office_sql.specs.Rows.{with_given_start}
 use Rattle.office_sql.specs.Tables.{AreOfficeRows, AreRows, AreStarted, tables_in}
 use Rattle.office_store.specs.declared.version.Version.TheVariants.{First}
 use Rattle.office_store.specs.Meta.{meta_in, HasNothing}
@@ -41,13 +42,13 @@ no_office_rows db seats maps links orders devices given ledger = record {
 -- empty trees are tables without a row
 pub no_rows_in : (db : Trees) → db 1 ≡ [] → db 3 ≡ [] → db 5 ≡ [] → db 7 ≡ [] → db 9 ≡ [] → db 11 ≡ [] → db 15 ≡ [] → tables_in db ≡ no_rows
 no_rows_in db seats maps links orders devices given ledger = λ i. record {
-  seats = sort_by seat_cmp (map seat_in (seats i));
-  orders = map (with_order_start (db 17)) (sort_by order_cmp (map order_in (orders i)));
-  devices = sort_by device_cmp (map device_in (devices i));
-  given = map (with_given_start (db 19)) (sort_by given_cmp (map given_in (given i)));
-  maps = sort_by map_cmp (map map_in (maps i));
-  links = sort_by link_cmp (map link_in (links i));
-  ledger = sort_by entry_cmp (map entry_in (ledger i));
+  seats = sort_by seat_cmp (map seat_in_row (seats i));
+  orders = map (with_order_start (db 17)) (sort_by order_cmp (map order_in_row (orders i)));
+  devices = sort_by device_cmp (map device_in_row (devices i));
+  given = map (with_given_start (db 19)) (sort_by given_cmp (map given_in_row (given i)));
+  maps = sort_by map_cmp (map map_in_row (maps i));
+  links = sort_by link_cmp (map link_in_row (links i));
+  ledger = sort_by entry_cmp (map entry_in_row (ledger i));
 }
 
 -- and with no row of meta they have nothing
@@ -58,9 +59,19 @@ has_nothing db meta seats maps links orders devices given ledger = record {
 }
 
 -- trees without rows have no starts that lack
-pub no_starts : {A : Type 0} (is_for : A → Row → Bool) (value : Row → A) (rows starts : List Row) → rows ≡ [] → starts ≡ [] → AreStarted is_for value rows starts
+pub no_starts : {A : Type 0} (is_for : A → Row → Bool) (value : Row → A) (rows starts : List Row)
+    → rows ≡ [] → starts ≡ [] → AreStarted is_for value rows starts
 no_starts is_for value rows starts no_row none =
-    subst (λ l. AreStarted is_for value l starts) (sym no_row) (subst (AreStarted is_for value []) (sym none) (record { rising = tt; numbered = tt; typed = tt; one = tt; for_one = tt }))
+    subst (λ l.
+    AreStarted is_for value l starts) (sym no_row)
+    (subst (AreStarted is_for value []) (sym none) (record {
+      rising = tt;
+      numbered = tt;
+      typed =
+          tt;
+      one = tt;
+      for_one = tt;
+    }))
 
 module _ (schema : Schema) (shapes : ℕ → Shape) (reals : ℕ → ℕ) (trees : Trees)
     (sound : IsSound schema trees) (listed : IsListed (trees catalog_tree) shapes reals) (ordered : IsOrdered shapes trees) where
@@ -69,10 +80,13 @@ module _ (schema : Schema) (shapes : ℕ → Shape) (reals : ℕ → ℕ) (trees
 
   -- a tree that isn't listed has no rows
   pub empty_at : (t : ℕ) → t ≢ catalog_tree → t ≢ version_tree
-      → list_any (λ (x : Table). x.tree == t) schema.tables ≡ false → list_any (λ (x : Index). x.tree == t) schema.indexes ≡ false → schema.views ≡ [] → trees t ≡ []
+      → list_any (λ (x : Table). x.tree == t) schema.tables ≡ false
+      → list_any (λ (x : Index). x.tree == t) schema.indexes ≡ false → schema.views ≡ []
+      → trees t ≡ []
   empty_at t other apart no_table no_index no_view = elim (named_tree listed rising.0 sound.lists.listed t other apart) [
     | inl table ↦ absurd (true≢false (sym (some_from (λ (x : Table). x.tree == t) schema.tables table.0 table.1 (itself table.0.tree table.2)) ∙ no_table))
-    | inr (inl index) ↦ absurd (true≢false (sym (some_from (λ (x : Index). x.tree == t) schema.indexes index.0 index.1 (itself index.0.tree index.2)) ∙ no_index))
+    | inr (inl index) ↦ absurd (true≢false (sym (some_from (λ (x : Index).
+        x.tree == t) schema.indexes index.0 index.1 (itself index.0.tree index.2)) ∙ no_index))
     | inr (inr (inl w)) ↦ absurd (subst (λ l. Has l w.0) no_view w.1)
     | inr (inr (inr none)) ↦ subst (λ s. IsShaped s (trees t)) none (ordered t)
   ]
@@ -84,7 +98,9 @@ module _ (shapes : ℕ → Shape) (reals : ℕ → ℕ) (trees : Trees) (listed 
   -- trees of which none is listed have nothing
   pub nothing_found : IsSound no_schema trees → HasNothing trees
   nothing_found sound =
-      let none : (t : ℕ) → t ≢ catalog_tree → t ≢ version_tree → trees t ≡ [] = λ t other apart. empty_at no_schema shapes reals trees sound listed ordered t other apart refl refl refl in
+      let none : (t : ℕ) → t ≢ catalog_tree → t ≢ version_tree → trees t ≡ [] =
+      λ t other apart.
+      empty_at no_schema shapes reals trees sound listed ordered t other apart refl refl refl in
       has_nothing trees (none 0 (λ e. cc) (λ e. cc)) (none 1 (λ e. cc) (λ e. cc)) (none 3 (λ e. cc) (λ e. cc)) (none 5 (λ e. cc) (λ e. cc))
       (none 7 (λ e. cc) (λ e. cc)) (none 9 (λ e. cc) (λ e. cc)) (none 11 (λ e. cc) (λ e. cc)) (none 15 (λ e. cc) (λ e. cc))
 

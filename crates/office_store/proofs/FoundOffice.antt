@@ -20,17 +20,18 @@ use Rattle.sqlite_rules.specs.Lists.{Has}
 use Rattle.sqlite_trees.proofs.ListLemmas.{all_both, all_weaker, ascending-map}
 use Rattle.office_tables.specs.Tables.{seat_cmp, order_cmp, map_cmp, link_cmp, device_cmp, given_cmp, entry_cmp}
 use Rattle.office_sql.specs.Schema.{seat_table, map_table, link_table, orders_table, device_table, given_table, ledger_table}
-use Rattle.office_sql.specs.Rows.{seat_in, map_in, link_in, order_in, device_in, given_in, entry_in}
+use Rattle.office_sql.specs.Rows.{seat_in_row, map_in_row, link_in_row, order_in_row, device_in_row, given_in_row, entry_in_row}
 use Rattle.office_store.specs.declared.version.Version.TheVariants.{First}
 use Rattle.office_store.specs.Found.{HasWhole, IsNotBelow}
 use Rattle.office_store.specs.Versions.{schema_of}
 use Rattle.office_sql.specs.Tables.{AreOfficeRows, AreRows, IsText, IsWhole, IsSeatRow, IsMapRow, IsLinkRow, IsOrderRow, IsDeviceRow, IsGivenRow, IsEntryRow}
 use Rattle.office_sql.proofs.Kept.{narrowed}
 use Rattle.office_sql.proofs.MapValues.{wholes_cmp}
-use Rattle.office_store.proofs.FoundRows.{both_true, not_true, text_at, blob_at, int_at, text_if_at, whole_of, texts_tie, blobs_tie, wholes_tie, then_ties, entry_ties, last_ties, rows_found}
+use Rattle.office_store.proofs.FoundRows.{both_true, not_true, text_at, blob_at, int_at, text_if_at, whole_of, texts_tie, blobs_tie, wholes_tie}
+use Rattle.office_store.proofs.FoundRows.{then_ties, entry_ties, last_ties, rows_found}
 
 -- ids that are whole numbers are in the order of the rowids
-maps_apart : (a b : Row) → IsMapRow a → IsMapRow b → value_cmp (rowid a) (rowid b) ≡ Less → is_eq (map_cmp (map_in a) (map_in b)) ≡ false
+maps_apart : (a b : Row) → IsMapRow a → IsMapRow b → value_cmp (rowid a) (rowid b) ≡ Less → is_eq (map_cmp (map_in_row a) (map_in_row b)) ≡ false
 maps_apart a b ka kb low = ap is_eq (sym (wholes_cmp (column a 0) (column b 0) ka.0 kb.0) ∙ low)
 
 -- the first version's tables and indexes, and more
@@ -48,29 +49,35 @@ module _ (more_tables : List Table) (more_indexes : List Index) (shapes : ℕ �
   pub shaped : (t : Table) → Has schema.tables t → IsShaped shape.Table (trees t.tree)
   shaped t h = subst (λ s. IsShaped s (trees t.tree)) (table_shape listed rising.0 sound.lists.listed t h).0 (ordered t.tree)
 
-  seats_found : AreRows IsSeatRow seat_cmp seat_in (trees 1)
+  seats_found : AreRows IsSeatRow seat_cmp seat_in_row (trees 1)
   seats_found =
       let rows = trees 1 in
-      rows_found (1 ∷ []) IsSeatRow seat_cmp seat_in
+      rows_found (1 ∷ []) IsSeatRow seat_cmp seat_in_row
       (λ a b e f. last_ties _ _ (texts_tie (column a 1) (column b 1) e f))
       rows (shaped seat_table (inr (inl refl)))
-      (all_both _ _ IsSeatRow (λ r d n. text_at schema trees seat_table r d n 0 (refl, refl, refl) (refl, refl)) rows (sound.obeys.rules Datatype).1.0 (sound.obeys.rules NotNull).1.0)
+      (all_both _ _ IsSeatRow (λ r d n.
+      text_at schema trees seat_table r d n 0 (refl, refl, refl) (refl, refl))
+      rows (sound.obeys.rules Datatype).1.0 (sound.obeys.rules NotNull).1.0)
       (all_weaker _ (λ r. clashes plain (1 ∷ []) rows r ≡ false) (λ r h. not_true _ (both_true _ _ h).0) rows (sound.obeys.rules Unique).1.0)
 
-  links_found : AreRows IsLinkRow link_cmp link_in (trees 5)
+  links_found : AreRows IsLinkRow link_cmp link_in_row (trees 5)
   links_found =
       let rows = trees 5 in
-      rows_found (1 ∷ 2 ∷ []) IsLinkRow link_cmp link_in
+      rows_found (1 ∷ 2 ∷ []) IsLinkRow link_cmp link_in_row
       (λ a b e f. then_ties _ _ _ _ (texts_tie (column a 1) (column b 1) e.0 f.0) (last_ties _ _ (blobs_tie (column a 2) (column b 2) e.1 f.1)))
       rows (shaped link_table (inr (inr (inr (inl refl)))))
-      (all_both _ _ IsLinkRow (λ r d n. (text_at schema trees link_table r d n 0 (refl, refl, refl) (refl, refl), blob_at schema trees link_table r d n 1 (refl, refl, refl) (refl, refl)))
+      (all_both _ _ IsLinkRow (λ r d n. (
+        text_at schema trees link_table r d n 0 (refl, refl, refl)
+            (refl, refl),
+        blob_at schema trees link_table r d n 1 (refl, refl, refl) (refl, refl),
+      ))
       rows (sound.obeys.rules Datatype).1.1.1.0 (sound.obeys.rules NotNull).1.1.1.0)
       (all_weaker _ (λ r. clashes plain (1 ∷ 2 ∷ []) rows r ≡ false) (λ r h. not_true _ (both_true _ _ h).0) rows (sound.obeys.rules Unique).1.1.1.0)
 
-  orders_found : AreRows IsOrderRow order_cmp order_in (trees 7)
+  orders_found : AreRows IsOrderRow order_cmp order_in_row (trees 7)
   orders_found =
       let rows = trees 7 in
-      rows_found (1 ∷ 2 ∷ []) IsOrderRow order_cmp order_in
+      rows_found (1 ∷ 2 ∷ []) IsOrderRow order_cmp order_in_row
       (λ a b e f. then_ties _ _ _ _ (texts_tie (column a 1) (column b 1) e.0 f.0) (last_ties _ _ (texts_tie (column a 2) (column b 2) e.1 f.1)))
       rows (shaped orders_table (inr (inr (inr (inr (inl refl))))))
       (all_both _ _ IsOrderRow (λ r d n. (
@@ -80,10 +87,10 @@ module _ (more_tables : List Table) (more_indexes : List Index) (shapes : ℕ �
       )) rows (sound.obeys.rules Datatype).1.1.1.1.0 (sound.obeys.rules NotNull).1.1.1.1.0)
       (all_weaker _ (λ r. clashes plain (1 ∷ 2 ∷ []) rows r ≡ false) (λ r h. not_true _ (both_true _ _ h).0) rows (sound.obeys.rules Unique).1.1.1.1.0)
 
-  devices_found : AreRows IsDeviceRow device_cmp device_in (trees 9)
+  devices_found : AreRows IsDeviceRow device_cmp device_in_row (trees 9)
   devices_found =
       let rows = trees 9 in
-      rows_found (1 ∷ 2 ∷ []) IsDeviceRow device_cmp device_in
+      rows_found (1 ∷ 2 ∷ []) IsDeviceRow device_cmp device_in_row
       (λ a b e f. then_ties _ _ _ _ (texts_tie (column a 1) (column b 1) e.0 f.0) (last_ties _ _ (texts_tie (column a 2) (column b 2) e.1 f.1)))
       rows (shaped device_table (inr (inr (inr (inr (inr (inl refl)))))))
       (all_both _ _ IsDeviceRow (λ r d n. (
@@ -93,10 +100,10 @@ module _ (more_tables : List Table) (more_indexes : List Index) (shapes : ℕ �
       )) rows (sound.obeys.rules Datatype).1.1.1.1.1.0 (sound.obeys.rules NotNull).1.1.1.1.1.0)
       (all_weaker _ (λ r. clashes plain (1 ∷ 2 ∷ []) rows r ≡ false) (λ r h. not_true _ (both_true _ _ h).0) rows (sound.obeys.rules Unique).1.1.1.1.1.0)
 
-  given_found : AreRows IsGivenRow given_cmp given_in (trees 11)
+  given_found : AreRows IsGivenRow given_cmp given_in_row (trees 11)
   given_found =
       let rows = trees 11 in
-      rows_found (1 ∷ 2 ∷ []) IsGivenRow given_cmp given_in
+      rows_found (1 ∷ 2 ∷ []) IsGivenRow given_cmp given_in_row
       (λ a b e f. then_ties _ _ _ _ (texts_tie (column a 1) (column b 1) e.0 f.0) (last_ties _ _ (texts_tie (column a 2) (column b 2) e.1 f.1)))
       rows (shaped given_table (inr (inr (inr (inr (inr (inr (inl refl))))))))
       (all_both _ _ IsGivenRow (λ r d n. (
@@ -108,22 +115,24 @@ module _ (more_tables : List Table) (more_indexes : List Index) (shapes : ℕ �
       (all_weaker _ (λ r. clashes plain (1 ∷ 2 ∷ []) rows r ≡ false) (λ r h. not_true _ (both_true _ _ h).0) rows (sound.obeys.rules Unique).1.1.1.1.1.1.0)
 
   module _ (whole : HasWhole trees) where
-    maps_found : AreRows IsMapRow map_cmp map_in (trees 3)
+    maps_found : AreRows IsMapRow map_cmp map_in_row (trees 3)
     maps_found =
         let rows = trees 3 in
         let s = shaped map_table (inr (inr (inl refl))) in
         let ids : AllByRecursion (IsWhole 0) rows = all_both _ (IsNotBelow 0) (IsWhole 0) (λ r i b. whole_of (column r 0) i b) rows s.1 whole.maps in
         let bodies : AllByRecursion (IsText 2) rows =
-        all_both _ _ (IsText 2) (λ r d n. text_at schema trees map_table r d n 1 (refl, refl, refl) (refl, refl)) rows (sound.obeys.rules Datatype).1.1.0 (sound.obeys.rules NotNull).1.1.0 in
+        all_both _ _ (IsText 2) (λ r d n.
+        text_at schema trees map_table r d n 1 (refl, refl, refl) (refl, refl))
+        rows (sound.obeys.rules Datatype).1.1.0 (sound.obeys.rules NotNull).1.1.0 in
         let typed : AllByRecursion IsMapRow rows = all_both (IsWhole 0) (IsText 2) IsMapRow (λ r i b. (i, b)) rows ids bodies in
         record {
           rising = s.0;
           numbered = s.1;
           typed = typed;
-          keyed = ascending-map (λ a b. is_eq (map_cmp a b) ≡ false) map_in rows (narrowed IsMapRow _ _ maps_apart rows typed s.0);
+          keyed = ascending-map (λ a b. is_eq (map_cmp a b) ≡ false) map_in_row rows (narrowed IsMapRow _ _ maps_apart rows typed s.0);
         }
 
-    ledger_found : AreRows IsEntryRow entry_cmp entry_in (trees 15)
+    ledger_found : AreRows IsEntryRow entry_cmp entry_in_row (trees 15)
     ledger_found =
         let rows = trees 15 in
         let s = shaped ledger_table (inr (inr (inr (inr (inr (inr (inr (inl refl)))))))) in
@@ -132,17 +141,40 @@ module _ (more_tables : List Table) (more_indexes : List Index) (shapes : ℕ �
         let ids : AllByRecursion (IsWhole 0) rows = all_both _ (IsNotBelow 0) (IsWhole 0) (λ r i b. whole_of (column r 0) i b) rows s.1 whole.entries in
         let texts : AllByRecursion (λ r. IsText 2 r × IsText 3 r) rows =
         all_both _ _ (λ r. IsText 2 r × IsText 3 r)
-        (λ r d n. (text_at schema trees ledger_table r d n 1 (refl, refl, refl) (refl, refl), text_at schema trees ledger_table r d n 2 (refl, refl, refl) (refl, refl))) rows datatypes required in
+        (λ r d n. (
+          text_at schema trees ledger_table r d n 1 (refl, refl, refl)
+              (refl, refl),
+          text_at schema trees ledger_table r d n 2 (refl, refl, refl)
+              (refl, refl),
+        )) rows datatypes required in
         let ints : AllByRecursion (λ r. IsTrue (is_int (column r 4))) rows =
-        all_both _ _ (λ r. IsTrue (is_int (column r 4))) (λ r d n. int_at schema trees ledger_table r d n 3 (refl, refl, refl) (refl, refl)) rows datatypes required in
+        all_both _ _ (λ r. IsTrue (is_int (column r 4))) (λ r d n.
+        int_at schema trees ledger_table r d n 3 (refl, refl, refl) (refl, refl))
+        rows datatypes required in
         let numbers : AllByRecursion (IsWhole 4) rows = all_both _ (IsNotBelow 4) (IsWhole 4) (λ r i b. whole_of (column r 4) i b) rows ints whole.numbers in
-        let half : AllByRecursion (λ r. IsWhole 0 r × IsText 2 r × IsText 3 r) rows = all_both (IsWhole 0) (λ r. IsText 2 r × IsText 3 r) (λ r. IsWhole 0 r × IsText 2 r × IsText 3 r) (λ r i t. (i, t.0, t.1)) rows ids texts in
-        rows_found (2 ∷ 3 ∷ 4 ∷ []) IsEntryRow entry_cmp entry_in
-        (λ a b e f. entry_ties _ _ _ _ _ _ (texts_tie (column a 2) (column b 2) e.1 f.1) (texts_tie (column a 3) (column b 3) e.2 f.2) (wholes_tie (column a 4) (column b 4) e.3 f.3))
+        let half : AllByRecursion (λ r. IsWhole 0 r × IsText 2 r × IsText 3 r) rows =
+        all_both (IsWhole 0) (λ r. IsText 2 r × IsText 3 r) (λ r. IsWhole 0 r × IsText 2 r
+        × IsText 3 r) (λ r i t. (i, t.0, t.1)) rows ids texts in
+        rows_found (2 ∷ 3 ∷ 4 ∷ []) IsEntryRow entry_cmp entry_in_row
+        (λ a b e f.
+        entry_ties _ _ _ _ _ _ (texts_tie (column a 2) (column b 2) e.1 f.1)
+        (texts_tie (column a 3) (column b 3) e.2 f.2)
+        (wholes_tie (column a 4) (column b 4) e.3 f.3))
         rows s
         (all_both (λ r. IsWhole 0 r × IsText 2 r × IsText 3 r) (IsWhole 4) IsEntryRow (λ r h n. (h.0, h.1, h.2, n)) rows half numbers)
-        (all_weaker _ (λ r. clashes plain (2 ∷ 3 ∷ 4 ∷ []) rows r ≡ false) (λ r h. not_true _ (both_true _ _ h).0) rows (sound.obeys.rules Unique).1.1.1.1.1.1.1.0)
+        (all_weaker _ (λ r. clashes plain (2 ∷ 3 ∷ 4 ∷ []) rows r
+        ≡ false) (λ r h.
+        not_true _ (both_true _ _ h).0) rows (sound.obeys.rules Unique).1.1.1.1.1.1.1.0)
 
     -- the rows of a found database
     pub rows_of_office : AreOfficeRows trees
-    rows_of_office = record { seats = seats_found; maps = maps_found; links = links_found; orders = orders_found; devices = devices_found; given = given_found; ledger = ledger_found }
+    rows_of_office = record {
+      seats = seats_found;
+      maps = maps_found;
+      links = links_found;
+      orders =
+          orders_found;
+      devices = devices_found;
+      given = given_found;
+      ledger = ledger_found;
+    }

@@ -1,5 +1,7 @@
 -- What the rules of a schema say of the columns of a row, and of rows whose keys may not agree.
-use Rattle.std.proofs.Common.{◌≡◌, ℕ, zero, suc, ◌+◌, Bool, true, false, not, ◌&&◌, ◌==◌, ◌||◌, cond, List, [], ◌∷◌, drop, Option, refl, sym, ap, ap₂, subst, ◌∙◌, inl, inr, true≢false, IsTrue, pos, negsuc, is_eq, is_lt, Less, Equal, Greater, Ordering, nat_cmp, arith}
+use Rattle.std.proofs.Common.{◌≡◌, ℕ, zero, suc, ◌+◌, Bool, true, false, not, ◌&&◌, ◌==◌, ◌||◌, cond, List, [], ◌∷◌, drop, Option, refl, sym, ap}
+use Rattle.std.proofs.Common.{ap₂, subst, ◌∙◌, inl, inr, true≢false, IsTrue, pos, negsuc, is_eq, is_lt, Less, Equal, Greater, Ordering, nat_cmp}
+use Rattle.std.proofs.Common.{arith}
 use Rattle.std.specs.List.{AllByRecursion, list_any}
 use Rattle.std.specs.Ordering.{ordering_reverse, ordering_then}
 use Rattle.std.specs.Cmp.Lexicographic.{slice_cmp}
@@ -30,7 +32,7 @@ use Rattle.sqlite_value.proofs.OrderLemmas.{value_cmp_total, value_cmp-Int}
 use Rattle.sqlite_rules.specs.Lists.{Has}
 use Rattle.sqlite_rules.proofs.ListLemmas.{all_has, all_from, some_from}
 use Rattle.sqlite_trees.proofs.ListLemmas.{ascending-map}
-use Rattle.office_sql.specs.Values.{number_in, text_if, text_value}
+use Rattle.office_sql.specs.Values.{number_in_cell, text_if, text_value}
 use Rattle.office_store.specs.Found.{is_below}
 use Rattle.office_sql.specs.Tables.{AreRows, IsText, IsBlob, IsTextIf}
 use Rattle.office_sql.proofs.Kept.{narrowed}
@@ -60,11 +62,15 @@ strict_one true strict null k a h s e = absurd (true≢false h)
 strict_one false true null k a h s e = e
 strict_one false false null k a h s e = absurd (true≢false (sym s))
 
-typed_at : (key : Option ℕ) (at : ℕ) (cs : List Column) (i : ℕ) (k : Kind) → IsKind key at cs i k → (vs : Row) → are_typed key at cs vs ≡ true → is_of k (column vs i) ≡ true
+typed_at : (key : Option ℕ) (at : ℕ) (cs : List Column) (i : ℕ) (k : Kind) → IsKind key at cs i k
+    → (vs : Row) → are_typed key at cs vs ≡ true → is_of k (column vs i) ≡ true
 typed_at key at [] i k is vs h = absurd is
 typed_at key at (c ∷ cs) zero k is [] h = refl
 typed_at key at (c ∷ cs) zero k is (v ∷ vs) h =
-    subst (λ k. is_of k v ≡ true) is.0 (strict_one (is_key key at) c.is_strict (is_null v) (is_of c.kind v) (has_affinity c.kind v) is.2 is.1 (both_true _ _ h).0)
+    subst (λ k. is_of k v
+    ≡ true) is.0
+    (strict_one (is_key key at) c.is_strict (is_null v) (is_of c.kind v) (has_affinity c.kind v)
+    is.2 is.1 (both_true _ _ h).0)
 typed_at key at (c ∷ cs) (suc i) k is [] h = refl
 typed_at key at (c ∷ cs) (suc i) k is (v ∷ vs) h = typed_at key (at + 1) cs i k is vs (both_true _ _ h).1
 
@@ -73,7 +79,9 @@ required_one true must there h m e = absurd (true≢false h)
 required_one false true there h m e = e
 required_one false false there h m e = absurd (true≢false (sym m))
 
-present_at : (key : Option ℕ) (at : ℕ) (cs : List Column) (i : ℕ) → IsRequired key at cs i → (row : Row) → are_present key at cs row ≡ true → not (is_null (column row (at + i + 1))) ≡ true
+present_at : (key : Option ℕ) (at : ℕ) (cs : List Column) (i : ℕ) → IsRequired key at cs i
+    → (row : Row) → are_present key at cs row ≡ true
+    → not (is_null (column row (at + i + 1))) ≡ true
 present_at key at [] i is row h = absurd is
 present_at key at (c ∷ cs) zero is row h =
     let here = required_one (is_key key at) c.not_null (not (is_null (column row (at + 1)))) is.1 is.0 (both_true _ _ h).0 in
@@ -116,7 +124,7 @@ int_of (Real x) d n = absurd (true≢false (sym d))
 int_of (Words t) d n = absurd (true≢false (sym d))
 int_of (Bytes b) d n = absurd (true≢false (sym d))
 
-pub whole_of : (v : Value) → IsTrue (is_int v) → is_below v ≡ false → v ≡ Int (pos (number_in v))
+pub whole_of : (v : Value) → IsTrue (is_int v) → is_below v ≡ false → v ≡ Int (pos (number_in_cell v))
 whole_of (Int (pos m)) d n = refl
 whole_of (Int (negsuc m)) d n =
     let low : value_cmp (Int (negsuc m)) (Int (pos 0)) ≡ Less = value_cmp-Int (negsuc m) (pos 0) ∙ grind (arith, ints, nat_tests) in
@@ -153,14 +161,17 @@ module _ (schema : Schema) (db : Trees) (table : Table) (r : Row) (typed : passe
 key_equal : (v w : Value) → equal Binary v w ≡ equal (first_key plain).collation v w
 key_equal v w = ap (λ k. equal k.collation v w) (sym first_key-plain)
 
-pub texts_tie : (v w : Value) → v ≡ Words (bytes v) → w ≡ Words (bytes w) → is_eq (slice_cmp nat_cmp (bytes v) (bytes w)) ≡ equal (first_key plain).collation w v
+pub texts_tie : (v w : Value) → v ≡ Words (bytes v) → w ≡ Words (bytes w)
+    → is_eq (slice_cmp nat_cmp (bytes v) (bytes w)) ≡ equal (first_key plain).collation w v
 texts_tie v w e f = is_eq-slice_cmp (bytes v) (bytes w) ∙ sym (text_is w (bytes v) f) ∙ ap (equal Binary w) (sym e) ∙ key_equal w v
 
-pub blobs_tie : (v w : Value) → v ≡ Bytes (bytes v) → w ≡ Bytes (bytes w) → is_eq (slice_cmp nat_cmp (bytes v) (bytes w)) ≡ equal (first_key plain).collation w v
+pub blobs_tie : (v w : Value) → v ≡ Bytes (bytes v) → w ≡ Bytes (bytes w)
+    → is_eq (slice_cmp nat_cmp (bytes v) (bytes w)) ≡ equal (first_key plain).collation w v
 blobs_tie v w e f = is_eq-slice_cmp (bytes v) (bytes w) ∙ sym (blob_is w (bytes v) f) ∙ ap (equal Binary w) (sym e) ∙ key_equal w v
 
-pub wholes_tie : (v w : Value) → v ≡ Int (pos (number_in v)) → w ≡ Int (pos (number_in w)) → is_eq (nat_cmp (number_in v) (number_in w)) ≡ equal (first_key plain).collation w v
-wholes_tie v w e f = turned (number_in v) (number_in w) ∙ sym (whole_is w (number_in v) f) ∙ ap (equal Binary w) (sym e) ∙ key_equal w v
+pub wholes_tie : (v w : Value) → v ≡ Int (pos (number_in_cell v)) → w ≡ Int (pos (number_in_cell w))
+    → is_eq (nat_cmp (number_in_cell v) (number_in_cell w)) ≡ equal (first_key plain).collation w v
+wholes_tie v w e f = turned (number_in_cell v) (number_in_cell w) ∙ sym (whole_is w (number_in_cell v) f) ∙ ap (equal Binary w) (sym e) ∙ key_equal w v
   where
     turned : (m n : ℕ) → is_eq (nat_cmp m n) ≡ (m == n)
     turned m n = grind (arith, nat_tests)
@@ -174,7 +185,8 @@ pub last_ties : (o : Ordering) (b : Bool) → is_eq o ≡ b → is_eq o ≡ (b &
 last_ties o true e = e
 last_ties o false e = e
 
-pub entry_ties : (o p q : Ordering) (b c d : Bool) → is_eq o ≡ b → is_eq p ≡ c → is_eq q ≡ d → is_eq (ordering_then (ordering_then o p) q) ≡ (b && (c && (d && true)))
+pub entry_ties : (o p q : Ordering) (b c d : Bool) → is_eq o ≡ b → is_eq p ≡ c → is_eq q ≡ d
+    → is_eq (ordering_then (ordering_then o p) q) ≡ (b && (c && (d && true)))
 entry_ties Less p q b c d e f g = ap (λ b. b && (c && (d && true))) e
 entry_ties Equal p q b c d e f g = then_ties p q c (d && true) f (last_ties q d g) ∙ ap (λ b. b && (c && (d && true))) e
 entry_ties Greater p q b c d e f g = ap (λ b. b && (c && (d && true))) e
@@ -183,7 +195,11 @@ entry_ties Greater p q b c d e f g = ap (λ b. b && (c && (d && true))) e
 
 numbers_differ : (a b : Value) → IsTrue (is_int a) → IsTrue (is_int b) → value_cmp a b ≡ Less → differ b a ≡ true
 unfolding binary
-numbers_differ (Int m) (Int n) p q low = ap (λ o. Rattle.sqlite.specs.Ops.is_true (Rattle.sqlite.specs.Ops.from_truth (Rattle.std.proofs.Common.Some (Rattle.sqlite_sql.specs.Ops.test Ne o)))) (value_cmp_total.antisymm (Int n) (Int m) ∙ ap ordering_reverse low)
+numbers_differ (Int m) (Int n) p q low = ap (λ o.
+    Rattle.sqlite.specs.Ops.is_true
+    (Rattle.sqlite.specs.Ops.from_truth
+    (Rattle.std.proofs.Common.Some (Rattle.sqlite_sql.specs.Ops.test Ne o))))
+    (value_cmp_total.antisymm (Int n) (Int m) ∙ ap ordering_reverse low)
 numbers_differ Null b p q low = absurd (true≢false (sym p))
 numbers_differ (Real x) b p q low = absurd (true≢false (sym p))
 numbers_differ (Words t) b p q low = absurd (true≢false (sym p))
@@ -216,9 +232,12 @@ module _ {A : Type 0} (places : List ℕ) (Typed : Row → Type 0) (cmp : A → 
       ties a b ka.0 kb.0 ∙ never_with _ _ never (numbers_differ (rowid a) (rowid b) ka.1 kb.1 low)
 
   -- rows of which none clashes with another are those of a table with this key
-  pub rows_found : (rows : List Row) → IsShaped shape.Table rows → AllByRecursion Typed rows → AllByRecursion (λ r. clashes plain places rows r ≡ false) rows → AreRows Typed cmp value rows
+  pub rows_found : (rows : List Row) → IsShaped shape.Table rows → AllByRecursion Typed rows
+      → AllByRecursion (λ r. clashes plain places rows r ≡ false) rows
+      → AreRows Typed cmp value rows
   rows_found rows shaped typed free =
-      let each : AllByRecursion (IsOne rows) rows = all_from (IsOne rows) rows (λ r h. (all_has _ rows r typed h, all_has _ rows r shaped.1 h, h, all_has _ rows r free h)) in
+      let each : AllByRecursion (IsOne rows) rows = all_from (IsOne rows) rows (λ r h.
+      (all_has _ rows r typed h, all_has _ rows r shaped.1 h, h, all_has _ rows r free h)) in
       record {
         rising = shaped.0;
         numbered = shaped.1;

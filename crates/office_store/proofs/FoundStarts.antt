@@ -1,12 +1,12 @@
 -- The starts of a sound database of a schema that begins with the second version's tables, whose trees are in order: each is
 -- one of an order or a record, and where none of these lacks one, each has exactly one.
-use Rattle.std.proofs.Common.{◌≡◌, ◌≢◌, ℕ, List, [], ◌∷◌, ◌&&◌, ◌||◌, codes, map, filter, find, Bool, true, false, Some, refl, sym, ap, subst, ◌∙◌, inl, inr, Ordering, is_eq, true≢false, slice_get}
+use Rattle.std.proofs.Common.{◌≡◌, ◌≢◌, ℕ, List, [], ◌∷◌, ◌&&◌, ◌||◌, codes, map, filter, find, Bool, true, false, Some, refl, sym, ap, subst, ◌∙◌}
+use Rattle.std.proofs.Common.{inl, inr, Ordering, is_eq, true≢false, slice_get}
 use Rattle.std.specs.Prelude.{is_some}
 use Rattle.std.specs.List.{AllByRecursion}
 use Rattle.sqlite.specs.declared.types.Value.TheVariants.{Null, Text as Words}
 use Rattle.sqlite.specs.Order.{Row, column}
 use Rattle.sqlite.specs.Tree.{Trees, IsAscending}
-use Rattle.sqlite.specs.Effect.{Database}
 use Rattle.sqlite.specs.View.{IsOrdered}
 use Rattle.sqlite_trees.specs.declared.store.Shape.{Shape}
 use Rattle.sqlite_trees.specs.Objects.{catalog_tree, IsListed}
@@ -23,15 +23,13 @@ use Rattle.sqlite_rules.proofs.ListLemmas.{has_filtered}
 use Rattle.sqlite_keyed.proofs.ListLemmas.{slice_get-filter, ascending_from_map}
 use Rattle.sqlite_trees.proofs.ListLemmas.{all_weaker, all_both, ascending-filter}
 use Rattle.office_tables.specs.Tables.{order_cmp, given_cmp}
-use Rattle.office_sql.specs.Rows.{order_in, given_in, starts_order, starts_given}
+use Rattle.office_sql.specs.Rows.{order_in_row, given_in_row, starts_order, starts_given}
 use Rattle.office_sql.specs.Schema.{order_start_table, given_start_table, index_at, to}
-use Rattle.office_sql.specs.Tables.{AreKeyed, AreOfficeRows, AreRows, AreStarted, HasOne, IsGivenRow, IsOffice, IsOrderRow, IsStartRow, IsText}
+use Rattle.office_sql.specs.Tables.{AreKeyed, AreOfficeRows, AreRows, AreStarted, HasOne, IsGivenRow, IsOrderRow, IsStartRow, IsText}
 use Rattle.office_sql.proofs.Values.{and_true}
 use Rattle.office_sql.proofs.OrderReads.{order_tied}
 use Rattle.office_sql.proofs.GivenReads.{given_tied}
-use Rattle.office_store.specs.declared.version.Version.{Version}
-use Rattle.office_store.specs.declared.version.Version.TheVariants.{First, Second, Third}
-use Rattle.office_store.specs.Found.{AreAllStarted, HasStarts, HaveStarts, IsFound}
+use Rattle.office_store.specs.Found.{AreAllStarted, HasStarts, HaveStarts}
 use Rattle.office_store.proofs.FoundLacks.{started, order_starts_typed, given_starts_typed}
 use Rattle.office_store.proofs.FoundOffice.{shaped}
 use Rattle.office_store.proofs.FoundRows.{both_true, not_true, texts_tie, then_ties, last_ties, rows_found}
@@ -110,23 +108,27 @@ key_of first second = Null ∷ Words first ∷ Words second ∷ []
 module _ (more : List Table) (shapes : ℕ → Shape) (reals : ℕ → ℕ) (trees : Trees)
     (sound : IsSound (started more) trees) (listed : IsListed (trees catalog_tree) shapes reals) (ordered : IsOrdered shapes trees)
     (rows : AreOfficeRows trees) where
-  order_starts : AreRows IsStartRow order_cmp order_in (trees 17)
+  order_starts : AreRows IsStartRow order_cmp order_in_row (trees 17)
   order_starts =
       let starts = trees 17 in
-      rows_found (1 ∷ 2 ∷ []) IsStartRow order_cmp order_in
+      rows_found (1 ∷ 2 ∷ []) IsStartRow order_cmp order_in_row
       (λ a b e f. then_ties _ _ _ _ (texts_tie (column a 1) (column b 1) e.0 f.0) (last_ties _ _ (texts_tie (column a 2) (column b 2) e.1 f.1)))
       starts (shaped (order_start_table ∷ given_start_table ∷ more) later_indexes shapes reals trees sound listed ordered
       order_start_table (inr (inr (inr (inr (inr (inr (inr (inr (inl refl)))))))))) (order_starts_typed more trees sound)
-      (all_weaker _ (λ r. clashes plain (1 ∷ 2 ∷ []) starts r ≡ false) (λ r h. not_true _ (both_true _ _ h).0) starts (sound.obeys.rules Unique).1.1.1.1.1.1.1.1.0)
+      (all_weaker _ (λ r. clashes plain (1 ∷ 2 ∷ []) starts r
+      ≡ false) (λ r h.
+      not_true _ (both_true _ _ h).0) starts (sound.obeys.rules Unique).1.1.1.1.1.1.1.1.0)
 
-  given_starts : AreRows IsStartRow given_cmp given_in (trees 19)
+  given_starts : AreRows IsStartRow given_cmp given_in_row (trees 19)
   given_starts =
       let starts = trees 19 in
-      rows_found (1 ∷ 2 ∷ []) IsStartRow given_cmp given_in
+      rows_found (1 ∷ 2 ∷ []) IsStartRow given_cmp given_in_row
       (λ a b e f. then_ties _ _ _ _ (texts_tie (column a 1) (column b 1) e.0 f.0) (last_ties _ _ (texts_tie (column a 2) (column b 2) e.1 f.1)))
       starts (shaped (order_start_table ∷ given_start_table ∷ more) later_indexes shapes reals trees sound listed ordered
       given_start_table (inr (inr (inr (inr (inr (inr (inr (inr (inr (inl refl))))))))))) (given_starts_typed more trees sound)
-      (all_weaker _ (λ r. clashes plain (1 ∷ 2 ∷ []) starts r ≡ false) (λ r h. not_true _ (both_true _ _ h).0) starts (sound.obeys.rules Unique).1.1.1.1.1.1.1.1.1.0)
+      (all_weaker _ (λ r. clashes plain (1 ∷ 2 ∷ []) starts r
+      ≡ false) (λ r h.
+      not_true _ (both_true _ _ h).0) starts (sound.obeys.rules Unique).1.1.1.1.1.1.1.1.1.0)
 
   -- each start is one of an order, or of a record
   orders_back : AllByRecursion (λ s. is_some (find (λ r. is_its r s) (trees 7)) ≡ true) (trees 17)
@@ -144,20 +146,12 @@ module _ (more : List Table) (shapes : ℕ → Shape) (reals : ℕ → ℕ) (tre
   -- each has exactly one, where no order and no record lacks its start
   pub all_started : HasStarts trees → AreAllStarted trees
   all_started has = record {
-    orders = each_started order_cmp order_in starts_order
-        (λ a s t e f. order_tied (order_in s) (order_in t) ∙ its_twice (key_of a.customer a.row.name) s t e f) (trees 7) (trees 17) order_starts has.orders orders_back;
-    given = each_started given_cmp given_in starts_given
-        (λ a s t e f. given_tied (given_in s) (given_in t) ∙ its_twice (key_of a.row.issuer a.row.serial) s t e f) (trees 11) (trees 19) given_starts has.given given_back;
+    orders = each_started order_cmp order_in_row starts_order
+        (λ a s t e f. order_tied (order_in_row s) (order_in_row t)
+        ∙ its_twice (key_of a.customer a.row.name) s t e f) (trees 7) (trees 17)
+        order_starts has.orders orders_back;
+    given = each_started given_cmp given_in_row starts_given
+        (λ a s t e f. given_tied (given_in_row s) (given_in_row t)
+        ∙ its_twice (key_of a.row.issuer a.row.serial) s t e f) (trees 11) (trees 19)
+        given_starts has.given given_back;
   }
-
--- so it is in each version that has starts
-pub later_started : (version : Version) → version ≢ First → (db : Database) → IsFound version db → HasStarts db.trees → AreAllStarted db.trees
-later_started First later db found has = absurd (later refl)
-later_started Second later db found has = found.starts has
-later_started Third later db found has = found.starts has
-
--- and a database of the third is the office's, where no order and no record lacks its start
-pub office_of : (db : Database) → IsFound Third db → HasStarts db.trees → IsOffice db
-office_of db found has =
-    let all = later_started Third (λ e. cc) db found has in
-    record { schema = found.schema; sound = found.sound; rows = found.rows; orders_started = all.orders; given_started = all.given }

@@ -29,6 +29,6 @@ mod Schemas
 mod Upgrades
 mod UpgradeMeta
 mod Refusals
-mod Settling
-mod Settled
+mod Preparing
+mod LeftOfSite
 mod Telling

@@ -4,20 +4,36 @@ use Rattle.std.specs.Prelude.{IsOkAnd, ⊤}
 use Rattle.sqlite.specs.Store.{Ghosts}
 use Rattle.sqlite.specs.Held.{Held, state}
 use Rattle.office_tables.specs.Tables.{Tables}
-use Rattle.office_sql.specs.Asking.{Asks}
+use Rattle.office_sql.specs.Asking.{SqlReads}
 use Rattle.office_sql.specs.Tables.{tables_in}
 
 -- an answer that is made from what was found, and may be an error where that was none, is asked too
 pub asks_made : {S A B E F : Type 0} (g : Ghosts S) (old new : Held S) (f : A → B) (found : Tables → A) (r : Result A E) (q : Result B F)
-    → IfOk q (λ b. IsOkAnd r (λ a. b ≡ f a)) → Asks g old new r (λ t a. a ≡ found t) → Asks g old new q (λ t b. b ≡ f (found t))
-asks_made g old new f found (Ok a) (Ok b) is it = record { says = λ clean. is ∙ ap f (it.says clean); same = it.same; rests = it.rests; mode = it.mode; crash = it.crash }
+    → IfOk q (λ b. IsOkAnd r (λ a. b ≡ f a)) → SqlReads g old new r (λ t a. a ≡ found t) → SqlReads g old new q (λ t b. b ≡ f (found t))
+asks_made g old new f found (Ok a) (Ok b) is it = record {
+  answer = λ clean. is
+      ∙ ap f (it.answer clean);
+  same = it.same;
+  rests = it.rests;
+  mode = it.mode;
+  crash = it.crash;
+}
 asks_made g old new f found (Err e) (Ok b) is it = absurd is
-asks_made g old new f found r (Err e) is it = record { says = λ _. tt; same = λ _. tt; rests = it.rests; mode = it.mode; crash = it.crash }
+asks_made g old new f found r (Err e) is it = record { answer = λ _. tt; same = λ _. tt; rests = it.rests; mode = it.mode; crash = it.crash }
 
 -- an answer that is known holds of a store that is open
-pub asks_known : {S A E : Type 0} (g : Ghosts S) (old new : Held S) (r : Result (Unit {0}) E) (x : Unit {0}) (a : A) (Says : Tables → A → Type 0) → r ≡ Ok x → Asks g old new r (λ _ _. ⊤)
-    → (IsTrue (state g old).is_open → Says (tables_in (state g old).now.trees) a) → Asks {E = E} g old new (Ok a) Says
-asks_known g old new (Ok y) x a Says is it known = record { says = λ clean. known (it.same clean).0.was_open; same = it.same; rests = it.rests; mode = it.mode; crash = it.crash }
+pub asks_known : {S A E : Type 0} (g : Ghosts S) (old new : Held S) (r : Result (Unit {0}) E)
+    (x : Unit {0}) (a : A) (Says : Tables → A → Type 0) → r ≡ Ok x → SqlReads g old new r (λ _ _. ⊤)
+    → (IsTrue (state g old).is_open → Says (tables_in (state g old).now.trees) a) → SqlReads {E = E} g old new (Ok a) Says
+asks_known g old new (Ok y) x a Says is it known = record {
+  answer = λ clean.
+      known (it.same clean).0.was_open;
+  same =
+      it.same;
+  rests = it.rests;
+  mode = it.mode;
+  crash = it.crash;
+}
 asks_known g old new (Err e) x a Says is it known = absurd (let f = is in cc)
 
 -- what holds of an answer
@@ -26,12 +42,14 @@ said (Ok y) a P is h = subst P (let e = is in cc) h
 said (Err e) a P is h = absurd (let f = is in cc)
 
 -- an answer that is made from another answers too
-pub asks_of : {S A B E : Type 0} (g : Ghosts S) (old new : Held S) (r : Result A E) (x : A) (a : B) (P : Tables → A → Type 0) (Q : Tables → B → Type 0) → r ≡ Ok x → Asks g old new r P → ((t : Tables) → P t x → Q t a) → Asks {E = E} g old new (Ok a) Q
-asks_of g old new (Ok y) x a P Q is it says = record {
-  says = λ clean. says (tables_in (state g old).now.trees) (said (Ok y) x (P (tables_in (state g old).now.trees)) is (it.says clean));
+pub asks_of : {S A B E : Type 0} (g : Ghosts S) (old new : Held S) (r : Result A E) (x : A) (a : B)
+    (P : Tables → A → Type 0) (Q : Tables → B → Type 0) → r ≡ Ok x → SqlReads g old new r P
+    → ((t : Tables) → P t x → Q t a) → SqlReads {E = E} g old new (Ok a) Q
+asks_of g old new (Ok y) x a P Q is it answer = record {
+  answer = λ clean. answer (tables_in (state g old).now.trees) (said (Ok y) x (P (tables_in (state g old).now.trees)) is (it.answer clean));
   same = it.same;
   rests = it.rests;
   mode = it.mode;
   crash = it.crash;
 }
-asks_of g old new (Err e) x a P Q is it says = absurd (let f = is in cc)
+asks_of g old new (Err e) x a P Q is it answer = absurd (let f = is in cc)

@@ -1,5 +1,6 @@
 -- What the text that reads the row of meta means, and shows.
-use Rattle.std.proofs.Common.{◌≡◌, ◌≢◌, ◌<◌, ◌≤◌, ℕ, length, get_or, arith, true, Option, Some, None, IfSome, IfNone, List, [], ◌∷◌, codes, map, refl, sym, ap, subst, ◌∙◌, IsPermutation}
+use Rattle.std.proofs.Common.{◌≡◌, ◌≢◌, ◌<◌, ◌≤◌, ℕ, length, get_or, arith, true, Option, Some, None, IfSome, IfNone, List, [], ◌∷◌, codes, map}
+use Rattle.std.proofs.Common.{refl, sym, ap, subst, ◌∙◌, IsPermutation}
 use Rattle.std.proofs.lemmas.List.Sorted.{IsPermutation-map, IsPermutation-sym}
 use Rattle.std.specs.List.{AllByRecursion}
 use Rattle.sqlite.specs.Order.{Row}
@@ -56,21 +57,30 @@ shows_metas all rows s =
 -- each site in meta is a blob
 sites_are_blobs : (version : Version) (db : Trees) → IsSound (schema_of version) db → AllByRecursion (IsBlob 3) (db 0)
 sites_are_blobs First db sound =
-    all_both _ _ (IsBlob 3) (λ r d n. blob_at (schema_of First) db meta_table r d n 2 (refl, refl, refl) (refl, refl)) (db 0) (sound.obeys.rules Datatype).0 (sound.obeys.rules NotNull).0
+    all_both _ _ (IsBlob 3) (λ r d n.
+    blob_at (schema_of First) db meta_table r d n 2 (refl, refl, refl) (refl, refl)) (db 0)
+    (sound.obeys.rules Datatype).0 (sound.obeys.rules NotNull).0
 sites_are_blobs Second db sound =
-    all_both _ _ (IsBlob 3) (λ r d n. blob_at (schema_of Second) db meta_table r d n 2 (refl, refl, refl) (refl, refl)) (db 0) (sound.obeys.rules Datatype).0 (sound.obeys.rules NotNull).0
+    all_both _ _ (IsBlob 3) (λ r d n.
+    blob_at (schema_of Second) db meta_table r d n 2 (refl, refl, refl) (refl, refl)) (db 0)
+    (sound.obeys.rules Datatype).0 (sound.obeys.rules NotNull).0
 sites_are_blobs Third db sound =
-    all_both _ _ (IsBlob 3) (λ r d n. blob_at (schema_of Third) db meta_table r d n 2 (refl, refl, refl) (refl, refl)) (db 0) (sound.obeys.rules Datatype).0 (sound.obeys.rules NotNull).0
+    all_both _ _ (IsBlob 3) (λ r d n.
+    blob_at (schema_of Third) db meta_table r d n 2 (refl, refl, refl) (refl, refl)) (db 0)
+    (sound.obeys.rules Datatype).0 (sound.obeys.rules NotNull).0
 
 -- and so is each that is shown
 shows_blobs : (all rows : List Row) → AllByRecursion (IsBlob 3) all → Scanned [] row_shown row_order [] all rows → AllByRecursion (IsBlob 2) rows
 shows_blobs all rows blobs s =
     let every = filter_all (passes [] []) all (all_of (λ r. passes [] [] r ≡ true) (λ r. refl) all) in
     let same = subst (λ l. IsPermutation l s.kept) every s.same in
-    subst (AllByRecursion (IsBlob 2)) (sym s.shows) (all-map (IsBlob 2) (λ r. eval_all row_shown (env [] r)) s.kept (all-permutation (IsBlob 3) all s.kept same blobs))
+    subst (AllByRecursion (IsBlob 2)) (sym s.shows) (all-map (IsBlob 2) (λ r.
+    eval_all row_shown (env [] r)) s.kept (all-permutation (IsBlob 3) all s.kept same blobs))
 
 -- what is read of the text is meta
-pub shows_meta : (version : Version) (db : Database) (rows : List Row) → IsFound version db → IsAnswer (scan 0 [] row_shown row_order) (overlay db.trees []) [] rows → ShowMeta db.trees rows
+pub shows_meta : (version : Version) (db : Database) (rows : List Row) → IsFound version db
+    → IsAnswer (scan 0 [] row_shown row_order) (overlay db.trees []) [] rows
+    → ShowMeta db.trees rows
 shows_meta version db rows found a =
     let s : Scanned [] row_shown row_order [] (db.trees 0) rows = scanned (overlay db.trees []) [] 0 [] row_shown row_order [] rows a in
     record {
@@ -83,7 +93,9 @@ pub same_meta : (db : Trees) (rows : List Row) (meta : Option Meta) → ShowMeta
     → IfNone meta (AllByRecursion (IsBlob 2) rows → (version : Version) → TellNoSite version (map meta_of rows)) → IsMetaOf (metas_in db) meta
 same_meta db rows (Some m) shown some none = one_permutation m (metas_in db) (IsPermutation-sym _ _ (subst (IsPermutation (metas_in db)) some shown.metas))
 same_meta db rows None shown some none = λ version site size ours.
-    none shown.blobs version site size (one_permutation (meta_of_version version site) (map meta_of rows) (subst (λ l. IsPermutation l (map meta_of rows)) ours shown.metas))
+    none shown.blobs version site size
+    (one_permutation (meta_of_version version site) (map meta_of rows) (subst (λ l.
+    IsPermutation l (map meta_of rows)) ours shown.metas))
 
 -- a list of one row
 pub only_row : (rows : List Row) (row : Row) → 1 ≤ length rows → length rows < 2 → row ≡ get_or rows 0 row → rows ≡ row ∷ []
@@ -92,12 +104,15 @@ only_row (r ∷ []) row low high is = ap (λ x. x ∷ []) (sym is)
 only_row (r ∷ s ∷ rows) row low high is = absurd (omega (arith, high))
 
 -- what is read of the one row is read of the rows
-pub none_alone : (rows : List Row) (row : Row) (meta : Option Meta) → rows ≡ row ∷ [] → IfNone meta (IsBlob 2 row → (version : Version) → TellNoSite version (meta_of row ∷ []))
+pub none_alone : (rows : List Row) (row : Row) (meta : Option Meta) → rows ≡ row ∷ []
+    → IfNone meta (IsBlob 2 row → (version : Version) → TellNoSite version (meta_of row ∷ []))
     → IfNone meta (AllByRecursion (IsBlob 2) rows → (version : Version) → TellNoSite version (map meta_of rows))
 none_alone rows row (Some m) is none = tt
-none_alone rows row None is none = subst (λ l. AllByRecursion (IsBlob 2) l → (version : Version) → TellNoSite version (map meta_of l)) (sym is) (λ blobs. none blobs.0)
+none_alone rows row None is none = subst (λ l. AllByRecursion (IsBlob 2) l → (version : Version)
+    → TellNoSite version (map meta_of l)) (sym is) (λ blobs. none blobs.0)
 
 -- a row of another version or of no site tells no site
-pub no_site : (version : Version) (metas : List Meta) (meta : Option Meta) → IsMetaOf metas meta → ((site : List ℕ) → meta ≢ Some (meta_of_version version site)) → TellNoSite version metas
+pub no_site : (version : Version) (metas : List Meta) (meta : Option Meta) → IsMetaOf metas meta
+    → ((site : List ℕ) → meta ≢ Some (meta_of_version version site)) → TellNoSite version metas
 no_site version metas (Some m) is never = λ site size ours. never site (cc)
 no_site version metas None none never = none version

@@ -1,16 +1,17 @@
 -- Numbers of places stay right where one of them is put, where those of a customer are put or taken out, or where a device more or less is counted.
-use Rattle.std.proofs.Common.{◌≡◌, ◌+◌, ◌-◌, ◌∙◌, ◌<◌, ◌++◌, ℕ, suc, arith, true, false, Bool, cond, List, [], ◌∷◌, Option, Some, None, length, take, get_or, refl, sym, ap}
+use Rattle.std.proofs.Common.{◌≡◌, ◌+◌, ◌-◌, ◌∙◌, ◌<◌, ◌++◌, ℕ, suc, arith, true, false, Bool, cond, List, [], ◌∷◌, Option, Some, None, length, take}
+use Rattle.std.proofs.Common.{get_or, refl, sym, ap}
 use Rattle.std.specs.Prelude.{◌&&◌, bytes_eq, filter, map, not, option_map, unwrap_or, IfSome}
 use Rattle.std.specs.BTreeMap.{get, is_at}
 use Rattle.std.specs.Cmp.Lexicographic.{texts_ties}
 use Rattle.std.proofs.lemmas.List.{length-append, take_more}
 use Rattle.std.proofs.lemmas.List.Elements.{filter-append}
 use Rattle.std.proofs.lemmas.Slice.Eq.{bytes_eq-Decides}
-use Rattle.office_tables.specs.declared.rows.Owned.{Owned}
+use Rattle.office_tables.specs.declared.rows.OfCustomer.{OfCustomer}
 use Rattle.office_tables.specs.declared.rows.Device.{Device}
 use Rattle.office_tables.specs.OrderPlaces.{is_given_up, places_taken, takes_place}
-use Rattle.office_tables.specs.PlaceCounting.{place_of}
-use Rattle.office_tables.specs.Tables.{is_of, own, text_cmp}
+use Rattle.office_tables.specs.PlaceCounting.{place_of_device}
+use Rattle.office_tables.specs.Tables.{is_of, rows_of, text_cmp}
 use Rattle.office_tables.proofs.Places.{same_both_ways, takes_no_other}
 use Rattle.office_sql.specs.declared.devices.OrderState.{OrderState}
 use Rattle.office_sql.specs.OrderStates.{order_state}
@@ -22,17 +23,25 @@ at_text : (a o : List ℕ) → is_at (text_cmp a) o ≡ bytes_eq o a
 at_text a o = sym (texts_ties a o) ∙ same_both_ways a o
 
 -- the number of an order is set
-pub number_set : (order : List ℕ) (number : ℕ) (p n : OrderPlaces) → ((q : List ℕ) → get text_cmp n.numbers q ≡ cond (is_at (text_cmp order) q) (Some number) (get text_cmp p.numbers q))
+pub number_set : (order : List ℕ) (number : ℕ) (p n : OrderPlaces)
+    → ((q : List ℕ)
+    → get text_cmp n.numbers q
+    ≡ cond (is_at (text_cmp order) q) (Some number) (get text_cmp p.numbers q))
     → (o : List ℕ) → number_at o n ≡ cond (bytes_eq o order) number (number_at o p)
 number_set order number p n writes o =
     ap (λ (v : Option ℕ). unwrap_or v 0) (writes o ∙ ap (λ b. cond b (Some number) (get text_cmp p.numbers o)) (at_text order o))
-    ∙ elim (bytes_eq o order) as (λ b. unwrap_or (cond b (Some number) (get text_cmp p.numbers o)) 0 ≡ cond b number (number_at o p)) [ true ↦ refl | false ↦ refl ]
+    ∙ elim (bytes_eq o order) as (λ b. unwrap_or (cond b (Some number) (get text_cmp p.numbers o)) 0
+    ≡ cond b number (number_at o p)) [ true ↦ refl | false ↦ refl ]
 
 -- one more device is counted
-pub one_counted : (one : OrderState) (p n : OrderPlaces) (more : ℕ) → more ≡ number_at one.order p + 1 → is_given_up one.state ≡ false → ((o : List ℕ) → number_at o n ≡ cond (bytes_eq o one.order) more (number_at o p))
+pub one_counted : (one : OrderState) (p n : OrderPlaces) (more : ℕ)
+    → more ≡ number_at one.order p + 1 → is_given_up one.state ≡ false
+    → ((o : List ℕ) → number_at o n ≡ cond (bytes_eq o one.order) more (number_at o p))
     → (o : List ℕ) → number_at o n ≡ number_at o p + cond (takes o one) 1 0
 one_counted one p n more is stays sets o =
-    sets o ∙ elim (bytes_eq o one.order) as (λ b. bytes_eq o one.order ≡ b → cond b more (number_at o p) ≡ number_at o p + cond (b && not (is_given_up one.state)) 1 0) [
+    sets o ∙ elim (bytes_eq o one.order) as (λ b. bytes_eq o one.order ≡ b
+    → cond b more (number_at o p)
+    ≡ number_at o p + cond (b && not (is_given_up one.state)) 1 0) [
       | true ↦ λ at. rw (stays, (bytes_eq-Decides o one.order).0 at) is
       | false ↦ λ _. omega arith
     ] refl
@@ -40,43 +49,62 @@ one_counted one p n more is stays sets o =
 -- one that is given up takes no place
 pub none_counted : (one : OrderState) (p : OrderPlaces) → is_given_up one.state ≡ true → (o : List ℕ) → number_at o p ≡ number_at o p + cond (takes o one) 1 0
 none_counted one p gone o =
-    elim (bytes_eq o one.order) as (λ b. number_at o p ≡ number_at o p + cond (b && not (is_given_up one.state)) 1 0) [ true ↦ rw gone (omega arith) | false ↦ omega arith ]
+    elim (bytes_eq o one.order) as (λ b. number_at o p
+    ≡ number_at o p + cond (b
+    && not (is_given_up one.state)) 1 0) [ true ↦ rw gone (omega arith) | false ↦ omega arith ]
 
 -- how many elements pass, of one more
-pub passing_more : {X : Type 0} (p : X → Bool) (xs : List X) (i : ℕ) (x : X) → i < length xs → x ≡ get_or xs i x → length (filter p (take (i + 1) xs)) ≡ length (filter p (take i xs)) + cond (p x) 1 0
+pub passing_more : {X : Type 0} (p : X → Bool) (xs : List X) (i : ℕ) (x : X) → i < length xs
+    → x ≡ get_or xs i x
+    → length (filter p (take (i + 1) xs)) ≡ length (filter p (take i xs)) + cond (p x) 1 0
 passing_more p xs i x within here =
     let seam : take (i + 1) xs ≡ take i xs ++ x ∷ [] = take_more xs i x within ∙ ap (λ y. take i xs ++ y ∷ []) (sym here) in
     ap (λ l. length (filter p l)) seam ∙ ap length (filter-append p (take i xs) (x ∷ [])) ∙ length-append (filter p (take i xs)) (filter p (x ∷ []))
     ∙ ap (λ n. length (filter p (take i xs)) + n) (elim (p x) as (λ b. length (cond b (x ∷ []) []) ≡ cond b 1 0) [ true ↦ refl | false ↦ refl ])
 
-states_taken : (order : List ℕ) (l : List (Owned Device)) → length (filter (takes order) (map order_state l)) ≡ places_taken order (map (λ d. d.row) l)
+states_taken : (order : List ℕ) (l : List (OfCustomer Device)) → length (filter (takes order) (map order_state l)) ≡ places_taken order (map (λ d. d.row) l)
 states_taken order [] = refl
 states_taken order (d ∷ l) =
-    elim (takes_place order d.row) as (λ b. length (cond b (order_state d ∷ filter (takes order) (map order_state l)) (filter (takes order) (map order_state l))) ≡ length (cond b (d.row ∷ filter (takes_place order) (map (λ d. d.row) l)) (filter (takes_place order) (map (λ d. d.row) l)))) [
+    elim (takes_place order d.row) as (λ b.
+    length (cond b (order_state d
+    ∷ filter (takes order) (map order_state l)) (filter (takes order) (map order_state l)))
+    ≡ length (cond b (d.row
+    ∷ filter (takes_place order) (map (λ d. d.row) l)) (filter (takes_place order) (map (λ d.
+    d.row) l)))) [
       | true ↦ ap suc (states_taken order l)
       | false ↦ states_taken order l
     ]
 
 -- the states of a customer's devices tell how many places of an order are taken
-pub states_tell : (customer order : List ℕ) (rows : List (Owned Device)) (states : List OrderState) → states ≡ map order_state (filter (is_of customer) rows) → length (filter (takes order) states) ≡ places_taken order (own customer rows)
+pub states_tell : (customer order : List ℕ) (rows : List (OfCustomer Device))
+    (states : List OrderState) → states ≡ map order_state (filter (is_of customer) rows)
+    → length (filter (takes order) states) ≡ places_taken order (rows_of customer rows)
 states_tell customer order rows states is = ap (λ l. length (filter (takes order) l)) is ∙ states_taken order (filter (is_of customer) rows)
 
 module _ (customer : List ℕ) (was : List ℕ → List ℕ → ℕ) (p : PlaceCounts) (right : AreCounts was p) where
   -- the numbers that are taken out
-  pub numbers_taken : (v : Option OrderPlaces) → v ≡ get text_cmp p.customers customer → IfSome v (λ places. (order : List ℕ) → number_at order places ≡ was customer order)
+  pub numbers_taken : (v : Option OrderPlaces) → v ≡ get text_cmp p.customers customer
+      → IfSome v (λ places. (order : List ℕ) → number_at order places ≡ was customer order)
   numbers_taken None is = tt
   numbers_taken (Some places) is = λ order. right customer order (number_at order places) (ap (option_map (number_at order)) (sym is))
 
-  fitted : (count : List ℕ → List ℕ → ℕ) (o : List ℕ) (number : ℕ) (v : Option OrderPlaces) → ((places : OrderPlaces) → v ≡ Some places → (order : List ℕ) → number_at order places ≡ count customer order)
+  fitted : (count : List ℕ → List ℕ → ℕ) (o : List ℕ) (number : ℕ) (v : Option OrderPlaces)
+      → ((places : OrderPlaces) → v ≡ Some places → (order : List ℕ)
+      → number_at order places ≡ count customer order)
       → option_map (number_at o) v ≡ Some number → number ≡ count customer o
   fitted count o number None fits is = absurd (let e = is in cc)
   fitted count o number (Some places) fits is = let e : number ≡ number_at o places = (let f = is in cc) in e ∙ fits places refl o
 
   -- numbers are put, or taken out
-  pub counted_put : (count : List ℕ → List ℕ → ℕ) → AgreeOff customer was count → (n : PlaceCounts) (v : Option OrderPlaces) → ((places : OrderPlaces) → v ≡ Some places → (order : List ℕ) → number_at order places ≡ count customer order)
+  pub counted_put : (count : List ℕ → List ℕ → ℕ) → AgreeOff customer was count
+      → (n : PlaceCounts) (v : Option OrderPlaces)
+      → ((places : OrderPlaces) → v ≡ Some places → (order : List ℕ)
+      → number_at order places ≡ count customer order)
       → ((q : List ℕ) → get text_cmp n.customers q ≡ cond (is_at (text_cmp customer) q) v (get text_cmp p.customers q)) → AreCounts count n
   counted_put count agree n v fits writes c o number is =
-      elim (bytes_eq c customer) as (λ b. bytes_eq c customer ≡ b → option_map (number_at o) (cond b v (get text_cmp p.customers c)) ≡ Some number → number ≡ count c o) [
+      elim (bytes_eq c customer) as (λ b. bytes_eq c customer ≡ b
+      → option_map (number_at o) (cond b v (get text_cmp p.customers c)) ≡ Some number
+      → number ≡ count c o) [
         | true ↦ λ at e. rw ((bytes_eq-Decides c customer).0 at) (fitted count o number v fits e)
         | false ↦ λ at e. right c o number e ∙ sym (agree c o at)
       ] refl (ap (option_map (number_at o)) (sym (writes c ∙ ap (λ b. cond b v (get text_cmp p.customers c)) (at_text customer c))) ∙ is)
@@ -87,7 +115,9 @@ module _ (customer order : List ℕ) (was count : List ℕ → List ℕ → ℕ)
   agree_off c o other = agree c o (rw other refl)
 
   -- a number that is set is right, and so are the others of its customer
-  pub set_right : (number : ℕ) → number ≡ count customer order → (p n : OrderPlaces) → ((o : List ℕ) → number_at o p ≡ was customer o) → ((o : List ℕ) → number_at o n ≡ cond (bytes_eq o order) number (number_at o p))
+  pub set_right : (number : ℕ) → number ≡ count customer order → (p n : OrderPlaces)
+      → ((o : List ℕ) → number_at o p ≡ was customer o)
+      → ((o : List ℕ) → number_at o n ≡ cond (bytes_eq o order) number (number_at o p))
       → (o : List ℕ) → number_at o n ≡ count customer o
   set_right number is p n had sets o =
       sets o ∙ elim (bytes_eq o order) as (λ b. bytes_eq o order ≡ b → cond b number (number_at o p) ≡ count customer o) [
@@ -96,8 +126,12 @@ module _ (customer order : List ℕ) (was count : List ℕ → List ℕ → ℕ)
       ] refl
 
 -- a device is counted at its order alone
-pub agree_more : (d : Owned Device) (was : List ℕ → List ℕ → ℕ) → AgreeBut d.customer d.row.order was (λ customer order. was customer order + place_of customer order d)
+pub agree_more : (d : OfCustomer Device) (was : List ℕ → List ℕ → ℕ)
+    → AgreeBut d.customer d.row.order was (λ customer order.
+    was customer order + place_of_device customer order d)
 agree_more d was c o other = let none = takes_no_other d c o other in omega (arith, none)
 
-pub agree_less : (d : Owned Device) (was : List ℕ → List ℕ → ℕ) → AgreeBut d.customer d.row.order was (λ customer order. was customer order - place_of customer order d)
+pub agree_less : (d : OfCustomer Device) (was : List ℕ → List ℕ → ℕ)
+    → AgreeBut d.customer d.row.order was (λ customer order.
+    was customer order - place_of_device customer order d)
 agree_less d was c o other = let none = takes_no_other d c o other in omega (arith, none)

@@ -1,5 +1,6 @@
 -- What a test of a found store shows, where it is passed and where it is not.
-use Rattle.std.proofs.Common.{◌≡◌, ◌≢◌, ◌↔◌, inl, inr, ℕ, length, List, Bool, false, true≢false, Option, Some, Result, Ok, Err, OnOk, IfErr, IsErrAnd, IsTrue, refl, sym, ap, subst, ◌∙◌}
+use Rattle.std.proofs.Common.{◌≡◌, ◌≢◌, ◌↔◌, inl, inr, ℕ, length, List, Bool, false, true≢false, Option, Some, Result, Ok, Err, OnOk, IfErr}
+use Rattle.std.proofs.Common.{IsErrAnd, IsTrue, refl, sym, ap, subst, ◌∙◌}
 use Rattle.std.specs.Prelude.{Vec}
 use Rattle.std.specs.Str.{IsUtf8}
 use Rattle.std.specs.declared.alloc.Global.{Global}
@@ -20,7 +21,7 @@ use Rattle.office_store.specs.declared.version.Version.{Version}
 use Rattle.office_store.specs.declared.version.Version.TheVariants.{First, Second, Third}
 use Rattle.office_store.specs.Adopting.{AreStartsAsked, CanTake, Examines, HasOtherTables, IsFoundAt, IsOfOtherSite, IsOther, IsShownText, TellsOther}
 use Rattle.office_store.specs.Found.{HasStarts, HasWhole, IsFound, Tests}
-use Rattle.office_store.specs.Meta.{meta_of_version, metas_in, IsMetaOf, IsTold}
+use Rattle.office_store.specs.Meta.{meta_of_version, metas_in, IsMetaOf, HasMeta}
 use Rattle.office_store.specs.Texts.{IsGrownFrom, ShowTexts}
 use Rattle.office_store.specs.Versions.{schema_of}
 use Rattle.office_sql.proofs.Asked.{was_clean}
@@ -29,7 +30,9 @@ use Rattle.office_store.proofs.MetaShows.{no_site}
 use Rattle.office_store.proofs.Telling.{shown_tells, tells_shown}
 
 -- what holds of an error holds of a result that is it
-pub is_err : {A : Type 0} (X : Result A OpenFault → Type 0) (result : Result A OpenFault) (fault : OpenFault) → IsErrAnd result (λ told. told ≡ fault) → X (Err fault) → X result
+pub is_err : {A : Type 0} (X : Result A OpenFault
+    → Type 0) (result : Result A OpenFault) (fault : OpenFault)
+    → IsErrAnd result (λ told. told ≡ fault) → X (Err fault) → X result
 is_err X (Ok _) fault is x = absurd is
 is_err X (Err told) fault is x = subst (λ f. X (Err f)) (sym is) x
 
@@ -40,28 +43,30 @@ is_other site Second db earlier other = other
 is_other site Third db earlier other = absurd (earlier refl)
 
 -- what was found is there after a test
-pub found_after : {S : Type 0} (g : Ghosts S) (site : TextOfSite) (old mid : Held S) (Says : Database → Type 0) (version : Version) → Examines g site old mid (Ok tt) Says
+pub found_after : {S : Type 0} (g : Ghosts S) (site : TextOfSite) (old mid : Held S)
+    (Says : Database → Type 0) (version : Version) → Examines g site old mid (Ok tt) Says
     → (HasCleanDisk (state g old) → (state g old).now ≡ (state g old).committed)
     → (HasCleanDisk (state g old) → Says (state g old).now → IsFound version (state g old).now) → IsFoundAt version (state g mid)
-found_after g site old mid Says version test settled found =
+found_after g site old mid Says version test shows_committed found =
     let before = was_clean (state g old) (state g mid) _ test.crash in
     record {
       mode = test.mode;
-      settled = λ clean. let same = (test.same clean).0 in same.now_is ∙ settled (before clean) ∙ sym same.committed_is;
-      found = λ clean. still_found version (test.same clean) (found (before clean) (test.says clean));
+      shows_committed = λ clean. let same = (test.same clean).0 in same.now_is ∙ shows_committed (before clean) ∙ sym same.committed_is;
+      found = λ clean. still_found version (test.same clean) (found (before clean) (test.answer clean));
     }
 
 -- what a test says is so after it
 pub says_of : {S : Type 0} (g : Ghosts S) (site : TextOfSite) (old mid : Held S) (Says : Database → Type 0) → Examines g site old mid (Ok tt) Says
     → HasCleanDisk (state g mid) → Says (state g mid).now
-says_of g site old mid Says test clean = subst Says (sym (test.same clean).0.now_is) (test.says clean)
+says_of g site old mid Says test clean = subst Says (sym (test.same clean).0.now_is) (test.answer clean)
 
 module _ {S : Type 0} (g : Ghosts S) (site : TextOfSite) where
   -- one test after another
-  pub examines_then : (old mid new : Held S) (r : Result (Unit {0}) OpenFault) (P Q R : Database → Type 0) → Examines g site old mid (Ok tt) P → Examines g site mid new r Q
+  pub examines_then : (old mid new : Held S) (r : Result (Unit {0}) OpenFault) (P Q R : Database
+      → Type 0) → Examines g site old mid (Ok tt) P → Examines g site mid new r Q
       → (HasCleanDisk (state g old) → P (state g old).now → Q (state g old).now → R (state g old).now) → Examines g site old new r R
   examines_then old mid new r P Q R one two both = record {
-    says = λ clean. said r (one.says (calm clean)) (one.same (calm clean)) (before (calm clean)) (two.says clean);
+    answer = λ clean. said r (one.answer (calm clean)) (one.same (calm clean)) (before (calm clean)) (two.answer clean);
     same = λ clean. same r (one.same (calm clean)) (two.same clean);
     rests = λ clean. rests_then (state g old) (state g mid) (state g new) (one.same (calm clean)) (two.rests clean);
     mode = two.mode;
@@ -80,18 +85,25 @@ module _ {S : Type 0} (g : Ghosts S) (site : TextOfSite) where
       said (Ok _) p same clean q = both clean p (subst Q same.0.now_is q)
       said (Err _) p same clean q = tt
 
-      same : (r : Result (Unit {0}) OpenFault) → IsUnchanged (state g old) (state g mid) → OnOk r (IsUnchanged (state g mid) (state g new)) → OnOk r (IsUnchanged (state g old) (state g new))
+      same : (r : Result (Unit {0}) OpenFault) → IsUnchanged (state g old) (state g mid)
+          → OnOk r (IsUnchanged (state g mid) (state g new))
+          → OnOk r (IsUnchanged (state g old) (state g new))
       same (Ok _) h k = unchanged_then (state g old) (state g mid) (state g new) h k
       same (Err _) h k = tt
 
   -- a test that is not passed says nothing
-  pub says_nothing : (old new : Held S) (fault : OpenFault) (P Q : Database → Type 0) → Examines g site old new (Err fault) P → Examines g site old new (Err fault) Q
-  says_nothing old new fault P Q it = record { says = λ clean. tt; same = it.same; rests = it.rests; mode = it.mode; refused = it.refused; crash = it.crash }
+  pub says_nothing : (old new : Held S) (fault : OpenFault) (P Q : Database → Type 0)
+      → Examines g site old new (Err fault) P → Examines g site old new (Err fault) Q
+  says_nothing old new fault P Q it = record { answer = λ clean. tt; same = it.same; rests = it.rests; mode = it.mode; refused = it.refused; crash = it.crash }
 
 -- ---- tests of a connection at rest to a database whose schema is a version's
 
-module _ {S : Type 0} (g : Ghosts S) (site : TextOfSite) (old new : Held S) (calm : IsTrue (state g new).is_open → HasCleanDisk (state g new)) (version : Version) (mode : old.in_transaction ≡ false)
-    (settled : HasCleanDisk (state g old) → (state g old).now ≡ (state g old).committed) (has : HasCleanDisk (state g old) → (state g old).now.schema ≡ schema_of version) where
+module _ {S : Type 0} (g : Ghosts S) (site : TextOfSite) (old new : Held S)
+    (calm : IsTrue (state g new).is_open
+    → HasCleanDisk (state g new)) (version : Version) (mode : old.in_transaction ≡ false)
+    (shows_committed : HasCleanDisk (state g old)
+    → (state g old).now ≡ (state g old).committed) (has : HasCleanDisk (state g old)
+    → (state g old).now.schema ≡ schema_of version) where
   module _ {A : Type 0} (r : Result A Error) (P : Trees → A → Type 0) (tests : Tests g old new r P) where
     before : HasCleanDisk (state g new) → HasCleanDisk (state g old)
     before = was_clean (state g old) (state g new) _ tests.crash
@@ -102,14 +114,14 @@ module _ {S : Type 0} (g : Ghosts S) (site : TextOfSite) (old new : Held S) (cal
         let clean = calm up in
         elim ((tests.rests clean).now up) [
           | inl e ↦ ap (λ (d : Database). d.schema) e ∙ has (before clean)
-          | inr e ↦ ap (λ (d : Database). d.schema) (e ∙ sym (settled (before clean))) ∙ has (before clean)
+          | inr e ↦ ap (λ (d : Database). d.schema) (e ∙ sym (shows_committed (before clean))) ∙ has (before clean)
         ]
 
     -- it is not passed, for a reason
     pub not_passed : (fault : OpenFault) (Says : Database → Type 0) → (HasCleanDisk (state g new) → fault ≡ OtherSite → IsOfOtherSite site (state g new).now)
         → (HasCleanDisk (state g new) → fault ≡ OtherTables → HasOtherTables (sha256 site.text) (state g new).now) → Examines g site old new (Err fault) Says
     not_passed fault Says other_site other_tables = record {
-      says = λ clean. tt;
+      answer = λ clean. tt;
       same = λ clean. tt;
       rests = tests.rests;
       mode = tests.mode mode;
@@ -123,9 +135,11 @@ module _ {S : Type 0} (g : Ghosts S) (site : TextOfSite) (old new : Held S) (cal
 
   module _ {A : Type 0} (answer : A) (P : Trees → A → Type 0) (tests : Tests {E = Error} g old new (Ok answer) P) where
     -- it is passed
-    pub passed : (Says : Database → Type 0) → (HasCleanDisk (state g old) → P (state g old).now.trees answer → Says (state g old).now) → Examines g site old new (Ok tt) Says
-    passed Says says = record {
-      says = λ clean. says (was_clean (state g old) (state g new) _ tests.crash clean) (tests.says clean);
+    pub passed : (Says : Database → Type 0)
+        → (HasCleanDisk (state g old) → P (state g old).now.trees answer → Says (state g old).now)
+        → Examines g site old new (Ok tt) Says
+    passed Says answer = record {
+      answer = λ clean. answer (was_clean (state g old) (state g new) _ tests.crash clean) (tests.answer clean);
       same = tests.same;
       rests = tests.rests;
       mode = tests.mode mode;
@@ -145,7 +159,9 @@ module _ {S : Type 0} (g : Ghosts S) (site : TextOfSite) (old new : Held S) (cal
   low_found answer low tests Says = not_passed (Ok answer) _ tests OtherTables Says (λ clean told. absurd (let e = told in cc))
       (λ clean _.
       let same = same_trees answer _ tests clean in
-      let lacks = λ (whole : HasWhole (state g new).now.trees). true≢false (sym ((tests.says clean).1 (subst (λ (d : Database). HasWhole d.trees) same whole)) ∙ low) in
+      let lacks = λ (whole : HasWhole (state g new).now.trees). true≢false
+      (sym ((tests.answer clean).1 (subst (λ (d : Database). HasWhole d.trees) same whole))
+      ∙ low) in
       inr (version, schema_after answer _ tests clean, inl lacks))
 
   -- and so is a start that lacks
@@ -155,43 +171,70 @@ module _ {S : Type 0} (g : Ghosts S) (site : TextOfSite) (old new : Held S) (cal
   lack_found asked answer low tests Says = not_passed (Ok answer) _ tests OtherTables Says (λ clean told. absurd (let e = told in cc))
       (λ clean _.
       let same = same_trees answer _ tests clean in
-      let are_asked = subst (λ (d : Database). AreStartsAsked (sha256 site.text) version d.trees) (sym same) (asked (was_clean (state g old) (state g new) _ tests.crash clean)) in
-      let lacks = λ (whole : HasStarts (state g new).now.trees). true≢false (sym ((tests.says clean).1 (subst (λ (d : Database). HasStarts d.trees) same whole)) ∙ low) in
+      let are_asked = subst (λ (d : Database).
+      AreStartsAsked (sha256 site.text) version d.trees) (sym same)
+      (asked (was_clean (state g old) (state g new) _ tests.crash clean)) in
+      let lacks = λ (whole : HasStarts (state g new).now.trees). true≢false
+      (sym ((tests.answer clean).1 (subst (λ (d : Database). HasStarts d.trees) same whole))
+      ∙ low) in
       inr (version, schema_after answer _ tests clean, inr (inr (inl (are_asked, lacks)))))
 
   module _ (meta : Option Meta) (tests : Tests {E = Error} g old new (Ok meta) (λ db row. IsMetaOf (metas_in db) row)) where
     told : HasCleanDisk (state g new) → IsMetaOf (metas_in (state g new).now.trees) meta
-    told clean = subst (λ (d : Database). IsMetaOf (metas_in d.trees) meta) (sym (same_trees meta _ tests clean)) (tests.says clean)
+    told clean = subst (λ (d : Database). IsMetaOf (metas_in d.trees) meta) (sym (same_trees meta _ tests clean)) (tests.answer clean)
 
     -- what the store tells of itself was read and judged
     pub judged : version ≢ Third → (result : Result (Unit {0}) OpenFault) → OnOk result (meta ≡ Some (meta_of_version version (sha256 site.text)))
-        → IfErr result (λ fault. fault ≡ OtherSite → (other : List ℕ) × (length other ≡ 32) × (meta ≡ Some (meta_of_version version other)) × (other ≢ sha256 site.text))
+        → IfErr result (λ fault. fault ≡ OtherSite → (other : List ℕ) × (length other ≡ 32)
+        × (meta ≡ Some (meta_of_version version other)) × (other ≢ sha256 site.text))
         → IfErr result (λ fault. fault ≡ OtherTables → (other : List ℕ) → meta ≢ Some (meta_of_version version other))
-        → Examines g site old new result (λ db. IsTold version (sha256 site.text) db.trees)
-    judged earlier (Ok _) ours others never = passed meta _ tests (λ db. IsTold version (sha256 site.text) db.trees) (λ clean is. subst (IsMetaOf (metas_in (state g old).now.trees)) ours is)
+        → Examines g site old new result (λ db. HasMeta version (sha256 site.text) db.trees)
+    judged earlier (Ok _) ours others never = passed meta _ tests (λ db.
+        HasMeta version (sha256 site.text) db.trees) (λ clean is.
+        subst (IsMetaOf (metas_in (state g old).now.trees)) ours is)
     judged earlier (Err fault) ours others never = not_passed (Ok meta) _ tests fault _
-        (λ clean is. let it = others is in (version, schema_after meta _ tests clean, is_other site version _ earlier (it.0, it.1, subst (IsMetaOf (metas_in (state g new).now.trees)) it.2 (told clean), it.3)))
+        (λ clean is.
+        let it = others is in (
+          version,
+          schema_after meta _ tests clean,
+          is_other site version _ earlier (
+            it.0,
+            it.1,
+            subst (IsMetaOf (metas_in (state g new).now.trees))
+                it.2 (told clean),
+            it.3,
+          ),
+        ))
         (λ clean is. inr (version, schema_after meta _ tests clean, inr (inl (no_site version _ meta (told clean) (never is)))))
 
     -- and judged by a name that is the site's
-    pub judged_as : version ≢ Third → (name : List ℕ) → name ≡ sha256 site.text → (result : Result (Unit {0}) OpenFault) → OnOk result (meta ≡ Some (meta_of_version version name))
+    pub judged_as : version ≢ Third → (name : List ℕ) → name ≡ sha256 site.text
+        → (result : Result (Unit {0}) OpenFault)
+        → OnOk result (meta ≡ Some (meta_of_version version name))
         → IfErr result (λ fault. fault ≡ OtherSite → (other : List ℕ) × (length other ≡ 32) × (meta ≡ Some (meta_of_version version other)) × (other ≢ name))
         → IfErr result (λ fault. fault ≡ OtherTables → (other : List ℕ) → meta ≢ Some (meta_of_version version other))
-        → Examines g site old new result (λ db. IsTold version (sha256 site.text) db.trees)
+        → Examines g site old new result (λ db. HasMeta version (sha256 site.text) db.trees)
     judged_as earlier name is result ours others never = judged earlier result
         (subst (λ n. OnOk result (meta ≡ Some (meta_of_version version n))) is ours)
-        (subst (λ n. IfErr result (λ fault. fault ≡ OtherSite → (other : List ℕ) × (length other ≡ 32) × (meta ≡ Some (meta_of_version version other)) × (other ≢ n))) is others)
+        (subst (λ n.
+        IfErr result (λ fault. fault ≡ OtherSite → (other : List ℕ) × (length other ≡ 32)
+        × (meta ≡ Some (meta_of_version version other)) × (other ≢ n))) is others)
         never
 
   -- the text that the store tells of was read and judged
-  module _ (third : version ≡ Third) (read : Option Meta × Vec Row Global) (tests : Tests {E = Error} g old new (Ok read) (λ db it. IsMetaOf (metas_in db) it.0 × ShowTexts db it.1.items)) where
+  module _ (third : version ≡ Third) (read : Option Meta
+      × Vec Row Global) (tests : Tests {E = Error} g old new (Ok read) (λ db it.
+      IsMetaOf (metas_in db) it.0 × ShowTexts db it.1.items)) where
     after : HasCleanDisk (state g new) → IsMetaOf (metas_in (state g new).now.trees) read.0 × ShowTexts (state g new).now.trees read.1.items
-    after clean = subst (λ (d : Database). IsMetaOf (metas_in d.trees) read.0 × ShowTexts d.trees read.1.items) (sym (same_trees read _ tests clean)) (tests.says clean)
+    after clean = subst (λ (d : Database). IsMetaOf (metas_in d.trees) read.0
+        × ShowTexts d.trees read.1.items) (sym (same_trees read _ tests clean)) (tests.answer clean)
 
     is_third : HasCleanDisk (state g new) → (state g new).now.schema ≡ schema_of Third
     is_third clean = schema_after read _ tests clean ∙ ap schema_of third
 
-    pub growth_judged : (result : Result (Unit {0}) OpenFault) → OnOk result ((text : List ℕ) × IsShownText text read.1.items read.0 × IsGrownFrom text site.site)
+    pub growth_judged : (result : Result (Unit {0}) OpenFault)
+        → OnOk result ((text : List ℕ) × IsShownText text read.1.items read.0
+        × IsGrownFrom text site.site)
         → IfErr result (λ fault. fault ≡ OtherSite → (text : List ℕ) × IsShownText text read.1.items read.0 × ¬ IsGrownFrom text site.site)
         → IfErr result (λ fault. fault ≡ OtherTables → (text : List ℕ) → IsUtf8 text → ¬ IsShownText text read.1.items read.0)
         → Examines g site old new result (λ db. CanTake site.site db.trees)
@@ -199,4 +242,10 @@ module _ {S : Type 0} (g : Ghosts S) (site : TextOfSite) (old new : Held S) (cal
         (λ clean it. (grown.0, shown_tells grown.0 _ read.0 read.1.items it grown.1, grown.2))
     growth_judged (Err fault) grown others never = not_passed (Ok read) _ tests fault _
         (λ clean is. let it = others is in (Third, is_third clean, (it.0, shown_tells it.0 _ read.0 read.1.items (after clean) it.1, it.2)))
-        (λ clean is. inr (Third, is_third clean, inr (inr (inr (λ text utf tells. never is text utf (tells_shown text _ read.0 read.1.items (after clean) tells))))))
+        (λ clean is.
+        inr (
+          Third,
+          is_third clean,
+          inr (inr (inr (λ text utf tells.
+              never is text utf (tells_shown text _ read.0 read.1.items (after clean) tells)))),
+        ))

@@ -8,9 +8,9 @@ use Rattle.office_store.specs.declared.meta.Meta.{Meta}
 use Rattle.office_store.specs.declared.version.Version.{Version}
 use Rattle.office_store.specs.declared.version.Version.TheVariants.{First, Second, Third}
 use Rattle.office_store.specs.Adopting.{IsShownText}
-use Rattle.office_store.specs.Meta.{metas_in, new_meta, HoldsSite, IsMetaOf, IsTold}
+use Rattle.office_store.specs.Meta.{metas_in, new_meta, HoldsSite, IsMetaOf, HasMeta}
 use Rattle.office_store.specs.Texts.{ShowTexts}
-use Rattle.office_store.specs.Versions.{number_of}
+use Rattle.office_store.specs.Versions.{number_of_version}
 use Rattle.office_store.proofs.TextShows.{shown_text}
 
 schema_in : List Meta → ℕ
@@ -18,7 +18,9 @@ schema_in [] = 0
 schema_in (m ∷ _) = m.schema
 
 -- one version
-pub told_once : (version version2 : Version) (site other : List ℕ) (db : Trees) → IsTold version site db → IsTold version2 other db → number_of version ≡ number_of version2
+pub told_once : (version version2 : Version) (site other : List ℕ) (db : Trees)
+    → HasMeta version site db → HasMeta version2 other db
+    → number_of_version version ≡ number_of_version version2
 unfolding schema_in
 told_once version version2 site other db one two = ap schema_in (sym one ∙ two)
 
@@ -27,29 +29,33 @@ site_in [] = []
 site_in (m ∷ _) = m.site
 
 -- and one site
-pub site_once : (version version2 : Version) (site other : List ℕ) (db : Trees) → IsTold version site db → IsTold version2 other db → site ≡ other
+pub site_once : (version version2 : Version) (site other : List ℕ) (db : Trees) → HasMeta version site db → HasMeta version2 other db → site ≡ other
 unfolding site_in
 site_once version version2 site other db one two = ap site_in (sym one ∙ two)
 
 -- a store of an earlier version isn't of the third
-pub not_third : (version : Version) (site other : List ℕ) (db : Trees) → version ≢ Third → IsTold version site db → IsTold Third other db → ⊥
+pub not_third : (version : Version) (site other : List ℕ) (db : Trees) → version ≢ Third → HasMeta version site db → HasMeta Third other db → ⊥
 not_third First site other db earlier one two = let e : ◌≡◌ {A = ℕ} 1 3 = told_once First Third site other db one two in absurd (cc)
 not_third Second site other db earlier one two = let e : ◌≡◌ {A = ℕ} 2 3 = told_once Second Third site other db one two in absurd (cc)
 not_third Third site other db earlier one two = earlier refl
 
 -- and no version where there is no row
-pub not_silent : (version : Version) (site : List ℕ) (db : Trees) → metas_in db ≡ [] → IsTold version site db → ⊥
+pub not_silent : (version : Version) (site : List ℕ) (db : Trees) → metas_in db ≡ [] → HasMeta version site db → ⊥
 not_silent version site db silent told = let e = sym silent ∙ told in absurd (cc)
 
 -- rows that show a text beside the row of meta that names it are those of a store that tells of it
-pub shown_tells : (text : List ℕ) (db : Trees) (meta : Option Meta) (rows : List Row) → IsMetaOf (metas_in db) meta × ShowTexts db rows → IsShownText text rows meta → HoldsSite text db
+pub shown_tells : (text : List ℕ) (db : Trees) (meta : Option Meta) (rows : List Row)
+    → IsMetaOf (metas_in db) meta × ShowTexts db rows → IsShownText text rows meta
+    → HoldsSite text db
 shown_tells text db meta rows it shown = record {
   holds = (shown_text text db rows it.1).0 shown.0;
   named = subst (IsMetaOf (metas_in db)) shown.1 it.0;
 }
 
 -- and those of a store that tells of a text show it
-pub tells_shown : (text : List ℕ) (db : Trees) (meta : Option Meta) (rows : List Row) → IsMetaOf (metas_in db) meta × ShowTexts db rows → HoldsSite text db → IsShownText text rows meta
+pub tells_shown : (text : List ℕ) (db : Trees) (meta : Option Meta) (rows : List Row)
+    → IsMetaOf (metas_in db) meta × ShowTexts db rows → HoldsSite text db
+    → IsShownText text rows meta
 tells_shown text db meta rows it tells = ((shown_text text db rows it.1).1 tells.holds, named meta it.0)
   where
     named : (meta : Option Meta) → IsMetaOf (metas_in db) meta → meta ≡ Some (new_meta (sha256 text))

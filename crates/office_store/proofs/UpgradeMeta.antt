@@ -8,13 +8,13 @@ use Rattle.sqlite.specs.Tree.{Trees, has_rowid, put_row, rowid, without_rowid}
 use Rattle.sqlite.specs.State.{State, Executes}
 use Rattle.sqlite_value.proofs.OrderLemmas.{value_cmp_total}
 use Rattle.office_sql.specs.Schema.{office_schema}
-use Rattle.office_sql.specs.Values.{number_in}
+use Rattle.office_sql.specs.Values.{number_in_cell}
 use Rattle.office_sql.proofs.Told.{tell_text, told, name_text, named, write_text, written}
 use Rattle.office_store.specs.declared.meta.Meta.{Meta}
 use Rattle.office_store.specs.declared.version.Version.{Version}
 use Rattle.office_store.specs.declared.version.Version.TheVariants.{Third}
 use Rattle.office_store.specs.Growing.{ReplacesName}
-use Rattle.office_store.specs.Meta.{meta_in, meta_of_version, IsTold}
+use Rattle.office_store.specs.Meta.{meta_in, meta_of_version, HasMeta}
 use Rattle.office_store.specs.Texts.{HoldsText}
 use Rattle.office_store.specs.Upgrading.{PutsText, TellsItself, TellsThird}
 
@@ -28,7 +28,7 @@ alone (r ∷ []) m is = (r, refl, cc)
 alone (r ∷ s ∷ rows) m is = absurd (let two = is in cc)
 
 -- a number stands for itself alone, unless it is 0
-the_number : (n : ℕ) → n ≢ 0 → (v : Value) → number_in v ≡ n → v ≡ Int (pos n)
+the_number : (n : ℕ) → n ≢ 0 → (v : Value) → number_in_cell v ≡ n → v ≡ Int (pos n)
 the_number n some (Int (pos m)) e = ap (λ k. Int (pos k)) e
 the_number n some (Int (negsuc m)) e = absurd (some (sym e))
 the_number n some Null e = absurd (some (sym e))
@@ -50,7 +50,7 @@ site_in (m ∷ _) = m.site
 abbrev IsMetaRow : Version → List ℕ → List Row → Type 0
 IsMetaRow version site rows = (r : Row) × (rows ≡ r ∷ []) × (rowid r ≡ Int (pos 1)) × (meta_in r ≡ meta_of_version version site)
 
-meta_row : (version : Version) (site : List ℕ) (db : Trees) → IsTold version site db → IsMetaRow version site (db 0)
+meta_row : (version : Version) (site : List ℕ) (db : Trees) → HasMeta version site db → IsMetaRow version site (db 0)
 meta_row version site db is =
     let it = alone (db 0) (meta_of_version version site) is in
     (it.0, it.1, the_number 1 (λ e. cc) (column it.0 0) (ap (λ (m : Meta). m.id) it.2), it.2)
@@ -75,7 +75,7 @@ tells_third old new count has version itself ran =
     }
 
 -- another site is told
-pub names_site : (site : List ℕ) (old new : State) (count : ℕ) → old.now.schema ≡ office_schema → (older : List ℕ) → IsTold Third older old.now.trees
+pub names_site : (site : List ℕ) (old new : State) (count : ℕ) → old.now.schema ≡ office_schema → (older : List ℕ) → HasMeta Third older old.now.trees
     → Executes name_text (Bytes site ∷ []) old new (Ok count) → ReplacesName site old.now new.now
 names_site site old new count has older itself ran =
     let it = meta_row Third older old.now.trees itself in

@@ -11,9 +11,11 @@ use Rattle.sqlite.specs.Tree.{Trees}
 use Rattle.sqlite_keyed.specs.Lists.{sort_by}
 use Rattle.sqlite_trees.proofs.ListLemmas.{all_both}
 use Rattle.office_tables.specs.Tables.{seat_cmp, order_cmp, map_cmp, link_cmp, device_cmp, given_cmp, entry_cmp}
-use Rattle.office_sql.specs.Rows.{seat_in, map_in, link_in, order_in, device_in, given_in, entry_in, start_of, starts_order, starts_given, with_order_start, with_given_start}
+use Rattle.office_sql.specs.Rows.{seat_in_row, map_in_row, link_in_row, order_in_row, device_in_row, given_in_row, entry_in_row, start_in_rows}
+use Rattle.office_sql.specs.Rows.{starts_order, starts_given, with_order_start, with_given_start}
 use Rattle.office_sql.specs.Schema.{office_schema, order_start_table, given_start_table, site_text_table}
-use Rattle.office_sql.specs.Tables.{AreOfficeRows, AreRows, AreStarted, IsOffice, IsSeatRow, IsMapRow, IsLinkRow, IsOrderRow, IsDeviceRow, IsGivenRow, IsEntryRow, tables_in}
+use Rattle.office_sql.specs.Tables.{AreOfficeRows, AreRows, AreStarted, IsOffice, IsSeatRow, IsMapRow, IsLinkRow, IsOrderRow, IsDeviceRow}
+use Rattle.office_sql.specs.Tables.{IsGivenRow, IsEntryRow, tables_in}
 use Rattle.office_sql.proofs.Offices.{meta_changed, text_changed}
 use Rattle.office_sql.proofs.StartsFilled.{Starts, silent_start}
 use Rattle.sha2.specs.Sha256.{sha256}
@@ -21,21 +23,24 @@ use Rattle.office_store.specs.declared.version.Version.{Version}
 use Rattle.office_store.specs.declared.version.Version.TheVariants.{First, Second, Third}
 use Rattle.office_store.specs.Found.{HasStarts, IsFound}
 use Rattle.office_store.specs.Growing.{IsGrown, ReplacesName}
-use Rattle.office_store.specs.Meta.{meta_in, IsTold}
+use Rattle.office_store.specs.Meta.{meta_in, HasMeta}
 use Rattle.office_store.specs.Texts.{IsOnlyText}
-use Rattle.office_store.specs.Upgrading.{GainsLater, GainsNone, GainsNoStart, GainsText, IsFilled, IsUpgrade, KeepsAllBut, LacksGivenStarts, LacksOrderStarts, PutsText, TellsItself, TellsThird}
+use Rattle.office_store.specs.Upgrading.{GainsLater, GainsNone, GainsNoStart, GainsText, IsFilled, IsUpgrade, KeepsAllBut, LacksGivenStarts}
+use Rattle.office_store.specs.Upgrading.{LacksOrderStarts, PutsText, TellsItself, TellsThird}
 use Rattle.office_store.specs.Versions.{schema_of}
 use Rattle.office_store.proofs.CreateStarts.{all_front}
 
 -- what was filled says nothing
-pub gains_none : {A : Type 0} (is_for : A → Row → Bool) (value : Row → A) (tree side : ℕ) (old new : Database) → Starts value is_for tree side old new → GainsNone is_for value tree side old new
+pub gains_none : {A : Type 0} (is_for : A → Row → Bool) (value : Row
+    → A) (tree side : ℕ) (old new : Database) → Starts value is_for tree side old new
+    → GainsNone is_for value tree side old new
 gains_none is_for value tree side old new it = record { schema = it.schema; sound = it.sound; started = it.started; silent = it.silent; others = it.others }
 
 -- records are not filled with orders
-pub still_lacks_given : (y mid : Database) → GainsNone starts_order order_in 7 17 y mid → LacksGivenStarts y → LacksGivenStarts mid
+pub still_lacks_given : (y mid : Database) → GainsNone starts_order order_in_row 7 17 y mid → LacksGivenStarts y → LacksGivenStarts mid
 still_lacks_given y mid orders lacks = record {
   schema = orders.schema;
-  rows = subst (AreRows IsGivenRow given_cmp given_in) (sym (orders.others.1.1.1.1.1.1.0 (eqb-false _ _ refl))) lacks.rows;
+  rows = subst (AreRows IsGivenRow given_cmp given_in_row) (sym (orders.others.1.1.1.1.1.1.0 (eqb-false _ _ refl))) lacks.rows;
   none = orders.others.1.1.1.1.1.1.1.1.1.0 (eqb-false _ _ refl) ∙ lacks.none;
 }
 
@@ -44,50 +49,60 @@ module _ (old new : Trees) (same : KeepsRows (schema_of First).tables old new) w
   -- they are as the office has them
   office_rows : AreOfficeRows old → AreOfficeRows new
   office_rows rows = record {
-    seats = subst (AreRows IsSeatRow seat_cmp seat_in) (sym same.1.0) rows.seats;
-    maps = subst (AreRows IsMapRow map_cmp map_in) (sym same.1.1.0) rows.maps;
-    links = subst (AreRows IsLinkRow link_cmp link_in) (sym same.1.1.1.0) rows.links;
-    orders = subst (AreRows IsOrderRow order_cmp order_in) (sym same.1.1.1.1.0) rows.orders;
-    devices = subst (AreRows IsDeviceRow device_cmp device_in) (sym same.1.1.1.1.1.0) rows.devices;
-    given = subst (AreRows IsGivenRow given_cmp given_in) (sym same.1.1.1.1.1.1.0) rows.given;
-    ledger = subst (AreRows IsEntryRow entry_cmp entry_in) (sym same.1.1.1.1.1.1.1.0) rows.ledger;
+    seats = subst (AreRows IsSeatRow seat_cmp seat_in_row) (sym same.1.0) rows.seats;
+    maps = subst (AreRows IsMapRow map_cmp map_in_row) (sym same.1.1.0) rows.maps;
+    links = subst (AreRows IsLinkRow link_cmp link_in_row) (sym same.1.1.1.0) rows.links;
+    orders = subst (AreRows IsOrderRow order_cmp order_in_row) (sym same.1.1.1.1.0) rows.orders;
+    devices = subst (AreRows IsDeviceRow device_cmp device_in_row) (sym same.1.1.1.1.1.0) rows.devices;
+    given = subst (AreRows IsGivenRow given_cmp given_in_row) (sym same.1.1.1.1.1.1.0) rows.given;
+    ledger = subst (AreRows IsEntryRow entry_cmp entry_in_row) (sym same.1.1.1.1.1.1.1.0) rows.ledger;
   }
 
   -- and say what they said, if the beginnings of validity do
   tables_same : with_order_start (new 17) ≡ with_order_start (old 17) → with_given_start (new 19) ≡ with_given_start (old 19) → tables_in new ≡ tables_in old
   tables_same of_orders of_given i = record {
-    seats = sort_by seat_cmp (map seat_in (same.1.0 i));
-    orders = map (of_orders i) (sort_by order_cmp (map order_in (same.1.1.1.1.0 i)));
-    devices = sort_by device_cmp (map device_in (same.1.1.1.1.1.0 i));
-    given = map (of_given i) (sort_by given_cmp (map given_in (same.1.1.1.1.1.1.0 i)));
-    maps = sort_by map_cmp (map map_in (same.1.1.0 i));
-    links = sort_by link_cmp (map link_in (same.1.1.1.0 i));
-    ledger = sort_by entry_cmp (map entry_in (same.1.1.1.1.1.1.1.0 i));
+    seats = sort_by seat_cmp (map seat_in_row (same.1.0 i));
+    orders = map (of_orders i) (sort_by order_cmp (map order_in_row (same.1.1.1.1.0 i)));
+    devices = sort_by device_cmp (map device_in_row (same.1.1.1.1.1.0 i));
+    given = map (of_given i) (sort_by given_cmp (map given_in_row (same.1.1.1.1.1.1.0 i)));
+    maps = sort_by map_cmp (map map_in_row (same.1.1.0 i));
+    links = sort_by link_cmp (map link_in_row (same.1.1.1.0 i));
+    ledger = sort_by entry_cmp (map entry_in_row (same.1.1.1.1.1.1.1.0 i));
   }
 
 -- starts that say nothing say as much as none
 as_none : {A : Type 0} (is_for : A → Row → Bool) (starts none : List Row) (a : A) → AllByRecursion (λ s. column s 3 ≡ Null) starts
-    → none ≡ [] → start_of is_for starts a ≡ start_of is_for none a
-as_none is_for starts none a silent empty = silent_start is_for starts a silent ∙ sym (ap (λ l. start_of is_for l a) empty)
+    → none ≡ [] → start_in_rows is_for starts a ≡ start_in_rows is_for none a
+as_none is_for starts none a silent empty = silent_start is_for starts a silent ∙ sym (ap (λ l. start_in_rows is_for l a) empty)
 
 -- ---- a database of the first version
 
 module _ (x y : Database) (found : IsFound First x) (gains : GainsLater x y) where
   -- once the tables are made, they can be filled
   pub lacks_orders : LacksOrderStarts y
-  lacks_orders = record { schema = gains.schema; rows = subst (AreRows IsOrderRow order_cmp order_in) (sym gains.others.1.1.1.1.0) found.rows.orders; none = gains.orders }
+  lacks_orders = record {
+    schema = gains.schema;
+    rows = subst (AreRows IsOrderRow order_cmp order_in_row)
+        (sym gains.others.1.1.1.1.0) found.rows.orders;
+    none = gains.orders;
+  }
 
   pub lacks_given : LacksGivenStarts y
-  lacks_given = record { schema = gains.schema; rows = subst (AreRows IsGivenRow given_cmp given_in) (sym gains.others.1.1.1.1.1.1.0) found.rows.given; none = gains.given }
+  lacks_given = record {
+    schema = gains.schema;
+    rows = subst (AreRows IsGivenRow given_cmp given_in_row)
+        (sym gains.others.1.1.1.1.1.1.0) found.rows.given;
+    none = gains.given;
+  }
 
   module _ (z : Database) (fills : GainsNoStart y z) where
     abbrev mid : Database
     mid = fills.mid
 
-    abbrev orders : GainsNone starts_order order_in 7 17 y mid
+    abbrev orders : GainsNone starts_order order_in_row 7 17 y mid
     orders = fills.orders
 
-    abbrev given : GainsNone starts_given given_in 11 19 mid z
+    abbrev given : GainsNone starts_given given_in_row 11 19 mid z
     given = fills.given
 
     rows_stand : KeepsRows (schema_of First).tables x.trees z.trees
@@ -132,9 +147,9 @@ module _ (x y : Database) (found : IsFound First x) (gains : GainsLater x y) whe
         schema = given.schema;
         sound = given.sound;
         rows = office_rows x.trees z.trees rows_stand found.rows;
-        orders_started = subst₂ (AreStarted starts_order order_in)
+        orders_started = subst₂ (AreStarted starts_order order_in_row)
             (sym (given.others.1.1.1.1.0 (eqb-false _ _ refl) ∙ orders.others.1.1.1.1.0 (eqb-false _ _ refl))) (sym order_starts) orders.started;
-        given_started = subst (λ l. AreStarted starts_given given_in l (z.trees 19)) (sym (given.others.1.1.1.1.1.1.0 (eqb-false _ _ refl))) given.started;
+        given_started = subst (λ l. AreStarted starts_given given_in_row l (z.trees 19)) (sym (given.others.1.1.1.1.1.1.0 (eqb-false _ _ refl))) given.started;
       };
       tables = tables_same x.trees z.trees rows_stand no_order_starts no_given_starts;
       rows = rows_stand;
@@ -153,8 +168,8 @@ second_filled x z found starts gains =
         schema = gains.schema;
         sound = gains.sound;
         rows = office_rows x.trees z.trees first found.rows;
-        orders_started = subst₂ (AreStarted starts_order order_in) (sym same.1.1.1.1.0) (sym same.1.1.1.1.1.1.1.1.0) started.orders;
-        given_started = subst₂ (AreStarted starts_given given_in) (sym same.1.1.1.1.1.1.0) (sym same.1.1.1.1.1.1.1.1.1.0) started.given;
+        orders_started = subst₂ (AreStarted starts_order order_in_row) (sym same.1.1.1.1.0) (sym same.1.1.1.1.1.1.1.1.0) started.orders;
+        given_started = subst₂ (AreStarted starts_given given_in_row) (sym same.1.1.1.1.1.1.0) (sym same.1.1.1.1.1.1.1.1.1.0) started.given;
       };
       tables = tables_same x.trees z.trees first (ap with_order_start same.1.1.1.1.1.1.1.1.0) (ap with_given_start same.1.1.1.1.1.1.1.1.1.0);
       rows = same;
@@ -177,7 +192,7 @@ module _ (version : Version) (x z u : Database) (filled : IsFilled version x z) 
   pub tells_still : TellsItself version x.trees → TellsItself version u.trees
   tells_still told = (told.0, ap (map meta_in) meta_same ∙ told.1)
 
-  told_before : (site : List ℕ) → IsTold version site x.trees → IsTold version site u.trees
+  told_before : (site : List ℕ) → HasMeta version site x.trees → HasMeta version site u.trees
   told_before site told = ap (map meta_in) meta_same ∙ told
 
 -- what a text, a number and what was made before leave

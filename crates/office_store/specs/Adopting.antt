@@ -24,7 +24,7 @@ use Rattle.office_store.specs.declared.fault.OpenFault.TheVariants.{OtherSite, O
 use Rattle.office_store.specs.declared.version.Version.{Version}
 use Rattle.office_store.specs.declared.version.Version.TheVariants.{First, Second, Third}
 use Rattle.office_store.specs.Found.{HasStarts, HasWhole, IsFound}
-use Rattle.office_store.specs.Meta.{metas_in, HasNothing, HoldsSite, IsBegun, IsTold, TellNoSite, new_meta}
+use Rattle.office_store.specs.Meta.{metas_in, HasNothing, HoldsSite, IsBegun, HasMeta, TellNoSite, new_meta}
 use Rattle.office_store.specs.Growing.{IsGrown}
 use Rattle.office_store.specs.Texts.{IsGrownFrom, IsOnlyText}
 use Rattle.office_store.specs.declared.meta.Meta.{Meta}
@@ -38,16 +38,16 @@ FindsVersion db =
 
 -- no transaction is under way and what was committed is shown; a schema of a version is that of a
 -- database of the version, if no number is below zero; and with no schema there is no row
-pub record CanSettle (s : State) : Type 0 where
+pub record CanPrepareTables (s : State) : Type 0 where
   pub mode : s.in_transaction ≡ false
-  pub settled : HasCleanDisk s → s.now ≡ s.committed
+  pub shows_committed : HasCleanDisk s → s.now ≡ s.committed
   pub found : HasCleanDisk s → FindsVersion s.now
   pub bare : HasCleanDisk s → s.now.schema ≡ no_schema → HasNothing s.now.trees
 
 -- the same once its numbers were tested
 pub record IsFoundAt (version : Version) (s : State) : Type 0 where
   pub mode : s.in_transaction ≡ false
-  pub settled : HasCleanDisk s → s.now ≡ s.committed
+  pub shows_committed : HasCleanDisk s → s.now ≡ s.committed
   pub found : HasCleanDisk s → IsFound version s.now
 
 -- the store tells of a text that has this SHA-256
@@ -63,7 +63,7 @@ IsOfSite site db = IsOffice (office_over db) × IsOurs site db
 -- meta tells this version and another site, which is 32 bytes too
 abbrev pub TellsOther : Version → List ℕ → Trees → Type 0
 TellsOther version site db =
-    (other : List ℕ) × (length other ≡ 32) × IsTold version other db × (other ≢ site)
+    (other : List ℕ) × (length other ≡ 32) × HasMeta version other db × (other ≢ site)
 
 -- the store tells of a text of which the site is no growth
 abbrev pub HoldsOther : SiteValue → Trees → Type 0
@@ -87,7 +87,7 @@ IsOtherSchema schema = (schema ≢ no_schema) × IsOfNoVersion schema
 -- the third
 abbrev pub AreStartsAsked : List ℕ → Version → Trees → Type 0
 AreStartsAsked site First db = ⊥
-AreStartsAsked site Second db = IsTold Second site db
+AreStartsAsked site Second db = HasMeta Second site db
 AreStartsAsked site Third db = ⊤
 
 -- and not each is told
@@ -123,7 +123,7 @@ pub record IsRefusedFor (site : TextOfSite) (s : State) (fault : OpenFault) : Ty
 -- crash leaves nothing new
 pub record Examines {S : Type 0} (g : Ghosts S) (site : TextOfSite) (old new : Held S)
     (result : Result (Unit {0}) OpenFault) (Says : Database → Type 0) : Type 0 where
-  pub says : HasCleanDisk (state g new) → OnOk result (Says (state g old).now)
+  pub answer : HasCleanDisk (state g new) → OnOk result (Says (state g old).now)
   pub same : HasCleanDisk (state g new) → OnOk result (IsUnchanged (state g old) (state g new))
   pub rests : HasCleanDisk (state g new) → Rests (state g old) (state g new)
   pub mode : new.in_transaction ≡ false
@@ -137,7 +137,7 @@ IsMadeFor text before db = (tables_in before.committed.trees ≡ no_rows) × IsB
 -- the tables of a store of an earlier version and this site, upgraded, whole
 abbrev pub IsUpgradedFor : List ℕ → State → Trees → Type 0
 IsUpgradedFor text before db =
-    (version : Version) × (version ≢ Third) × IsTold version (sha256 text) before.committed.trees
+    (version : Version) × (version ≢ Third) × HasMeta version (sha256 text) before.committed.trees
     × IsUpgrade version text before.committed.trees (office_over db)
 
 -- the store told of a text of which the site is a growth
@@ -154,8 +154,8 @@ IsGrownFor site before db =
     CanTake site.site before.committed.trees × IsGrown site.text before.committed.trees (office_over db)
 
 -- what the one transaction may leave
-abbrev pub IsSettledFor : TextOfSite → State → Trees → Type 0
-IsSettledFor site before db =
+abbrev pub IsPreparedFor : TextOfSite → State → Trees → Type 0
+IsPreparedFor site before db =
     IsMadeFor site.text before db ⊎ IsUpgradedFor site.text before db ⊎ IsGrownFor site before db
 
 -- no order and no record has a beginning of validity
@@ -166,7 +166,7 @@ AreUnstarted t =
 
 -- of a store of the first version there are none in these tables
 abbrev pub StaysUnstarted : Trees → Tables → Type 0
-StaysUnstarted before t = (site : List ℕ) → IsTold First site before → AreUnstarted t
+StaysUnstarted before t = (site : List ℕ) → HasMeta First site before → AreUnstarted t
 
 -- rows that show this text alone, beside a row of meta that names it
 abbrev pub IsShownText : List ℕ → List Row → Option Meta → Type 0
@@ -179,13 +179,13 @@ TakesGrowth site before = (older : List ℕ) → HoldsSite older before → IsGr
 -- where a store of an earlier version told of itself, it told the SHA-256 of this text
 abbrev pub TakesOwn : List ℕ → Trees → Type 0
 TakesOwn text before =
-    (version : Version) (other : List ℕ) → version ≢ Third → IsTold version other before → other ≡ sha256 text
+    (version : Version) (other : List ℕ) → version ≢ Third → HasMeta version other before → other ≡ sha256 text
 
 -- an answer leaves the connection open and ready, with the tables that it had, and of the first
 -- version with no beginning of validity; the store tells of the site's text, and told of none of
 -- which the site is no growth, and in an earlier version of this one; a fault leaves what was
 -- committed; and a crash leaves what it left before, or what the one transaction makes
-pub record Settles {S : Type 0} (g : Ghosts S) (site : TextOfSite) (old new : Held S)
+pub record PreparesTables {S : Type 0} (g : Ghosts S) (site : TextOfSite) (old new : Held S)
     (result : Result (Unit {0}) OpenFault) : Type 0 where
   pub mode : new.in_transaction ≡ false
   pub ready : HasCleanDisk (state g new) → OnOk result (IsTrue (state g new).is_open × IsReady (state g new))
@@ -198,13 +198,13 @@ pub record Settles {S : Type 0} (g : Ghosts S) (site : TextOfSite) (old new : He
   pub refused : IfErr result (IsRefusedFor site (state g new))
   pub unchanged : HasCleanDisk (state g new)
       → IfErr result (λ _. KeepsCommit (state g old) (state g new))
-  pub crash : Survives (state g old) (state g new) (IsSettledFor site (state g old))
+  pub crash : Survives (state g old) (state g new) (IsPreparedFor site (state g old))
 
 -- a crash after leaves what one before left, or what the one transaction makes: the tables of a
 -- store that had none, those of an upgraded one, or those of one with a new text, whole
 abbrev pub LeavesAtMost : TextOfSite → State → State → Type 0
 LeavesAtMost site before after =
-    (db : Trees) → after.may_leave db → before.may_leave db ⊎ IsSettledFor site before db
+    (db : Trees) → after.may_leave db → before.may_leave db ⊎ IsPreparedFor site before db
 
 module _ {S : Type 0} (g : Ghosts S) where
   -- the same of a connection that is handed back; a store that is handed back leaves what was left before

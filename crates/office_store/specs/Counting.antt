@@ -1,10 +1,10 @@
 -- The numbers of places that a keeper keeps, and when they are right.
 use Rattle.std.specs.Prelude.{◌≡◌, ℕ, List, Bool, false, Option, Some, ◌&&◌, bytes_eq, not, option_map, unwrap_or}
 use Rattle.std.specs.BTreeMap.{get}
-use Rattle.office_tables.specs.declared.rows.Owned.{Owned}
+use Rattle.office_tables.specs.declared.rows.OfCustomer.{OfCustomer}
 use Rattle.office_tables.specs.declared.rows.Device.{Device}
 use Rattle.office_tables.specs.OrderPlaces.{is_given_up, places_taken}
-use Rattle.office_tables.specs.Tables.{own, text_cmp}
+use Rattle.office_tables.specs.Tables.{rows_of, text_cmp}
 use Rattle.office_sql.specs.declared.devices.OrderState.{OrderState}
 use Rattle.office_store.specs.declared.places.OrderPlaces.{OrderPlaces}
 use Rattle.office_store.specs.declared.places.PlaceCounts.{PlaceCounts}
@@ -14,8 +14,8 @@ abbrev pub number_at : List ℕ → OrderPlaces → ℕ
 number_at order p = unwrap_or (get text_cmp p.numbers order) 0
 
 -- the number of a customer's order, if the customer was counted
-abbrev pub count_at : List ℕ → List ℕ → PlaceCounts → Option ℕ
-count_at customer order p = option_map (number_at order) (get text_cmp p.customers customer)
+abbrev pub count_if_counted : List ℕ → List ℕ → PlaceCounts → Option ℕ
+count_if_counted customer order p = option_map (number_at order) (get text_cmp p.customers customer)
 
 -- a device in this state takes a place of the order
 abbrev pub takes : List ℕ → OrderState → Bool
@@ -23,7 +23,7 @@ takes order s = bytes_eq order s.order && not (is_given_up s.state)
 
 -- each number that is kept is what a count gives for its customer and order
 abbrev pub AreCounts : (List ℕ → List ℕ → ℕ) → PlaceCounts → Type 0
-AreCounts count p = (customer order : List ℕ) (number : ℕ) → count_at customer order p ≡ Some number → number ≡ count customer order
+AreCounts count p = (customer order : List ℕ) (number : ℕ) → count_if_counted customer order p ≡ Some number → number ≡ count customer order
 
 -- two counts agree on all customers but one
 abbrev pub AgreeOff : List ℕ → (List ℕ → List ℕ → ℕ) → (List ℕ → List ℕ → ℕ) → Type 0
@@ -34,5 +34,5 @@ abbrev pub AgreeBut : List ℕ → List ℕ → (List ℕ → List ℕ → ℕ) 
 AgreeBut customer order was count = (c o : List ℕ) → (bytes_eq c customer && bytes_eq o order) ≡ false → count c o ≡ was c o
 
 -- each number is the number of devices that take a place of its order
-abbrev pub AreRight : List (Owned Device) → PlaceCounts → Type 0
-AreRight rows = AreCounts (λ customer order. places_taken order (own customer rows))
+abbrev pub AreRight : List (OfCustomer Device) → PlaceCounts → Type 0
+AreRight rows = AreCounts (λ customer order. places_taken order (rows_of customer rows))

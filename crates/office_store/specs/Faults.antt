@@ -4,7 +4,7 @@ use Rattle.office_store.specs.declared.fault.OpenFault.{OpenFault}
 use Rattle.office_store.specs.declared.fault.OpenFault.TheVariants.{OtherSite, OtherTables, Failed}
 
 -- its number in the program's line
-abbrev pub fault_number : OpenFault → ℕ
-fault_number OtherSite = 1
-fault_number OtherTables = 2
-fault_number Failed = 3
+abbrev pub open_fault_number : OpenFault → ℕ
+open_fault_number OtherSite = 1
+open_fault_number OtherTables = 2
+open_fault_number Failed = 3

@@ -13,7 +13,7 @@ use Rattle.sqlite.specs.Held.{Held, state}
 use Rattle.sqlite.specs.State.{State, HasCleanDisk, IsUnchanged, Survives}
 use Rattle.office_sql.specs.Change.{Rests}
 use Rattle.sqlite.specs.Effect.{Database, IsDatabase}
-use Rattle.office_sql.specs.Rows.{order_in, given_in, starts_order, starts_given}
+use Rattle.office_sql.specs.Rows.{order_in_row, given_in_row, starts_order, starts_given}
 use Rattle.office_sql.specs.Tables.{AreOfficeRows, AreStarted}
 use Rattle.office_store.specs.declared.version.Version.{Version}
 use Rattle.office_store.specs.declared.version.Version.TheVariants.{First, Second, Third}
@@ -32,8 +32,8 @@ pub record HasWhole (trees : Trees) : Type 0 where
   pub numbers : AllByRecursion (IsNotBelow 4) (trees 15)
 
 -- an open connection has the schema of a version
-abbrev pub HasSchema : State → Type 0
-HasSchema s = IsTrue s.is_open → (version : Version) × (s.now.schema ≡ schema_of version)
+abbrev pub HasVersionSchema : State → Type 0
+HasVersionSchema s = IsTrue s.is_open → (version : Version) × (s.now.schema ≡ schema_of version)
 
 -- one of the starts, at least, is for the row
 abbrev pub HasStart : {A : Type 0} → (A → Row → Bool) → (Row → A) → List Row → Row → Type 0
@@ -44,13 +44,13 @@ HaveStarts is_for value rows starts = AllByRecursion (HasStart is_for value star
 
 -- each order and each record has its beginning of validity told
 pub record HasStarts (trees : Trees) : Type 0 where
-  pub orders : HaveStarts starts_order order_in (trees 7) (trees 17)
-  pub given : HaveStarts starts_given given_in (trees 11) (trees 19)
+  pub orders : HaveStarts starts_order order_in_row (trees 7) (trees 17)
+  pub given : HaveStarts starts_given given_in_row (trees 11) (trees 19)
 
 -- each order and each record has exactly one
 pub record AreAllStarted (trees : Trees) : Type 0 where
-  pub orders : AreStarted starts_order order_in (trees 7) (trees 17)
-  pub given : AreStarted starts_given given_in (trees 11) (trees 19)
+  pub orders : AreStarted starts_order order_in_row (trees 7) (trees 17)
+  pub given : AreStarted starts_given given_in_row (trees 11) (trees 19)
 
 -- beside the office's rows: in the first version no beginning of validity is told, and in the
 -- others, where none lacks, each order and each record has exactly one
@@ -76,7 +76,7 @@ Sees Says s = IsTrue s.is_open → Says s.now
 
 -- a test: an answer says this of the trees, nothing is changed, and a crash leaves nothing new
 pub record Tests {S A E : Type 0} (g : Ghosts S) (old new : Held S) (result : Result A E) (Says : Trees → A → Type 0) : Type 0 where
-  pub says : HasCleanDisk (state g new) → IfOk result (Says (state g old).now.trees)
+  pub answer : HasCleanDisk (state g new) → IfOk result (Says (state g old).now.trees)
   pub same : HasCleanDisk (state g new) → OnOk result (IsUnchanged (state g old) (state g new))
   pub rests : HasCleanDisk (state g new) → Rests (state g old) (state g new)
   pub mode : old.in_transaction ≡ false → new.in_transaction ≡ false

@@ -8,13 +8,13 @@ use Rattle.office_sql.specs.Change.{SameBut}
 use Rattle.office_sql.specs.Schema.{office_schema}
 use Rattle.office_sql.specs.Tables.{IsOffice, tables_in}
 use Rattle.office_store.specs.declared.version.Version.TheVariants.{Third}
-use Rattle.office_store.specs.Meta.{HoldsSite, IsTold}
+use Rattle.office_store.specs.Meta.{HoldsSite, HasMeta}
 
 -- another site is told, and no other table changes
 pub record ReplacesName (site : List ℕ) (old new : Database) : Type 0 where
   pub schema : new.schema ≡ office_schema
   pub sound : IsDatabase new
-  pub told : IsTold Third site new.trees
+  pub told : HasMeta Third site new.trees
   pub others : SameBut 0 old.trees new.trees
 
 -- each row but the text and that of meta stands, and the tables say what they said; the store tells

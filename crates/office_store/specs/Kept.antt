@@ -9,4 +9,6 @@ pub record Kept (S : Type 0) : Type 0 where
   pub site : List ℕ
 
 abbrev pub kept_code : {S : Type 0} → Coded S → Coded (Kept S)
-kept_code {S} store = code_by (Held S × List ℕ) (coded× (held_code store) (coded_list coded_ℕ)) (λ k. (k.conn, k.site)) (λ p. record { conn = p.0; site = p.1 }) (λ _. refl)
+kept_code {S} store = code_by (Held S
+    × List ℕ) (coded× (held_code store) (coded_list coded_ℕ)) (λ k. (k.conn, k.site)) (λ p.
+    record { conn = p.0; site = p.1 }) (λ _. refl)

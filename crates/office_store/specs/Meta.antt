@@ -12,13 +12,13 @@ use Rattle.office_store.specs.declared.version.Version.{Version}
 use Rattle.office_store.specs.declared.version.Version.TheVariants.{Third}
 use Rattle.sha2.specs.Sha256.{sha256}
 use Rattle.office_store.specs.Texts.{HoldsText}
-use Rattle.office_store.specs.Versions.{first_tables, number_of}
-use Rattle.office_sql.specs.Values.{number_in}
+use Rattle.office_store.specs.Versions.{first_tables, number_of_version}
+use Rattle.office_sql.specs.Values.{number_in_cell}
 use Rattle.office_sql.specs.Tables.{IsBlob, IsOffice, tables_in}
 
 -- meta: id, schema, site. The id is the rowid
 abbrev pub meta_in : Row → Meta
-meta_in r = record { id = number_in (column r 0); schema = number_in (column r 2); site = bytes (column r 3) }
+meta_in r = record { id = number_in_cell (column r 0); schema = number_in_cell (column r 2); site = bytes (column r 3) }
 
 abbrev pub metas_in : Trees → List Meta
 metas_in db = map meta_in (db 0)
@@ -39,20 +39,20 @@ pub record HasNothing (db : Trees) : Type 0 where
 
 -- the row by which a store of a version tells of itself
 abbrev pub meta_of_version : Version → List ℕ → Meta
-meta_of_version version site = record { id = 1; schema = number_of version; site = site }
+meta_of_version version site = record { id = 1; schema = number_of_version version; site = site }
 
 -- the row that a new store has
 abbrev pub new_meta : List ℕ → Meta
 new_meta = meta_of_version Third
 
 -- the store has one row of meta, of this version and this site
-abbrev pub IsTold : Version → List ℕ → Trees → Type 0
-IsTold version site db = metas_in db ≡ meta_of_version version site ∷ []
+abbrev pub HasMeta : Version → List ℕ → Trees → Type 0
+HasMeta version site db = metas_in db ≡ meta_of_version version site ∷ []
 
 -- the store tells of this text of its site: it holds the text, and meta its SHA-256
 pub record HoldsSite (text : List ℕ) (db : Trees) : Type 0 where
   pub holds : HoldsText text db
-  pub named : IsTold Third (sha256 text) db
+  pub named : HasMeta Third (sha256 text) db
 
 -- whatever the site, which is 32 bytes, they aren't the one row of its store of this version
 abbrev pub TellNoSite : Version → List Meta → Type 0
@@ -69,7 +69,7 @@ abbrev pub half_schema : Schema
 half_schema = first_tables 4 3
 
 -- a database with these tables, and no row
-pub record IsNew (schema : Schema) (db : Database) : Type 0 where
+pub record HasEmptyTables (schema : Schema) (db : Database) : Type 0 where
   pub is : db.schema ≡ schema
   pub empty : AllByRecursion (λ t. db.trees t.tree ≡ []) schema.tables
 

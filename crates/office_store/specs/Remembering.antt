@@ -5,8 +5,8 @@ use Rattle.sqlite.specs.Held.{Held, state}
 use Rattle.sqlite.specs.Tree.{Trees}
 use Rattle.fusemap_core.specs.Map.{Map}
 use Rattle.fusemap_core.specs.MapText.{map_in}
-use Rattle.map_shelf.specs.Numbers.{AreNumbered}
-use Rattle.office_tables.specs.declared.rows.Owned.{Owned}
+use Rattle.map_shelf.specs.Numbers.{AreMapsOfNumbers}
+use Rattle.office_tables.specs.declared.rows.OfCustomer.{OfCustomer}
 use Rattle.office_tables.specs.declared.rows.Device.{Device}
 use Rattle.office_tables.specs.Tables.{is_device, map_at, Tables}
 use Rattle.office_sql.specs.Keeping.{IsReady}
@@ -17,7 +17,7 @@ use Rattle.office_store.specs.declared.written.DeviceAnswer.{DeviceAnswer}
 use Rattle.office_store.specs.declared.remembered.Remembered.{Remembered}
 
 -- the answer is what the rows have for its key
-abbrev pub IsAnswer : Option DeviceAnswer → List (Owned Device) → Type 0
+abbrev pub IsAnswer : Option DeviceAnswer → List (OfCustomer Device) → Type 0
 IsAnswer None rows = Unit {0}
 IsAnswer (Some a) rows = find (is_device a.customer a.chip) rows ≡ a.row
 
@@ -33,10 +33,10 @@ StayMapped old new = (id : ℕ) (map : Map) → fuse_map_at old id ≡ Some map 
 pub record Agrees (r : Remembered) (t : Tables) : Type 0 where
   pub places : AreRight t.devices r.places
   pub device : IsAnswer r.device t.devices
-  pub maps : AreNumbered (fuse_map_at t) r.maps
+  pub maps : AreMapsOfNumbers (fuse_map_at t) r.maps
 
 -- the connection is ready, while it is open what is remembered is right, and whatever a crash leaves is a store of the site
-pub record IsKept {S : Type 0} (g : Ghosts S) (conn : Held S) (site : List ℕ) (remembered : Remembered) : Type 0 where
+pub record RemembersRight {S : Type 0} (g : Ghosts S) (conn : Held S) (site : List ℕ) (remembered : Remembered) : Type 0 where
   pub ready : IsReady (state g conn)
   pub right : is_open_at g conn → Agrees remembered (tables_of g conn)
   pub left : is_honest_at g conn → (db : Trees) → (state g conn).may_leave db → IsOfSite site db

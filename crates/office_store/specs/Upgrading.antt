@@ -11,12 +11,12 @@ use Rattle.sqlite.specs.State.{State}
 use Rattle.office_tables.specs.Tables.{order_cmp, given_cmp}
 use Rattle.office_sql.specs.Change.{SameBut}
 use Rattle.office_sql.specs.Schema.{office_schema}
-use Rattle.office_sql.specs.Rows.{order_in, given_in, starts_order, starts_given}
+use Rattle.office_sql.specs.Rows.{order_in_row, given_in_row, starts_order, starts_given}
 use Rattle.office_sql.specs.Tables.{AreRows, AreStarted, IsGivenRow, IsOffice, IsOrderRow, tables_in}
 use Rattle.office_store.specs.declared.version.Version.{Version}
 use Rattle.office_store.specs.declared.version.Version.TheVariants.{First, Second, Third}
 use Rattle.office_store.specs.Found.{HasStarts, IsFound, Sees}
-use Rattle.office_store.specs.Meta.{IsTold}
+use Rattle.office_store.specs.Meta.{HasMeta}
 use Rattle.office_store.specs.Texts.{HoldsText}
 use Rattle.office_store.specs.Versions.{schema_of}
 
@@ -50,13 +50,13 @@ pub record GainsLater (old new : Database) : Type 0 where
 -- orders, of none of which a beginning of validity is told
 pub record LacksOrderStarts (db : Database) : Type 0 where
   pub schema : db.schema ≡ office_schema
-  pub rows : AreRows IsOrderRow order_cmp order_in (db.trees 7)
+  pub rows : AreRows IsOrderRow order_cmp order_in_row (db.trees 7)
   pub none : db.trees 17 ≡ []
 
 -- the same of records
 pub record LacksGivenStarts (db : Database) : Type 0 where
   pub schema : db.schema ≡ office_schema
-  pub rows : AreRows IsGivenRow given_cmp given_in (db.trees 11)
+  pub rows : AreRows IsGivenRow given_cmp given_in_row (db.trees 11)
   pub none : db.trees 19 ≡ []
 
 -- of each row it is told that it has no beginning of validity, and no other table changes
@@ -71,8 +71,8 @@ pub record GainsNone {A : Type 0} (is_for : A → Row → Bool) (value : Row →
 -- of orders, and then of records
 pub record GainsNoStart (old new : Database) : Type 0 where
   pub mid : Database
-  pub orders : GainsNone starts_order order_in 7 17 old mid
-  pub given : GainsNone starts_given given_in 11 19 mid new
+  pub orders : GainsNone starts_order order_in_row 7 17 old mid
+  pub given : GainsNone starts_given given_in_row 11 19 mid new
 
 -- what a database of an earlier version lacks is there, but the site's text: each row stands, the
 -- tables say what they said, and all is as the office has it
@@ -93,19 +93,19 @@ pub record PutsText (text : List ℕ) (old new : Database) : Type 0 where
 pub record TellsThird (old new : Database) : Type 0 where
   pub schema : new.schema ≡ office_schema
   pub sound : IsDatabase new
-  pub told : (version : Version) → (site : List ℕ) → IsTold version site old.trees → IsTold Third site new.trees
+  pub told : (version : Version) → (site : List ℕ) → HasMeta version site old.trees → HasMeta Third site new.trees
   pub others : SameBut 0 old.trees new.trees
 
 -- a store of a version tells of itself, whatever its site
 abbrev pub TellsItself : Version → Trees → Type 0
-TellsItself version db = (site : List ℕ) × IsTold version site db
+TellsItself version db = (site : List ℕ) × HasMeta version site db
 
 -- each row but that of meta stands, and the tables say what they said; the third version is told of
 -- the same site, of which the text is held; and all is as the office has it
 pub record IsUpgrade (version : Version) (text : List ℕ) (old : Trees) (new : Database) : Type 0 where
   pub rows : KeepsAllBut 0 (schema_of version).tables old new.trees
   pub tables : tables_in new.trees ≡ tables_in old
-  pub told : (site : List ℕ) → IsTold version site old → IsTold Third site new.trees
+  pub told : (site : List ℕ) → HasMeta version site old → HasMeta Third site new.trees
   pub holds : HoldsText text new.trees
   pub office : IsOffice new
 

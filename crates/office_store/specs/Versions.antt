@@ -5,10 +5,10 @@ use Rattle.office_sql.specs.Schema.{office_schema}
 use Rattle.office_store.specs.declared.version.Version.{Version}
 use Rattle.office_store.specs.declared.version.Version.TheVariants.{First, Second, Third}
 
-abbrev pub number_of : Version → ℕ
-number_of First = 1
-number_of Second = 2
-number_of Third = 3
+abbrev pub number_of_version : Version → ℕ
+number_of_version First = 1
+number_of_version Second = 2
+number_of_version Third = 3
 
 -- the first tables of the office with their indexes
 abbrev pub first_tables : ℕ → ℕ → Schema

@@ -4,9 +4,10 @@ ghost use Rattle.sqlite.specs.State.{HasCleanDisk};
 ghost use Rattle.sqlite.specs.Held.{state};
 ghost use Rattle.office_sql.specs.Schema.{no_schema};
 ghost use Rattle.office_sql.specs.Tables.{tables_in};
-ghost use Rattle.office_store.specs.Adopting.{AreStartsAsked, CanSettle, CanTake, Examines, HandedKeeps, HandedLeaves, IsFoundAt, IsGrowable, IsHandedFor, IsOurs, IsShownText, LeavesAtMost, Settles, StaysUnstarted, TakesGrowth, TakesOwn};
+ghost use Rattle.office_store.specs.Adopting.{AreStartsAsked, CanPrepareTables, CanTake, Examines, HandedKeeps, HandedLeaves, IsFoundAt, IsGrowable};
+ghost use Rattle.office_store.specs.Adopting.{IsHandedFor, IsOurs, IsShownText, LeavesAtMost, PreparesTables, StaysUnstarted, TakesGrowth, TakesOwn};
 ghost use Rattle.office_store.specs.Found.{HasStarts, IsFound};
-ghost use Rattle.office_store.specs.Meta.{meta_of_version, new_meta, IsTold};
+ghost use Rattle.office_store.specs.Meta.{meta_of_version, new_meta, HasMeta};
 ghost use Rattle.office_store.specs.Texts.{HoldsText, IsGrownFrom};
 ghost use Rattle.office_store.specs.Upgrading.{CanUpgrade};
 ghost use Rattle.office_store.specs.Versions.{schema_of};
@@ -50,7 +51,7 @@ fn is_of_version(meta: &Meta, version: Version) -> bool
 
 /// Whether what a store tells of itself is this version and this site.
 fn judge_meta(meta: Option<Meta>, site: &Digest, version: Version) -> Result<(), OpenFault>
-    ensures ours { OnOk result (meta ≡ Some (meta_of_version version site.now)) }
+    ensures same_site { OnOk result (meta ≡ Some (meta_of_version version site.now)) }
     ensures other_site { IfErr result (λ fault. fault ≡ TheSite
         → (other : List ℕ) × (length other ≡ 32)
         × (meta ≡ Some (meta_of_version version other)) × (other ≢ site.now)) }
@@ -71,9 +72,9 @@ fn judge_meta(meta: Option<Meta>, site: &Digest, version: Version) -> Result<(),
 
 /// Makes the tables of a store that has none.
 fn make<S: Alter>(conn: &mut Connection<S>, site: &SiteText) -> Result<(), OpenFault>
-    requires can { CanSettle (state S.Store conn.old) }
+    requires can { CanPrepareTables (state S.Store conn.old) }
     requires bare { (state S.Store conn.old).now.schema ≡ no_schema }
-    ensures { Settles S.Store site.now conn.old conn.new result }
+    ensures { PreparesTables S.Store site.now conn.old conn.new result }
 {
     match make_tables(conn, site) {
         Ok(()) => Ok(()),
@@ -83,9 +84,10 @@ fn make<S: Alter>(conn: &mut Connection<S>, site: &SiteText) -> Result<(), OpenF
 
 /// Tests the numbers of a store that has the tables of a version.
 fn test_numbers<S: Alter>(conn: &mut Connection<S>, version: Version) -> Result<(), OpenFault>
-    requires can { CanSettle (state S.Store conn.old) }
+    requires can { CanPrepareTables (state S.Store conn.old) }
     requires has { (state S.Store conn.old).now.schema ≡ schema_of version }
-    ensures { (site : TextOfSite) → Examines S.Store site conn.old conn.new result (IsFound version) }
+    ensures { (site : TextOfSite)
+        → Examines S.Store site conn.old conn.new result (IsFound version) }
 {
     match has_whole_numbers(conn) {
         Ok(true) => Ok(()),
@@ -121,7 +123,8 @@ fn judge_growth(alloc: Global, held: &str, site: &Site) -> Result<(), OpenFault>
 
 /// Whether the store tells of a text, and the site is a growth of the one that it is.
 fn judge_text(alloc: Global, meta: Option<Meta>, rows: &[Row], site: &Site) -> Result<(), OpenFault>
-    ensures grown { OnOk result ((text : List ℕ) × IsShownText text rows.now meta × IsGrownFrom text site.now) }
+    ensures grown { OnOk result ((text : List ℕ) × IsShownText text rows.now meta
+        × IsGrownFrom text site.now) }
     ensures other_site { IfErr result (λ fault. fault ≡ TheSite
         → (text : List ℕ) × IsShownText text rows.now meta × ¬ IsGrownFrom text site.now) }
     ensures other_tables { IfErr result (λ fault. fault ≡ TheTables
@@ -144,7 +147,8 @@ fn test_growth<S: Alter>(
     site: &SiteText,
 ) -> Result<(), OpenFault>
     requires { IsFoundAt Third (state S.Store conn.old) }
-    ensures { Examines S.Store site.now conn.old conn.new result (λ db. CanTake site.now.site db.trees) }
+    ensures { Examines S.Store site.now conn.old conn.new result (λ db.
+        CanTake site.now.site db.trees) }
 {
     match told_rows(conn) {
         Ok((meta, rows)) => judge_text(alloc, meta, rows.as_slice(), site.site()),
@@ -155,8 +159,9 @@ fn test_growth<S: Alter>(
 /// Holds the text of a site that grew.
 fn grow<S: Alter>(conn: &mut Connection<S>, site: &SiteText) -> Result<(), OpenFault>
     requires found { IsFoundAt Third (state S.Store conn.old) }
-    requires can { HasCleanDisk (state S.Store conn.old) → IsGrowable site.now.site (state S.Store conn.old).now }
-    ensures { Settles S.Store site.now conn.old conn.new result }
+    requires can { HasCleanDisk (state S.Store conn.old)
+        → IsGrowable site.now.site (state S.Store conn.old).now }
+    ensures { PreparesTables S.Store site.now conn.old conn.new result }
 {
     match grow_text(conn, site) {
         Ok(()) => Ok(()),
@@ -173,7 +178,7 @@ fn test_site<S: Alter>(
     requires earlier { version ≢ Third }
     requires found { IsFoundAt version (state S.Store conn.old) }
     ensures { Examines S.Store site.now conn.old conn.new result
-        (λ db. IsTold version (sha256 site.now.text) db.trees) }
+        (λ db. HasMeta version (sha256 site.now.text) db.trees) }
 {
     match meta_row(conn) {
         Ok(meta) => judge_meta(meta, &site.digest(), version),
@@ -188,10 +193,10 @@ fn test_tables<S: Alter>(
     version: Version,
 ) -> Result<(), OpenFault>
     requires earlier { version ≢ Third }
-    requires can { CanSettle (state S.Store conn.old) }
+    requires can { CanPrepareTables (state S.Store conn.old) }
     requires has { (state S.Store conn.old).now.schema ≡ schema_of version }
     ensures { Examines S.Store site.now conn.old conn.new result
-        (λ db. IsFound version db × IsTold version (sha256 site.now.text) db.trees) }
+        (λ db. IsFound version db × HasMeta version (sha256 site.now.text) db.trees) }
 {
     test_numbers(conn, version)?;
     test_site(conn, site, version)
@@ -199,7 +204,8 @@ fn test_tables<S: Alter>(
 
 /// Tests that of each order and each record its beginning of validity is told.
 fn test_starts<S: Alter>(conn: &mut Connection<S>) -> Result<(), OpenFault>
-    requires { (version : TheVersion) × (version ≢ First) × IsFoundAt version (state S.Store conn.old) }
+    requires { (version : TheVersion) × (version ≢ First)
+        × IsFoundAt version (state S.Store conn.old) }
     ensures { (site : TextOfSite) → (version : TheVersion)
         → (HasCleanDisk (state S.Store conn.old) → (state S.Store conn.old).now.schema ≡ schema_of version
         × AreStartsAsked (sha256 site.text) version (state S.Store conn.old).now.trees)
@@ -220,9 +226,9 @@ fn upgrade<S: Alter>(
 ) -> Result<(), OpenFault>
     requires found { IsFoundAt version (state S.Store conn.old) }
     requires can { CanUpgrade version (state S.Store conn.old) }
-    requires told { HasCleanDisk (state S.Store conn.old)
-        → IsTold version (sha256 site.now.text) (state S.Store conn.old).now.trees }
-    ensures { Settles S.Store site.now conn.old conn.new result }
+    requires names_site { HasCleanDisk (state S.Store conn.old)
+        → HasMeta version (sha256 site.now.text) (state S.Store conn.old).now.trees }
+    ensures { PreparesTables S.Store site.now conn.old conn.new result }
 {
     match upgrade_tables(conn, site.text(), version) {
         Ok(()) => Ok(()),
@@ -231,18 +237,18 @@ fn upgrade<S: Alter>(
 }
 
 fn find_first<S: Alter>(conn: &mut Connection<S>, site: &SiteText) -> Result<(), OpenFault>
-    requires can { CanSettle (state S.Store conn.old) }
+    requires can { CanPrepareTables (state S.Store conn.old) }
     requires has { (state S.Store conn.old).now.schema ≡ schema_of First }
-    ensures { Settles S.Store site.now conn.old conn.new result }
+    ensures { PreparesTables S.Store site.now conn.old conn.new result }
 {
     test_tables(conn, site, Version::First)?;
     upgrade(conn, site, Version::First)
 }
 
 fn find_second<S: Alter>(conn: &mut Connection<S>, site: &SiteText) -> Result<(), OpenFault>
-    requires can { CanSettle (state S.Store conn.old) }
+    requires can { CanPrepareTables (state S.Store conn.old) }
     requires has { (state S.Store conn.old).now.schema ≡ schema_of Second }
-    ensures { Settles S.Store site.now conn.old conn.new result }
+    ensures { PreparesTables S.Store site.now conn.old conn.new result }
 {
     test_tables(conn, site, Version::Second)?;
     test_starts(conn)?;
@@ -256,7 +262,7 @@ fn test_third<S: Alter>(
     conn: &mut Connection<S>,
     site: &SiteText,
 ) -> Result<(), OpenFault>
-    requires can { CanSettle (state S.Store conn.old) }
+    requires can { CanPrepareTables (state S.Store conn.old) }
     requires has { (state S.Store conn.old).now.schema ≡ schema_of Third }
     ensures { Examines S.Store site.now conn.old conn.new result
         (λ db. IsFound Third db × IsGrowable site.now.site db) }
@@ -269,8 +275,9 @@ fn test_third<S: Alter>(
 /// Holds the text of the site, where it isn't held.
 fn hold_text<S: Alter>(conn: &mut Connection<S>, site: &SiteText) -> Result<(), OpenFault>
     requires found { IsFoundAt Third (state S.Store conn.old) }
-    requires can { HasCleanDisk (state S.Store conn.old) → IsGrowable site.now.site (state S.Store conn.old).now }
-    ensures { Settles S.Store site.now conn.old conn.new result }
+    requires can { HasCleanDisk (state S.Store conn.old)
+        → IsGrowable site.now.site (state S.Store conn.old).now }
+    ensures { PreparesTables S.Store site.now conn.old conn.new result }
 {
     match has_text(conn, site.text()) {
         Ok(true) => Ok(()),
@@ -284,9 +291,9 @@ fn find_third<S: Alter>(
     conn: &mut Connection<S>,
     site: &SiteText,
 ) -> Result<(), OpenFault>
-    requires can { CanSettle (state S.Store conn.old) }
+    requires can { CanPrepareTables (state S.Store conn.old) }
     requires has { (state S.Store conn.old).now.schema ≡ schema_of Third }
-    ensures { Settles S.Store site.now conn.old conn.new result }
+    ensures { PreparesTables S.Store site.now conn.old conn.new result }
 {
     test_third(alloc, conn, site)?;
     hold_text(conn, site)
@@ -300,9 +307,9 @@ fn find<S: Alter>(
     site: &SiteText,
     version: Version,
 ) -> Result<(), OpenFault>
-    requires can { CanSettle (state S.Store conn.old) }
+    requires can { CanPrepareTables (state S.Store conn.old) }
     requires has { (state S.Store conn.old).now.schema ≡ schema_of version }
-    ensures { Settles S.Store site.now conn.old conn.new result }
+    ensures { PreparesTables S.Store site.now conn.old conn.new result }
 {
     match version {
         Version::First => find_first(conn, site),
@@ -313,13 +320,13 @@ fn find<S: Alter>(
 
 /// Makes the tables of a store that has none, or tests those that are there, upgrades those of an
 /// earlier version, and holds the text of a site that grew.
-pub(crate) fn settle<S: Alter>(
+pub(crate) fn prepare_tables<S: Alter>(
     alloc: Global,
     conn: &mut Connection<S>,
     site: &SiteText,
 ) -> Result<(), OpenFault>
-    requires { CanSettle (state S.Store conn.old) }
-    ensures { Settles S.Store site.now conn.old conn.new result }
+    requires { CanPrepareTables (state S.Store conn.old) }
+    ensures { PreparesTables S.Store site.now conn.old conn.new result }
 {
     if is_empty_schema(conn.schema()) {
         return make(conn, site);
@@ -344,29 +351,36 @@ pub fn adopt<S: Alter + Drop>(
     site: &SiteText,
 ) -> Result<SqlKeep<S>, (OpenFault, Handed<S>)>
     ensures site { IfOk result (λ keep. keep.site ≡ site.now.digest) }
-    ensures open { IfOk result (λ keep. HasCleanDisk (state S.Store keep.conn) → IsTrue (state S.Store keep.conn).is_open) }
-    ensures ours { IfOk result (λ keep. HasCleanDisk (state S.Store keep.conn) → IsOurs site.now.digest (state S.Store keep.conn).now.trees) }
+    ensures open { IfOk result (λ keep. HasCleanDisk (state S.Store keep.conn)
+        → IsTrue (state S.Store keep.conn).is_open) }
+    ensures same_site { IfOk result (λ keep. HasCleanDisk (state S.Store keep.conn)
+        → IsOurs site.now.digest (state S.Store keep.conn).now.trees) }
     ensures text { IfOk result (λ keep. HasCleanDisk (state S.Store keep.conn)
         → HoldsText site.now.text (state S.Store keep.conn).now.trees) }
     ensures grown { IfOk result (λ keep. HasCleanDisk (state S.Store keep.conn)
         → TakesGrowth site.now.site (state S.Store conn).committed.trees) }
     ensures own { IfOk result (λ keep. HasCleanDisk (state S.Store keep.conn)
         → TakesOwn site.now.text (state S.Store conn).committed.trees) }
-    ensures clean { IfOk result (λ keep. HasCleanDisk (state S.Store keep.conn) → HasCleanDisk (state S.Store conn)) }
-    ensures kept { IfOk result (λ keep. HasCleanDisk (state S.Store keep.conn) → tables_in (state S.Store keep.conn).now.trees ≡ tables_in (state S.Store conn).committed.trees) }
+    ensures clean { IfOk result (λ keep. HasCleanDisk (state S.Store keep.conn)
+        → HasCleanDisk (state S.Store conn)) }
+    ensures tables { IfOk result (λ keep. HasCleanDisk (state S.Store keep.conn)
+        → tables_in (state S.Store keep.conn).now.trees
+        ≡ tables_in (state S.Store conn).committed.trees) }
     ensures unstarted { IfOk result (λ keep. HasCleanDisk (state S.Store keep.conn)
         → StaysUnstarted (state S.Store conn).committed.trees
         (tables_in (state S.Store keep.conn).now.trees)) }
-    ensures crash { IfOk result (λ keep. HasCleanDisk (state S.Store keep.conn) → LeavesAtMost site.now (state S.Store conn) (state S.Store keep.conn)) }
+    ensures crash { IfOk result (λ keep. HasCleanDisk (state S.Store keep.conn)
+        → LeavesAtMost site.now (state S.Store conn) (state S.Store keep.conn)) }
     ensures refused { IfErr result (λ e. IsHandedFor S.Store site.now e.0 e.1) }
     ensures unchanged { IfErr result (λ e. HandedKeeps S.Store (state S.Store conn) e.1) }
-    ensures crash_left { IfErr result (λ e. HandedLeaves S.Store site.now (state S.Store conn) e.1) }
+    ensures crash_left { IfErr result (λ e.
+        HandedLeaves S.Store site.now (state S.Store conn) e.1) }
 {
     let mut conn = match reread(alloc, conn) {
         Ok(conn) => conn,
         Err((_, store)) => return Err((OpenFault::Failed, Handed::Store(store))),
     };
-    match settle(alloc, &mut conn, site) {
+    match prepare_tables(alloc, &mut conn, site) {
         Ok(()) => Ok(SqlKeep::over(alloc, conn, site.digest())),
         Err(fault) => Err((fault, Handed::Connection(conn))),
     }

@@ -18,9 +18,11 @@ use sqlite_disk::Disk;
 /// a store of the keeper's site, and whoever opens it finds tables that the keeper could leave.
 pub fn into_store<D: Disk + Drop>(keep: SqlKeep<FileStore<D>>) -> FileStore<D>
     ensures was_honest { IsClean (files.view result) → is_honest_at over_files keep.conn }
-    ensures held { IsClean (files.view result) → (left : Image) → (files.state result).may_leave left
+    ensures held { IsClean (files.view result) → (left : Image)
+        → (files.state result).may_leave left
         → ∥ ((db : Trees) × HoldsDatabase left db × IsOfSite keep.site db) ∥₁ }
-    ensures found { IsClean (files.view result) → (left : Image) → (files.state result).may_leave left
+    ensures found { IsClean (files.view result) → (left : Image)
+        → (files.state result).may_leave left
         → (tables : Tables) → HasTablesOf left tables → ∥ may_leave_at over_files keep.conn tables ∥₁ }
 {
     let conn = keep.into_connection();

@@ -1,6 +1,6 @@
 // Why a store isn't opened.
 ghost use Rattle.std.specs.Prelude.{◌≡◌};
-ghost use Rattle.office_store.specs.Faults.{fault_number};
+ghost use Rattle.office_store.specs.Faults.{open_fault_number};
 
 use thiserror::Error as Faulty;
 
@@ -22,7 +22,7 @@ pub enum OpenFault {
 impl OpenFault {
     /// The number of the fault, 1 to 3, as the program's line tells it.
     pub fn number(self) -> u8
-        ensures { result ≡ fault_number self }
+        ensures { result ≡ open_fault_number self }
     {
         match self {
             OpenFault::OtherSite => 1,

@@ -2,13 +2,13 @@
 ghost use Rattle.std.specs.Prelude.{◌≡◌, ℕ, List, false, IsTrue, OnOk, OnErr};
 ghost use Rattle.sqlite.specs.State.{HasCleanDisk, Survives};
 ghost use Rattle.sqlite.specs.Held.{state};
-ghost use Rattle.office_sql.specs.Asking.{Changes};
+ghost use Rattle.office_sql.specs.Asking.{SqlWrites};
 ghost use Rattle.office_sql.specs.Change.{IsUndone};
 ghost use Rattle.office_sql.specs.Schema.{office_schema};
 ghost use Rattle.office_sql.specs.Tables.{office_over};
 ghost use Rattle.office_store.specs.Found.{Sees};
 ghost use Rattle.office_store.specs.Growing.{CanGrow, HasGrown, IsGrown, ReplacesName};
-ghost use Rattle.office_store.specs.Meta.{IsTold};
+ghost use Rattle.office_store.specs.Meta.{HasMeta};
 ghost use Rattle.office_store.specs.Texts.{HoldsText};
 ghost use Rattle.office_store.specs.Upgrading.{PutsText};
 ghost use Rattle.office_store.specs.declared.version.Version.TheVariants.{Third};
@@ -23,7 +23,7 @@ fn replace_text<S: Alter>(tx: &mut Transaction<'_, S>, text: &str) -> Result<(),
     requires held { Sees (λ db. (older : List ℕ) × HoldsText older db.trees)
         (state S.Store tx.old.conn.now) }
     ensures same_reference { tx.new.conn.ghost_name ≡ tx.old.conn.ghost_name }
-    ensures changes { Changes S.Store tx.old.conn.now tx.new.conn.now result
+    ensures changes { SqlWrites S.Store tx.old.conn.now tx.new.conn.now result
         (λ old new _. PutsText text.now old new) }
 {
     tx.execute("UPDATE site_text SET body = ?1 WHERE id = 1", params![text])?;
@@ -33,10 +33,10 @@ fn replace_text<S: Alter>(tx: &mut Transaction<'_, S>, text: &str) -> Result<(),
 /// Tells another site.
 fn replace_name<S: Alter>(tx: &mut Transaction<'_, S>, site: &Digest) -> Result<(), Error>
     requires has { Sees (λ db. db.schema ≡ office_schema) (state S.Store tx.old.conn.now) }
-    requires told { Sees (λ db. (older : List ℕ) × IsTold Third older db.trees)
+    requires third { Sees (λ db. (older : List ℕ) × HasMeta Third older db.trees)
         (state S.Store tx.old.conn.now) }
     ensures same_reference { tx.new.conn.ghost_name ≡ tx.old.conn.ghost_name }
-    ensures changes { Changes S.Store tx.old.conn.now tx.new.conn.now result
+    ensures changes { SqlWrites S.Store tx.old.conn.now tx.new.conn.now result
         (λ old new _. ReplacesName site.now old new) }
 {
     tx.execute(
@@ -49,7 +49,7 @@ fn replace_name<S: Alter>(tx: &mut Transaction<'_, S>, site: &Digest) -> Result<
 fn change_both<S: Alter>(tx: &mut Transaction<'_, S>, site: &SiteText) -> Result<(), Error>
     requires { CanGrow (state S.Store tx.old.conn.now) }
     ensures same_reference { tx.new.conn.ghost_name ≡ tx.old.conn.ghost_name }
-    ensures changes { Changes S.Store tx.old.conn.now tx.new.conn.now result
+    ensures changes { SqlWrites S.Store tx.old.conn.now tx.new.conn.now result
         (λ old new _. IsGrown site.now.text old.trees new) }
 {
     replace_text(tx, site.text())?;
@@ -61,7 +61,7 @@ fn change_both<S: Alter>(tx: &mut Transaction<'_, S>, site: &SiteText) -> Result
 pub fn grow_text<S: Alter>(conn: &mut Connection<S>, site: &SiteText) -> Result<(), Error>
     requires can { CanGrow (state S.Store conn.old) }
     requires mode { conn.old.in_transaction ≡ false }
-    requires settled { IsTrue (state S.Store conn.old).is_open
+    requires shows_committed { IsTrue (state S.Store conn.old).is_open
         → (state S.Store conn.old).now ≡ (state S.Store conn.old).committed }
     ensures mode { conn.new.in_transaction ≡ false }
     ensures ok { HasCleanDisk (state S.Store conn.new)

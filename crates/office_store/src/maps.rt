@@ -3,8 +3,8 @@ ghost use Rattle.std.specs.Prelude.{◌≡◌, option_and_then, IfOk, IsOkAnd, I
 ghost use Rattle.sqlite.specs.State.{HasCleanDisk};
 ghost use Rattle.sqlite.specs.Held.{state};
 ghost use Rattle.fusemap_core.specs.MapText.{map_in};
-ghost use Rattle.map_shelf.specs.Numbers.{AreNumbered};
-ghost use Rattle.office_sql.specs.Asking.{Asks, HasOffice};
+ghost use Rattle.map_shelf.specs.Numbers.{AreMapsOfNumbers};
+ghost use Rattle.office_sql.specs.Asking.{SqlReads, HasOffice};
 ghost use Rattle.office_sql.specs.Tables.{tables_in};
 ghost use Rattle.office_store.specs.Remembering.{fuse_map_at};
 
@@ -36,7 +36,7 @@ fn read_map<S: Alter>(
     id: u64,
 ) -> Result<Option<FuseMap>, Error>
     requires { HasOffice (state S.Store conn.old) }
-    ensures { Asks S.Store conn.old conn.new result (λ t map. map ≡ fuse_map_at t id) }
+    ensures { SqlReads S.Store conn.old conn.new result (λ t map. map ≡ fuse_map_at t id) }
 {
     let row = sql::map_row(alloc, conn, id);
     described(alloc, row)
@@ -51,9 +51,11 @@ pub(crate) fn fuse_map<S: Alter>(
     id: u64,
 ) -> Result<Option<FuseMap>, Error>
     requires office { HasOffice (state S.Store conn.old) }
-    requires known { IsTrue (state S.Store conn.old).is_open → AreNumbered (fuse_map_at (tables_in (state S.Store conn.old).now.trees)) maps.old }
-    ensures asks { Asks S.Store conn.old conn.new result (λ t map. map ≡ fuse_map_at t id) }
-    ensures kept { IsTrue (state S.Store conn.old).is_open → HasCleanDisk (state S.Store conn.new) → AreNumbered (fuse_map_at (tables_in (state S.Store conn.old).now.trees)) maps.new }
+    requires known { IsTrue (state S.Store conn.old).is_open
+        → AreMapsOfNumbers (fuse_map_at (tables_in (state S.Store conn.old).now.trees)) maps.old }
+    ensures asks { SqlReads S.Store conn.old conn.new result (λ t map. map ≡ fuse_map_at t id) }
+    ensures right { IsTrue (state S.Store conn.old).is_open → HasCleanDisk (state S.Store conn.new)
+        → AreMapsOfNumbers (fuse_map_at (tables_in (state S.Store conn.old).now.trees)) maps.new }
 {
     if let Some(map) = maps.find(id) {
         return match sql::ask_open(conn) {

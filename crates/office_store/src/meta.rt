@@ -4,7 +4,7 @@ ghost use Rattle.std.specs.List.{AllByRecursion};
 ghost use Rattle.sqlite.specs.Held.{state};
 ghost use Rattle.sqlite.specs.Order.{bytes, column};
 ghost use Rattle.office_sql.specs.Tables.{IsBlob};
-ghost use Rattle.office_sql.specs.Values.{number_in};
+ghost use Rattle.office_sql.specs.Values.{number_in_cell};
 ghost use Rattle.office_store.specs.Found.{IsFound, Sees, Tests};
 ghost use Rattle.office_store.specs.Meta.{meta_of, metas_in, IsMetaOf, ShowMeta, TellNoSite};
 ghost use Rattle.office_store.specs.declared.version.Version.{Version};
@@ -34,8 +34,8 @@ fn meta_rows<S: Alter>(conn: &mut Connection<S>) -> Result<Vec<Row>, Error>
 
 /// A whole number that isn't below zero, if the column is one.
 fn number_at(row: &Row, at: usize) -> Option<u64>
-    ensures some { IfSome result (λ number. number ≡ number_in (column row.now at)) }
-    ensures none { IfNone result (number_in (column row.now at) ≡ 0) }
+    ensures some { IfSome result (λ number. number ≡ number_in_cell (column row.now at)) }
+    ensures none { IfNone result (number_in_cell (column row.now at) ≡ 0) }
 {
     match row.get_ref(at) {
         Ok(ValueRef::Int(number)) => u64::try_from(number).ok(),

@@ -2,14 +2,14 @@
 ghost use Rattle.std.specs.Prelude.{◌≡◌, ◌+◌, ◌-◌, ℕ, List, length, filter, bytes_eq, if◌then◌else◌, IfOk, IfSome, IsTrue, OnOk};
 ghost use Rattle.sqlite.specs.State.{HasCleanDisk};
 ghost use Rattle.sqlite.specs.Held.{state};
-ghost use Rattle.office_tables.specs.declared.rows.Owned.{Owned};
+ghost use Rattle.office_tables.specs.declared.rows.OfCustomer.{OfCustomer};
 ghost use Rattle.office_tables.specs.declared.rows.Device.{Device};
 ghost use Rattle.office_tables.specs.OrderPlaces.{places_taken};
-ghost use Rattle.office_tables.specs.PlaceCounting.{place_of};
-ghost use Rattle.office_tables.specs.Tables.{device_cmp, own, IsInOrder};
-ghost use Rattle.office_sql.specs.Asking.{Asks, HasOffice};
+ghost use Rattle.office_tables.specs.PlaceCounting.{place_of_device};
+ghost use Rattle.office_tables.specs.Tables.{device_cmp, rows_of, IsInOrder};
+ghost use Rattle.office_sql.specs.Asking.{SqlReads, HasOffice};
 ghost use Rattle.office_sql.specs.Tables.{tables_in};
-ghost use Rattle.office_store.specs.Counting.{count_at, number_at, takes, AgreeBut, AgreeOff, AreCounts, AreRight};
+ghost use Rattle.office_store.specs.Counting.{count_if_counted, number_at, takes, AgreeBut, AgreeOff, AreCounts, AreRight};
 ghost use Rattle.office_store.specs.Written.{ArePut, IsReplaced};
 
 use crate::written::WrittenDevices;
@@ -46,7 +46,9 @@ impl OrderPlaces {
 
     /// Sets the number of an order.
     fn set(&mut self, order: &Name, number: u64) -> Result<(), AllocError>
-        ensures { OnOk result ((o : List ℕ) → number_at o self.new ≡ (if bytes_eq o order.now then number else number_at o self.old)) }
+        ensures { OnOk result ((o : List ℕ)
+            → number_at o self.new
+            ≡ (if bytes_eq o order.now then number else number_at o self.old)) }
     {
         match self.numbers.insert(*order, number) {
             Ok(_) => Ok(()),
@@ -56,7 +58,9 @@ impl OrderPlaces {
 
     /// Counts one more device.
     fn add(&mut self, one: &OrderState) -> Result<(), AllocError>
-        ensures { OnOk result ((order : List ℕ) → number_at order self.new ≡ number_at order self.old + (if takes order one.now then 1 else 0)) }
+        ensures { OnOk result ((order : List ℕ)
+            → number_at order self.new
+            ≡ number_at order self.old + (if takes order one.now then 1 else 0)) }
     {
         if one.state.is_given_up() {
             return Ok(());
@@ -87,7 +91,7 @@ impl PlaceCounts {
 
     /// The number of a customer's order, if the customer was counted.
     pub(crate) fn get(&self, customer: &Name, order: &Name) -> Option<u64>
-        ensures { result ≡ count_at customer.now order.now self.now }
+        ensures { result ≡ count_if_counted customer.now order.now self.now }
     {
         match self.customers.get(customer) {
             Some(places) => Some(places.number(order)),
@@ -97,7 +101,9 @@ impl PlaceCounts {
 
     /// Keeps the numbers of a customer, if there is memory for them.
     pub(crate) fn keep(&mut self, customer: &Name, places: OrderPlaces)
-        ensures { (count : List ℕ → List ℕ → ℕ) → AreCounts count self.old → ((order : List ℕ) → number_at order places ≡ count customer.now order) → AreCounts count self.new }
+        ensures { (count : List ℕ → List ℕ → ℕ) → AreCounts count self.old
+            → ((order : List ℕ) → number_at order places ≡ count customer.now order)
+            → AreCounts count self.new }
     {
         match self.customers.insert(*customer, places) {
             Ok(_) => {}
@@ -107,8 +113,11 @@ impl PlaceCounts {
 
     /// Takes the numbers of a customer out, so that it isn't counted.
     fn take(&mut self, customer: &Name) -> Option<OrderPlaces>
-        ensures taken { (was : List ℕ → List ℕ → ℕ) → AreCounts was self.old → IfSome result (λ places. (order : List ℕ) → number_at order places ≡ was customer.now order) }
-        ensures left { (was count : List ℕ → List ℕ → ℕ) → AreCounts was self.old → AgreeOff customer.now was count → AreCounts count self.new }
+        ensures taken { (was : List ℕ → List ℕ → ℕ) → AreCounts was self.old
+            → IfSome result (λ places. (order : List ℕ)
+            → number_at order places ≡ was customer.now order) }
+        ensures left { (was count : List ℕ → List ℕ → ℕ) → AreCounts was self.old
+            → AgreeOff customer.now was count → AreCounts count self.new }
     {
         self.customers.remove(customer)
     }
@@ -116,7 +125,9 @@ impl PlaceCounts {
     /// Sets the number of a customer's order, if the customer was counted. Where there is no memory
     /// for it, the customer is to be counted anew.
     fn put(&mut self, customer: &Name, order: &Name, number: u64)
-        ensures { (was count : List ℕ → List ℕ → ℕ) → AreCounts was self.old → AgreeBut customer.now order.now was count → number ≡ count customer.now order.now → AreCounts count self.new }
+        ensures { (was count : List ℕ → List ℕ → ℕ) → AreCounts was self.old
+            → AgreeBut customer.now order.now was count → number ≡ count customer.now order.now
+            → AreCounts count self.new }
     {
         let Some(mut places) = self.take(customer) else {
             return;
@@ -135,7 +146,9 @@ impl PlaceCounts {
 
     /// Counts one more device.
     fn add(&mut self, row: &DeviceRow)
-        ensures { (was : List ℕ → List ℕ → ℕ) → AreCounts was self.old → AreCounts (λ customer order. was customer order + place_of customer order row.now) self.new }
+        ensures { (was : List ℕ → List ℕ → ℕ) → AreCounts was self.old
+            → AreCounts (λ customer order.
+            was customer order + place_of_device customer order row.now) self.new }
     {
         if row.row.state.is_given_up() {
             return;
@@ -150,7 +163,9 @@ impl PlaceCounts {
 
     /// Counts one device less.
     fn remove(&mut self, row: &DeviceRow)
-        ensures { (was : List ℕ → List ℕ → ℕ) → AreCounts was self.old → AreCounts (λ customer order. was customer order - place_of customer order row.now) self.new }
+        ensures { (was : List ℕ → List ℕ → ℕ) → AreCounts was self.old
+            → AreCounts (λ customer order.
+            was customer order - place_of_device customer order row.now) self.new }
     {
         if row.row.state.is_given_up() {
             return;
@@ -162,7 +177,9 @@ impl PlaceCounts {
 
     /// Counts what was written, and no longer what it took the place of.
     pub(crate) fn follow(&mut self, written: WrittenDevices<'_>, replaced: Option<DeviceRow>)
-        ensures { (rows after : List (Owned Device)) → IsInOrder device_cmp rows → IsReplaced written.entry replaced rows → ArePut written.entry rows after → AreRight rows self.old → AreRight after self.new }
+        ensures { (rows after : List (OfCustomer Device)) → IsInOrder device_cmp rows
+            → IsReplaced written.entry replaced rows → ArePut written.entry rows after
+            → AreRight rows self.old → AreRight after self.new }
     {
         match written {
             WrittenDevices::Nothing => {}
@@ -179,7 +196,8 @@ impl PlaceCounts {
 
 /// How many devices take a place of each order, by their orders and states.
 fn count_states(alloc: Global, states: &[OrderState]) -> Result<OrderPlaces, AllocError>
-    ensures { IfOk result (λ places. (order : List ℕ) → number_at order places ≡ length (filter (takes order) states.now)) }
+    ensures { IfOk result (λ places. (order : List ℕ)
+        → number_at order places ≡ length (filter (takes order) states.now)) }
 {
     let mut places = OrderPlaces::new(alloc);
     for one in states {
@@ -212,9 +230,12 @@ pub(crate) fn count_places<S: Alter>(
     order: &Name,
 ) -> Result<u64, Error>
     requires office { HasOffice (state S.Store conn.old) }
-    requires known { IsTrue (state S.Store conn.old).is_open → AreRight (tables_in (state S.Store conn.old).now.trees).devices counts.old }
-    ensures asks { Asks S.Store conn.old conn.new result (λ t count. count ≡ places_taken order.now (own customer.now t.devices)) }
-    ensures kept { IsTrue (state S.Store conn.old).is_open → HasCleanDisk (state S.Store conn.new) → AreRight (tables_in (state S.Store conn.old).now.trees).devices counts.new }
+    requires known { IsTrue (state S.Store conn.old).is_open
+        → AreRight (tables_in (state S.Store conn.old).now.trees).devices counts.old }
+    ensures asks { SqlReads S.Store conn.old conn.new result (λ t count. count
+        ≡ places_taken order.now (rows_of customer.now t.devices)) }
+    ensures right { IsTrue (state S.Store conn.old).is_open → HasCleanDisk (state S.Store conn.new)
+        → AreRight (tables_in (state S.Store conn.old).now.trees).devices counts.new }
 {
     if let Some(number) = counts.get(customer, order) {
         return match sql::ask_open(conn) {

@@ -34,7 +34,10 @@ impl Remembered {
 
     /// Follows a commit of devices, of which one took the place of a row that was there.
     pub(crate) fn follow(&mut self, written: WrittenDevices<'_>, replaced: Option<DeviceRow>)
-        ensures { (t after : Tables) → IsInOrder device_cmp t.devices → IsReplaced written.entry replaced t.devices → ArePut written.entry t.devices after.devices → StayMapped t after → Agrees self.old t → Agrees self.new after }
+        ensures { (t after : Tables) → IsInOrder device_cmp t.devices
+            → IsReplaced written.entry replaced t.devices
+            → ArePut written.entry t.devices after.devices → StayMapped t after → Agrees self.old t
+            → Agrees self.new after }
     {
         self.places.follow(written, replaced);
         self.device = answer_after(written);

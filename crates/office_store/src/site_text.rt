@@ -72,7 +72,8 @@ pub fn told_rows<S: Alter>(conn: &mut Connection<S>) -> Result<(Option<Meta>, Ve
 /// Whether the store holds this text.
 pub fn has_text<S: Alter>(conn: &mut Connection<S>, text: &str) -> Result<bool, Error>
     requires { Sees (IsFound Third) (state S.Store conn.old) }
-    ensures { Tests S.Store conn.old conn.new result (λ db same. IsTrue same ↔ HoldsText text.now db) }
+    ensures { Tests S.Store conn.old conn.new result (λ db same.
+        IsTrue same ↔ HoldsText text.now db) }
 {
     let rows = text_rows(conn)?;
     match only_text(rows.as_slice()) {

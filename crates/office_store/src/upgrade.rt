@@ -2,13 +2,14 @@
 ghost use Rattle.std.specs.Prelude.{◌≡◌, false, IsTrue, OnOk, OnErr};
 ghost use Rattle.sqlite.specs.State.{HasCleanDisk, Survives};
 ghost use Rattle.sqlite.specs.Held.{state};
-ghost use Rattle.office_sql.specs.Asking.{Changes};
+ghost use Rattle.office_sql.specs.Asking.{SqlWrites};
 ghost use Rattle.office_sql.specs.Change.{IsUndone};
-ghost use Rattle.office_sql.specs.Rows.{order_in, given_in, starts_order, starts_given};
+ghost use Rattle.office_sql.specs.Rows.{order_in_row, given_in_row, starts_order, starts_given};
 ghost use Rattle.office_sql.specs.Schema.{office_schema};
 ghost use Rattle.office_sql.specs.Tables.{office_over};
 ghost use Rattle.office_store.specs.Found.{HasStarts, IsFound, Sees};
-ghost use Rattle.office_store.specs.Upgrading.{CanUpgrade, GainsNone, GainsNoStart, IsFilled, IsUpgrade, IsUpgraded, LacksGivenStarts, LacksOrderStarts, TellsItself, TellsThird};
+ghost use Rattle.office_store.specs.Upgrading.{CanUpgrade, GainsNone, GainsNoStart, IsFilled, IsUpgrade, IsUpgraded, LacksGivenStarts};
+ghost use Rattle.office_store.specs.Upgrading.{LacksOrderStarts, TellsItself, TellsThird};
 ghost use Rattle.office_store.specs.declared.version.Version.{Version as TheVersion};
 ghost use Rattle.office_store.specs.declared.version.Version.TheVariants.{First, Second};
 
@@ -20,8 +21,8 @@ use sqlite::{Alter, Connection, Error, Transaction};
 fn fill_order_starts<S: Alter>(tx: &mut Transaction<'_, S>) -> Result<(), Error>
     requires { Sees LacksOrderStarts (state S.Store tx.old.conn.now) }
     ensures same_reference { tx.new.conn.ghost_name ≡ tx.old.conn.ghost_name }
-    ensures changes { Changes S.Store tx.old.conn.now tx.new.conn.now result
-        (λ old new _. GainsNone starts_order order_in 7 17 old new) }
+    ensures changes { SqlWrites S.Store tx.old.conn.now tx.new.conn.now result
+        (λ old new _. GainsNone starts_order order_in_row 7 17 old new) }
 {
     tx.execute(
         "INSERT INTO order_start (customer, ord, not_before) SELECT customer, name, NULL FROM orders",
@@ -34,8 +35,8 @@ fn fill_order_starts<S: Alter>(tx: &mut Transaction<'_, S>) -> Result<(), Error>
 fn fill_given_starts<S: Alter>(tx: &mut Transaction<'_, S>) -> Result<(), Error>
     requires { Sees LacksGivenStarts (state S.Store tx.old.conn.now) }
     ensures same_reference { tx.new.conn.ghost_name ≡ tx.old.conn.ghost_name }
-    ensures changes { Changes S.Store tx.old.conn.now tx.new.conn.now result
-        (λ old new _. GainsNone starts_given given_in 11 19 old new) }
+    ensures changes { SqlWrites S.Store tx.old.conn.now tx.new.conn.now result
+        (λ old new _. GainsNone starts_given given_in_row 11 19 old new) }
 {
     tx.execute(
         "INSERT INTO given_start (issuer, serial, not_before) SELECT issuer, serial, NULL FROM given",
@@ -48,7 +49,7 @@ fn fill_starts<S: Alter>(tx: &mut Transaction<'_, S>) -> Result<(), Error>
     requires orders { Sees LacksOrderStarts (state S.Store tx.old.conn.now) }
     requires given { Sees LacksGivenStarts (state S.Store tx.old.conn.now) }
     ensures same_reference { tx.new.conn.ghost_name ≡ tx.old.conn.ghost_name }
-    ensures changes { Changes S.Store tx.old.conn.now tx.new.conn.now result
+    ensures changes { SqlWrites S.Store tx.old.conn.now tx.new.conn.now result
         (λ old new _. GainsNoStart old new) }
 {
     fill_order_starts(tx)?;
@@ -59,7 +60,7 @@ fn fill_starts<S: Alter>(tx: &mut Transaction<'_, S>) -> Result<(), Error>
 fn fill_first<S: Alter>(tx: &mut Transaction<'_, S>) -> Result<(), Error>
     requires { Sees (IsFound First) (state S.Store tx.old.conn.now) }
     ensures same_reference { tx.new.conn.ghost_name ≡ tx.old.conn.ghost_name }
-    ensures changes { Changes S.Store tx.old.conn.now tx.new.conn.now result
+    ensures changes { SqlWrites S.Store tx.old.conn.now tx.new.conn.now result
         (λ old new _. IsFilled First old new) }
 {
     make_later(tx)?;
@@ -71,7 +72,7 @@ fn fill_second<S: Alter>(tx: &mut Transaction<'_, S>) -> Result<(), Error>
     requires found { Sees (IsFound Second) (state S.Store tx.old.conn.now) }
     requires started { Sees (λ db. HasStarts db.trees) (state S.Store tx.old.conn.now) }
     ensures same_reference { tx.new.conn.ghost_name ≡ tx.old.conn.ghost_name }
-    ensures changes { Changes S.Store tx.old.conn.now tx.new.conn.now result
+    ensures changes { SqlWrites S.Store tx.old.conn.now tx.new.conn.now result
         (λ old new _. IsFilled Second old new) }
 {
     make_text(tx)
@@ -81,7 +82,7 @@ fn fill_second<S: Alter>(tx: &mut Transaction<'_, S>) -> Result<(), Error>
 fn fill<S: Alter>(tx: &mut Transaction<'_, S>, version: Version) -> Result<(), Error>
     requires { CanUpgrade version (state S.Store tx.old.conn.now) }
     ensures same_reference { tx.new.conn.ghost_name ≡ tx.old.conn.ghost_name }
-    ensures changes { Changes S.Store tx.old.conn.now tx.new.conn.now result
+    ensures changes { SqlWrites S.Store tx.old.conn.now tx.new.conn.now result
         (λ old new _. IsFilled version old new) }
 {
     match version {
@@ -93,10 +94,10 @@ fn fill<S: Alter>(tx: &mut Transaction<'_, S>, version: Version) -> Result<(), E
 /// Tells that the store is of the third version.
 fn tell_schema<S: Alter>(tx: &mut Transaction<'_, S>) -> Result<(), Error>
     requires has { Sees (λ db. db.schema ≡ office_schema) (state S.Store tx.old.conn.now) }
-    requires told { Sees (λ db. (version : TheVersion) × TellsItself version db.trees)
+    requires names_version { Sees (λ db. (version : TheVersion) × TellsItself version db.trees)
         (state S.Store tx.old.conn.now) }
     ensures same_reference { tx.new.conn.ghost_name ≡ tx.old.conn.ghost_name }
-    ensures changes { Changes S.Store tx.old.conn.now tx.new.conn.now result
+    ensures changes { SqlWrites S.Store tx.old.conn.now tx.new.conn.now result
         (λ old new _. TellsThird old new) }
 {
     tx.execute("UPDATE meta SET schema = 3 WHERE id = 1", &[])?;
@@ -110,7 +111,7 @@ fn change_all<S: Alter>(
 ) -> Result<(), Error>
     requires { CanUpgrade version (state S.Store tx.old.conn.now) }
     ensures same_reference { tx.new.conn.ghost_name ≡ tx.old.conn.ghost_name }
-    ensures changes { Changes S.Store tx.old.conn.now tx.new.conn.now result
+    ensures changes { SqlWrites S.Store tx.old.conn.now tx.new.conn.now result
         (λ old new _. IsUpgrade version text.now old.trees new) }
 {
     fill(tx, version)?;
@@ -128,7 +129,7 @@ pub fn upgrade_tables<S: Alter>(
 ) -> Result<(), Error>
     requires can { CanUpgrade version (state S.Store conn.old) }
     requires mode { conn.old.in_transaction ≡ false }
-    requires settled { IsTrue (state S.Store conn.old).is_open
+    requires shows_committed { IsTrue (state S.Store conn.old).is_open
         → (state S.Store conn.old).now ≡ (state S.Store conn.old).committed }
     ensures mode { conn.new.in_transaction ≡ false }
     ensures ok { HasCleanDisk (state S.Store conn.new)

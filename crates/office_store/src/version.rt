@@ -1,6 +1,6 @@
 // The schemas that a database of the office may have.
 ghost use Rattle.std.specs.Prelude.{◌≡◌};
-ghost use Rattle.office_store.specs.Versions.{number_of};
+ghost use Rattle.office_store.specs.Versions.{number_of_version};
 
 /// A schema that a database of the office may have.
 #[derive(Clone, Copy)]
@@ -16,7 +16,7 @@ pub enum Version {
 impl Version {
     /// The number by which a store tells it.
     pub(crate) fn number(self) -> u32
-        ensures { result ≡ number_of self }
+        ensures { result ≡ number_of_version self }
     {
         match self {
             Version::First => 1,

@@ -3,14 +3,14 @@ ghost use Rattle.std.specs.Prelude.{◌≡◌, List, filter_map, find, IfOk, IfS
 ghost use Rattle.std.specs.Option.{option_copied};
 ghost use Rattle.sqlite.specs.Held.{state};
 ghost use Rattle.sqlite.specs.Tree.{Trees};
-ghost use Rattle.office_tables.specs.declared.rows.Owned.{Owned};
+ghost use Rattle.office_tables.specs.declared.rows.OfCustomer.{OfCustomer};
 ghost use Rattle.office_tables.specs.declared.rows.Device.{Device};
 ghost use Rattle.office_tables.specs.Keeping.{Reads};
 ghost use Rattle.office_tables.specs.Tables.{is_device};
 ghost use Rattle.office_sql.specs.Keeping.{IsReady};
 ghost use Rattle.office_store.specs.Keeping.{is_honest_at, is_open_at, may_leave_at, tables_of};
 ghost use Rattle.office_store.specs.Remembering.{IsAnswer};
-ghost use Rattle.office_store.specs.Written.{device_in, ArePut, AreTold, IsReplaced};
+ghost use Rattle.office_store.specs.Written.{device_written, ArePut, AreTold, IsReplaced};
 
 use office_sql as sql;
 use office_tables::{DeviceRow, Write};
@@ -46,7 +46,7 @@ pub(crate) fn answer_of(customer: &Name, chip: &Chip, row: &Option<DeviceRow>) -
 
 /// The device that a write adds or changes.
 fn device_of(write: &Write) -> Option<&DeviceRow>
-    ensures { option_copied result ≡ device_in write.now }
+    ensures { option_copied result ≡ device_written write.now }
 {
     match write {
         Write::AddDevice(device) => Some(device.get()),
@@ -57,7 +57,7 @@ fn device_of(write: &Write) -> Option<&DeviceRow>
 
 /// The devices that the writes add or change.
 pub(crate) fn written_devices(writes: &[Write]) -> WrittenDevices<'_>
-    ensures { AreTold result (filter_map device_in writes.now) }
+    ensures { AreTold result (filter_map device_written writes.now) }
 {
     let mut found = None;
     for write in writes {
@@ -76,7 +76,8 @@ pub(crate) fn written_devices(writes: &[Write]) -> WrittenDevices<'_>
 
 /// What the tables have for the device once it is written, if it is one.
 pub(crate) fn answer_after(written: WrittenDevices<'_>) -> Option<DeviceAnswer>
-    ensures { (rows after : List (Owned Device)) → ArePut written.entry rows after → IsAnswer result after }
+    ensures { (rows after : List (OfCustomer Device)) → ArePut written.entry rows after
+        → IsAnswer result after }
 {
     match written {
         WrittenDevices::One(row) => Some(DeviceAnswer {
@@ -91,7 +92,9 @@ pub(crate) fn answer_after(written: WrittenDevices<'_>) -> Option<DeviceAnswer>
 
 /// What the answer says of the row with the key of a device, if it is the answer for that key.
 fn known_row(answer: &Option<DeviceAnswer>, device: &DeviceRow) -> Option<Option<DeviceRow>>
-    ensures { (rows : List (Owned Device)) → IsAnswer answer.now rows → IfSome result (λ row. row ≡ find (is_device device.now.customer device.now.row.chip) rows) }
+    ensures { (rows : List (OfCustomer Device)) → IsAnswer answer.now rows
+        → IfSome result (λ row. row
+        ≡ find (is_device device.now.customer device.now.row.chip) rows) }
 {
     match answer {
         Some(answer) if answer.customer == device.customer && answer.chip == device.row.chip =>
@@ -108,11 +111,15 @@ pub(crate) fn replaced_device<S: Alter>(
     written: WrittenDevices<'_>,
 ) -> Result<Option<DeviceRow>, Error>
     requires ready { IsReady (state S.Store conn.old) }
-    requires known { is_open_at S.Store conn.old → IsAnswer answer.now (tables_of S.Store conn.old).devices }
+    requires known { is_open_at S.Store conn.old
+        → IsAnswer answer.now (tables_of S.Store conn.old).devices }
     ensures ready { IsReady (state S.Store conn.new) }
-    ensures reads { Reads (is_open_at S.Store) (is_honest_at S.Store) (may_leave_at S.Store) (tables_of S.Store) conn.old conn.new }
-    ensures left { is_honest_at S.Store conn.new → (db : Trees) → (state S.Store conn.new).may_leave db → (state S.Store conn.old).may_leave db }
-    ensures says { is_open_at S.Store conn.new → IfOk result (λ row. IsReplaced written.entry row (tables_of S.Store conn.old).devices) }
+    ensures read_only { Reads (is_open_at S.Store) (is_honest_at S.Store) (may_leave_at S.Store)
+        (tables_of S.Store) conn.old conn.new }
+    ensures left { is_honest_at S.Store conn.new → (db : Trees)
+        → (state S.Store conn.new).may_leave db → (state S.Store conn.old).may_leave db }
+    ensures answer { is_open_at S.Store conn.new
+        → IfOk result (λ row. IsReplaced written.entry row (tables_of S.Store conn.old).devices) }
 {
     match written {
         WrittenDevices::One(device) => match known_row(answer, device) {

@@ -4,10 +4,11 @@ use Rattle.std.specs.Prelude.{if◌then◌else◌}
 use Rattle.std.proofs.lemmas.Bool.{both_ways, false_from_ne_true, false≢true, not-true, not_from_false}
 use Rattle.std.proofs.lemmas.Map.Keys.{IsDistinct-from_apart, apart_from_distinct}
 use Rattle.id_ranges.specs.Pool.{Pool}
-use Rattle.id_ranges.proofs.FreeBlocks.{IsIn-from_meets, meets-from_IsIn}
+use Rattle.id_ranges.proofs.FreeBlocks.{IsIn-from_meets, blocks_overlap-from_IsIn}
 use Rattle.site_core.specs.Section.{SiteValue, names_of, issuers_of, pools_of, seat_names_of, tokens_of}
 use Rattle.site_core.specs.Site.{pools_meet, is_over_limit}
-use Rattle.site_core.specs.SiteFaults.{has_pair, has_repeat, has_bad_pool, judged, fault_number, ArePoolsApart, HasNoRepeat, KeepsRule, IsLowestBroken}
+use Rattle.site_core.specs.SiteFaults.{has_pair, has_repeat, has_bad_pool, site_or_fault, site_fault_number, ArePoolsApart, HasNoRepeat}
+use Rattle.site_core.specs.SiteFaults.{KeepsSiteRule, IsLowestSiteFault}
 use Rattle.site_core.specs.declared.fault.SiteFault.{SiteFault}
 use Rattle.site_core.specs.declared.fault.SiteFault.TheVariants.{NotToml, BadMember, Repeated, PoolsMeet, BadPool, OverLimit, OutOfMemory}
 use Rattle.site_core.proofs.Judged.{ArePools-from_good, good-from_ArePools, none_of}
@@ -40,15 +41,15 @@ pools_decided pools =
     Decides-no_breach (has_pair pools_meet pools) (AllPairs ArePoolsApart pools)
     (λ none i j d before low mac in_one in_other.
     both_ways _ (apart_from_distinct pools_meet pools i j d (IsDistinct-from_has_pair pools_meet pools none) before low)
-    (meets-from_IsIn _ _ mac in_one in_other))
+    (blocks_overlap-from_IsIn _ _ mac in_one in_other))
     (λ apart. has_pair-from_IsDistinct pools_meet pools
     (IsDistinct-from_apart pools_meet pools (λ i j d before low.
     false_from_ne_true _ (λ met. let shared = IsIn-from_meets _ _ met in apart i j d before low shared.0 shared.1 shared.2))))
 
 -- the rules of all faults below a number, by the rules of those that have one
-rules_below : (site : SiteValue) (n : ℕ) → (3 < n → KeepsRule Repeated site) → (4 < n → KeepsRule PoolsMeet site) → (5 < n → KeepsRule BadPool site)
-    → (6 < n → KeepsRule OverLimit site)
-    → (other : SiteFault) → fault_number other < n → KeepsRule other site
+rules_below : (site : SiteValue) (n : ℕ) → (3 < n → KeepsSiteRule Repeated site) → (4 < n → KeepsSiteRule PoolsMeet site) → (5 < n → KeepsSiteRule BadPool site)
+    → (6 < n → KeepsSiteRule OverLimit site)
+    → (other : SiteFault) → site_fault_number other < n → KeepsSiteRule other site
 rules_below site n once apart good within NotToml low = tt
 rules_below site n once apart good within BadMember low = tt
 rules_below site n once apart good within Repeated low = once low
@@ -63,10 +64,10 @@ broken_by d holds = false≢true (d.1 holds)
 
 -- the fault that four tests tell is that of the first that finds a breach
 lowest_of_tests : (site : SiteValue) (fault : SiteFault) (repeat meet bad over : Bool)
-    → Decides (not repeat) (KeepsRule Repeated site) → Decides (not meet) (KeepsRule PoolsMeet site) → Decides (not bad) (KeepsRule BadPool site)
-    → Decides (not over) (KeepsRule OverLimit site)
+    → Decides (not repeat) (KeepsSiteRule Repeated site) → Decides (not meet) (KeepsSiteRule PoolsMeet site) → Decides (not bad) (KeepsSiteRule BadPool site)
+    → Decides (not over) (KeepsSiteRule OverLimit site)
     → (if repeat then Err Repeated else if meet then Err PoolsMeet else if bad then Err BadPool else if over then Err OverLimit else Ok site) ≡ Err fault
-    → IsLowestBroken fault site
+    → IsLowestSiteFault fault site
 lowest_of_tests site fault true meet bad over d3 d4 d5 d6 e =
     let same : Repeated ≡ fault = cc in
     rw (← same) (record {
@@ -97,8 +98,8 @@ lowest_of_tests site fault false false false true d3 d4 d5 d6 e =
     })
 lowest_of_tests site fault false false false false d3 d4 d5 d6 e = cc
 
-pub IsLowestBroken-from_judged : (site : SiteValue) (fault : SiteFault) → judged site ≡ Err fault → IsLowestBroken fault site
-IsLowestBroken-from_judged site fault e =
+pub IsLowestSiteFault-from_judged : (site : SiteValue) (fault : SiteFault) → site_or_fault site ≡ Err fault → IsLowestSiteFault fault site
+IsLowestSiteFault-from_judged site fault e =
     lowest_of_tests site fault (has_repeat site) (has_pair pools_meet (pools_of site)) (has_bad_pool site.customers) (is_over_limit site)
     (repeats_decided site) (pools_decided (pools_of site))
     (Decides-no_breach (has_bad_pool site.customers) _ (ArePools-from_good (pools_of site)) (good-from_ArePools (pools_of site)))

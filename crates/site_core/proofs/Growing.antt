@@ -7,7 +7,7 @@ use Rattle.std.proofs.lemmas.Bool.Decides.{Decides-and, Decides-by_and, Decides-
 use Rattle.std.proofs.lemmas.List.Folds.{Any-from_list_any, list_any-from_Any}
 use Rattle.std.proofs.lemmas.Slice.Eq.{bytes_eq-Decides, starts_is}
 use Rattle.id_ranges.specs.Pool.{Pool}
-use Rattle.site_core.specs.Growth.{IsGrowth, Keeps, are_kept, is_same_pool, is_same_seat, keeps}
+use Rattle.site_core.specs.Growth.{IsGrowth, KeepsSection, are_kept, is_same_pool, is_same_seat, keeps}
 use Rattle.site_core.specs.Section.{SeatOf, Section, SiteValue}
 
 all_decided : {X : Type 0} (p : X → Bool) (P : X → Type 0) → ((x : X) → Decides (p x) (P x)) → (xs : List X) → Decides (list_all p xs) (All P xs)
@@ -49,7 +49,7 @@ pools_decided old new =
     let is = starts_is pool_decided new old (starts_with is_same_pool new old) refl in
     (λ e. (drop (length old) new, is.0 e), λ more. is.1 more.0 more.1)
 
-keeps_decided : (old new : Section) → Decides (keeps old new) (Keeps old new)
+keeps_decided : (old new : Section) → Decides (keeps old new) (KeepsSection old new)
 keeps_decided old new =
     Decides-like (keeps old new)
     (λ is. record { name = sym is.0.0.0; issuers = is.0.0.1; seats = is.0.1; pools = is.1 })
@@ -62,8 +62,8 @@ keeps_decided old new =
     (pools_decided old.pools new.pools))
 
 -- each customer is kept by one of the others
-kept_decided : (old new : List Section) → Decides (are_kept old new) (All (λ s. Any (Keeps s) new) old)
-kept_decided old new = all_decided _ (λ s. Any (Keeps s) new) (λ s. any_decided (keeps s) (Keeps s) (keeps_decided s) new) old
+kept_decided : (old new : List Section) → Decides (are_kept old new) (All (λ s. Any (KeepsSection s) new) old)
+kept_decided old new = all_decided _ (λ s. Any (KeepsSection s) new) (λ s. any_decided (keeps s) (KeepsSection s) (keeps_decided s) new) old
 
 -- a site grew where its customers are kept and its manager is
 pub growth_if_managed : (old new : SiteValue) (kept managed : Bool) → kept ≡ are_kept old.customers new.customers → kept ≡ true

@@ -13,7 +13,7 @@ use Rattle.id_ranges.proofs.Pools.{IsPool-from_pool_of, pool_of-from_IsPool}
 use Rattle.text_core.specs.Answer.{GivesUnless, result_map}
 use Rattle.site_core.specs.Section.{Section, SiteValue, names_of, issuers_of, pools_of, seat_names_of, tokens_of}
 use Rattle.site_core.specs.Site.{IsSite, pools_meet, is_over_limit, is_section_over}
-use Rattle.site_core.specs.SiteFaults.{has_pair, has_repeat, is_bad_pool, has_bad_pool, judged}
+use Rattle.site_core.specs.SiteFaults.{has_pair, has_repeat, is_bad_pool, has_bad_pool, site_or_fault}
 use Rattle.site_core.specs.declared.fault.SiteFault.{SiteFault}
 use Rattle.site_core.specs.declared.fault.SiteFault.TheVariants.{Repeated, PoolsMeet, BadPool, OverLimit, OutOfMemory}
 use Rattle.site_core.proofs.Pairs.{IsDistinct-from_has_pair, has_pair-from_IsDistinct}
@@ -103,19 +103,19 @@ no_fault false false false true site found e = cc
 no_fault false false false false site found e = (refl, refl, refl, refl, cc)
 
 -- the site that is judged to have no fault is one
-pub IsSite-from_judged : (site found : SiteValue) → judged site ≡ Ok found → IsSite found
+pub IsSite-from_judged : (site found : SiteValue) → site_or_fault site ≡ Ok found → IsSite found
 IsSite-from_judged site found e =
     let parts = no_fault (has_repeat site) (has_pair pools_meet (pools_of site)) (has_bad_pool site.customers) (is_over_limit site) site found e in
     rw (← parts.4) (IsSite-from_faultless site parts.0 parts.1 parts.2 parts.3)
 
 -- it is the one that was judged
-pub same-from_judged : (site found : SiteValue) → judged site ≡ Ok found → site ≡ found
+pub same-from_judged : (site found : SiteValue) → site_or_fault site ≡ Ok found → site ≡ found
 same-from_judged site found e =
     (no_fault (has_repeat site) (has_pair pools_meet (pools_of site)) (has_bad_pool site.customers) (is_over_limit site) site found e).4
 
 -- a site is judged to have no fault
-pub judged-from_IsSite : (site : SiteValue) → IsSite site → judged site ≡ Ok site
-judged-from_IsSite site is =
+pub site_or_fault-from_IsSite : (site : SiteValue) → IsSite site → site_or_fault site ≡ Ok site
+site_or_fault-from_IsSite site is =
     let names = has_pair-from_IsDistinct bytes_eq (names_of site) is.names in
     let issuers = has_pair-from_IsDistinct bytes_eq (issuers_of site) is.issuers in
     let seats = has_pair-from_IsDistinct bytes_eq (seat_names_of site) is.seats in

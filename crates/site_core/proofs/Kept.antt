@@ -6,12 +6,12 @@ use Rattle.std.proofs.lemmas.List.Elements.{All-contains, Contains-append_left}
 use Rattle.std.proofs.lemmas.List.Folds.{Any-from_list_any}
 use Rattle.std.proofs.lemmas.Map.Views.{Contains-from_any}
 use Rattle.std.proofs.lemmas.Slice.Eq.{bytes_eq-Decides}
-use Rattle.id_ranges.specs.Blocks.{IsWithin}
+use Rattle.id_ranges.specs.Blocks.{IsBlockWithin}
 use Rattle.id_ranges.specs.Pool.{Pool}
 use Rattle.id_ranges.proofs.FreeBlocks.{find-passes}
 use Rattle.site_core.specs.Caller.{no_section, section_in}
-use Rattle.site_core.specs.Growth.{IsGrowth, Keeps}
-use Rattle.site_core.specs.Owners.{OwnersGrow, has_issuer, has_seat, owners_of}
+use Rattle.site_core.specs.Growth.{IsGrowth, KeepsSection}
+use Rattle.site_core.specs.Ownership.{OwnershipGrows, is_issuer_of, has_seat, ownership_of}
 use Rattle.site_core.specs.Section.{SeatOf, Section, SiteValue}
 use Rattle.site_core.specs.Site.{IsSite}
 use Rattle.site_core.proofs.Owners.{IsDistinct-by_key, find-of_key, find-of_name, place_of_found, pool_of_found}
@@ -20,17 +20,17 @@ use Rattle.site_core.proofs.Owners.{IsDistinct-by_key, find-of_key, find-of_name
 record IsKeptIn (s : Section) (customers : List Section) : Type 0 where
   place : ℕ
   low : place < length customers
-  keeps : Keeps s (section_in customers place)
+  keeps : KeepsSection s (section_in customers place)
 
 -- a customer that is found in the old site is kept in the new one
 kept_of_found : (old new : SiteValue) (test : Section → Bool) (s : Section) → IsGrowth old new → find test old.customers ≡ Some s → IsKeptIn s new.customers
 kept_of_found old new test s growth found =
     let at = place_of_found test old.customers s no_section found in
-    let some : Any (Keeps s) new.customers = subst (λ x. Any (Keeps x) new.customers) at.2 (growth.customers at.0 no_section at.1) in
+    let some : Any (KeepsSection s) new.customers = subst (λ x. Any (KeepsSection x) new.customers) at.2 (growth.customers at.0 no_section at.1) in
     record {
       place = some.0;
       low = some.2;
-      keeps = subst (Keeps s) (get_or_read new.customers some.0 some.1 some.2 (sym some.3) no_section) some.4;
+      keeps = subst (KeepsSection s) (get_or_read new.customers some.0 some.1 some.2 (sym some.3) no_section) some.4;
     }
 
 -- whose name is told, was found
@@ -44,20 +44,20 @@ found_of_some None e = cc
 found_of_some (Some s) e = (s, refl)
 
 -- an issuer of a customer is that customer's still
-issuer_kept : (old new : SiteValue) (issuer customer : List ℕ) → IsSite new → IsGrowth old new → (owners_of old).issuer issuer ≡ Some customer
-    → (owners_of new).issuer issuer ≡ Some customer
+issuer_kept : (old new : SiteValue) (issuer customer : List ℕ) → IsSite new → IsGrowth old new → (ownership_of old).issuer issuer ≡ Some customer
+    → (ownership_of new).issuer issuer ≡ Some customer
 issuer_kept old new issuer customer w growth is =
-    let found = found_of_name (find (has_issuer issuer) old.customers) customer is in
-    let kept = kept_of_found old new (has_issuer issuer) found.0 growth found.1 in
+    let found = found_of_name (find (is_issuer_of issuer) old.customers) customer is in
+    let kept = kept_of_found old new (is_issuer_of issuer) found.0 growth found.1 in
     let own : Contains found.0.issuers issuer =
-    Contains-from_any (λ x y. (bytes_eq-Decides x y).0) issuer found.0.issuers (find-passes (has_issuer issuer) old.customers found.0 found.1) in
+    Contains-from_any (λ x y. (bytes_eq-Decides x y).0) issuer found.0.issuers (find-passes (is_issuer_of issuer) old.customers found.0 found.1) in
     let there = All-contains (Contains (section_in new.customers kept.place).issuers) found.0.issuers issuer kept.keeps.issuers own in
     ap (option_map (λ s. s.name)) (find-of_key (λ x. x) (λ s. s.issuers) new.customers kept.place issuer w.issuers kept.low there)
     ∙ ap Some (kept.keeps.name ∙ found.2)
 
 -- so is a seat
-seat_kept : (old new : SiteValue) (seat customer : List ℕ) → IsSite new → IsGrowth old new → (owners_of old).seat seat ≡ Some customer
-    → (owners_of new).seat seat ≡ Some customer
+seat_kept : (old new : SiteValue) (seat customer : List ℕ) → IsSite new → IsGrowth old new → (ownership_of old).seat seat ≡ Some customer
+    → (ownership_of new).seat seat ≡ Some customer
 seat_kept old new seat customer w growth is =
     let found = found_of_name (find (has_seat seat) old.customers) customer is in
     let kept = kept_of_found old new (has_seat seat) found.0 growth found.1 in
@@ -73,7 +73,7 @@ seat_kept old new seat customer w growth is =
 record IsFoundIn (s : Section) (customer : List ℕ) (customers : List Section) : Type 0 where
   section : Section
   found : find (λ s. bytes_eq customer s.name) customers ≡ Some section
-  keeps : Keeps s section
+  keeps : KeepsSection s section
 
 found_again : (old new : SiteValue) (customer : List ℕ) (s : Section) → IsSite new → IsGrowth old new → find (λ s.
     bytes_eq customer s.name) old.customers ≡ Some s → IsFoundIn s customer new.customers
@@ -90,20 +90,21 @@ found_again old new customer s w growth found =
     }
 
 -- a block of addresses within a pool is within one of more pools
-within_more : (block : ℕ × ℕ) (pools more all : List Pool) → all ≡ pools ++ more → Any (IsWithin block) pools → Any (IsWithin block) all
+within_more : (block : ℕ × ℕ) (pools more all : List Pool) → all ≡ pools ++ more → Any (IsBlockWithin block) pools → Any (IsBlockWithin block) all
 within_more block pools more all is some =
     let there = Contains-append_left pools more some.1 (some.0, some.2, some.3) in
     rw is (there.0, some.1, there.1, there.2, some.4)
 
-pools_kept : (old new : SiteValue) (customer : List ℕ) (block : ℕ × ℕ) → IsSite new → IsGrowth old new → Any (IsWithin block) ((owners_of old).pools customer)
-    → Any (IsWithin block) ((owners_of new).pools customer)
+pools_kept : (old new : SiteValue) (customer : List ℕ) (block : ℕ × ℕ) → IsSite new
+    → IsGrowth old new → Any (IsBlockWithin block) ((ownership_of old).pools customer)
+    → Any (IsBlockWithin block) ((ownership_of new).pools customer)
 pools_kept old new customer block w growth some =
     let was = pool_of_found (find (λ s. bytes_eq customer s.name) old.customers) block some in
     let again = found_again old new customer was.0 w growth was.1 in
     rw again.found (within_more block was.0.pools again.keeps.pools.0 again.section.pools again.keeps.pools.1 was.2)
 
 -- the owners of a site that grew
-pub owners_grown : (old new : SiteValue) → IsSite new → IsGrowth old new → OwnersGrow (owners_of old) (owners_of new)
+pub owners_grown : (old new : SiteValue) → IsSite new → IsGrowth old new → OwnershipGrows (ownership_of old) (ownership_of new)
 owners_grown old new w growth = record {
   customers = λ customer is. let was =
       found_of_some (find (λ s. bytes_eq customer s.name) old.customers) is in ap is_some (found_again old new customer was.0 w growth was.1).found;

@@ -4,10 +4,10 @@ use Rattle.std.specs.Prelude.{All, Any, Contains, IfSome}
 use Rattle.std.proofs.lemmas.List.{append-nil, get_or_default}
 use Rattle.std.proofs.lemmas.List.Elements.{All-contains, All-weaker, Contains-get_or}
 use Rattle.id_ranges.specs.Pool.{Pool}
-use Rattle.site_core.specs.Growth.{IsGrowth, Keeps}
+use Rattle.site_core.specs.Growth.{IsGrowth, KeepsSection}
 use Rattle.site_core.specs.Section.{Section, SiteValue}
 
-keeps_itself : (s : Section) → Keeps s s
+keeps_itself : (s : Section) → KeepsSection s s
 keeps_itself s = record {
   name = refl;
   issuers = λ k d low. Contains-get_or s.issuers k d low;
@@ -31,7 +31,7 @@ growth_itself site = record {
 among_more : {X : Type 0} (a b c : List X) → All (Contains b) a → All (Contains c) b → All (Contains c) a
 among_more a b c one two = All-weaker (Contains b) (Contains c) (λ x there. All-contains (Contains c) b x two there) a one
 
-keeps_more : (a b c : Section) → Keeps a b → Keeps b c → Keeps a c
+keeps_more : (a b c : Section) → KeepsSection a b → KeepsSection b c → KeepsSection a c
 keeps_more a b c one two = record {
   name = two.name ∙ one.name;
   issuers = among_more a.issuers b.issuers c.issuers one.issuers two.issuers;
@@ -50,7 +50,7 @@ pub growth_again : (a b c : SiteValue) → IsGrowth a b → IsGrowth b c → IsG
 growth_again a b c one two = record {
   customers = λ k d low.
       let first = one.customers k d low in
-      let next : Any (Keeps first.1) c.customers = subst (λ s. Any (Keeps s) c.customers) first.3 (two.customers first.0 first.1 first.2) in
+      let next : Any (KeepsSection first.1) c.customers = subst (λ s. Any (KeepsSection s) c.customers) first.3 (two.customers first.0 first.1 first.2) in
       (next.0, next.1, next.2, next.3, keeps_more (get_or a.customers k d) first.1 next.1 first.4 next.4);
   manager = managed_more a.manager b.manager c.manager one.manager two.manager;
 }

@@ -14,10 +14,10 @@ use Rattle.std.proofs.lemmas.Map.Keys.{IsDistinct-from_apart, apart_from_distinc
 use Rattle.std.proofs.lemmas.Option.{get_or_from_slice_get, slice_get-get_or, slice_get_within}
 use Rattle.std.proofs.lemmas.Slice.Eq.{bytes_eq-Decides}
 use Rattle.id_ranges.specs.Pool.{Pool}
-use Rattle.id_ranges.specs.Blocks.{IsIn, IsWithin}
-use Rattle.id_ranges.proofs.FreeBlocks.{find-passes, meets-from_IsIn}
-use Rattle.site_core.specs.Caller.{IsSeatCaller, no_seat, no_section, seat_at, section_at, section_in}
-use Rattle.site_core.specs.Owners.{AreApart, IsSection, owners_of, pools_in}
+use Rattle.id_ranges.specs.Blocks.{IsIn, IsBlockWithin}
+use Rattle.id_ranges.proofs.FreeBlocks.{find-passes, blocks_overlap-from_IsIn}
+use Rattle.site_core.specs.Caller.{IsSeatCaller, no_seat, no_section, seat_name_at, section_at, section_in}
+use Rattle.site_core.specs.Ownership.{PoolsDisjoint, IsSection, ownership_of, pools_in}
 use Rattle.site_core.specs.Section.{SeatOf, Section, SiteValue}
 use Rattle.site_core.specs.Site.{IsSite, pools_meet}
 use Rattle.site_core.specs.declared.site.SeatCaller.{SeatCaller}
@@ -87,19 +87,19 @@ find-of_name customers i distinct low =
 
 -- a seat of a customer is that customer's
 seat_of_section : (site : SiteValue) (i : ℕ) (seat : SeatOf) → IsSite site → i < length site.customers → Contains (section_in site.customers i).seats seat
-    → (owners_of site).seat seat.name ≡ Some (section_in site.customers i).name
+    → (ownership_of site).seat seat.name ≡ Some (section_in site.customers i).name
 seat_of_section site i seat w low own =
     ap (option_map (λ s. s.name)) (find-of_key (λ seat. seat.name) (λ s.
     s.seats) site.customers i seat (IsDistinct-by_key bytes_eq (λ seat. seat.name) _ w.seats) low own)
 
 -- the seat of a caller is its customer's
 pub seat_owned : (site : SiteValue) (caller : SeatCaller) → IsSite site → IsSeatCaller site caller
-    → (owners_of site).seat (seat_at site caller) ≡ Some (section_at site caller).name
+    → (ownership_of site).seat (seat_name_at site caller) ≡ Some (section_at site caller).name
 seat_owned site caller w within =
     seat_of_section site caller.customer _ w within.customer_in (Contains-get_or _ caller.seat no_seat within.seat_in)
 
 -- the issuers, the seats and the pools of a caller's customer are that customer's
-pub section_owned : (site : SiteValue) (caller : SeatCaller) → IsSite site → IsSeatCaller site caller → IsSection (owners_of site) (section_at site caller)
+pub section_owned : (site : SiteValue) (caller : SeatCaller) → IsSite site → IsSeatCaller site caller → IsSection (ownership_of site) (section_at site caller)
 section_owned site caller w within = record {
   customer = ap is_some (find-of_name site.customers caller.customer w.names within.customer_in);
   issuers = recursion_from_All _ _ (λ k d low.
@@ -125,18 +125,20 @@ place_of_found p xs x d found =
     (position_or_len p xs, slice_get_within xs _ x at, get_or_from_slice_get xs _ x d at)
 
 -- an interval within a pool of a customer that was found
-pub pool_of_found : (found : Option Section) (a : ℕ × ℕ) → Any (IsWithin a) (pools_in found) → (s : Section) × (found ≡ Some s) × Any (IsWithin a) s.pools
+pub pool_of_found : (found : Option Section) (a : ℕ × ℕ) → Any (IsBlockWithin a) (pools_in found)
+    → (s : Section) × (found ≡ Some s) × Any (IsBlockWithin a) s.pools
 pool_of_found None a any = let low = any.2 in absurd (omega arith)
 pool_of_found (Some s) a any = (s, refl, any)
 
 -- an address of an interval within such a pool
-IsHeld-from_within : (customers : List Section) (name : List ℕ) (a : ℕ × ℕ) (mac : ℕ) → Any (IsWithin a) (pools_in (find (λ s. bytes_eq name s.name) customers))
+IsHeld-from_within : (customers : List Section) (name : List ℕ) (a : ℕ × ℕ) (mac : ℕ)
+    → Any (IsBlockWithin a) (pools_in (find (λ s. bytes_eq name s.name) customers))
     → IsIn a mac → IsHeld customers name mac
 IsHeld-from_within customers name a mac any inside =
     let found = pool_of_found _ a any in
     let at = place_of_found _ customers found.0 no_section found.1 in
     let pool = found.2.1 in
-    let within : IsWithin a pool = found.2.4 in
+    let within : IsBlockWithin a pool = found.2.4 in
     record {
       place = at.0;
       low = at.1;
@@ -152,10 +154,10 @@ held_apart : (site : SiteValue) (one other : List ℕ) (mac : ℕ) → IsSite si
 held_apart site one other mac w first second before =
     both_ways _ (apart_in_pieces pools_meet (λ s. s.pools) site.customers first.place second.place no_section first.pool second.pool w.apart before second.low
     first.own second.own)
-    (meets-from_IsIn _ _ mac first.inside second.inside)
+    (blocks_overlap-from_IsIn _ _ mac first.inside second.inside)
 
 -- no address lies within pools of two customers
-pub owners_apart : (site : SiteValue) → IsSite site → AreApart (owners_of site)
+pub owners_apart : (site : SiteValue) → IsSite site → PoolsDisjoint (ownership_of site)
 owners_apart site w = λ one other differ a b in_one in_other mac in_a in_b.
     let first = IsHeld-from_within site.customers one a mac in_one in_a in
     let second = IsHeld-from_within site.customers other b mac in_other in_b in

@@ -11,16 +11,16 @@ use Rattle.toml_members.specs.Documents.{document_of}
 use Rattle.text_core.specs.Options.{◌>>=◌}
 use Rattle.site_core.specs.Section.{SiteValue}
 use Rattle.site_core.specs.Site.{IsSite}
-use Rattle.site_core.specs.SiteFaults.{judged, IsLowestBroken}
-use Rattle.site_core.specs.SiteText.{HasMembers, IsSiteText, site_of, site_read}
+use Rattle.site_core.specs.SiteFaults.{site_or_fault, IsLowestSiteFault}
+use Rattle.site_core.specs.SiteText.{HasSiteMembers, IsSiteText, site_of, site_read}
 use Rattle.site_core.specs.declared.fault.SiteFault.{SiteFault}
 use Rattle.site_core.specs.declared.fault.SiteFault.TheVariants.{NotToml, BadMember, OverLimit, OutOfMemory}
-use Rattle.site_core.proofs.Judged.{IsSite-from_judged, same-from_judged, judged-from_IsSite}
-use Rattle.site_core.proofs.Broken.{IsLowestBroken-from_judged}
+use Rattle.site_core.proofs.Judged.{IsSite-from_judged, same-from_judged, site_or_fault-from_IsSite}
+use Rattle.site_core.proofs.Broken.{IsLowestSiteFault-from_judged}
 
 -- what a document's parts are judged to be
 abbrev draft_read : Option SiteValue → Result SiteValue SiteFault
-draft_read draft = result_and_then judged (ok_or draft BadMember)
+draft_read draft = result_and_then site_or_fault (ok_or draft BadMember)
 
 abbrev document_judged : Option Data → Result SiteValue SiteFault
 document_judged document = result_and_then (λ d. draft_read (site_of d)) (ok_or document NotToml)
@@ -33,9 +33,10 @@ document-from_judged : (document : Option Data) (site : SiteValue) → document_
 document-from_judged None site e = cc
 document-from_judged (Some d) site e = draft-from_read (site_of d) site e
 
-judged-from_document : (document : Option Data) (site : SiteValue) → (document >>= site_of) ≡ Some site → IsSite site → document_judged document ≡ Ok site
-judged-from_document None site e is = cc
-judged-from_document (Some d) site e is = rw e (judged-from_IsSite site is)
+site_or_fault-from_document : (document : Option Data) (site : SiteValue)
+    → (document >>= site_of) ≡ Some site → IsSite site → document_judged document ≡ Ok site
+site_or_fault-from_document None site e is = cc
+site_or_fault-from_document (Some d) site e is = rw e (site_or_fault-from_IsSite site is)
 
 -- a text is read where it isn't over its limit
 read-from_limit : (over : Bool) (read : Result SiteValue SiteFault) (site : SiteValue) → (if over then Err OverLimit else read) ≡ Ok site
@@ -54,7 +55,7 @@ IsSiteText-from_read text site e =
 pub read-from_IsSiteText : (text : List ℕ) (site : SiteValue) → IsSiteText text site → site_read text ≡ Ok site
 read-from_IsSiteText text site is =
     let under : nat_lt 1048576 (length text) ≡ false = grind (arith, nat_tests, is.within) in
-    rw under (judged-from_document (document_of text) site is.members is.is_site)
+    rw under (site_or_fault-from_document (document_of text) site is.members is.is_site)
 
 -- an answer is the text's site
 pub valid_from_exact : (text : List ℕ) (answer : Result SiteValue SiteFault) → GivesUnless OutOfMemory answer (site_read text) → IfOk answer (IsSiteText text)
@@ -70,18 +71,18 @@ refused_from_exact text (Err fault) (inl e) = λ other site is. let read = read-
 refused_from_exact text (Err fault) (inr e) = λ other site is. other cc
 
 -- a document with all members of a site is judged as that site
-judged_of_members : (document : Option Data) (site : SiteValue) → (document >>= site_of) ≡ Some site → document_judged document ≡ judged site
+judged_of_members : (document : Option Data) (site : SiteValue) → (document >>= site_of) ≡ Some site → document_judged document ≡ site_or_fault site
 judged_of_members None site e = cc
 judged_of_members (Some d) site e = rw e refl
 
-read_of_members : (text : List ℕ) (site : SiteValue) → HasMembers text site → site_read text ≡ judged site
+read_of_members : (text : List ℕ) (site : SiteValue) → HasSiteMembers text site → site_read text ≡ site_or_fault site
 read_of_members text site has =
     let under : nat_lt 1048576 (length text) ≡ false = grind (arith, nat_tests, has.within) in
     rw under (judged_of_members (document_of text) site has.members)
 
 -- a fault that is answered is that of a broken rule, and no lower rule is broken
 pub lowest_from_exact : (text : List ℕ) (answer : Result SiteValue SiteFault) → GivesUnless OutOfMemory answer (site_read text) → IfErr answer (λ fault.
-    fault ≢ OutOfMemory → (site : SiteValue) → HasMembers text site → IsLowestBroken fault site)
+    fault ≢ OutOfMemory → (site : SiteValue) → HasSiteMembers text site → IsLowestSiteFault fault site)
 lowest_from_exact text (Ok site) exact = tt
-lowest_from_exact text (Err fault) (inl e) = λ other site has. IsLowestBroken-from_judged site fault (sym (read_of_members text site has) ∙ sym e)
+lowest_from_exact text (Err fault) (inl e) = λ other site has. IsLowestSiteFault-from_judged site fault (sym (read_of_members text site has) ∙ sym e)
 lowest_from_exact text (Err fault) (inr e) = λ other site has. absurd (other cc)

@@ -28,8 +28,8 @@ abbrev pub seat_of : SiteValue → SeatCaller → SeatOf
 seat_of site caller = slice_index_or (section_at site caller).seats caller.seat no_seat
 
 -- its name
-abbrev pub seat_at : SiteValue → SeatCaller → List ℕ
-seat_at site caller = (seat_of site caller).name
+abbrev pub seat_name_at : SiteValue → SeatCaller → List ℕ
+seat_name_at site caller = (seat_of site caller).name
 
 -- the seat's customer is one of the site's, and the seat one of the customer's
 pub record IsSeatCaller (site : SiteValue) (caller : SeatCaller) : Type 0 where

@@ -5,7 +5,7 @@ use Rattle.id_ranges.specs.Pool.{Pool}
 use Rattle.site_core.specs.Section.{SeatOf, Section, SiteValue}
 
 -- the customer keeps the name, the issuers, the seats with their tokens, and the pools in front of any others
-pub record Keeps (old new : Section) : Type 0 where
+pub record KeepsSection (old new : Section) : Type 0 where
   pub name : new.name ≡ old.name
   pub issuers : All (Contains new.issuers) old.issuers
   pub seats : All (Contains new.seats) old.seats
@@ -13,7 +13,7 @@ pub record Keeps (old new : Section) : Type 0 where
 
 -- each customer of the old site is kept, and its manager has the same token
 pub record IsGrowth (old new : SiteValue) : Type 0 where
-  pub customers : All (λ s. Any (Keeps s) new.customers) old.customers
+  pub customers : All (λ s. Any (KeepsSection s) new.customers) old.customers
   pub manager : IfSome old.manager (λ token. new.manager ≡ Some token)
 
 -- as a test, in the same words: seats of one name and one token

@@ -1,7 +1,7 @@
 -- What the contracts of this crate are made of.
 pub mod Caller
 pub mod Growth
-pub mod Owners
+pub mod Ownership
 pub mod Section
 pub mod Site
 pub mod SiteFaults

@@ -2,12 +2,12 @@
 use Rattle.std.specs.Prelude.{◌≡◌, Bool, false, ◌||◌, nat_lt, length, bytes_eq}
 use Rattle.std.specs.List.{IsDistinct, list_any, AllByRecursion}
 use Rattle.id_ranges.specs.Pool.{Pool, IsPool}
-use Rattle.id_ranges.specs.Blocks.{meets}
+use Rattle.id_ranges.specs.Blocks.{blocks_overlap}
 use Rattle.site_core.specs.Section.{Section, SiteValue, names_of, issuers_of, pools_of, seat_names_of, tokens_of}
 
 -- two pools have an address in common
 abbrev pub pools_meet : Pool → Pool → Bool
-pools_meet a b = meets (a.first, a.count) (b.first, b.count)
+pools_meet a b = blocks_overlap (a.first, a.count) (b.first, b.count)
 
 -- a customer has more than 64 seats, 8 issuers or 16 pools
 abbrev pub is_section_over : Section → Bool

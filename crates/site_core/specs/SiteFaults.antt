@@ -11,19 +11,19 @@ use Rattle.site_core.specs.declared.fault.SiteFault.{SiteFault}
 use Rattle.site_core.specs.declared.fault.SiteFault.TheVariants.{NotToml, BadMember, Repeated, PoolsMeet, BadPool, OverLimit, OutOfMemory}
 
 -- the number of a fault
-abbrev pub fault_number : SiteFault → ℕ
-fault_number NotToml = 1
-fault_number BadMember = 2
-fault_number Repeated = 3
-fault_number PoolsMeet = 4
-fault_number BadPool = 5
-fault_number OverLimit = 6
-fault_number OutOfMemory = 7
+abbrev pub site_fault_number : SiteFault → ℕ
+site_fault_number NotToml = 1
+site_fault_number BadMember = 2
+site_fault_number Repeated = 3
+site_fault_number PoolsMeet = 4
+site_fault_number BadPool = 5
+site_fault_number OverLimit = 6
+site_fault_number OutOfMemory = 7
 
 -- the fault of a text that has no document
-abbrev pub fault_of_document : DocumentFault → SiteFault
-fault_of_document document.NotToml = NotToml
-fault_of_document document.OutOfMemory = OutOfMemory
+abbrev pub site_fault_of_document : DocumentFault → SiteFault
+site_fault_of_document document.NotToml = NotToml
+site_fault_of_document document.OutOfMemory = OutOfMemory
 
 -- an element goes with one after it
 abbrev pub has_pair : {A : Type 0} → (A → A → Bool) → List A → Bool
@@ -55,23 +55,23 @@ abbrev pub ArePoolsApart : Pool → Pool → Type 0
 ArePoolsApart p q = IsApart (p.first, p.count) (q.first, q.count)
 
 -- the rule that a fault is of: nothing comes twice, no address lies in two pools, each pool can be one, the limits are kept
-abbrev pub KeepsRule : SiteFault → SiteValue → Type 0
-KeepsRule NotToml site = Unit {0}
-KeepsRule BadMember site = Unit {0}
-KeepsRule Repeated site = HasNoRepeat site
-KeepsRule PoolsMeet site = AllPairs ArePoolsApart (pools_of site)
-KeepsRule BadPool site = AllByRecursion IsPool (pools_of site)
-KeepsRule OverLimit site = is_over_limit site ≡ false
-KeepsRule OutOfMemory site = Unit {0}
+abbrev pub KeepsSiteRule : SiteFault → SiteValue → Type 0
+KeepsSiteRule NotToml site = Unit {0}
+KeepsSiteRule BadMember site = Unit {0}
+KeepsSiteRule Repeated site = HasNoRepeat site
+KeepsSiteRule PoolsMeet site = AllPairs ArePoolsApart (pools_of site)
+KeepsSiteRule BadPool site = AllByRecursion IsPool (pools_of site)
+KeepsSiteRule OverLimit site = is_over_limit site ≡ false
+KeepsSiteRule OutOfMemory site = Unit {0}
 
 -- the site breaks the rule of this fault, and keeps that of each fault with a lower number
-pub record IsLowestBroken (fault : SiteFault) (site : SiteValue) : Type 0 where
-  pub broken : ¬ KeepsRule fault site
-  pub lower : (other : SiteFault) → fault_number other < fault_number fault → KeepsRule other site
+pub record IsLowestSiteFault (fault : SiteFault) (site : SiteValue) : Type 0 where
+  pub broken : ¬ KeepsSiteRule fault site
+  pub lower : (other : SiteFault) → site_fault_number other < site_fault_number fault → KeepsSiteRule other site
 
 -- the site, or the lowest fault of how its parts fit together
-abbrev pub judged : SiteValue → Result SiteValue SiteFault
-judged site =
+abbrev pub site_or_fault : SiteValue → Result SiteValue SiteFault
+site_or_fault site =
     if has_repeat site then Err Repeated
     else if has_pair pools_meet (pools_of site) then Err PoolsMeet
     else if has_bad_pool site.customers then Err BadPool

@@ -9,7 +9,7 @@ use Rattle.toml_members.specs.Documents.{document_of, whole_member, text_member,
 use Rattle.text_core.specs.Options.{◌>>=◌, all_of}
 use Rattle.site_core.specs.Section.{SeatOf, Section, SiteValue}
 use Rattle.site_core.specs.Site.{IsSite}
-use Rattle.site_core.specs.SiteFaults.{judged}
+use Rattle.site_core.specs.SiteFaults.{site_or_fault}
 use Rattle.site_core.specs.declared.fault.SiteFault.{SiteFault}
 use Rattle.site_core.specs.declared.fault.SiteFault.TheVariants.{NotToml, BadMember, OverLimit}
 
@@ -25,8 +25,8 @@ pool_in d = do
   Some (record { first = first; count = count })
 
 -- a seat
-unfoldable pub seat_in : Data → Option SeatOf
-seat_in d = do
+unfoldable pub seat_of_data : Data → Option SeatOf
+seat_of_data d = do
   name ← name_member (codes "name") d
   token ← digest_member (codes "token") d
   Some (record { name = name; token = token })
@@ -40,17 +40,17 @@ customer_in d = do
   pool_items ← optional_items (codes "pool") d
   pools ← all_of pool_in pool_items
   seat_items ← optional_items (codes "seat") d
-  seats ← all_of seat_in seat_items
+  seats ← all_of seat_of_data seat_items
   Some (record { name = name; issuers = issuers; pools = pools; seats = seats })
 
 -- the digest of a manager's token, where there is a manager
-abbrev pub token_of : Option Data → Option (Option (List ℕ))
-token_of None = Some None
-token_of (Some d) = option_map Some (digest_member (codes "token") d)
+abbrev pub manager_token : Option Data → Option (Option (List ℕ))
+manager_token None = Some None
+manager_token (Some d) = option_map Some (digest_member (codes "token") d)
 
 -- the digest of the manager's token, where the document names one
 abbrev pub manager_in : Data → Option (Option (List ℕ))
-manager_in d = token_of (get (codes "manager") d)
+manager_in d = manager_token (get (codes "manager") d)
 
 -- the site of a document whose named members are of their types and ranges
 unfoldable pub site_of : Data → Option SiteValue
@@ -61,7 +61,7 @@ site_of d = do
   Some (record { customers = customers; manager = manager })
 
 -- the text is a TOML document of at most 1,048,576 bytes (2^20) whose named members are the site's
-pub record HasMembers (text : List ℕ) (site : SiteValue) : Type 0 where
+pub record HasSiteMembers (text : List ℕ) (site : SiteValue) : Type 0 where
   pub within : length text ≤ 1048576
   pub members : (document_of text >>= site_of) ≡ Some site
 
@@ -75,7 +75,7 @@ pub record IsSiteText (text : List ℕ) (site : SiteValue) : Type 0 where
 abbrev pub site_read : List ℕ → Result SiteValue SiteFault
 site_read text =
     if nat_lt 1048576 (length text) then Err OverLimit
-    else result_and_then (λ d. result_and_then judged (ok_or (site_of d) BadMember)) (ok_or (document_of text) NotToml)
+    else result_and_then (λ d. result_and_then site_or_fault (ok_or (site_of d) BadMember)) (ok_or (document_of text) NotToml)
 
 -- a text, the site that it is, and the SHA-256 of its bytes
 pub record TextOfSite : Type 0 where

@@ -1,6 +1,6 @@
 // The faults of a site's text.
 ghost use Rattle.std.specs.Prelude.{◌≡◌};
-ghost use Rattle.site_core.specs.SiteFaults.{fault_number, fault_of_document};
+ghost use Rattle.site_core.specs.SiteFaults.{site_fault_number, site_fault_of_document};
 ghost use Rattle.site_core.specs.declared.fault.SiteFault.TheVariants.{OutOfMemory};
 
 use std::alloc::{AllocError, AllocFailed};
@@ -38,7 +38,7 @@ pub enum SiteFault {
 impl SiteFault {
     /// The number of the fault, 1 to 7.
     pub fn number(self) -> u8
-        ensures { result ≡ fault_number self }
+        ensures { result ≡ site_fault_number self }
     {
         match self {
             SiteFault::NotToml => 1,
@@ -69,7 +69,7 @@ impl<T: Drop> From<AllocFailed<T>> for SiteFault {
 }
 
 impl From<DocumentFault> for SiteFault {
-    ghost from_gives = { λ found fault. fault ≡ fault_of_document found };
+    ghost from_gives = { λ found fault. fault ≡ site_fault_of_document found };
 
     fn from(found: DocumentFault) -> SiteFault {
         match found {

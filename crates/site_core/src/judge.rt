@@ -7,7 +7,7 @@ ghost use Rattle.site_core.specs.Section.{with_token};
 ghost use Rattle.site_core.specs.Site as site;
 ghost use Rattle.site_core.specs.Site.{is_section_over};
 ghost use Rattle.site_core.specs.SiteFaults.{has_pair, has_repeat, is_bad_pool, has_bad_pool};
-ghost use Rattle.site_core.specs.SiteFaults.{judged};
+ghost use Rattle.site_core.specs.SiteFaults.{site_or_fault};
 
 use crate::customer::{Customer, ISSUER_LIMIT, POOL_LIMIT, SEAT_LIMIT, Seat};
 use crate::draft::{CustomerDraft, PoolDraft, SiteDraft};
@@ -20,7 +20,7 @@ use text_core::{Digest, Name};
 
 /// The site of a draft, or the lowest fault of how its parts fit together.
 pub(crate) fn judged_site(alloc: Global, draft: SiteDraft) -> Result<Site, SiteFault>
-    ensures { GivesUnless SiteFault.OutOfMemory result (judged draft) }
+    ensures { GivesUnless SiteFault.OutOfMemory result (site_or_fault draft) }
 {
     if has_repeat(alloc, &draft)? {
         return Err(SiteFault::Repeated);

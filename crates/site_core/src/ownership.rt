@@ -1,8 +1,8 @@
 // Laws of sites and their owners, over the definitions alone.
 ghost use Rattle.std.specs.Prelude.{◌≡◌, Some};
-ghost use Rattle.site_core.specs.Caller.{IsSeatCaller, seat_at, section_at};
+ghost use Rattle.site_core.specs.Caller.{IsSeatCaller, seat_name_at, section_at};
 ghost use Rattle.site_core.specs.Growth.{IsGrowth};
-ghost use Rattle.site_core.specs.Owners.{AreApart, IsSection, OwnersGrow, owners_of};
+ghost use Rattle.site_core.specs.Ownership.{PoolsDisjoint, IsSection, OwnershipGrows, ownership_of};
 ghost use Rattle.site_core.specs.Section.{SiteValue};
 ghost use Rattle.site_core.specs.Site.{IsSite};
 ghost use Rattle.site_core.specs.declared.site.SeatCaller.{SeatCaller};
@@ -11,17 +11,17 @@ ghost use Rattle.site_core.specs.declared.site.SeatCaller.{SeatCaller};
 pub fn sections_are_the_customers_own()
     ensures section { (site : SiteValue) (caller : SeatCaller) → IsSite site
         → IsSeatCaller site caller
-        → IsSection (owners_of site) (section_at site caller) }
+        → IsSection (ownership_of site) (section_at site caller) }
     ensures seat { (site : SiteValue) (caller : SeatCaller) → IsSite site → IsSeatCaller site caller
-        → (owners_of site).seat (seat_at site caller) ≡ Some (section_at site caller).name }
-    ensures apart { (site : SiteValue) → IsSite site → AreApart (owners_of site) }
+        → (ownership_of site).seat (seat_name_at site caller) ≡ Some (section_at site caller).name }
+    ensures apart { (site : SiteValue) → IsSite site → PoolsDisjoint (ownership_of site) }
 {}
 
 /// Where a site grew, each issuer, seat and block of addresses of a customer is still that
 /// customer's.
 pub fn owners_grow_with_a_site()
     ensures { (old new : SiteValue) → IsSite new → IsGrowth old new
-        → OwnersGrow (owners_of old) (owners_of new) }
+        → OwnershipGrows (ownership_of old) (ownership_of new) }
 {}
 
 /// A site is a growth of itself, and a growth of a growth is one of the first.

@@ -3,7 +3,7 @@ ghost use Rattle.std.specs.Prelude.{◌≡◌, ◌<◌, ◌↔◌, IfSome, IsTru
 ghost use Rattle.std.specs.List.{list_any, position};
 ghost use Rattle.sha2.specs.Sha256.{sha256};
 ghost use Rattle.site_core.specs.Caller.{IsSeatCaller, IsCaller, HoldsToken, caller_of};
-ghost use Rattle.site_core.specs.Caller.{seat_caller_with, manager_with, has_seat_with, seat_at};
+ghost use Rattle.site_core.specs.Caller.{seat_caller_with, manager_with, has_seat_with, seat_name_at};
 ghost use Rattle.site_core.specs.Caller.{seat_of, section_at, section_in};
 ghost use Rattle.site_core.specs.Growth.{IsGrowth};
 ghost use Rattle.site_core.specs.Section.{tokens_of};
@@ -113,7 +113,7 @@ impl Site {
     /// The name of a seat.
     pub fn seat(&self, caller: SeatCaller) -> Name
         requires { IsSeatCaller self.now caller }
-        ensures { result ≡ seat_at self.now caller }
+        ensures { result ≡ seat_name_at self.now caller }
     {
         self.customer(caller).seats()[caller.seat].name()
     }

@@ -3,10 +3,10 @@ ghost use Rattle.std.specs.Prelude.{◌≡◌, ◌≢◌, ◌<◌, IfErr, IfOk, 
 ghost use Rattle.toml.specs.View.{view};
 ghost use Rattle.text_core.specs.Answer.{GivesUnless};
 ghost use Rattle.site_core.specs.Section.{SiteValue};
-ghost use Rattle.site_core.specs.SiteFaults.{IsLowestBroken};
+ghost use Rattle.site_core.specs.SiteFaults.{IsLowestSiteFault};
 ghost use Rattle.site_core.specs.SiteText as site_text;
-ghost use Rattle.site_core.specs.SiteText.{HasMembers, IsSiteText, customer_in, manager_in};
-ghost use Rattle.site_core.specs.SiteText.{pool_in, seat_in, site_of, site_read};
+ghost use Rattle.site_core.specs.SiteText.{HasSiteMembers, IsSiteText, customer_in, manager_in};
+ghost use Rattle.site_core.specs.SiteText.{pool_in, seat_of_data, site_of, site_read};
 
 use crate::customer::Seat;
 use crate::draft::{CustomerDraft, PoolDraft, SiteDraft};
@@ -37,7 +37,7 @@ pub fn read_site(alloc: Global, text: &str) -> Result<Site, SiteFault>
 
     // Of a text with all its members the fault is that of a broken rule, and no lower rule is broken.
     ensures lowest { IfErr result (λ fault. fault ≢ SiteFault.OutOfMemory
-        → (site : SiteValue) → HasMembers text.now site → IsLowestBroken fault site) }
+        → (site : SiteValue) → HasSiteMembers text.now site → IsLowestSiteFault fault site) }
 
     // No site is the text's where a fault other than want of memory is told.
     ensures refused { IfErr result (λ fault. fault ≢ SiteFault.OutOfMemory
@@ -129,9 +129,9 @@ fn mac_member(value: &Value, name: &str) -> Option<Mac>
     Mac::parse(text_member(value, name)?)
 }
 
-#[tactic(auto, unfolding(crate::specs::SiteText::seat_in))]
+#[tactic(auto, unfolding(crate::specs::SiteText::seat_of_data))]
 fn read_seat(value: &Value) -> Option<Seat>
-    ensures { result ≡ seat_in (view value.now) }
+    ensures { result ≡ seat_of_data (view value.now) }
 {
     let name = name_member(value, "name")?;
     let token = digest_member(value, "token")?;

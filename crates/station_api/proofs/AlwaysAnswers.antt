@@ -3,8 +3,8 @@ use Rattle.std.proofs.Common.{◌≡◌, false, Option, Some, None, refl}
 use Rattle.std.specs.Prelude.{Result, Ok, Err}
 use Rattle.http_frames.specs.Frames.{Request as HttpRequest}
 use Rattle.http_replies.specs.Replies.{Answer, is_unavailable}
-use Rattle.site_core.specs.Caller.{seat_at, section_at}
-use Rattle.site_core.specs.Owners.{owners_of}
+use Rattle.site_core.specs.Caller.{seat_name_at, section_at}
+use Rattle.site_core.specs.Ownership.{ownership_of}
 use Rattle.site_core.specs.Section.{SiteValue}
 use Rattle.site_core.specs.declared.site.Caller.{Caller}
 use Rattle.site_core.specs.declared.site.Caller.TheVariants.{Seat, Manager}
@@ -17,49 +17,51 @@ use Rattle.office_runs.proofs.Served.{step_is_served}
 use Rattle.office_laws.specs.Sound.{IsSound}
 use Rattle.office_laws.proofs.Obeying.{step_always}
 use Rattle.yield_report.specs.Reports.{order_report_in, site_report_in}
-use Rattle.station_api.specs.Machine.{AnswersAny, AnswersAsked, Asks, StationAnswers, caller_at}
-use Rattle.office_runs.specs.Exchanges.{reported}
-use Rattle.station_api.specs.Requests.{asked, of_manager, of_seat}
+use Rattle.station_api.specs.HttpAnswers.{AnswersAnyCaller, ParsedOrUnkept, AnswersParsed, AnswersHttp, caller_at}
+use Rattle.office_runs.specs.Exchanges.{report_reply}
+use Rattle.station_api.specs.Requests.{parse_request, of_manager, of_seat}
 use Rattle.station_api.specs.declared.parse.Parsed.{Parsed}
 use Rattle.station_api.specs.declared.parse.Parsed.TheVariants.{Office, Report, SiteReport}
 use Rattle.station_api.proofs.AskedFor.{IsWithin, asked_within}
 
 -- what is done, and no 503, is an answer
 answers : (site : SiteValue) (caller : Caller) (wanted : Result Parsed Refusal) (t : Tables) (reply : Answer) (t2 : Tables)
-    → is_unavailable reply.status ≡ false → Asks site caller wanted t reply t2 → AnswersAsked site caller wanted t reply t2
+    → is_unavailable reply.status ≡ false → AnswersParsed site caller wanted t reply t2 → ParsedOrUnkept site caller wanted t reply t2
 answers site caller wanted t reply t2 served made = rw served made
 
 -- an answer that is no 503
 abbrev HasAnswer : SiteValue → Caller → Tables → Result Parsed Refusal → Type 0
-HasAnswer site caller t wanted = (reply : Answer) × (t2 : Tables) × AnswersAsked site caller wanted t reply t2 × (is_unavailable reply.status ≡ false)
+HasAnswer site caller t wanted = (reply : Answer) × (t2 : Tables) × ParsedOrUnkept site caller wanted t reply t2 × (is_unavailable reply.status ≡ false)
 
-module _ (site : SiteValue) (t : Tables) (sound : IsSound (owners_of site) t) where
+module _ (site : SiteValue) (t : Tables) (sound : IsSound (ownership_of site) t) where
   -- what is refused or told, with the tables as they were
-  told : (caller : Caller) (wanted : Result Parsed Refusal) (reply : Answer) → is_unavailable reply.status ≡ false → Asks site caller wanted t reply t → HasAnswer site caller t wanted
+  told : (caller : Caller) (wanted : Result Parsed Refusal) (reply : Answer)
+      → is_unavailable reply.status ≡ false → AnswersParsed site caller wanted t reply t
+      → HasAnswer site caller t wanted
   told caller wanted reply served made = (reply, t, answers site caller wanted t reply t served made, served)
 
   -- to what a seat asks
   seat_answers : (caller : SeatCaller) (wanted : Result Parsed Refusal) → IsWithin of_seat wanted → HasAnswer site (Seat caller) t wanted
   seat_answers caller (Err reason) within = told (Seat caller) (Err reason) (refusal reason) within (refl, refl)
   seat_answers caller (Ok (Office request)) within =
-      let step = step_always sound (section_at site caller) (seat_at site caller) request in
-      let served = step_is_served (section_at site caller) (seat_at site caller) t request step.0 step.1 step.2 in
+      let step = step_always sound (section_at site caller) (seat_name_at site caller) request in
+      let served = step_is_served (section_at site caller) (seat_name_at site caller) t request step.0 step.1 step.2 in
       (step.0, step.1, answers site (Seat caller) (Ok (Office request)) t step.0 step.1 served step.2, served)
-  seat_answers caller (Ok Report) within = told (Seat caller) (Ok Report) (reported (order_report_in (section_at site caller).name t)) refl (refl, refl)
+  seat_answers caller (Ok Report) within = told (Seat caller) (Ok Report) (report_reply (order_report_in (section_at site caller).name t)) refl (refl, refl)
   seat_answers caller (Ok SiteReport) within = absurd within
 
   -- and to what the manager asks
   manager_answers : (wanted : Result Parsed Refusal) → IsWithin of_manager wanted → HasAnswer site Manager t wanted
   manager_answers (Err reason) within = told Manager (Err reason) (refusal reason) within (refl, refl)
-  manager_answers (Ok SiteReport) within = told Manager (Ok SiteReport) (reported (site_report_in site t)) refl (refl, refl)
+  manager_answers (Ok SiteReport) within = told Manager (Ok SiteReport) (report_reply (site_report_in site t)) refl (refl, refl)
   manager_answers (Ok (Office request)) within = absurd within
   manager_answers (Ok Report) within = absurd within
 
   -- to each request there is an answer that is no 503
-  pub always_answers : (r : HttpRequest) → (reply : Answer) × (t2 : Tables) × StationAnswers site t r reply t2 × (is_unavailable reply.status ≡ false)
+  pub always_answers : (r : HttpRequest) → (reply : Answer) × (t2 : Tables) × AnswersHttp site t r reply t2 × (is_unavailable reply.status ≡ false)
   always_answers r = by (caller_at site r)
     where
-      by : (found : Option Caller) → (reply : Answer) × (t2 : Tables) × AnswersAny site found r t reply t2 × (is_unavailable reply.status ≡ false)
+      by : (found : Option Caller) → (reply : Answer) × (t2 : Tables) × AnswersAnyCaller site found r t reply t2 × (is_unavailable reply.status ≡ false)
       by None = (refusal UnknownToken, t, (refl, refl), refl)
-      by (Some (Seat caller)) = seat_answers caller (asked of_seat r) (asked_within of_seat r)
-      by (Some Manager) = manager_answers (asked of_manager r) (asked_within of_manager r)
+      by (Some (Seat caller)) = seat_answers caller (parse_request of_seat r) (asked_within of_seat r)
+      by (Some Manager) = manager_answers (parse_request of_manager r) (asked_within of_manager r)

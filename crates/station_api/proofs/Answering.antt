@@ -4,24 +4,29 @@ use Rattle.std.specs.Prelude.{IfOk, OnErr}
 use Rattle.std.specs.List.{AllByRecursion}
 use Rattle.http_frames.specs.Frames.{Request as HttpRequest}
 use Rattle.http_replies.specs.Replies.{Answer, is_unavailable}
-use Rattle.site_core.specs.Caller.{seat_at, section_at}
+use Rattle.site_core.specs.Caller.{seat_name_at, section_at}
 use Rattle.site_core.specs.Section.{SiteValue}
 use Rattle.site_core.specs.declared.site.Caller.{Caller}
 use Rattle.site_core.specs.declared.site.Caller.TheVariants.{Seat, Manager}
 use Rattle.office_tables.specs.Tables.{Tables}
 use Rattle.office_commands.specs.declared.refusal.Refusal.{Refusal}
-use Rattle.office_commands.specs.declared.refusal.Refusal.TheVariants.{UnknownToken, UnknownPath, WrongCaller, BadJson, BadMember, WrongNumber, OtherBody, UnknownMap, UnknownOrder, UnknownDevice, WrongState, BadPlan, QuantityReached, CodingScheme, BadReadback, BadNotBefore, Exists, BadMap, BadSerial, NumberTooWide, Exhausted, NoMacRoom, RangeOverlap, KeyBound, ForeignIssuer, ImportConflict, MapDigestTaken, Limit, Unkept}
+use Rattle.office_commands.specs.declared.refusal.Refusal.TheVariants.{UnknownToken, UnknownPath, WrongCaller, BadJson, BadMember, WrongNumber}
+use Rattle.office_commands.specs.declared.refusal.Refusal.TheVariants.{OtherBody, UnknownMap, UnknownOrder, UnknownDevice, WrongState, BadPlan}
+use Rattle.office_commands.specs.declared.refusal.Refusal.TheVariants.{QuantityReached, CodingScheme, BadReadback, BadNotBefore, Exists, BadMap}
+use Rattle.office_commands.specs.declared.refusal.Refusal.TheVariants.{BadSerial, NumberTooWide, Exhausted, NoMacRoom, RangeOverlap, KeyBound}
+use Rattle.office_commands.specs.declared.refusal.Refusal.TheVariants.{ForeignIssuer, ImportConflict, MapDigestTaken, Limit, Unkept}
 use Rattle.office_commands.specs.Refusals.{refusal_status}
 use Rattle.office_commands.specs.Replies.{refusal}
-use Rattle.office_tables.specs.Reading.{Reading}
+use Rattle.office_tables.specs.Reading.{ReadsOnly}
 use Rattle.office_tables.specs.declared.keep.Keep.{Ghosts}
 use Rattle.office_tables.specs.declared.keep.Unkept.{Unkept as NoAnswer}
-use Rattle.office_runs.specs.Exchanges.{Exchange, reported}
-use Rattle.office_runs.proofs.Leaving.{SettlesNone, leaves_unsettled, settles_none}
-use Rattle.station_api.specs.Requests.{asked, kind_of}
+use Rattle.office_runs.specs.Exchanges.{Exchange, report_reply}
+use Rattle.office_runs.proofs.Leaving.{AnswersNothing, leaves_unanswered, answers_nothing}
+use Rattle.station_api.specs.Requests.{parse_request, kind_of_caller}
 use Rattle.station_api.specs.declared.parse.Parsed.{Parsed}
-use Rattle.station_api.specs.Machine.{AnswersAny, AnswersAsked, Asks, AnswersCaller, DeskSteps, Says, SaysAny, SaysAsked, StationAnswers, caller_at}
-use Rattle.station_api.specs.Own.{exchange_any, exchange_asked, exchange_of}
+use Rattle.station_api.specs.HttpAnswers.{AnswersAnyCaller, ParsedOrUnkept, AnswersParsed, AnswersKnownCaller, DeskSteps, Says, SaysAny, SaysRefusal}
+use Rattle.station_api.specs.HttpAnswers.{AnswersHttp, caller_at}
+use Rattle.station_api.specs.SectionExchanges.{exchange_any, exchange_asked, exchange_of}
 
 -- only one refusal is answered 503
 unavailable_is_unkept : (reason : Refusal) → is_unavailable (refusal_status reason) ≡ true → reason ≡ Unkept
@@ -56,18 +61,22 @@ unavailable_is_unkept Limit e = cc
 unavailable_is_unkept Unkept e = refl
 
 -- a reply of 503
-pub unkept_asked : (site : SiteValue) (caller : Caller) (wanted : Result Parsed Refusal) (t : Tables) (reply : Answer) → reply ≡ refusal Unkept → AnswersAsked site caller wanted t reply t
+pub unkept_asked : (site : SiteValue) (caller : Caller) (wanted : Result Parsed Refusal)
+    (t : Tables) (reply : Answer) → reply ≡ refusal Unkept
+    → ParsedOrUnkept site caller wanted t reply t
 unkept_asked site caller wanted t reply is =
     let unavailable : is_unavailable reply.status ≡ true = ap (λ (a : Answer). is_unavailable a.status) is in
     rw unavailable (is, refl)
 
-unkept_said : (wanted : Result Parsed Refusal) (reply : Answer) → reply ≡ refusal Unkept → SaysAsked wanted reply
+unkept_said : (wanted : Result Parsed Refusal) (reply : Answer) → reply ≡ refusal Unkept → SaysRefusal wanted reply
 unkept_said (Ok parsed) reply is = tt
 unkept_said (Err reason) reply is = inr is
 
-refused_asked : (site : SiteValue) (caller : Caller) (wanted : Result Parsed Refusal) (t : Tables) (reply : Answer) (reason : Refusal) → wanted ≡ Err reason → reply ≡ refusal reason → AnswersAsked site caller wanted t reply t
+refused_asked : (site : SiteValue) (caller : Caller) (wanted : Result Parsed Refusal) (t : Tables)
+    (reply : Answer) (reason : Refusal) → wanted ≡ Err reason → reply ≡ refusal reason
+    → ParsedOrUnkept site caller wanted t reply t
 refused_asked site caller wanted t reply reason refused is =
-    elim (is_unavailable (refusal_status reason)) as (λ b. is_unavailable (refusal_status reason) ≡ b → AnswersAsked site caller wanted t reply t) [
+    elim (is_unavailable (refusal_status reason)) as (λ b. is_unavailable (refusal_status reason) ≡ b → ParsedOrUnkept site caller wanted t reply t) [
       | true ↦ λ e. unkept_asked site caller wanted t reply (is ∙ ap refusal (unavailable_is_unkept reason e))
       | false ↦ λ e.
           let served : is_unavailable reply.status ≡ false = ap (λ (a : Answer). is_unavailable a.status) is ∙ e in
@@ -76,15 +85,19 @@ refused_asked site caller wanted t reply reason refused is =
 
 -- a request that is refused as it came
 pub refused_caller : (site : SiteValue) (caller : Caller) (wanted : Result Parsed Refusal) (t : Tables) (reply : Answer) (reason : Refusal)
-    → (Err reason ≡ wanted) ⊎ (◌≡◌ {A = Result Parsed Refusal} (Err reason) (Err Unkept)) → (reply ≡ refusal reason) ⊎ (reply ≡ refusal Unkept) → AnswersAsked site caller wanted t reply t
+    → (Err reason ≡ wanted) ⊎ (◌≡◌ {A = Result Parsed Refusal} (Err reason) (Err Unkept))
+    → (reply ≡ refusal reason) ⊎ (reply ≡ refusal Unkept)
+    → ParsedOrUnkept site caller wanted t reply t
 refused_caller site caller wanted t reply reason is (inr said) = unkept_asked site caller wanted t reply said
 refused_caller site caller wanted t reply reason (inl is) (inl said) = refused_asked site caller wanted t reply reason (sym is) said
-refused_caller site caller wanted t reply reason (inr unkept) (inl said) = let same : reason ≡ Unkept = cc in unkept_asked site caller wanted t reply (said ∙ ap refusal same)
+refused_caller site caller wanted t reply reason (inr unkept) (inl said) = let same : reason
+    ≡ Unkept = cc in unkept_asked site caller wanted t reply (said ∙ ap refusal same)
 
 pub refused_said : (wanted : Result Parsed Refusal) (reply : Answer) (reason : Refusal)
-    → (Err reason ≡ wanted) ⊎ (◌≡◌ {A = Result Parsed Refusal} (Err reason) (Err Unkept)) → (reply ≡ refusal reason) ⊎ (reply ≡ refusal Unkept) → SaysAsked wanted reply
+    → (Err reason ≡ wanted) ⊎ (◌≡◌ {A = Result Parsed Refusal} (Err reason) (Err Unkept))
+    → (reply ≡ refusal reason) ⊎ (reply ≡ refusal Unkept) → SaysRefusal wanted reply
 refused_said wanted reply reason is (inr said) = unkept_said wanted reply said
-refused_said wanted reply reason (inl is) (inl said) = subst (λ w. SaysAsked w reply) is (inl said)
+refused_said wanted reply reason (inl is) (inl said) = subst (λ w. SaysRefusal w reply) is (inl said)
 refused_said wanted reply reason (inr unkept) (inl said) = let same : reason ≡ Unkept = cc in unkept_said wanted reply (said ∙ ap refusal same)
 
 pub asked_is : {A E : Type 0} (wanted : Result A E) (x : A) (e : E) → (Ok x ≡ wanted) ⊎ (Ok x ≡ Err e) → wanted ≡ Ok x
@@ -96,12 +109,12 @@ pub refused_settles : (site : SiteValue) (caller : Caller) (wanted : Result Pars
     (reply : Answer) (reason : Refusal)
     → (Err reason ≡ wanted) ⊎ (◌≡◌ {A = Result Parsed Refusal} (Err reason) (Err Unkept))
     → (reply ≡ refusal reason) ⊎ (reply ≡ refusal Unkept)
-    → AllByRecursion SettlesNone (exchange_asked site caller wanted reply)
+    → AllByRecursion AnswersNothing (exchange_asked site caller wanted reply)
 refused_settles site Manager wanted reply reason is said = tt
 refused_settles site (Seat caller) wanted reply reason (inl is) said =
-    (subst (λ (w : Result Parsed Refusal). SettlesNone (exchange_of (section_at site caller) (seat_at site caller) w reply)) is refl, tt)
+    (subst (λ (w : Result Parsed Refusal). AnswersNothing (exchange_of (section_at site caller) (seat_name_at site caller) w reply)) is refl, tt)
 refused_settles site (Seat caller) wanted reply reason (inr unkept) said =
-    (settles_none (exchange_of (section_at site caller) (seat_at site caller) wanted reply) (unavailable said), tt)
+    (answers_nothing (exchange_of (section_at site caller) (seat_name_at site caller) wanted reply) (unavailable said), tt)
   where
     unavailable : (reply ≡ refusal reason) ⊎ (reply ≡ refusal Unkept) → is_unavailable reply.status ≡ true
     unavailable (inl is) = let same : reason ≡ Unkept = cc in ap (λ (a : Answer). is_unavailable a.status) (is ∙ ap refusal same)
@@ -110,7 +123,7 @@ refused_settles site (Seat caller) wanted reply reason (inr unkept) said =
 -- a keeper that isn't asked
 pub unchanged : {K : Type 0} (k : Ghosts K) (Said : Answer → Type 0) (exchanges : Answer → List Exchange)
     (step : Tables → Answer → Tables → Type 0) (keep : K) (reply : Answer)
-    → Said reply → AllByRecursion SettlesNone (exchanges reply) → ((t : Tables) → step t reply t)
+    → Said reply → AllByRecursion AnswersNothing (exchanges reply) → ((t : Tables) → step t reply t)
     → DeskSteps k Said exchanges step keep reply keep
 unchanged k Said exchanges step keep reply said unsettled same = record {
   was_open = λ is. is;
@@ -119,7 +132,7 @@ unchanged k Said exchanges step keep reply said unsettled same = record {
   answered = λ _ t stands. (
     t,
     same t,
-    leaves_unsettled (exchanges reply) t t (k.may_leave keep) (k.may_leave keep) unsettled refl (λ left is. is),
+    leaves_unanswered (exchanges reply) t t (k.may_leave keep) (k.may_leave keep) unsettled refl (λ left is. is),
     stands,
   );
 }
@@ -127,47 +140,54 @@ unchanged k Said exchanges step keep reply said unsettled same = record {
 -- a request with the token of a caller
 pub known_caller : {K : Type 0} (k : Ghosts K) (site : SiteValue) (caller : Caller) (r : HttpRequest) (old : K) (reply : Answer) (new : K)
     → caller_at site r ≡ Some caller
-    → DeskSteps k (SaysAsked (asked (kind_of caller) r)) (exchange_asked site caller (asked (kind_of caller) r)) (AnswersCaller site caller r) old reply new
-    → DeskSteps k (Says site r) (λ said. exchange_any site (caller_at site r) r said) (λ t. StationAnswers site t r) old reply new
+    → DeskSteps k (SaysRefusal (parse_request (kind_of_caller caller) r))
+    (exchange_asked site caller (parse_request (kind_of_caller caller) r))
+    (AnswersKnownCaller site caller r) old reply new
+    → DeskSteps k (Says site r) (λ said. exchange_any site (caller_at site r) r said) (λ t. AnswersHttp site t r) old reply new
 known_caller k site caller r old reply new is made =
-    subst (λ (found : Option Caller). DeskSteps k (SaysAny found r) (λ said. exchange_any site found r said) (λ t said t2. AnswersAny site found r t said t2) old reply new) (sym is) made
+    subst (λ (found : Option Caller).
+    DeskSteps k (SaysAny found r) (λ said. exchange_any site found r said) (λ t said t2.
+    AnswersAnyCaller site found r t said t2) old reply new) (sym is) made
 
 -- a report is no 503
 pub report_answers : (site : SiteValue) (caller : Caller) (wanted : Result Parsed Refusal) (t : Tables) (reply : Answer) (text : List ℕ)
-    → reply ≡ reported text → Asks site caller wanted t reply t → AnswersAsked site caller wanted t reply t
+    → reply ≡ report_reply text → AnswersParsed site caller wanted t reply t → ParsedOrUnkept site caller wanted t reply t
 report_answers site caller wanted t reply text is asked_for =
     let served : is_unavailable reply.status ≡ false = ap (λ (a : Answer). is_unavailable a.status) is in
     rw served asked_for
 
 -- a report that is read by a keeper, and told
-module _ {K A : Type 0} (k : Ghosts K) (site : SiteValue) (caller : Caller) (parsed : Parsed) (bytes : A → List ℕ) (text : Tables → List ℕ) (Says : Tables → A → Type 0)
-    (unsettled : (reply : Answer) → AllByRecursion SettlesNone (exchange_asked site caller (Ok parsed) reply))
-    (says : (t : Tables) (v : A) → Says t v → bytes v ≡ text t)
-    (answers : (t : Tables) (reply : Answer) → reply ≡ reported (text t) → AnswersAsked site caller (Ok parsed) t reply t) where
-  pub report_told : (old new : K) (result : Result A NoAnswer) (reply : Answer) → Reading k old new result Says
-      → IfOk result (λ v. reply ≡ reported (bytes v)) → OnErr result (reply ≡ refusal Unkept)
-      → DeskSteps k (SaysAsked (Ok parsed)) (exchange_asked site caller (Ok parsed)) (AnswersAsked site caller (Ok parsed)) old reply new
+module _ {K A : Type 0} (k : Ghosts K) (site : SiteValue) (caller : Caller) (parsed : Parsed)
+    (bytes : A → List ℕ) (text : Tables → List ℕ) (Says : Tables → A → Type 0)
+    (unsettled : (reply : Answer) → AllByRecursion AnswersNothing (exchange_asked site caller (Ok parsed) reply))
+    (answer : (t : Tables) (v : A) → Says t v → bytes v ≡ text t)
+    (answers : (t : Tables) (reply : Answer) → reply ≡ report_reply (text t) → ParsedOrUnkept site caller (Ok parsed) t reply t) where
+  pub report_told : (old new : K) (result : Result A NoAnswer) (reply : Answer) → ReadsOnly k old new result Says
+      → IfOk result (λ v. reply ≡ report_reply (bytes v)) → OnErr result (reply ≡ refusal Unkept)
+      → DeskSteps k (SaysRefusal (Ok parsed)) (exchange_asked site caller (Ok parsed)) (ParsedOrUnkept site caller (Ok parsed)) old reply new
   report_told old new (Ok v) reply read told none = record {
-    was_open = read.reads.was_open;
-    was_honest = read.reads.was_honest;
+    was_open = read.read_only.was_open;
+    was_honest = read.read_only.was_honest;
     said = tt;
     answered = λ honest t stands.
         let opened = read.stays_open honest in
-        let is : bytes v ≡ text t = says (k.tables old) v (read.says opened) ∙ ap text (stands (read.reads.was_open opened)) in (
+        let is : bytes v ≡ text t = answer (k.tables old) v (read.answer opened) ∙ ap text (stands (read.read_only.was_open opened)) in (
           t,
-          answers t reply (told ∙ ap reported is),
-          leaves_unsettled (exchange_asked site caller (Ok parsed) reply) t t (k.may_leave old) (k.may_leave new) (unsettled reply) refl (read.reads.crash honest),
-          (λ after. read.reads.same after ∙ stands (read.reads.was_open after)),
+          answers t reply (told ∙ ap report_reply is),
+          leaves_unanswered (exchange_asked site caller (Ok parsed) reply) t t (k.may_leave old)
+              (k.may_leave new) (unsettled reply) refl (read.read_only.crash honest),
+          (λ after. read.read_only.same after ∙ stands (read.read_only.was_open after)),
         );
   }
   report_told old new (Err unkept) reply read told none = record {
-    was_open = read.reads.was_open;
-    was_honest = read.reads.was_honest;
+    was_open = read.read_only.was_open;
+    was_honest = read.read_only.was_honest;
     said = tt;
     answered = λ honest t stands. (
       t,
       unkept_asked site caller (Ok parsed) t reply none,
-      leaves_unsettled (exchange_asked site caller (Ok parsed) reply) t t (k.may_leave old) (k.may_leave new) (unsettled reply) refl (read.reads.crash honest),
-      (λ after. read.reads.same after ∙ stands (read.reads.was_open after)),
+      leaves_unanswered (exchange_asked site caller (Ok parsed) reply) t t (k.may_leave old) (k.may_leave new)
+          (unsettled reply) refl (read.read_only.crash honest),
+      (λ after. read.read_only.same after ∙ stands (read.read_only.was_open after)),
     );
   }

@@ -13,8 +13,8 @@ use Rattle.hex.proofs.HexLemmas.{decode_pairs-ok}
 use Rattle.text_core.specs.Answer.{result_and_then, result_map}
 use Rattle.text_core.specs.Digest.{digest_of_text}
 use Rattle.text_core.specs.Options.{◌>>=◌, all_of}
-use Rattle.json_members.specs.Json.{chip_member, digest_member, json_of, name_member, text_if_member, text_member, whole_member, within}
-use Rattle.http_fields.specs.Fields.{path_of, query_of}
+use Rattle.json_members.specs.Json.{chip_member, digest_member, json_of, name_member, text_if_member, text_member, whole_member, number_within}
+use Rattle.http_frames.specs.Fields.{path_of, query_of}
 use Rattle.http_frames.specs.Frames.{Request as HttpRequest}
 use Rattle.http_replies.specs.Replies.{is_unavailable}
 use Rattle.fuse_plan.specs.Numbers.{number_of_text}
@@ -32,14 +32,14 @@ use Rattle.office_commands.specs.declared.refusal.Refusal.{Refusal}
 use Rattle.office_commands.specs.declared.refusal.Refusal.TheVariants.{BadJson, BadMember}
 use Rattle.station_api.specs.Devices.{new_device_of, register_device_of}
 use Rattle.station_api.specs.Ends.{scrap_of, ship_of}
-use Rattle.station_api.specs.Identities.{identity_of, new_identity_of}
+use Rattle.station_api.specs.Identities.{identify_of, new_identity_of}
 use Rattle.station_api.specs.Imports.{import_of, new_import_of}
 use Rattle.station_api.specs.Maps.{import_map_of}
 use Rattle.station_api.specs.Numbers.{number_member}
 use Rattle.station_api.specs.Orders.{make_order_of, new_order_of}
-use Rattle.station_api.specs.Plans.{kind_of, named_plan, new_plan_of, plan_device_of, want_of, wish_in, wishes_in, wishes_of}
+use Rattle.station_api.specs.Plans.{kind_of_wish, named_plan, new_plan_of, plan_device_of, want_of, wish_in, wishes_in, wishes_of}
 use Rattle.station_api.specs.ReadBacks.{new_read_back_of, read_back_of}
-use Rattle.station_api.specs.Requests.{Kind as CallerKind, asked, asked_on, body_read, of_manager, of_seat, request_of, route_of, show_of, shows}
+use Rattle.station_api.specs.Requests.{Kind as CallerKind, parse_request, parse_on_route, body_read, of_manager, of_seat, request_of, route_of, show_of, shows}
 use Rattle.station_api.specs.declared.parse.Parsed.{Parsed}
 use Rattle.station_api.specs.declared.parse.Parsed.TheVariants.{Office, Report, SiteReport}
 use Rattle.station_api.specs.declared.parse.Posted.{Posted}
@@ -55,17 +55,19 @@ each_gives P None f each = tt
 each_gives P (Some x) f each = each x refl
 
 -- a number of a range lies in it
-within_bounds : (least greatest n : ℕ) (o : Option ℕ) → option_and_then (within least greatest) o ≡ Some n → (least ≤ n) × (n ≤ greatest)
+within_bounds : (least greatest n : ℕ) (o : Option ℕ) → option_and_then (number_within least greatest) o ≡ Some n → (least ≤ n) × (n ≤ greatest)
 within_bounds least greatest n None e = cc
-within_bounds least greatest n (Some m) e = elim (nat_le least m && nat_le m greatest) as (λ b. (nat_le least m && nat_le m greatest) ≡ b → cond b (Some m) None ≡ Some n → (least ≤ n) × (n ≤ greatest)) [
-  | true ↦ λ is here.
-      let same : m ≡ n = cc in
-      let parts = and_parts (nat_le least m) (nat_le m greatest) is in
-      let low : least ≤ m = leb-true least m parts.0 in
-      let high : m ≤ greatest = leb-true m greatest parts.1 in
-      (omega (arith, same, low), omega (arith, same, high))
-  | false ↦ λ _ e. cc
-] refl e
+within_bounds least greatest n (Some m) e = elim (nat_le least m
+    && nat_le m greatest) as (λ b. (nat_le least m && nat_le m greatest) ≡ b
+    → cond b (Some m) None ≡ Some n → (least ≤ n) × (n ≤ greatest)) [
+      | true ↦ λ is here.
+          let same : m ≡ n = cc in
+          let parts = and_parts (nat_le least m) (nat_le m greatest) is in
+          let low : least ≤ m = leb-true least m parts.0 in
+          let high : m ≤ greatest = leb-true m greatest parts.1 in
+          (omega (arith, same, low), omega (arith, same, high))
+      | false ↦ λ _ e. cc
+    ] refl e
 
 -- and so does a member that is one
 member_bounds : (name : List ℕ) (least greatest n : ℕ) (d : Data) → whole_member name least greatest d ≡ Some n → (least ≤ n) × (n ≤ greatest)
@@ -94,7 +96,8 @@ order_within d =
 -- and so is the request for it
 make_order_within : (d : Data) → IfSome (make_order_of d) IsAsked
 unfolding make_order_of
-make_order_within d = each_gives IsAsked (number_member d) _ (λ number _. each_gives IsAsked (new_order_of d) _ (λ order is. let all = order_within d in rw is at all))
+make_order_within d = each_gives IsAsked (number_member d) _ (λ number _.
+    each_gives IsAsked (new_order_of d) _ (λ order is. let all = order_within d in rw is at all))
 
 -- what is read of a result is what it is
 ok_is : {A E : Type 0} (r : Result A E) (x : A) → result_ok r ≡ Some x → r ≡ Ok x
@@ -104,15 +107,21 @@ ok_is (Err y) x e = cc
 -- the digest of a text has 32 bytes
 digest_length : (text digest : List ℕ) → digest_of_text text ≡ Some digest → length digest ≡ 32
 digest_length text digest e =
-    elim (length text % 2 == 1) as (λ b. result_ok (cond b (Err FromHexError.OddLength) (cond (length text / 2 == 32) (decode_pairs 0 text) (Err FromHexError.InvalidStringLength))) ≡ Some digest → length digest ≡ 32) [
+    elim (length text % 2 == 1) as (λ b.
+    result_ok
+    (cond b (Err FromHexError.OddLength)
+    (cond (length text / 2 == 32) (decode_pairs 0 text) (Err FromHexError.InvalidStringLength)))
+    ≡ Some digest → length digest ≡ 32) [
       | true ↦ λ e. cc
-      | false ↦ elim (length text / 2 == 32) as (λ b. (length text / 2 == 32) ≡ b → result_ok (cond b (decode_pairs 0 text) (Err FromHexError.InvalidStringLength)) ≡ Some digest → length digest ≡ 32) [
-        | true ↦ λ half e.
-            let twice : length text ≡ 2 * length digest = (decode_pairs-ok 0 text digest (ok_is (decode_pairs 0 text) digest e)).1 in
-            let is : length text / 2 ≡ 32 = eqb-true _ _ half in
-            omega (arith, twice, is)
-        | false ↦ λ _ e. cc
-      ] refl
+      | false ↦ elim (length text / 2 == 32) as (λ b. (length text / 2 == 32) ≡ b
+          → result_ok (cond b (decode_pairs 0 text) (Err FromHexError.InvalidStringLength))
+          ≡ Some digest → length digest ≡ 32) [
+            | true ↦ λ half e.
+                let twice : length text ≡ 2 * length digest = (decode_pairs-ok 0 text digest (ok_is (decode_pairs 0 text) digest e)).1 in
+                let is : length text / 2 ≡ 32 = eqb-true _ _ half in
+                omega (arith, twice, is)
+            | false ↦ λ _ e. cc
+          ] refl
     ] e
 
 -- so has the digest of a key that is wished for
@@ -144,14 +153,18 @@ IsWishWithin w = HasDigest w.want
 
 -- a wish that was read is one
 wish_within : (d : Data) → IfSome (wish_in d) IsWishWithin
-wish_within d = each_gives IsWishWithin (kind_of d) _ (λ kind _. each_gives IsWishWithin (name_member (codes "field") d) _ (λ field _. each_gives IsWishWithin (want_of kind d) _ (λ w is. let all = want_within kind d in rw is at all)))
+wish_within d = each_gives IsWishWithin (kind_of_wish d) _ (λ kind _. each_gives IsWishWithin (name_member (codes "field") d) _ (λ field _. each_gives IsWishWithin (want_of kind d) _ (λ w is. let all = want_within kind d in rw is at all)))
 
 -- and so are all of a list
 all_within : (ds : List Data) → IfSome (all_of wish_in ds) (AllByRecursion IsWishWithin)
 all_within [] = tt
-all_within (d ∷ ds) = each_gives (AllByRecursion IsWishWithin) (wish_in d) _ (λ w is. later w (let all = wish_within d in rw is at all) (all_of wish_in ds) (all_within ds))
+all_within (d
+    ∷ ds) = each_gives (AllByRecursion IsWishWithin) (wish_in d) _ (λ w is.
+    later w (let all = wish_within d in rw is at all) (all_of wish_in ds) (all_within ds))
   where
-    later : (w : Wish) → IsWishWithin w → (found : Option (List Wish)) → IfSome found (AllByRecursion IsWishWithin) → IfSome (option_map (λ ws. w ∷ ws) found) (AllByRecursion IsWishWithin)
+    later : (w : Wish) → IsWishWithin w → (found : Option (List Wish))
+        → IfSome found (AllByRecursion IsWishWithin)
+        → IfSome (option_map (λ ws. w ∷ ws) found) (AllByRecursion IsWishWithin)
     later w is_within None all = tt
     later w is_within (Some ws) all = (is_within, all)
 
@@ -167,11 +180,13 @@ plan_within d = each_gives IsPlanWithin (chip_member (codes "chip") d) _ (λ chi
 -- and so is the request for it
 plan_device_within : (d : Data) → IfSome (plan_device_of d) IsAsked
 unfolding plan_device_of
-plan_device_within d = each_gives IsAsked (number_member d) _ (λ number _. each_gives IsAsked (new_plan_of d) _ (λ plan is. each_gives IsAsked (named_plan d) _ (λ members _. let all = plan_within d in rw is at all)))
+plan_device_within d = each_gives IsAsked (number_member d) _ (λ number _.
+    each_gives IsAsked (new_plan_of d) _ (λ plan is.
+    each_gives IsAsked (named_plan d) _ (λ members _. let all = plan_within d in rw is at all)))
 
 -- the others have nothing that could be out of its range
 request_within : (command : Posted) (d : Data) → IfSome (request_of command d) IsAsked
-unfolding import_map_of register_device_of read_back_of identity_of ship_of scrap_of import_of
+unfolding import_map_of register_device_of read_back_of identify_of ship_of scrap_of import_of
 request_within posted.Order d = make_order_within d
 request_within posted.Map d = each_gives IsAsked (number_member d) _ (λ number _. each_gives IsAsked (text_member (codes "text") d) _ (λ text _. tt))
 request_within posted.Device d = each_gives IsAsked (number_member d) _ (λ number _. each_gives IsAsked (new_device_of d) _ (λ device _. tt))
@@ -202,7 +217,9 @@ found_within (Some request) is_within = is_within
 body_within : (command : Posted) (body : List ℕ) → IsWithin of_seat (result_map Office (body_read command body))
 body_within command body = by (json_of body)
   where
-    by : (read : Option Data) → IsWithin of_seat (result_map Office (result_and_then (λ members. ok_or (request_of command members) BadMember) (ok_or read BadJson)))
+    by : (read : Option Data)
+        → IsWithin of_seat (result_map Office (result_and_then (λ members.
+        ok_or (request_of command members) BadMember) (ok_or read BadJson)))
     by None = refl
     by (Some members) = found_within (request_of command members) (request_within command members)
 
@@ -212,7 +229,7 @@ shown_within None = refl
 shown_within (Some show) = tt
 
 -- and so is whatever a path asks for
-route_within : (route : Option Route) (kind : CallerKind) (query body : List ℕ) → IsWithin kind (asked_on route kind query body)
+route_within : (route : Option Route) (kind : CallerKind) (query body : List ℕ) → IsWithin kind (parse_on_route route kind query body)
 route_within None of_seat query body = refl
 route_within None of_manager query body = refl
 route_within (Some (Posts command)) of_seat query body = body_within command body
@@ -225,5 +242,5 @@ route_within (Some ReportsSite) of_seat query body = refl
 route_within (Some ReportsSite) of_manager query body = tt
 
 -- whatever a request asks for is such
-pub asked_within : (kind : CallerKind) (r : HttpRequest) → IsWithin kind (asked kind r)
+pub asked_within : (kind : CallerKind) (r : HttpRequest) → IsWithin kind (parse_request kind r)
 asked_within kind r = route_within (route_of r.head.method (path_of r.head.target)) kind (query_of r.head.target) r.body

@@ -6,8 +6,8 @@ use Rattle.http_frames.specs.Frames.{Request as HttpRequest}
 use Rattle.http_replies.specs.Replies.{Answer, is_unavailable}
 use Rattle.http_replies.specs.Runs.{Runs}
 use Rattle.http_replies.proofs.RunLemmas.{runs_both}
-use Rattle.site_core.specs.Caller.{seat_at, section_at, section_in}
-use Rattle.site_core.specs.Owners.{owners_of}
+use Rattle.site_core.specs.Caller.{seat_name_at, section_at, section_in}
+use Rattle.site_core.specs.Ownership.{ownership_of}
 use Rattle.site_core.specs.Section.{SiteValue}
 use Rattle.site_core.specs.Site.{IsSite}
 use Rattle.site_core.specs.declared.site.Caller.{Caller}
@@ -19,16 +19,16 @@ use Rattle.office_commands.specs.declared.refusal.Refusal.{Refusal}
 use Rattle.office_commands.specs.declared.refusal.Refusal.TheVariants.{Unkept}
 use Rattle.office_commands.specs.Replies.{refusal}
 use Rattle.office_laws.specs.Sound.{IsSound}
-use Rattle.office_runs.specs.Alone.{IsAlone}
-use Rattle.office_runs.specs.Exchanges.{Call, Exchange, IsRun, Meets, Passes, calls_of}
+use Rattle.office_runs.specs.Alone.{IsAsAlone}
+use Rattle.office_runs.specs.Exchanges.{Call, Exchange, IsRun, FulfilsWanted, Passes, calls_of}
 use Rattle.office_runs.specs.Growth.{CanAsk}
 use Rattle.office_runs.proofs.Grown.{growth_itself}
 use Rattle.office_runs.proofs.Promising.{promises}
 use Rattle.office_runs.proofs.Seats.{IsSeatOf, all_seats}
-use Rattle.station_api.specs.Books.{IsKept}
-use Rattle.station_api.specs.Machine.{AnswersAny, AnswersAsked, Asks, StationAnswers, caller_at}
-use Rattle.station_api.specs.Own.{exchange_any, exchange_in, exchange_of, exchanges_in, wanted_of}
-use Rattle.station_api.specs.Requests.{asked, of_manager, of_seat}
+use Rattle.station_api.specs.Books.{StreamKeepsPromises}
+use Rattle.station_api.specs.HttpAnswers.{AnswersAnyCaller, ParsedOrUnkept, AnswersParsed, AnswersHttp, caller_at}
+use Rattle.station_api.specs.SectionExchanges.{exchange_any, exchange_in, exchange_of, exchanges_with_seats, wanted_of}
+use Rattle.station_api.specs.Requests.{parse_request, of_manager, of_seat}
 use Rattle.station_api.specs.declared.parse.Parsed.{Parsed}
 use Rattle.station_api.specs.declared.parse.Parsed.TheVariants.{Office, Report, SiteReport}
 use Rattle.station_api.proofs.AskedFor.{IsWithin, asked_within}
@@ -37,14 +37,14 @@ use Rattle.station_api.proofs.OwnTokens.{caller_one}
 
 -- what a seat asks for is one exchange
 seat_passes : (site : SiteValue) (caller : SeatCaller) (wanted : Result Parsed Refusal) (t : Tables)
-    (reply : Answer) (t2 : Tables) → AnswersAsked site (Seat caller) wanted t reply t2
-    → Passes t (exchange_of (section_at site caller) (seat_at site caller) wanted reply).0 reply t2
+    (reply : Answer) (t2 : Tables) → ParsedOrUnkept site (Seat caller) wanted t reply t2
+    → Passes t (exchange_of (section_at site caller) (seat_name_at site caller) wanted reply).0 reply t2
 seat_passes site caller wanted t reply t2 made = by (is_unavailable reply.status) wanted made
   where
     by : (b : Bool) (wanted : Result Parsed Refusal)
-        → MatchBool b ((reply ≡ refusal Unkept) × (t2 ≡ t)) (Asks site (Seat caller) wanted t reply t2)
+        → MatchBool b ((reply ≡ refusal Unkept) × (t2 ≡ t)) (AnswersParsed site (Seat caller) wanted t reply t2)
         → MatchBool b ((reply ≡ refusal Unkept) × (t2 ≡ t))
-        (Meets (exchange_of (section_at site caller) (seat_at site caller) wanted reply).0 (wanted_of wanted) t reply t2)
+        (FulfilsWanted (exchange_of (section_at site caller) (seat_name_at site caller) wanted reply).0 (wanted_of wanted) t reply t2)
     by true wanted made = made
     by false (Err reason) made = made
     by false (Ok (Office request)) made = made
@@ -53,11 +53,11 @@ seat_passes site caller wanted t reply t2 made = by (is_unavailable reply.status
 
 -- nothing that the manager asks for changes anything
 manager_same : (site : SiteValue) (wanted : Result Parsed Refusal) (t : Tables) (reply : Answer)
-    (t2 : Tables) → AnswersAsked site Manager wanted t reply t2 → t2 ≡ t
+    (t2 : Tables) → ParsedOrUnkept site Manager wanted t reply t2 → t2 ≡ t
 manager_same site wanted t reply t2 made = by (is_unavailable reply.status) wanted made
   where
     by : (b : Bool) (wanted : Result Parsed Refusal)
-        → MatchBool b ((reply ≡ refusal Unkept) × (t2 ≡ t)) (Asks site Manager wanted t reply t2)
+        → MatchBool b ((reply ≡ refusal Unkept) × (t2 ≡ t)) (AnswersParsed site Manager wanted t reply t2)
         → t2 ≡ t
     by true wanted made = made.1
     by false (Err reason) made = made.1
@@ -67,19 +67,19 @@ manager_same site wanted t reply t2 made = by (is_unavailable reply.status) want
 
 -- so what anybody is answered is one exchange or none
 turn_runs : (site : SiteValue) (found : Option Caller) (r : HttpRequest) (t : Tables)
-    (reply : Answer) (t2 : Tables) → AnswersAny site found r t reply t2
+    (reply : Answer) (t2 : Tables) → AnswersAnyCaller site found r t reply t2
     → IsRun (exchange_any site found r reply) t t2
 turn_runs site None r t reply t2 made = made.1
-turn_runs site (Some Manager) r t reply t2 made = manager_same site (asked of_manager r) t reply t2 made
+turn_runs site (Some Manager) r t reply t2 made = manager_same site (parse_request of_manager r) t reply t2 made
 turn_runs site (Some (Seat caller)) r t reply t2 made =
-    (t2, seat_passes site caller (asked of_seat r) t reply t2 made, refl)
+    (t2, seat_passes site caller (parse_request of_seat r) t reply t2 made, refl)
 
 -- and what all are answered is a run
 run_of : (site : SiteValue) (turns : List (HttpRequest × Answer)) (t t2 : Tables)
-    → Runs (StationAnswers site) t turns t2 → IsRun (exchanges_in site turns) t t2
+    → Runs (AnswersHttp site) t turns t2 → IsRun (exchanges_with_seats site turns) t t2
 run_of site [] t t2 run = run
 run_of site (turn ∷ turns) t t2 run =
-    runs_both Passes t (exchange_in site turn) run.0 (exchanges_in site turns) t2
+    runs_both Passes t (exchange_in site turn) run.0 (exchanges_with_seats site turns) t2
     (turn_runs site (caller_at site turn.0) turn.0 t turn.1 run.0 run.1) (run_of site turns run.0 t2 run.2)
 
 -- what a seat asks for is what a seat can ask for
@@ -97,7 +97,7 @@ all_joined P (x ∷ xs) ys all others = (all.0, all_joined P xs ys all.1 others)
 module _ (site : SiteValue) (w : IsSite site) where
   -- whoever has an exchange is a seat of the site
   turn_seats : (r : HttpRequest) (reply : Answer) (found : Option Caller) → caller_at site r ≡ found
-      → AllByRecursion (IsSeatOf (owners_of site)) (calls_of (exchange_any site found r reply))
+      → AllByRecursion (IsSeatOf (ownership_of site)) (calls_of (exchange_any site found r reply))
   turn_seats r reply None is = tt
   turn_seats r reply (Some Manager) is = tt
   turn_seats r reply (Some (Seat caller)) is =
@@ -107,38 +107,38 @@ module _ (site : SiteValue) (w : IsSite site) where
           record {
             section = section_owned site caller w one;
             seat = seat_owned site caller w one;
-            wanted = can_ask (asked of_seat r) (asked_within of_seat r);
+            wanted = can_ask (parse_request of_seat r) (asked_within of_seat r);
           },
         ),
         tt,
       )
 
   seats_of : (turns : List (HttpRequest × Answer))
-      → AllByRecursion (IsSeatOf (owners_of site)) (calls_of (exchanges_in site turns))
+      → AllByRecursion (IsSeatOf (ownership_of site)) (calls_of (exchanges_with_seats site turns))
   seats_of [] = tt
   seats_of (turn ∷ turns) =
-      all_joined (IsSeatOf (owners_of site)) (exchange_in site turn) (exchanges_in site turns)
+      all_joined (IsSeatOf (ownership_of site)) (exchange_in site turn) (exchanges_with_seats site turns)
       (turn_seats turn.0 turn.1 (caller_at site turn.0) refl) (seats_of turns)
 
   -- from sound tables the books are kept
-  pub kept : (turns : List (HttpRequest × Answer)) (t t2 : Tables) → IsSound (owners_of site) t
-      → Runs (StationAnswers site) t turns t2 → IsKept site t turns t2
+  pub kept : (turns : List (HttpRequest × Answer)) (t t2 : Tables) → IsSound (ownership_of site) t
+      → Runs (AnswersHttp site) t turns t2 → StreamKeepsPromises site t turns t2
   kept turns t t2 sound run =
-      let xs = exchanges_in site turns in
-      let promised = promises (owners_of site) xs (owners_of site) t t2 sound
-      (all_seats (owners_of site) (calls_of xs) (seats_of turns)) (run_of site turns t t2 run) in
+      let xs = exchanges_with_seats site turns in
+      let promised = promises (ownership_of site) xs (ownership_of site) t t2 sound
+      (all_seats (ownership_of site) (calls_of xs) (seats_of turns)) (run_of site turns t t2 run) in
       record {
         promises = promised;
         own = λ place low. own_are site w place low turns;
         isolated = λ place low.
-            subst (λ (own : List Exchange). IsAlone (section_in site.customers place).name own t t2)
+            subst (λ (own : List Exchange). IsAsAlone (section_in site.customers place).name own t t2)
             (own_are site w place low turns) (promised.isolated (section_in site.customers place).name);
       }
 
 -- no requests keep the books
-pub kept_none : (site : SiteValue) (t : Tables) → IsSound (owners_of site) t → IsKept site t [] t
+pub kept_none : (site : SiteValue) (t : Tables) → IsSound (ownership_of site) t → StreamKeepsPromises site t [] t
 kept_none site t sound = record {
-  promises = promises (owners_of site) [] (owners_of site) t t sound (growth_itself (owners_of site)) refl;
+  promises = promises (ownership_of site) [] (ownership_of site) t t sound (growth_itself (ownership_of site)) refl;
   own = λ place low. refl;
   isolated = λ place low. record { replies = refl; rows = refl };
 }

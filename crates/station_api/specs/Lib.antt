@@ -10,6 +10,6 @@ pub mod Identities
 pub mod Ends
 pub mod Imports
 pub mod Requests
-pub mod Machine
-pub mod Own
+pub mod HttpAnswers
+pub mod SectionExchanges
 pub mod Books

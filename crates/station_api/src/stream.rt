@@ -1,9 +1,9 @@
 // Serves a stream of a site's callers.
 ghost use Rattle.std.specs.Prelude.{◌≡◌, ◌+◌, ◌<◌, ◌≤◌, ◌^◌, List, Some};
 ghost use Rattle.http_frames.specs.Frames.{call_limit};
-ghost use Rattle.http_serving.specs.Streams.{Piece, Tells, read_faults, turns_of, write_faults};
+ghost use Rattle.http_serving.specs.Streams.{HttpExchange, Tells, read_faults, requests_with_answers, write_faults};
 ghost use Rattle.station_api.specs.Books.{Leads};
-ghost use Rattle.station_api.specs.Machine.{AreSaid};
+ghost use Rattle.station_api.specs.HttpAnswers.{AreSaid};
 
 use crate::desk::Desk;
 use http_frames::transfer::{Drain, Source};
@@ -37,18 +37,20 @@ pub fn serve_stream<K: Keep, R: Source, W: Drain>(
     requires reader { R.calls reader.old + 2 ^ 25 < 2 ^ 64 }
     requires writer { W.calls writer.old + 2 ^ 25 < 2 ^ 64 }
     ensures was_honest { K.is_honest keep.new → K.is_honest keep.old }
-    ensures run { (pieces : List Piece)
+    ensures run { (pieces : List HttpExchange)
         × Tells (R.left reader.old) (R.left reader.new)
         (W.written writer.old) (W.written writer.new) result pieces
-        × AreSaid site.now (turns_of pieces)
-        × Leads K.Keep site.now keep.old keep.new (turns_of pieces) }
+        × AreSaid site.now (requests_with_answers pieces)
+        × Leads K.Keep site.now keep.old keep.new (requests_with_answers pieces) }
     ensures calls { R.calls reader.new + W.calls writer.new
         ≤ R.calls reader.old + W.calls writer.old + call_limit }
     ensures limit { result ≡ Served.TurnLimit
         → R.calls reader.new + W.calls writer.new
         ≡ R.calls reader.old + W.calls writer.old + call_limit }
-    ensures read_faults { R.failures reader.new ≡ R.failures reader.old + read_faults (Some result) }
-    ensures write_faults { W.failures writer.new ≡ W.failures writer.old + write_faults (Some result) }
+    ensures read_faults { R.failures reader.new
+        ≡ R.failures reader.old + read_faults (Some result) }
+    ensures write_faults { W.failures writer.new
+        ≡ W.failures writer.old + write_faults (Some result) }
     ensures no_memory { result ≡ Served.NoMemory
         → (R.calls reader.new ≡ R.calls reader.old) × (W.calls writer.new ≡ W.calls writer.old) }
     ensures unserved { result ≡ Served.NoMemory → keep.new ≡ keep.old }

@@ -9,11 +9,11 @@ use Rattle.site_core.specs.Section.{SiteValue}
 use Rattle.station_api.proofs.KeptRuns.{kept_none}
 use Rattle.text_core.specs.Answer.{GivesUnless}
 use Rattle.station_jobs.specs.Replaying.{IsOfStream, Replays, failed_reads, failed_writes}
-use Rattle.station_jobs.specs.Statuses.{end_of}
+use Rattle.station_jobs.specs.Statuses.{result_of_ending}
 use Rattle.station_jobs.specs.declared.failure.Failure.{Failure}
 
 -- the limit is told of a stream that met it alone
-pub limit_end : (served : Served) → end_of served ≡ Err Failure.TurnLimit → served ≡ TurnLimit
+pub limit_end : (served : Served) → result_of_ending served ≡ Err Failure.TurnLimit → served ≡ TurnLimit
 limit_end Ended is = cc
 limit_end Closed is = cc
 limit_end Cut is = cc
@@ -23,7 +23,7 @@ limit_end TurnLimit is = refl
 limit_end NoMemory is = cc
 
 -- and want of memory of one that had none
-pub no_memory_end : (served : Served) → end_of served ≡ Err Failure.NoMemory → served ≡ NoMemory
+pub no_memory_end : (served : Served) → result_of_ending served ≡ Err Failure.NoMemory → served ≡ NoMemory
 no_memory_end Ended is = cc
 no_memory_end Closed is = cc
 no_memory_end Cut is = cc
@@ -33,7 +33,7 @@ no_memory_end TurnLimit is = cc
 no_memory_end NoMemory is = refl
 
 -- the failures of the reader
-pub failed_reads_end : (served : Served) → failed_reads (end_of served) ≡ read_faults (Some served)
+pub failed_reads_end : (served : Served) → failed_reads (result_of_ending served) ≡ read_faults (Some served)
 failed_reads_end Ended = refl
 failed_reads_end Closed = refl
 failed_reads_end Cut = refl
@@ -43,7 +43,7 @@ failed_reads_end TurnLimit = refl
 failed_reads_end NoMemory = refl
 
 -- and of the writer
-pub failed_writes_end : (served : Served) → failed_writes (end_of served) ≡ write_faults (Some served)
+pub failed_writes_end : (served : Served) → failed_writes (result_of_ending served) ≡ write_faults (Some served)
 failed_writes_end Ended = refl
 failed_writes_end Closed = refl
 failed_writes_end Cut = refl
@@ -53,7 +53,7 @@ failed_writes_end TurnLimit = refl
 failed_writes_end NoMemory = refl
 
 -- what an end says is a failure of the stream
-end_failure : (served : Served) → IfErr (end_of served) IsOfStream
+end_failure : (served : Served) → IfErr (result_of_ending served) IsOfStream
 end_failure Ended = tt
 end_failure Closed = tt
 end_failure Cut = tt
@@ -62,7 +62,7 @@ end_failure WriteFault = inr (inl refl)
 end_failure TurnLimit = inr (inr (inl refl))
 end_failure NoMemory = inr (inr (inr refl))
 
-of_stream : (result : Result Unit Failure) (served : Served) → result ≡ end_of served → IfErr result IsOfStream
+of_stream : (result : Result Unit Failure) (served : Served) → result ≡ result_of_ending served → IfErr result IsOfStream
 of_stream result served is = subst (λ r. IfErr r IsOfStream) (sym is) (end_failure served)
 
 -- what holds of each failure of this kind
@@ -71,11 +71,11 @@ failing (Ok done) P Q all holds = tt
 failing (Err failure) P Q all holds = all failure holds
 
 -- with another kind before it or behind it
-pub fails_before : (P : Failure → Type 0) (result : Result Unit Failure) (served : Served) → result ≡ end_of served
+pub fails_before : (P : Failure → Type 0) (result : Result Unit Failure) (served : Served) → result ≡ result_of_ending served
     → IfErr result (λ failure. IsOfStream failure ⊎ P failure)
 fails_before P result served is = failing result IsOfStream (λ failure. IsOfStream failure ⊎ P failure) (λ failure h. inl h) (of_stream result served is)
 
-pub fails_behind : (P : Failure → Type 0) (result : Result Unit Failure) (served : Served) → result ≡ end_of served
+pub fails_behind : (P : Failure → Type 0) (result : Result Unit Failure) (served : Served) → result ≡ result_of_ending served
     → IfErr result (λ failure. P failure ⊎ IsOfStream failure)
 fails_behind P result served is = failing result IsOfStream (λ failure. P failure ⊎ IsOfStream failure) (λ failure h. inr h) (of_stream result served is)
 
@@ -117,6 +117,7 @@ replays_no_site (Ok described) failure t left written result given is = elim giv
 replays_no_site (Err other) failure t left written result given is = tt
 
 -- what holds of the bytes that were read
-pub of_bytes : {B E : Type 0} (file : Result B E) (bytes : B) (P : B → Type 0) → IfOk file (λ b. ◌≡◌ {A = Result B Failure} (Ok bytes) (Ok b)) → P bytes → IfOk file P
+pub of_bytes : {B E : Type 0} (file : Result B E) (bytes : B) (P : B → Type 0)
+    → IfOk file (λ b. ◌≡◌ {A = Result B Failure} (Ok bytes) (Ok b)) → P bytes → IfOk file P
 of_bytes (Ok b) bytes P read holds = let same : bytes ≡ b = cc in subst P same holds
 of_bytes (Err error) bytes P read holds = tt

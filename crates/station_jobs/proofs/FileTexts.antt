@@ -6,22 +6,22 @@ use Rattle.std.specs.Borrow.{Bor}
 use Rattle.std.specs.Str.{IsUtf8, is_utf8}
 use Rattle.std.proofs.lemmas.Bool.{le-ltb}
 use Rattle.std.proofs.lemmas.Str.{is_utf8-from_IsUtf8, IsUtf8-from_is_utf8}
-use Rattle.station_jobs.specs.FileText.{or_failure, text_in}
+use Rattle.station_jobs.specs.FileText.{or_failure, text_of_file}
 use Rattle.text_core.specs.Answer.{GivesUnless, result_and_then, result_map}
 use Rattle.station_jobs.specs.declared.failure.Failure.{Failure}
 use Rattle.station_jobs.specs.declared.failure.Failure.TheVariants.{CannotRead, NoMemory}
 
 -- bytes that are a text are the text
-pub text_in-text : (name : Bor (List ℕ)) (bytes : List ℕ) (limit : ℕ) (too_long : Failure) → length bytes ≤ limit → IsUtf8 bytes
-    → Ok bytes ≡ text_in name bytes limit too_long
-text_in-text name bytes limit too_long within text = rw (le-ltb limit (length bytes) within, is_utf8-from_IsUtf8 bytes text) refl
+pub text_of_file-text : (name : Bor (List ℕ)) (bytes : List ℕ) (limit : ℕ) (too_long : Failure) → length bytes ≤ limit → IsUtf8 bytes
+    → Ok bytes ≡ text_of_file name bytes limit too_long
+text_of_file-text name bytes limit too_long within text = rw (le-ltb limit (length bytes) within, is_utf8-from_IsUtf8 bytes text) refl
 
 -- bytes that are no text can't be read
-pub text_in-no_text : (name : Bor (List ℕ)) (bytes : List ℕ) (limit : ℕ) (too_long : Failure) → length bytes ≤ limit → ¬ IsUtf8 bytes
-    → Err (CannotRead name) ≡ text_in name bytes limit too_long
-text_in-no_text name bytes limit too_long within none = go (is_utf8 bytes) refl
+pub text_of_file-no_text : (name : Bor (List ℕ)) (bytes : List ℕ) (limit : ℕ) (too_long : Failure) → length bytes ≤ limit → ¬ IsUtf8 bytes
+    → Err (CannotRead name) ≡ text_of_file name bytes limit too_long
+text_of_file-no_text name bytes limit too_long within none = go (is_utf8 bytes) refl
   where
-    go : (b : Bool) → is_utf8 bytes ≡ b → Err (CannotRead name) ≡ text_in name bytes limit too_long
+    go : (b : Bool) → is_utf8 bytes ≡ b → Err (CannotRead name) ≡ text_of_file name bytes limit too_long
     go true is = absurd (none (IsUtf8-from_is_utf8 bytes is))
     go false is = rw (le-ltb limit (length bytes) within, is) refl
 
@@ -63,7 +63,7 @@ value_passed failure_of P (Err fault) (Err failure) is holds = tt
 
 -- the text of bytes has the same bytes
 pub text_is_bytes : (name : Bor (List ℕ)) (bytes text : List ℕ) (limit : ℕ) (too_long : Failure)
-    → Ok text ≡ text_in name bytes limit too_long → text ≡ bytes
+    → Ok text ≡ text_of_file name bytes limit too_long → text ≡ bytes
 text_is_bytes name bytes text limit too_long is = by (nat_lt limit (length bytes)) (is_utf8 bytes) is
   where
     by : (long utf8 : Bool) → Ok text ≡ (if long then Err too_long else if utf8 then Ok bytes else Err (CannotRead name)) → text ≡ bytes

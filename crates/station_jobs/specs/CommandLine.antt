@@ -1,5 +1,6 @@
 -- The command line, and the job of its words.
-use Rattle.std.specs.Prelude.{◌≡◌, ◌≢◌, ℕ, List, [], ◌∷◌, codes, map, true, Option, Some, None, option_and_then, option_map, string_bytes, bytes_eq, if◌then◌else◌}
+use Rattle.std.specs.Prelude.{◌≡◌, ◌≢◌, ℕ, List, [], ◌∷◌, codes, map, true, Option, Some, None, option_and_then, option_map, string_bytes, bytes_eq}
+use Rattle.std.specs.Prelude.{if◌then◌else◌}
 use Rattle.std.specs.Borrow.{Bor}
 use Rattle.clap.specs.Words.{App, IsAmong, Kinds, Row, Rule, Text, fault_of, first_of, new_app, new_rule, subcommand_of, with_rule, with_subcommand}
 use Rattle.std.specs.Str.Parse.{digits_value, without_leading_plus}
@@ -71,20 +72,20 @@ abbrev pub station_app : App
 station_app = with_subcommand (with_subcommand (with_subcommand top_app serve_app.top) replay_app.top) check_map_app.top
 
 -- the number that a text stands for in decimal digits, behind one `+` or none, if it is one from `least` to `most`
-abbrev pub number_in : ℕ → ℕ → Text → Option ℕ
-number_in least most text =
+abbrev pub number_of_digits : ℕ → ℕ → Text → Option ℕ
+number_of_digits least most text =
     if is_unsigned_in least most text then Some (digits_value 10 (without_leading_plus text)) else None
 
 -- the number that an option was given, if it is one from `least` to `most`
-abbrev pub number_of : Text → ℕ → ℕ → List Row → Option ℕ
-number_of id least most options = option_and_then (number_in least most) (first_of id options)
+abbrev pub number_of_option : Text → ℕ → ℕ → List Row → Option ℕ
+number_of_option id least most options = option_and_then (number_of_digits least most) (first_of id options)
 
 -- the job of `serve`, by its options
 abbrev pub serve_of : List Row → Option Job
 serve_of options =
     option_and_then (λ site. option_and_then (λ db. option_and_then (λ port. option_map (Serve site db port)
-    (number_of (codes "connections") 1 1000000 options))
-    (number_of (codes "port") 1 65535 options))
+    (number_of_option (codes "connections") 1 1000000 options))
+    (number_of_option (codes "port") 1 65535 options))
     (first_of (codes "db") options))
     (first_of (codes "site") options)
 
@@ -109,13 +110,13 @@ abbrev pub job_of : List Text → Option Job
 job_of words = option_and_then job_by (subcommand_of station_app words)
 
 -- nothing where the words have a fault
-abbrev pub unless_faulty : {A : Type 0} → Kinds → Option A → Option A
-unless_faulty [] job = job
-unless_faulty (kind ∷ kinds) job = None
+abbrev pub job_unless_faulty : {A : Type 0} → Kinds → Option A → Option A
+job_unless_faulty [] job = job
+job_unless_faulty (kind ∷ kinds) job = None
 
 -- the job, if `clap` takes the words
 abbrev pub job_read : List Text → Option Job
-job_read words = unless_faulty (fault_of station_app words) (job_of words)
+job_read words = job_unless_faulty (fault_of station_app words) (job_of words)
 
 -- the fault is a refusal with this text, or want of memory
 abbrev pub RefusesWith : Text → WordsFault → Type 0
@@ -124,10 +125,10 @@ RefusesWith text (Refused given) = string_bytes given ≡ text
 RefusesWith text NoMemory = Unit {0}
 
 -- an error of this kind gives the fault, which may also be want of memory
-abbrev pub GivenBy : ErrorKind → WordsFault → Type 0
-GivenBy kind (Help text) = kind ≡ DisplayHelp
-GivenBy kind (Refused text) = (kind ≢ DisplayHelp) × (kind ≢ OutOfMemory)
-GivenBy kind NoMemory = Unit {0}
+abbrev pub IsFaultOfKind : ErrorKind → WordsFault → Type 0
+IsFaultOfKind kind (Help text) = kind ≡ DisplayHelp
+IsFaultOfKind kind (Refused text) = (kind ≢ DisplayHelp) × (kind ≢ OutOfMemory)
+IsFaultOfKind kind NoMemory = Unit {0}
 
 -- help is among the kinds, or a refusal comes where help is not the only one
 abbrev pub CanGive : Kinds → WordsFault → Type 0

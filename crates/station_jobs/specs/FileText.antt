@@ -14,8 +14,8 @@ IsUnread name error failure =
     ((error_kind error ≡ ErrorKind.OutOfMemory) × (failure ≡ NoMemory)) ⊎ ((error_kind error ≢ ErrorKind.OutOfMemory) × (failure ≡ CannotRead name))
 
 -- the text in the bytes of a file: over the limit there is this failure, and other bytes that are not UTF-8 can't be read
-abbrev pub text_in : Bor (List ℕ) → List ℕ → ℕ → Failure → Result (List ℕ) Failure
-text_in name bytes limit too_long =
+abbrev pub text_of_file : Bor (List ℕ) → List ℕ → ℕ → Failure → Result (List ℕ) Failure
+text_of_file name bytes limit too_long =
     if nat_lt limit (length bytes) then Err too_long
     else if is_utf8 bytes then Ok bytes
     else Err (CannotRead name)

@@ -5,7 +5,7 @@ use Rattle.http_replies.specs.Replies.{Answer}
 use Rattle.office_tables.specs.declared.keep.Keep.{Ghosts}
 use Rattle.site_core.specs.Section.{SiteValue}
 use Rattle.station_api.specs.Books.{Leads}
-use Rattle.station_api.specs.Machine.{AreSaid}
+use Rattle.station_api.specs.HttpAnswers.{AreSaid}
 use Rattle.station_jobs.specs.declared.failure.Failure.{Failure}
 use Rattle.station_jobs.specs.declared.failure.Failure.TheVariants.{ListenFailed, AcceptFailed, WriteFailed}
 

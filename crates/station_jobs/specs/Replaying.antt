@@ -1,27 +1,29 @@
 -- What a stream leads to, and what its result tells.
 use Rattle.std.specs.Prelude.{◌≡◌, ◌⊎◌, ℕ, List, Option, Result, Ok, Err}
 use Rattle.http_replies.specs.Runs.{Runs}
-use Rattle.http_serving.specs.Streams.{Piece, Tells, turns_of}
+use Rattle.http_serving.specs.Streams.{HttpExchange, Tells, requests_with_answers}
 use Rattle.http_serving.specs.declared.Served.{Served}
 use Rattle.office_laws.specs.Sound.{IsSound}
-use Rattle.office_store.specs.Faults.{fault_number}
+use Rattle.office_store.specs.Faults.{open_fault_number}
 use Rattle.office_store.specs.declared.fault.OpenFault.{OpenFault}
 use Rattle.office_tables.specs.Tables.{Tables}
-use Rattle.site_core.specs.Owners.{owners_of}
+use Rattle.site_core.specs.Ownership.{ownership_of}
 use Rattle.site_core.specs.Section.{SiteValue}
-use Rattle.station_api.specs.Books.{IsKept}
-use Rattle.station_api.specs.Machine.{AreSaid, StationAnswers}
-use Rattle.station_jobs.specs.Statuses.{end_of}
+use Rattle.station_api.specs.Books.{StreamKeepsPromises}
+use Rattle.station_api.specs.HttpAnswers.{AreSaid, AnswersHttp}
+use Rattle.station_jobs.specs.Statuses.{result_of_ending}
 use Rattle.station_jobs.specs.declared.failure.Failure.{Failure}
 use Rattle.station_jobs.specs.declared.failure.Failure.TheVariants.{StoreFault, ReadFailed, WriteFailed, TurnLimit, NoMemory}
 
 -- a stream was served from these tables on, with its requests in turn, and the result is what its end says
 abbrev pub Replays : SiteValue → Tables → Option (List ℕ) → Option (List ℕ) → Option (List ℕ) → Option (List ℕ) → Result Unit Failure → Type 0
 Replays site t left_old left_new written_old written_new result =
-    (served : Served) × (result ≡ end_of served) × (pieces : List Piece)
+    (served : Served) × (result ≡ result_of_ending served) × (pieces : List HttpExchange)
     × Tells left_old left_new written_old written_new served pieces
-    × AreSaid site (turns_of pieces)
-    × (t2 : Tables) × Runs (StationAnswers site) t (turns_of pieces) t2 × (IsSound (owners_of site) t → IsKept site t (turns_of pieces) t2)
+    × AreSaid site (requests_with_answers pieces)
+    × (t2 : Tables) × Runs (AnswersHttp site) t (requests_with_answers pieces) t2
+    × (IsSound (ownership_of site) t
+    → StreamKeepsPromises site t (requests_with_answers pieces) t2)
 
 -- a failure that the end of a stream says
 abbrev pub IsOfStream : Failure → Type 0
@@ -29,7 +31,7 @@ IsOfStream failure = (failure ≡ ReadFailed) ⊎ (failure ≡ WriteFailed) ⊎ 
 
 -- a fault of the store
 abbrev pub IsOfStore : Failure → Type 0
-IsOfStore failure = (fault : OpenFault) × (failure ≡ StoreFault (fault_number fault))
+IsOfStore failure = (fault : OpenFault) × (failure ≡ StoreFault (open_fault_number fault))
 
 -- the failures of the reader that the result tells
 abbrev pub failed_reads : Result Unit Failure → ℕ

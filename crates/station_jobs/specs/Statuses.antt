@@ -3,7 +3,8 @@ use Rattle.std.specs.Prelude.{ℕ, ◌≡◌, ◌≤◌, ◌++◌, List, codes, 
 use Rattle.http_serving.specs.declared.Served.{Served}
 use Rattle.http_serving.specs.declared.Served.TheVariants.{Ended, Closed, Cut, ReadFault, WriteFault}
 use Rattle.station_jobs.specs.declared.failure.Failure.{Failure}
-use Rattle.station_jobs.specs.declared.failure.Failure.TheVariants.{CannotRead, SiteFault, StoreFault, MapFault, ListenFailed, AcceptFailed, ReadFailed, WriteFailed, TurnLimit}
+use Rattle.station_jobs.specs.declared.failure.Failure.TheVariants.{CannotRead, SiteFault, StoreFault, MapFault, ListenFailed, AcceptFailed}
+use Rattle.station_jobs.specs.declared.failure.Failure.TheVariants.{ReadFailed, WriteFailed, TurnLimit}
 use Rattle.station_jobs.specs.declared.job.WordsFault.{WordsFault}
 use Rattle.station_jobs.specs.declared.job.WordsFault.TheVariants.{Help, Refused}
 
@@ -27,14 +28,14 @@ line_of TurnLimit = codes "station: turn limit"
 line_of Failure.NoMemory = codes "station: no memory"
 
 -- what the end of a stream says of a failure. A stream that is cut is none
-abbrev pub end_of : Served → Result Unit Failure
-end_of Ended = Ok tt
-end_of Closed = Ok tt
-end_of Cut = Ok tt
-end_of ReadFault = Err ReadFailed
-end_of WriteFault = Err WriteFailed
-end_of Served.TurnLimit = Err TurnLimit
-end_of Served.NoMemory = Err Failure.NoMemory
+abbrev pub result_of_ending : Served → Result Unit Failure
+result_of_ending Ended = Ok tt
+result_of_ending Closed = Ok tt
+result_of_ending Cut = Ok tt
+result_of_ending ReadFault = Err ReadFailed
+result_of_ending WriteFault = Err WriteFailed
+result_of_ending Served.TurnLimit = Err TurnLimit
+result_of_ending Served.NoMemory = Err Failure.NoMemory
 
 -- a job that is done ends with 0, and one that failed with 1
 abbrev pub status_of : Result Unit Failure → ℕ

@@ -1,7 +1,7 @@
 //! The files that the program reads, and their texts.
 ghost use Rattle.std.specs.Prelude.{◌≡◌, IfOk, IfSome, take};
 ghost use Rattle.text_core.specs.Answer.{result_map};
-ghost use Rattle.station_jobs.specs.FileText.{IsUnread, text_in};
+ghost use Rattle.station_jobs.specs.FileText.{IsUnread, text_of_file};
 
 use crate::failure::Failure;
 use std::alloc::Global;
@@ -21,7 +21,8 @@ pub fn read_file(rt: &impl Files, alloc: Global, name: &str, most: u64) -> io::R
 
 /// The bytes that a reader gives up to its end, or the first of them, at most so many.
 fn first_bytes<R: Read + Drop>(alloc: Global, reader: R, most: u64) -> io::Result<Vec<u8>>
-    ensures { IfOk result (λ bytes. IfSome (R.remaining reader) (λ all. bytes.items ≡ take most all)) }
+    ensures { IfOk result (λ bytes.
+        IfSome (R.remaining reader) (λ all. bytes.items ≡ take most all)) }
 {
     let mut bytes = Vec::new(alloc);
     reader.take(most).read_to_end(&mut bytes)?;
@@ -44,14 +45,14 @@ pub fn unread<'a>(name: &'a str, error: &io::Error) -> Failure<'a>
 /// # Errors
 ///
 /// `too_long` where there are more bytes, whatever they are; `CannotRead` where they are no UTF-8.
-pub fn text_in<'a, 'b>(
+pub fn text_of_file<'a, 'b>(
     name: &'a str,
     bytes: &'b [u8],
     limit: usize,
     too_long: Failure<'a>,
 ) -> Result<&'b str, Failure<'a>>
     ensures { result_map (λ text. text.now) result
-        ≡ text_in name.entry bytes.now limit too_long.entry }
+        ≡ text_of_file name.entry bytes.now limit too_long.entry }
 {
     if bytes.len() > limit {
         return Err(too_long);

@@ -2,7 +2,9 @@
 ghost use Rattle.std.specs.Prelude.{◌≡◌, ◌⊎◌, false, Some, None, ◌≤◌, IfOk, IfErr, IfSome, option_and_then};
 ghost use Rattle.clap.specs.Words.{app_of, fault_of, first_of, found_of, kind_of, rows_of, rule_of, subcommand_rows_of};
 ghost use Rattle.clap.specs.declared.builder.command.Command.TheViews.{out-Command as fields_of};
-ghost use Rattle.station_jobs.specs.CommandLine.{CanGive, GivenBy, RefusesWith, check_map_app, check_map_of, connections_rule, db_rule, job_by, job_read, number_in, number_of, port_rule, replay_app, replay_of, required_db_rule, serve_app, serve_of, site_rule, station_app, texts, top_app};
+ghost use Rattle.station_jobs.specs.CommandLine.{CanGive, IsFaultOfKind, RefusesWith, check_map_app, check_map_of, connections_rule, db_rule, job_by};
+ghost use Rattle.station_jobs.specs.CommandLine.{job_read, number_of_digits, number_of_option, port_rule, replay_app, replay_of, required_db_rule};
+ghost use Rattle.station_jobs.specs.CommandLine.{serve_app, serve_of, site_rule, station_app, texts, top_app};
 ghost use Rattle.station_jobs.specs.declared.job.WordsFault.TheVariants.{NoMemory};
 
 use clap::builder::ValueParser;
@@ -264,7 +266,7 @@ fn check_map_command<'a>(alloc: Global) -> Result<Command<'a>, AllocError>
 
 /// The fault that an error of `clap` stands for.
 fn words_fault(alloc: Global, error: &Error) -> WordsFault
-    ensures { GivenBy (kind_of error.now) result }
+    ensures { IsFaultOfKind (kind_of error.now) result }
 {
     let kind = error.kind();
     if kind == ErrorKind::OutOfMemory {
@@ -366,18 +368,18 @@ fn option_text(
 
 /// The number that an option was given, the first if there are several, where it is one of these.
 fn option_number(options: &ArgMatches<'_>, id: &str, least: u64, most: u64) -> Option<u64>
-    ensures number { result ≡ number_of id.now least most (rows_of (found_of options.now)) }
+    ensures number { result ≡ number_of_option id.now least most (rows_of (found_of options.now)) }
     ensures within { IfSome result (λ number. (least ≤ number) × (number ≤ most)) }
 {
     match options.get_str(id) {
-        Some(text) => number_in(text, least, most),
+        Some(text) => number_of_digits(text, least, most),
         None => None,
     }
 }
 
 /// The number that a text stands for, where it is one of these.
-fn number_in(text: &str, least: u64, most: u64) -> Option<u64>
-    ensures number { result ≡ number_in least most text.now }
+fn number_of_digits(text: &str, least: u64, most: u64) -> Option<u64>
+    ensures number { result ≡ number_of_digits least most text.now }
     ensures within { IfSome result (λ number. (least ≤ number) × (number ≤ most)) }
 {
     match text.parse::<u64>() {

@@ -3,10 +3,10 @@ ghost use Rattle.std.specs.Prelude.{◌≡◌, ◌∷◌, ◌++◌, [], IfOk, If
 ghost use Rattle.std.specs.Io.KnownBytes.{Appends};
 ghost use Rattle.text_core.specs.Answer.{GivesUnless};
 ghost use Rattle.station_jobs.specs.FileText.{IsUnread};
-ghost use Rattle.station_jobs.specs.MapFile.{map_failure, map_in, map_line};
+ghost use Rattle.station_jobs.specs.MapFile.{map_failure, map_of_file, map_line};
 
 use crate::failure::Failure;
-use crate::file_text::{read_file, text_in, unread};
+use crate::file_text::{read_file, text_of_file, unread};
 use fusemap_core::{FuseMap, MapFault, TEXT_LIMIT, read_map};
 use std::alloc::Global;
 use std::io;
@@ -37,7 +37,7 @@ pub fn map_of_file<'a>(
 ) -> Result<FuseMap, Failure<'a>>
     ensures unread { IfErr file (λ error. IsErrAnd result (IsUnread name.entry error)) }
     ensures read { IfOk file (λ bytes.
-        GivesUnless Failure.NoMemory result (map_in name.entry bytes.items)) }
+        GivesUnless Failure.NoMemory result (map_of_file name.entry bytes.items)) }
 {
     match file {
         Ok(bytes) => map_from(alloc, name, bytes.as_slice()),
@@ -47,10 +47,10 @@ pub fn map_of_file<'a>(
 
 /// The map that the bytes of the file with this name describe.
 fn map_from<'a>(alloc: Global, name: &'a str, bytes: &[u8]) -> Result<FuseMap, Failure<'a>>
-    ensures { GivesUnless Failure.NoMemory result (map_in name.entry bytes.now) }
+    ensures { GivesUnless Failure.NoMemory result (map_of_file name.entry bytes.now) }
 {
     let too_long = map_failure(MapFault::BadMember);
-    let text = text_in(name, bytes, TEXT_LIMIT, too_long)?;
+    let text = text_of_file(name, bytes, TEXT_LIMIT, too_long)?;
     read_map(alloc, text).map_err(map_failure)
 }
 

@@ -1,16 +1,16 @@
 //! Does the jobs of the command line.
 ghost use Rattle.std.specs.Prelude.{◌≡◌, ◌≢◌, ◌+◌, ◌<◌, ◌≤◌, ◌^◌, ◌⊎◌, ◌++◌, ◌∷◌, [], List, IfOk, IfErr, IsErrAnd, MatchResult, OnOk};
 ghost use Rattle.std.specs.Io.KnownBytes.{Appends, Keeps};
-ghost use Rattle.http_serving.specs.Streams.{Piece, Tells, turns_of};
+ghost use Rattle.http_serving.specs.Streams.{HttpExchange, Tells, requests_with_answers};
 ghost use Rattle.http_serving.specs.declared.Served.{Served};
 ghost use Rattle.office_tables.specs.Tables.{no_rows};
 ghost use Rattle.station_api.specs.Books.{Leads};
-ghost use Rattle.station_api.specs.Machine.{AreSaid};
+ghost use Rattle.station_api.specs.HttpAnswers.{AreSaid};
 ghost use Rattle.station_jobs.specs.FileText.{IsUnread};
-ghost use Rattle.station_jobs.specs.MapFile.{map_in, map_line};
+ghost use Rattle.station_jobs.specs.MapFile.{map_of_file, map_line};
 ghost use Rattle.station_jobs.specs.Replaying.{IsOfStream, Replays, failed_reads, failed_writes};
 ghost use Rattle.station_jobs.specs.SiteFile.{site_in};
-ghost use Rattle.station_jobs.specs.Statuses.{end_of, line_of, status_of};
+ghost use Rattle.station_jobs.specs.Statuses.{result_of_ending, line_of, status_of};
 
 use crate::failure::Failure;
 use crate::job::Job;
@@ -36,7 +36,7 @@ pub fn run<E: Write>(
     err: &mut E,
 ) -> u8
     ensures status { result ≤ 1 }
-    ensures silent { result ≡ 0 → Keeps (E.contents err.old) (E.contents err.new) }
+    ensures prints_nothing { result ≡ 0 → Keeps (E.contents err.old) (E.contents err.new) }
 {
     let done = match job {
         Job::Serve {
@@ -103,7 +103,7 @@ fn replay<'a, R: Source, W: Drain>(
         (W.written writer.old) (W.written writer.new) result)) }
 
     // Nothing is read or written before the site is known.
-    ensures silent { IfErr result (λ failure. IsOfStream failure
+    ensures prints_nothing { IfErr result (λ failure. IsOfStream failure
         ⊎ ((reader.new ≡ reader.old) × (writer.new ≡ writer.old))) }
     ensures calls { R.calls reader.new + W.calls writer.new
         ≤ R.calls reader.old + W.calls writer.old + 16777216 }
@@ -138,10 +138,11 @@ pub fn serve<K: Keep, R: Source, W: Drain>(
     ensures was_honest { K.is_honest keep.new → K.is_honest keep.old }
 
     // The result is what an end of the stream says, and the stream came to that end, over this keeper.
-    ensures served { (served : Served) × (result ≡ end_of served) × (pieces : List Piece)
+    ensures served { (served : Served) × (result ≡ result_of_ending served)
+        × (pieces : List HttpExchange)
         × Tells (R.left reader.old) (R.left reader.new) (W.written writer.old) (W.written writer.new) served pieces
-        × AreSaid site.now (turns_of pieces)
-        × Leads K.Keep site.now keep.old keep.new (turns_of pieces) }
+        × AreSaid site.now (requests_with_answers pieces)
+        × Leads K.Keep site.now keep.old keep.new (requests_with_answers pieces) }
     ensures calls { R.calls reader.new + W.calls writer.new
         ≤ R.calls reader.old + W.calls writer.old + 16777216 }
     ensures limit { result ≡ Err Failure.TurnLimit → R.calls reader.new + W.calls writer.new
@@ -152,7 +153,7 @@ pub fn serve<K: Keep, R: Source, W: Drain>(
         (R.calls reader.new ≡ R.calls reader.old) × (W.calls writer.new ≡ W.calls writer.old) }
     ensures unserved { result ≡ Err Failure.NoMemory → keep.new ≡ keep.old }
 {
-    end_of(serve_stream(alloc, keep, site, reader, writer))
+    result_of_ending(serve_stream(alloc, keep, site, reader, writer))
 }
 
 /// Writes the line of the fuse map that a file describes, by what reading the file with this name
@@ -164,16 +165,17 @@ fn check_map<'a, W: Write>(
     output: &mut W,
 ) -> Result<(), Failure<'a>>
     ensures unread { IfErr file (λ error. IsErrAnd result (IsUnread name.entry error)) }
-    ensures no_map { IfOk file (λ bytes. IfErr (map_in name.entry bytes.items) (λ failure.
+    ensures no_map { IfOk file (λ bytes. IfErr (map_of_file name.entry bytes.items) (λ failure.
         (result ≡ Err failure) ⊎ (result ≡ Err Failure.NoMemory))) }
 
     // The line of a map is written, unless that fails or memory runs out.
-    ensures map { IfOk file (λ bytes. IfOk (map_in name.entry bytes.items) (λ map. MatchResult result
+    ensures map { IfOk file (λ bytes.
+        IfOk (map_of_file name.entry bytes.items) (λ map. MatchResult result
         (λ _. Appends (W.contents output.old) (W.contents output.new) (map_line map ++ 10 ∷ []))
         (λ failure. (failure ≡ Failure.WriteFailed) ⊎ (failure ≡ Failure.NoMemory)))) }
 
     // Nothing is written before the map is known.
-    ensures silent { IfErr result (λ failure. failure ≢ Failure.WriteFailed
+    ensures prints_nothing { IfErr result (λ failure. failure ≢ Failure.WriteFailed
         → Keeps (W.contents output.old) (W.contents output.new)) }
 {
     let map = map_of_file(alloc, name, file)?;
@@ -184,8 +186,8 @@ fn check_map<'a, W: Write>(
 }
 
 /// What the end of a stream says of a failure.
-fn end_of(served: Served) -> Result<(), Failure<'static>>
-    ensures { result ≡ end_of served }
+fn result_of_ending(served: Served) -> Result<(), Failure<'static>>
+    ensures { result ≡ result_of_ending served }
 {
     match served {
         Served::Ended | Served::Closed | Served::Cut => Ok(()),
@@ -200,7 +202,7 @@ fn end_of(served: Served) -> Result<(), Failure<'static>>
 /// written is passed over.
 fn finish<W: Write>(done: Result<(), Failure<'_>>, err: &mut W) -> u8
     ensures status { result ≡ status_of done.entry }
-    ensures silent { OnOk done.entry (Keeps (W.contents err.old) (W.contents err.new)) }
+    ensures prints_nothing { OnOk done.entry (Keeps (W.contents err.old) (W.contents err.new)) }
 {
     match done {
         Ok(()) => 0,
@@ -213,7 +215,8 @@ fn finish<W: Write>(done: Result<(), Failure<'_>>, err: &mut W) -> u8
 
 /// Writes the line of a failure.
 fn write_failure<W: Write>(failure: Failure<'_>, err: &mut W) -> io::Result<()>
-    ensures { OnOk result (Appends (W.contents err.old) (W.contents err.new) (line_of failure.entry ++ 10 ∷ [])) }
+    ensures { OnOk result (Appends (W.contents err.old) (W.contents err.new) (line_of failure.entry
+        ++ 10 ∷ [])) }
 {
     writeln!(err, "{failure}")
 }

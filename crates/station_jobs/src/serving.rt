@@ -64,11 +64,12 @@ pub fn serve_site<'a, W: Write>(
     ensures failed { IfOk file (λ bytes. IfOk (site_in name.entry bytes.items) (λ _.
         IfErr result (λ failure. (failure ≡ Failure.NoMemory) ⊎ IsOfStore failure
         ⊎ IsOfPort failure))) }
-    ensures told { OnOk result (Appends (W.contents output.old) (W.contents output.new)
+    ensures printed { OnOk result (Appends (W.contents output.old) (W.contents output.new)
         (listening_line door.port ++ 10 ∷ [])) }
 
     // Nothing is written before the port is listened on.
-    ensures silent { IfErr result (λ failure. failure ≢ Failure.WriteFailed → failure ≢ Failure.AcceptFailed
+    ensures prints_nothing { IfErr result (λ failure. failure ≢ Failure.WriteFailed
+        → failure ≢ Failure.AcceptFailed
         → Keeps (W.contents output.old) (W.contents output.new)) }
 {
     let bytes = bytes_of_file(name, file)?;
@@ -86,9 +87,10 @@ fn serve_store<W: Write>(
     output: &mut W,
 ) -> Result<(), Failure<'static>>
     ensures failed { IfErr result (λ failure. IsOfStore failure ⊎ IsOfPort failure) }
-    ensures told { OnOk result (Appends (W.contents output.old) (W.contents output.new)
+    ensures printed { OnOk result (Appends (W.contents output.old) (W.contents output.new)
         (listening_line door.port ++ 10 ∷ [])) }
-    ensures silent { IfErr result (λ failure. failure ≢ Failure.WriteFailed → failure ≢ Failure.AcceptFailed
+    ensures prints_nothing { IfErr result (λ failure. failure ≢ Failure.WriteFailed
+        → failure ≢ Failure.AcceptFailed
         → Keeps (W.contents output.old) (W.contents output.new)) }
 {
     let mut keep = open_limited(rt, alloc, db, site)?;
@@ -111,9 +113,10 @@ fn serve_port<K: Keep, W: Write>(
     ensures was_honest { K.is_honest keep.new → K.is_honest keep.old }
     ensures reaches { LeadsOn K.Keep site.now keep.old keep.new }
     ensures failed { IfErr result IsOfPort }
-    ensures told { OnOk result (Appends (W.contents output.old) (W.contents output.new)
+    ensures printed { OnOk result (Appends (W.contents output.old) (W.contents output.new)
         (listening_line door.port ++ 10 ∷ [])) }
-    ensures silent { IfErr result (λ failure. failure ≢ Failure.WriteFailed → failure ≢ Failure.AcceptFailed
+    ensures prints_nothing { IfErr result (λ failure. failure ≢ Failure.WriteFailed
+        → failure ≢ Failure.AcceptFailed
         → Keeps (W.contents output.old) (W.contents output.new)) }
 {
     let listener = listen(rt, door.port)?;

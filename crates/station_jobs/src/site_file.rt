@@ -5,7 +5,7 @@ ghost use Rattle.station_jobs.specs.FileText.{IsUnread};
 ghost use Rattle.station_jobs.specs.SiteFile.{site_failure, site_in};
 
 use crate::failure::Failure;
-use crate::file_text::{read_file, text_in, unread};
+use crate::file_text::{read_file, text_of_file, unread};
 use site_core::{SiteFault, SiteText, TEXT_LIMIT, read_site_text};
 use std::alloc::Global;
 use std::io;
@@ -52,7 +52,7 @@ pub fn site_text_of_bytes<'a>(
     ensures text { IfOk result (λ t. t.text ≡ bytes.now) }
 {
     let too_long = site_failure(SiteFault::OverLimit);
-    let text = text_in(name, bytes, TEXT_LIMIT, too_long)?;
+    let text = text_of_file(name, bytes, TEXT_LIMIT, too_long)?;
     read_site_text(alloc, text).map_err(site_failure)
 }
 

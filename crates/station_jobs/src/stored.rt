@@ -1,7 +1,7 @@
 //! A replay over a store in a file.
 ghost use Rattle.std.specs.Prelude.{◌≡◌, ◌⊎◌, ◌+◌, ◌<◌, ◌≤◌, ◌^◌, Some, IfOk, IfErr, IsErrAnd};
 ghost use Rattle.station_jobs.specs.FileText.{IsUnread};
-ghost use Rattle.office_store.specs.Faults.{fault_number};
+ghost use Rattle.office_store.specs.Faults.{open_fault_number};
 ghost use Rattle.station_jobs.specs.Replaying.{IsOfStore, IsOfStream, failed_reads, failed_writes};
 ghost use Rattle.station_jobs.specs.SiteFile.{site_in};
 
@@ -41,7 +41,7 @@ pub fn replay_stored<'a, R: Source, W: Drain>(
         IfErr result (λ failure. IsOfStore failure ⊎ IsOfStream failure))) }
 
     // Nothing is read or written before the site is known and the store is open.
-    ensures silent { IfErr result (λ failure. IsOfStream failure
+    ensures prints_nothing { IfErr result (λ failure. IsOfStream failure
         ⊎ ((reader.new ≡ reader.old) × (writer.new ≡ writer.old))) }
     ensures calls { R.calls reader.new + W.calls writer.new
         ≤ R.calls reader.old + W.calls writer.old + 16777216 }
@@ -69,7 +69,7 @@ fn serve_stored<R: Source, W: Drain>(
     requires reader { R.calls reader.old + 2 ^ 25 < 2 ^ 64 }
     requires writer { W.calls writer.old + 2 ^ 25 < 2 ^ 64 }
     ensures failed { IfErr result (λ failure. IsOfStore failure ⊎ IsOfStream failure) }
-    ensures silent { IfErr result (λ failure. IsOfStream failure
+    ensures prints_nothing { IfErr result (λ failure. IsOfStream failure
         ⊎ ((reader.new ≡ reader.old) × (writer.new ≡ writer.old))) }
     ensures calls { R.calls reader.new + W.calls writer.new
         ≤ R.calls reader.old + W.calls writer.old + 16777216 }
@@ -113,7 +113,7 @@ pub fn open_limited(
 
 /// The failure that the fault of a store is.
 pub fn store_failure(fault: OpenFault) -> Failure<'static>
-    ensures { result ≡ Failure.StoreFault (fault_number fault) }
+    ensures { result ≡ Failure.StoreFault (open_fault_number fault) }
 {
     Failure::StoreFault(fault.number())
 }

@@ -1,7 +1,7 @@
 -- What the contracts of this crate are made of.
 pub mod Answer
 pub mod Chip
-pub mod Column
+pub mod ShortBytes
 pub mod Digest
 pub mod InFront
 pub mod InPlace

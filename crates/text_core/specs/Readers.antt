@@ -4,8 +4,8 @@ use Rattle.std.specs.Fn.{FnReturnsAt, Shared}
 use denote.Ref.{Bor}
 
 -- of each value, read makes what item_in makes of it
-abbrev pub Reads : {V F T : Type 0} → Shared F (Bor V × Unit {0}) (Option T) → F → (V → Option T) → Type 0
-Reads {V} {F} {T} calls read item_in =
+abbrev pub ReadsItems : {V F T : Type 0} → Shared F (Bor V × Unit {0}) (Option T) → F → (V → Option T) → Type 0
+ReadsItems {V} {F} {T} calls read item_in =
     (value : V) (item : Option T) → FnReturnsAt calls read value item → item ≡ item_in value
 
 -- the same where read ends in no error

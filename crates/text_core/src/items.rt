@@ -2,7 +2,7 @@
 ghost use Rattle.std.specs.Prelude.{◌≡◌, IfOk, Option, option_map};
 ghost use Rattle.std.specs.Fn.{FnReturnsAt};
 ghost use Rattle.text_core.specs.Options.{all_of};
-ghost use Rattle.text_core.specs.Readers.{Reads, ReadsOrFails};
+ghost use Rattle.text_core.specs.Readers.{ReadsItems, ReadsOrFails};
 
 use std::alloc::{AllocError, Global};
 
@@ -13,7 +13,7 @@ pub fn read_all<V, T: Drop, F: Fn(&V) -> Option<T>>(
     read: F,
 ) -> Result<Option<Vec<T>>, AllocError>
     requires { F.IsAlwaysCallable read }
-    ensures { (item_in : V → Option T) → Reads F.Fn read item_in
+    ensures { (item_in : V → Option T) → ReadsItems F.Fn read item_in
         → IfOk result (λ found. option_map (λ items. items.items) found
         ≡ all_of item_in values.now) }
 {

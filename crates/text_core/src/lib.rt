@@ -2,24 +2,24 @@
 #![tactic(auto)]
 
 mod chip;
-mod column;
 mod digest;
 mod items;
 mod name;
 mod prefix;
 mod serial;
+mod short_bytes;
 mod short_text;
 mod text;
 mod time;
 mod whole;
 
 pub use chip::{Chip, are_lower_hex_digits};
-pub use column::{BitsColumn, Column, KeysColumn, TodoColumn};
 pub use digest::Digest;
 pub use items::{read_all, try_read_all};
 pub use name::Name;
 pub use prefix::Prefix;
 pub use serial::Serial;
+pub use short_bytes::{BitsBytes, KeysBytes, PendingBytes, ShortBytes};
 pub use text::Text;
 pub use time::Time;
 pub use whole::LARGEST_WHOLE;

@@ -18,13 +18,13 @@ abbrev pub document_read : List ℕ → Result Data DocumentFault
 document_read text = ok_or (document_of text) NotToml
 
 -- a number of a range
-abbrev pub within : ℕ → ℕ → ℤ → Option ℕ
-within least greatest (pos n) = if nat_le least n && nat_le n greatest then Some n else None
-within least greatest (negsuc n) = None
+abbrev pub integer_within : ℕ → ℕ → ℤ → Option ℕ
+integer_within least greatest (pos n) = if nat_le least n && nat_le n greatest then Some n else None
+integer_within least greatest (negsuc n) = None
 
 -- a value that is a whole number of a range
 abbrev pub whole_within : ℕ → ℕ → Data → Option ℕ
-whole_within least greatest d = option_and_then (within least greatest) (as_integer d)
+whole_within least greatest d = option_and_then (integer_within least greatest) (as_integer d)
 
 -- a member that is a whole number of a range
 abbrev pub whole_member : List ℕ → ℕ → ℕ → Data → Option ℕ

@@ -3,7 +3,7 @@ use Rattle.std.proofs.Common.{◌≡◌, ℕ, ◌+◌, Bool, true, false, List, 
 use Rattle.std.specs.Prelude.{filter, bytes_eq}
 use Rattle.std.proofs.lemmas.Bool.Decides.{nat_tests}
 use Rattle.office_tables.specs.declared.rows.Device.{Device}
-use Rattle.office_tables.specs.declared.rows.Owned.{Owned}
+use Rattle.office_tables.specs.declared.rows.OfCustomer.{OfCustomer}
 use Rattle.office_tables.specs.Keeping.{Visits}
 use Rattle.yield_report.specs.Counts.{added, devices_of}
 use Rattle.yield_report.specs.Lines.{counted, counts, AreLines, CountsDevice}
@@ -82,11 +82,11 @@ pub map_counted_more : (d : Device) (ds : List Device) (lines : List OrderLine) 
 map_counted_more d ds [] = refl
 map_counted_more d ds (line ∷ lines) = ap₂ (λ (l : OrderLine) (ls : List OrderLine). l ∷ ls) (counted_more d ds line) (map_counted_more d ds lines)
 
-abbrev devices_in : List (Owned Device) → List Device
+abbrev devices_in : List (OfCustomer Device) → List Device
 devices_in rows = map (λ o. o.row) rows
 
 -- a walk in which each number had room counts all devices
-pub devices_counted : (old : DeviceScan) (rows : List (Owned Device)) (new : DeviceScan) → Visits CountsDevice old rows new → new.is_over ≡ false
+pub devices_counted : (old : DeviceScan) (rows : List (OfCustomer Device)) (new : DeviceScan) → Visits CountsDevice old rows new → new.is_over ≡ false
     → new.lines.items ≡ map (counted (devices_in rows)) old.lines.items
 devices_counted old [] new v room = ap (λ (s : DeviceScan). s.lines.items) v ∙ sym (map_counted_none old.lines.items)
 devices_counted old (row ∷ rows) new (true, mid, taken, later) room =
@@ -96,7 +96,7 @@ devices_counted old (row ∷ rows) new (false, mid, taken, later) room =
     let over : new.is_over ≡ true = ap (λ (s : DeviceScan). s.is_over) later ∙ taken.over refl in
     cc
 
-pub devices_fit : (old : DeviceScan) (rows : List (Owned Device)) (new : DeviceScan) → Visits CountsDevice old rows new → new.is_over ≡ false
+pub devices_fit : (old : DeviceScan) (rows : List (OfCustomer Device)) (new : DeviceScan) → Visits CountsDevice old rows new → new.is_over ≡ false
     → AreLines old.lines.items → AreLines new.lines.items
 devices_fit old [] new v room fit = rw v fit
 devices_fit old (row ∷ rows) new (true, mid, taken, later) room fit = devices_fit mid rows new later room (taken.are_lines refl fit)

@@ -14,7 +14,7 @@ use Rattle.std.proofs.lemmas.Str.Parse.{digit_at, digits_value-take-le}
 use Rattle.std.proofs.lemmas.Fmt.{decimal_is_IsNumeral}
 use Rattle.std.proofs.lemmas.List.{drop_at, take_at, take_rest}
 use Rattle.text_core.specs.Padding.{zero_padded}
-use Rattle.id_ranges.specs.Range.{Range, IsRange, Has, text_of}
+use Rattle.id_ranges.specs.Range.{Range, IsRange, Has, serial_text_of}
 use Rattle.id_ranges.proofs.Texts.{is_small}
 use Rattle.yield_report.specs.Serials.{has_serial}
 
@@ -53,20 +53,20 @@ value-padded : (width n : ℕ) → n < 2 ^ 64 → digits_value 10 (zero_padded w
 value-padded width n small = value-zeros (width - length (decimal n)) (decimal n) ∙ (decimal_is_IsNumeral n small).1
 
 -- the digits of a serial number
-pub digits_of_text : (r : Range) (n : ℕ) (serial : List ℕ) → serial ≡ text_of r n → drop (length r.prefix) serial ≡ zero_padded r.width (decimal n)
+pub digits_of_text : (r : Range) (n : ℕ) (serial : List ℕ) → serial ≡ serial_text_of r n → drop (length r.prefix) serial ≡ zero_padded r.width (decimal n)
 digits_of_text r n serial is = ap (drop (length r.prefix)) is ∙ drop_at r.prefix (zero_padded r.width (decimal n)) (length r.prefix) refl
 
-pub front_of_text : (r : Range) (n : ℕ) (serial : List ℕ) → serial ≡ text_of r n → take (length r.prefix) serial ≡ r.prefix
+pub front_of_text : (r : Range) (n : ℕ) (serial : List ℕ) → serial ≡ serial_text_of r n → take (length r.prefix) serial ≡ r.prefix
 front_of_text r n serial is = ap (take (length r.prefix)) is ∙ take_at r.prefix (zero_padded r.width (decimal n)) (length r.prefix) refl
 
 -- the number that they write is the serial number's
-pub value_of_text : (r : Range) → IsRange r → (n : ℕ) → Has r n → (serial : List ℕ) → serial ≡ text_of r n → (digits : List ℕ)
+pub value_of_text : (r : Range) → IsRange r → (n : ℕ) → Has r n → (serial : List ℕ) → serial ≡ serial_text_of r n → (digits : List ℕ)
     → digits ≡ drop (length r.prefix) serial
     → (value : ℕ) → (AllDigits 10 digits → value ≡ digits_value 10 digits) → value ≡ n
-value_of_text r is n has serial text digits cut value says =
+value_of_text r is n has serial text digits cut value answer =
     let same : digits ≡ zero_padded r.width (decimal n) = cut ∙ digits_of_text r n serial text in
     let small = is_small r is n has in
-    says (rw same (padded_digits r.width n small)) ∙ (ap (digits_value 10) same ∙ value-padded r.width n small)
+    answer (rw same (padded_digits r.width n small)) ∙ (ap (digits_value 10) same ∙ value-padded r.width n small)
 
 -- a number of a range that passes
 any_at : (p : ℕ → Bool) (first count n : ℕ) → first ≤ n → n < first + count → p n ≡ true → list_any p (range_with_len first count) ≡ true
@@ -87,35 +87,37 @@ any_none p first (suc count) none =
     (any_none p (first + 1) count (λ n low high. none n (omega arith) (omega arith)))
 
 -- a text that is the serial number of a number of the range
-pub has_at : (r : Range) (serial : List ℕ) (n : ℕ) → Has r n → serial ≡ text_of r n → has_serial r serial ≡ true
-has_at r serial n has text = any_at (λ k. bytes_eq serial (text_of r k)) r.first r.quantity n has.0 has.1 ((bytes_eq-Decides serial (text_of r n)).1 text)
+pub has_at : (r : Range) (serial : List ℕ) (n : ℕ) → Has r n → serial ≡ serial_text_of r n → has_serial r serial ≡ true
+has_at r serial n has text = any_at (λ k.
+    bytes_eq serial (serial_text_of r k))
+    r.first r.quantity n has.0 has.1 ((bytes_eq-Decides serial (serial_text_of r n)).1 text)
 
 -- a text that is that of none
-pub has_none : (r : Range) (serial : List ℕ) → ((n : ℕ) → Has r n → serial ≢ text_of r n) → has_serial r serial ≡ false
+pub has_none : (r : Range) (serial : List ℕ) → ((n : ℕ) → Has r n → serial ≢ serial_text_of r n) → has_serial r serial ≡ false
 has_none r serial none =
-    any_none (λ k. bytes_eq serial (text_of r k)) r.first r.quantity
-    (λ n low high. false_from_ne_true _ (λ t. none n (low, high) ((bytes_eq-Decides serial (text_of r n)).0 t)))
+    any_none (λ k. bytes_eq serial (serial_text_of r k)) r.first r.quantity
+    (λ n low high. false_from_ne_true _ (λ t. none n (low, high) ((bytes_eq-Decides serial (serial_text_of r n)).0 t)))
 
 -- the number of the digits that are read after the prefix
-pub number_is : (r : Range) → IsRange r → (n : ℕ) → Has r n → (serial : List ℕ) → serial ≡ text_of r n → (front bytes : List ℕ) → front ≡ r.prefix
+pub number_is : (r : Range) → IsRange r → (n : ℕ) → Has r n → (serial : List ℕ) → serial ≡ serial_text_of r n → (front bytes : List ℕ) → front ≡ r.prefix
     → bytes ≡ serial
     → (value : ℕ)
     → (AllDigits 10 (take (length bytes - length front) (drop (length front) bytes))
     → value ≡ digits_value 10 (take (length bytes - length front) (drop (length front) bytes)))
     → value ≡ n
-number_is r is n has serial text front bytes front_is bytes_is value says =
+number_is r is n has serial text front bytes front_is bytes_is value answer =
     value_of_text r is n has serial text (take (length bytes - length front) (drop (length front) bytes))
-    (take_rest bytes (length front) ∙ (ap (λ (f : List ℕ). drop (length f) bytes) front_is ∙ ap (drop (length r.prefix)) bytes_is)) value says
+    (take_rest bytes (length front) ∙ (ap (λ (f : List ℕ). drop (length f) bytes) front_is ∙ ap (drop (length r.prefix)) bytes_is)) value answer
 
 -- the test by the one number that it may be
-pub has_by : (r : Range) (serial : List ℕ) (n : ℕ) → Has r n → ((k : ℕ) → Has r k → serial ≡ text_of r k → Some n ≡ Some k) → (e : Bool)
-    → e ≡ bytes_eq (text_of r n) serial
+pub has_by : (r : Range) (serial : List ℕ) (n : ℕ) → Has r n → ((k : ℕ) → Has r k → serial ≡ serial_text_of r k → Some n ≡ Some k) → (e : Bool)
+    → e ≡ bytes_eq (serial_text_of r n) serial
     → e ≡ has_serial r serial
-has_by r serial n has only true e = sym (has_at r serial n has (sym ((bytes_eq-Decides (text_of r n) serial).0 (sym e))))
+has_by r serial n has only true e = sym (has_at r serial n has (sym ((bytes_eq-Decides (serial_text_of r n) serial).0 (sym e))))
 has_by r serial n has only false e =
     sym (has_none r serial (λ k other text.
-    let same : text_of r n ≡ serial = ap (text_of r) (same_Some n k (only k other text)) ∙ sym text in
-    both_ways (bytes_eq (text_of r n) serial) (sym e) ((bytes_eq-Decides (text_of r n) serial).1 same)))
+    let same : serial_text_of r n ≡ serial = ap (serial_text_of r) (same_Some n k (only k other text)) ∙ sym text in
+    both_ways (bytes_eq (serial_text_of r n) serial) (sym e) ((bytes_eq-Decides (serial_text_of r n) serial).1 same)))
 
-pub has_not : (r : Range) (serial : List ℕ) → ((k : ℕ) → Has r k → serial ≡ text_of r k → None ≡ Some k) → false ≡ has_serial r serial
+pub has_not : (r : Range) (serial : List ℕ) → ((k : ℕ) → Has r k → serial ≡ serial_text_of r k → None ≡ Some k) → false ≡ has_serial r serial
 has_not r serial only = sym (has_none r serial (λ k has text. none-some k (only k has text)))

@@ -11,26 +11,26 @@ use Rattle.std.proofs.lemmas.List.Folds.{list_any-append}
 use Rattle.std.proofs.lemmas.Option.{none-some, same_Some, slice_get-map, slice_get_cases, slice_get_read}
 use Rattle.std.proofs.lemmas.Slice.Eq.{bytes_eq-Decides}
 use Rattle.id_ranges.specs.NextSerial.{is_unused}
-use Rattle.id_ranges.specs.Range.{IsRange, numbers, text_of}
+use Rattle.id_ranges.specs.Range.{IsRange, numbers, serial_text_of}
 use Rattle.office_tables.specs.Tables.{Tables}
-use Rattle.yield_report.specs.Counts.{HasGiven}
-use Rattle.yield_report.specs.Lines.{count_of_range, given_of, is_met, left_in, left_so_far, less, new_issuer, taken, IsLine}
-use Rattle.yield_report.specs.Reports.{has_given_in}
+use Rattle.yield_report.specs.Counts.{HasIssued}
+use Rattle.yield_report.specs.Lines.{count_of_range, issued_count, is_met, left_in, left_so_far, less, new_issuer, taken, IsLine}
+use Rattle.yield_report.specs.Reports.{has_issued_in}
 use Rattle.yield_report.specs.Serials.{serials_of, AreRising}
 use Rattle.yield_report.specs.declared.lines.OrderLine.{OrderLine}
 use Rattle.yield_report.proofs.RisingSerials.{given_is_listed, left_count}
 
 -- as many records are of the line's range as its serial numbers are given
 pub counted_is_given : (t : Tables) (line : OrderLine) → IsRange line.range → AreRising None (serials_of line.issuer t)
-    → count_of_range line (serials_of line.issuer t) ≡ given_of (has_given_in t) line
+    → count_of_range line (serials_of line.issuer t) ≡ issued_count (has_issued_in t) line
 counted_is_given t line is rising =
     let all = left_count line.range is None (serials_of line.issuer t) rising in
-    let same = ap length (filter_agree _ (is_unused (has_given_in t line.issuer) line.range)
-    (λ n. ap not (sym (given_is_listed line.issuer (text_of line.range n) t.given))) (numbers line.range)) in
+    let same = ap length (filter_agree _ (is_unused (has_issued_in t line.issuer) line.range)
+    (λ n. ap not (sym (given_is_listed line.issuer (serial_text_of line.range n) t.given))) (numbers line.range)) in
     omega (arith, all, same)
 
 -- the issuer of a line that was taken from is as it was
-same_issuer : (given : HasGiven) (lines : List OrderLine) (line : OrderLine) → (left_so_far given lines line).issuer ≡ line.issuer
+same_issuer : (given : HasIssued) (lines : List OrderLine) (line : OrderLine) → (left_so_far given lines line).issuer ≡ line.issuer
 same_issuer given lines line = elim (is_met lines line) as (λ b. (cond b (left_in given line) line).issuer ≡ line.issuer) [
   | true ↦ refl
   | false ↦ refl
@@ -56,29 +56,29 @@ met_like lines line other same =
 -- the walk over the records of an issuer that wasn't met yet
 first_step : (t : Tables) (lines : List OrderLine) (next line : OrderLine) → IsRange line.range → is_met lines next ≡ false
     → AreRising None (serials_of next.issuer t)
-    → taken next.issuer (serials_of next.issuer t) (left_so_far (has_given_in t) lines line) ≡ left_so_far (has_given_in t) (lines ++ next ∷ []) line
+    → taken next.issuer (serials_of next.issuer t) (left_so_far (has_issued_in t) lines line) ≡ left_so_far (has_issued_in t) (lines ++ next ∷ []) line
 first_step t lines next line is new rising =
     elim (bytes_eq line.issuer next.issuer) as (λ b. bytes_eq line.issuer next.issuer ≡ b
-    → taken next.issuer (serials_of next.issuer t) (left_so_far (has_given_in t) lines line) ≡ left_so_far (has_given_in t) (lines ++ next ∷ []) line) [
+    → taken next.issuer (serials_of next.issuer t) (left_so_far (has_issued_in t) lines line) ≡ left_so_far (has_issued_in t) (lines ++ next ∷ []) line) [
       | true ↦ λ e.
           let unmet : is_met lines line ≡ false = met_like lines line next e ∙ new in
           let met : is_met (lines ++ next ∷ []) line ≡ true =
           met_more lines next line ∙ rw (unmet, nat_list_eq_equiv.symm next.issuer line.issuer, e) refl in
           let issuer : next.issuer ≡ line.issuer = sym ((bytes_eq-Decides line.issuer next.issuer).0 e) in
-          let count : count_of_range line (serials_of next.issuer t) ≡ given_of (has_given_in t) line =
+          let count : count_of_range line (serials_of next.issuer t) ≡ issued_count (has_issued_in t) line =
           ap (λ issuer. count_of_range line (serials_of issuer t)) issuer
           ∙ counted_is_given t line is (subst (λ issuer. AreRising None (serials_of issuer t)) issuer rising) in
           rw (unmet, met, e) (ap (λ n. less n line) count)
       | false ↦ λ e.
           let same : is_met (lines ++ next ∷ []) line ≡ is_met lines line =
           met_more lines next line ∙ rw (nat_list_eq_equiv.symm next.issuer line.issuer, e) (or_none (is_met lines line)) in
-          taken_other next.issuer (serials_of next.issuer t) (left_so_far (has_given_in t) lines line)
-          (ap (λ issuer. bytes_eq issuer next.issuer) (same_issuer (has_given_in t) lines line) ∙ e)
-          ∙ ap (λ (b : Bool). cond b (left_in (has_given_in t) line) line) (sym same)
+          taken_other next.issuer (serials_of next.issuer t) (left_so_far (has_issued_in t) lines line)
+          (ap (λ issuer. bytes_eq issuer next.issuer) (same_issuer (has_issued_in t) lines line) ∙ e)
+          ∙ ap (λ (b : Bool). cond b (left_in (has_issued_in t) line) line) (sym same)
     ] refl
 
 -- a line of an issuer that was met changes nothing
-other_step : (given : HasGiven) (lines : List OrderLine) (next line : OrderLine) → is_met lines next ≡ true
+other_step : (given : HasIssued) (lines : List OrderLine) (next line : OrderLine) → is_met lines next ≡ true
     → left_so_far given lines line ≡ left_so_far given (lines ++ next ∷ []) line
 other_step given lines next line met =
     ap (λ (b : Bool). cond b (left_in given line) line) (
@@ -101,24 +101,24 @@ met_issuer false next none = absurd (none-some next (sym none))
 
 map_first_step : (t : Tables) (lines : List OrderLine) (next : OrderLine) (all : List OrderLine) → AllByRecursion IsLine all
     → is_met lines next ≡ false → AreRising None (serials_of next.issuer t)
-    → map (taken next.issuer (serials_of next.issuer t)) (map (left_so_far (has_given_in t) lines) all)
-    ≡ map (left_so_far (has_given_in t) (lines ++ next ∷ [])) all
+    → map (taken next.issuer (serials_of next.issuer t)) (map (left_so_far (has_issued_in t) lines) all)
+    ≡ map (left_so_far (has_issued_in t) (lines ++ next ∷ [])) all
 map_first_step t lines next [] are new rising = refl
 map_first_step t lines next (line ∷ all) are new rising =
     ap₂ (λ (l : OrderLine) (ls : List OrderLine). l ∷ ls) (first_step t lines next line are.0.0 new rising) (map_first_step t lines next all are.1 new rising)
 
-map_other_step : (given : HasGiven) (lines : List OrderLine) (next : OrderLine) (all : List OrderLine) → is_met lines next ≡ true
+map_other_step : (given : HasIssued) (lines : List OrderLine) (next : OrderLine) (all : List OrderLine) → is_met lines next ≡ true
     → map (left_so_far given lines) all ≡ map (left_so_far given (lines ++ next ∷ [])) all
 map_other_step given lines next [] met = refl
 map_other_step given lines next (line ∷ all) met =
     ap₂ (λ (l : OrderLine) (ls : List OrderLine). l ∷ ls) (other_step given lines next line met) (map_other_step given lines next all met)
 
-pub map_no_step : (given : HasGiven) (all : List OrderLine) → map (left_so_far given []) all ≡ all
+pub map_no_step : (given : HasIssued) (all : List OrderLine) → map (left_so_far given []) all ≡ all
 map_no_step given [] = refl
 map_no_step given (line ∷ all) = ap (λ (ls : List OrderLine). line ∷ ls) (map_no_step given all)
 
 -- once each line was met all is taken
-all_met : (given : HasGiven) (front rest : List OrderLine) → map (left_so_far given (front ++ rest)) rest ≡ map (left_in given) rest
+all_met : (given : HasIssued) (front rest : List OrderLine) → map (left_so_far given (front ++ rest)) rest ≡ map (left_in given) rest
 all_met given front [] = refl
 all_met given front (line ∷ rest) =
     let met : is_met (front ++ line ∷ rest) line ≡ true =
@@ -127,11 +127,11 @@ all_met given front (line ∷ rest) =
     ap₂ (λ (l : OrderLine) (ls : List OrderLine). l ∷ ls) (ap (λ (b : Bool). cond b (left_in given line) line) met)
     (ap (λ (ls : List OrderLine). map (left_so_far given ls) rest) (sym (append_assoc front (line ∷ []) rest)) ∙ all_met given (front ++ line ∷ []) rest)
 
-pub map_all_met : (given : HasGiven) (all : List OrderLine) → map (left_so_far given all) all ≡ map (left_in given) all
+pub map_all_met : (given : HasIssued) (all : List OrderLine) → map (left_so_far given all) all ≡ map (left_in given) all
 map_all_met given all = all_met given [] all
 
 -- whether the issuer of a place was met, by the lines as they are now
-met_now : (given : HasGiven) (lines : List OrderLine) (issuer : List ℕ) (front : List OrderLine)
+met_now : (given : HasIssued) (lines : List OrderLine) (issuer : List ℕ) (front : List OrderLine)
     → list_any (λ (l : OrderLine). bytes_eq l.issuer issuer) (map (left_so_far given lines) front)
     ≡ list_any (λ (l : OrderLine). bytes_eq l.issuer issuer) front
 met_now given lines issuer [] = refl
@@ -143,13 +143,13 @@ pub new_issuer_at : (lines : List OrderLine) (place : ℕ) (line : OrderLine) (i
     → issuer ≡ line.issuer
     → (met : Bool) → met ≡ list_any (λ (l : OrderLine). bytes_eq l.issuer issuer) (take place lines)
     → (if met then None else Some issuer) ≡ new_issuer lines place
-new_issuer_at lines place line issuer within here is met says =
+new_issuer_at lines place line issuer within here is met answer =
     rw (slice_get_read lines (length lines) place line refl within here)
-    (ap (λ (b : Bool). if b then None else Some issuer) (says ∙ ap (λ i. list_any (λ (l : OrderLine). bytes_eq l.issuer i) (take place lines)) is)
+    (ap (λ (b : Bool). if b then None else Some issuer) (answer ∙ ap (λ i. list_any (λ (l : OrderLine). bytes_eq l.issuer i) (take place lines)) is)
     ∙ ap (λ i. if is_met (take place lines) line then None else Some i) is)
 
 -- the issuer of a place, by the lines as they are now
-issuer_now : (given : HasGiven) (before : List OrderLine) (place : ℕ) (next : OrderLine) → slice_get before place ≡ Some next
+issuer_now : (given : HasIssued) (before : List OrderLine) (place : ℕ) (next : OrderLine) → slice_get before place ≡ Some next
     → new_issuer (map (left_so_far given (take place before)) before) place ≡ (if is_met (take place before) next then None else Some next.issuer)
 issuer_now given before place next here =
     let f : OrderLine → OrderLine = left_so_far given (take place before) in
@@ -165,13 +165,13 @@ issuer_now given before place next here =
 -- one place more, where no line before it has its issuer: its records are taken
 pub place_taken : (t : Tables) (before lines left : List OrderLine) (place : ℕ) (issuer : List ℕ) → place < length before
     → AllByRecursion IsLine before
-    → lines ≡ map (left_so_far (has_given_in t) (take place before)) before → new_issuer lines place ≡ Some issuer → AreRising None (serials_of issuer t)
-    → left ≡ map (taken issuer (serials_of issuer t)) lines → left ≡ map (left_so_far (has_given_in t) (take (place + 1) before)) before
+    → lines ≡ map (left_so_far (has_issued_in t) (take place before)) before → new_issuer lines place ≡ Some issuer → AreRising None (serials_of issuer t)
+    → left ≡ map (taken issuer (serials_of issuer t)) lines → left ≡ map (left_so_far (has_issued_in t) (take (place + 1) before)) before
 place_taken t before lines left place issuer within ranges is found rising takes =
     elim (slice_get_cases before place).1 [
       | inl here ↦
           let next : OrderLine = here.0 in
-          let now = sym (ap (λ (ls : List OrderLine). new_issuer ls place) is ∙ issuer_now (has_given_in t) before place next here.2) ∙ found in
+          let now = sym (ap (λ (ls : List OrderLine). new_issuer ls place) is ∙ issuer_now (has_issued_in t) before place next here.2) ∙ found in
           let more : take (place + 1) before ≡ take place before ++ next ∷ [] =
           take_more before place next within ∙ ap (λ (l : OrderLine). take place before ++ l ∷ []) here.3 in
           let new = unmet_issuer (is_met (take place before) next) next.issuer issuer now in
@@ -182,7 +182,7 @@ place_taken t before lines left place issuer within ranges is found rising takes
     ]
 
 -- one place more, where a line before it has its issuer
-pub place_met : (given : HasGiven) (before lines : List OrderLine) (place : ℕ) → place < length before
+pub place_met : (given : HasIssued) (before lines : List OrderLine) (place : ℕ) → place < length before
     → lines ≡ map (left_so_far given (take place before)) before → new_issuer lines place ≡ None
     → lines ≡ map (left_so_far given (take (place + 1) before)) before
 place_met given before lines place within is none =
@@ -199,4 +199,4 @@ place_met given before lines place within is none =
 -- what a test of the lines as a slice says of the lines
 pub said_of : (lines slice : List OrderLine) (place : ℕ) (result found : Option (List ℕ)) → slice ≡ lines → result ≡ new_issuer slice place → result ≡ found
     → new_issuer lines place ≡ found
-said_of lines slice place result found same says is = ap (λ (ls : List OrderLine). new_issuer ls place) (sym same) ∙ (sym says ∙ is)
+said_of lines slice place result found same answer is = ap (λ (ls : List OrderLine). new_issuer ls place) (sym same) ∙ (sym answer ∙ is)

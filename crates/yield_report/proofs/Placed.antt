@@ -3,21 +3,21 @@ use Rattle.std.proofs.Common.{◌≡◌, ℕ, suc, ◌+◌, ◌-◌, ◌<◌, Li
 use Rattle.std.specs.Ordering.{match_ordering}
 use Rattle.std.proofs.lemmas.List.{drop_more, get_or-map, length-map}
 use Rattle.site_core.specs.Section.{Section}
-use Rattle.office_tables.specs.Tables.{placed}
+use Rattle.office_tables.specs.Tables.{with_row}
 
 -- the places so far are passed over
 abbrev pub IsPassed : {A : Type 0} → (A → A → Ordering) → A → List A → ℕ → Type 0
-IsPassed cmp x xs i = placed cmp x xs ≡ take i xs ++ placed cmp x (drop i xs)
+IsPassed cmp x xs i = with_row cmp x xs ≡ take i xs ++ with_row cmp x (drop i xs)
 
 -- a name that is equal takes the place
 pub placed_over : {A : Type 0} (cmp : A → A → Ordering) (x : A) (xs : List A) (i : ℕ) (y : A) → i < length xs → y ≡ get_or xs i y → cmp x y ≡ Equal
     → IsPassed cmp x xs i
-    → take i xs ++ x ∷ drop (suc i) xs ≡ placed cmp x xs
+    → take i xs ++ x ∷ drop (suc i) xs ≡ with_row cmp x xs
 placed_over {A} cmp x xs i y within here equal passed =
     let cut : drop i xs ≡ y ∷ drop (i + 1) xs = drop_more xs i y within ∙ ap (λ (z : A). z ∷ drop (i + 1) xs) (sym here) in
     let next : i + 1 ≡ suc i = omega arith in
-    sym (passed ∙ (ap (λ (ys : List A). take i xs ++ placed cmp x ys) cut
-    ∙ (ap (λ o. take i xs ++ match_ordering o (x ∷ y ∷ drop (i + 1) xs) (x ∷ drop (i + 1) xs) (y ∷ placed cmp x (drop (i + 1) xs))) equal
+    sym (passed ∙ (ap (λ (ys : List A). take i xs ++ with_row cmp x ys) cut
+    ∙ (ap (λ o. take i xs ++ match_ordering o (x ∷ y ∷ drop (i + 1) xs) (x ∷ drop (i + 1) xs) (y ∷ with_row cmp x (drop (i + 1) xs))) equal
     ∙ ap (λ k. take i xs ++ x ∷ drop k xs) next)))
 
 -- the name of the customer before those that were placed

@@ -10,16 +10,16 @@ use Rattle.std.proofs.lemmas.Bool.Decides.{nat_tests}
 use Rattle.std.proofs.lemmas.Cmp.{nat_list_cmp_total, nat_list_eq_equiv}
 use Rattle.std.proofs.lemmas.Map.Text.{is_eq-slice_cmp}
 use Rattle.std.proofs.lemmas.Slice.Eq.{bytes_eq-Decides}
-use Rattle.id_ranges.specs.Range.{Range, IsRange, numbers, text_of}
+use Rattle.id_ranges.specs.Range.{Range, IsRange, numbers, serial_text_of}
 use Rattle.id_ranges.proofs.Texts.{same_number}
 use Rattle.office_tables.specs.declared.rows.Given.{Given}
-use Rattle.office_tables.specs.declared.rows.Owned.{Owned}
-use Rattle.office_tables.specs.Tables.{is_given, is_of_issuer, text_cmp}
+use Rattle.office_tables.specs.declared.rows.OfCustomer.{OfCustomer}
+use Rattle.office_tables.specs.Tables.{is_serial_of, is_of_issuer, text_cmp}
 use Rattle.yield_report.specs.Serials.{has_serial, serials_in, AreRising}
 
 -- the text isn't one of these
 abbrev is_new : List (List ℕ) → Range → ℕ → Bool
-is_new serials r n = not (list_any (bytes_eq (text_of r n)) serials)
+is_new serials r n = not (list_any (bytes_eq (serial_text_of r n)) serials)
 
 lt_is_less : (o : Ordering) → is_lt o ≡ true → o ≡ Less
 lt_is_less Less h = refl
@@ -97,20 +97,20 @@ pub left_count : (r : Range) → IsRange r → (last : Option (List ℕ)) (seria
     → length (filter (is_new serials r) (numbers r)) + length (filter (has_serial r) serials) ≡ r.quantity
 left_count r is last [] rising = let all = all_new r.first r.quantity in omega (arith, all)
 left_count r is last (s ∷ ss) rising =
-    let q : ℕ → Bool = λ n. bytes_eq (text_of r n) s in
-    let p : ℕ → Bool = λ n. list_any (bytes_eq (text_of r n)) ss in
+    let q : ℕ → Bool = λ n. bytes_eq (serial_text_of r n) s in
+    let p : ℕ → Bool = λ n. list_any (bytes_eq (serial_text_of r n)) ss in
     let rest = left_count r is (Some s) ss rising.1 in
     let step = one_less p q r.first r.quantity
     (λ m n low less high passes. false_from_ne_true (q n) (λ too.
-    let one = (bytes_eq-Decides (text_of r m) s).0 passes in
-    let other = (bytes_eq-Decides (text_of r n) s).0 too in
+    let one = (bytes_eq-Decides (serial_text_of r m) s).0 passes in
+    let other = (bytes_eq-Decides (serial_text_of r n) s).0 too in
     let same : m ≡ n = same_number r is m n (low, omega arith) (omega arith, high) (one ∙ sym other) in
     omega arith))
     (λ n low high passes.
-    let one = (bytes_eq-Decides (text_of r n) s).0 passes in
+    let one = (bytes_eq-Decides (serial_text_of r n) s).0 passes in
     rw one (rises_apart s ss rising.1)) in
     let tested : has_serial r s ≡ list_any q (numbers r) =
-    any_same (λ n. bytes_eq s (text_of r n)) q (λ n. nat_list_eq_equiv.symm s (text_of r n)) (numbers r) in
+    any_same (λ n. bytes_eq s (serial_text_of r n)) q (λ n. nat_list_eq_equiv.symm s (serial_text_of r n)) (numbers r) in
     elim (has_serial r s) as (λ b. has_serial r s ≡ b → length (filter (is_new (s ∷ ss) r) (numbers r)) + length
     (cond b (s ∷ filter (has_serial r) ss) (filter (has_serial r) ss)) ≡ r.quantity) [
       | true ↦ λ e. let t = rw (sym tested ∙ e) at step in omega (arith, t, rest)
@@ -118,7 +118,7 @@ left_count r is last (s ∷ ss) rising =
     ] refl
 
 -- whether a serial number is given in an issuer, by the serial numbers of its records
-pub given_is_listed : (issuer serial : List ℕ) (rows : List (Owned Given))
-    → is_some (find (is_given issuer serial) rows) ≡ list_any (bytes_eq serial) (serials_in (filter (is_of_issuer issuer) rows))
+pub given_is_listed : (issuer serial : List ℕ) (rows : List (OfCustomer Given))
+    → is_some (find (is_serial_of issuer serial) rows) ≡ list_any (bytes_eq serial) (serials_in (filter (is_of_issuer issuer) rows))
 given_is_listed issuer serial [] = refl
 given_is_listed issuer serial (row ∷ rows) = grind (arith, nat_tests, given_is_listed issuer serial rows)

@@ -7,11 +7,11 @@ use Rattle.csv.specs.Writing.{default_writer, row_text}
 use Rattle.site_core.specs.Section.{SiteValue}
 use Rattle.office_tables.specs.declared.rows.Device.{Device}
 use Rattle.office_tables.specs.declared.rows.Order.{Order}
-use Rattle.office_tables.specs.Tables.{Tables, own}
-use Rattle.yield_report.specs.Counts.{HasGiven, added, no_yield, total, yield_of}
+use Rattle.office_tables.specs.Tables.{Tables, rows_of}
+use Rattle.yield_report.specs.Counts.{HasIssued, added, no_yield, total, yield_of}
 use Rattle.yield_report.specs.Lines.{whole_line}
-use Rattle.yield_report.specs.Reports.{customer_line_in, customers_in_order, has_given_in, IsSiteReport}
-use Rattle.yield_report.specs.Rows.{named_numbers, numbers_in, with_row, AreWhole, FitsCustomer}
+use Rattle.yield_report.specs.Reports.{customer_line_in, customers_in_order, has_issued_in, IsSiteReport}
+use Rattle.yield_report.specs.Rows.{named_numbers, numbers_in, with_report_row, AreWhole, FitsCustomer}
 use Rattle.yield_report.specs.Texts.{customer_total, numbers_of, report_text, site_header, AreStorable}
 use Rattle.yield_report.specs.declared.lines.OrderLine.{OrderLine}
 use Rattle.yield_report.specs.declared.yields.Yield.{Yield}
@@ -81,7 +81,7 @@ front_fits lines i fit =
     first_fits (total (numbers_in (take i lines))) (total (numbers_in (drop i lines))) (subst (λ (y : Yield). AreStorable (numbers_of y)) sums fit)
 
 -- the numbers of the lines of orders
-pub numbers_of_lines : (given : HasGiven) (devices : List Device) (orders : List Order) → map (λ line.
+pub numbers_of_lines : (given : HasIssued) (devices : List Device) (orders : List Order) → map (λ line.
     line.numbers) (map (whole_line given devices) orders) ≡ map (yield_of given devices) orders
 numbers_of_lines given devices [] = refl
 numbers_of_lines given devices (o ∷ os) = ap (λ (ys : List Yield). yield_of given devices o ∷ ys) (numbers_of_lines given devices os)
@@ -89,17 +89,17 @@ numbers_of_lines given devices (o ∷ os) = ap (λ (ys : List Yield). yield_of g
 -- the line of a customer, and that the tables have room for its numbers
 pub customer_is : (customer : List ℕ) (t : Tables) (lines : List OrderLine) (sums : Yield) (count : ℕ) (before after : List ℕ)
     → AreWhole customer t lines → sums ≡ total (numbers_in lines) → count ≡ length lines → count ≤ 9223372036854775807 → AreStorable (numbers_of sums)
-    → after ≡ with_row before (named_numbers customer (count ∷ numbers_of sums))
-    → (after ≡ with_row before (customer_line_in t customer)) × FitsCustomer t customer
+    → after ≡ with_report_row before (named_numbers customer (count ∷ numbers_of sums))
+    → (after ≡ with_report_row before (customer_line_in t customer)) × FitsCustomer t customer
 customer_is customer t lines sums count before after is summed counted low fit text =
-    let given = has_given_in t in
-    let orders = own customer t.orders in
-    let devices = own customer t.devices in
+    let given = has_issued_in t in
+    let orders = rows_of customer t.orders in
+    let devices = rows_of customer t.devices in
     let all : sums ≡ customer_total given orders devices =
     summed ∙ (ap (λ (ls : List OrderLine). total (numbers_in ls)) is.0 ∙ ap total (numbers_of_lines given devices orders)) in
     let number : count ≡ length orders = counted ∙ (ap length is.0 ∙ length-map orders (whole_line given devices)) in
     let both : AreStorable (count ∷ numbers_of sums) = (low, fit) in
-    (text ∙ ap₂ (λ (n : ℕ) (y : Yield). with_row before (named_numbers customer (n ∷ numbers_of y))) number all, rw (number, all) at both)
+    (text ∙ ap₂ (λ (n : ℕ) (y : Yield). with_report_row before (named_numbers customer (n ∷ numbers_of y))) number all, rw (number, all) at both)
 
 -- the report with one customer more
 pub site_more : (t : Tables) (names : List (List ℕ)) (i : ℕ) (customer before after : List ℕ) → i < length names → customer ≡ get_or names i customer
@@ -119,7 +119,7 @@ fit_more t names i customer within here all fit = All-more (FitsCustomer t) name
 -- the whole report
 pub site_is : (site : SiteValue) (t : Tables) (names : List (List ℕ)) (text : List ℕ) → names ≡ customers_in_order site
     → text ≡ report_text (site_header ∷ map (customer_line_in t) names) → All (FitsCustomer t) names → IsSiteReport site t text
-site_is site t names text is says fit = (
-  says ∙ ap (λ (ns : List (List ℕ)). report_text (site_header ∷ map (customer_line_in t) ns)) is,
+site_is site t names text is answer fit = (
+  answer ∙ ap (λ (ns : List (List ℕ)). report_text (site_header ∷ map (customer_line_in t) ns)) is,
   recursion_from_All (FitsCustomer t) (customers_in_order site) (subst (λ (ns : List (List ℕ)). All (FitsCustomer t) ns) is fit),
 )

@@ -2,7 +2,7 @@
 use Rattle.std.proofs.Common.{◌≡◌, ℕ, ◌+◌, ◌-◌, Bool, true, false, List, [], ◌∷◌, map, length, refl, sym, ap, ap₂, ◌∙◌, subst, arith, cond}
 use Rattle.std.specs.Prelude.{filter, bytes_eq}
 use Rattle.office_tables.specs.declared.rows.Given.{Given}
-use Rattle.office_tables.specs.declared.rows.Owned.{Owned}
+use Rattle.office_tables.specs.declared.rows.OfCustomer.{OfCustomer}
 use Rattle.office_tables.specs.Keeping.{Visits}
 use Rattle.yield_report.specs.Lines.{count_of_range, less, taken, AreLines, TakesSerial}
 use Rattle.yield_report.specs.Serials.{has_serial, serials_in, AreRising}
@@ -55,7 +55,7 @@ unordered_since : (mid new : GivenScan) → new ≡ mid → mid.is_unordered ≡
 unordered_since mid new same one other = sym one ∙ (sym (ap (λ (s : GivenScan). s.is_unordered) same) ∙ other)
 
 -- a walk that wasn't broken off met serial numbers that rise
-pub serials_rise : (old : GivenScan) (rows : List (Owned Given)) (new : GivenScan) → Visits TakesSerial old rows new → new.is_unordered ≡ false
+pub serials_rise : (old : GivenScan) (rows : List (OfCustomer Given)) (new : GivenScan) → Visits TakesSerial old rows new → new.is_unordered ≡ false
     → AreRising old.last (serials_in rows)
 serials_rise old [] new v ordered = tt
 serials_rise old (row ∷ rows) new (true, mid, takes, later) ordered =
@@ -63,7 +63,7 @@ serials_rise old (row ∷ rows) new (true, mid, takes, later) ordered =
 serials_rise old (row ∷ rows) new (false, mid, takes, later) ordered = let e = unordered_since mid new later (takes.unordered refl) ordered in absurd (cc e)
 
 -- and took all of them
-pub serials_taken : (old : GivenScan) (rows : List (Owned Given)) (new : GivenScan) → Visits TakesSerial old rows new → new.is_unordered ≡ false
+pub serials_taken : (old : GivenScan) (rows : List (OfCustomer Given)) (new : GivenScan) → Visits TakesSerial old rows new → new.is_unordered ≡ false
     → new.lines.items ≡ map (taken old.issuer (serials_in rows)) old.lines.items
 serials_taken old [] new v ordered = ap (λ (s : GivenScan). s.lines.items) v ∙ sym (map_taken_none old.issuer old.lines.items)
 serials_taken old (row ∷ rows) new (true, mid, takes, later) ordered =
@@ -71,7 +71,7 @@ serials_taken old (row ∷ rows) new (true, mid, takes, later) ordered =
     rest ∙ map_taken_more old.issuer row.row.serial (serials_in rows) old.lines.items
 serials_taken old (row ∷ rows) new (false, mid, takes, later) ordered = let e = unordered_since mid new later (takes.unordered refl) ordered in absurd (cc e)
 
-pub serials_fit : (old : GivenScan) (rows : List (Owned Given)) (new : GivenScan) → Visits TakesSerial old rows new → new.is_unordered ≡ false
+pub serials_fit : (old : GivenScan) (rows : List (OfCustomer Given)) (new : GivenScan) → Visits TakesSerial old rows new → new.is_unordered ≡ false
     → AreLines old.lines.items → AreLines new.lines.items
 serials_fit old [] new v ordered fit = rw v fit
 serials_fit old (row ∷ rows) new (true, mid, takes, later) ordered fit = serials_fit mid rows new later ordered (takes.are_lines refl fit)

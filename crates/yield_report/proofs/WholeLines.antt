@@ -10,10 +10,10 @@ use Rattle.id_ranges.specs.NextSerial.{is_unused}
 use Rattle.id_ranges.specs.Range.{numbers}
 use Rattle.office_tables.specs.declared.rows.Device.{Device}
 use Rattle.office_tables.specs.declared.rows.Order.{Order}
-use Rattle.office_tables.specs.Tables.{Tables, own}
-use Rattle.yield_report.specs.Counts.{HasGiven, yield_of}
+use Rattle.office_tables.specs.Tables.{Tables, rows_of}
+use Rattle.yield_report.specs.Counts.{HasIssued, yield_of}
 use Rattle.yield_report.specs.Lines.{counted, first_line, left_in, whole_line, AreLines, IsLine}
-use Rattle.yield_report.specs.Reports.{has_given_in, IsOrderReport}
+use Rattle.yield_report.specs.Reports.{has_issued_in, IsOrderReport}
 use Rattle.yield_report.specs.Rows.{line_fields, lines_text}
 use Rattle.yield_report.specs.Texts.{numbers_of, order_header, order_line, report_text, AreStorable}
 use Rattle.yield_report.specs.declared.lines.OrderLine.{OrderLine}
@@ -32,7 +32,7 @@ filter_short p (x ∷ xs) =
     ]
 
 -- the line of one order
-line_whole : (given : HasGiven) (devices : List Device) (o : Order) → left_in given (counted devices (first_line o)) ≡ whole_line given devices o
+line_whole : (given : HasIssued) (devices : List Device) (o : Order) → left_in given (counted devices (first_line o)) ≡ whole_line given devices o
 line_whole given devices o =
     let unused : ℕ = length (filter (is_unused (given o.issuer) o.range) (numbers o.range)) in
     let few : unused ≤ o.range.quantity = let short =
@@ -41,30 +41,30 @@ line_whole given devices o =
     (same_yield (left_in given (counted devices (first_line o))).numbers (yield_of given devices o)
     (omega arith) (none_plus _) (none_plus _) (none_plus _) (none_plus _) (none_plus _) (none_plus _) (none_plus _) (omega (arith, few)))
 
-pub lines_whole : (given : HasGiven) (devices : List Device) (orders : List Order)
+pub lines_whole : (given : HasIssued) (devices : List Device) (orders : List Order)
     → map (left_in given) (map (counted devices) (map first_line orders)) ≡ map (whole_line given devices) orders
 lines_whole given devices [] = refl
 lines_whole given devices (o ∷ os) = ap₂ (λ (l : OrderLine) (ls : List OrderLine). l ∷ ls) (line_whole given devices o) (lines_whole given devices os)
 
-fields_of_lines : (given : HasGiven) (devices : List Device) (orders : List Order)
+fields_of_lines : (given : HasIssued) (devices : List Device) (orders : List Order)
     → map line_fields (map (whole_line given devices) orders) ≡ map (order_line given devices) orders
 fields_of_lines given devices [] = refl
 fields_of_lines given devices (o ∷ os) = ap (λ (ls : List (List (List ℕ))). order_line given devices o ∷ ls) (fields_of_lines given devices os)
 
-numbers_fit : (given : HasGiven) (devices : List Device) (orders : List Order) → AllByRecursion IsLine (map (whole_line given devices) orders)
+numbers_fit : (given : HasIssued) (devices : List Device) (orders : List Order) → AllByRecursion IsLine (map (whole_line given devices) orders)
     → AllByRecursion (λ o. AreStorable (numbers_of (yield_of given devices o))) orders
 numbers_fit given devices [] are = tt
 numbers_fit given devices (o ∷ os) are = (are.0.1, numbers_fit given devices os are.1)
 
 -- the report of these lines
 pub report_of_lines : (customer : List ℕ) (t : Tables) (lines : List OrderLine) (text : List ℕ)
-    → lines ≡ map (whole_line (has_given_in t) (own customer t.devices)) (own customer t.orders) → AreLines lines → text ≡ lines_text lines
+    → lines ≡ map (whole_line (has_issued_in t) (rows_of customer t.devices)) (rows_of customer t.orders) → AreLines lines → text ≡ lines_text lines
     → IsOrderReport customer t text
-report_of_lines customer t lines text is are says =
-    let given = has_given_in t in
-    let devices = own customer t.devices in (
-      says ∙ (ap lines_text is ∙ ap (λ rows. report_text (order_header ∷ rows)) (fields_of_lines given devices (own customer t.orders))),
-      numbers_fit given devices (own customer t.orders) (recursion_from_All IsLine _ (rw is at are)),
+report_of_lines customer t lines text is are answer =
+    let given = has_issued_in t in
+    let devices = rows_of customer t.devices in (
+      answer ∙ (ap lines_text is ∙ ap (λ rows. report_text (order_header ∷ rows)) (fields_of_lines given devices (rows_of customer t.orders))),
+      numbers_fit given devices (rows_of customer t.orders) (recursion_from_All IsLine _ (rw is at are)),
     )
 
 -- a report with one row more

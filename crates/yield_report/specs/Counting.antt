@@ -10,15 +10,15 @@ abbrev pub one_more : ℕ → Option ℕ
 one_more n = if nat_lt n 9223372036854775807 then Some (n + 1) else None
 
 -- the numbers with one more device in this state
-abbrev pub with_device : DeviceState → Yield → Option Yield
-with_device Registered y = option_map (λ n. record y { registered = n }) (one_more y.registered)
-with_device AwaitingFirst y = option_map (λ n. record y { planned = n }) (one_more y.planned)
-with_device AwaitingSecond y = option_map (λ n. record y { planned = n }) (one_more y.planned)
-with_device Settled y = option_map (λ n. record y { settled = n }) (one_more y.settled)
-with_device Identified y = option_map (λ n. record y { identified = n }) (one_more y.identified)
-with_device Shipped y = option_map (λ n. record y { shipped = n }) (one_more y.shipped)
-with_device (Quarantined reason) y = option_map (λ n. record y { quarantined = n }) (one_more y.quarantined)
-with_device Scrapped y = option_map (λ n. record y { scrapped = n }) (one_more y.scrapped)
+abbrev pub with_device_counted : DeviceState → Yield → Option Yield
+with_device_counted Registered y = option_map (λ n. record y { registered = n }) (one_more y.registered)
+with_device_counted AwaitingFirst y = option_map (λ n. record y { planned = n }) (one_more y.planned)
+with_device_counted AwaitingSecond y = option_map (λ n. record y { planned = n }) (one_more y.planned)
+with_device_counted Settled y = option_map (λ n. record y { settled = n }) (one_more y.settled)
+with_device_counted Identified y = option_map (λ n. record y { identified = n }) (one_more y.identified)
+with_device_counted Shipped y = option_map (λ n. record y { shipped = n }) (one_more y.shipped)
+with_device_counted (Quarantined reason) y = option_map (λ n. record y { quarantined = n }) (one_more y.quarantined)
+with_device_counted Scrapped y = option_map (λ n. record y { scrapped = n }) (one_more y.scrapped)
 
 -- the sum of two numbers, where the tables have room for it
 abbrev pub sum_of : ℕ → ℕ → Option ℕ

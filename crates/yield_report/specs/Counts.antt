@@ -12,8 +12,8 @@ use Rattle.office_tables.specs.States.{is_one_of}
 use Rattle.yield_report.specs.declared.yields.Yield.{Yield}
 
 -- whether a serial number of an issuer is given
-abbrev pub HasGiven : Type 0
-HasGiven = List ℕ → List ℕ → Bool
+abbrev pub HasIssued : Type 0
+HasIssued = List ℕ → List ℕ → Bool
 
 -- the devices of an order
 abbrev pub devices_of : List ℕ → List Device → List Device
@@ -24,7 +24,7 @@ abbrev pub count_in : List DeviceState → List Device → ℕ
 count_in states devices = length (filter (λ d. is_one_of states d.state) devices)
 
 -- how many of an order's serial numbers aren't given in its issuer, whoever gave the others
-abbrev pub serials_left : HasGiven → Order → ℕ
+abbrev pub serials_left : HasIssued → Order → ℕ
 serials_left given o = length (filter (is_unused (given o.issuer) o.range) (numbers o.range))
 
 -- the numbers of an order with these devices, of which so many serial numbers are left. A device that awaits either batch is planned
@@ -42,7 +42,7 @@ yield_with o left devices = record {
 }
 
 -- the numbers of an order, among all devices of its customer
-abbrev pub yield_of : HasGiven → List Device → Order → Yield
+abbrev pub yield_of : HasIssued → List Device → Order → Yield
 yield_of given devices o = yield_with o (serials_left given o) (devices_of o.name devices)
 
 abbrev pub no_yield : Yield

@@ -4,15 +4,15 @@ use Rattle.std.specs.Prelude.{option_and_then, option_map, slice_get, take, if�
 use Rattle.std.specs.List.{All, list_any}
 use Rattle.id_ranges.specs.NextSerial.{is_unused}
 use Rattle.id_ranges.specs.Range.{numbers, IsRange}
-use Rattle.office_tables.specs.declared.rows.Owned.{Owned}
+use Rattle.office_tables.specs.declared.rows.OfCustomer.{OfCustomer}
 use Rattle.office_tables.specs.declared.rows.Order.{Order}
 use Rattle.office_tables.specs.declared.rows.Device.{Device}
 use Rattle.office_tables.specs.declared.rows.Given.{Given}
 use Rattle.office_tables.specs.declared.rows.DeviceState.TheVariants.{Registered, AwaitingFirst, AwaitingSecond, Settled, Identified, Shipped, Quarantined}
 use Rattle.office_tables.specs.declared.rows.DeviceState.TheVariants.{Scrapped}
 use Rattle.office_tables.specs.declared.rows.Reason.TheVariants.{Lost, Stray, Key}
-use Rattle.yield_report.specs.Counting.{with_device}
-use Rattle.yield_report.specs.Counts.{HasGiven, added, count_in, devices_of, yield_of, yield_with}
+use Rattle.yield_report.specs.Counting.{with_device_counted}
+use Rattle.yield_report.specs.Counts.{HasIssued, added, count_in, devices_of, yield_of, yield_with}
 use Rattle.yield_report.specs.Serials.{follows, has_serial}
 use Rattle.yield_report.specs.Texts.{AreStorable, numbers_of}
 use Rattle.yield_report.specs.declared.lines.OrderLine.{OrderLine}
@@ -33,7 +33,7 @@ abbrev pub AreLines : List OrderLine → Type 0
 AreLines lines = All IsLine lines
 
 -- its line is added; or memory ran out, and the walk ends
-pub record GathersOrder (old : OrderScan) (row : Owned Order) (goes_on : Bool) (new : OrderScan) : Type 0 where
+pub record GathersOrder (old : OrderScan) (row : OfCustomer Order) (goes_on : Bool) (new : OrderScan) : Type 0 where
   pub lines : goes_on ≡ true → new.lines.items ≡ old.lines.items ++ first_line row.row ∷ []
   pub are_lines : goes_on ≡ true → AreLines old.lines.items → AreLines new.lines.items
   pub same : goes_on ≡ true → new.is_full ≡ old.is_full
@@ -60,14 +60,14 @@ counted devices line = record line { numbers = added line.numbers (counts (devic
 -- the line with the device where it is of the line's order; none where the tables have no room for its number
 abbrev pub with_one : Device → OrderLine → Option OrderLine
 with_one d line =
-    if bytes_eq line.name d.order then option_map (λ y. record line { numbers = y }) (with_device d.state line.numbers) else Some line
+    if bytes_eq line.name d.order then option_map (λ y. record line { numbers = y }) (with_device_counted d.state line.numbers) else Some line
 
 -- the tables have no room for a number of one of the lines with the device
 abbrev pub has_no_room : Device → List OrderLine → Bool
 has_no_room d lines = list_any (λ line. not (is_some (with_one d line))) lines
 
 -- the device is counted in each line of its order's name; or a number is too large, and the walk ends
-pub record CountsDevice (old : DeviceScan) (row : Owned Device) (goes_on : Bool) (new : DeviceScan) : Type 0 where
+pub record CountsDevice (old : DeviceScan) (row : OfCustomer Device) (goes_on : Bool) (new : DeviceScan) : Type 0 where
   pub lines : goes_on ≡ true → new.lines.items ≡ map (counted (row.row ∷ [])) old.lines.items
   pub are_lines : goes_on ≡ true → AreLines old.lines.items → AreLines new.lines.items
   pub same : goes_on ≡ true → new.is_over ≡ old.is_over
@@ -87,7 +87,7 @@ abbrev pub taken : List ℕ → List (List ℕ) → OrderLine → OrderLine
 taken issuer serials line = if bytes_eq line.issuer issuer then less (count_of_range line serials) line else line
 
 -- the serial number is taken from each line of its issuer whose range has it; or it isn't greater than the last one, and the walk ends
-pub record TakesSerial (old : GivenScan) (row : Owned Given) (goes_on : Bool) (new : GivenScan) : Type 0 where
+pub record TakesSerial (old : GivenScan) (row : OfCustomer Given) (goes_on : Bool) (new : GivenScan) : Type 0 where
   pub rises : goes_on ≡ true → follows old.last row.row.serial ≡ true
   pub last : goes_on ≡ true → new.last ≡ Some row.row.serial
   pub issuer : goes_on ≡ true → new.issuer ≡ old.issuer
@@ -98,19 +98,19 @@ pub record TakesSerial (old : GivenScan) (row : Owned Given) (goes_on : Bool) (n
   pub unordered : goes_on ≡ false → new.is_unordered ≡ true
 
 -- how many of a line's serial numbers are given
-abbrev pub given_of : HasGiven → OrderLine → ℕ
-given_of given line = line.range.quantity - length (filter (is_unused (given line.issuer) line.range) (numbers line.range))
+abbrev pub issued_count : HasIssued → OrderLine → ℕ
+issued_count given line = line.range.quantity - length (filter (is_unused (given line.issuer) line.range) (numbers line.range))
 
 -- the line without those
-abbrev pub left_in : HasGiven → OrderLine → OrderLine
-left_in given line = less (given_of given line) line
+abbrev pub left_in : HasIssued → OrderLine → OrderLine
+left_in given line = less (issued_count given line) line
 
 -- a line of its issuer is among these
 abbrev pub is_met : List OrderLine → OrderLine → Bool
 is_met lines line = list_any (λ l. bytes_eq l.issuer line.issuer) lines
 
 -- the line once the given serial numbers of these lines' issuers are taken
-abbrev pub left_so_far : HasGiven → List OrderLine → OrderLine → OrderLine
+abbrev pub left_so_far : HasIssued → List OrderLine → OrderLine → OrderLine
 left_so_far given lines line = if is_met lines line then left_in given line else line
 
 -- the issuer of the line at a place, if there is one and no line before it has its issuer
@@ -119,5 +119,5 @@ new_issuer lines place =
     option_and_then (λ line. if is_met (take place lines) line then None else Some line.issuer) (slice_get lines place)
 
 -- the line of an order, by all devices of its customer and all that is given
-abbrev pub whole_line : HasGiven → List Device → Order → OrderLine
+abbrev pub whole_line : HasIssued → List Device → Order → OrderLine
 whole_line given devices o = record { name = o.name; issuer = o.issuer; range = o.range; numbers = yield_of given devices o }

@@ -2,35 +2,35 @@
 use Rattle.std.specs.Prelude.{◌≡◌, ℕ, List, [], ◌∷◌, is_some, length, map}
 use Rattle.std.specs.List.{AllByRecursion}
 use Rattle.site_core.specs.Section.{SiteValue}
-use Rattle.office_tables.specs.Tables.{Tables, given_at, own, placed, text_cmp}
-use Rattle.yield_report.specs.Counts.{HasGiven, yield_of}
+use Rattle.office_tables.specs.Tables.{Tables, given_at, rows_of, with_row, text_cmp}
+use Rattle.yield_report.specs.Counts.{HasIssued, yield_of}
 use Rattle.yield_report.specs.Texts.{AreStorable, customer_line, customer_total, numbers_of, order_report_text, report_text, site_header}
 
 -- whether a serial number is given, by any customer
-abbrev pub has_given_in : Tables → HasGiven
-has_given_in t issuer serial = is_some (given_at issuer serial t)
+abbrev pub has_issued_in : Tables → HasIssued
+has_issued_in t issuer serial = is_some (given_at issuer serial t)
 
 -- a customer's report, its orders in the order of their names
 abbrev pub order_report_in : List ℕ → Tables → List ℕ
-order_report_in customer t = order_report_text (has_given_in t) (own customer t.orders) (own customer t.devices)
+order_report_in customer t = order_report_text (has_issued_in t) (rows_of customer t.orders) (rows_of customer t.devices)
 
 -- the report of a customer, of numbers that the tables have room for
 abbrev pub IsOrderReport : List ℕ → Tables → List ℕ → Type 0
 IsOrderReport customer t text =
     (text ≡ order_report_in customer t)
-    × AllByRecursion (λ o. AreStorable (numbers_of (yield_of (has_given_in t) (own customer t.devices) o))) (own customer t.orders)
+    × AllByRecursion (λ o. AreStorable (numbers_of (yield_of (has_issued_in t) (rows_of customer t.devices) o))) (rows_of customer t.orders)
 
 -- names in the order of their bytes
 abbrev pub in_order : List (List ℕ) → List (List ℕ)
 in_order [] = []
-in_order (name ∷ names) = placed text_cmp name (in_order names)
+in_order (name ∷ names) = with_row text_cmp name (in_order names)
 
 -- the site's customers in that order
 abbrev pub customers_in_order : SiteValue → List (List ℕ)
 customers_in_order site = in_order (map (λ c. c.name) site.customers)
 
 abbrev pub customer_line_in : Tables → List ℕ → List (List ℕ)
-customer_line_in t customer = customer_line customer (has_given_in t) (own customer t.orders) (own customer t.devices)
+customer_line_in t customer = customer_line customer (has_issued_in t) (rows_of customer t.orders) (rows_of customer t.devices)
 
 -- the manager's report: a line for each customer of the site
 abbrev pub site_report_in : SiteValue → Tables → List ℕ
@@ -40,6 +40,6 @@ site_report_in site t = report_text (site_header ∷ map (customer_line_in t) (c
 abbrev pub IsSiteReport : SiteValue → Tables → List ℕ → Type 0
 IsSiteReport site t text =
     (text ≡ site_report_in site t)
-    × AllByRecursion (λ customer. AreStorable (length (own customer t.orders)
-    ∷ numbers_of (customer_total (has_given_in t) (own customer t.orders) (own customer t.devices))))
+    × AllByRecursion (λ customer. AreStorable (length (rows_of customer t.orders)
+    ∷ numbers_of (customer_total (has_issued_in t) (rows_of customer t.orders) (rows_of customer t.devices))))
     (customers_in_order site)

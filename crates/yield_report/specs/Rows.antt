@@ -1,17 +1,17 @@
 -- Rows of a report, as the program makes them.
 use Rattle.std.specs.Prelude.{◌≡◌, ℕ, ◌++◌, List, [], ◌∷◌, decimal, length, map, string_bytes}
 use Rattle.csv.specs.Writing.{default_writer, row_text}
-use Rattle.office_tables.specs.Tables.{Tables, own}
+use Rattle.office_tables.specs.Tables.{Tables, rows_of}
 use Rattle.yield_report.specs.Lines.{whole_line, AreLines}
-use Rattle.yield_report.specs.Reports.{has_given_in}
+use Rattle.yield_report.specs.Reports.{has_issued_in}
 use Rattle.yield_report.specs.Texts.{customer_total, numbers_of, order_header, report_text, AreStorable}
 use Rattle.yield_report.specs.declared.lines.OrderLine.{OrderLine}
 use Rattle.yield_report.specs.declared.rows.NumberTexts.{NumberTexts}
 use Rattle.yield_report.specs.declared.yields.Yield.{Yield}
 
 -- a text with one row more
-abbrev pub with_row : List ℕ → List (List ℕ) → List ℕ
-with_row text fields = text ++ row_text default_writer fields
+abbrev pub with_report_row : List ℕ → List (List ℕ) → List ℕ
+with_report_row text fields = text ++ row_text default_writer fields
 
 -- the texts of numbers, in their order
 abbrev pub texts_in : NumberTexts → List (List ℕ)
@@ -38,9 +38,9 @@ numbers_in lines = map (λ line. line.numbers) lines
 -- these are the whole lines of a customer's orders
 abbrev pub AreWhole : List ℕ → Tables → List OrderLine → Type 0
 AreWhole customer t lines =
-    (lines ≡ map (whole_line (has_given_in t) (own customer t.devices)) (own customer t.orders)) × AreLines lines
+    (lines ≡ map (whole_line (has_issued_in t) (rows_of customer t.devices)) (rows_of customer t.orders)) × AreLines lines
 
 -- the tables have room for the numbers of a customer's line
 abbrev pub FitsCustomer : Tables → List ℕ → Type 0
 FitsCustomer t customer =
-    AreStorable (length (own customer t.orders) ∷ numbers_of (customer_total (has_given_in t) (own customer t.orders) (own customer t.devices)))
+    AreStorable (length (rows_of customer t.orders) ∷ numbers_of (customer_total (has_issued_in t) (rows_of customer t.orders) (rows_of customer t.devices)))

@@ -4,7 +4,7 @@ use Rattle.std.specs.List.{AllByRecursion}
 use Rattle.csv.specs.Writing.{default_writer, row_text}
 use Rattle.office_tables.specs.declared.rows.Order.{Order}
 use Rattle.office_tables.specs.declared.rows.Device.{Device}
-use Rattle.yield_report.specs.Counts.{HasGiven, total, yield_of}
+use Rattle.yield_report.specs.Counts.{HasIssued, total, yield_of}
 use Rattle.yield_report.specs.declared.yields.Yield.{Yield}
 
 -- the names of the numbers, in their order
@@ -25,20 +25,20 @@ report_text lines = flat_map (row_text default_writer) lines
 abbrev pub order_header : List (List ℕ)
 order_header = codes "order" ∷ number_names
 
-abbrev pub order_line : HasGiven → List Device → Order → List (List ℕ)
+abbrev pub order_line : HasIssued → List Device → Order → List (List ℕ)
 order_line given devices o = o.name ∷ map decimal (numbers_of (yield_of given devices o))
 
-abbrev pub order_report_text : HasGiven → List Order → List Device → List ℕ
+abbrev pub order_report_text : HasIssued → List Order → List Device → List ℕ
 order_report_text given orders devices = report_text (order_header ∷ map (order_line given devices) orders)
 
 -- the manager's report: a header, and a line for each customer with the number of its orders and the sum of their numbers
 abbrev pub site_header : List (List ℕ)
 site_header = codes "customer" ∷ codes "orders" ∷ number_names
 
-abbrev pub customer_total : HasGiven → List Order → List Device → Yield
+abbrev pub customer_total : HasIssued → List Order → List Device → Yield
 customer_total given orders devices = total (map (yield_of given devices) orders)
 
-abbrev pub customer_line : List ℕ → HasGiven → List Order → List Device → List (List ℕ)
+abbrev pub customer_line : List ℕ → HasIssued → List Order → List Device → List (List ℕ)
 customer_line customer given orders devices = customer ∷ map decimal (length orders ∷ numbers_of (customer_total given orders devices))
 
 -- numbers that the tables have room for

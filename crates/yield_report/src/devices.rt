@@ -1,12 +1,12 @@
 // The devices of each order, counted by their states.
 ghost use Rattle.std.specs.Prelude.{◌≡◌, ◌∷◌, [], false, true, is_some, map};
-ghost use Rattle.office_tables.specs.Tables.{own};
-ghost use Rattle.office_tables.specs.Reading.{Reading};
+ghost use Rattle.office_tables.specs.Tables.{rows_of};
+ghost use Rattle.office_tables.specs.Reading.{ReadsOnly};
 ghost use Rattle.yield_report.specs.Lines.{counted, has_no_room, with_one};
 ghost use Rattle.yield_report.specs.Lines.{AreLines, CountsDevice, IsLine};
 
 use crate::lines::OrderLine;
-use crate::yields::with_device;
+use crate::yields::with_device_counted;
 use office_tables::{Device, DeviceRow, Keep, Sink, Unkept};
 use text_core::Name;
 
@@ -40,7 +40,7 @@ fn count_in_line(line: &mut OrderLine, device: &Device) -> bool
     if line.name != device.order {
         return true;
     }
-    let Some(numbers) = with_device(&line.numbers, device.state) else {
+    let Some(numbers) = with_device_counted(&line.numbers, device.state) else {
         return false;
     };
     line.numbers = numbers;
@@ -69,8 +69,8 @@ pub(crate) fn count_devices<K: Keep>(
     customer: &Name,
     lines: Vec<OrderLine>,
 ) -> Result<Vec<OrderLine>, Unkept>
-    ensures { Reading K.Keep keep.old keep.new result (λ t all.
-        (all.items ≡ map (counted (own customer.now t.devices)) lines.items)
+    ensures { ReadsOnly K.Keep keep.old keep.new result (λ t all.
+        (all.items ≡ map (counted (rows_of customer.now t.devices)) lines.items)
         × (AreLines lines.items → AreLines all.items)) }
 {
     let mut scan = DeviceScan {

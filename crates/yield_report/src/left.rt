@@ -1,10 +1,10 @@
 // The serial numbers that are left of each order.
 ghost use Rattle.std.specs.Prelude.{◌≡◌, ◌∷◌, [], bytes_eq, map, None};
 ghost use Rattle.std.specs.List.{list_any};
-ghost use Rattle.office_tables.specs.Reading.{Reading};
+ghost use Rattle.office_tables.specs.Reading.{ReadsOnly};
 ghost use Rattle.yield_report.specs.Lines.{left_in, new_issuer, taken};
 ghost use Rattle.yield_report.specs.Lines.{AreLines, IsLine, TakesSerial};
-ghost use Rattle.yield_report.specs.Reports.{has_given_in};
+ghost use Rattle.yield_report.specs.Reports.{has_issued_in};
 ghost use Rattle.yield_report.specs.Serials.{follows, serials_of, AreRising};
 
 use crate::lines::OrderLine;
@@ -74,7 +74,7 @@ fn take_of_issuer<K: Keep>(
     issuer: &Name,
     lines: Vec<OrderLine>,
 ) -> Result<Vec<OrderLine>, Unkept>
-    ensures { Reading K.Keep keep.old keep.new result (λ t left.
+    ensures { ReadsOnly K.Keep keep.old keep.new result (λ t left.
         AreRising None (serials_of issuer.now t)
         × (left.items ≡ map (taken issuer.now (serials_of issuer.now t)) lines.items)
         × (AreLines lines.items → AreLines left.items)) }
@@ -121,8 +121,8 @@ pub(crate) fn take_given<K: Keep>(
     lines: Vec<OrderLine>,
 ) -> Result<Vec<OrderLine>, Unkept>
     requires { K.is_honest keep.old → K.is_open keep.old }
-    ensures { Reading K.Keep keep.old keep.new result (λ t left. AreLines lines.items
-        → (left.items ≡ map (left_in (has_given_in t)) lines.items) × AreLines left.items) }
+    ensures { ReadsOnly K.Keep keep.old keep.new result (λ t left. AreLines lines.items
+        → (left.items ≡ map (left_in (has_issued_in t)) lines.items) × AreLines left.items) }
 {
     let mut left = lines;
     for place in 0..left.len() {

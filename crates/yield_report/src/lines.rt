@@ -1,7 +1,7 @@
 // The lines of a report, one for each order.
 ghost use Rattle.std.specs.Prelude.{◌≡◌, map};
-ghost use Rattle.office_tables.specs.Tables.{own};
-ghost use Rattle.office_tables.specs.Reading.{Reading};
+ghost use Rattle.office_tables.specs.Tables.{rows_of};
+ghost use Rattle.office_tables.specs.Reading.{ReadsOnly};
 ghost use Rattle.yield_report.specs.Lines.{first_line, AreLines, GathersOrder, IsLine};
 
 use crate::yields::Yield;
@@ -69,8 +69,8 @@ pub(crate) fn order_lines<K: Keep>(
     keep: &mut K,
     customer: &Name,
 ) -> Result<Vec<OrderLine>, Unkept>
-    ensures { Reading K.Keep keep.old keep.new result (λ t lines.
-        (lines.items ≡ map first_line (own customer.now t.orders)) × AreLines lines.items) }
+    ensures { ReadsOnly K.Keep keep.old keep.new result (λ t lines.
+        (lines.items ≡ map first_line (rows_of customer.now t.orders)) × AreLines lines.items) }
 {
     let mut scan = OrderScan {
         lines: Vec::new(alloc),

@@ -1,6 +1,6 @@
 // The names of a site's customers, in order.
 ghost use Rattle.std.specs.Prelude.{◌≡◌, IfOk, OnOk};
-ghost use Rattle.office_tables.specs.Tables.{placed, text_cmp};
+ghost use Rattle.office_tables.specs.Tables.{with_row, text_cmp};
 ghost use Rattle.yield_report.specs.Reports.{customers_in_order};
 
 use site_core::Site;
@@ -10,7 +10,7 @@ use text_core::Name;
 
 /// Puts a name in its place among names that are in the order of their bytes.
 fn place(names: &mut Vec<Name>, name: Name) -> Result<(), AllocError>
-    ensures { OnOk result (names.new.items ≡ placed text_cmp name names.old.items) }
+    ensures { OnOk result (names.new.items ≡ with_row text_cmp name names.old.items) }
 {
     for i in 0..names.len() {
         match name.cmp(&names[i]) {

@@ -1,6 +1,6 @@
 // The report of a customer.
 ghost use Rattle.std.specs.Prelude.{◌≡◌, IfOk};
-ghost use Rattle.office_tables.specs.Reading.{Reading};
+ghost use Rattle.office_tables.specs.Reading.{ReadsOnly};
 ghost use Rattle.yield_report.specs.Reports.{IsOrderReport};
 ghost use Rattle.yield_report.specs.Rows.{lines_text, AreWhole};
 
@@ -18,7 +18,7 @@ pub(crate) fn whole_lines<K: Keep>(
     keep: &mut K,
     customer: &Name,
 ) -> Result<Vec<OrderLine>, Unkept>
-    ensures { Reading K.Keep keep.old keep.new result (λ t lines.
+    ensures { ReadsOnly K.Keep keep.old keep.new result (λ t lines.
         AreWhole customer.now t lines.items) }
 {
     let orders = order_lines(alloc, keep, customer)?;
@@ -50,7 +50,7 @@ pub fn order_report<K: Keep>(
     keep: &mut K,
     customer: &Name,
 ) -> Result<Vec<u8>, Unkept>
-    ensures { Reading K.Keep keep.old keep.new result (λ t text.
+    ensures { ReadsOnly K.Keep keep.old keep.new result (λ t text.
         IsOrderReport customer.now t text.items) }
 {
     let lines = whole_lines(alloc, keep, customer)?;

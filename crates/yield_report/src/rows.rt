@@ -1,7 +1,7 @@
 // The text of a report: rows of comma-separated fields (RFC 4180), each with a line feed behind it.
 ghost use Rattle.std.specs.Prelude.{◌≡◌, ◌∷◌, IfOk, OnOk, decimal, map};
 ghost use Rattle.csv.specs.Writing.{default_writer, row_text};
-ghost use Rattle.yield_report.specs.Rows.{named_numbers, texts_in, with_row};
+ghost use Rattle.yield_report.specs.Rows.{named_numbers, texts_in, with_report_row};
 ghost use Rattle.yield_report.specs.Texts.{numbers_of, order_header, site_header};
 
 use crate::yields::Yield;
@@ -26,7 +26,8 @@ fn row_bytes(alloc: Global, fields: &[&[u8]]) -> Result<Vec<u8>, AllocError>
 
 /// Appends one row to a text.
 fn append_row(alloc: Global, text: &mut Vec<u8>, fields: &[&[u8]]) -> Result<(), AllocError>
-    ensures { OnOk result (text.new.items ≡ with_row text.old.items (map (λ f. f.now) fields.now)) }
+    ensures { OnOk result (text.new.items
+        ≡ with_report_row text.old.items (map (λ f. f.now) fields.now)) }
 {
     let row = row_bytes(alloc, fields)?;
     text.extend_from_slice(row.as_slice())
@@ -65,7 +66,7 @@ fn number_texts(alloc: Global, numbers: &Yield) -> Result<NumberTexts, AllocErro
 
 /// Appends the header of a customer's report.
 pub(crate) fn append_order_header(alloc: Global, text: &mut Vec<u8>) -> Result<(), AllocError>
-    ensures { OnOk result (text.new.items ≡ with_row text.old.items order_header) }
+    ensures { OnOk result (text.new.items ≡ with_report_row text.old.items order_header) }
 {
     let header = [
         "order".as_bytes(),
@@ -90,7 +91,7 @@ pub(crate) fn append_order(
     numbers: &Yield,
 ) -> Result<(), AllocError>
     ensures { OnOk result (text.new.items
-        ≡ with_row text.old.items (named_numbers order.now (numbers_of numbers.now))) }
+        ≡ with_report_row text.old.items (named_numbers order.now (numbers_of numbers.now))) }
 {
     let texts = number_texts(alloc, numbers)?;
     let fields = [
@@ -110,7 +111,7 @@ pub(crate) fn append_order(
 
 /// Appends the header of a site's report.
 pub(crate) fn append_site_header(alloc: Global, text: &mut Vec<u8>) -> Result<(), AllocError>
-    ensures { OnOk result (text.new.items ≡ with_row text.old.items site_header) }
+    ensures { OnOk result (text.new.items ≡ with_report_row text.old.items site_header) }
 {
     let header = [
         "customer".as_bytes(),
@@ -137,7 +138,7 @@ pub(crate) fn append_customer(
     sums: &Yield,
 ) -> Result<(), AllocError>
     ensures { OnOk result (text.new.items
-        ≡ with_row text.old.items (named_numbers customer.now (orders ∷ numbers_of sums.now))) }
+        ≡ with_report_row text.old.items (named_numbers customer.now (orders ∷ numbers_of sums.now))) }
 {
     let count = orders.to_string(alloc)?;
     let texts = number_texts(alloc, sums)?;

@@ -1,7 +1,7 @@
 // Whether a text is a serial number of a range.
 ghost use Rattle.std.specs.Prelude.{◌≡◌, ◌≤◌, ℕ, IfSome, Some, length};
 ghost use Rattle.std.specs.Str.Parse.{digits_value, AllDigits};
-ghost use Rattle.id_ranges.specs.Range.{text_of, Has};
+ghost use Rattle.id_ranges.specs.Range.{serial_text_of, Has};
 ghost use Rattle.yield_report.specs.Serials.{has_serial};
 
 use id_ranges::SerialRange;
@@ -25,7 +25,8 @@ fn number_of(digits: &[u8]) -> u64
 /// number.
 fn number_in(range: &SerialRange, serial: &Serial) -> Option<u64>
     ensures has { IfSome result (Has range.now) }
-    ensures found { (n : ℕ) → Has range.now n → serial.now ≡ text_of range.now n → result ≡ Some n }
+    ensures found { (n : ℕ) → Has range.now n → serial.now ≡ serial_text_of range.now n
+        → result ≡ Some n }
 {
     let prefix = range.prefix();
     let front = prefix.as_str().as_bytes();

@@ -1,9 +1,9 @@
 // The report of a site.
 ghost use Rattle.std.specs.Prelude.{◌≡◌, ◌↔◌, ⊤, IfSome, IsSome};
-ghost use Rattle.office_tables.specs.Reading.{Reading};
+ghost use Rattle.office_tables.specs.Reading.{ReadsOnly};
 ghost use Rattle.yield_report.specs.Counts.{no_yield, total};
 ghost use Rattle.yield_report.specs.Reports.{customer_line_in, IsSiteReport};
-ghost use Rattle.yield_report.specs.Rows.{numbers_in, with_row, FitsCustomer};
+ghost use Rattle.yield_report.specs.Rows.{numbers_in, with_report_row, FitsCustomer};
 ghost use Rattle.yield_report.specs.Texts.{numbers_of, AreStorable};
 
 use crate::lines::OrderLine;
@@ -51,7 +51,7 @@ fn total(lines: &[OrderLine]) -> Option<Yield>
 /// Asks whether the store is open, by a look-up of the map with the number 0, so that the report of
 /// a site without customers asks it too.
 fn ask_open<K: Keep>(keep: &mut K) -> Result<(), Unkept>
-    ensures { Reading K.Keep keep.old keep.new result (λ _ _. ⊤) }
+    ensures { ReadsOnly K.Keep keep.old keep.new result (λ _ _. ⊤) }
 {
     keep.map(0)?;
     Ok(())
@@ -64,8 +64,8 @@ fn append_line<K: Keep>(
     text: &mut Vec<u8>,
     customer: &Name,
 ) -> Result<(), Unkept>
-    ensures { Reading K.Keep keep.old keep.new result (λ t _.
-        (text.new.items ≡ with_row text.old.items (customer_line_in t customer.now))
+    ensures { ReadsOnly K.Keep keep.old keep.new result (λ t _.
+        (text.new.items ≡ with_report_row text.old.items (customer_line_in t customer.now))
         × FitsCustomer t customer.now) }
 {
     let lines = whole_lines(alloc, keep, customer)?;
@@ -88,7 +88,7 @@ fn append_line<K: Keep>(
 /// `Err` is want of memory, a keeper's fault, records of an issuer that aren't in the order of
 /// their serial numbers, or a number past 9223372036854775807, and nothing else.
 pub fn site_report<K: Keep>(alloc: Global, keep: &mut K, site: &Site) -> Result<Vec<u8>, Unkept>
-    ensures { Reading K.Keep keep.old keep.new result (λ t text.
+    ensures { ReadsOnly K.Keep keep.old keep.new result (λ t text.
         IsSiteReport site.now t text.items) }
 {
     ask_open(keep)?;

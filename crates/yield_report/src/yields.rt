@@ -1,6 +1,6 @@
 // The numbers of a line of a report.
 ghost use Rattle.std.specs.Prelude.{◌≡◌, ◌↔◌, IfSome, IsSome};
-ghost use Rattle.yield_report.specs.Counting.{one_more, sum_of, with_device};
+ghost use Rattle.yield_report.specs.Counting.{one_more, sum_of, with_device_counted};
 ghost use Rattle.yield_report.specs.Counts.{added};
 ghost use Rattle.yield_report.specs.Texts.{numbers_of, AreStorable};
 
@@ -46,8 +46,8 @@ fn one_more(count: u64) -> Option<u64>
 
 /// The numbers with one more device in a state. `None` where the tables have no room for its
 /// number.
-pub(crate) fn with_device(numbers: &Yield, state: DeviceState) -> Option<Yield>
-    ensures { result ≡ with_device state numbers.now }
+pub(crate) fn with_device_counted(numbers: &Yield, state: DeviceState) -> Option<Yield>
+    ensures { result ≡ with_device_counted state numbers.now }
 {
     let mut counted = *numbers;
     match state {

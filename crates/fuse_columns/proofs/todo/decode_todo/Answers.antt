@@ -3,12 +3,12 @@ use Rattle.std.proofs.Common.{ℕ, List, drop, sym, ap, ap₂, ◌∙◌, subst}
 use Rattle.std.proofs.lemmas.List.{drop-drop}
 use Rattle.fuse_columns.specs.BitsColumns.{bits_in, bits_length}
 use Rattle.fuse_columns.specs.KeysColumns.{keys_in}
-use Rattle.fuse_columns.specs.TodoColumns.{IsWork, work_in}
-use Rattle.fuse_columns.proofs.WorkBytes.{IsWork-work_in}
+use Rattle.fuse_columns.specs.TodoColumns.{IsPending, pending_in}
+use Rattle.fuse_columns.proofs.WorkBytes.{IsPending-pending_in}
 use Rattle.fuse_columns.proofs.todo.decode_todo.Goals as goal
 
 pub returns-clause-same : goal.returns-clause-same
-unfolding work_in
+unfolding pending_in
 returns-clause-same c =
     let m = c.args.map.now in
     let bytes = c.args.column.now in
@@ -22,4 +22,4 @@ returns-clause-same c =
     λ i. record { first = first i; second = second i; keys = keys i }
 
 pub returns-clause-work : goal.returns-clause-work
-returns-clause-work c = subst (IsWork c.args.map.now) (sym (returns-clause-same c)) (IsWork-work_in c.args.map.now c.args.column.now)
+returns-clause-work c = subst (IsPending c.args.map.now) (sym (returns-clause-same c)) (IsPending-pending_in c.args.map.now c.args.column.now)

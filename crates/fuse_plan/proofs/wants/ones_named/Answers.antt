@@ -1,11 +1,11 @@
 -- Why `wants::ones_named` meets its contract, where that has to be said.
 use Rattle.std.proofs.Common.{◌-◌, ◌&&◌, ◌∙◌, sym}
 use Rattle.fusemap_core.specs.Map.{field_named, holds}
-use Rattle.fuse_plan.specs.Numbers.{has_one}
+use Rattle.fuse_plan.specs.Numbers.{number_has_one}
 use Rattle.fuse_plan.proofs.Asked.{in_no_field}
 use Rattle.fuse_plan.proofs.wants.ones_named.Goals as goal
 
 pub returns-in-None : goal.returns-in-None
 returns-in-None c =
-    c.empty.ensures ∙ in_no_field (λ f p. holds f p && has_one c.args.value.now (p.bit - f.bit)) (field_named c.args.name.now c.args.map.now.fields)
+    c.empty.ensures ∙ in_no_field (λ f p. holds f p && number_has_one c.args.value.now (p.bit - f.bit)) (field_named c.args.name.now c.args.map.now.fields)
     (sym c.field_named.ensures.value ∙ c.in-None.is)

@@ -1,12 +1,12 @@
 -- What the loops of `buffer::read_request` keep.
 use Rattle.std.proofs.Common.{◌≡◌, ◌+◌, ◌-◌, ◌≤◌}
-use Rattle.http_frames.specs.Buffers.{unread, Keeps}
+use Rattle.http_frames.specs.Buffers.{unread, KeepsBytes}
 use Rattle.http_frames.proofs.buffer.read_request.Given as goal
 
 abbrev pub invariant-loop-framed : goal.invariant-loop-framed
 invariant-loop-framed g l = record {
   taken : l.buffer.taken ≡ 0;
-  bytes : Keeps (unread l.fn.buffer) (g.R.Source.left l.fn.reader) l.buffer.window (g.R.Source.left l.reader) ⊥;
+  bytes : KeepsBytes (unread l.fn.buffer) (g.R.Source.left l.fn.reader) l.buffer.window (g.R.Source.left l.reader) ⊥;
   calls : g.R.Source.calls l.reader + l.fn.buffer.calls ≡ g.R.Source.calls l.fn.reader + l.buffer.calls;
   more : l.fn.buffer.calls ≤ l.buffer.calls;
   failures : g.R.Source.failures l.reader ≡ g.R.Source.failures l.fn.reader;

@@ -1,5 +1,5 @@
 -- Why `send::write_reply` meets its contract, where that has to be said.
-use Rattle.http_replies.specs.Replies.{bytes_of}
+use Rattle.http_replies.specs.Replies.{bytes_of_body}
 use Rattle.http_serving.proofs.SendLemmas.{sending_then}
 use Rattle.http_serving.proofs.send.write_reply.Goals as goal
 
@@ -7,4 +7,4 @@ pub returns-clause-sent : goal.returns-clause-sent
 returns-clause-sent g c =
     let head = rw c.reply_head-len.ensures.text at c.in-All.ensures.sent in
     let body = rw c.as_bytes.ensures at c.write_all-2.ensures.sent in
-    rw c.if-flags.false (sending_then _ _ _ _ (bytes_of c.args.reply.now.body) c.write_all-2.result head body)
+    rw c.if-flags.false (sending_then _ _ _ _ (bytes_of_body c.args.reply.now.body) c.write_all-2.result head body)

@@ -1,6 +1,6 @@
 -- Why `next::next_serial_from` meets its contract, where that has to be said.
 use Rattle.std.proofs.Common.{◌≡◌, ◌≤◌, false, inl, refl, arith}
-use Rattle.id_ranges.specs.Range.{Has, text_of}
+use Rattle.id_ranges.specs.Range.{Has, serial_text_of}
 use Rattle.id_ranges.proofs.NextNumbers.{next_here, next_none}
 use Rattle.id_ranges.proofs.next.next_serial_from.Goals as goal
 
@@ -12,8 +12,8 @@ returns-then-not-branch-clause-exact g c = λ honest.
     let tells = g.G.Given.tells given in
     let was = g.met.G.Given.was_honest given c.loop-number.state c.is_given.new.state c.in_ok-is_given.ensures.ok honest in
     let same = g.met.G.Given.same given c.args.state.now c.loop-number.state c.loop-number.invariant.looked was in
-    let free : tells c.args.state.now (text_of range number) ≡ false =
-    rw (← same, ← c.text-serial.ensures, ← c.in_ok-is_given.ensures.says honest) c.if-not-branch.true in
+    let free : tells c.args.state.now (serial_text_of range number) ≡ false =
+    rw (← same, ← c.text-serial.ensures, ← c.in_ok-is_given.ensures.answer honest) c.if-not-branch.true in
     let has : Has range number = (omega arith, omega arith) in
     let high : c.args.cursor ≤ number = omega arith in
     let next = next_here c.args.cursor (tells c.args.state.now) range number has high free (c.loop-number.invariant.passed was) in

@@ -1,6 +1,6 @@
 -- Why `office::serve` meets its contract, where that has to be said.
 use Rattle.std.proofs.Common.{rules}
-use Rattle.office_core.proofs.Settled.{shows}
+use Rattle.office_core.proofs.CarriedOut.{shows}
 use Rattle.office_core.proofs.office.serve.Goals as goal
 
 pub returns-in-Show : goal.returns-in-Show
@@ -8,9 +8,9 @@ returns-in-Show g c = record {
   was_open = search rules;
   was_honest = search rules;
   stays_open = search rules;
-  makes = λ is.
+  change = λ is.
       shows c.args.customer.now c.args.seat.now (g.K.Keep.tables c.args.keep.now) _
       c.args.request.now c.in-Show.asked c.show.result c.in-Show.is
-      (c.show.ensures.reads.same is) (c.show.ensures.says is);
+      (c.show.ensures.read_only.same is) (c.show.ensures.answer is);
   crash = search rules;
 }

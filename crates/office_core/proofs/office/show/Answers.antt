@@ -4,21 +4,21 @@ use Rattle.office_core.proofs.office.show.Goals as goal
 
 pub returns-in-Order : goal.returns-in-Order
 returns-in-Order g c = record {
-  reads = search rules;
+  read_only = search rules;
   stays_open = search rules;
-  says = λ is. rw c.in-Order.is (c.show_order.ensures.says is);
+  answer = λ is. rw c.in-Order.is (c.show_order.ensures.answer is);
 }
 
 pub returns-in-Device : goal.returns-in-Device
 returns-in-Device g c = record {
-  reads = search rules;
+  read_only = search rules;
   stays_open = search rules;
-  says = λ is. rw c.in-Device.is (c.show_device.ensures.says is);
+  answer = λ is. rw c.in-Device.is (c.show_device.ensures.answer is);
 }
 
 pub returns-in-Ledger : goal.returns-in-Ledger
 returns-in-Ledger g c = record {
-  reads = search rules;
+  read_only = search rules;
   stays_open = search rules;
-  says = λ is. rw c.in-Ledger.is (c.show_ledger.ensures.says is);
+  answer = λ is. rw c.in-Ledger.is (c.show_ledger.ensures.answer is);
 }

@@ -4,8 +4,8 @@ use Rattle.std.specs.Prelude.{zip}
 use Rattle.std.proofs.lemmas.List.{append-nil, length-map, map-append, take_more, take_all}
 use Rattle.http_replies.specs.Replies.{answer_of}
 use Rattle.http_replies.specs.declared.Reply.{Reply}
-use Rattle.site_core.specs.Caller.{section_at, seat_at}
-use Rattle.site_core.specs.Owners.{owners_of}
+use Rattle.site_core.specs.Caller.{section_at, seat_name_at}
+use Rattle.site_core.specs.Ownership.{ownership_of}
 use Rattle.office_tables.specs.Tables.{Tables}
 use Rattle.office_rules.specs.OfficeMachine.{Step}
 use Rattle.office_runs.specs.Exchanges.{Exchange}
@@ -13,7 +13,7 @@ use Rattle.office_runs.proofs.Leaving.{leaves_more, leaves_none}
 use Rattle.office_runs.proofs.Seats.{run_more, seats_joined_more}
 use Rattle.office_core.specs.Replaying.{call_of, calls_in}
 use Rattle.office_core.proofs.Replaying.{exchanges_more, lengths_more}
-use Rattle.office_core.proofs.Settled.{carried_out}
+use Rattle.office_core.proofs.CarriedOut.{carried_out}
 use Rattle.office_core.proofs.requests.answer_all.Goals as goal
 
 pub loop-asked-init : goal.loop-asked-init
@@ -50,13 +50,16 @@ loop-asked-preserved g c =
     let x : Exchange = (call_of site asked, answer_of reply) in
     let more = take_more c.args.requests.now index asked c.loop-asked-test.true in
     let calls_more : calls_in site (take (index + 1) c.args.requests.now) ≡ calls ++ call_of site asked ∷ [] = rw (more, ← c.asked-item.is, map-append) refl in
-    let joined : zip (calls ++ call_of site asked ∷ []) (map answer_of (so_far.0 ++ reply ∷ [])) ≡ xs ++ x ∷ [] = exchanges_more calls so_far.0 (call_of site asked) reply so_far.2 in
+    let joined : zip (calls ++ call_of site asked ∷ []) (map answer_of (so_far.0 ++ reply ∷ []))
+    ≡ xs ++ x ∷ [] = exchanges_more calls so_far.0 (call_of site asked) reply so_far.2 in
     record {
       taken = omega (arith, c.loop-asked.invariant.taken, c.in_ok-push.ensures.len);
       capacity = omega (arith, c.in_ok-push.ensures.capacity, c.loop-asked.invariant.capacity);
       was_open = λ is. c.loop-asked.invariant.was_open (c.answer.ensures.was_open is);
       was_honest = λ is. c.loop-asked.invariant.was_honest (c.answer.ensures.was_honest is);
-      seats = rw calls_more (seats_joined_more (owners_of site) calls (call_of site asked) c.loop-asked.invariant.seats (c.seat_asks.ensures.apart, c.seat_asks.ensures.seat));
+      seats = rw calls_more
+          (seats_joined_more (ownership_of site) calls (call_of site asked)
+          c.loop-asked.invariant.seats (c.seat_asks.ensures.apart, c.seat_asks.ensures.seat));
       run = (
         so_far.0 ++ reply ∷ [],
         c.in_ok-push.ensures.items ∙ (ap (λ (rs : List Reply). rs ++ reply ∷ []) so_far.1 ∙ append_assoc c.args.replies.now.items so_far.0 (reply ∷ [])),
@@ -68,11 +71,18 @@ loop-asked-preserved g c =
               record {
                 run = rw (calls_more, joined) (run_more xs x t first.0 step.0 first.1.run step.1);
                 crash = rw (calls_more, joined)
-                    (leaves_more xs x asked.request t first.0 step.0 (g.K.Keep.may_leave c.args.keep.now) (g.K.Keep.may_leave c.loop-asked.keep) (g.K.Keep.may_leave c.answer.new.keep) (g.K.Keep.is_open c.answer.new.keep)
+                    (leaves_more xs x asked.request t first.0 step.0
+                    (g.K.Keep.may_leave c.args.keep.now) (g.K.Keep.may_leave c.loop-asked.keep)
+                    (g.K.Keep.may_leave c.answer.new.keep) (g.K.Keep.is_open c.answer.new.keep)
                     refl step.1 first.1.crash (c.answer.ensures.stays_open is)
-                    (λ opened left leaves. g.met.K.Keep.settled c.answer.new.keep left opened leaves ∙ step.5 opened)
+                    (λ opened left leaves. g.met.K.Keep.only_committed c.answer.new.keep left opened leaves ∙ step.5 opened)
                     (λ left leaves. carried_out (c.answer.ensures.crash is left leaves) (λ old. old)
-                    (λ made. (made.1, subst (λ (m : Tables). Step (section_at site asked.caller) (seat_at site asked.caller) m asked.request made.1 left) (first.1.stands made.0) made.2))));
+                    (λ made. (
+                      made.1,
+                      subst (λ (m : Tables).
+                          Step (section_at site asked.caller) (seat_name_at site asked.caller) m
+                          asked.request made.1 left) (first.1.stands made.0) made.2,
+                    ))));
                 stands = step.5;
               },
             ),
@@ -81,7 +91,15 @@ loop-asked-preserved g c =
 
 -- there is room
 pub returns-in_err-push-clause-ok : goal.returns-in_err-push-clause-ok
-returns-in_err-push-clause-ok g c = absurd (omega (arith, c.in_err-push.ensures.full, c.loop-asked.invariant.taken, c.loop-asked.invariant.capacity, c.requires.room, c.loop-asked-test.true))
+returns-in_err-push-clause-ok g c = absurd
+    (omega (
+      arith,
+      c.in_err-push.ensures.full,
+      c.loop-asked.invariant.taken,
+      c.loop-asked.invariant.capacity,
+      c.requires.room,
+      c.loop-asked-test.true,
+    ))
 
 pub returns-clause-seats : goal.returns-clause-seats
 returns-clause-seats g c = rw (take_all c.loop-asked.asked-index c.args.requests.now c.loop-asked-test.false) at c.loop-asked.invariant.seats

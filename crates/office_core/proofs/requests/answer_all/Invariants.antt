@@ -4,7 +4,7 @@ use Rattle.std.specs.Prelude.{zip}
 use Rattle.std.specs.Vec.{vec_len, vec_capacity}
 use Rattle.http_replies.specs.Replies.{answer_of}
 use Rattle.http_replies.specs.declared.Reply.{Reply}
-use Rattle.site_core.specs.Owners.{owners_of}
+use Rattle.site_core.specs.Ownership.{ownership_of}
 use Rattle.office_tables.specs.Keeping.{Stands}
 use Rattle.office_tables.specs.Tables.{Tables}
 use Rattle.office_runs.proofs.Seats.{IsSeatOf}
@@ -21,7 +21,7 @@ invariant-loop-asked g l =
       capacity : vec_capacity l.fn.replies ≤ vec_capacity l.replies;
       was_open : k.is_open l.keep → k.is_open l.fn.keep;
       was_honest : k.is_honest l.keep → k.is_honest l.fn.keep;
-      seats : AllByRecursion (IsSeatOf (owners_of l.site)) calls;
+      seats : AllByRecursion (IsSeatOf (ownership_of l.site)) calls;
       run : (added : List Reply) × (l.replies.items ≡ l.fn.replies.items ++ added) × (length added ≡ length calls)
           × (k.is_honest l.keep → (t : Tables) → Stands k.is_open k.tables l.fn.keep t
           → (t2 : Tables) × Answered k l.fn.keep l.keep (zip calls (map answer_of added)) t t2);

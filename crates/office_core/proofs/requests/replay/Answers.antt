@@ -4,7 +4,7 @@ use Rattle.std.proofs.lemmas.List.{length-map}
 use Rattle.office_tables.proofs.Placing.{all_map}
 use Rattle.http_replies.specs.declared.Reply.{Reply}
 use Rattle.site_core.proofs.Owners.{owners_apart}
-use Rattle.site_core.specs.Owners.{owners_of}
+use Rattle.site_core.specs.Ownership.{ownership_of}
 use Rattle.office_runs.proofs.Promising.{promises}
 use Rattle.office_runs.proofs.Seats.{IsSeatOf, all_seats}
 use Rattle.office_runs.proofs.Stopping.{seats_grown}
@@ -24,7 +24,7 @@ returns-clause-apart g c = owners_apart c.args.site.now c.answer_all.ensures.sit
 
 pub returns-clause-seats : goal.returns-clause-seats
 returns-clause-seats g c =
-    let owners = owners_of c.args.site.now in
+    let owners = ownership_of c.args.site.now in
     all_map (IsSeatOf owners) (IsSeat owners) (λ _ both. both.1) (calls_in c.args.site.now c.args.requests.now) c.answer_all.ensures.seats
 
 pub returns-clause-run : goal.returns-clause-run
@@ -32,12 +32,15 @@ returns-clause-run g c = λ honest t stands.
     let run = c.answer_all.ensures.run in
     let is : c.answer_all.new.replies.items ≡ run.0 = run.1 ∙ ap (λ (rs : List Reply). rs ++ run.0) c.in_ok-replies.ensures.items in
     let site = c.args.site.now in
-    let owners = owners_of site in
+    let owners = ownership_of site in
     let calls = calls_in site c.args.requests.now in
     let made = run.3 honest t stands in
     let each = exchanges_calls calls run.0 (run.2 ∙ sym (length-map c.args.requests.now (call_of site))) in (
       made.0,
       rw is made.1,
       λ first begun sound.
-          rw is (promises first (exchanges_in site c.args.requests.now run.0) owners t made.0 sound (rw each (seats_grown first owners begun calls owners (all_seats owners calls c.answer_all.ensures.seats))) made.1.run),
+          rw is (promises first (exchanges_in site c.args.requests.now run.0)
+          owners t made.0 sound
+          (rw each (seats_grown first owners begun calls owners
+          (all_seats owners calls c.answer_all.ensures.seats))) made.1.run),
     )

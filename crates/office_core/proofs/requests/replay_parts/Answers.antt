@@ -4,7 +4,7 @@ use Rattle.std.specs.Prelude.{zip}
 use Rattle.std.proofs.lemmas.List.{length-append, length-map, take_more, take_all}
 use Rattle.http_replies.specs.Replies.{answer_of}
 use Rattle.office_runs.proofs.Promising.{promises}
-use Rattle.office_core.specs.Replaying.{call_of, calls_in, calls_of_parts, exchanges_of_parts, last_of, sites_of}
+use Rattle.office_core.specs.Replaying.{call_of, calls_in, calls_of_parts, exchanges_of_parts, last_owners, sites_of}
 use Rattle.office_core.proofs.Parts.{answered_joined, exchanges_joined, has_seats_more, left_over, parts_more, seats_of_parts}
 use Rattle.office_core.proofs.Replaying.{exchanges_calls}
 use Rattle.office_core.proofs.requests.replay_parts.Goals as goal
@@ -20,7 +20,8 @@ loop-part-preserved g c =
     let before = c.loop-part.replies.items in
     let xs = exchanges_of_parts done before in
     let ys = zip now (map answer_of run.0) in
-    let more : take (index + 1) c.args.parts.now ≡ done ++ part ∷ [] = rw (take_more c.args.parts.now index part c.loop-part-test.true, ← c.part-item.is) refl in
+    let more : take (index + 1) c.args.parts.now ≡ done ++ part ∷ [] =
+    rw (take_more c.args.parts.now index part c.loop-part-test.true, ← c.part-item.is) refl in
     let calls_more : calls_of_parts (take (index + 1) c.args.parts.now) ≡ calls ++ now = ap calls_of_parts more ∙ parts_more done part in
     let joined : zip (calls ++ now) (map answer_of (before ++ run.0)) ≡ xs ++ ys = exchanges_joined calls now before run.0 c.loop-part.invariant.count in
     let left = left_over c.args.parts.now index part c.loop-part-test.true c.part-item.is in
@@ -35,7 +36,9 @@ loop-part-preserved g c =
           let first = c.loop-part.invariant.run (c.answer_all.ensures.was_honest is) t stands in
           let second = run.3 is first.0 first.1.stands in (
             second.0,
-            rw (run.1, calls_more, joined) (answered_joined g.K.Keep c.args.keep.now c.loop-part.keep c.answer_all.new.keep xs ys t first.0 second.0 first.1 second.1),
+            rw (run.1, calls_more, joined)
+                (answered_joined g.K.Keep c.args.keep.now c.loop-part.keep c.answer_all.new.keep xs
+                ys t first.0 second.0 first.1 second.1),
           );
     }
 
@@ -58,5 +61,5 @@ returns-clause-run g c = λ honest t stands.
       made.0,
       made.1,
       λ first begun sound.
-          promises first xs (last_of first (sites_of parts)) t made.0 sound (rw each (seats_of_parts first parts c.requires.grown seats begun)) made.1.run,
+          promises first xs (last_owners first (sites_of parts)) t made.0 sound (rw each (seats_of_parts first parts c.requires.grown seats begun)) made.1.run,
     )

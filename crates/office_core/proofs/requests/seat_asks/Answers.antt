@@ -9,5 +9,5 @@ pub returns-clause-seat : goal.returns-clause-seat
 returns-clause-seat c = record {
   section = section_owned c.args.site.now c.args.asked.now.caller c.customer-customer.ensures.site c.requires;
   seat = seat_owned c.args.site.now c.args.asked.now.caller c.customer-customer.ensures.site c.requires;
-  wanted = c.ranges-2.ensures.asked;
+  wanted = c.assert_in_range.ensures.asked;
 }

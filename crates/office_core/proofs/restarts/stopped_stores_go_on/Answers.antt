@@ -15,7 +15,17 @@ returns g c = λ site grown opened stopped again later xs ys t t2 left t3 growth
     let behind : Session = record { exchanges = ys; cut_off = None } in
     let made : Leaves xs t2 left = life.answered.crash [] (λ other is. ([], life.fresh other is)) left life.leaves in
     let all : List Exchange = xs ++ (made.0 ++ ys) in
-    let run : IsStoppedRun (before ∷ behind ∷ []) all t t3 = (t2, life.answered.run, made.0, left, stop_leaves before t2 made.0 left made.1, ys, (t3, after.run, [], t3, refl, [], (refl, refl), sym (append-nil ys)), refl) in (
+    let run : IsStoppedRun (before ∷ behind
+    ∷ []) all t t3 = (
+      t2,
+      life.answered.run,
+      made.0,
+      left,
+      stop_leaves before t2 made.0 left made.1,
+      ys,
+      (t3, after.run, [], t3, refl, [], (refl, refl), sym (append-nil ys)),
+      refl,
+    ) in (
       made.0,
       made.1,
       λ first begun sound. promises first all grown t t3 sound

@@ -7,26 +7,26 @@ use Rattle.office_judges.proofs.maps.judge_known.Goals as goal
 
 pub returns-then-not-branch : goal.returns-then-not-branch
 returns-then-not-branch g c = record {
-  reads = search rules;
+  read_only = search rules;
   stays_open = search rules;
-  says = λ is seat.
+  answer = λ is seat.
       let t = g.K.Keep.tables c.args.keep.now in
-      let before = c.has_text.ensures.reads.was_open is in
+      let before = c.has_text.ensures.read_only.was_open is in
       let other : has_text c.args.text.now (map_at c.args.link.now.row.map t) ≡ false =
-      sym (c.in_ok-has_text.ensures.says is) ∙ c.if-not-branch.true in
+      sym (c.in_ok-has_text.ensures.answer is) ∙ c.if-not-branch.true in
       other_refused c.args.customer.now seat t c.args.text.now c.requires.sound c.args.link.now
       (c.requires.known before) other;
 }
 
 pub returns : goal.returns
 returns g c = record {
-  reads = search rules;
+  read_only = search rules;
   stays_open = search rules;
-  says = λ is seat.
+  answer = λ is seat.
       let t = g.K.Keep.tables c.args.keep.now in
-      let before = c.has_text.ensures.reads.was_open is in
+      let before = c.has_text.ensures.read_only.was_open is in
       let same : has_text c.args.text.now (map_at c.args.link.now.row.map t) ≡ true =
-      sym (c.in_ok-has_text.ensures.says is) ∙ c.if-not-branch.false in
+      sym (c.in_ok-has_text.ensures.answer is) ∙ c.if-not-branch.false in
       known_ruled c.args.customer.now seat t c.args.text.now c.requires.sound c.args.link.now
       (c.requires.known before) (record { body = c.args.body; writes = c.new-writes.result }) same
       c.new-writes.ensures.items c.requires.body;

@@ -10,19 +10,19 @@ use Rattle.office_judges.proofs.order.show_order.Goals as goal
 
 pub returns : goal.returns
 returns g c = record {
-  reads = search rules;
+  read_only = search rules;
   stays_open = search rules;
-  says = λ is seat.
+  answer = λ is seat.
       let s = c.args.customer.now in
       let t = g.K.Keep.tables c.args.keep.now in
       let o = c.in-Some.order in
-      let before = c.body_with_next.ensures.reads.was_open is in
+      let before = c.body_with_next.ensures.read_only.was_open is in
       let there : order_at s.name c.args.name.now t ≡ Some o =
-      sym (rw c.name.ensures at (c.in_ok-order.ensures.says before)) ∙ c.in-Some.is in
+      sym (rw c.name.ensures at (c.in_ok-order.ensures.answer before)) ∙ c.in-Some.is in
       let body = c.in_ok-body_with_next.field-0 in
       let shown : string_bytes body ≡ body_with o.row (next_of t o.row) =
-      c.in_ok-body_with_next.ensures.says is
+      c.in_ok-body_with_next.ensures.answer is
       ∙ ap (λ (u : Tables). body_with o.row (next_of u o.row))
-      (c.order.ensures.reads.same before) in
+      (c.order.ensures.read_only.same before) in
       rw there (c.accepted.ensures ∙ ap acceptance shown ∙ order_shown s seat t o);
 }

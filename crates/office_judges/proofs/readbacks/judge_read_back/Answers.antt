@@ -1,8 +1,9 @@
 -- Why `readbacks::judge_read_back` meets its contract, where that has to be said.
 use Rattle.std.proofs.Common.{◌≡◌, ◌∙◌, Ok, Some, None, refl, sym, rules}
-use Rattle.fuse_redaction.specs.Redaction.{redacted}
-use Rattle.office_rules.specs.Lowest.{lowest, unless_refused}
-use Rattle.office_rules.specs.ReadBack.{read_refusals, reads}
+use Rattle.text_core.specs.Options.{first_that_holds}
+use Rattle.fuse_image.specs.Redaction.{redacted}
+use Rattle.office_rules.specs.UnlessRefused.{unless_refused}
+use Rattle.office_rules.specs.ReadBack.{read_back_refusals, reads}
 use Rattle.office_rules.proofs.Refusing.{made_of, refused_by, refused_by_none}
 use Rattle.office_judges.specs.Stepping.{FindsPlaced, IsAccepted}
 use Rattle.office_judges.proofs.Accepting.{placed_seen, step_judged}
@@ -10,49 +11,49 @@ use Rattle.office_judges.proofs.readbacks.judge_read_back.Goals as goal
 
 pub returns-in-Err : goal.returns-in-Err
 returns-in-Err g c = record {
-  reads = search rules;
+  read_only = search rules;
   stays_open = search rules;
-  says = λ is.
+  answer = λ is.
       let s = c.args.customer.now in
       let t = g.K.Keep.tables c.args.keep.now in
       let p = c.in-Some.found in
       let found : FindsPlaced s c.args.read.now.chip t (Some p) =
-      rw c.in-Some.is at (c.in_ok-found.ensures.says is) in
+      rw c.in-Some.is at (c.in_ok-found.ensures.answer is) in
       let refused = refused_by _ _ _ (sym c.in-Err.is ∙ c.judge_words.ensures) in
       rw (placed_seen s c.args.seat.now t c.args.read.now.chip p found) refused;
 }
 
 pub returns : goal.returns
 returns g c = record {
-  reads = search rules;
+  read_only = search rules;
   stays_open = search rules;
-  says = λ is.
+  answer = λ is.
       let s = c.args.customer.now in
       let seat = c.args.seat.now in
       let words = c.args.read.now.blocks in
       let t = g.K.Keep.tables c.args.keep.now in
       let p = c.in-Some.found in
-      let before = c.accept_step.ensures.reads.was_open is in
+      let before = c.accept_step.ensures.read_only.was_open is in
       let a = c.in_ok-accepted.accepted in
       let found : FindsPlaced s c.args.read.now.chip t (Some p) =
-      rw c.in-Some.is at (c.in_ok-found.ensures.says before) in
+      rw c.in-Some.is at (c.in_ok-found.ensures.answer before) in
       let judged : Ok c.in-Ok.readback
-      ≡ unless_refused (lowest (read_refusals words p.map p.device)) (redacted p.map words) =
+      ≡ unless_refused (first_that_holds (read_back_refusals words p.map p.device)) (redacted p.map words) =
       sym c.in-Ok.is ∙ c.judge_words.ensures in
-      let free : lowest (read_refusals words p.map p.device) ≡ None =
+      let free : first_that_holds (read_back_refusals words p.map p.device) ≡ None =
       refused_by_none _ _ _ judged in
       let shown : c.in-Ok.readback ≡ redacted p.map words = made_of _ _ _ judged in
       let accepted : IsAccepted s seat t (reads words p.map p.device).0
       (reads words p.map p.device).1 a =
       rw (
-        c.find_placed.ensures.reads.same before,
+        c.find_placed.ensures.read_only.same before,
         c.in_ok-body.ensures,
         c.outcome_of-outcome.ensures,
         c.rest_of-rest.ensures,
         c.read_step-step.ensures.step,
         c.read_step-step.ensures.verdict,
         shown,
-      ) at (c.in_ok-accepted.ensures.says is) in
+      ) at (c.in_ok-accepted.ensures.answer is) in
       step_judged s seat t (reads words) c.args.read.now.chip p found refl refl refl
-      (read_refusals words) a free accepted;
+      (read_back_refusals words) a free accepted;
 }

@@ -8,13 +8,19 @@ use Rattle.office_restart.proofs.crashing.crash.Goals as goal
 
 pub returns-clause-was_honest : goal.returns-clause-was_honest
 returns-clause-was_honest g c = λ clean.
-    let back = both_before (g.D.Disk.is_clean c.close-files.result.log) (g.D.Disk.is_clean c.close-files.result.db) (g.D.Disk.is_clean c.crash.new.self) (g.D.Disk.is_clean c.crash-2.new.self) c.crash.ensures.clean c.crash-2.ensures.clean clean in
+    let back = both_before (g.D.Disk.is_clean c.close-files.result.log)
+    (g.D.Disk.is_clean c.close-files.result.db) (g.D.Disk.is_clean c.crash.new.self)
+    (g.D.Disk.is_clean c.crash-2.new.self) c.crash.ensures.clean c.crash-2.ensures.clean clean
+    in
     let was = subst (λ p. AreClean g.D.Disk p.0 p.1) c.close-files.ensures back in
     c.into_store.ensures.was_honest (is_clean c.into_store.result.pool was)
 
 pub returns-clause-held : goal.returns-clause-held
 returns-clause-held g c = λ clean.
-    let back = both_before (g.D.Disk.is_clean c.close-files.result.log) (g.D.Disk.is_clean c.close-files.result.db) (g.D.Disk.is_clean c.crash.new.self) (g.D.Disk.is_clean c.crash-2.new.self) c.crash.ensures.clean c.crash-2.ensures.clean clean in
+    let back = both_before (g.D.Disk.is_clean c.close-files.result.log)
+    (g.D.Disk.is_clean c.close-files.result.db) (g.D.Disk.is_clean c.crash.new.self)
+    (g.D.Disk.is_clean c.crash-2.new.self) c.crash.ensures.clean c.crash-2.ensures.clean clean
+    in
     let was = subst (λ p. AreClean g.D.Disk p.0 p.1) c.close-files.ensures back in
     let image = image_of g.D.Disk (record { log = c.crash.new.self; db = c.crash-2.new.self }) in
     let left = subst (λ p. outcomes g.D.Disk p.0 p.1 image) c.close-files.ensures (c.crash.ensures.left, c.crash-2.ensures.left) in
@@ -22,7 +28,10 @@ returns-clause-held g c = λ clean.
 
 pub returns-clause-found : goal.returns-clause-found
 returns-clause-found g c = λ clean.
-    let back = both_before (g.D.Disk.is_clean c.close-files.result.log) (g.D.Disk.is_clean c.close-files.result.db) (g.D.Disk.is_clean c.crash.new.self) (g.D.Disk.is_clean c.crash-2.new.self) c.crash.ensures.clean c.crash-2.ensures.clean clean in
+    let back = both_before (g.D.Disk.is_clean c.close-files.result.log)
+    (g.D.Disk.is_clean c.close-files.result.db) (g.D.Disk.is_clean c.crash.new.self)
+    (g.D.Disk.is_clean c.crash-2.new.self) c.crash.ensures.clean c.crash-2.ensures.clean clean
+    in
     let was = subst (λ p. AreClean g.D.Disk p.0 p.1) c.close-files.ensures back in
     let image = image_of g.D.Disk (record { log = c.crash.new.self; db = c.crash-2.new.self }) in
     let left = subst (λ p. outcomes g.D.Disk p.0 p.1 image) c.close-files.ensures (c.crash.ensures.left, c.crash-2.ensures.left) in

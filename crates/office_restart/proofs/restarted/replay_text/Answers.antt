@@ -2,7 +2,7 @@
 use Rattle.std.proofs.Common.{◌≡◌, [], ◌∷◌, IfOk, subst, sym}
 use Rattle.std.specs.List.{All, AllByRecursion}
 use Rattle.site_core.specs.Caller.{IsSeatCaller}
-use Rattle.site_core.specs.Owners.{AreApart, owners_of}
+use Rattle.site_core.specs.Ownership.{PoolsDisjoint, ownership_of}
 use Rattle.site_core.specs.Section.{SiteValue}
 use Rattle.office_runs.specs.Growth.{IsSeat}
 use Rattle.office_core.specs.Replaying.{KeepsPromises, calls_in, exchanges_in}
@@ -17,11 +17,11 @@ returns-clause-site g c = c.site.ensures.is_text.is_site
 
 pub returns-clause-apart : goal.returns-clause-apart
 returns-clause-apart g c =
-    subst (λ (site : SiteValue). IfOk c.replay.result (λ _. AreApart (owners_of site))) c.site.ensures.same c.replay.ensures.apart
+    subst (λ (site : SiteValue). IfOk c.replay.result (λ _. PoolsDisjoint (ownership_of site))) c.site.ensures.same c.replay.ensures.apart
 
 pub returns-clause-seats : goal.returns-clause-seats
 returns-clause-seats g c =
-    subst (λ (site : SiteValue). IfOk c.replay.result (λ _. AllByRecursion (IsSeat (owners_of site)) (calls_in site c.args.requests.now)))
+    subst (λ (site : SiteValue). IfOk c.replay.result (λ _. AllByRecursion (IsSeat (ownership_of site)) (calls_in site c.args.requests.now)))
     c.site.ensures.same c.replay.ensures.seats
 
 pub returns-clause-run : goal.returns-clause-run

@@ -7,7 +7,7 @@ use Rattle.std.specs.Prelude.{zip}
 use Rattle.http_replies.specs.Replies.{answer_of}
 use Rattle.http_replies.specs.declared.Reply.{Reply}
 use Rattle.sqlite.specs.Files.{over_files}
-use Rattle.site_core.specs.Owners.{owners_of}
+use Rattle.site_core.specs.Ownership.{ownership_of}
 use Rattle.site_core.specs.Section.{SiteValue}
 use Rattle.site_core.proofs.Kept.{owners_grown}
 use Rattle.office_runs.specs.Exchanges.{Call, calls_of}
@@ -25,8 +25,12 @@ exchanges_calls (c ∷ cs) (r ∷ rs) same = ap (λ (ds : List Call). c ∷ ds) 
 
 -- the seats of requests are those of their exchanges
 seats_of : (site : SiteValue) (requests : List SeatRequest) (replies : List Reply) → length replies ≡ length requests
-    → AllByRecursion (IsSeat (owners_of site)) (calls_in site requests) → AllByRecursion (IsSeat (owners_of site)) (calls_of (exchanges_in site requests replies))
-seats_of site requests replies count = subst (AllByRecursion (IsSeat (owners_of site))) (sym (exchanges_calls (calls_in site requests) replies (count ∙ sym (length-map requests (call_of site)))))
+    → AllByRecursion (IsSeat (ownership_of site)) (calls_in site requests)
+    → AllByRecursion (IsSeat (ownership_of site))
+    (calls_of (exchanges_in site requests replies))
+seats_of site requests replies count = subst (AllByRecursion (IsSeat (ownership_of site)))
+    (sym (exchanges_calls (calls_in site requests) replies (count
+    ∙ sym (length-map requests (call_of site)))))
 
 pub returns-in-Ok-clause-run : goal.returns-in-Ok-clause-run
 returns-in-Ok-clause-run g c = λ honest.
@@ -42,12 +46,13 @@ returns-in-Ok-clause-run g c = λ honest.
     let before = c.in_ok-before.ensures.run calm first (λ _. refl) in
     let after = c.in-Ok.ensures.run honest left (λ _. refl) in
     let growth = owners_grown site grown c.replay_text.ensures.site c.requires.grown in
-    let law = c.stopped_stores_go_on.ensures (owners_of site) (owners_of grown) c.in_ok-opened.opened c.replay_text-before.new.keep c.in_ok-keep.keep c.replay_text.new.keep
+    let law = c.stopped_stores_go_on.ensures (ownership_of site) (ownership_of grown)
+    c.in_ok-opened.opened c.replay_text-before.new.keep c.in_ok-keep.keep c.replay_text.new.keep
     (exchanges_in site c.args.first.now c.in_ok-before.before.items) (exchanges_in grown c.args.second.now c.in-Ok.after.items) first before.0 left after.0
     growth c.in_ok-before.ensures.apart c.in-Ok.ensures.apart
     (seats_of site c.args.first.now c.in_ok-before.before.items c.in_ok-before.ensures.count c.in_ok-before.ensures.seats)
     (seats_of grown c.args.second.now c.in-Ok.after.items c.in-Ok.ensures.count c.in-Ok.ensures.seats)
-    (record { fresh = c.in_ok-opened.ensures.settled start; answered = before.1; leaves = may }) after.1 in
+    (record { fresh = c.in_ok-opened.ensures.only_committed start; answered = before.1; leaves = may }) after.1 in
     record {
       first = first;
       stood = before.0;

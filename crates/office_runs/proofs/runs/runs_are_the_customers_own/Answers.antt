@@ -11,6 +11,6 @@ returns-clause-isolated c =
     λ first xs last t t2 sound seats run customer. isolated customer first xs last t t2 sound seats
     run
 
-pub returns-clause-kept : goal.returns-clause-kept
-returns-clause-kept c =
+pub returns-clause-grows : goal.returns-clause-grows
+returns-clause-grows c =
     λ first xs last t t2 sound seats run. run_grows first xs last t t2 sound seats run

@@ -11,5 +11,7 @@ returns-clause-changes g c =
     let device = c.args.device.now in
     inserts g.S.Store add_text 5 device_table add_terms 11 add_insert _ (device_columns device) (device_columns device)
     c.values_of.ensures (add_casts device) c.args.tx.now.conn.now c.execute.new.self.conn.now c.execute.result _ c.requires.office
-    (λ count up office adds. device_added device (state g.S.Store c.args.tx.now.conn.now).now (state g.S.Store c.execute.new.self.conn.now).now office (c.requires.free up) adds)
+    (λ count up office adds.
+    device_added device (state g.S.Store c.args.tx.now.conn.now).now
+    (state g.S.Store c.execute.new.self.conn.now).now office (c.requires.free up) adds)
     c.execute.ensures.ended c.execute.ensures.runs c.execute.ensures.survives

@@ -23,6 +23,6 @@ insert_record-requires-clause-address_free g c up =
     let store = c.find_address_free.new.tx.conn.now.store in
     let looks = c.in_ok-find_address_free.ensures.looks in
     let clean = clean_if_open (g.S.Store.view store) (g.met.S.Store.shut_if_dirty store) up in
-    let free = looks.says clean in
+    let free = looks.answer clean in
     subst (λ d. IsAddressFree c.args.given.now.row.mac (tables_in d.trees).given) (sym (looks.stands clean).now)
     (subst (λ o. IsAddressFree o (tables_in (state g.S.Store c.args.tx.now.conn.now).now.trees).given) c.in_ok-address.ensures.back free)

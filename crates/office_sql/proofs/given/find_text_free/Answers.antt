@@ -9,4 +9,6 @@ pub returns-then-is_empty-clause-looks : goal.returns-then-is_empty-clause-looks
 returns-then-is_empty-clause-looks g c =
     let rows = c.in_ok-rows.rows in
     let empty : length rows.items ≡ 0 = sym rows.ok.0 ∙ eqb-true (vec_len rows) 0 (sym c.is_empty.ensures ∙ c.if-is_empty.true) in
-    looks_more g.S.Store c.args.tx.now.conn.now c.rows_with_address.new.tx.conn.now rows tt _ _ c.in_ok-rows.ensures.looks (λ t is. none_shown (mac_of_text c.args.text.now) rows.items t.given empty is)
+    looks_more g.S.Store c.args.tx.now.conn.now c.rows_with_address.new.tx.conn.now rows tt _ _
+    c.in_ok-rows.ensures.looks (λ t is.
+    none_shown (mac_of_text c.args.text.now) rows.items t.given empty is)

@@ -1,6 +1,6 @@
 use Rattle.std.proofs.Common.{rules, ◌∙◌}
 use Rattle.std.proofs.lemmas.Result.{IfOk-weaker}
-use Rattle.office_tables.specs.Tables.{is_given}
+use Rattle.office_tables.specs.Tables.{is_serial_of}
 use Rattle.office_sql.specs.Rows.{joined_given}
 use Rattle.office_sql.proofs.Kept.{found}
 use Rattle.office_sql.proofs.Reading.{asks_more}
@@ -9,5 +9,7 @@ use Rattle.office_sql.proofs.given.given_row.Goals as goal
 pub returns : goal.returns
 returns g c =
     asks_more g.S.Store c.args.conn.now c.rows_at.new.conn c.rows_at.result c.first_given.result _ _ c.rows_at.ensures
-    (λ t is. IfOk-weaker c.first_given.result _ _ (λ row e. e ∙ found joined_given (is_given c.args.issuer.now c.args.serial.now) t.given _ (search rules)) c.first_given.ensures)
+    (λ t is. IfOk-weaker c.first_given.result _ _ (λ row e. e
+    ∙ found joined_given (is_serial_of c.args.issuer.now c.args.serial.now) t.given _
+    (search rules)) c.first_given.ensures)
     (search rules)

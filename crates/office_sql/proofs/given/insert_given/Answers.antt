@@ -13,7 +13,8 @@ pub returns-clause-changes : goal.returns-clause-changes
 returns-clause-changes g c =
     let given = c.args.given.now in
     let chip : bound_value (or_null (λ s. Text s.now) c.chip_text.result) ≡ text_value given.row.chip = text_param _ _ ∙ ap text_value c.chip_text.ensures in
-    let mac : bound_value (or_null (λ s. Text (string_bytes s)) c.args.address.now) ≡ mac_value given.row.mac = text_param _ _ ∙ ap text_value c.requires.address_is in
+    let mac : bound_value (or_null (λ s. Text (string_bytes s)) c.args.address.now)
+    ≡ mac_value given.row.mac = text_param _ _ ∙ ap text_value c.requires.address_is in
     inserted g.S.Store add_text 6 given_table add_terms 8 add_insert _ (given_columns given) (given_columns given) (search rules)
     (add_casts given) c.args.tx.now.conn.now c.execute.new.self.conn.now c.execute.result c.requires.schema
     c.execute.ensures.ended c.execute.ensures.runs c.execute.ensures.survives

@@ -12,7 +12,8 @@ use Rattle.office_sql.proofs.given.insert_given_start.Goals as goal
 pub returns-clause-changes : goal.returns-clause-changes
 returns-clause-changes g c =
     let given = c.args.given.now in
-    let start : bound_value (or_null (λ s. Text s.now) c.start_text.result) ≡ text_value given.row.not_before = text_param _ _ ∙ ap text_value c.start_text.ensures in
+    let start : bound_value (or_null (λ s. Text s.now) c.start_text.result)
+    ≡ text_value given.row.not_before = text_param _ _ ∙ ap text_value c.start_text.ensures in
     inserted g.S.Store start_text 9 given_start_table start_terms 4 start_insert _ (given_start_columns given) (given_start_columns given) (search rules)
     (start_casts given) c.args.tx.now.conn.now c.execute.new.self.conn.now c.execute.result c.requires
     c.execute.ensures.ended c.execute.ensures.runs c.execute.ensures.survives

@@ -3,7 +3,7 @@ use Rattle.std.specs.Option.{option_and_then}
 use Rattle.sqlite.proofs.StateLemmas.{clean_if_open}
 use Rattle.id_ranges.specs.Mac.{mac_of_text}
 use Rattle.office_tables.specs.declared.rows.Write.TheVariants.{AddGiven as TheGiven}
-use Rattle.office_sql.specs.Change.{Adds, Wrote}
+use Rattle.office_sql.specs.Change.{SqlAdds, Wrote}
 use Rattle.office_sql.specs.Rows.{given_start_columns}
 use Rattle.office_sql.proofs.GivenWrites.{given_wrote}
 use Rattle.office_sql.proofs.Inserting.{done}
@@ -13,7 +13,7 @@ use Rattle.office_sql.proofs.given.insert_record.Goals as goal
 pub insert_given_start-requires : goal.insert_given_start-requires
 insert_given_start-requires g c up =
     let store = c.insert_given.new.tx.conn.now.store in
-    (c.in_ok-insert_given.ensures.changes.says (clean_if_open (g.S.Store.view store) (g.met.S.Store.shut_if_dirty store) up)).schema
+    (c.in_ok-insert_given.ensures.changes.answer (clean_if_open (g.S.Store.view store) (g.met.S.Store.shut_if_dirty store) up)).schema
 
 pub returns-clause-changes : goal.returns-clause-changes
 returns-clause-changes g c =
@@ -24,5 +24,7 @@ returns-clause-changes g c =
     let back = sym (ap (option_and_then mac_of_text) c.requires.address_is) ∙ c.requires.address_back in
     changes_here g.S.Store old mid new c.in_ok-insert_given.field-0 _ _ _ (λ x y _. Wrote (TheGiven given) x y) c.in_ok-insert_given.ensures.changes
     (done g.S.Store mid new c.in_ok-insert_given_start.field-0 tt
-    (λ x y _. Adds 19 (given_start_columns given) x y) (λ x y _. Adds 19 (given_start_columns given) x y) c.in_ok-insert_given_start.ensures.changes (λ x y adds. adds))
+    (λ x y _. SqlAdds 19 (given_start_columns given) x y) (λ x y _.
+    SqlAdds 19 (given_start_columns given) x y)
+    c.in_ok-insert_given_start.ensures.changes (λ x y adds. adds))
     (λ _ up adds starts. given_wrote given back _ _ _ (c.requires.office up) (c.requires.free up) (c.requires.address_free up) adds starts)

@@ -9,7 +9,12 @@ use Rattle.office_sql.proofs.given.rows_by_key.Goals as goal
 
 pub returns : goal.returns
 returns g c =
-    asked_joined g.S.Store key_text (inner 11 (inner 19 end)) (on_start ++ key_tests) shown by_key key_read _ (Text c.args.issuer.now ∷ Blob c.args.key.now ∷ []) (search rules)
+    asked_joined g.S.Store key_text (inner 11 (inner 19 end)) (on_start
+    ++ key_tests) shown by_key key_read _ (Text c.args.issuer.now ∷ Blob c.args.key.now
+    ∷ []) (search rules)
     c.args.conn.now c.query_all.new.self c.query_all.result _ c.requires
-    (λ rows office a. key_shown c.args.issuer.now c.args.key.now (overlay (state g.S.Store c.args.conn.now).now.trees []) rows.items office.rows.given office.given_started a)
+    (λ rows office a.
+    key_shown c.args.issuer.now c.args.key.now
+    (overlay (state g.S.Store c.args.conn.now).now.trees []) rows.items office.rows.given
+    office.given_started a)
     c.query_all.ensures.ok c.query_all.ensures.err c.query_all.ensures.mode c.query_all.ensures.survives

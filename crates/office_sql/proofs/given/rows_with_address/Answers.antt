@@ -12,5 +12,8 @@ pub returns-clause-looks : goal.returns-clause-looks
 returns-clause-looks g c =
     looked g.S.Store address_text (inner 11 (inner 19 end)) (on_start ++ address_tests) shown by_key address_read _ (Text c.args.text.now ∷ []) (search rules)
     c.args.tx.now.conn.now c.query_all.new.self.conn.now c.query_all.result _ c.requires
-    (λ rows office a mac is. address_shown mac c.args.text.now is (overlay (state g.S.Store c.args.tx.now.conn.now).now.trees []) rows.items office.rows.given office.given_started a)
+    (λ rows office a mac is.
+    address_shown mac c.args.text.now is
+    (overlay (state g.S.Store c.args.tx.now.conn.now).now.trees []) rows.items office.rows.given
+    office.given_started a)
     c.query_all.ensures.ok c.query_all.ensures.err c.query_all.ensures.survives

@@ -15,7 +15,9 @@ visit_rows-requires g c = bare_returns all_text all_read.bare c.args.conn.now.sc
 pub returns : goal.returns
 returns g c =
     let issuer = c.args.issuer.now in
-    visits_joined g.S.Store all_text (inner 11 (inner 19 end)) (on_start ++ all_tests) shown by_key all_read _ (Text issuer ∷ []) (search rules) c.args.conn.now c.visit_rows.new.conn
+    visits_joined g.S.Store all_text (inner 11 (inner 19 end)) (on_start
+    ++ all_tests) shown by_key all_read _ (Text issuer
+    ∷ []) (search rules) c.args.conn.now c.visit_rows.new.conn
     g.K.Sink.takes joined_given c.visit_rows.result c.args.sink.now c.visit_rows.new.sink (λ t. filter (is_of_issuer issuer) t.given) c.requires
     (λ rows office a. all_shown issuer (overlay (state g.S.Store c.args.conn.now).now.trees []) rows office.rows.given office.given_started a)
     c.visit_rows.ensures.visited c.visit_rows.ensures.same c.visit_rows.ensures.rests c.visit_rows.ensures.mode c.visit_rows.ensures.crash

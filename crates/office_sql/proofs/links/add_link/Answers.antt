@@ -10,7 +10,8 @@ use Rattle.office_sql.proofs.links.add_link.Goals as goal
 
 pub returns-in_err-execute-clause-changes : goal.returns-in_err-execute-clause-changes
 returns-in_err-execute-clause-changes g c =
-    refused g.S.Store c.args.tx.now.conn.now c.execute.new.self.conn.now _ _ c.execute.result _ c.from_residual-in_err-execute.result _ c.from_residual-in_err-execute.ensures.0
+    refused g.S.Store c.args.tx.now.conn.now c.execute.new.self.conn.now _ _ c.execute.result _
+    c.from_residual-in_err-execute.result _ c.from_residual-in_err-execute.ensures.0
     c.execute.ensures.ended c.execute.ensures.runs c.execute.ensures.survives
 
 pub returns-clause-changes : goal.returns-clause-changes
@@ -19,7 +20,9 @@ returns-clause-changes g c =
     let old = c.args.tx.now.conn.now in
     let new = c.execute.new.self.conn.now in
     done g.S.Store old new c.in_ok-execute.field-0 tt (λ x y _. Wrote (TheLink link) x y) _
-    (inserts g.S.Store add_text 3 link_table add_terms 4 add_insert _ (link_columns link) (link_columns link) (search rules) (add_casts link) old new _ (λ x y _. Wrote (TheLink link) x y) c.requires.office
+    (inserts g.S.Store add_text 3 link_table add_terms 4 add_insert _ (link_columns link)
+    (link_columns link) (search rules) (add_casts link) old new _ (λ x y _.
+    Wrote (TheLink link) x y) c.requires.office
     (λ count up office adds. link_wrote link _ _ office (c.requires.free up) adds)
     c.in_ok-execute.ensures.ended c.in_ok-execute.ensures.runs c.in_ok-execute.ensures.survives)
     (λ x y is. is)

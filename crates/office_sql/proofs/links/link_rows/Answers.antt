@@ -1,7 +1,7 @@
 use Rattle.std.proofs.Common.{rules, [], ◌∷◌}
 use Rattle.sqlite.specs.declared.types.Value.TheVariants.{Text, Blob}
 use Rattle.sqlite.specs.Held.{state}
-use Rattle.office_sql.specs.Scan.{is_given}
+use Rattle.office_sql.specs.Scan.{is_parameter}
 use Rattle.office_sql.proofs.Reading.{asked}
 use Rattle.office_sql.proofs.LinkReads.{one_text, shown, by_key, one_read, one_shown}
 use Rattle.office_sql.proofs.links.link_rows.Goals as goal
@@ -10,6 +10,8 @@ pub returns : goal.returns
 returns g c =
     let customer = c.args.customer.now in
     let digest = c.args.digest.now in
-    asked g.S.Store one_text 5 (is_given 1 0 ∷ is_given 2 1 ∷ []) shown by_key one_read _ (Text customer ∷ Blob digest ∷ []) (search rules) c.args.conn.now c.query_all.new.self c.query_all.result _ c.requires
+    asked g.S.Store one_text 5 (is_parameter 1 0 ∷ is_parameter 2 1
+    ∷ []) shown by_key one_read _ (Text customer ∷ Blob digest
+    ∷ []) (search rules) c.args.conn.now c.query_all.new.self c.query_all.result _ c.requires
     (λ rows office s. one_shown customer digest ((state g.S.Store c.args.conn.now).now.trees 5) rows.items office.rows.links s)
     c.query_all.ensures.ok c.query_all.ensures.err c.query_all.ensures.mode c.query_all.ensures.survives

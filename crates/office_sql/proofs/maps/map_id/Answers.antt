@@ -11,5 +11,8 @@ use Rattle.office_sql.proofs.maps.map_id.Goals as goal
 pub returns : goal.returns
 returns g c =
     asks_more g.S.Store c.args.conn.now c.body_rows.new.conn c.body_rows.result c.first_id.result _ _ c.body_rows.ensures
-    (λ t is. IfOk-weaker c.first_id.result _ _ (λ id e. e ∙ id_shown _ ∙ ap (option_map (λ (m : MapRow). m.id)) (found shown_map (has_body c.args.body.now) t.maps _ (search rules))) c.first_id.ensures)
+    (λ t is. IfOk-weaker c.first_id.result _ _ (λ id e. e ∙ id_shown _
+    ∙ ap (option_map (λ (m : MapRow).
+    m.id)) (found shown_map (has_body c.args.body.now) t.maps _ (search rules)))
+    c.first_id.ensures)
     (search rules)

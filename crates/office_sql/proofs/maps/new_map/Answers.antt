@@ -15,7 +15,9 @@ use Rattle.office_sql.proofs.maps.new_map.Goals as goal
 
 pub returns-in_err-execute-clause-changes : goal.returns-in_err-execute-clause-changes
 returns-in_err-execute-clause-changes g c =
-    refused g.S.Store c.args.tx.now.conn.now c.execute.new.self.conn.now _ _ c.execute.result _ c.from_residual.result _ c.from_residual.ensures.0 c.execute.ensures.ended c.execute.ensures.runs c.execute.ensures.survives
+    refused g.S.Store c.args.tx.now.conn.now c.execute.new.self.conn.now _ _ c.execute.result _
+    c.from_residual.result _ c.from_residual.ensures.0 c.execute.ensures.ended
+    c.execute.ensures.runs c.execute.ensures.survives
 
 pub returns-clause-changes : goal.returns-clause-changes
 returns-clause-changes g c =
@@ -27,8 +29,12 @@ returns-clause-changes g c =
     answered g.S.Store old new c.in_ok-execute.field-0 c.number_of.result Gains _
     (changes g.S.Store add_text _ (map_columns m) (search rules) old new (Ok c.in_ok-execute.field-0) Gains c.requires
     (λ count up office ran id is.
-    let last = last_is_next add_text 2 map_table add_terms 4 add_insert (map_columns m) (Null ∷ map_columns m) (add_casts m) (state g.S.Store old) (state g.S.Store new) count office.schema ran in
-    let row = adds add_text 2 map_table add_terms 4 add_insert (map_columns m) (Null ∷ map_columns m) (add_casts m) (state g.S.Store old) (state g.S.Store new) count office.schema ran in
+    let last = last_is_next add_text 2 map_table add_terms 4 add_insert (map_columns m) (Null
+    ∷ map_columns m) (add_casts m) (state g.S.Store old) (state g.S.Store new)
+    count office.schema ran in
+    let row = adds add_text 2 map_table add_terms 4 add_insert (map_columns m) (Null
+    ∷ map_columns m) (add_casts m) (state g.S.Store old) (state g.S.Store new)
+    count office.schema ran in
     map_gained m id _ _ office (sym last ∙ is) row)
     c.in_ok-execute.ensures.ended c.in_ok-execute.ensures.runs c.in_ok-execute.ensures.survives)
     (λ x y gains. IfOk-weaker c.number_of.result _ _ (λ id is. gains id (sym c.last_insert_rowid.ensures ∙ sym back ∙ is)) c.number_of.ensures)

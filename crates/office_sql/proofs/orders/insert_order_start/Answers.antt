@@ -12,7 +12,8 @@ use Rattle.office_sql.proofs.orders.insert_order_start.Goals as goal
 pub returns-clause-changes : goal.returns-clause-changes
 returns-clause-changes g c =
     let order = c.args.order.now in
-    let start : bound_value (or_null (λ s. Text s.now) c.start_text.result) ≡ text_value order.row.not_before = text_param _ _ ∙ ap text_value c.start_text.ensures in
+    let start : bound_value (or_null (λ s. Text s.now) c.start_text.result)
+    ≡ text_value order.row.not_before = text_param _ _ ∙ ap text_value c.start_text.ensures in
     inserted g.S.Store start_text 8 order_start_table start_terms 4 start_insert _ (order_start_columns order) (order_start_columns order) (search rules)
     (start_casts order) c.args.tx.now.conn.now c.execute.new.self.conn.now c.execute.result c.requires
     c.execute.ensures.ended c.execute.ensures.runs c.execute.ensures.survives

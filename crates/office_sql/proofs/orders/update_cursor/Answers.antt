@@ -10,4 +10,6 @@ returns-clause-changes g c =
     let old = c.args.tx.now.conn.now in
     let new = c.execute.new.self.conn.now in
     changes g.S.Store set_text _ (set_values cursor) (search rules) old new c.execute.result _ c.requires.office
-    (λ count up office ran. cursor_set cursor (state g.S.Store old) (state g.S.Store new) count office ran) c.execute.ensures.ended c.execute.ensures.runs c.execute.ensures.survives
+    (λ count up office ran.
+    cursor_set cursor (state g.S.Store old) (state g.S.Store new) count office ran)
+    c.execute.ensures.ended c.execute.ensures.runs c.execute.ensures.survives

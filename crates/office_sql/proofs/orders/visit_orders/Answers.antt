@@ -15,7 +15,9 @@ visit_rows-requires g c = bare_returns own_text own_read.bare c.args.conn.now.sc
 pub returns : goal.returns
 returns g c =
     let customer = c.args.customer.now in
-    visits_joined g.S.Store own_text (inner 7 (inner 17 end)) (on_start ++ own_tests) shown by_key own_read _ (Text customer ∷ []) (search rules) c.args.conn.now c.visit_rows.new.conn
+    visits_joined g.S.Store own_text (inner 7 (inner 17 end)) (on_start
+    ++ own_tests) shown by_key own_read _ (Text customer
+    ∷ []) (search rules) c.args.conn.now c.visit_rows.new.conn
     g.K.Sink.takes joined_order c.visit_rows.result c.args.sink.now c.visit_rows.new.sink (λ t. filter (is_of customer) t.orders) c.requires
     (λ rows office a. own_shown customer (overlay (state g.S.Store c.args.conn.now).now.trees []) rows office.rows.orders office.orders_started a)
     c.visit_rows.ensures.visited c.visit_rows.ensures.same c.visit_rows.ensures.rests c.visit_rows.ensures.mode c.visit_rows.ensures.crash

@@ -11,12 +11,14 @@ use Rattle.office_sql.proofs.visit.visit_rows.Goals as goal
 pub returns-in_err-rows-clause-rests : goal.returns-in_err-rows-clause-rests
 returns-in_err-rows-clause-rests g c clean =
     let held = rw c.in_err-rows.was at c.query.follows.holds-at-none in
-    refused_rests c.args.sql.now (bound c.args.params.now) (state g.S.Store c.args.conn.now) (state g.S.Store c.query.follows.lender-at-none) c.requires _ (held.err clean)
+    refused_rests c.args.sql.now (bound c.args.params.now) (state g.S.Store c.args.conn.now)
+    (state g.S.Store c.query.follows.lender-at-none) c.requires _ (held.err clean)
 
 pub returns-in_err-rows-clause-crash : goal.returns-in_err-rows-clause-crash
 returns-in_err-rows-clause-crash g c =
     let held = rw c.in_err-rows.was at c.query.follows.holds-at-none in
-    commits_nothing c.args.sql.now (bound c.args.params.now) (state g.S.Store c.args.conn.now) (state g.S.Store c.query.follows.lender-at-none) c.requires held.survives
+    commits_nothing c.args.sql.now (bound c.args.params.now) (state g.S.Store c.args.conn.now)
+    (state g.S.Store c.query.follows.lender-at-none) c.requires held.survives
 
 pub rows-init : goal.rows-init
 rows-init g c =
@@ -26,7 +28,8 @@ rows-init g c =
       refl,
       made.mode,
       commits_nothing sql params (state g.S.Store c.args.conn.now) (state g.S.Store c.in_ok-rows.rows.conn.now) c.requires made.survives,
-      λ clean. let it = begun g.S.Store sql params c.args.conn.now c.in_ok-rows.rows.conn.now c.requires (made.begun clean) in (it.1, [], it.0, λ more end v. v),
+      λ clean. let it = begun g.S.Store sql params c.args.conn.now c.in_ok-rows.rows.conn.now
+          c.requires (made.begun clean) in (it.1, [], it.0, λ more end v. v),
     )
 
 pub returns-in_default-clause-visited : goal.returns-in_default-clause-visited
@@ -39,8 +42,15 @@ returns-in_default-clause-visited g c clean =
     let late : HasCleanDisk (state g.S.Store now) = search rules in
     let was = c.rows.invariant.3 (omega (arith, moved.survives.clean)) in
     let shown = (rw (c.in_ok-row.was, c.in_default.is) at (moved.ok late)) sql params was.1 was.2 in
-    let visited : HasVisited g.K.Sink.takes g.R.ReadRow.reads sql params old (state g.S.Store now) c.args.sink.now c.rows.sink =
-    (was.1, inl (shown_from sql params old (state g.S.Store c.rows.rows.conn.now) (state g.S.Store now) was.1 c.requires was.0 shown, no_more g.K.Sink.takes g.R.ReadRow.reads c.args.sink.now c.rows.sink was.1 was.3)) in
+    let visited : HasVisited g.K.Sink.takes g.R.ReadRow.reads sql params old (state g.S.Store now) c.args.sink.now c.rows.sink = (
+      was.1,
+      inl (
+        shown_from sql params old (state g.S.Store c.rows.rows.conn.now) (state g.S.Store now)
+            was.1 c.requires was.0 shown,
+        no_more g.K.Sink.takes g.R.ReadRow.reads c.args.sink.now
+            c.rows.sink was.1 was.3,
+      ),
+    ) in
     search rules
 
 pub returns-then-not-take-clause-visited : goal.returns-then-not-take-clause-visited
@@ -58,7 +68,9 @@ returns-then-not-take-clause-visited g c clean =
       was.1 ++ row ∷ [],
       inr (
         given_begin g.S.Store sql params now (was.1 ++ row ∷ []) given,
-        λ more. one_more g.K.Sink.takes g.R.ReadRow.reads c.args.sink.now c.rows.sink was.1 was.3 row c.in_ok-item.item false c.take.new.self c.in_ok-item.ensures c.if-not-take.ensures more c.take.new.self refl,
+        λ more. one_more g.K.Sink.takes g.R.ReadRow.reads c.args.sink.now c.rows.sink was.1 was.3
+            row c.in_ok-item.item false c.take.new.self c.in_ok-item.ensures c.if-not-take.ensures
+            more c.take.new.self refl,
       ),
     ) in
     search rules
@@ -82,6 +94,9 @@ rows-preserved g c =
             unchanged_then old mid (state g.S.Store now) was.0 same,
             was.1 ++ row ∷ [],
             given,
-            λ more end v. one_more g.K.Sink.takes g.R.ReadRow.reads c.args.sink.now c.rows.sink was.1 was.3 row c.in_ok-item.item true c.take.new.self c.in_ok-item.ensures c.if-not-take.ensures more end v,
+            λ more end v.
+                one_more g.K.Sink.takes g.R.ReadRow.reads c.args.sink.now c.rows.sink was.1 was.3
+                row c.in_ok-item.item true c.take.new.self c.in_ok-item.ensures
+                c.if-not-take.ensures more end v,
           ),
     )

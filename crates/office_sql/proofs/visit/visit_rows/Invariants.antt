@@ -12,6 +12,9 @@ abbrev pub invariant-rows : goal.invariant-rows
 invariant-rows g l =
     let old = state g.S.Store l.fn.conn in
     let now = state g.S.Store l.rows.conn.now in
-    (l.rows.conn.ghost_name ≡ l.initial.rows.conn.ghost_name) × (l.fn.conn.in_transaction ≡ false → l.rows.conn.now.in_transaction ≡ false) × Survives old now (λ _. ⊥)
+    (l.rows.conn.ghost_name ≡ l.initial.rows.conn.ghost_name)
+    × (l.fn.conn.in_transaction ≡ false → l.rows.conn.now.in_transaction ≡ false)
+    × Survives old now (λ _. ⊥)
     × (HasCleanDisk now → IsUnchanged old now × (given : List Row) × HasGiven g.S.Store l.sql (bound l.params) l.rows.conn.now given
-    × ((more : List Row) (end : _) → Visits g.K.Sink.takes l.sink (map g.R.ReadRow.reads more) end → Visits g.K.Sink.takes l.fn.sink (map g.R.ReadRow.reads (given ++ more)) end))
+    × ((more : List Row) (end : _) → Visits g.K.Sink.takes l.sink (map g.R.ReadRow.reads more) end
+    → Visits g.K.Sink.takes l.fn.sink (map g.R.ReadRow.reads (given ++ more)) end))

@@ -51,4 +51,5 @@ write_one-requires-clause-free g c up =
     let store = c.loop-write.tx.conn.now.store in
     let old = state g.S.Store c.args.conn.now in
     let h = c.loop-write.invariant.2 (clean_if_open (g.S.Store.view store) (g.met.S.Store.shut_if_dirty store) up) in
-    free_at c.args.writes.now c.loop-write.write-index c.write-item.result (tables_in old.now.trees) _ (search rules) (search rules) (c.requires.free (h.was_open up)) h.written.tables
+    free_at c.args.writes.now c.loop-write.write-index c.write-item.result (tables_in old.now.trees)
+    _ (search rules) (search rules) (c.requires.free (h.was_open up)) h.written.tables

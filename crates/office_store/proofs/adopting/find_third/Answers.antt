@@ -1,10 +1,10 @@
 use Rattle.sqlite.specs.Effect.{Database}
 use Rattle.sqlite.proofs.StateLemmas.{clean_if_open}
 use Rattle.office_store.specs.declared.version.Version.TheVariants.{Third}
-use Rattle.office_store.specs.Adopting.{IsGrowable, Settles}
+use Rattle.office_store.specs.Adopting.{IsGrowable, PreparesTables}
 use Rattle.office_store.specs.Found.{IsFound}
 use Rattle.office_store.proofs.Refusals.{found_after, is_err, says_of}
-use Rattle.office_store.proofs.Settling.{refused, settles_after}
+use Rattle.office_store.proofs.Preparing.{refused, settles_after}
 use Rattle.office_store.proofs.adopting.find_third.Goals as goal
 
 pub hold_text-requires : goal.hold_text-requires
@@ -15,16 +15,19 @@ hold_text-requires g c =
     let test = c.in_ok-test_third.ensures in
     let Says = λ (db : Database). IsFound Third db × IsGrowable site.site db in
     record {
-      found = found_after g.S.Store site old conn Says Third test c.requires.can.settled (λ calm both. both.0);
+      found = found_after g.S.Store site old conn Says Third test c.requires.can.shows_committed (λ calm both. both.0);
       can = λ calm. (says_of g.S.Store site old conn Says test calm).1;
     }
 
 pub returns : goal.returns
 returns g c =
-    settles_after g.S.Store c.args.site.now c.args.conn.now c.test_third.new.conn c.hold_text.new.conn c.hold_text.result _ c.in_ok-test_third.ensures c.hold_text.ensures
+    settles_after g.S.Store c.args.site.now c.args.conn.now c.test_third.new.conn
+    c.hold_text.new.conn c.hold_text.result _ c.in_ok-test_third.ensures c.hold_text.ensures
 
 pub returns-in_err-test_third : goal.returns-in_err-test_third
 returns-in_err-test_third g c =
     let conn = c.test_third.new.conn in
-    is_err (λ r. Settles g.S.Store c.args.site.now c.args.conn.now conn r) c.from_residual.result _ c.from_residual.ensures.1
-    (refused g.S.Store c.args.site.now c.args.conn.now conn (clean_if_open (g.S.Store.view conn.store) (g.met.S.Store.shut_if_dirty conn.store)) _ _ c.in_err-test_third.ensures)
+    is_err (λ r. PreparesTables g.S.Store c.args.site.now c.args.conn.now conn r) c.from_residual.result _ c.from_residual.ensures.1
+    (refused g.S.Store c.args.site.now c.args.conn.now conn
+    (clean_if_open (g.S.Store.view conn.store) (g.met.S.Store.shut_if_dirty conn.store)) _ _
+    c.in_err-test_third.ensures)

@@ -1,5 +1,5 @@
 use Rattle.sqlite.proofs.StateLemmas.{clean_if_open}
-use Rattle.office_store.proofs.Settling.{grew, not_grown, office_of}
+use Rattle.office_store.proofs.Preparing.{grew, not_grown, office_of}
 use Rattle.office_store.proofs.adopting.grow.Goals as goal
 
 pub grow_text-requires-clause-can : goal.grow_text-requires-clause-can
@@ -11,10 +11,10 @@ grow_text-requires-clause-can g c =
       told = λ up. let take = (c.requires.can (clean up)).1 in (take.0, take.1);
     }
 
-pub grow_text-requires-clause-settled : goal.grow_text-requires-clause-settled
-grow_text-requires-clause-settled g c up =
+pub grow_text-requires-clause-shows_committed : goal.grow_text-requires-clause-shows_committed
+grow_text-requires-clause-shows_committed g c up =
     let store = c.args.conn.now.store in
-    c.requires.found.settled (clean_if_open (g.S.Store.view store) (g.met.S.Store.shut_if_dirty store) up)
+    c.requires.found.shows_committed (clean_if_open (g.S.Store.view store) (g.met.S.Store.shut_if_dirty store) up)
 
 pub returns-in-Ok : goal.returns-in-Ok
 returns-in-Ok g c =

@@ -4,7 +4,7 @@ use Rattle.sqlite.specs.declared.error.Error.{Error}
 use Rattle.sqlite.proofs.StateLemmas.{clean_if_open}
 use Rattle.office_store.specs.Found.{Tests}
 use Rattle.office_store.specs.Texts.{HoldsText}
-use Rattle.office_store.proofs.Settling.{has_it, not_asked, settles_after}
+use Rattle.office_store.proofs.Preparing.{has_it, not_asked, settles_after}
 use Rattle.office_store.proofs.adopting.hold_text.Goals as goal
 
 pub has_text-requires : goal.has_text-requires
@@ -16,7 +16,9 @@ pub returns-in-Ok-true : goal.returns-in-Ok-true
 returns-in-Ok-true g c =
     let old = c.args.conn.now in
     let conn = c.has_text.new.conn in
-    let test = subst (λ t. Tests {E = Error} g.S.Store old conn (Ok c.in-Ok-true.field-0) (λ db same. IsTrue same ↔ HoldsText t db)) c.text.ensures.same c.in-Ok-true.ensures in
+    let test = subst (λ t.
+    Tests {E = Error} g.S.Store old conn (Ok c.in-Ok-true.field-0) (λ db same.
+    IsTrue same ↔ HoldsText t db)) c.text.ensures.same c.in-Ok-true.ensures in
     has_it g.S.Store c.args.site.now old conn (clean_if_open (g.S.Store.view conn.store) (g.met.S.Store.shut_if_dirty conn.store))
     c.requires.found c.requires.can (test.mode c.requires.found.mode) c.in-Ok-true.field-0 c.in-Ok-true.field-0-test test
 
@@ -24,7 +26,9 @@ pub returns-in-Err : goal.returns-in-Err
 returns-in-Err g c =
     let old = c.args.conn.now in
     let conn = c.has_text.new.conn in
-    let test = subst (λ t. Tests {A = Bool} g.S.Store old conn (Err c.in-Err.field-0) (λ db same. IsTrue same ↔ HoldsText t db)) c.text.ensures.same c.in-Err.ensures in
+    let test = subst (λ t.
+    Tests {A = Bool} g.S.Store old conn (Err c.in-Err.field-0) (λ db same.
+    IsTrue same ↔ HoldsText t db)) c.text.ensures.same c.in-Err.ensures in
     not_asked g.S.Store c.args.site.now old conn (clean_if_open (g.S.Store.view conn.store) (g.met.S.Store.shut_if_dirty conn.store))
     c.requires.found c.requires.can (test.mode c.requires.found.mode) c.in-Err.field-0 test
 
@@ -32,5 +36,5 @@ pub returns-in-Ok-false : goal.returns-in-Ok-false
 returns-in-Ok-false g c =
     let test = c.in-Ok-false.ensures in
     settles_after g.S.Store c.args.site.now c.args.conn.now c.has_text.new.conn c.grow.new.conn c.grow.result (λ _. ⊤)
-    (record { says = λ clean. tt; same = test.same; rests = test.rests; mode = test.mode c.requires.found.mode; refused = tt; crash = test.crash })
+    (record { answer = λ clean. tt; same = test.same; rests = test.rests; mode = test.mode c.requires.found.mode; refused = tt; crash = test.crash })
     c.grow.ensures

@@ -1,11 +1,11 @@
 use Rattle.sqlite.proofs.StateLemmas.{clean_if_open}
-use Rattle.office_store.proofs.Settling.{made, unmade}
+use Rattle.office_store.proofs.Preparing.{made, unmade}
 use Rattle.office_store.proofs.adopting.make.Goals as goal
 
-pub make_tables-requires-clause-settled : goal.make_tables-requires-clause-settled
-make_tables-requires-clause-settled g c up =
+pub make_tables-requires-clause-shows_committed : goal.make_tables-requires-clause-shows_committed
+make_tables-requires-clause-shows_committed g c up =
     let store = c.args.conn.now.store in
-    c.requires.can.settled (clean_if_open (g.S.Store.view store) (g.met.S.Store.shut_if_dirty store) up)
+    c.requires.can.shows_committed (clean_if_open (g.S.Store.view store) (g.met.S.Store.shut_if_dirty store) up)
 
 pub returns-in-Err : goal.returns-in-Err
 returns-in-Err g c =

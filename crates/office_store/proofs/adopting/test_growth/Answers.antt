@@ -22,16 +22,21 @@ returns-in-Ok g c =
     let meta = c.in-Ok.meta in
     let rows = c.as_slice.ensures.value in
     let site = c.site.ensures.same in
-    growth_judged g.S.Store c.args.site.now c.args.conn.now conn calm Third found.mode found.settled (λ clean. (found.found clean).schema)
+    growth_judged g.S.Store c.args.site.now c.args.conn.now conn calm Third found.mode found.shows_committed (λ clean. (found.found clean).schema)
     refl (meta, c.in-Ok.rows) c.in-Ok.ensures c.judge_text.result
     (subst₂ (λ r s. OnOk c.judge_text.result ((text : List ℕ) × IsShownText text r meta × IsGrownFrom text s)) rows site c.judge_text.ensures.grown)
-    (subst₂ (λ r s. IfErr c.judge_text.result (λ fault. fault ≡ OtherSite → (text : List ℕ) × IsShownText text r meta × ¬ IsGrownFrom text s)) rows site c.judge_text.ensures.other_site)
-    (subst (λ r. IfErr c.judge_text.result (λ fault. fault ≡ OtherTables → (text : List ℕ) → IsUtf8 text → ¬ IsShownText text r meta)) rows c.judge_text.ensures.other_tables)
+    (subst₂ (λ r s.
+    IfErr c.judge_text.result (λ fault. fault ≡ OtherSite → (text : List ℕ)
+    × IsShownText text r meta
+    × ¬ IsGrownFrom text s)) rows site c.judge_text.ensures.other_site)
+    (subst (λ r.
+    IfErr c.judge_text.result (λ fault. fault ≡ OtherTables → (text : List ℕ) → IsUtf8 text
+    → ¬ IsShownText text r meta)) rows c.judge_text.ensures.other_tables)
 
 pub returns-in-Err : goal.returns-in-Err
 returns-in-Err g c =
     let conn = c.told_rows.new.conn in
     let calm = clean_if_open (g.S.Store.view conn.store) (g.met.S.Store.shut_if_dirty conn.store) in
     let found = c.requires in
-    unread g.S.Store c.args.site.now c.args.conn.now conn calm Third found.mode found.settled (λ clean. (found.found clean).schema)
+    unread g.S.Store c.args.site.now c.args.conn.now conn calm Third found.mode found.shows_committed (λ clean. (found.found clean).schema)
     _ _ c.in-Err.ensures (λ (db : Database). CanTake c.args.site.now.site db.trees)

@@ -15,7 +15,7 @@ returns-in-Ok-true g c site version asked =
     let conn = c.has_starts.new.conn in
     let calm = clean_if_open (g.S.Store.view conn.store) (g.met.S.Store.shut_if_dirty conn.store) in
     let found = c.requires.2 in
-    passed g.S.Store site c.args.conn.now conn calm version found.mode found.settled (λ clean. (asked clean).0)
+    passed g.S.Store site c.args.conn.now conn calm version found.mode found.shows_committed (λ clean. (asked clean).0)
     c.in-Ok-true.field-0 _ c.in-Ok-true.ensures (λ (db : Database). HasStarts db.trees) (λ clean whole. whole.0 c.in-Ok-true.field-0-test)
 
 pub returns-in-Ok-false : goal.returns-in-Ok-false
@@ -23,7 +23,7 @@ returns-in-Ok-false g c site version asked =
     let conn = c.has_starts.new.conn in
     let calm = clean_if_open (g.S.Store.view conn.store) (g.met.S.Store.shut_if_dirty conn.store) in
     let found = c.requires.2 in
-    lack_found g.S.Store site c.args.conn.now conn calm version found.mode found.settled (λ clean. (asked clean).0)
+    lack_found g.S.Store site c.args.conn.now conn calm version found.mode found.shows_committed (λ clean. (asked clean).0)
     (λ clean. (asked clean).1) c.in-Ok-false.field-0 c.in-Ok-false.field-0-test c.in-Ok-false.ensures (λ (db : Database). HasStarts db.trees)
 
 pub returns-in-Err : goal.returns-in-Err
@@ -31,5 +31,5 @@ returns-in-Err g c site version asked =
     let conn = c.has_starts.new.conn in
     let calm = clean_if_open (g.S.Store.view conn.store) (g.met.S.Store.shut_if_dirty conn.store) in
     let found = c.requires.2 in
-    unread g.S.Store site c.args.conn.now conn calm version found.mode found.settled (λ clean. (asked clean).0)
+    unread g.S.Store site c.args.conn.now conn calm version found.mode found.shows_committed (λ clean. (asked clean).0)
     _ _ c.in-Err.ensures (λ (db : Database). HasStarts db.trees)

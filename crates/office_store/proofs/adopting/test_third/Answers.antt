@@ -17,8 +17,14 @@ Whole db = IsFound Third db × HasStarts db.trees
 
 pub test_starts-requires : goal.test_starts-requires
 test_starts-requires g c =
-    let site = c.args.site.now in
-    (Third, (λ e. cc), found_after g.S.Store site c.args.conn.now c.test_numbers.new.conn (IsFound Third) Third (c.in_ok-test_numbers.ensures site) c.requires.can.settled (λ calm found. found))
+    let site = c.args.site.now in (
+      Third,
+      (λ e.
+          cc),
+      found_after g.S.Store site c.args.conn.now c.test_numbers.new.conn (IsFound Third)
+          Third (c.in_ok-test_numbers.ensures site) c.requires.can.shows_committed (λ calm found.
+          found),
+    )
 
 pub test_growth-requires : goal.test_growth-requires
 test_growth-requires g c =
@@ -29,7 +35,9 @@ test_growth-requires g c =
     let one = c.in_ok-test_numbers.ensures site in
     let two = c.in_ok-test_starts.ensures site Third (λ calm. ((says_of g.S.Store site old mid (IsFound Third) one calm).schema, tt)) in
     found_after g.S.Store site old new Whole Third
-    (examines_then g.S.Store site old mid new (Ok tt) (IsFound Third) (λ (db : Database). HasStarts db.trees) Whole one two (λ calm found has. (found, has))) c.requires.can.settled (λ calm whole. whole.0)
+    (examines_then g.S.Store site old mid new (Ok tt) (IsFound Third) (λ (db : Database).
+    HasStarts db.trees) Whole one two (λ calm found has.
+    (found, has))) c.requires.can.shows_committed (λ calm whole. whole.0)
 
 pub returns : goal.returns
 returns g c =

@@ -6,7 +6,7 @@ use Rattle.sqlite.proofs.StateLemmas.{clean_if_open}
 use Rattle.office_sql.specs.Tables.{office_over}
 use Rattle.office_store.specs.declared.version.Version.{Version}
 use Rattle.office_store.specs.Upgrading.{IsUpgrade, IsUpgraded}
-use Rattle.office_store.proofs.Settling.{not_upgraded, upgraded}
+use Rattle.office_store.proofs.Preparing.{not_upgraded, upgraded}
 use Rattle.office_store.proofs.adopting.upgrade.Goals as goal
 
 -- what a crash leaves of an upgrade with a text
@@ -14,10 +14,10 @@ abbrev Leaves : {S : Type 0} → Ghosts S → Held S → Held S → Version → 
 Leaves g old new version text =
     Survives (state g old) (state g new) (λ trees. IsTrue (state g old).is_open × IsUpgrade version text (state g old).now.trees (office_over trees))
 
-pub upgrade_tables-requires-clause-settled : goal.upgrade_tables-requires-clause-settled
-upgrade_tables-requires-clause-settled g c up =
+pub upgrade_tables-requires-clause-shows_committed : goal.upgrade_tables-requires-clause-shows_committed
+upgrade_tables-requires-clause-shows_committed g c up =
     let store = c.args.conn.now.store in
-    c.requires.found.settled (clean_if_open (g.S.Store.view store) (g.met.S.Store.shut_if_dirty store) up)
+    c.requires.found.shows_committed (clean_if_open (g.S.Store.view store) (g.met.S.Store.shut_if_dirty store) up)
 
 pub returns-in-Ok : goal.returns-in-Ok
 returns-in-Ok g c =
@@ -26,7 +26,7 @@ returns-in-Ok g c =
     let it = c.in-Ok.ensures in
     let crash : Leaves g.S.Store old conn c.args.version c.args.site.now.text = subst (Leaves g.S.Store old conn c.args.version) c.text.ensures.same it.crash in
     upgraded g.S.Store c.args.site.now old conn (clean_if_open (g.S.Store.view conn.store) (g.met.S.Store.shut_if_dirty conn.store))
-    c.args.version c.requires.can.earlier c.requires.found c.requires.told it.mode crash
+    c.args.version c.requires.can.earlier c.requires.found c.requires.names_site it.mode crash
     (subst (λ t. HasCleanDisk (state g.S.Store conn) → IsUpgraded c.args.version t (state g.S.Store old) (state g.S.Store conn)) c.text.ensures.same it.ok)
 
 pub returns-in-Err : goal.returns-in-Err
@@ -36,4 +36,4 @@ returns-in-Err g c =
     let it = c.in-Err.ensures in
     let crash : Leaves g.S.Store old conn c.args.version c.args.site.now.text = subst (Leaves g.S.Store old conn c.args.version) c.text.ensures.same it.crash in
     not_upgraded g.S.Store c.args.site.now old conn (clean_if_open (g.S.Store.view conn.store) (g.met.S.Store.shut_if_dirty conn.store))
-    c.args.version c.requires.can.earlier c.requires.found c.requires.told it.mode crash it.err
+    c.args.version c.requires.can.earlier c.requires.found c.requires.names_site it.mode crash it.err

@@ -20,10 +20,19 @@ returns-clause-held g c = λ clean left may.
     let store = c.into_store.ensures in
     let calm : HasCleanDisk (state over_files c.into_connection-conn.result) = omega (arith, store.quiet.clean, clean) in
     ∥∥₁_map (opens_again c.into_store.result (store.numbered clean) (store.sound clean) left may)
-    (λ it. let r : (db : Trees) × HoldsDatabase left db × IsOfSite c.args.keep.site db = (it.0, it.2, c.into_connection-conn.ensures.left calm it.0 (store.quiet.outcomes it.0 it.1)) in r)
+    (λ it. let r : (db : Trees) × HoldsDatabase left db × IsOfSite c.args.keep.site db =
+    (it.0, it.2, c.into_connection-conn.ensures.left calm it.0 (store.quiet.outcomes it.0 it.1))
+    in r)
 
 pub returns-clause-found : goal.returns-clause-found
 returns-clause-found g c = λ clean left may tables found.
     let store = c.into_store.ensures in
     ∥∥₁_map (opens_again c.into_store.result (store.numbered clean) (store.sound clean) left may)
-    (λ it. let r : may_leave_at over_files c.args.keep.conn tables = (it.0, subst (λ k. (state over_files k).may_leave it.0) c.into_connection-conn.ensures.same (store.quiet.outcomes it.0 it.1), found.held it.0 it.2) in r)
+    (λ it. let r : may_leave_at over_files c.args.keep.conn tables = (
+      it.0,
+      subst (λ k.
+          (state over_files k).may_leave it.0)
+          c.into_connection-conn.ensures.same (store.quiet.outcomes it.0 it.1),
+      found.held it.0 it.2,
+    )
+    in r)

@@ -18,7 +18,8 @@ returns-clause-crash g c =
     let whole = survives_then old last (state g.S.Store c.commit.new.self.0) _ _ P (λ _ db none. absurd none)
     (λ clean db is.
     let before = was_clean last _ _ c.commit.ensures.survives clean in
-    let made : grows old.now.trees last.now = subst (λ h. grows (state g.S.Store h).now.trees last.now) c.transaction-tx.ensures.begun (changes.says before) in
+    let made : grows old.now.trees last.now =
+    subst (λ h. grows (state g.S.Store h).now.trees last.now) c.transaction-tx.ensures.begun (changes.answer before) in
     let left : office_over db ≡ last.now = λ i. record { schema = sym made.office.schema i; trees = is i } in
     let up : IsTrue old.is_open = subst (λ h. IsTrue (state g.S.Store h).is_open) c.transaction-tx.ensures.begun (changes.inside before).was_open in
     (up, subst (grows old.now.trees) (sym left) made)) (search rules) c.commit.ensures.survives in

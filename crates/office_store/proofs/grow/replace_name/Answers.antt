@@ -21,7 +21,7 @@ returns-clause-changes g c =
     done g.S.Store old new c.in_ok-execute.field-0 tt (λ x y _. ReplacesName site x y) _
     (changed g.S.Store name_text _ (Bytes site ∷ []) (search rules) old new (Ok c.in_ok-execute.field-0) (λ x y _. ReplacesName site x y)
     (λ count up ran.
-    let told = c.requires.told up in
+    let told = c.requires.third up in
     names_site site (state g.S.Store old) (state g.S.Store new) count (c.requires.has up) told.0 told.1 ran)
     c.in_ok-execute.ensures.ended c.in_ok-execute.ensures.runs c.in_ok-execute.ensures.survives)
     (λ x y h. h)

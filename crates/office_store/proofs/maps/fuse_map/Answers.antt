@@ -7,7 +7,7 @@ use Rattle.office_store.proofs.maps.fuse_map.Goals as goal
 
 pub returns-in-Ok-clause-asks : goal.returns-in-Ok-clause-asks
 returns-in-Ok-clause-asks g c = record {
-  says = λ clean.
+  answer = λ clean.
       let up = (c.in-Ok.ensures.same clean).0.was_open in
       sym (c.in-Some.ensures.found (fuse_map_at (tables_in (state g.S.Store c.args.conn.now).now.trees)) (c.requires.known up));
   same = c.in-Ok.ensures.same;
@@ -16,19 +16,22 @@ returns-in-Ok-clause-asks g c = record {
   crash = c.ask_open.ensures.crash;
 }
 
-pub returns-in-Ok-clause-kept : goal.returns-in-Ok-clause-kept
-returns-in-Ok-clause-kept g c = λ up clean. c.find.ensures.kept (fuse_map_at (tables_in (state g.S.Store c.args.conn.now).now.trees)) (c.requires.known up)
+pub returns-in-Ok-clause-right : goal.returns-in-Ok-clause-right
+returns-in-Ok-clause-right g c = λ up clean. c.find.ensures.right (fuse_map_at (tables_in (state g.S.Store c.args.conn.now).now.trees)) (c.requires.known up)
 
-pub returns-in-Err-clause-kept : goal.returns-in-Err-clause-kept
-returns-in-Err-clause-kept g c = λ up clean. c.find.ensures.kept (fuse_map_at (tables_in (state g.S.Store c.args.conn.now).now.trees)) (c.requires.known up)
+pub returns-in-Err-clause-right : goal.returns-in-Err-clause-right
+returns-in-Err-clause-right g c = λ up clean. c.find.ensures.right (fuse_map_at (tables_in (state g.S.Store c.args.conn.now).now.trees)) (c.requires.known up)
 
-pub returns-in-Ok-Some-clause-kept : goal.returns-in-Ok-Some-clause-kept
-returns-in-Ok-Some-clause-kept g c = λ up clean.
+pub returns-in-Ok-Some-clause-right : goal.returns-in-Ok-Some-clause-right
+returns-in-Ok-Some-clause-right g c = λ up clean.
     let map_of = fuse_map_at (tables_in (state g.S.Store c.args.conn.now).now.trees) in
-    c.keep.ensures map_of (c.find.ensures.kept map_of (c.requires.known up)) (sym (c.in-Ok-Some.ensures.says clean) ∙ c.in-Ok-Some.field-0-is)
+    c.keep.ensures map_of (c.find.ensures.right map_of (c.requires.known up)) (sym (c.in-Ok-Some.ensures.answer clean) ∙ c.in-Ok-Some.field-0-is)
 
-pub returns-in-Ok-None-clause-kept : goal.returns-in-Ok-None-clause-kept
-returns-in-Ok-None-clause-kept g c = λ up clean. c.find.ensures.kept (fuse_map_at (tables_in (state g.S.Store c.args.conn.now).now.trees)) (c.requires.known up)
+pub returns-in-Ok-None-clause-right : goal.returns-in-Ok-None-clause-right
+returns-in-Ok-None-clause-right g c = λ up clean.
+    c.find.ensures.right (fuse_map_at (tables_in (state g.S.Store c.args.conn.now).now.trees)) (c.requires.known up)
 
-pub returns-in-Err-read_map-clause-kept : goal.returns-in-Err-read_map-clause-kept
-returns-in-Err-read_map-clause-kept g c = λ up clean. c.find.ensures.kept (fuse_map_at (tables_in (state g.S.Store c.args.conn.now).now.trees)) (c.requires.known up)
+pub returns-in-Err-read_map-clause-right : goal.returns-in-Err-read_map-clause-right
+returns-in-Err-read_map-clause-right g c = λ up clean.
+    c.find.ensures.right (fuse_map_at (tables_in (state g.S.Store c.args.conn.now).now.trees))
+    (c.requires.known up)

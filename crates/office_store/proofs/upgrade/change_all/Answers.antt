@@ -12,28 +12,28 @@ pub add_text-requires-clause-has : goal.add_text-requires-clause-has
 add_text-requires-clause-has g c up =
     let store = c.fill.new.tx.conn.now.store in
     let clean = clean_if_open (g.S.Store.view store) (g.met.S.Store.shut_if_dirty store) up in
-    (c.in_ok-fill.ensures.changes.says clean).office.schema
+    (c.in_ok-fill.ensures.changes.answer clean).office.schema
 
 pub add_text-requires-clause-none : goal.add_text-requires-clause-none
 add_text-requires-clause-none g c up =
     let store = c.fill.new.tx.conn.now.store in
     let clean = clean_if_open (g.S.Store.view store) (g.met.S.Store.shut_if_dirty store) up in
-    (c.in_ok-fill.ensures.changes.says clean).none
+    (c.in_ok-fill.ensures.changes.answer clean).none
 
 pub tell_schema-requires-clause-has : goal.tell_schema-requires-clause-has
 tell_schema-requires-clause-has g c up =
     let store = c.add_text.new.tx.conn.now.store in
     let clean = clean_if_open (g.S.Store.view store) (g.met.S.Store.shut_if_dirty store) up in
-    (c.in_ok-add_text.ensures.changes.says clean).schema
+    (c.in_ok-add_text.ensures.changes.answer clean).schema
 
-pub tell_schema-requires-clause-told : goal.tell_schema-requires-clause-told
-tell_schema-requires-clause-told g c up =
+pub tell_schema-requires-clause-names_version : goal.tell_schema-requires-clause-names_version
+tell_schema-requires-clause-names_version g c up =
     let store = c.add_text.new.tx.conn.now.store in
     let clean = clean_if_open (g.S.Store.view store) (g.met.S.Store.shut_if_dirty store) up in
     let fills = c.in_ok-fill.ensures.changes in
     let puts = c.in_ok-add_text.ensures.changes in
     let before = was_clean (state g.S.Store c.fill.new.tx.conn.now) (state g.S.Store c.add_text.new.tx.conn.now) _ puts.crash clean in
-    (c.args.version, tells_still c.args.version _ _ _ (fills.says before) _ (puts.says clean) (c.requires.told (fills.inside before).was_open))
+    (c.args.version, tells_still c.args.version _ _ _ (fills.answer before) _ (puts.answer clean) (c.requires.told (fills.inside before).was_open))
 
 pub returns-clause-changes : goal.returns-clause-changes
 returns-clause-changes g c =

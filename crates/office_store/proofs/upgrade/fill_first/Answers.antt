@@ -15,7 +15,7 @@ fill_starts-requires-clause-orders g c up =
     let clean = clean_if_open (g.S.Store.view store) (g.met.S.Store.shut_if_dirty store) up in
     let first = c.in_ok-make_later.ensures.changes in
     let found = c.requires (first.inside clean).was_open in
-    lacks_orders _ _ found (first.says clean found.schema)
+    lacks_orders _ _ found (first.answer clean found.schema)
 
 pub fill_starts-requires-clause-given : goal.fill_starts-requires-clause-given
 fill_starts-requires-clause-given g c up =
@@ -23,7 +23,7 @@ fill_starts-requires-clause-given g c up =
     let clean = clean_if_open (g.S.Store.view store) (g.met.S.Store.shut_if_dirty store) up in
     let first = c.in_ok-make_later.ensures.changes in
     let found = c.requires (first.inside clean).was_open in
-    lacks_given _ _ found (first.says clean found.schema)
+    lacks_given _ _ found (first.answer clean found.schema)
 
 pub returns-clause-changes : goal.returns-clause-changes
 returns-clause-changes g c =

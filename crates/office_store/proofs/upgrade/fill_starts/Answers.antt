@@ -1,5 +1,5 @@
 use Rattle.sqlite.proofs.StateLemmas.{clean_if_open}
-use Rattle.office_sql.specs.Rows.{order_in, given_in, starts_order, starts_given}
+use Rattle.office_sql.specs.Rows.{order_in_row, given_in_row, starts_order, starts_given}
 use Rattle.office_sql.proofs.MapChanges.{changes_then}
 use Rattle.office_store.specs.Upgrading.{GainsNone, GainsNoStart}
 use Rattle.office_store.proofs.Upgrades.{still_lacks_given}
@@ -10,7 +10,7 @@ fill_given_starts-requires g c up =
     let store = c.fill_order_starts.new.tx.conn.now.store in
     let clean = clean_if_open (g.S.Store.view store) (g.met.S.Store.shut_if_dirty store) up in
     let first = c.in_ok-fill_order_starts.ensures.changes in
-    still_lacks_given _ _ (first.says clean) (c.requires.given (first.inside clean).was_open)
+    still_lacks_given _ _ (first.answer clean) (c.requires.given (first.inside clean).was_open)
 
 pub returns-clause-changes : goal.returns-clause-changes
 returns-clause-changes g c =
@@ -18,5 +18,5 @@ returns-clause-changes g c =
     let mid = c.fill_order_starts.new.tx.conn.now in
     let new = c.fill_given_starts.new.tx.conn.now in
     changes_then g.S.Store old mid new c.in_ok-fill_order_starts.field-0 c.fill_given_starts.result
-    (λ x y _. GainsNone starts_order order_in 7 17 x y) (λ x y _. GainsNone starts_given given_in 11 19 x y) (λ x y _. GainsNoStart x y)
+    (λ x y _. GainsNone starts_order order_in_row 7 17 x y) (λ x y _. GainsNone starts_given given_in_row 11 19 x y) (λ x y _. GainsNoStart x y)
     c.in_ok-fill_order_starts.ensures.changes c.fill_given_starts.ensures.changes (λ x y z _ p q. record { mid = y; orders = p; given = q })

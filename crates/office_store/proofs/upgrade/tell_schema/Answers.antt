@@ -19,7 +19,7 @@ returns-clause-changes g c =
     done g.S.Store old new c.in_ok-execute.field-0 tt (λ x y _. TellsThird x y) _
     (changed g.S.Store tell_text _ [] (search rules) old new (Ok c.in_ok-execute.field-0) (λ x y _. TellsThird x y)
     (λ count up ran.
-    let itself = c.requires.told up in
+    let itself = c.requires.names_version up in
     tells_third (state g.S.Store old) (state g.S.Store new) count (c.requires.has up) itself.0 itself.1 ran)
     c.in_ok-execute.ensures.ended c.in_ok-execute.ensures.runs c.in_ok-execute.ensures.survives)
     (λ x y h. h)

@@ -19,7 +19,7 @@ returns-clause-crash g c =
     (λ clean db is.
     let before = was_clean last _ _ c.commit.ensures.survives clean in
     let made : upgrades old.now.trees last.now =
-    subst (λ h. upgrades (state g.S.Store h).now.trees last.now) c.transaction-tx.ensures.begun (changes.says before) in
+    subst (λ h. upgrades (state g.S.Store h).now.trees last.now) c.transaction-tx.ensures.begun (changes.answer before) in
     let left : office_over db ≡ last.now = λ i. record { schema = sym made.office.schema i; trees = is i } in
     let up : IsTrue old.is_open = subst (λ h. IsTrue (state g.S.Store h).is_open) c.transaction-tx.ensures.begun (changes.inside before).was_open in
     (up, subst (upgrades old.now.trees) (sym left) made)) (search rules) c.commit.ensures.survives in

@@ -1,7 +1,7 @@
 -- The device is found where it was put.
 use Rattle.std.proofs.Common.{◌∙◌, ap, List}
 use Rattle.std.specs.Prelude.{find}
-use Rattle.office_tables.specs.declared.rows.Owned.{Owned}
+use Rattle.office_tables.specs.declared.rows.OfCustomer.{OfCustomer}
 use Rattle.office_tables.specs.declared.rows.Device.{Device}
 use Rattle.office_tables.specs.Tables.{is_device}
 use Rattle.office_store.proofs.DevicesPut.{device_found}
@@ -10,4 +10,4 @@ use Rattle.office_store.proofs.written.answer_after.Goals as goal
 pub returns-in-One : goal.returns-in-One
 returns-in-One c = λ rows after put.
     let d = c.in-One.row.now in
-    ap (λ (l : List (Owned Device)). find (is_device d.customer d.row.chip) l) (rw c.in-One.is at put) ∙ device_found d rows
+    ap (λ (l : List (OfCustomer Device)). find (is_device d.customer d.row.chip) l) (rw c.in-One.is at put) ∙ device_found d rows

@@ -9,12 +9,17 @@ returns-in-None-clause-ready g c =
     let clean = clean_if_open (g.S.Store.view conn.store) (g.met.S.Store.shut_if_dirty conn.store) in
     still_ready g.S.Store c.args.conn.now conn c.requires.ready clean c.device_row.result _ c.device_row.ensures
 
-pub returns-in-None-clause-reads : goal.returns-in-None-clause-reads
-returns-in-None-clause-reads g c =
+pub returns-in-None-clause-read_only : goal.returns-in-None-clause-read_only
+returns-in-None-clause-read_only g c =
     let conn = c.device_row.new.conn in
-    (answers g.S.Store c.args.conn.now conn c.requires.ready (clean_if_open (g.S.Store.view conn.store) (g.met.S.Store.shut_if_dirty conn.store)) c.device_row.result c.device_row.result _ refl c.device_row.ensures).reads
+    (answers g.S.Store c.args.conn.now conn c.requires.ready
+    (clean_if_open (g.S.Store.view conn.store) (g.met.S.Store.shut_if_dirty conn.store))
+    c.device_row.result c.device_row.result _ refl c.device_row.ensures).read_only
 
-pub returns-in-None-clause-says : goal.returns-in-None-clause-says
-returns-in-None-clause-says g c = λ up.
+pub returns-in-None-clause-answer : goal.returns-in-None-clause-answer
+returns-in-None-clause-answer g c = λ up.
     let conn = c.device_row.new.conn in
-    rw c.in-One.is ((answers g.S.Store c.args.conn.now conn c.requires.ready (clean_if_open (g.S.Store.view conn.store) (g.met.S.Store.shut_if_dirty conn.store)) c.device_row.result c.device_row.result _ refl c.device_row.ensures).says up)
+    rw c.in-One.is
+    ((answers g.S.Store c.args.conn.now conn c.requires.ready
+    (clean_if_open (g.S.Store.view conn.store) (g.met.S.Store.shut_if_dirty conn.store))
+    c.device_row.result c.device_row.result _ refl c.device_row.ensures).answer up)

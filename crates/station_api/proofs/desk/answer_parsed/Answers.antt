@@ -1,7 +1,7 @@
 -- Why `desk::answer_parsed` meets its contract, where that has to be said.
 use Rattle.std.proofs.Common.{◌≡◌, ◌∙◌, [], Ok, ap, refl, subst}
 use Rattle.http_replies.specs.Replies.{answer_of}
-use Rattle.site_core.specs.Caller.{seat_at, section_at}
+use Rattle.site_core.specs.Caller.{seat_name_at, section_at}
 use Rattle.site_core.specs.Section.{Section}
 use Rattle.site_core.specs.declared.site.Caller.TheVariants.{Seat, Manager}
 use Rattle.yield_report.specs.Reports.{IsOrderReport, IsSiteReport, order_report_in, site_report_in}
@@ -9,8 +9,8 @@ use Rattle.office_tables.specs.Tables.{Tables}
 use Rattle.office_rules.specs.OfficeMachine.{Step}
 use Rattle.office_runs.specs.Exchanges.{Exchange}
 use Rattle.office_runs.proofs.Leaving.{leaves_more, leaves_none}
-use Rattle.office_core.proofs.Settled.{or_then}
-use Rattle.station_api.specs.Own.{exchange_of}
+use Rattle.office_core.proofs.CarriedOut.{or_then}
+use Rattle.station_api.specs.SectionExchanges.{exchange_of}
 use Rattle.station_api.specs.declared.parse.Parsed.TheVariants.{Office, Report, SiteReport}
 use Rattle.station_api.proofs.Answering.{report_answers, report_told}
 use Rattle.station_api.proofs.desk.answer_parsed.Goals as goal
@@ -26,15 +26,15 @@ returns-in-Seat-Office g c =
           let seat = c.in-Seat-Office.seat in
           let request = c.in-Seat-Office.request in
           let over = c.answer.ensures.step honest t stands in
-          let x : Exchange = exchange_of (section_at site seat) (seat_at site seat) (Ok (Office request)) (answer_of c.answer.result) in (
+          let x : Exchange = exchange_of (section_at site seat) (seat_name_at site seat) (Ok (Office request)) (answer_of c.answer.result) in (
             over.0,
             over.1,
             leaves_more [] x request t t over.0 (g.K.Keep.may_leave c.args.keep.now) (g.K.Keep.may_leave c.args.keep.now)
                 (g.K.Keep.may_leave c.answer.new.keep) (g.K.Keep.is_open c.answer.new.keep) refl over.1
                 (leaves_none (g.K.Keep.may_leave c.args.keep.now) t) (c.answer.ensures.stays_open honest)
-                (λ opened left leaves. g.met.K.Keep.settled c.answer.new.keep left opened leaves ∙ over.5 opened)
+                (λ opened left leaves. g.met.K.Keep.only_committed c.answer.new.keep left opened leaves ∙ over.5 opened)
                 (λ left leaves. or_then (c.answer.ensures.crash honest left leaves)
-                (λ made. (made.1, subst (λ (m : Tables). Step (section_at site seat) (seat_at site seat) m request made.1 left) (stands made.0) made.2))),
+                (λ made. (made.1, subst (λ (m : Tables). Step (section_at site seat) (seat_name_at site seat) m request made.1 left) (stands made.0) made.2))),
             over.5,
           );
     })
@@ -47,12 +47,16 @@ returns-in-Seat-Report g c =
     let is_name : c.name-customer.result ≡ name = c.name-customer.ensures ∙ ap (λ (s : Section). s.name) c.customer.ensures.same in
     rw (c.in-Seat-Report.is-0, c.in-Seat-Report.is-1) (report_told g.K.Keep site (Seat seat) Report (λ v. v.items) (order_report_in name)
     (λ t v. IsOrderReport c.name-customer.result t v.items) (λ reply. (refl, tt)) (λ t v said. said.0 ∙ ap (λ n. order_report_in n t) is_name)
-    (λ t reply is. report_answers site (Seat seat) (Ok Report) t reply (order_report_in name t) is (is, refl)) c.args.keep.now c.order_report.new.keep c.order_report.result _
+    (λ t reply is.
+    report_answers site (Seat seat) (Ok Report) t reply (order_report_in name t) is (is, refl))
+    c.args.keep.now c.order_report.new.keep c.order_report.result _
     c.order_report.ensures c.report_reply.ensures.report c.report_reply.ensures.none)
 
 pub returns-in-Manager-SiteReport : goal.returns-in-Manager-SiteReport
 returns-in-Manager-SiteReport g c =
     let site = c.args.desk.now.site.now in
     rw (c.in-Manager-SiteReport.is-0, c.in-Manager-SiteReport.is-1) (report_told g.K.Keep site Manager SiteReport (λ v. v.items) (site_report_in site)
-    (λ t v. IsSiteReport site t v.items) (λ reply. tt) (λ t v said. said.0) (λ t reply is. report_answers site Manager (Ok SiteReport) t reply (site_report_in site t) is (is, refl)) c.args.keep.now c.site_report.new.keep c.site_report.result _
+    (λ t v. IsSiteReport site t v.items) (λ reply. tt) (λ t v said. said.0) (λ t reply is.
+    report_answers site Manager (Ok SiteReport) t reply (site_report_in site t) is (is, refl))
+    c.args.keep.now c.site_report.new.keep c.site_report.result _
     c.site_report.ensures c.report_reply-in-Manager-SiteReport.ensures.report c.report_reply-in-Manager-SiteReport.ensures.none)

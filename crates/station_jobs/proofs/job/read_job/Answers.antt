@@ -7,7 +7,7 @@ use Rattle.clap.proofs.OnLiterals.{clap_on_literals}
 use Rattle.station_jobs.specs.declared.job.Job.{Job}
 use Rattle.station_jobs.specs.declared.job.WordsFault.{WordsFault}
 use Rattle.station_jobs.specs.declared.job.WordsFault.TheVariants.{Help, Refused, NoMemory}
-use Rattle.station_jobs.specs.CommandLine.{CanGive, GivenBy, RefusesWith, job_by, job_of, station_app, texts, unless_faulty}
+use Rattle.station_jobs.specs.CommandLine.{CanGive, IsFaultOfKind, RefusesWith, job_by, job_of, station_app, texts, job_unless_faulty}
 use Rattle.station_jobs.proofs.job.read_job.Goals as goal
 
 simple : is_simple station_app ≡ true
@@ -19,7 +19,7 @@ unfolding clap_on_literals
 free = refl
 
 -- an error of clap's kinds gives one of the faults that those kinds can give
-can_give : (kinds : Kinds) (e : Error) (fault : WordsFault) → HasKind kinds e → GivenBy (kind_of e) fault → CanGive kinds fault
+can_give : (kinds : Kinds) (e : Error) (fault : WordsFault) → HasKind kinds e → IsFaultOfKind (kind_of e) fault → CanGive kinds fault
 can_give kinds e (Help text) h given = elim h [
   | inl memory ↦ let bad : DisplayHelp ≡ OutOfMemory = sym given ∙ memory in cc
   | inr among ↦ rw given at among
@@ -32,14 +32,14 @@ can_give kinds e (Refused text) h given = λ only. elim h [
 ]
 can_give kinds e NoMemory h given = tt
 
-only_memory : (e : Error) (fault : WordsFault) → kind_of e ≡ OutOfMemory → GivenBy (kind_of e) fault → fault ≡ NoMemory
+only_memory : (e : Error) (fault : WordsFault) → kind_of e ≡ OutOfMemory → IsFaultOfKind (kind_of e) fault → fault ≡ NoMemory
 only_memory e (Help text) memory given = let bad : DisplayHelp ≡ OutOfMemory = sym given ∙ memory in cc
 only_memory e (Refused text) memory given = absurd (given.1 memory)
 only_memory e NoMemory memory given = refl
 
 -- a fault other than of memory means that the words have a fault
-faulty : (kinds : Kinds) (job : Option Job) (e : Error) (fault : WordsFault) → HasKind kinds e → GivenBy (kind_of e) fault
-    → (fault ≡ NoMemory) ⊎ (unless_faulty kinds job ≡ None)
+faulty : (kinds : Kinds) (job : Option Job) (e : Error) (fault : WordsFault) → HasKind kinds e → IsFaultOfKind (kind_of e) fault
+    → (fault ≡ NoMemory) ⊎ (job_unless_faulty kinds job ≡ None)
 faulty [] job e fault h given = elim h [ inl memory ↦ inl (only_memory e fault memory given) | inr among ↦ absurd among ]
 faulty (kind ∷ kinds) job e fault h given = inr refl
 
@@ -56,7 +56,7 @@ of_made P made app words same = subst (λ (a : App). P (fault_of a words)) same
 -- what the words give, by what the matches of the command give
 read : (made app : App) (words : List Text) (rows : Option (Text × List Row)) (job : Option Job) → made ≡ app
     → fault_of made words ≡ [] → rows ≡ subcommand_of made words → job ≡ option_and_then job_by rows
-    → unless_faulty (fault_of app words) (option_and_then job_by (subcommand_of app words)) ≡ job
+    → job_unless_faulty (fault_of app words) (option_and_then job_by (subcommand_of app words)) ≡ job
 read made app words rows job same none found is =
     let clear : fault_of app words ≡ [] = ap (λ (a : App). fault_of a words) (sym same) ∙ none in
     let entered : subcommand_of app words ≡ rows = ap (λ (a : App). subcommand_of a words) (sym same) ∙ sym found in

@@ -1,6 +1,6 @@
 -- Why `running::replay` meets its contract, where that has to be said.
 use Rattle.std.proofs.Common.{IfOk, rules, subst}
-use Rattle.site_core.specs.Owners.{owners_of}
+use Rattle.site_core.specs.Ownership.{ownership_of}
 use Rattle.site_core.specs.Section.{SiteValue}
 use Rattle.office_runs.proofs.Grown.{growth_itself}
 use Rattle.office_tables.specs.Tables.{no_rows}
@@ -27,7 +27,7 @@ returns-clause-served g c =
     let written_old = g.W.Drain.written c.args.writer.now in
     let written_new = g.W.Drain.written c.serve.new.writer in
     let served = c.serve.ensures.served in
-    let owners = owners_of c.site-2.result.now in
+    let owners = ownership_of c.site-2.result.now in
     let led = served.5 tt no_rows (λ _. c.new-keep.ensures) in
     let replayed : Replays c.site-2.result.now no_rows left_old left_new written_old written_new c.serve.result =
     (served.0, served.1, served.2, served.3, served.4, led.0, led.1, λ sound. led.4 owners (growth_itself owners) sound) in

@@ -16,6 +16,8 @@ loop-turn-preserved g c =
     let turn = c.serve_connection.ensures in
     record {
       was_honest = λ honest. seen.was_honest (turn.was_honest honest);
-      reaches = leads_both g.K.Keep c.args.site.now c.args.keep.now c.loop-turn.keep c.serve_connection.new.keep c.customers-customers.ensures.site turn.was_honest seen.reaches turn.reaches;
+      reaches = leads_both g.K.Keep c.args.site.now c.args.keep.now c.loop-turn.keep
+          c.serve_connection.new.keep c.customers-customers.ensures.site turn.was_honest
+          seen.reaches turn.reaches;
       counted = search rules;
     }

@@ -9,8 +9,8 @@ returns-clause-failed g c =
     let served = c.serve-served.ensures.served in
     fails_behind IsOfStore c.serve-served.result served.0 served.1
 
-pub returns-clause-silent : goal.returns-clause-silent
-returns-clause-silent g c =
+pub returns-clause-prints_nothing : goal.returns-clause-prints_nothing
+returns-clause-prints_nothing g c =
     let served = c.serve-served.ensures.served in
     fails_before (λ _. (c.serve-served.new.reader ≡ c.args.reader.now) × (c.serve-served.new.writer ≡ c.args.writer.now))
     c.serve-served.result served.0 served.1

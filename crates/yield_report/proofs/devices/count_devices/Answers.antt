@@ -5,9 +5,9 @@ use Rattle.yield_report.proofs.devices.count_devices.Goals as goal
 
 pub returns : goal.returns
 returns g c = record {
-  reads = search rules;
+  read_only = search rules;
   stays_open = search rules;
-  says = λ is.
-      let visits = c.in_ok-visit_devices.ensures.says is in
+  answer = λ is.
+      let visits = c.in_ok-visit_devices.ensures.answer is in
       (devices_counted _ _ _ visits c.if-scan.false, devices_fit _ _ _ visits c.if-scan.false);
 }

@@ -4,16 +4,16 @@ use Rattle.std.proofs.lemmas.List.{take_all}
 use Rattle.std.proofs.lemmas.List.Elements.{recursion_from_All}
 use Rattle.office_tables.proofs.Reading.{reads_more}
 use Rattle.yield_report.specs.Lines.{left_so_far, new_issuer, IsLine}
-use Rattle.yield_report.specs.Reports.{has_given_in}
+use Rattle.yield_report.specs.Reports.{has_issued_in}
 use Rattle.yield_report.specs.declared.lines.OrderLine.{OrderLine}
 use Rattle.yield_report.proofs.Issuers.{map_all_met, map_no_step, place_met, place_taken, said_of}
 use Rattle.yield_report.proofs.left.take_given.Goals as goal
 
 pub loop-place-init : goal.loop-place-init
 loop-place-init g c = record {
-  reads = search rules;
+  read_only = search rules;
   stays_open = c.requires;
-  taken = λ is are. sym (map_no_step (has_given_in (g.K.Keep.tables c.args.keep.now)) c.args.lines.items);
+  taken = λ is are. sym (map_no_step (has_issued_in (g.K.Keep.tables c.args.keep.now)) c.args.lines.items);
   are_lines = λ is are. are;
   end = search rules;
 }
@@ -27,10 +27,10 @@ loop-place-preserved-in_default g c =
     said_of lines c.as_slice.result.now place c.new_issuer.result None c.as_slice.ensures.value c.new_issuer.ensures c.in_default.is in
     let within : c.loop-place.place < length c.args.lines.items = omega (arith, c.loop-place-test.true, inv.end) in
     record {
-      reads = inv.reads;
+      read_only = inv.read_only;
       stays_open = inv.stays_open;
       taken =
-          λ is are. place_met (has_given_in (g.K.Keep.tables c.args.keep.now)) c.args.lines.items c.loop-place.left.items c.loop-place.place within
+          λ is are. place_met (has_issued_in (g.K.Keep.tables c.args.keep.now)) c.args.lines.items c.loop-place.left.items c.loop-place.place within
           (inv.taken is are)
           none;
       are_lines = inv.are_lines;
@@ -46,18 +46,18 @@ loop-place-preserved g c =
     said_of lines c.as_slice.result.now place c.new_issuer.result (Some c.in-Some.issuer) c.as_slice.ensures.value c.new_issuer.ensures c.in-Some.is in
     let within : c.loop-place.place < length c.args.lines.items = omega (arith, c.loop-place-test.true, inv.end) in
     record {
-      reads = reads_more inv.reads c.take_of_issuer.ensures.reads;
+      read_only = reads_more inv.read_only c.take_of_issuer.ensures.read_only;
       stays_open = c.in_ok-left.ensures.stays_open;
       taken = λ is are.
-          let was = c.take_of_issuer.ensures.reads.was_open is in
-          let same = inv.reads.same was in
-          let says = c.in_ok-left.ensures.says is in
+          let was = c.take_of_issuer.ensures.read_only.was_open is in
+          let same = inv.read_only.same was in
+          let answer = c.in_ok-left.ensures.answer is in
           place_taken (g.K.Keep.tables c.args.keep.now) c.args.lines.items c.loop-place.left.items c.in_ok-left.left.items c.loop-place.place c.in-Some.issuer
           within
           (recursion_from_All IsLine c.args.lines.items are) (inv.taken was are)
           some
-          (rw same at says.0) (rw same at says.1);
-      are_lines = λ is are. (c.in_ok-left.ensures.says is).2 (inv.are_lines (c.take_of_issuer.ensures.reads.was_open is) are);
+          (rw same at answer.0) (rw same at answer.1);
+      are_lines = λ is are. (c.in_ok-left.ensures.answer is).2 (inv.are_lines (c.take_of_issuer.ensures.read_only.was_open is) are);
       end = inv.end;
     }
 
@@ -65,10 +65,10 @@ pub returns : goal.returns
 returns g c =
     let inv = c.loop-place.invariant in
     record {
-      reads = inv.reads;
+      read_only = inv.read_only;
       stays_open = search rules;
-      says = λ is are.
-          let given = has_given_in (g.K.Keep.tables c.args.keep.now) in
+      answer = λ is are.
+          let given = has_issued_in (g.K.Keep.tables c.args.keep.now) in
           let all = take_all c.loop-place.place c.args.lines.items (omega (arith, c.loop-place-test.false, inv.end)) in (
             inv.taken is are ∙ (ap (λ (ls : List OrderLine). map (left_so_far given ls) c.args.lines.items) all ∙ map_all_met given c.args.lines.items),
             inv.are_lines is are,

@@ -5,9 +5,9 @@ use Rattle.yield_report.proofs.left.take_of_issuer.Goals as goal
 
 pub returns : goal.returns
 returns g c = record {
-  reads = search rules;
+  read_only = search rules;
   stays_open = search rules;
-  says = λ is.
-      let visits = c.in_ok-visit_given.ensures.says is in
+  answer = λ is.
+      let visits = c.in_ok-visit_given.ensures.answer is in
       (serials_rise _ _ _ visits c.if-scan.false, serials_taken _ _ _ visits c.if-scan.false, serials_fit _ _ _ visits c.if-scan.false);
 }

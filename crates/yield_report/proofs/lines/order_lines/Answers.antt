@@ -7,10 +7,10 @@ use Rattle.yield_report.proofs.lines.order_lines.Goals as goal
 
 pub returns : goal.returns
 returns g c = record {
-  reads = search rules;
+  read_only = search rules;
   stays_open = search rules;
-  says = λ is.
-      let visits = c.in_ok-visit_orders.ensures.says is in (
+  answer = λ is.
+      let visits = c.in_ok-visit_orders.ensures.answer is in (
         rw c.new.ensures.items at (lines_gathered _ _ _ visits c.if-scan.false),
         lines_fit _ _ _ visits c.if-scan.false (rw c.new.ensures.items (All-nil IsLine)),
       );

@@ -1,6 +1,6 @@
 -- Why `names::customer_names` meets its contract, where that has to be said.
 use Rattle.std.proofs.Common.{◌∙◌, ap, ap₂, sym, List, ℕ}
-use Rattle.office_tables.specs.Tables.{placed, text_cmp}
+use Rattle.office_tables.specs.Tables.{with_row, text_cmp}
 use Rattle.yield_report.specs.Reports.{in_order}
 use Rattle.yield_report.proofs.Placed.{name_before}
 use Rattle.yield_report.proofs.names.customer_names.Goals as goal
@@ -9,5 +9,5 @@ pub loop-i-preserved : goal.loop-i-preserved
 loop-i-preserved c =
     let customers = c.customers-customers.result.now in
     c.in_ok-place.ensures
-    ∙ (ap₂ (λ (name : List ℕ) (names : List (List ℕ)). placed text_cmp name names) c.name.ensures c.loop-i.invariant
+    ∙ (ap₂ (λ (name : List ℕ) (names : List (List ℕ)). with_row text_cmp name names) c.name.ensures c.loop-i.invariant
     ∙ ap in_order (sym (name_before customers c.loop-i.i c.index-customers-customers.result c.loop-i-test.true c.index-customers-customers.is)))

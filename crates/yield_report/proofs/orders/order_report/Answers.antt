@@ -6,10 +6,10 @@ use Rattle.yield_report.proofs.orders.order_report.Goals as goal
 
 pub returns : goal.returns
 returns g c = record {
-  reads = search rules;
+  read_only = search rules;
   stays_open = search rules;
-  says = λ is.
-      let lines = c.in_ok-lines.ensures.says is in
+  answer = λ is.
+      let lines = c.in_ok-lines.ensures.answer is in
       report_of_lines c.args.customer.now (g.K.Keep.tables c.args.keep.now) c.in_ok-lines.lines.items _ lines.0 lines.1
       (c.in_ok-order_text.ensures ∙ ap lines_text c.as_slice.ensures.value);
 }

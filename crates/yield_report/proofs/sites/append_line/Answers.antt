@@ -10,9 +10,9 @@ use Rattle.yield_report.proofs.sites.append_line.Goals as goal
 
 pub returns : goal.returns
 returns g c = record {
-  reads = search rules;
+  read_only = search rules;
   stays_open = search rules;
-  says = λ is.
+  answer = λ is.
       let items = c.in_ok-lines.lines.items in
       let sums : c.in-Some.sums ≡ total (numbers_in items) =
       c.in-Some.ensures.sums ∙ ap (λ (ls : List OrderLine). total (numbers_in ls)) c.as_slice.ensures.value in
@@ -20,6 +20,6 @@ returns g c = record {
       let fit : AreStorable (numbers_of c.in-Some.sums) =
       subst (λ (y : Yield). AreStorable (numbers_of y)) (sym c.in-Some.ensures.sums) (c.in-Some.ensures.fits.0 (search rules)) in
       customer_is c.args.customer.now (g.K.Keep.tables c.args.keep.now) items c.in-Some.sums c.len-count.result c.args.text.now.items _
-      (c.in_ok-lines.ensures.says is) sums count
+      (c.in_ok-lines.ensures.answer is) sums count
       (omega (arith, c.if-count-gt-LARGEST_NUMBER.false)) fit c.in_ok-append_customer.ensures;
 }

@@ -17,18 +17,18 @@ loop-customer-preserved g c =
     let i = c.loop-customer.customer-index in
     let customer : List ℕ = c.customer-item.result in
     record {
-      reads = reads_more inv.reads c.append_line.ensures.reads;
+      read_only = reads_more inv.read_only c.append_line.ensures.read_only;
       stays_open = c.in_ok-append_line.ensures.stays_open;
       text = λ is.
-          let was = c.append_line.ensures.reads.was_open is in
-          let same = inv.reads.same was in
-          let says = rw same at (c.in_ok-append_line.ensures.says is) in
-          site_more t names i customer c.loop-customer.text.items _ c.loop-customer-test.true c.customer-item.is (inv.text was) says.0;
+          let was = c.append_line.ensures.read_only.was_open is in
+          let same = inv.read_only.same was in
+          let answer = rw same at (c.in_ok-append_line.ensures.answer is) in
+          site_more t names i customer c.loop-customer.text.items _ c.loop-customer-test.true c.customer-item.is (inv.text was) answer.0;
       fit = λ is.
-          let was = c.append_line.ensures.reads.was_open is in
-          let same = inv.reads.same was in
-          let says = rw same at (c.in_ok-append_line.ensures.says is) in
-          fit_more t names i customer c.loop-customer-test.true c.customer-item.is (inv.fit was) says.1;
+          let was = c.append_line.ensures.read_only.was_open is in
+          let same = inv.read_only.same was in
+          let answer = rw same at (c.in_ok-append_line.ensures.answer is) in
+          fit_more t names i customer c.loop-customer-test.true c.customer-item.is (inv.fit was) answer.1;
     }
 
 pub returns : goal.returns
@@ -38,9 +38,9 @@ returns g c =
     let names = c.deref-customer-items.result.now in
     let all : take c.loop-customer.customer-index names ≡ names = take_all c.loop-customer.customer-index names (omega (arith, c.loop-customer-test.false)) in
     record {
-      reads = inv.reads;
+      read_only = inv.read_only;
       stays_open = λ honest. inv.stays_open honest;
-      says = λ is.
+      answer = λ is.
           site_is c.args.site.now t names c.loop-customer.text.items (c.deref-customer-items.ensures.value ∙ c.in_ok-names.ensures)
           (inv.text is ∙ ap (λ (ns : List (List ℕ)). report_text (site_header ∷ map (customer_line_in t) ns)) all)
           (subst (λ (ns : List (List ℕ)). All (FitsCustomer t) ns) all (inv.fit is));

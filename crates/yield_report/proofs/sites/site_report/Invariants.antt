@@ -13,7 +13,7 @@ invariant-loop-customer g l =
     let k = g.K.Keep in
     let t = k.tables l.fn.keep in
     record {
-      reads : Reads k.is_open k.is_honest k.may_leave k.tables l.fn.keep l.keep;
+      read_only : Reads k.is_open k.is_honest k.may_leave k.tables l.fn.keep l.keep;
       stays_open : k.is_honest l.keep → k.is_open l.keep;
       text : k.is_open l.keep → l.text.items ≡ report_text (site_header ∷ map (customer_line_in t) (take l.customer-index l.customer-items));
       fit : k.is_open l.keep → All (FitsCustomer t) (take l.customer-index l.customer-items);

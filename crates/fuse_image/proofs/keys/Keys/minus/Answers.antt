@@ -2,7 +2,7 @@
 use Rattle.std.proofs.Common.{List, ℕ, ap₂, ◌∙◌}
 use Rattle.std.specs.Prelude.{Option, None, is_some, if◌then◌else◌}
 use Rattle.std.specs.FinMap as map
-use Rattle.fuse_image.specs.Keys.{without}
+use Rattle.fuse_image.specs.Keys.{keys_without}
 use Rattle.fuse_image.proofs.Tables.{table_is}
 use Rattle.fuse_image.proofs.keys.Keys.minus.Goals as goal
 
@@ -10,7 +10,7 @@ abbrev rest : Option (List ℕ) → Option (List ℕ) → Option (List ℕ)
 rest own other = if is_some other then None else own
 
 pub returns : goal.returns
-unfolding without
+unfolding keys_without
 returns c = table_is (λ b. rest (map.get c.args.self.now b) (map.get c.args.other.now b))
     (c.unless_there.ensures ∙ ap₂ rest c.get.ensures c.get-2.ensures)
     (c.unless_there-2.ensures ∙ ap₂ rest c.get-3.ensures c.get-4.ensures)

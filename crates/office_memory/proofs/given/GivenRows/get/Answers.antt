@@ -1,7 +1,7 @@
 -- Why `given::GivenRows::get` meets its contract, where that has to be said.
 use Rattle.std.proofs.Common.{◌∙◌, ap, sym}
 use Rattle.std.specs.Prelude.{find}
-use Rattle.office_tables.specs.Tables.{is_given}
+use Rattle.office_tables.specs.Tables.{is_serial_of}
 use Rattle.office_memory.proofs.Records.{find_given, no_record, text_of}
 use Rattle.office_memory.proofs.given.GivenRows.get.Goals as goal
 
@@ -12,4 +12,4 @@ returns-in_err-serial c =
 
 pub returns : goal.returns
 returns c = rw (← c.self.view_is) (rw c.given_key.ensures at c.get.ensures ∙ find_given c.args.issuer.now c.in_ok-serial.serial c.self.inside.rows
-    ∙ ap (λ s. find (is_given c.args.issuer.now s) c.self.inside.rows) (text_of c.in_ok-serial.serial c.args.serial.now c.in_ok-serial.ensures))
+    ∙ ap (λ s. find (is_serial_of c.args.issuer.now s) c.self.inside.rows) (text_of c.in_ok-serial.serial c.args.serial.now c.in_ok-serial.ensures))

@@ -28,7 +28,7 @@ invariant_of-self-in-Err c =
     let rows = c.self.inside.rows in
     let free_id : find (has_id c.in-Some.id) rows ≡ None = rw (← c.self.view_is) at c.in-Some.ensures in
     rw (
-      c.remove.ensures.others,
+      c.remove.ensures.other_rows,
       without_map c.in-Some.id c.insert.new.self,
       c.in_ok-insert.ensures.placed,
       without-placed_map (record { id = c.in-Some.id; body = c.args.body }) rows free_id,
@@ -54,7 +54,7 @@ returns-clause-err c =
           rw (
             w.result-is,
             w.self-is,
-            w.remove.ensures.others,
+            w.remove.ensures.other_rows,
             without_map c.in-Some.id c.insert.new.self,
             c.in_ok-insert.ensures.placed,
             without-placed_map (record { id = c.in-Some.id; body = c.args.body }) rows free_id,

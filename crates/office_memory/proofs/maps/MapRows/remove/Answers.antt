@@ -9,11 +9,11 @@ use Rattle.office_memory.proofs.maps.MapRows.remove.Goals as goal
 pub invariant_of-self : goal.invariant_of-self
 invariant_of-self c =
     let rows = c.self.inside.rows in
-    rw (c.remove.ensures.others, without_map c.args.id rows)
+    rw (c.remove.ensures.other_rows, without_map c.args.id rows)
     (found-without rows c.self.inside.ids c.remove-in-Some.new.self c.self.invariant c.in-Some.map c.args.id
     (sym (find_map c.args.id rows) ∙ (sym c.remove.ensures.removed ∙ c.in-Some.is))
     (btree_map_updates_text c.in-Some.map.body c.self.inside.ids c.remove-in-Some.new.self None (rw c.as_str.ensures at c.remove-in-Some.ensures.updates)))
 
 pub invariant_of-self-in_default : goal.invariant_of-self-in_default
 invariant_of-self-in_default c =
-    rw c.remove.ensures.others (rw (without_none _ c.self.inside.rows (sym c.remove.ensures.removed ∙ c.in_default.is)) c.self.invariant)
+    rw c.remove.ensures.other_rows (rw (without_none _ c.self.inside.rows (sym c.remove.ensures.removed ∙ c.in_default.is)) c.self.invariant)

@@ -12,8 +12,8 @@ returns-in_err-stored-clause-replaced g c =
     rw (c.from_residual.ensures, ← c.self.view_is) (free ∙ find-values g.R.Key.Ord.cmp g.met.R.Key.Ord.total g.R.Row.key_of
     (g.R.Row.key_of c.args.row) c.self.inside.rows.entries c.self.invariant)
 
-pub returns-in_err-stored-clause-others : goal.returns-in_err-stored-clause-others
-returns-in_err-stored-clause-others g c =
+pub returns-in_err-stored-clause-other_rows : goal.returns-in_err-stored-clause-other_rows
+returns-in_err-stored-clause-other_rows g c =
     let free : lookup (is_at (g.R.Key.Ord.cmp (g.R.Row.key_of c.args.row))) c.self.inside.rows.entries ≡ None =
     rw (← c.key.ensures) (sym c.in_err-stored.ensures.value) in
     rw (c.get_mut.follows.holds-at-none, ← c.self.view_is) (sym
@@ -45,8 +45,8 @@ returns-clause-placed g c =
     )
     (placed-values g.R.Key.Ord.cmp g.met.R.Key.Ord.total g.R.Row.key_of c.args.row c.self.inside.rows.entries c.self.invariant)
 
-pub returns-clause-others : goal.returns-clause-others
-returns-clause-others g c =
+pub returns-clause-other_rows : goal.returns-clause-other_rows
+returns-clause-other_rows g c =
     rw ((c.get_mut.follows.holds c.replace.new.dest).0, c.replace.ensures.after, c.key.ensures, ← c.self.view_is)
     (with_other-values g.R.Key.Ord.cmp g.met.R.Key.Ord.total g.R.Row.key_of _ c.args.row c.self.inside.rows.entries c.self.invariant)
 

@@ -7,4 +7,8 @@ returns-clause-taken c = λ was right. numbers_taken c.args.customer.now was c.a
 
 pub returns-clause-left : goal.returns-clause-left
 returns-clause-left c = λ was count right agree.
-    counted_put c.args.customer.now was c.args.self.now right count agree (record { customers = c.remove.new.self }) None (λ places e. absurd (let none = e in cc)) c.remove.ensures.updates.0
+    counted_put c.args.customer.now was c.args.self.now right count agree (record {
+      customers =
+          c.remove.new.self;
+    }) None (λ places e. absurd (let none =
+    e in cc)) c.remove.ensures.updates.0

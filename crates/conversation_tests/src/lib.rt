@@ -1,0 +1,24 @@
+//! Tests of the server by conversations, over both keepers: each request gets its reply, whatever
+//! other customers ask, in streams and in lists.
+#![tactic(auto)]
+
+#[cfg(test)]
+mod chips;
+#[cfg(test)]
+mod conversations;
+#[cfg(test)]
+mod counting;
+#[cfg(test)]
+mod digests;
+#[cfg(test)]
+mod growths;
+#[cfg(test)]
+mod isolation;
+#[cfg(test)]
+mod parts;
+#[cfg(test)]
+mod seats;
+#[cfg(test)]
+mod visits;
+#[cfg(test)]
+mod want;

@@ -1,0 +1,145 @@
+//! Which requests walk over rows: a conversation in parts, each with the visits that were made up to
+//! its end. What a part doesn't visit it reads by keys.
+use crate::counting::CountingKeep;
+use office_core::{Keep, Sink};
+use std::alloc::Global;
+use std::test::Fail;
+use test_exchanges::conversation::{difference_over, first_difference};
+use test_texts::conversations::{exchanges, is_unanswered};
+use text_core::{Chip, Name};
+
+/// The parts, each under its name.
+const VISITS: &[(&str, &str, u64)] = &[
+    (
+        "an order walks over orders, and a map over links",
+        BEGINNING,
+        2,
+    ),
+    ("devices are found by their chips", BY_KEYS, 2),
+    ("a ledger is walked over", LEDGER, 3),
+];
+
+/// An order, which is compared with the customer's other orders, and a map, which is counted among
+/// its maps.
+const BEGINNING: &str = r#"
+@ map
+"#;
+
+/// A device until it is shipped, another until it is scrapped, a repeat and what is shown then.
+const BY_KEYS: &str = r#"
+a1 POST /v1/device {"nr":3,"chip":"00000000000a","order":"o1","map":"$DIGEST","blocks":<>}
+200 {"bits":[],"chip":"00000000000a","keys":{},"map":"$DIGEST","order":"o1",
+  "pending":{"batch1":$NONE,"batch2":$NONE},"reason":null,"serial":null,"state":"registered"}
+a1 POST /v1/plan {"nr":4,"chip":"00000000000a","wishes":[{"kind":"bit","field":"JTAG_DISABLE","index":0}]}
+200 {"batch1":{"bits":[{"block":0,"mask":"00000040","word":6}],"keys":{}},"batch2":$NONE,
+  "state":"awaiting1"}
+a1 POST /v1/readback {"nr":5,"chip":"00000000000a","blocks":<0.6=00000040>}
+200 {"outcome":"match","rest":$NONE,"state":"settled"}
+# a repeat
+a1 POST /v1/readback {"nr":5,"chip":"00000000000a","blocks":<0.6=00000040>}
+200 {"outcome":"match","rest":$NONE,"state":"settled"}
+a1 POST /v1/identity {"nr":6,"chip":"00000000000a","public_key":"616263"}
+200 {"chip":"00000000000a","issuer":"acme-ca",
+  "key_sha256":"ba7816bf8f01cfea414140de5dae2223b00361a396177a9cb410ff61f20015ad","mac":null,
+  "not_after":"99991231235959Z","not_before":null,"serial":"A998"}
+a1 POST /v1/ship {"nr":7,"chip":"00000000000a"}
+200 {"chip":"00000000000a","state":"shipped"}
+a1 POST /v1/device {"nr":8,"chip":"00000000000b","order":"o1","map":"$DIGEST","blocks":<>}
+200 {"bits":[],"chip":"00000000000b","keys":{},"map":"$DIGEST","order":"o1",
+  "pending":{"batch1":$NONE,"batch2":$NONE},"reason":null,"serial":null,"state":"registered"}
+a1 POST /v1/scrap {"nr":9,"chip":"00000000000b"}
+200 {"chip":"00000000000b","state":"scrapped"}
+a1 GET /v1/device?chip=00000000000a
+200 {"bits":[{"block":0,"mask":"00000040","word":6}],"chip":"00000000000a","keys":{},
+  "map":"$DIGEST","order":"o1","pending":{"batch1":$NONE,"batch2":$NONE},"reason":null,
+  "serial":"A998","state":"shipped"}
+a1 GET /v1/order?name=o1
+200 {"first":998,"issuer":"acme-ca","mac":null,"macs":0,"name":"o1","next":"A999","not_before":null,
+  "prefix":"A","quantity":2,"width":3}
+"#;
+
+/// The entries of a device.
+const LEDGER: &str = r#"
+a1 GET /v1/ledger?chip=00000000000b
+200 {"chip":"00000000000b","entries":[
+  {"bits":[],"event":"registered","keys":{},"n":1,"note":"","seat":"a1"},
+  {"bits":[],"event":"scrapped","keys":{},"n":2,"note":"","seat":"a1"}]}
+"#;
+
+/// Holds a conversation in which an allocation may be refused: the first request that is answered
+/// with 503, or by the stream's end, though something was committed, or that doesn't get its reply
+/// when it is sent again.
+fn first_unanswered_commit(
+    alloc: Global,
+    keep: &mut CountingKeep,
+    conversation: &str,
+) -> Result<String, Fail> {
+    for exchange in exchanges(alloc, conversation)? {
+        let commits = keep.commits();
+        let mut found = difference_over(alloc, keep, exchange)?;
+        if is_unanswered(found.as_str()) && keep.commits() == commits {
+            found = difference_over(alloc, keep, exchange)?;
+        }
+        if !found.is_empty() {
+            return Ok(found);
+        }
+    }
+    Ok(String::new(alloc))
+}
+
+/// Wants any row, and does nothing with it.
+#[derive(Drop)]
+struct Nothing;
+
+impl<R> Sink<R> for Nothing {
+    ghost takes = { λ _ _ _ _. Unit {0} };
+
+    fn take(&mut self, _row: &R) -> bool {
+        true
+    }
+}
+
+/// How many visits are counted after one of each of the five kinds.
+fn visits_of_each_kind(alloc: Global) -> Result<u64, Fail> {
+    let mut keep = CountingKeep::new(alloc);
+    let name = Name::parse("acme").ok_or("no name")?;
+    let chip = Chip::parse("00000000000a").ok_or("no chip")?;
+    keep.visit_orders(&name, &mut Nothing)?;
+    keep.visit_links(&name, &mut Nothing)?;
+    keep.visit_devices(&name, &mut Nothing)?;
+    keep.visit_given(&name, &mut Nothing)?;
+    keep.visit_ledger(&name, &chip, &mut Nothing)?;
+    Ok(keep.visits())
+}
+
+/// One request after another over one keeper: an order, a map and a ledger are walked for, and nothing
+/// else is.
+#[test]
+fn only_orders_maps_and_ledgers_are_walked_for(rt: HostRuntime) -> Result<(), Fail> {
+    let mut keep = CountingKeep::new(rt.alloc());
+    for row in VISITS {
+        let found = first_difference(rt.alloc(), &mut keep, row.1)?;
+        assert_eq!(rt; found.as_str(), "", "{}", row.0);
+        assert_eq!(rt; keep.visits(), row.2, "{}", row.0);
+    }
+    Ok(())
+}
+
+#[test]
+fn each_kind_of_visit_counts(rt: HostRuntime) -> Result<(), Fail> {
+    assert_eq!(rt; visits_of_each_kind(rt.alloc())?, 5);
+    Ok(())
+}
+
+/// By hand, `rt try --test --fail-alloc N`: it holds where the server is refused an allocation.
+/// None is asked for between a commit and its reply, so a request that is answered 503 has
+/// committed nothing.
+#[test]
+fn what_is_committed_is_answered(rt: HostRuntime) -> Result<(), Fail> {
+    let mut keep = CountingKeep::new(rt.alloc());
+    for row in VISITS {
+        let found = first_unanswered_commit(rt.alloc(), &mut keep, row.1)?;
+        assert_eq!(rt; found.as_str(), "", "{}", row.0);
+    }
+    Ok(())
+}

@@ -1,0 +1,270 @@
+//! Stores in files that are in memory, and what a stop leaves of them.
+ghost use Rattle.std.specs.Prelude.{IsTrue, IfOk};
+
+use office_core::Keep;
+use office_store::{Handed, OpenFault, SqlKeep, adopt};
+use site_core::read_site_text;
+use sqlite::{Alter, Connection, FileStore, Files, Options};
+use sqlite_disk::{Crash, Disk, Fuse, Memory};
+use std::alloc::Global;
+use std::test::Fail;
+use test_exchanges::conversation::difference_over;
+use test_exchanges::stores::telling;
+use test_texts::conversations::plans::PLANS;
+use test_texts::conversations::{Exchange, exchanges};
+use test_texts::samples::SITE;
+
+/// The keeper over a database in files in memory.
+pub type SqlFiles = SqlKeep<FileStore<Fuse<Memory>>>;
+
+/// When a store is stopped: how many calls its file and its log answer before they fail each further
+/// one, and whether what wasn't synced is lost then, as where the power fails.
+#[derive(Clone, Copy)]
+pub struct Stop {
+    pub file_calls: u64,
+    pub log_calls: u64,
+    pub loses_unsynced: bool,
+}
+
+/// No stop.
+pub const NO_STOP: Stop = Stop {
+    file_calls: u64::MAX,
+    log_calls: u64::MAX,
+    loses_unsynced: false,
+};
+
+/// The bytes of a store: those of its file and those of its log.
+#[derive(Drop)]
+pub struct Store {
+    pub file: Vec<u8>,
+    pub log: Vec<u8>,
+}
+
+impl Store {
+    /// The bytes of a store that isn't made yet.
+    pub fn new(alloc: Global) -> Store {
+        Store {
+            file: Vec::new(alloc),
+            log: Vec::new(alloc),
+        }
+    }
+
+    /// The bytes of files, or none where there is no memory.
+    fn of(alloc: Global, files: &Files<Fuse<Memory>>) -> Option<Store> {
+        Some(Store {
+            file: files.db.inner().bytes().to_vec(alloc).ok()?,
+            log: files.log.inner().bytes().to_vec(alloc).ok()?,
+        })
+    }
+
+    /// The bytes that a stop leaves of files, or none where there is no memory.
+    fn left_of(
+        alloc: Global,
+        mut files: Files<Fuse<Memory>>,
+        loses_unsynced: bool,
+    ) -> Option<Store> {
+        if loses_unsynced {
+            files.db.crash();
+            files.log.crash();
+        }
+        Store::of(alloc, &files)
+    }
+}
+
+/// A file in memory that has these bytes, and answers so many calls.
+fn file_of(alloc: Global, bytes: &[u8], calls: u64) -> Result<Fuse<Memory>, Fail>
+    ensures { IfOk result (λ file. IsTrue (⟦<Fuse<Memory> as Disk>⟧.is_usable file)) }
+{
+    let mut memory = Memory::new(alloc);
+    memory.write_at(0, bytes)?;
+    memory.sync()?;
+    let file = Fuse::new(memory, calls);
+    if !file.may_be_used() {
+        return Err(Fail::from("a file that can't be used"));
+    }
+    Ok(file)
+}
+
+/// A store that isn't opened: the number of the fault, and what is left.
+#[derive(Drop)]
+pub struct Unopened {
+    pub fault: u8,
+    pub left: Store,
+}
+
+/// A keeper over the files of a store. It has no drop, so that nothing proves again how each part of a
+/// database in files is dropped.
+pub trait InFiles: Keep {
+    /// The keeper over files of these bytes for the site of a text, with a stop to come, or the fault
+    /// and what the opening left.
+    fn opened(
+        alloc: Global,
+        store: &Store,
+        site: &str,
+        stop: Stop,
+    ) -> Result<Result<Self, Unopened>, Fail>;
+
+    /// The number that a query tells of files of these bytes once they are changed by SQL, and the bytes
+    /// that they leave where they are closed. Nothing else opens them.
+    fn changed(
+        alloc: Global,
+        store: &Store,
+        change: &str,
+        query: &str,
+    ) -> Result<(i64, Store), Fail>;
+
+    /// The bytes that it leaves where it is closed, or none where that fails.
+    fn closed(self, alloc: Global) -> Option<Store>;
+
+    /// The bytes that it leaves where it is stopped, all that was written or what was synced alone.
+    fn stopped(self, alloc: Global, loses_unsynced: bool) -> Option<Store>;
+}
+
+/// The number that a query tells of a database once it is changed by SQL.
+fn number_after<S: Alter>(
+    conn: &mut Connection<S>,
+    change: &str,
+    query: &str,
+) -> Result<i64, Fail> {
+    conn.execute_batch(change)?;
+    Ok(conn.query_row(query, &[])?.get(0)?)
+}
+
+/// What is left of a store to which no keeper is had.
+fn handed_back(
+    alloc: Global,
+    handed: Handed<FileStore<Fuse<Memory>>>,
+    loses_unsynced: bool,
+) -> Option<Store> {
+    let store = match handed {
+        Handed::Connection(conn) => conn.into_store(),
+        Handed::Store(store) => store,
+    };
+    Store::left_of(alloc, store.close(), loses_unsynced)
+}
+
+impl InFiles for SqlFiles {
+    fn opened(
+        alloc: Global,
+        store: &Store,
+        site: &str,
+        stop: Stop,
+    ) -> Result<Result<SqlFiles, Unopened>, Fail> {
+        let site = read_site_text(alloc, site)?;
+        let files = Files {
+            log: file_of(alloc, store.log.as_slice(), stop.log_calls)?,
+            db: file_of(alloc, store.file.as_slice(), stop.file_calls)?,
+        };
+        let (fault, left) = match Connection::open_files(alloc, files, Options::new(7)) {
+            Ok(conn) => match adopt(alloc, conn, &site) {
+                Ok(keep) => return Ok(Ok(keep)),
+                Err((fault, handed)) => (fault, handed_back(alloc, handed, stop.loses_unsynced)),
+            },
+            Err((_, left)) => (
+                OpenFault::Failed,
+                Store::left_of(alloc, left.into_files(), stop.loses_unsynced),
+            ),
+        };
+        Ok(Err(Unopened {
+            fault: fault.number(),
+            left: left.ok_or("no memory for what is left")?,
+        }))
+    }
+
+    fn changed(
+        alloc: Global,
+        store: &Store,
+        change: &str,
+        query: &str,
+    ) -> Result<(i64, Store), Fail> {
+        let files = Files {
+            log: file_of(alloc, store.log.as_slice(), NO_STOP.log_calls)?,
+            db: file_of(alloc, store.file.as_slice(), NO_STOP.file_calls)?,
+        };
+        let Ok(mut conn) = Connection::open_files(alloc, files, Options::new(7)) else {
+            return Err(Fail::from("the files aren't opened"));
+        };
+        let number = number_after(&mut conn, change, query);
+        let left = match conn.close_files() {
+            Ok(files) => Store::of(alloc, &files),
+            Err((_, store)) => Store::of(alloc, &store.close()),
+        };
+        Ok((number?, left.ok_or("no memory for what is left")?))
+    }
+
+    fn closed(self, alloc: Global) -> Option<Store> {
+        match self.into_connection().close_files() {
+            Ok(files) => Store::of(alloc, &files),
+            Err((_, store)) => {
+                drop(store.close());
+                None
+            }
+        }
+    }
+
+    fn stopped(self, alloc: Global, loses_unsynced: bool) -> Option<Store> {
+        let files = self.into_connection().into_store().close();
+        Store::left_of(alloc, files, loses_unsynced)
+    }
+}
+
+/// Whether a store in files tells of a text.
+pub fn is_told<K: InFiles>(alloc: Global, store: &Store, text: &str) -> Result<bool, Fail> {
+    let query = telling(alloc, text)?;
+    let (count, _) = K::changed(alloc, store, "", query.as_str())?;
+    Ok(count == 1)
+}
+
+/// The keeper over files of these bytes for the site of a text, without a stop.
+pub fn opened_for<K: InFiles>(alloc: Global, store: &Store, site: &str) -> Result<K, Fail> {
+    match K::opened(alloc, store, site, NO_STOP)? {
+        Ok(keep) => Ok(keep),
+        Err(_) => Err(Fail::from("the store isn't opened")),
+    }
+}
+
+/// The same for the sample site.
+pub fn opened_whole<K: InFiles>(alloc: Global, store: &Store) -> Result<K, Fail> {
+    opened_for(alloc, store, SITE)
+}
+
+/// What a request gets over a store where it isn't the reply that it must get, and the bytes that are
+/// left.
+fn difference_in_files<K: InFiles>(
+    alloc: Global,
+    store: &Store,
+    exchange: Exchange<'_>,
+) -> Result<(String, Store), Fail> {
+    let mut keep: K = opened_whole(alloc, store)?;
+    let found = difference_over(alloc, &mut keep, exchange);
+    let left = keep.closed(alloc);
+    Ok((found?, left.ok_or("the store isn't closed")?))
+}
+
+/// Holds a conversation over a store that is closed after each request and opened for the next one:
+/// the first request that doesn't get its reply, and what it got.
+fn first_difference_opened_anew<K: InFiles>(
+    alloc: Global,
+    conversation: &str,
+) -> Result<String, Fail> {
+    let mut store = Store::new(alloc);
+    for exchange in exchanges(alloc, conversation)? {
+        let (found, left) = difference_in_files::<K>(alloc, &store, exchange)?;
+        if !found.is_empty() {
+            return Ok(found);
+        }
+        store = left;
+    }
+    Ok(String::new(alloc))
+}
+
+/// The conversations about plans, over a store whose files are closed after each request and opened
+/// again.
+#[test]
+fn stores_are_opened_anew_between_requests(rt: HostRuntime) -> Result<(), Fail> {
+    for row in PLANS {
+        let found = first_difference_opened_anew::<SqlFiles>(rt.alloc(), row.1)?;
+        assert_eq!(rt; found.as_str(), "", "{}", row.0);
+    }
+    Ok(())
+}

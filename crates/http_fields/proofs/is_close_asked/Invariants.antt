@@ -1,7 +1,0 @@
--- What the loops of `is_close_asked` keep.
-use Rattle.std.proofs.Common.{◌≡◌, take, false}
-use Rattle.http_fields.specs.Fields.{asks_close, headers_at}
-use Rattle.http_fields.proofs.is_close_asked.Given as goal
-
-abbrev pub invariant-loop-span : goal.invariant-loop-span
-invariant-loop-span l = asks_close (headers_at l.buf (take l.span-index l.spans)) ≡ false

@@ -1,0 +1,23 @@
+-- Why `office::change_by_retry` meets its contract, where that has to be said.
+use Rattle.std.proofs.Common.{◌∙◌, sym, rules}
+use Rattle.office_core.proofs.CarriedOut.{carried_out}
+use Rattle.office_core.proofs.office.change_by_retry.Goals as goal
+
+pub returns-in-Next : goal.returns-in-Next
+returns-in-Next g c = record {
+  was_open = search rules;
+  was_honest = search rules;
+  stays_open = search rules;
+  change = λ is.
+      let first = c.make.ensures.was_open is in
+      let same = c.find_retry.ensures.read_only.same first in
+      let next = sym (c.in_ok-body.ensures.answer first) ∙ c.in-Next.is in
+      rw (next, ← same) (c.make.ensures.change is);
+  crash = λ honest t left.
+      let reads = c.find_retry.ensures.read_only in
+      carried_out (c.make.ensures.crash honest t left)
+      (reads.crash (c.make.ensures.was_honest honest) t)
+      (λ made.
+      let next = sym (c.in_ok-body.ensures.answer made.0) ∙ c.in-Next.is in
+      (reads.was_open made.0, made.1, rw (next, ← reads.same made.0) made.2));
+}

@@ -1,0 +1,382 @@
+-- How a connection is settled: its tables are made, upgraded or found, or it is refused.
+use Rattle.std.proofs.Common.{◌≡◌, ◌≢◌, ◌↔◌, inl, inr, ℕ, Bool, false, List, [], map, None, Result, Ok, Err, OnOk, IfErr, IsTrue, refl, sym, ap, subst, ◌∙◌}
+use Rattle.sha2.specs.Sha256.{sha256}
+use Rattle.site_core.specs.Section.{SiteValue}
+use Rattle.site_core.specs.SiteText.{TextOfSite}
+use Rattle.sqlite.specs.Effect.{Database}
+use Rattle.sqlite.specs.Held.{Held, state}
+use Rattle.sqlite.specs.State.{State, HasCleanDisk, IsUnchanged, KeepsCommit, Survives}
+use Rattle.sqlite.specs.Store.{Ghosts}
+use Rattle.sqlite.specs.Tree.{Trees}
+use Rattle.sqlite.proofs.StateLemmas.{survives_then, survives_weaker}
+use Rattle.sqlite_keyed.specs.Lists.{sort_by}
+use Rattle.sqlite_trees.proofs.ListLemmas.{all_of, all-map}
+use Rattle.office_tables.specs.Tables.{order_cmp, given_cmp}
+use Rattle.office_sql.specs.Change.{IsUndone}
+use Rattle.office_sql.specs.Rows.{order_in_row, given_in_row, start_in_rows, starts_order, starts_given, with_order_start, with_given_start}
+use Rattle.office_sql.specs.Schema.{no_schema}
+use Rattle.office_sql.specs.Tables.{IsOffice, office_over, tables_in}
+use Rattle.office_store.specs.declared.fault.OpenFault.{OpenFault}
+use Rattle.office_store.specs.declared.fault.OpenFault.TheVariants.{Failed}
+use Rattle.office_store.specs.declared.version.Version.{Version}
+use Rattle.office_store.specs.declared.version.Version.TheVariants.{First, Second, Third}
+use Rattle.office_store.specs.Adopting.{AreUnstarted, CanPrepareTables, CanTake, Examines, IsFoundAt, IsGrowable, IsOtherSchema, IsRefusedFor}
+use Rattle.office_store.specs.Adopting.{IsPreparedFor, LeavesAtMost, PreparesTables, StaysUnstarted, TakesGrowth, TakesOwn}
+use Rattle.office_store.specs.Found.{HasStarts, IsFound, Tests}
+use Rattle.office_store.specs.Growing.{HasGrown, IsGrown}
+use Rattle.office_store.specs.Meta.{HasNothing, HoldsSite, IsBegun, IsCreated, HasMeta}
+use Rattle.office_store.specs.Texts.{HoldsText, IsGrownFrom}
+use Rattle.office_store.specs.Upgrading.{IsUpgrade, IsUpgraded}
+use Rattle.office_sql.proofs.Asked.{was_clean}
+use Rattle.office_store.proofs.Telling.{not_silent, not_third, site_once, told_once}
+use Rattle.office_store.proofs.TextShows.{one_text}
+use Rattle.sqlite.specs.declared.error.Error.{Error}
+use Rattle.office_tables.specs.Tables.{Tables}
+
+-- a failure is no fault of a site or of tables, and comes with the schema that was there
+failed : (site : TextOfSite) (s : State) → (IsTrue s.is_open → ¬ IsOtherSchema s.now.schema) → IsRefusedFor site s Failed
+failed site s has = record {
+  other_site = λ clean told. absurd (let e = told in cc);
+  other_tables = λ clean told. absurd (let e = told in cc);
+  other_schema = λ up other. absurd (has up other);
+}
+
+undone_keeps : (old new : State) → IsUndone old new → KeepsCommit old new
+undone_keeps old new undone = record { was_open = undone.was_open; committed = undone.committed }
+
+-- with no starts no beginning of validity is told
+pub unstarted : (db : Trees) → (db 17 ≡ []) × (db 19 ≡ []) → AreUnstarted (tables_in db)
+unstarted db none = (
+  all-map (λ o. o.row.not_before ≡ None) (with_order_start (db 17)) (sort_by order_cmp (map order_in_row (db 7)))
+      (all_of (λ o. start_in_rows starts_order (db 17) o
+      ≡ None) (λ o.
+      ap (λ l. start_in_rows starts_order l o) none.0)
+      (sort_by order_cmp (map order_in_row (db 7)))),
+  all-map (λ o. o.row.not_before ≡ None) (with_given_start (db 19)) (sort_by given_cmp (map given_in_row (db 11)))
+      (all_of (λ o. start_in_rows starts_given (db 19) o
+      ≡ None) (λ o.
+      ap (λ l. start_in_rows starts_given l o) none.1)
+      (sort_by given_cmp (map given_in_row (db 11)))),
+)
+
+-- a refusal, whatever its fault
+pub unprepared : {S : Type 0} (g : Ghosts S) (site : TextOfSite) (old new : Held S)
+    (fault : OpenFault) → new.in_transaction ≡ false → IsRefusedFor site (state g new) fault
+    → (HasCleanDisk (state g new) → KeepsCommit (state g old) (state g new))
+    → Survives (state g old) (state g new) (IsPreparedFor site (state g old))
+    → PreparesTables g site old new (Err fault)
+unprepared g site old new fault mode refused unchanged crash = record {
+  mode = mode;
+  ready = λ clean. tt;
+  tells = λ clean. tt;
+  grown = λ clean. tt;
+  own = λ clean. tt;
+  kept = λ clean. tt;
+  unstarted = λ clean. tt;
+  refused = refused;
+  unchanged = unchanged;
+  crash = crash;
+}
+
+-- a database of the third version in which no beginning of validity lacks is the office's
+pub office_of : (db : Database) → IsFound Third db → HasStarts db.trees → IsOffice db
+office_of db found has =
+    let started = found.starts has in
+    record { schema = found.schema; sound = found.sound; rows = found.rows; orders_started = started.orders; given_started = started.given }
+
+-- a store that tells of a text takes a growth of its site alone
+takes : (site : SiteValue) (db : Trees) → CanTake site db → TakesGrowth site db
+takes site db can older tells = subst (λ t. IsGrownFrom t site) (one_text can.0 older db can.1.holds tells.holds) can.2
+
+-- a store of the third version tells no earlier one
+never_earlier : (own text : List ℕ) (db : Trees) → HoldsSite text db → TakesOwn own db
+never_earlier own text db tells version other earlier told = absurd (not_third version other (sha256 text) db earlier told tells.named)
+
+-- so no beginning of validity can be there that the first has not
+never_first : (text : List ℕ) (db : Trees) (t : Tables) → HoldsSite text db → StaysUnstarted db t
+never_first text db t tells site told = absurd (not_third First site (sha256 text) db (λ e. cc) told tells.named)
+
+-- what making tables may leave: the tables of a store that had none
+leaves_made : (site : TextOfSite) (old new : State) → CanPrepareTables old → old.now.schema ≡ no_schema
+    → Survives old new (λ trees. IsTrue old.is_open × IsBegun site.text (office_over trees))
+    → Survives old new (IsPreparedFor site old)
+leaves_made site old new can bare survives = survives_weaker _ _ _ _ (λ clean db begun.
+    let calm = was_clean _ _ _ survives clean in
+    inl (sym (ap (λ (d : Database). tables_in d.trees) (can.shows_committed calm)) ∙ (can.bare calm bare).tables, begun.1)) survives
+
+-- what an upgrade may leave: the tables of the store, upgraded
+leaves_upgraded : (site : TextOfSite) (version : Version) (old new : State) → version ≢ Third
+    → IsFoundAt version old → (HasCleanDisk old → HasMeta version (sha256 site.text) old.now.trees)
+    → Survives old new (λ trees. IsTrue old.is_open × IsUpgrade version site.text old.now.trees (office_over trees))
+    → Survives old new (IsPreparedFor site old)
+leaves_upgraded site version old new earlier found told survives = survives_weaker _ _ _ _ (λ clean db made.
+    let calm = was_clean _ _ _ survives clean in
+    let same = ap (λ (d : Database). d.trees) (found.shows_committed calm) in
+    inr (inl (
+      version,
+      earlier,
+      subst (HasMeta version (sha256 site.text))
+          same (told calm),
+      subst (λ t.
+          IsUpgrade version site.text t (office_over db)) same made.1,
+    ))) survives
+
+-- what a growth may leave: the tables of the store, with the new text
+leaves_grown : (site : TextOfSite) (old new : State) → IsFoundAt Third old → (HasCleanDisk old → IsGrowable site.site old.now)
+    → Survives old new (λ trees. IsTrue old.is_open × IsGrown site.text old.now.trees (office_over trees))
+    → Survives old new (IsPreparedFor site old)
+leaves_grown site old new found can survives = survives_weaker _ _ _ _ (λ clean db made.
+    let calm = was_clean _ _ _ survives clean in
+    let same = ap (λ (d : Database). d.trees) (found.shows_committed calm) in
+    inr (inr (subst (CanTake site.site) same (can calm).1, subst (λ t. IsGrown site.text t (office_over db)) same made.1))) survives
+
+-- no beginning of validity is told in a store of the first version
+starts_of : (version : Version) (site : List ℕ) (db : Database) → IsFound version db
+    → version ≢ Third → HasMeta version site db.trees → StaysUnstarted db.trees (tables_in db.trees)
+starts_of First site db found earlier told other is = unstarted db.trees found.starts
+starts_of Second site db found earlier told other is = let e : ◌≡◌ {A = ℕ} 1 2 = told_once First Second other site db.trees is told in absurd (cc)
+starts_of Third site db found earlier told other is = absurd (earlier refl)
+
+module _ {S : Type 0} (g : Ghosts S) (site : TextOfSite) (old new : Held S) (calm : IsTrue (state g new).is_open → HasCleanDisk (state g new)) where
+  module _ (can : CanPrepareTables (state g old)) (bare : (state g old).now.schema ≡ no_schema) (mode : new.in_transaction ≡ false)
+      (survives : Survives (state g old) (state g new) (λ trees. IsTrue (state g old).is_open × IsBegun site.text (office_over trees))) where
+    nothing : HasCleanDisk (state g new) → HasNothing (state g old).now.trees
+    nothing clean = can.bare (was_clean _ _ _ survives clean) bare
+
+    -- the tables were made
+    pub made : (HasCleanDisk (state g new) → IsCreated site.text (state g old) (state g new)) → PreparesTables g site old new (Ok tt)
+    made created = record {
+      mode = mode;
+      ready = λ clean. (
+        (created clean).is_open,
+        record {
+          mode = mode;
+          office = λ up.
+              (created clean).begun.office;
+          shows_committed = λ up. sym (created clean).committed;
+        },
+      );
+      tells = λ clean. (created clean).begun.fresh.tells;
+      grown = λ clean older tells. absurd (not_silent Third (sha256 older) (state g old).now.trees (nothing clean).silent tells.named);
+      own = λ clean version other earlier told. absurd (not_silent version other (state g old).now.trees (nothing clean).silent told);
+      kept = λ clean. (created clean).begun.fresh.tables ∙ sym (nothing clean).tables;
+      unstarted = λ clean other told. subst AreUnstarted (sym (created clean).begun.fresh.tables) (tt, tt);
+      refused = tt;
+      unchanged = λ clean. tt;
+      crash = leaves_made site (state g old) (state g new) can bare survives;
+    }
+
+    -- the tables weren't made
+    pub unmade : (HasCleanDisk (state g new) → IsUndone (state g old) (state g new)) → PreparesTables g site old new (Err Failed)
+    unmade undone = unprepared g site old new Failed mode
+        (failed site (state g new) (λ up other.
+        let clean = calm up in
+        other.0 (ap (λ (d : Database). d.schema) ((undone clean).now up ∙ sym (can.shows_committed (was_clean _ _ _ survives clean))) ∙ bare)))
+        (λ clean. undone_keeps (state g old) (state g new) (undone clean)) (leaves_made site (state g old) (state g new) can bare survives)
+
+  -- a store that was found, and what became of it was undone
+  undone_failed : (version : Version) → IsFoundAt version (state g old)
+      → (HasCleanDisk (state g new) → HasCleanDisk (state g old))
+      → (HasCleanDisk (state g new) → IsUndone (state g old) (state g new))
+      → IsRefusedFor site (state g new) Failed
+  undone_failed version found before undone = failed site (state g new) (λ up other.
+      let clean = calm up in
+      other.1 version (ap (λ (d : Database). d.schema) ((undone clean).now up
+      ∙ sym (found.shows_committed (before clean))) ∙ (found.found (before clean)).schema))
+
+  module _ (version : Version) (earlier : version ≢ Third) (found : IsFoundAt version (state g old))
+      (told : HasCleanDisk (state g old) → HasMeta version (sha256 site.text) (state g old).now.trees) (mode : new.in_transaction ≡ false)
+      (survives : Survives (state g old) (state g new) (λ trees. IsTrue (state g old).is_open
+      × IsUpgrade version site.text (state g old).now.trees (office_over trees))) where
+    before_upgrade : HasCleanDisk (state g new) → HasCleanDisk (state g old)
+    before_upgrade = was_clean (state g old) (state g new) _ survives
+
+    -- the store was upgraded
+    pub upgraded : (HasCleanDisk (state g new) → IsUpgraded version site.text (state g old) (state g new)) → PreparesTables g site old new (Ok tt)
+    upgraded it = record {
+      mode = mode;
+      ready = λ clean. ((it clean).is_open, record { mode = mode; office = λ up. (it clean).upgrade.office; shows_committed = λ up. sym (it clean).committed });
+      tells = λ clean. record { holds = (it clean).upgrade.holds; named = (it clean).upgrade.told (sha256 site.text) (told (before_upgrade clean)) };
+      grown = λ clean older tells.
+          absurd (not_third version (sha256 site.text) (sha256 older)
+          (state g old).now.trees earlier (told (before_upgrade clean)) tells.named);
+      own = λ clean version2 other earlier2 is. site_once version2 version other (sha256 site.text) (state g old).now.trees is (told (before_upgrade clean));
+      kept = λ clean. (it clean).upgrade.tables;
+      unstarted = λ clean other is. subst AreUnstarted (sym (it clean).upgrade.tables)
+          (starts_of version (sha256 site.text) (state g old).now (found.found (before_upgrade clean)) earlier (told (before_upgrade clean)) other is);
+      refused = tt;
+      unchanged = λ clean. tt;
+      crash = leaves_upgraded site version (state g old) (state g new) earlier found told survives;
+    }
+
+    -- the store wasn't upgraded
+    pub not_upgraded : (HasCleanDisk (state g new) → IsUndone (state g old) (state g new)) → PreparesTables g site old new (Err Failed)
+    not_upgraded undone = unprepared g site old new Failed mode (undone_failed version found before_upgrade undone)
+        (λ clean.
+        undone_keeps (state g old) (state g new) (undone clean))
+        (leaves_upgraded site version (state g old) (state g new) earlier found told survives)
+
+  module _ (found : IsFoundAt Third (state g old)) (can : HasCleanDisk (state g old)
+      → IsGrowable site.site (state g old).now) (mode : new.in_transaction ≡ false) where
+    module _ (survives : Survives (state g old) (state g new) (λ trees. IsTrue (state g old).is_open
+        × IsGrown site.text (state g old).now.trees (office_over trees))) where
+      before_growth : HasCleanDisk (state g new) → HasCleanDisk (state g old)
+      before_growth = was_clean (state g old) (state g new) _ survives
+
+      -- the text was put in the place of another
+      pub grew : (HasCleanDisk (state g new) → HasGrown site.text (state g old) (state g new)) → PreparesTables g site old new (Ok tt)
+      grew it = record {
+        mode = mode;
+        ready = λ clean. ((it clean).is_open, record { mode = mode; office = λ up. (it clean).grown.office; shows_committed = λ up. sym (it clean).committed });
+        tells = λ clean. (it clean).grown.tells;
+        grown = λ clean. takes site.site (state g old).now.trees (can (before_growth clean)).1;
+        own = λ clean. let take = (can (before_growth clean)).1 in never_earlier site.text take.0 (state g old).now.trees take.1;
+        kept = λ clean. (it clean).grown.tables;
+        unstarted = λ clean. let take = (can (before_growth clean)).1 in never_first take.0 (state g old).now.trees (tables_in (state g new).now.trees) take.1;
+        refused = tt;
+        unchanged = λ clean. tt;
+        crash = leaves_grown site (state g old) (state g new) found can survives;
+      }
+
+      -- it wasn't
+      pub not_grown : (HasCleanDisk (state g new) → IsUndone (state g old) (state g new)) → PreparesTables g site old new (Err Failed)
+      not_grown undone = unprepared g site old new Failed mode (undone_failed Third found before_growth undone)
+          (λ clean. undone_keeps (state g old) (state g new) (undone clean)) (leaves_grown site (state g old) (state g new) found can survives)
+
+    -- whether the text is there was asked
+    module _ (r : Result Bool Error) (tests : Tests g old new r (λ db same. IsTrue same ↔ HoldsText site.text db)) where
+      before_test : HasCleanDisk (state g new) → HasCleanDisk (state g old)
+      before_test = was_clean (state g old) (state g new) _ tests.crash
+
+    -- and it is
+    pub has_it : (answer : Bool) → IsTrue answer
+        → Tests {E = Error} g old new (Ok answer) (λ db same. IsTrue same ↔ HoldsText site.text db)
+        → PreparesTables g site old new (Ok tt)
+    has_it answer is tests =
+        let before = before_test (Ok answer) tests in
+        let take = λ (clean : HasCleanDisk (state g new)). (can (before clean)).1 in
+        let holds = λ (clean : HasCleanDisk (state g new)). (tests.answer clean).0 is in
+        record {
+          mode = mode;
+          ready = λ clean.
+              let same = (tests.same clean).0 in (
+                same.is_open,
+                record {
+                  mode = mode;
+                  office = λ up. subst IsOffice (sym same.now_is) (office_of (state g old).now (found.found (before clean)) (can (before clean)).0);
+                  shows_committed = λ up. same.now_is ∙ found.shows_committed (before clean) ∙ sym same.committed_is;
+                },
+              );
+          tells = λ clean. subst (λ (d : Database). HoldsSite site.text d.trees) (sym (tests.same clean).0.now_is)
+              (subst (λ t.
+              HoldsSite t (state g old).now.trees)
+              (one_text (take clean).0 site.text (state g old).now.trees (take clean).1.holds
+              (holds clean)) (take clean).1);
+          grown = λ clean. takes site.site (state g old).now.trees (take clean);
+          own = λ clean. never_earlier site.text (take clean).0 (state g old).now.trees (take clean).1;
+          kept = λ clean. ap (λ (d : Database). tables_in d.trees) (tests.same clean).0.now_is;
+          unstarted = λ clean. never_first (take clean).0 (state g old).now.trees (tables_in (state g new).now.trees) (take clean).1;
+          refused = tt;
+          unchanged = λ clean. tt;
+          crash = survives_weaker _ _ _ _ (λ clean db none. absurd none) tests.crash;
+        }
+
+    -- or it couldn't be
+    pub not_asked : (error : Error)
+        → Tests {A = Bool} g old new (Err error) (λ db same. IsTrue same ↔ HoldsText site.text db)
+        → PreparesTables g site old new (Err Failed)
+    not_asked error tests =
+        let before = before_test (Err error) tests in
+        unprepared g site old new Failed mode
+        (failed site (state g new) (λ up other.
+        let clean = calm up in
+        let was = elim ((tests.rests clean).now up) as (λ _. (state g new).now ≡ (state g old).now) [
+          | inl e ↦ e
+          | inr e ↦ e ∙ sym (found.shows_committed (before clean))
+        ] in
+        other.1 Third (ap (λ (d : Database). d.schema) was ∙ (found.found (before clean)).schema)))
+        (λ clean. record { was_open = (tests.rests clean).was_open; committed = (tests.rests clean).committed })
+        (survives_weaker _ _ _ _ (λ clean db none. absurd none) tests.crash)
+
+  -- a store that was tested is refused
+  pub refused : (fault : OpenFault) (Says : Database → Type 0) → Examines g site old new (Err fault) Says → PreparesTables g site old new (Err fault)
+  refused fault Says test = unprepared g site old new fault test.mode test.refused
+      (λ clean.
+      record {
+        was_open = (test.rests clean).was_open;
+        committed = (test.rests clean).committed;
+      }) (survives_weaker _ _ _ _ (λ clean db none. absurd none) test.crash)
+
+-- what is settled after a test is settled
+pub settles_after : {S : Type 0} (g : Ghosts S) (site : TextOfSite) (old mid new : Held S) (r : Result (Unit {0}) OpenFault) (Says : Database → Type 0)
+    → Examines g site old mid (Ok tt) Says → PreparesTables g site mid new r → PreparesTables g site old new r
+settles_after g site old mid new r Says test it = record {
+  mode = it.mode;
+  ready = it.ready;
+  tells = it.tells;
+  grown = λ clean. grown_too r (same clean) (it.grown clean);
+  own = λ clean. own_too r (same clean) (it.own clean);
+  kept = λ clean. kept r (same clean) (it.kept clean);
+  unstarted = λ clean. unstarted_too r (same clean) (it.unstarted clean);
+  refused = it.refused;
+  unchanged = λ clean. keeps r (test.same (calm clean)) (it.unchanged clean);
+  crash = survives_then (state g old) (state g mid) (state g new) _ _ (IsPreparedFor site (state g old)) (λ _ db none. absurd none)
+      (λ clean db whole.
+      subst (λ (d : Database).
+      IsPreparedFor site (record (state g old) { committed = d }) db)
+      (test.same (calm clean)).0.committed_is whole) test.crash it.crash;
+}
+  where
+    calm : HasCleanDisk (state g new) → HasCleanDisk (state g mid)
+    calm = was_clean (state g mid) (state g new) _ it.crash
+
+    same : HasCleanDisk (state g new) → (state g mid).now ≡ (state g old).now
+    same clean = (test.same (calm clean)).0.now_is
+
+    kept : (r : Result (Unit {0}) OpenFault) → (state g mid).now ≡ (state g old).now
+        → OnOk r (tables_in (state g new).now.trees ≡ tables_in (state g mid).now.trees)
+        → OnOk r (tables_in (state g new).now.trees ≡ tables_in (state g old).now.trees)
+    kept (Ok _) e h = h ∙ ap (λ (d : Database). tables_in d.trees) e
+    kept (Err _) e h = tt
+
+    unstarted_too : (r : Result (Unit {0}) OpenFault) → (state g mid).now ≡ (state g old).now
+        → OnOk r (StaysUnstarted (state g mid).now.trees (tables_in (state g new).now.trees))
+        → OnOk r (StaysUnstarted (state g old).now.trees (tables_in (state g new).now.trees))
+    unstarted_too (Ok _) e h = subst (λ (d : Database). StaysUnstarted d.trees (tables_in (state g new).now.trees)) e h
+    unstarted_too (Err _) e h = tt
+
+    grown_too : (r : Result (Unit {0}) OpenFault) → (state g mid).now ≡ (state g old).now
+        → OnOk r (TakesGrowth site.site (state g mid).now.trees)
+        → OnOk r (TakesGrowth site.site (state g old).now.trees)
+    grown_too (Ok _) e h = subst (λ (d : Database). TakesGrowth site.site d.trees) e h
+    grown_too (Err _) e h = tt
+
+    own_too : (r : Result (Unit {0}) OpenFault) → (state g mid).now ≡ (state g old).now
+        → OnOk r (TakesOwn site.text (state g mid).now.trees)
+        → OnOk r (TakesOwn site.text (state g old).now.trees)
+    own_too (Ok _) e h = subst (λ (d : Database). TakesOwn site.text d.trees) e h
+    own_too (Err _) e h = tt
+
+    keeps : (r : Result (Unit {0}) OpenFault) → IsUnchanged (state g old) (state g mid)
+        → IfErr r (λ _. KeepsCommit (state g mid) (state g new)) → IfErr r (λ _. KeepsCommit (state g old) (state g new))
+    keeps (Ok _) h k = tt
+    keeps (Err _) h k = record { was_open = λ up. h.0.was_open; committed = λ up. k.committed up ∙ h.0.committed_is }
+
+-- what may be left is told of what was committed alone
+prepared_for : (site : TextOfSite) (one other : State) (db : Trees)
+    → one.committed.trees ≡ other.committed.trees → IsPreparedFor site one db
+    → IsPreparedFor site other db
+prepared_for site one other db same it = subst (λ (t : Trees). IsPreparedFor site (record one { committed = office_over t }) db) same it
+
+-- what a crash leaves of a connection that was settled after its store was read anew
+pub left_anew : {S : Type 0} (g : Ghosts S) (site : TextOfSite) (first mid new : Held S)
+    → (HasCleanDisk (state g mid) → (state g mid).now ≡ (state g mid).committed)
+    → (HasCleanDisk (state g mid) → (state g mid).now.trees ≡ (state g first).committed.trees)
+    → (HasCleanDisk (state g mid) → (db : Trees) → (state g mid).may_leave db → (state g first).may_leave db)
+    → Survives (state g mid) (state g new) (IsPreparedFor site (state g mid)) → HasCleanDisk (state g new) → LeavesAtMost site (state g first) (state g new)
+left_anew g site first mid new shows_committed kept left survives clean db may =
+    let calm = was_clean (state g mid) (state g new) _ survives clean in
+    elim (survives.crash clean db may) [
+      | inl m ↦ inl (left calm db m)
+      | inr made ↦ inr (prepared_for site (state g mid) (state g first) db (sym (ap (λ (d : Database). d.trees) (shows_committed calm)) ∙ kept calm) made)
+    ]

@@ -1,0 +1,42 @@
+use Rattle.std.proofs.Common.{◌≡◌, ◌∙◌, ap, rules, subst, sym, IsTrue}
+use Rattle.sqlite.specs.Effect.{Database}
+use Rattle.sqlite.specs.State.{HasCleanDisk}
+use Rattle.sqlite.specs.Tree.{Trees}
+use Rattle.sqlite.specs.Held.{state}
+use Rattle.sqlite.proofs.StateLemmas.{clean_if_open}
+use Rattle.office_sql.specs.Keeping.{IsReady}
+use Rattle.office_store.specs.Meta.{HoldsSite}
+use Rattle.office_store.proofs.Answers.{ready_if_open}
+use Rattle.office_store.proofs.LeftOfSite.{left_of_site}
+use Rattle.office_store.proofs.opening.prepare_or_close.Goals as goal
+
+pub over-requires-clause-ready : goal.over-requires-clause-ready
+over-requires-clause-ready g c =
+    let conn = c.prepare_tables.new.conn in
+    ready_if_open (state g.S.Store conn) c.prepare_tables.ensures.mode (λ up.
+    let told = c.prepare_tables.ensures.ready (clean_if_open (g.S.Store.view conn.store) (g.met.S.Store.shut_if_dirty conn.store) up) in
+    let both : IsTrue (state g.S.Store conn).is_open × IsReady (state g.S.Store conn) = search rules in
+    both.1)
+
+pub over-requires-clause-left : goal.over-requires-clause-left
+over-requires-clause-left g c = λ clean.
+    let conn = c.prepare_tables.new.conn in
+    let site = c.args.site.now in
+    let told = c.prepare_tables.ensures.ready clean in
+    let shown = c.prepare_tables.ensures.tells clean in
+    let both : IsTrue (state g.S.Store conn).is_open × IsReady (state g.S.Store conn) = search rules in
+    let tells : HoldsSite site.text (state g.S.Store conn).now.trees = search rules in
+    left_of_site g.S.Store c.digest.result conn (λ db up may. g.met.S.Store.settled conn.store db up may) both.0 both.1
+    (record { text = site.text; tells = tells; named = sym c.digest.ensures.of_text })
+
+pub returns-in-Ok-clause-left : goal.returns-in-Ok-clause-left
+returns-in-Ok-clause-left g c = λ clean.
+    let conn = c.prepare_tables.new.conn in
+    let calm : HasCleanDisk (state g.S.Store conn) = subst (λ h. HasCleanDisk (state g.S.Store h)) c.over.ensures.conn clean in
+    let told = c.prepare_tables.ensures.ready calm in
+    let both : IsTrue (state g.S.Store conn).is_open × IsReady (state g.S.Store conn) = search rules in
+    subst (λ h. (db : Trees) → (state g.S.Store h).may_leave db → db ≡ (state g.S.Store h).now.trees) (sym c.over.ensures.conn)
+    (λ db may. g.met.S.Store.settled conn.store db both.0 may ∙ sym (ap (λ (d : Database). d.trees) (both.1.shows_committed both.0)))
+
+pub returns-in-Ok-clause-own : goal.returns-in-Ok-clause-own
+returns-in-Ok-clause-own g c = λ clean. c.in-Ok.ensures.own (subst (λ h. HasCleanDisk (state g.S.Store h)) c.over.ensures.conn clean)

@@ -1,0 +1,463 @@
+//! The program's command line, and its jobs over files, readers and writers.
+use crate::replays::make_folder;
+use crate::streams::ORDER;
+use station_jobs::{Job, WordsFault, read_job, run};
+use std::alloc::{AllocError, Global};
+use std::io::{Read, Write};
+use std::test::Fail;
+use std::{fs, io};
+use test_texts::samples::{MAP, SITE};
+use text_core::Text;
+
+/// Lines of words, and what becomes of each: the job and the names that it has, help, whose text says
+/// how the program is used, or a refusal, whose text names an error.
+const LINES: &[(&str, &str)] = &[
+    ("station replay --site site.toml", "replay site.toml"),
+    (
+        "station replay --site=../a/site.toml",
+        "replay ../a/site.toml",
+    ),
+    ("station replay --site=--site", "replay --site"),
+    ("station replay --site a --db x", "replay a x"),
+    ("station replay --db x --site a", "replay a x"),
+    ("station replay --site=a --db=../x/y", "replay a ../x/y"),
+    ("station replay --site a --db=--db", "replay a --db"),
+    (
+        "station serve --site a --db x --port 80 --connections 1",
+        "serve a x",
+    ),
+    (
+        "station serve --connections=1000000 --port=65535 --db=x --site=a",
+        "serve a x",
+    ),
+    ("station check-map map.toml", "check-map map.toml"),
+    ("station check-map ../a/map.toml", "check-map ../a/map.toml"),
+    ("station check-map -- --help", "check-map --help"),
+    ("station --help", "help"),
+    ("station replay --help", "help"),
+    ("station replay --site site.toml --help", "help"),
+    ("station replay --db x --help", "help"),
+    ("station serve --help", "help"),
+    ("station help serve", "help"),
+    ("station help", "help"),
+    ("station help replay", "help"),
+    ("station check-map --help", "help"),
+    ("station check-map map.toml -h", "help"),
+    ("station help check-map", "help"),
+    ("", "refused"),
+    ("station", "refused"),
+    ("replay --site site.toml", "refused"),
+    ("station frobnicate", "refused"),
+    ("station help frobnicate", "refused"),
+    ("station replay", "refused"),
+    ("station replay site.toml", "refused"),
+    ("station replay --site", "refused"),
+    ("station replay --site a --site b", "refused"),
+    ("station replay --site a b", "refused"),
+    ("station replay --db x", "refused"),
+    ("station replay --site a --db", "refused"),
+    ("station replay --db --site a", "refused"),
+    ("station replay --site a --db x --db y", "refused"),
+    ("station replay --site a --db x y", "refused"),
+    ("station --site a replay", "refused"),
+    ("station --db x replay --site a", "refused"),
+    ("check-map map.toml", "refused"),
+    ("station check-map", "refused"),
+    ("station check-map --", "refused"),
+    ("station check-map a b", "refused"),
+    ("station check-map --map a", "refused"),
+    ("station check-map --site a", "refused"),
+    ("station check-map a --site b", "refused"),
+    ("station check-map a --db b", "refused"),
+    ("station check-map --db b", "refused"),
+    ("station replay check-map a", "refused"),
+    (
+        "station serve --site a --db x --port 0 --connections 1",
+        "refused",
+    ),
+    (
+        "station serve --site a --db x --port 65536 --connections 1",
+        "refused",
+    ),
+    (
+        "station serve --site a --db x --port http --connections 1",
+        "refused",
+    ),
+    (
+        "station serve --site a --db x --port 80 --connections 0",
+        "refused",
+    ),
+    (
+        "station serve --site a --db x --port 80 --connections 1000001",
+        "refused",
+    ),
+    (
+        "station serve --site a --port 80 --connections 1",
+        "refused",
+    ),
+    ("station serve --db x --port 80 --connections 1", "refused"),
+    ("station serve --site a --db x --connections 1", "refused"),
+    ("station serve --site a --db x --port 80", "refused"),
+];
+
+/// Names of files that are one word of a line.
+const SITE_NAMES: &[&str] = &["a site.toml", " ", "\u{e4}\n"];
+
+/// The word for a text that has a part, or else the text.
+fn word_for<'a>(text: &'a str, part: &str, word: &'a str) -> &'a str {
+    if text.contains(part) { word } else { text }
+}
+
+/// What becomes of words.
+fn outcome(alloc: Global, words: &[&str]) -> Result<String, AllocError> {
+    let found = read_job(alloc, words);
+    let (outcome, name, store) = match &found {
+        Ok(Job::Replay { site, db }) => ("replay ", site.as_str(), db.as_ref()),
+        Ok(Job::CheckMap { map }) => ("check-map ", map.as_str(), None),
+        Ok(Job::Serve { site, db, .. }) => ("serve ", site.as_str(), Some(db)),
+        Err(WordsFault::Help(text)) => (
+            word_for(text.as_str(), "Usage: station", "help"),
+            "",
+            None,
+        ),
+        Err(WordsFault::Refused(text)) => (word_for(text.as_str(), "error: ", "refused"), "", None),
+        Err(WordsFault::NoMemory) => ("no memory", "", None),
+    };
+    match store {
+        Some(store) => format!(in alloc; "{outcome}{name} {}", store.as_str()),
+        None => format!(in alloc; "{outcome}{name}"),
+    }
+}
+
+/// What becomes of the words of a line.
+fn outcome_of_line(alloc: Global, line: &str) -> Result<String, AllocError> {
+    let words: Vec<&str> = line.split_whitespace().collect(alloc)?;
+    outcome(alloc, words.as_slice())
+}
+
+/// Files by the job that reads them, their text, in which `$MAP` and `$SITE` stand for the samples, and
+/// what is written for them, for a replay over an empty stream: on standard output where a map is
+/// accepted, else on standard error.
+const FILES: &[(&str, &str, &str)] = &[
+    ("check-map", "$MAP", "ok esp32-sample 4 7\n"),
+    (
+        "check-map",
+        "$MAP[[field]]\nname = \"X\"\nblock = 0\nbit = 216\ncount = 8\n",
+        "ok esp32-sample 4 8\n",
+    ),
+    (
+        "check-map",
+        "$MAP[[field]]\nfield\n",
+        "station: map fault 1\n",
+    ),
+    ("check-map", "", "station: map fault 2\n"),
+    (
+        "check-map",
+        "$MAP[[field]]\nwords = 8\n",
+        "station: map fault 2\n",
+    ),
+    (
+        "check-map",
+        "$MAP[[field]]\nname = \"WR_DIS\"\nblock = 0\nbit = 216\ncount = 8\n",
+        "station: map fault 3\n",
+    ),
+    (
+        "check-map",
+        "$MAP[[field]]\nname = \"X\"\nblock = 0\nbit = 216\ncount = 9\n",
+        "station: map fault 4\n",
+    ),
+    (
+        "check-map",
+        "$MAP[[field]]\nname = \"X\"\nblock = 0\nbit = 198\ncount = 1\n",
+        "station: map fault 5\n",
+    ),
+    ("check-map", "$MAP[[field]]\n", "station: map fault 2\n"),
+    ("replay", "$SITE", ""),
+    ("replay", "customer", "station: site fault 1\n"),
+    ("replay", "", "station: site fault 2\n"),
+    (
+        "replay",
+        "[[customer]]\nname = \"acme\"\nissuer = [\"acme-ca\", \"acme-ca\"]\n",
+        "station: site fault 3\n",
+    ),
+    (
+        "replay",
+        "[[customer]]\nname = \"acme\"\nissuer = []\npool = [{ first = \"020000000010\", count = 4 }, { first = \"020000000013\", count = 1 }]\n",
+        "station: site fault 4\n",
+    ),
+    (
+        "replay",
+        "[[customer]]\nname = \"acme\"\nissuer = []\npool = [{ first = \"010000000000\", count = 1 }]\n",
+        "station: site fault 5\n",
+    ),
+    (
+        "replay",
+        "[[customer]]\nname = \"acme\"\nissuer = [\"1\", \"2\", \"3\", \"4\", \"5\", \"6\", \"7\", \"8\", \"9\"]\n",
+        "station: site fault 6\n",
+    ),
+];
+
+/// Files that can't be read, by the job and their name: those that aren't there, a folder, and those
+/// that are no text, with what is in them.
+const UNREAD: &[(&str, &str, &[u8])] = &[
+    ("check-map", "none.toml", b""),
+    ("check-map", "no/such file", b""),
+    ("check-map", "", b""),
+    ("check-map", "folder", b""),
+    ("check-map", "latin.toml", b"# \xe4\n"),
+    ("check-map", "latin.toml", b"\xff"),
+    ("check-map", "latin.toml", b"customer = []\n# \xc3"),
+    ("replay", "none.toml", b""),
+    ("replay", "no/such file", b""),
+    ("replay", "", b""),
+    ("replay", "folder", b""),
+    ("replay", "latin.toml", b"# \xe4\n"),
+    ("replay", "latin.toml", b"\xff"),
+    ("replay", "latin.toml", b"customer = []\n# \xc3"),
+];
+
+/// Files at their limit, by the job: the text and how long it is made, and what is written where a
+/// byte more is read, and where it isn't.
+const LONG_FILES: &[(&str, &str, usize, &str, &str)] = &[
+    (
+        "check-map",
+        MAP,
+        32_767,
+        "ok esp32-sample 4 7\n",
+        "station: map fault 2\n",
+    ),
+    ("replay", SITE, 1_048_575, "", "station: site fault 6\n"),
+];
+
+/// What stands behind such a text in a file, and whether the file is read: one byte more is, and no
+/// other, whatever the bytes are. The cut may lie inside a character.
+const LONG_ENDS: &[(&[u8], bool)] = &[
+    (b"", true),
+    (b" ", true),
+    (b"\xc3\xa4", false),
+    (b" \xff", false),
+    (b" and so on, and so on", false),
+];
+
+/// How many bytes the line has that says what the sample map is.
+const LINE_LENGTH: usize = 20;
+
+/// The line for a writer that fails.
+const WRITE_FAILED: &str = "station: write failed\n";
+
+/// A reader that fails, and a writer that takes nothing.
+const BROKEN: Short = Short {
+    room: 0,
+    flushes: true,
+};
+
+/// The samples in place of what stands for them.
+fn with_samples(alloc: Global, text: &str) -> Result<String, Fail> {
+    let text = text.replace(alloc, "$MAP", MAP)?;
+    Ok(text.as_str().replace(alloc, "$SITE", SITE)?)
+}
+
+/// The job of one kind for the file with a name.
+fn job(alloc: Global, kind: &str, name: &str) -> Result<Job, Fail> {
+    let name = Text::copy_of(alloc, name)?;
+    if kind == "replay" {
+        return Ok(Job::Replay {
+            site: name,
+            db: None,
+        });
+    }
+    Ok(Job::CheckMap { map: name })
+}
+
+/// Does a job of one kind for the file with a name over an input: what was written.
+fn written(
+    rt: &HostRuntime,
+    alloc: Global,
+    kind: &str,
+    name: &str,
+    input: &[u8],
+) -> Result<String, Fail> {
+    written_by(rt, alloc, &job(alloc, kind, name)?, input)
+}
+
+/// Does a job over an input: what was written on standard output and then on standard error, where the
+/// status is 1 exactly where something is on standard error.
+pub fn written_by(
+    rt: &HostRuntime,
+    alloc: Global,
+    job: &Job,
+    input: &[u8],
+) -> Result<String, Fail> {
+    let mut out = Vec::new(alloc);
+    let mut err = Vec::new(alloc);
+    let status = run(rt, alloc, job, input, &mut out, &mut err);
+    if (status == 1) == err.is_empty() {
+        return Err(Fail::from("another status"));
+    }
+    out.extend_from_slice(err.as_slice())?;
+    Ok(String::from_utf8(out).map_err(|_| "no text")?)
+}
+
+/// A writer that takes so many bytes and then fails, and may fail to flush. As a reader it fails.
+#[derive(Drop)]
+struct Short {
+    room: usize,
+    flushes: bool,
+}
+
+impl Read for Short {
+    fn read(&mut self, _room: &mut [u8]) -> io::Result<usize> {
+        Err(io::Error::from(io::ErrorKind::BrokenPipe))
+    }
+}
+
+impl Write for Short {
+    fn write(&mut self, bytes: &[u8]) -> io::Result<usize> {
+        if self.room == 0 {
+            return Err(io::Error::from(io::ErrorKind::StorageFull));
+        }
+        let taken = self.room.min(bytes.len());
+        self.room -= taken;
+        Ok(taken)
+    }
+
+    fn flush(&mut self) -> io::Result<()> {
+        if !self.flushes {
+            return Err(io::Error::from(io::ErrorKind::StorageFull));
+        }
+        Ok(())
+    }
+}
+
+/// Does a job to a writer that may fail: the line on standard error.
+fn line_of_failure(
+    rt: &HostRuntime,
+    alloc: Global,
+    job: &Job,
+    input: impl Read + Drop,
+    output: Short,
+) -> Result<String, Fail> {
+    let mut err = Vec::new(alloc);
+    let status = run(rt, alloc, job, input, output, &mut err);
+    if (status == 1) == err.is_empty() {
+        return Err(Fail::from("another status"));
+    }
+    Ok(String::from_utf8(err).map_err(|_| "no text")?)
+}
+
+/// Checks the sample map's file to a writer that takes so many bytes, and may fail to flush: the line
+/// on standard error.
+fn line_of_check(
+    rt: &HostRuntime,
+    alloc: Global,
+    room: usize,
+    flushes: bool,
+) -> Result<String, Fail> {
+    let job = job(alloc, "check-map", "map.toml")?;
+    line_of_failure(rt, alloc, &job, b"".as_slice(), Short { room, flushes })
+}
+
+/// Replays an input for the sample site's file to a writer that takes nothing: the line on standard
+/// error.
+fn line_of_replay(
+    rt: &HostRuntime,
+    alloc: Global,
+    input: impl Read + Drop,
+) -> Result<String, Fail> {
+    let job = job(alloc, "replay", "site.toml")?;
+    line_of_failure(rt, alloc, &job, input, BROKEN)
+}
+
+/// Whether a line says that the file with a name can't be read.
+fn tells_unread(line: &str, name: &str) -> bool {
+    let Some(rest) = line.strip_prefix("station: cannot read ") else {
+        return false;
+    };
+    rest.strip_suffix("\n") == Some(name)
+}
+
+/// Makes the file `long.toml` of a text, with as many spaces behind it as make so many bytes, and then
+/// these.
+fn write_long_file(
+    rt: &HostRuntime,
+    alloc: Global,
+    (start, size): (&str, usize),
+    end: &[u8],
+) -> Result<(), Fail> {
+    let spaces = size.saturating_sub(start.len());
+    let text = format!(in alloc; "{start}{:spaces$}", "")?;
+    let mut text = text.as_bytes().to_vec(alloc)?;
+    text.extend_from_slice(end)?;
+    Ok(fs::write(rt, "long.toml", text.as_slice())?)
+}
+
+#[test]
+fn words_give_their_jobs(rt: HostRuntime) -> Result<(), Fail> {
+    for row in LINES {
+        let told = outcome_of_line(rt.alloc(), row.0)?;
+        assert_eq!(rt; told.as_str(), row.1, "{}", row.0);
+    }
+    for name in SITE_NAMES {
+        let told = outcome(rt.alloc(), &["station", "replay", "--site", name])?;
+        assert_eq!(rt; told.as_str().strip_prefix("replay "), Some(*name));
+    }
+    Ok(())
+}
+
+#[test]
+fn files_of_maps_and_sites_are_judged(rt: HostRuntime) -> Result<(), Fail> {
+    for row in FILES {
+        let text = with_samples(rt.alloc(), row.1)?;
+        fs::write(&rt, "judged.toml", text.as_str())?;
+        let told = written(&rt, rt.alloc(), row.0, "judged.toml", b"")?;
+        assert_eq!(rt; told.as_str(), row.2, "{} {}", row.0, row.1);
+    }
+    Ok(())
+}
+
+#[test]
+fn files_that_cannot_be_read_are_told(rt: HostRuntime) -> Result<(), Fail> {
+    make_folder(&rt, "folder")?;
+    for row in UNREAD {
+        fs::write(&rt, "latin.toml", row.2)?;
+        let told = written(&rt, rt.alloc(), row.0, row.1, ORDER.as_bytes())?;
+        assert!(rt;
+            tells_unread(told.as_str(), row.1),
+            "{} {} -> {told}",
+            row.0,
+            row.1
+        );
+    }
+    Ok(())
+}
+
+#[test]
+fn files_over_their_limit_are_told_unread(rt: HostRuntime) -> Result<(), Fail> {
+    for row in LONG_FILES {
+        for end in LONG_ENDS {
+            write_long_file(&rt, rt.alloc(), (row.1, row.2), end.0)?;
+            let told = written(&rt, rt.alloc(), row.0, "long.toml", b"")?;
+            let wanted = if end.1 { row.3 } else { row.4 };
+            assert_eq!(rt; told.as_str(), wanted, "{}", row.0);
+        }
+    }
+    Ok(())
+}
+
+#[test]
+fn failed_reads_and_writes_are_told(rt: HostRuntime) -> Result<(), Fail> {
+    fs::write(&rt, "map.toml", MAP)?;
+    fs::write(&rt, "site.toml", SITE)?;
+    for room in 0..LINE_LENGTH + 1 {
+        let told = line_of_check(&rt, rt.alloc(), room, true)?;
+        let wanted = if room < LINE_LENGTH { WRITE_FAILED } else { "" };
+        assert_eq!(rt; told.as_str(), wanted, "{room}");
+        let told = line_of_check(&rt, rt.alloc(), room, false)?;
+        assert_eq!(rt; told.as_str(), WRITE_FAILED, "{room}");
+    }
+    let told = line_of_replay(&rt, rt.alloc(), BROKEN)?;
+    assert_eq!(rt; told.as_str(), "station: read failed\n");
+    let told = line_of_replay(&rt, rt.alloc(), ORDER.as_bytes())?;
+    assert_eq!(rt; told.as_str(), WRITE_FAILED);
+    Ok(())
+}

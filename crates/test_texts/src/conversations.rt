@@ -1,0 +1,263 @@
+//! Conversations with the server: texts of requests, each with the reply that it must get.
+//!
+//! The line of a request is its caller, the method, the target and the body, and the line after it
+//! is the status and the body of the reply. That of a report is `csv` and its text, with `|` for
+//! each line feed. A reply may go on over lines that begin with a space: it is its lines without
+//! the spaces in front of them, one after another. Empty lines and those that begin with `#` say
+//! nothing.
+//!
+//! A conversation may begin with a line `@ NAME`: the requests and replies of a prelude come first.
+pub mod beginnings;
+pub mod devices;
+pub mod growths;
+pub mod identities;
+pub mod maps;
+pub mod orders;
+mod placeholders;
+pub mod plans;
+mod preludes;
+pub mod reports;
+pub mod runs;
+
+pub use placeholders::filled;
+use placeholders::filled_bytes;
+use preludes::parts_of_prelude;
+use std::alloc::{AllocError, Global};
+use std::str;
+use std::test::Fail;
+
+/// A request of a conversation with the reply that it must get.
+#[derive(Clone, Copy)]
+pub struct Exchange<'a> {
+    /// The name of the prelude in which it stands, or nothing.
+    pub prelude: &'a str,
+    /// The number of the request's line, from 1 on: in its conversation, or in its part of the
+    /// prelude. Behind `r#"` a text begins with an empty line.
+    pub line: usize,
+    /// The request, as a line.
+    pub asked: &'a str,
+    /// The reply, over one line or more.
+    pub wanted: &'a str,
+}
+
+/// The callers of the sample site and of those that grew from it, seats and the manager, and their
+/// tokens.
+const TOKENS: &[(&str, &str)] = &[
+    ("a1", "abc"),
+    ("b1", "hello"),
+    ("b2", "world"),
+    ("c1", "key"),
+    ("manager", "test"),
+];
+
+/// A token that nobody has.
+const NO_TOKEN: &str = "zzz";
+
+/// Statuses and their phrases (RFC 9110, section 15).
+const PHRASES: &[(&str, &str)] = &[
+    ("200", "OK"),
+    ("400", "Bad Request"),
+    ("403", "Forbidden"),
+    ("404", "Not Found"),
+    ("409", "Conflict"),
+    ("422", "Unprocessable Entity"),
+];
+
+/// What a table has beside a name.
+fn listed(table: &'static [(&'static str, &'static str)], name: &str) -> Option<&'static str> {
+    for row in table {
+        if row.0 == name {
+            return Some(row.1);
+        }
+    }
+    None
+}
+
+/// The bytes of the request of a line.
+///
+/// # Errors
+///
+/// The line isn't of a request, or memory runs out.
+pub fn request(alloc: Global, line: &str) -> Result<Vec<u8>, Fail> {
+    let (caller, rest) = line.split_once(" ").ok_or("no caller")?;
+    let (method, rest) = rest.split_once(" ").ok_or("no method")?;
+    let (target, body) = rest.split_once(" ").unwrap_or((rest, ""));
+    let token = listed(TOKENS, caller).unwrap_or(NO_TOKEN);
+    let body = filled_bytes(alloc, body)?;
+    let size = body.len();
+    let head = format!(in alloc;
+        "{method} {target} HTTP/1.1\r\nAuthorization: Bearer {token}\r\nContent-Length: {size}\r\n\r\n"
+    )?;
+    let mut bytes = head.as_bytes().to_vec(alloc)?;
+    bytes.extend_from_slice(body.as_slice())?;
+    Ok(bytes)
+}
+
+/// What stands on lines of which each goes on with the one before: each without the spaces in front
+/// of it, one after another. No text in quotation marks has a line feed, so they stand between
+/// members.
+///
+/// # Errors
+///
+/// Memory runs out.
+pub fn joined(alloc: Global, lines: &str) -> Result<String, AllocError> {
+    let mut text = String::new(alloc);
+    for line in lines.lines() {
+        text.push_str(line.trim_start())?;
+    }
+    Ok(text)
+}
+
+/// The bytes of a reply.
+///
+/// # Errors
+///
+/// The lines aren't of a reply, or memory runs out.
+pub fn reply(alloc: Global, lines: &str) -> Result<String, Fail> {
+    let line = joined(alloc, lines)?;
+    let (status, body) = line.as_str().split_once(" ").ok_or("no status")?;
+    if status == "csv" {
+        return report(alloc, body);
+    }
+    let phrase = listed(PHRASES, status).ok_or("no such status")?;
+    let body = filled(alloc, body)?;
+    let size = body.len();
+    Ok(format!(in alloc;
+        "HTTP/1.1 {status} {phrase}\r\nContent-Type: application/json\r\nContent-Length: {size}\r\n\r\n{body}"
+    )?)
+}
+
+/// The bytes of the reply with a report.
+fn report(alloc: Global, lines: &str) -> Result<String, Fail> {
+    let text = lines.replace(alloc, "|", "\n")?;
+    let size = text.len();
+    Ok(format!(in alloc;
+        "HTTP/1.1 200 OK\r\nContent-Type: text/csv\r\nContent-Length: {size}\r\n\r\n{text}"
+    )?)
+}
+
+/// Whether a line says nothing.
+fn is_silent(line: &str) -> bool {
+    line.is_empty() || line.starts_with("#")
+}
+
+/// The name of the prelude with which a conversation begins, or nothing.
+fn name_of_prelude(conversation: &str) -> &str {
+    for line in conversation.lines() {
+        if !is_silent(line) {
+            return line.strip_prefix("@ ").unwrap_or("");
+        }
+    }
+    ""
+}
+
+/// Puts the exchanges of a text behind others. A line that names a prelude may stand in front of
+/// all that it asks for.
+fn push_exchanges<'a>(
+    exchanges: &mut Vec<Exchange<'a>>,
+    prelude: &'a str,
+    text: &'a str,
+) -> Result<(), Fail> {
+    let mut asked = None;
+    let mut reply_start = None;
+    let mut is_begun = false;
+    let mut start = 0usize;
+    for (index, line) in text.split("\n").enumerate() {
+        let end = start.saturating_add(line.len());
+        if line.starts_with(" ") {
+            let from: usize = reply_start.ok_or("no reply goes on")?;
+            let mut last = exchanges.pop().ok_or("no reply goes on")?;
+            last.wanted = text.get(from..end).ok_or("no reply goes on")?;
+            exchanges.push(last)?;
+        } else if is_silent(line) {
+            reply_start = None;
+        } else if line.starts_with("@ ") {
+            if is_begun || !prelude.is_empty() {
+                return Err(Fail::from("a prelude behind the beginning"));
+            }
+            is_begun = true;
+        } else if let Some((line_asked, request)) = asked {
+            exchanges.push(Exchange {
+                prelude,
+                line: line_asked,
+                asked: request,
+                wanted: line,
+            })?;
+            asked = None;
+            reply_start = Some(start);
+        } else {
+            asked = Some((index.saturating_add(1), line));
+            reply_start = None;
+            is_begun = true;
+        }
+        start = end.saturating_add(1);
+    }
+    match asked {
+        Some(_) => Err(Fail::from("a request without a reply")),
+        None => Ok(()),
+    }
+}
+
+/// The requests of a conversation, each with its reply, those of its prelude first.
+///
+/// # Errors
+///
+/// The text isn't a conversation, or memory runs out.
+pub fn exchanges(alloc: Global, conversation: &str) -> Result<Vec<Exchange<'_>>, Fail> {
+    let mut exchanges = Vec::new(alloc);
+    let prelude = name_of_prelude(conversation);
+    for part in parts_of_prelude(prelude).ok_or("no such prelude")? {
+        push_exchanges(&mut exchanges, prelude, part)?;
+    }
+    push_exchanges(&mut exchanges, "", conversation)?;
+    Ok(exchanges)
+}
+
+/// What stands between the reply that a request must get and what it got.
+const GOT: &str = " -> ";
+
+/// An exchange whose request got something else: where it stands, what it asks, the reply that it
+/// must get, and behind an arrow what it got.
+///
+/// # Errors
+///
+/// Memory runs out.
+pub fn told(
+    alloc: Global,
+    exchange: Exchange<'_>,
+    wanted: &str,
+    got: &str,
+) -> Result<String, AllocError> {
+    let Exchange {
+        prelude,
+        line,
+        asked,
+        ..
+    } = exchange;
+    let mark = if prelude.is_empty() { "" } else { "@ " };
+    let gap = if prelude.is_empty() { "" } else { ", " };
+    format!(in alloc; "{mark}{prelude}{gap}line {line}: {asked}: {wanted}{GOT}{got}")
+}
+
+/// Whether what was told is that a request got 503 or no reply.
+pub fn is_unanswered(found: &str) -> bool {
+    match found.split_once(GOT) {
+        Some((_, got)) => got.is_empty() || got.starts_with("HTTP/1.1 503 "),
+        None => false,
+    }
+}
+
+/// What the request of an exchange got where it isn't the reply that it must get: nothing where it
+/// is.
+///
+/// # Errors
+///
+/// The exchange has no reply, or memory runs out.
+pub fn difference(alloc: Global, exchange: Exchange<'_>, got: &[u8]) -> Result<String, Fail> {
+    let wanted = reply(alloc, exchange.wanted)?;
+    if got == wanted.as_bytes() {
+        return Ok(String::new(alloc));
+    }
+    let said = str::from_utf8(got).unwrap_or("no text");
+    Ok(told(alloc, exchange, wanted.as_str(), said)?)
+}

@@ -1,0 +1,9 @@
+//! The texts that tests share: the sample map and the sample sites, conversations with the server
+//! with their reader, and stores of earlier schemas. It has no tests of its own.
+#![tactic(auto)]
+
+pub mod conversations;
+pub mod earlier;
+pub mod samples;
+pub mod schema_one;
+pub mod schema_two;
