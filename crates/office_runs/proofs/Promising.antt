@@ -15,7 +15,7 @@ pub promises : (first : Ownership) (xs : List Exchange) (last : Ownership) (t t2
 promises first xs last t t2 sound seats run = record {
   sound = run_sound first xs last t t2 sound seats run;
   isolated = λ customer. isolated customer first xs last t t2 sound seats run;
-  kept = run_grows first xs last t t2 sound seats run;
+  grows = run_grows first xs last t t2 sound seats run;
   given = gives_once first xs last t t2 sound seats run;
   once = λ customer. acts_once customer xs t t2
       (run_alone customer first xs last t t2 sound seats run);
