@@ -3,8 +3,8 @@
 
 ghost use Rattle.std.specs.Prelude.{◌<◌};
 
-use fuse_columns::{Pending, decode_bits, encode_bits, encode_keys, encode_todo};
-use fuse_image::{Bits, Image, Keys};
+use fuse_columns::{decode_bits, encode_bits, encode_keys, encode_todo};
+use fuse_image::{Bits, Image, Keys, Pending};
 use fusemap_core::{FuseMap, Pos, read_map};
 use std::test::Fail;
 use test_texts::samples::MAP;

@@ -1,8 +1,8 @@
 //! The bodies that show devices and their ledgers.
 
 use crate::changes::changed;
-use fuse_columns::{Pending, encode_bits, encode_keys, encode_todo};
-use fuse_image::{Bits, Keys};
+use fuse_columns::{encode_bits, encode_keys, encode_todo};
+use fuse_image::{Bits, Keys, Pending};
 use fusemap_core::{FuseMap, Pos, read_map};
 use office_commands::{device_body, ledger_body};
 use office_tables::{Device, DeviceState, Event, NewEntry, Outcome, Reason};

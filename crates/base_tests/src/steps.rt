@@ -2,8 +2,7 @@
 
 use crate::chips::{COUNTED, COUNTED_DIGEST, ZEROS, chip};
 use crate::esp32::ESP32;
-use fuse_columns::Pending;
-use fuse_image::{Bits, Image, Keys};
+use fuse_image::{Bits, Image, Keys, Pending};
 use fuse_plan::{
     ChipFault, Number, PlanFault, ReadBack, Verdict, Want, Wish, compare, plan, redact,
 };

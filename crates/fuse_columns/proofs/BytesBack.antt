@@ -20,7 +20,8 @@ use Rattle.fuse_columns.specs.BitsColumns.{byte_of, block_bytes, all_bytes, outs
 use Rattle.fuse_columns.specs.Laws.{IsBitsColumn}
 use Rattle.fuse_columns.proofs.Bytes.{number_reads}
 use Rattle.fuse_columns.proofs.Pieces.{flat_map-range_more}
-use Rattle.fuse_columns.proofs.SetBytes.{block_is, in_place}
+use Rattle.fuse_image.proofs.InMap.{block_is}
+use Rattle.fuse_columns.proofs.SetBytes.{in_place}
 
 -- bits that read alike are alike
 alike : (x y : ℕ) → x < 2 → y < 2 → (x == 1) ≡ (y == 1) → x ≡ y

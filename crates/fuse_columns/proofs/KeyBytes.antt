@@ -11,11 +11,12 @@ use Rattle.std.proofs.Math.ListN.{drop_of_length-le}
 use Rattle.std.proofs.Math.Seq.{take-append_seam, drop-append_seam}
 use Rattle.fusemap_core.specs.declared.field.Field.{Field}
 use Rattle.fusemap_core.specs.Map.{Map}
-use Rattle.fuse_image.specs.Keys.{HoldsDigests, KeyTable, table_where}
+use Rattle.fuse_image.specs.Keys.{HoldsDigests, KeyTable}
 use Rattle.fuse_image.specs.Locks.{is_key_block}
-use Rattle.fuse_image.proofs.Tables.{get_within, get_past, table_where-same}
+use Rattle.fuse_image.proofs.Tables.{HoldsDigests-table_where, get_within, get_past, table_where-same}
 use Rattle.fuse_image.specs.Redaction.{AreKeys}
-use Rattle.fuse_columns.specs.KeysColumns.{AreKeysOf, key_blocks, key_bytes, keys_column, key_of_bytes, key_in_bytes, keys_in}
+use Rattle.fuse_image.specs.InMap.{AreKeysOf}
+use Rattle.fuse_columns.specs.KeysColumns.{key_blocks, key_bytes, keys_column, key_of_bytes, key_in_bytes, keys_in}
 use Rattle.fuse_columns.proofs.KeyFields.{key_blocks-key, key_blocks-plain, key_block_is}
 
 -- what 33 bytes stand for
@@ -133,13 +134,6 @@ key_in_bytes-keys t (b ∷ blocks) more block are =
           ∙ (ap (λ bytes. key_in_bytes blocks bytes block) back ∙ (rest
           ∙ ap (λ e. if (e || list_any (λ c. c == block) blocks) then map.get t block else None) (sym other)))
     ]
-
--- a table that takes its keys from digests holds digests
-pub HoldsDigests-table_where : (f : ℕ → Option (List ℕ)) → ((block : ℕ) → IfSome (f block) (λ digest. length digest ≡ 32)) → HoldsDigests (table_where f)
-HoldsDigests-table_where f are block = elim (cases_lt block 4) as (λ _. IfSome (map.get (table_where f) block) (λ digest. length digest ≡ 32)) [
-  | inl low ↦ rw (get_within f block low) (are block)
-  | inr high ↦ rw (get_past f block (λ low. omega (arith, low, high))) tt
-]
 
 -- a key that bytes stand for is one of a key field, and has 32 bytes
 digest_of_key : (bytes : List ℕ) → IfSome (key_of_bytes bytes) (λ digest. length digest ≡ 32)

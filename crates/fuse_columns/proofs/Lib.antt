@@ -10,5 +10,4 @@ pub mod WorkBytes
 pub mod BytesBack
 pub mod WorkBytesBack
 pub mod LawProofs
-pub mod Lies
 pub mod ZeroBytes

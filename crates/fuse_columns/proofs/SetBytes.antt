@@ -15,11 +15,12 @@ use Rattle.fusemap_core.specs.Map.{Map, IsMap, word_count}
 use Rattle.fuse_image.specs.Locks.{is_key_position}
 use Rattle.fuse_image.specs.Places.{Positions, IsPlace, is_place, places_where, contains-places_where, pos_total, pos_exact}
 use Rattle.fuse_image.specs.Words.{bit_in, number_with, position_of_bit, word_of, words_of_set as image_words}
+use Rattle.fuse_image.proofs.InMap.{block_is}
 use Rattle.fuse_image.proofs.Sets.{places_where-at, none_outside, same_places, is_place-from_IsPlace}
 use Rattle.fuse_image.specs.WordsAgain.{same_number}
 use Rattle.fuse_columns.specs.BitsColumns.{byte_of, block_bytes, all_bytes, outside_keys, bits_column, bits_length, start_of_block, bytes_have_one}
 use Rattle.fuse_columns.specs.BitsColumns.{is_plain, bits_in}
-use Rattle.fuse_columns.specs.BitsColumns.{AreBits}
+use Rattle.fuse_image.specs.InMap.{AreBits}
 use Rattle.fuse_columns.specs.Words.{bytes_of_words, bytes_of_blocks, word_at, word_of_block}
 use Rattle.fuse_columns.proofs.Blocks.{bytes_of_words-zero, bytes_of_words-more}
 use Rattle.fuse_columns.proofs.Bytes.{bytes_of_number, bit_of_bytes, number_reads}
@@ -78,13 +79,6 @@ short_block : (blocks : List ℕ) → AreSmall blocks → (block : ℕ) → word
 short_block blocks small block = elim (cases_lt block (length blocks)) as (λ _. word_count blocks block ≤ 8) [
   | inl low ↦ small.short block 0 low
   | inr high ↦ omega (arith, get_or_past blocks block 0 high)
-]
-
--- a block with a bit is one of the blocks
-pub block_is : (blocks : List ℕ) (block bit : ℕ) → bit < 32 * word_count blocks block → block < length blocks
-block_is blocks block bit low = elim (cases_lt block (length blocks)) as (λ _. block < length blocks) [
-  | inl is ↦ is
-  | inr high ↦ absurd (omega (arith, low, get_or_past blocks block 0 high))
 ]
 
 all_by_words : (blocks : List ℕ) (s : Positions) → AreSmall blocks → bytes_of_blocks (image_words s) blocks (length blocks) ≡ all_bytes blocks s

@@ -4,8 +4,7 @@ use Rattle.std.specs.List.{flat_map}
 use Rattle.std.specs.FinMap as map
 use Rattle.fusemap_core.specs.declared.field.Field.{Field}
 use Rattle.fusemap_core.specs.Map.{Map}
-use Rattle.fuse_image.specs.Keys.{HoldsDigests, KeyTable, table_where}
-use Rattle.fuse_image.specs.Redaction.{AreKeys}
+use Rattle.fuse_image.specs.Keys.{KeyTable, table_where}
 
 -- the blocks of the key fields, in the map's order
 abbrev pub key_blocks : List Field → List ℕ
@@ -36,8 +35,3 @@ key_in_bytes (b ∷ blocks) bytes block = if b == block then key_of_bytes (take 
 -- the table that bytes stand for, whatever they are: a key at a block that is a key field, where the field's bytes stand for one
 unfoldable pub keys_in : Map → List ℕ → KeyTable
 keys_in m bytes = table_where (key_in_bytes (key_blocks m.fields) bytes)
-
--- each key of the table is one of a key field of the map, and a digest of 32 bytes
-pub record AreKeysOf (m : Map) (t : KeyTable) : Type 0 where
-  pub keys : AreKeys m t
-  pub digests : HoldsDigests t

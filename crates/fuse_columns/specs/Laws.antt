@@ -7,11 +7,13 @@ use Rattle.fuse_image.specs.declared.image.Image.{Image}
 use Rattle.fuse_image.specs.Keys.{HoldsDigests, KeyTable}
 use Rattle.fuse_image.specs.Locks.{is_key_position}
 use Rattle.fuse_image.specs.Places.{Positions}
-use Rattle.fuse_columns.specs.declared.todo.Pending.{Pending}
-use Rattle.fuse_columns.specs.BitsColumns.{AreBits, bits_column, bits_in, bits_length, is_plain, bytes_have_one}
+use Rattle.fuse_image.specs.declared.pending.Pending.{Pending}
+use Rattle.fuse_image.specs.InMap.{AreBits, AreKeysOf}
+use Rattle.fuse_columns.specs.BitsColumns.{bits_column, bits_in, bits_length, is_plain, bytes_have_one}
 use Rattle.fuse_columns.specs.Images.{image_in}
-use Rattle.fuse_columns.specs.KeysColumns.{AreKeysOf, key_blocks, key_bytes, keys_column, keys_in, keys_length}
-use Rattle.fuse_columns.specs.TodoColumns.{IsPending, todo_column, pending_in}
+use Rattle.fuse_columns.specs.KeysColumns.{key_blocks, key_bytes, keys_column, keys_in, keys_length}
+use Rattle.fuse_image.specs.Pending.{IsPending}
+use Rattle.fuse_columns.specs.TodoColumns.{todo_column, pending_in}
 
 -- of any set its positions that are the map's, outside key fields, come back from its column
 abbrev pub PlainBitsComeBack : Type 0

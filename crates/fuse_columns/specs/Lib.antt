@@ -5,5 +5,4 @@ pub mod KeysColumns
 pub mod Images
 pub mod TodoColumns
 pub mod Laws
-pub mod InMap
 pub mod Zeros

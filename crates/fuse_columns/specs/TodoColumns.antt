@@ -1,9 +1,9 @@
 -- The bytes of what is still to be burnt.
 use Rattle.std.specs.Prelude.{ℕ, ◌+◌, List, ◌++◌, drop}
 use Rattle.fusemap_core.specs.Map.{Map}
-use Rattle.fuse_columns.specs.declared.todo.Pending.{Pending}
-use Rattle.fuse_columns.specs.BitsColumns.{AreBits, bits_column, bits_in, bits_length}
-use Rattle.fuse_columns.specs.KeysColumns.{AreKeysOf, keys_column, keys_in}
+use Rattle.fuse_image.specs.declared.pending.Pending.{Pending}
+use Rattle.fuse_columns.specs.BitsColumns.{bits_column, bits_in, bits_length}
+use Rattle.fuse_columns.specs.KeysColumns.{keys_column, keys_in}
 
 -- the bits of batch 1, the bits of batch 2, and the keys of batch 1
 unfoldable pub todo_column : Map → Pending → List ℕ
@@ -16,9 +16,3 @@ pending_in m bytes = record {
   second = bits_in m (drop (bits_length m) bytes);
   keys = keys_in m (drop (bits_length m + bits_length m) bytes);
 }
-
--- the work lies in the map: its bits outside key fields, its keys at key fields
-pub record IsPending (m : Map) (work : Pending) : Type 0 where
-  pub first : AreBits m work.first
-  pub second : AreBits m work.second
-  pub keys : AreKeysOf m work.keys

@@ -4,14 +4,10 @@ use Rattle.std.specs.FinSet as set
 use Rattle.std.specs.FinMap as map
 use Rattle.text_core.specs.ShortBytes.{zeros}
 use Rattle.fusemap_core.specs.Map.{Map}
-use Rattle.fuse_columns.specs.declared.todo.Pending.{Pending}
+use Rattle.fuse_image.specs.Pending.{no_pending}
 use Rattle.fuse_columns.specs.BitsColumns.{bits_column, bits_in, bits_length}
 use Rattle.fuse_columns.specs.KeysColumns.{keys_column, keys_in, keys_length}
 use Rattle.fuse_columns.specs.TodoColumns.{todo_column, pending_in}
-
--- nothing is to be burnt
-abbrev pub no_pending : Pending
-no_pending = record { first = set.empty; second = set.empty; keys = map.empty }
 
 -- zeros, however many, stand for nothing
 pub record ZerosAreNothing (m : Map) (count : ℕ) : Type 0 where

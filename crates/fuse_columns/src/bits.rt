@@ -1,7 +1,8 @@
 // Sets of positions as bytes, and back.
 ghost use Rattle.std.specs.Prelude.{◌≡◌, ◌+◌, ◌*◌, ◌/◌, ◌%◌, ◌<◌, ◌≤◌, ◌++◌, ℕ, All, length};
 ghost use Rattle.std.specs.Prelude.{slice_index, sum, take};
-ghost use Rattle.fuse_columns.specs.BitsColumns.{AreBits, bits_column, bits_in, bits_length};
+ghost use Rattle.fuse_image.specs.InMap.{AreBits};
+ghost use Rattle.fuse_columns.specs.BitsColumns.{bits_column, bits_in, bits_length};
 ghost use Rattle.fuse_columns.specs.Words as words;
 ghost use Rattle.fuse_columns.specs.Words.{bytes_of_blocks, bytes_of_words};
 

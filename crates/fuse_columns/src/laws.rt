@@ -2,7 +2,6 @@
 ghost use Rattle.std.specs.Prelude.{ℕ};
 ghost use Rattle.fusemap_core.specs.Map.{IsMap, Map};
 ghost use Rattle.fuse_columns.specs.Zeros.{NothingIsZeros, ZerosAreNothing};
-ghost use Rattle.fuse_columns.specs.InMap.{ReadBacksInMap, SetsStay, TablesStay};
 ghost use Rattle.fuse_columns.specs.Laws.{PlainBitsComeBack, BitsComeBack, KeysComeBack};
 ghost use Rattle.fuse_columns.specs.Laws.{ImageComesBack, WorkComesBack, BitsInMap};
 ghost use Rattle.fuse_columns.specs.Laws.{KeysInMap, PendingInMap, BitsHaveLength};
@@ -42,14 +41,6 @@ pub fn bytes_come_back()
     ensures bits { BitsBytesComeBack }
     ensures keys { KeyBytesComeBack }
     ensures work { WorkBytesComeBack }
-{}
-
-/// What lies in a map stays in it: two sets or tables together, and what is left of one. What a
-/// chip of the map's shape shows lies in it too.
-pub fn stay_in_map()
-    ensures sets { (m : Map) → SetsStay m }
-    ensures tables { (m : Map) → TablesStay m }
-    ensures readbacks { ReadBacksInMap }
 {}
 
 /// Zeros stand for nothing, however many they are, and nothing is as many zeros as the map says.

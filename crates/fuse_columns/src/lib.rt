@@ -10,7 +10,5 @@ mod todo;
 
 pub use bits::{decode_bits, encode_bits};
 pub use keys::{decode_keys, encode_keys};
-pub use laws::{
-    bytes_come_back, come_back, have_lengths, lie_in_map, stay_in_map, zeros_are_nothing,
-};
-pub use todo::{Pending, decode_todo, encode_todo};
+pub use laws::{bytes_come_back, come_back, have_lengths, lie_in_map, zeros_are_nothing};
+pub use todo::{decode_todo, encode_todo};

@@ -2,24 +2,14 @@
 ghost use Rattle.std.specs.Prelude.{◌≡◌, ◌+◌, length};
 ghost use Rattle.fuse_columns.specs.BitsColumns.{bits_length};
 ghost use Rattle.fuse_columns.specs.KeysColumns.{keys_length};
-ghost use Rattle.fuse_columns.specs.TodoColumns.{IsPending, todo_column, pending_in};
+ghost use Rattle.fuse_image.specs.Pending.{IsPending};
+ghost use Rattle.fuse_columns.specs.TodoColumns.{todo_column, pending_in};
 
 use crate::bits::{encode_bits, read_bits};
 use crate::keys::{after, encode_keys, read_keys};
-use fuse_image::{Bits, Keys};
+use fuse_image::Pending;
 use fusemap_core::FuseMap;
 use text_core::PendingBytes;
-
-/// What is still to be burnt: bits in two batches, and keys in the first.
-#[derive(Clone, Copy)]
-pub struct Pending {
-    /// The bits of the first batch.
-    pub first: Bits,
-    /// The bits of the second batch.
-    pub second: Bits,
-    /// The digests of the keys of the first batch.
-    pub keys: Keys,
-}
 
 /// The bits of batch 1, the bits of batch 2 and the keys of batch 1 as bytes, each in the form that it
 /// has in a column of its own.

@@ -7,3 +7,4 @@ pub mod Tables
 pub mod Governed
 pub mod InFront
 pub mod Redacted
+pub mod InMap

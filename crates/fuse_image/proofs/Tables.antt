@@ -138,3 +138,10 @@ HoldsDigests-from_four digests x0 x1 x2 x3 four d0 d1 d2 d3 (suc (suc zero)) = a
 HoldsDigests-from_four digests x0 x1 x2 x3 four d0 d1 d2 d3 (suc (suc (suc zero))) = at_block digests 3 x3 (omega arith) four d3
 HoldsDigests-from_four digests x0 x1 x2 x3 four d0 d1 d2 d3 (suc (suc (suc (suc b)))) =
     rw (get_past (λ k. get_or digests k None) (suc (suc (suc (suc b)))) (λ low. omega (arith, low))) tt
+
+-- a table that takes its keys from digests holds digests
+pub HoldsDigests-table_where : (f : ℕ → Option (List ℕ)) → ((block : ℕ) → IfSome (f block) (λ digest. length digest ≡ 32)) → HoldsDigests (table_where f)
+HoldsDigests-table_where f are block = elim (cases_lt block 4) as (λ _. IfSome (map.get (table_where f) block) (λ digest. length digest ≡ 32)) [
+  | inl low ↦ rw (get_within f block low) (are block)
+  | inr high ↦ rw (get_past f block (λ low. omega (arith, low, high))) tt
+]

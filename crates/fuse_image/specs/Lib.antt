@@ -9,3 +9,5 @@ pub mod Keys
 pub mod Locks
 pub mod Image
 pub mod Redaction
+pub mod InMap
+pub mod Pending

@@ -7,4 +7,4 @@ pub mod Windows
 pub mod Digits
 pub mod Shown
 pub mod Pending
-pub mod Lies
+pub mod InMap

@@ -17,7 +17,7 @@ use Rattle.fuse_image.specs.Locks.{is_hidden, is_hidden_key, is_key_block}
 use Rattle.fuse_image.specs.Places.{Positions, is_empty, is_place, sets_meet, pos_cmp, pos_total, pos_exact, places_where, contains-places_where}
 use Rattle.fuse_image.specs.declared.image.Image.{Image}
 use Rattle.fuse_image.proofs.Sets.{none_in}
-use Rattle.fuse_columns.specs.declared.todo.Pending.{Pending}
+use Rattle.fuse_image.specs.declared.pending.Pending.{Pending}
 use Rattle.fuse_image.specs.Redaction.{AreKeys, some_key}
 use Rattle.fuse_image.specs.declared.redaction.ReadBack.{ReadBack}
 use Rattle.fuse_plan.specs.declared.fault.PlanFault.{PlanFault}

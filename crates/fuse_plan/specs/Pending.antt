@@ -8,8 +8,8 @@ use Rattle.fuse_image.specs.Keys.{KeyTable}
 use Rattle.fuse_image.specs.Locks.{is_hidden}
 use Rattle.fuse_image.specs.Places.{Positions}
 use Rattle.fuse_image.specs.declared.image.Image.{Image}
-use Rattle.fuse_columns.specs.TodoColumns.{IsPending}
-use Rattle.fuse_columns.specs.declared.todo.Pending.{Pending}
+use Rattle.fuse_image.specs.Pending.{IsPending}
+use Rattle.fuse_image.specs.declared.pending.Pending.{Pending}
 use Rattle.fuse_image.specs.Redaction.{AreKeys}
 use Rattle.fuse_image.specs.declared.redaction.ReadBack.{ReadBack}
 use Rattle.fuse_plan.specs.declared.verdict.Verdict.{Verdict}

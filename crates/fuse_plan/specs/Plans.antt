@@ -11,7 +11,7 @@ use Rattle.fuse_image.specs.Keys.{KeyTable}
 use Rattle.fuse_image.specs.Locks.{is_hidden, is_hidden_key, is_write_protected, is_write_protected_key}
 use Rattle.fuse_image.specs.Places.{Positions, sets_meet, places_where}
 use Rattle.fuse_image.specs.declared.image.Image.{Image}
-use Rattle.fuse_columns.specs.declared.todo.Pending.{Pending}
+use Rattle.fuse_image.specs.declared.pending.Pending.{Pending}
 use Rattle.fuse_image.specs.Redaction.{coding_field, some_key}
 use Rattle.fuse_plan.specs.declared.fault.PlanFault.{PlanFault}
 use Rattle.fuse_plan.specs.declared.fault.PlanFault.TheVariants.{UnknownField, UnmappedBit, ValueTooWide, ClearsBurnt, Contradiction, WrongKind, OtherKey}

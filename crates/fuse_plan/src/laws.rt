@@ -39,6 +39,6 @@ pub fn rest_law()
 {}
 
 /// What a read-back leaves to be burnt lies in the map where the plan does.
-pub fn rests_lie()
+pub fn rests_in_map()
     ensures { RestsInMap }
 {}

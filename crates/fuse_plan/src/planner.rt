@@ -1,6 +1,6 @@
 // The plan of some wishes.
 ghost use Rattle.std.specs.Prelude.{◌≡◌, IfOk};
-ghost use Rattle.fuse_columns.specs.TodoColumns.{IsPending};
+ghost use Rattle.fuse_image.specs.Pending.{IsPending};
 ghost use Rattle.fuse_plan.specs.Plans as plans;
 ghost use Rattle.fuse_plan.specs.Plans.{plan_of};
 
@@ -9,8 +9,7 @@ use crate::faults::lowest_fault;
 use crate::fields::{known_map, lock_positions};
 use crate::wants::{missing, wants_of};
 use crate::wish::Wish;
-use fuse_columns::Pending;
-use fuse_image::Image;
+use fuse_image::{Image, Pending};
 use fusemap_core::FuseMap;
 
 /// The plan of the wishes: what they ask for and isn't burnt, the lock bits in the second batch. Or,

@@ -11,7 +11,7 @@ use Rattle.fuse_image.specs.declared.image.Image.{Image}
 use Rattle.fuse_image.specs.Keys.{KeyTable}
 use Rattle.fuse_image.specs.Places.{Positions}
 use Rattle.fuse_image.specs.Words.{words_of_set}
-use Rattle.fuse_columns.specs.declared.todo.Pending.{Pending}
+use Rattle.fuse_image.specs.declared.pending.Pending.{Pending}
 use Rattle.office_tables.specs.Quarantine.{reason_of}
 use Rattle.office_tables.specs.declared.rows.Device.{Device}
 use Rattle.office_tables.specs.declared.rows.DeviceState.{DeviceState}

@@ -6,7 +6,7 @@ use Rattle.serde_json.specs.Written.{compact_text}
 use Rattle.fusemap_core.specs.declared.field.Field.{Field}
 use Rattle.fusemap_core.specs.Map.{Map}
 use Rattle.fuse_image.specs.declared.image.Image.{Image}
-use Rattle.fuse_columns.specs.declared.todo.Pending.{Pending}
+use Rattle.fuse_image.specs.declared.pending.Pending.{Pending}
 use Rattle.office_tables.specs.declared.rows.DeviceState.{DeviceState}
 use Rattle.office_tables.specs.declared.rows.Outcome.{Outcome}
 use Rattle.office_tables.specs.Texts.{outcome_text, state_text}

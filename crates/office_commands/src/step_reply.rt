@@ -6,8 +6,7 @@ ghost use Rattle.office_commands.specs.StepReplies as replies;
 ghost use Rattle.office_commands.specs.StepReplies.{outcome_data, plan_data};
 
 use crate::device_reply::batch_value;
-use fuse_columns::Pending;
-use fuse_image::{Image, Keys};
+use fuse_image::{Image, Keys, Pending};
 use fusemap_core::{Field, FuseMap};
 use office_tables::{DeviceState, Outcome};
 use serde_json::{Value, json};

@@ -12,12 +12,12 @@ use Rattle.site_core.specs.Site.{IsSite}
 use Rattle.site_core.proofs.Kept.{owners_grown}
 use Rattle.office_tables.specs.Tables.{Tables}
 use Rattle.office_tables.specs.declared.keep.Keep.{Ghosts}
-use Rattle.office_runs.specs.Exchanges.{Call, Exchange, Passes}
-use Rattle.office_runs.specs.Growth.{AreSeats}
-use Rattle.office_runs.proofs.Grown.{growth_itself}
-use Rattle.office_runs.proofs.Leaving.{leaves_joined}
-use Rattle.office_runs.proofs.Seats.{IsSeatOf}
-use Rattle.office_runs.proofs.Stopping.{seats_grown}
+use Rattle.office_laws.specs.Exchanges.{Call, Exchange, Passes}
+use Rattle.office_laws.specs.Growth.{AreSeats}
+use Rattle.office_laws.proofs.Grown.{growth_itself}
+use Rattle.office_laws.proofs.Leaving.{leaves_joined}
+use Rattle.office_laws.proofs.Seats.{IsSeatOf}
+use Rattle.office_laws.proofs.Stopping.{seats_grown}
 use Rattle.office_core.specs.Replaying.{Answered, AreGrown, BeginGrown, call_of, calls_in, calls_of_parts, last_owners, sites_of}
 use Rattle.office_core.specs.declared.requests.Part.{Part}
 

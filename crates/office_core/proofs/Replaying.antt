@@ -3,7 +3,7 @@ use Rattle.std.proofs.Common.{◌≡◌, List, [], ◌∷◌, ◌++◌, length, 
 use Rattle.std.specs.Prelude.{zip}
 use Rattle.http_replies.specs.Replies.{answer_of}
 use Rattle.http_replies.specs.declared.Reply.{Reply}
-use Rattle.office_runs.specs.Exchanges.{Call, Exchange, calls_of}
+use Rattle.office_laws.specs.Exchanges.{Call, Exchange, calls_of}
 
 pub exchanges_more : (cs : List Call) (replies : List Reply) (c : Call) (reply : Reply)
     → length replies ≡ length cs

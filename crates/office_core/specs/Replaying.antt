@@ -11,9 +11,9 @@ use Rattle.office_tables.specs.Keeping.{Stands}
 use Rattle.office_tables.specs.Tables.{Tables}
 use Rattle.office_tables.specs.declared.keep.Keep.{Ghosts}
 use Rattle.office_laws.specs.Sound.{IsSound}
-use Rattle.office_runs.specs.Exchanges.{Call, Exchange, IsRun, asks}
-use Rattle.office_runs.specs.Promises.{Promises}
-use Rattle.office_runs.specs.Stops.{LeavesAfter}
+use Rattle.office_laws.specs.Exchanges.{Call, Exchange, IsRun, asks}
+use Rattle.office_laws.specs.Promises.{Promises}
+use Rattle.office_laws.specs.Stops.{LeavesAfter}
 use Rattle.office_core.specs.declared.requests.Part.{Part}
 use Rattle.office_core.specs.declared.requests.SeatRequest.{SeatRequest}
 

@@ -8,7 +8,7 @@ ghost use Rattle.site_core.specs.Ownership.{PoolsDisjoint, Ownership, ownership_
 ghost use Rattle.site_core.specs.Site.{IsSite};
 ghost use Rattle.office_tables.specs.Keeping.{Stands};
 ghost use Rattle.office_tables.specs.Tables.{Tables};
-ghost use Rattle.office_runs.specs.Growth.{AreSeats, IsSeat};
+ghost use Rattle.office_laws.specs.Growth.{AreSeats, IsSeat};
 ghost use Rattle.office_core.specs.Replaying.{Answered, AreGrown, BeginGrown, KeepsPromises, call_of, calls_in, calls_of_parts, exchanges_in};
 ghost use Rattle.office_core.specs.Replaying.{exchanges_of_parts, last_owners, sites_of};
 

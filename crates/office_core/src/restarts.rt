@@ -4,10 +4,10 @@ ghost use Rattle.std.specs.List.{AllByRecursion};
 ghost use Rattle.site_core.specs.Ownership.{PoolsDisjoint, Ownership, OwnershipGrows};
 ghost use Rattle.office_tables.specs.Tables.{Tables};
 ghost use Rattle.office_laws.specs.Sound.{IsSound};
-ghost use Rattle.office_runs.specs.Exchanges.{Exchange, calls_of};
-ghost use Rattle.office_runs.specs.Growth.{IsSeat};
-ghost use Rattle.office_runs.specs.Promises.{Promises};
-ghost use Rattle.office_runs.specs.Stops.{IsLeft, IsUnanswered};
+ghost use Rattle.office_laws.specs.Exchanges.{Exchange, calls_of};
+ghost use Rattle.office_laws.specs.Growth.{IsSeat};
+ghost use Rattle.office_laws.specs.Promises.{Promises};
+ghost use Rattle.office_laws.specs.Stops.{IsLeft, IsUnanswered};
 ghost use Rattle.office_core.specs.Replaying.{Answered};
 ghost use Rattle.office_core.specs.Restarting.{IsLife};
 

@@ -1,4 +1,5 @@
 -- The lemmas of this crate.
+pub mod Acting
 mod Additions
 mod Addresses
 mod Appended
@@ -8,37 +9,50 @@ mod DeviceRows
 pub mod Ends
 pub mod Fresh
 pub mod GivenLaws
+pub mod Giving
 pub mod Growing
+pub mod Grown
 mod Identifying
 mod IdentityKept
 mod ImportKept
 mod Keeping
 mod Kept
 mod Lasting
+pub mod Leaving
 mod Looking
 pub mod Lowest
 mod Machine
 mod MapKept
 mod MapLaws
 mod MapRows
+pub mod Moments
 mod NamedMaps
 pub mod Obeying
 mod OrderKept
 pub mod OwnPlaces
+pub mod OwnReports
+pub mod OwnRetries
+pub mod Passing
 pub mod Placed
 mod Planning
+pub mod Promising
 mod ReadingBack
 pub mod Readings
 pub mod RecordAddresses
 mod RecordRows
 mod RegistrationKept
 mod Registrations
+pub mod RunLaws
+pub mod RunsAlone
+pub mod Seats
 mod Seen
+pub mod Served
 mod SoundRows
 pub mod Sounding
 mod StepKept
 mod StepLasts
 pub mod Steps
+pub mod Stopping
 mod Terms
 mod Tidy
 mod Unread

@@ -5,8 +5,8 @@ use Rattle.std.proofs.lemmas.Slice.Eq.{bytes_eq-Decides}
 use Rattle.text_core.specs.Options.{first_that_holds}
 use Rattle.http_replies.specs.Replies.{Answer}
 use Rattle.fuse_image.specs.Redaction.{WordsFitMap, redacted}
-use Rattle.fuse_columns.specs.InMap.{ReadBackInMap}
-use Rattle.fuse_columns.proofs.Lies.{read_backs_lie}
+use Rattle.fuse_image.specs.InMap.{ReadBackInMap}
+use Rattle.fuse_image.proofs.InMap.{read_backs_in_map}
 use Rattle.site_core.specs.Ownership.{PoolsDisjoint, IsSection, Ownership}
 use Rattle.site_core.specs.Section.{Section}
 use Rattle.office_tables.specs.declared.rows.OfCustomer.{OfCustomer}
@@ -99,7 +99,7 @@ module _ {owners : Ownership} {t : Tables} (sound : IsSound owners t) (apart : P
       let none = lowest_none (read_back_refusals n.blocks m old.row) refused in
       let may : is_awaited old.row.state ≡ true = not-false _ none.0 in
       let fit : WordsFitMap m n.blocks = (bytes_eq-Decides _ _).0 (not-false _ none.1.0) in
-      let lies : ReadBackInMap m n.blocks = read_backs_lie m n.blocks fit in
+      let lies : ReadBackInMap m n.blocks = read_backs_in_map m n.blocks fit in
       read_keeps m is_map old.row (redacted m n.blocks) lies.ones lies.shown may
       (unnumbered_awaited old numbered may)) puts
   command_kept (Identify n) e mid asked free is puts =

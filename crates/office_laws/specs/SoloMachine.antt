@@ -1,5 +1,6 @@
 -- A customer's own machine: the machine over that customer's rows alone.
-use Rattle.std.specs.Prelude.{ℕ, Bool, ◌&&◌, is_some, bytes_eq, if◌then◌else◌, List, [], ◌∷◌, length, filter, find, Option, Some, None, option_map}
+use Rattle.std.specs.Prelude.{ℕ, Bool, ◌&&◌, is_some, bytes_eq, if◌then◌else◌, List, []}
+use Rattle.std.specs.Prelude.{◌∷◌, length, filter, find, Option, Some, None, option_map}
 use Rattle.std.specs.Ordering.{nat_cmp, ordering_then}
 use Rattle.std.specs.declared.cmp.Ordering.{Ordering}
 use Rattle.sha2.specs.Sha256.{sha256}
@@ -16,7 +17,8 @@ use Rattle.office_tables.specs.Tables.{with_row, text_cmp}
 use Rattle.office_commands.specs.declared.command.Request.{Request}
 use Rattle.office_commands.specs.declared.refusal.Refusal.TheVariants.{Unkept}
 use Rattle.office_commands.specs.Replies.{refusal}
-use Rattle.office_rules.specs.Effect.{Put, device_put, map_put, number_put, order_put, record_put, seat_put}
+use Rattle.office_rules.specs.Effect.{Put, device_put, map_put, number_put}
+use Rattle.office_rules.specs.Effect.{order_put, record_put, seat_put}
 use Rattle.office_rules.specs.Machine.{Response, response}
 use Rattle.office_rules.specs.OfficeMachine.{has_issuer}
 use Rattle.office_rules.specs.Sight.{IssuedIn, OrderSight, Sight}
@@ -26,8 +28,8 @@ pub record SoloMap : Type 0 where
   pub digest : List ℕ
   pub text : List ℕ
 
--- the customer's tables, each in the order of its key. An order's cursor stands at its first number:
--- the machine has no use for one
+-- the customer's tables, each in the order of its key. An order's cursor stands at its first
+-- number: the machine has no use for one
 pub record SoloState : Type 0 where
   pub seats : List SeatState
   pub orders : List Order
@@ -53,7 +55,8 @@ seat_named name s = find (λ r. bytes_eq name r.name) s.seats
 
 -- the records of an issuer by their serial numbers and by their keys
 abbrev pub record_of_serial : List ℕ → List ℕ → SoloState → Option Given
-record_of_serial issuer serial s = find (λ g. bytes_eq issuer g.issuer && bytes_eq serial g.serial) s.given
+record_of_serial issuer serial s =
+    find (λ g. bytes_eq issuer g.issuer && bytes_eq serial g.serial) s.given
 
 abbrev pub record_of_key : List ℕ → List ℕ → SoloState → Option Given
 record_of_key issuer key s = find (λ g. bytes_eq issuer g.issuer && bytes_eq key g.key) s.given
@@ -93,16 +96,13 @@ solo_sight c seat s = record {
 abbrev pub with_put : Put → SoloState → SoloState
 with_put (seat_put r) s = record s { seats = with_row (by_text (λ r. r.name)) r s.seats }
 with_put (order_put o) s = record s { orders = with_row (by_text (λ o. o.name)) o s.orders }
-with_put (map_put text) s =
-    record s {
-      maps = with_row (by_text (λ m. m.digest))
-          (record { digest = sha256 text; text = text }) s.maps;
-    }
-with_put (device_put d e) s =
-    record s {
-      devices = with_row (by_text (λ d. d.chip)) d s.devices;
-      ledger = with_row solo_entry_cmp e s.ledger;
-    }
+with_put (map_put text) s = record s {
+  maps = with_row (by_text (λ m. m.digest)) (record { digest = sha256 text; text = text }) s.maps;
+}
+with_put (device_put d e) s = record s {
+  devices = with_row (by_text (λ d. d.chip)) d s.devices;
+  ledger = with_row solo_entry_cmp e s.ledger;
+}
 with_put (record_put g) s = record s { given = with_row solo_given_cmp g s.given }
 with_put (number_put order number g) s = record s { given = with_row solo_given_cmp g s.given }
 

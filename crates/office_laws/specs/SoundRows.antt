@@ -6,7 +6,8 @@ use Rattle.office_tables.specs.declared.rows.OfCustomer.{OfCustomer}
 use Rattle.office_tables.specs.Tables.{IsInOrder}
 
 -- the rows are in the order of their keys, and each is the customer's who owns what it names
-pub record AreOwned {A : Type 0} (cmp : OfCustomer A → OfCustomer A → Ordering) (owner : A → Option (List ℕ))
+pub record AreOwned {A : Type 0} (cmp : OfCustomer A → OfCustomer A → Ordering)
+    (owner : A → Option (List ℕ))
     (rows : List (OfCustomer A)) : Type 0 where
   pub in_order : IsInOrder cmp rows
   pub owned : AllByRecursion (λ o. owner o.row ≡ Some o.customer) rows

@@ -9,9 +9,9 @@ use Rattle.site_core.specs.Ownership.{Ownership, OwnershipGrows}
 use Rattle.office_tables.specs.Keeping.{Stands}
 use Rattle.office_tables.specs.Tables.{Tables}
 use Rattle.office_laws.specs.Sound.{IsSound}
-use Rattle.office_runs.specs.Exchanges.{Exchange, IsRun}
-use Rattle.office_runs.specs.Promises.{Promises}
-use Rattle.office_runs.specs.Stops.{IsLeft, IsUnanswered}
+use Rattle.office_laws.specs.Exchanges.{Exchange, IsRun}
+use Rattle.office_laws.specs.Promises.{Promises}
+use Rattle.office_laws.specs.Stops.{IsLeft, IsUnanswered}
 use Rattle.office_store.specs.Keeping.{is_open_at, tables_of}
 use Rattle.office_store.specs.Opening.{HasTablesOf}
 

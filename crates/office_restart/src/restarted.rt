@@ -6,7 +6,7 @@ ghost use Rattle.site_core.specs.Caller.{IsSeatCaller};
 ghost use Rattle.site_core.specs.Growth.{IsGrowth};
 ghost use Rattle.site_core.specs.Ownership.{PoolsDisjoint, ownership_of};
 ghost use Rattle.site_core.specs.Site.{IsSite};
-ghost use Rattle.office_runs.specs.Growth.{IsSeat};
+ghost use Rattle.office_laws.specs.Growth.{IsSeat};
 ghost use Rattle.office_core.specs.Replaying.{KeepsPromises, calls_in, exchanges_in};
 ghost use Rattle.office_store.specs.Keeping.{is_honest_at};
 ghost use Rattle.office_restart.specs.Restarting.{GoesOn};

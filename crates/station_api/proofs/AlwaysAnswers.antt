@@ -13,12 +13,12 @@ use Rattle.office_tables.specs.Tables.{Tables}
 use Rattle.office_commands.specs.declared.refusal.Refusal.{Refusal}
 use Rattle.office_commands.specs.declared.refusal.Refusal.TheVariants.{UnknownToken}
 use Rattle.office_commands.specs.Replies.{refusal}
-use Rattle.office_runs.proofs.Served.{step_is_served}
+use Rattle.office_laws.proofs.Served.{step_is_served}
 use Rattle.office_laws.specs.Sound.{IsSound}
 use Rattle.office_laws.proofs.Obeying.{step_always}
 use Rattle.yield_report.specs.Reports.{order_report_in, site_report_in}
 use Rattle.station_api.specs.HttpAnswers.{AnswersAnyCaller, ParsedOrUnkept, AnswersParsed, AnswersHttp, caller_at}
-use Rattle.office_runs.specs.Exchanges.{report_reply}
+use Rattle.office_laws.specs.Exchanges.{report_reply}
 use Rattle.station_api.specs.Requests.{parse_request, of_manager, of_seat}
 use Rattle.station_api.specs.declared.parse.Parsed.{Parsed}
 use Rattle.station_api.specs.declared.parse.Parsed.TheVariants.{Office, Report, SiteReport}

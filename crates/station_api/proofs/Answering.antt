@@ -20,8 +20,8 @@ use Rattle.office_commands.specs.Replies.{refusal}
 use Rattle.office_tables.specs.Reading.{ReadsOnly}
 use Rattle.office_tables.specs.declared.keep.Keep.{Ghosts}
 use Rattle.office_tables.specs.declared.keep.Unkept.{Unkept as NoAnswer}
-use Rattle.office_runs.specs.Exchanges.{Exchange, report_reply}
-use Rattle.office_runs.proofs.Leaving.{AnswersNothing, leaves_unanswered, answers_nothing}
+use Rattle.office_laws.specs.Exchanges.{Exchange, report_reply}
+use Rattle.office_laws.proofs.Leaving.{AnswersNothing, leaves_unanswered, answers_nothing}
 use Rattle.station_api.specs.Requests.{parse_request, kind_of_caller}
 use Rattle.station_api.specs.declared.parse.Parsed.{Parsed}
 use Rattle.station_api.specs.HttpAnswers.{AnswersAnyCaller, ParsedOrUnkept, AnswersParsed, AnswersKnownCaller, DeskSteps, Says, SaysAny, SaysRefusal}

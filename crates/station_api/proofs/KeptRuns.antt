@@ -19,12 +19,12 @@ use Rattle.office_commands.specs.declared.refusal.Refusal.{Refusal}
 use Rattle.office_commands.specs.declared.refusal.Refusal.TheVariants.{Unkept}
 use Rattle.office_commands.specs.Replies.{refusal}
 use Rattle.office_laws.specs.Sound.{IsSound}
-use Rattle.office_runs.specs.Alone.{IsAsAlone}
-use Rattle.office_runs.specs.Exchanges.{Call, Exchange, IsRun, FulfilsWanted, Passes, calls_of}
-use Rattle.office_runs.specs.Growth.{CanAsk}
-use Rattle.office_runs.proofs.Grown.{growth_itself}
-use Rattle.office_runs.proofs.Promising.{promises}
-use Rattle.office_runs.proofs.Seats.{IsSeatOf, all_seats}
+use Rattle.office_laws.specs.Alone.{IsAsAlone}
+use Rattle.office_laws.specs.Exchanges.{Call, Exchange, IsRun, FulfilsWanted, Passes, calls_of}
+use Rattle.office_laws.specs.Growth.{CanAsk}
+use Rattle.office_laws.proofs.Grown.{growth_itself}
+use Rattle.office_laws.proofs.Promising.{promises}
+use Rattle.office_laws.proofs.Seats.{IsSeatOf, all_seats}
 use Rattle.station_api.specs.Books.{StreamKeepsPromises}
 use Rattle.station_api.specs.HttpAnswers.{AnswersAnyCaller, ParsedOrUnkept, AnswersParsed, AnswersHttp, caller_at}
 use Rattle.station_api.specs.SectionExchanges.{exchange_any, exchange_in, exchange_of, exchanges_with_seats, wanted_of}

@@ -11,8 +11,8 @@ use Rattle.site_core.specs.declared.site.Caller.{Caller}
 use Rattle.site_core.specs.declared.site.Caller.TheVariants.{Seat, Manager}
 use Rattle.office_commands.specs.declared.refusal.Refusal.{Refusal}
 use Rattle.office_rules.proofs.Ties.{text_itself}
-use Rattle.office_runs.specs.Alone.{is_own, exchanges_of}
-use Rattle.office_runs.specs.Exchanges.{Exchange}
+use Rattle.office_laws.specs.Alone.{is_own, exchanges_of}
+use Rattle.office_laws.specs.Exchanges.{Exchange}
 use Rattle.station_api.specs.HttpAnswers.{caller_at}
 use Rattle.station_api.specs.SectionExchanges.{exchange_any, exchange_in, exchange_of, exchanges_with_seats, section_exchange, section_exchanges, seat_of_token}
 use Rattle.station_api.specs.Requests.{parse_request, of_seat}

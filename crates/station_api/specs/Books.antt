@@ -10,9 +10,9 @@ use Rattle.office_tables.specs.Keeping.{Stands}
 use Rattle.office_tables.specs.Tables.{Tables}
 use Rattle.office_tables.specs.declared.keep.Keep.{Ghosts}
 use Rattle.office_laws.specs.Sound.{IsSound}
-use Rattle.office_runs.specs.Alone.{IsAsAlone, exchanges_of}
-use Rattle.office_runs.specs.Promises.{Promises}
-use Rattle.office_runs.specs.Stops.{LeavesAfter}
+use Rattle.office_laws.specs.Alone.{IsAsAlone, exchanges_of}
+use Rattle.office_laws.specs.Promises.{Promises}
+use Rattle.office_laws.specs.Stops.{LeavesAfter}
 use Rattle.station_api.specs.HttpAnswers.{AnswersHttp}
 use Rattle.station_api.specs.SectionExchanges.{exchanges_with_seats, section_exchanges}
 

@@ -15,8 +15,8 @@ use Rattle.office_commands.specs.declared.refusal.Refusal.{Refusal}
 use Rattle.office_commands.specs.declared.refusal.Refusal.TheVariants.{UnknownToken, Unkept}
 use Rattle.office_commands.specs.Replies.{refusal}
 use Rattle.office_rules.specs.OfficeMachine.{Step}
-use Rattle.office_runs.specs.Exchanges.{Exchange, report_reply}
-use Rattle.office_runs.specs.Stops.{LeavesAfter}
+use Rattle.office_laws.specs.Exchanges.{Exchange, report_reply}
+use Rattle.office_laws.specs.Stops.{LeavesAfter}
 use Rattle.yield_report.specs.Reports.{order_report_in, site_report_in}
 use Rattle.station_api.specs.Requests.{parse_request, kind_of_caller}
 use Rattle.station_api.specs.declared.parse.Parsed.{Parsed}

@@ -10,7 +10,7 @@ use Rattle.site_core.specs.declared.site.Caller.{Caller}
 use Rattle.site_core.specs.declared.site.Caller.TheVariants.{Seat, Manager}
 use Rattle.office_commands.specs.declared.refusal.Refusal.{Refusal}
 use Rattle.office_commands.specs.declared.refusal.Refusal.TheVariants.{WrongCaller}
-use Rattle.office_runs.specs.Exchanges.{Exchange, Wanted, asks, reports, refused}
+use Rattle.office_laws.specs.Exchanges.{Exchange, Wanted, asks, reports, refused}
 use Rattle.station_api.specs.HttpAnswers.{caller_at}
 use Rattle.station_api.specs.Requests.{parse_request, kind_of_caller, of_seat}
 use Rattle.station_api.specs.declared.parse.Parsed.{Parsed}

@@ -9,7 +9,7 @@ ghost use Rattle.site_core.specs.Section.{Section, SiteValue};
 ghost use Rattle.site_core.specs.Site.{IsSite};
 ghost use Rattle.office_laws.specs.Sound.{IsSound};
 ghost use Rattle.office_laws.specs.View.{view};
-ghost use Rattle.office_runs.specs.Exchanges.{calls_of, replies_of};
+ghost use Rattle.office_laws.specs.Exchanges.{calls_of, replies_of};
 ghost use Rattle.office_tables.specs.Tables.{Tables};
 ghost use Rattle.station_api.specs.Books.{StreamKeepsPromises};
 ghost use Rattle.station_api.specs.HttpAnswers.{AnswersHttp};

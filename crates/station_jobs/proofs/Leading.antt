@@ -4,10 +4,10 @@ use Rattle.std.proofs.lemmas.Grind.{flat_map-append}
 use Rattle.http_frames.specs.Frames.{Request}
 use Rattle.http_replies.specs.Replies.{Answer}
 use Rattle.http_replies.proofs.RunLemmas.{runs_both}
-use Rattle.office_runs.specs.Exchanges.{Exchange}
-use Rattle.office_runs.specs.Stops.{LeavesAfter}
-use Rattle.office_runs.proofs.Grown.{sound_grown}
-use Rattle.office_runs.proofs.Leaving.{leaves_joined, leaves_none}
+use Rattle.office_laws.specs.Exchanges.{Exchange}
+use Rattle.office_laws.specs.Stops.{LeavesAfter}
+use Rattle.office_laws.proofs.Grown.{sound_grown}
+use Rattle.office_laws.proofs.Leaving.{leaves_joined, leaves_none}
 use Rattle.office_tables.specs.declared.keep.Keep.{Ghosts}
 use Rattle.site_core.specs.Ownership.{ownership_of}
 use Rattle.site_core.specs.Section.{SiteValue}

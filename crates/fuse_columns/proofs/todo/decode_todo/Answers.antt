@@ -3,7 +3,8 @@ use Rattle.std.proofs.Common.{ℕ, List, drop, sym, ap, ap₂, ◌∙◌, subst}
 use Rattle.std.proofs.lemmas.List.{drop-drop}
 use Rattle.fuse_columns.specs.BitsColumns.{bits_in, bits_length}
 use Rattle.fuse_columns.specs.KeysColumns.{keys_in}
-use Rattle.fuse_columns.specs.TodoColumns.{IsPending, pending_in}
+use Rattle.fuse_image.specs.Pending.{IsPending}
+use Rattle.fuse_columns.specs.TodoColumns.{pending_in}
 use Rattle.fuse_columns.proofs.WorkBytes.{IsPending-pending_in}
 use Rattle.fuse_columns.proofs.todo.decode_todo.Goals as goal
 

@@ -8,9 +8,9 @@ use Rattle.site_core.specs.Caller.{section_at, seat_name_at}
 use Rattle.site_core.specs.Ownership.{ownership_of}
 use Rattle.office_tables.specs.Tables.{Tables}
 use Rattle.office_rules.specs.OfficeMachine.{Step}
-use Rattle.office_runs.specs.Exchanges.{Exchange}
-use Rattle.office_runs.proofs.Leaving.{leaves_more, leaves_none}
-use Rattle.office_runs.proofs.Seats.{run_more, seats_joined_more}
+use Rattle.office_laws.specs.Exchanges.{Exchange}
+use Rattle.office_laws.proofs.Leaving.{leaves_more, leaves_none}
+use Rattle.office_laws.proofs.Seats.{run_more, seats_joined_more}
 use Rattle.office_core.specs.Replaying.{call_of, calls_in}
 use Rattle.office_core.proofs.Replaying.{exchanges_more, lengths_more}
 use Rattle.office_core.proofs.CarriedOut.{carried_out}

@@ -7,7 +7,7 @@ use Rattle.http_replies.specs.declared.Reply.{Reply}
 use Rattle.site_core.specs.Ownership.{ownership_of}
 use Rattle.office_tables.specs.Keeping.{Stands}
 use Rattle.office_tables.specs.Tables.{Tables}
-use Rattle.office_runs.proofs.Seats.{IsSeatOf}
+use Rattle.office_laws.proofs.Seats.{IsSeatOf}
 use Rattle.office_core.specs.Replaying.{Answered, calls_in}
 use Rattle.office_core.proofs.requests.answer_all.Given as goal
 

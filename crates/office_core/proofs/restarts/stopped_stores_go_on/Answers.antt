@@ -1,12 +1,12 @@
 -- Why `restarts::stopped_stores_go_on` meets its contract, where that has to be said.
 use Rattle.std.proofs.Common.{◌++◌, List, [], ◌∷◌, None, refl, sym}
 use Rattle.std.proofs.lemmas.List.{append-nil}
-use Rattle.office_runs.specs.Exchanges.{Exchange}
-use Rattle.office_runs.specs.Stops.{IsStoppedRun, Leaves, Session}
-use Rattle.office_runs.proofs.Grown.{growth_itself}
-use Rattle.office_runs.proofs.Leaving.{stop_leaves}
-use Rattle.office_runs.proofs.Promising.{promises}
-use Rattle.office_runs.proofs.Stopping.{stopped_runs, stopped_seats}
+use Rattle.office_laws.specs.Exchanges.{Exchange}
+use Rattle.office_laws.specs.Stops.{IsStoppedRun, Leaves, Session}
+use Rattle.office_laws.proofs.Grown.{growth_itself}
+use Rattle.office_laws.proofs.Leaving.{stop_leaves}
+use Rattle.office_laws.proofs.Promising.{promises}
+use Rattle.office_laws.proofs.Stopping.{stopped_runs, stopped_seats}
 use Rattle.office_core.proofs.restarts.stopped_stores_go_on.Goals as goal
 
 pub returns : goal.returns

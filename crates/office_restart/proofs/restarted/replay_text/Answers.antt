@@ -4,7 +4,7 @@ use Rattle.std.specs.List.{All, AllByRecursion}
 use Rattle.site_core.specs.Caller.{IsSeatCaller}
 use Rattle.site_core.specs.Ownership.{PoolsDisjoint, ownership_of}
 use Rattle.site_core.specs.Section.{SiteValue}
-use Rattle.office_runs.specs.Growth.{IsSeat}
+use Rattle.office_laws.specs.Growth.{IsSeat}
 use Rattle.office_core.specs.Replaying.{KeepsPromises, calls_in, exchanges_in}
 use Rattle.office_restart.proofs.restarted.replay_text.Goals as goal
 

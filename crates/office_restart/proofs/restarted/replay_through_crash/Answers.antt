@@ -10,8 +10,8 @@ use Rattle.sqlite.specs.Files.{over_files}
 use Rattle.site_core.specs.Ownership.{ownership_of}
 use Rattle.site_core.specs.Section.{SiteValue}
 use Rattle.site_core.proofs.Kept.{owners_grown}
-use Rattle.office_runs.specs.Exchanges.{Call, calls_of}
-use Rattle.office_runs.specs.Growth.{IsSeat}
+use Rattle.office_laws.specs.Exchanges.{Call, calls_of}
+use Rattle.office_laws.specs.Growth.{IsSeat}
 use Rattle.office_core.specs.Replaying.{call_of, calls_in, exchanges_in}
 use Rattle.office_core.specs.declared.requests.SeatRequest.{SeatRequest}
 use Rattle.office_store.specs.Keeping.{tables_of}

@@ -7,8 +7,8 @@ use Rattle.site_core.specs.declared.site.Caller.TheVariants.{Seat, Manager}
 use Rattle.yield_report.specs.Reports.{IsOrderReport, IsSiteReport, order_report_in, site_report_in}
 use Rattle.office_tables.specs.Tables.{Tables}
 use Rattle.office_rules.specs.OfficeMachine.{Step}
-use Rattle.office_runs.specs.Exchanges.{Exchange}
-use Rattle.office_runs.proofs.Leaving.{leaves_more, leaves_none}
+use Rattle.office_laws.specs.Exchanges.{Exchange}
+use Rattle.office_laws.proofs.Leaving.{leaves_more, leaves_none}
 use Rattle.office_core.proofs.CarriedOut.{or_then}
 use Rattle.station_api.specs.SectionExchanges.{exchange_of}
 use Rattle.station_api.specs.declared.parse.Parsed.TheVariants.{Office, Report, SiteReport}

@@ -1,8 +1,8 @@
 -- Why `laws::other_requests_make_no_difference` meets its contract, where that has to be said.
 use Rattle.std.proofs.Common.{subst}
 use Rattle.site_core.specs.Section.{Section}
-use Rattle.office_runs.specs.Alone.{IsAsAlone}
-use Rattle.office_runs.proofs.RunLaws.{same_from_same}
+use Rattle.office_laws.specs.Alone.{IsAsAlone}
+use Rattle.office_laws.proofs.RunLaws.{same_from_same}
 use Rattle.station_api.specs.SectionExchanges.{section_exchanges}
 use Rattle.station_api.proofs.KeptRuns.{kept}
 use Rattle.station_api.proofs.laws.other_requests_make_no_difference.Goals as goal

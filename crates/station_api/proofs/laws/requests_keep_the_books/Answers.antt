@@ -1,6 +1,6 @@
 -- Why `laws::requests_keep_the_books` meets its contract, where that has to be said.
 use Rattle.site_core.specs.Ownership.{ownership_of}
-use Rattle.office_runs.proofs.Grown.{sound_grown}
+use Rattle.office_laws.proofs.Grown.{sound_grown}
 use Rattle.station_api.proofs.KeptRuns.{kept}
 use Rattle.station_api.proofs.laws.requests_keep_the_books.Goals as goal
 

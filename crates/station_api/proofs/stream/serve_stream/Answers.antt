@@ -1,7 +1,7 @@
 -- Why `stream::serve_stream` meets its contract, where that has to be said.
 use Rattle.http_serving.specs.Streams.{requests_with_answers}
 use Rattle.site_core.specs.Ownership.{ownership_of}
-use Rattle.office_runs.proofs.Grown.{sound_grown}
+use Rattle.office_laws.proofs.Grown.{sound_grown}
 use Rattle.station_api.specs.HttpAnswers.{Says, AnswersHttp}
 use Rattle.station_api.specs.SectionExchanges.{exchange_in}
 use Rattle.station_api.proofs.KeptRuns.{kept}

@@ -2,7 +2,7 @@
 use Rattle.std.proofs.Common.{IfOk, rules, subst}
 use Rattle.site_core.specs.Ownership.{ownership_of}
 use Rattle.site_core.specs.Section.{SiteValue}
-use Rattle.office_runs.proofs.Grown.{growth_itself}
+use Rattle.office_laws.proofs.Grown.{growth_itself}
 use Rattle.office_tables.specs.Tables.{no_rows}
 use Rattle.station_jobs.specs.Replaying.{Replays}
 use Rattle.station_jobs.specs.SiteFile.{site_in}

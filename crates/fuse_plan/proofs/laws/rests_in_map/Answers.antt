@@ -1,0 +1,6 @@
+-- Why `laws::rests_in_map` meets its contract, where that has to be said.
+use Rattle.fuse_plan.proofs.InMap.{rests_in_map}
+use Rattle.fuse_plan.proofs.laws.rests_in_map.Goals as goal
+
+pub returns : goal.returns
+returns c = rests_in_map

@@ -1,0 +1,318 @@
+-- What a call does to the seats of the customer's own machine.
+use Rattle.std.proofs.Common.{◌≡◌, ◌∙◌, ◌+◌, ◌==◌, ◌++◌, ℕ, ◌⊎◌, inl, inr, true, false, List, [], ◌∷◌, Option, Some, None, Equal, refl, sym, ap}
+use Rattle.std.specs.Prelude.{Bool, ◌&&◌, bytes_eq, find, if◌then◌else◌, is_some, map, MatchBool, option_and_then, option_map, Result, Ok, Err}
+use Rattle.std.specs.List.{AllByRecursion}
+use Rattle.std.proofs.lemmas.Bool.{eqb-true}
+use Rattle.std.proofs.lemmas.Cmp.{nat_list_cmp_total, tied_itself}
+use Rattle.sha2.specs.Sha256.{sha256}
+use Rattle.text_core.specs.Options.{first_that_holds}
+use Rattle.http_replies.specs.Replies.{Answer, code_of}
+use Rattle.import_rows.specs.declared.rows.ImportRow.{ImportRow}
+use Rattle.site_core.specs.Section.{Section}
+use Rattle.office_tables.specs.declared.rows.SeatState.{SeatState}
+use Rattle.office_tables.specs.Tables.{with_row}
+use Rattle.office_tables.proofs.Finding.{other_placed}
+use Rattle.office_commands.specs.declared.command.Change.{Change as Changing}
+use Rattle.office_commands.specs.declared.command.Change.TheVariants.{MakeOrder, ImportMap, RegisterDevice, PlanDevice, ReadBack, Identify, Ship, Scrap, Import}
+use Rattle.office_commands.specs.declared.command.Command.{Command}
+use Rattle.office_commands.specs.declared.command.Command.TheVariants.{Change, Show}
+use Rattle.office_commands.specs.declared.command.Request.{Request}
+use Rattle.office_commands.specs.declared.refusal.Refusal.{Refusal}
+use Rattle.office_commands.specs.declared.refusal.Refusal.TheVariants.{UnknownToken, UnknownPath, WrongCaller, BadJson, BadMember, WrongNumber}
+use Rattle.office_commands.specs.declared.refusal.Refusal.TheVariants.{OtherBody, UnknownMap, UnknownOrder, UnknownDevice, Exists, WrongState}
+use Rattle.office_commands.specs.declared.refusal.Refusal.TheVariants.{QuantityReached, BadPlan, BadMap, BadSerial, NumberTooWide, Exhausted}
+use Rattle.office_commands.specs.declared.refusal.Refusal.TheVariants.{NoMacRoom, RangeOverlap, KeyBound, CodingScheme, ForeignIssuer}
+use Rattle.office_commands.specs.declared.refusal.Refusal.TheVariants.{ImportConflict, MapDigestTaken, Limit, BadReadback, BadNotBefore, Unkept}
+use Rattle.office_commands.specs.Refusals.{refusal_status}
+use Rattle.office_commands.specs.Replies.{acceptance, refusal}
+use Rattle.office_rules.specs.Effect.{StepRule, Effect, Put, map_put, record_put, seat_put, step_effect}
+use Rattle.office_rules.specs.Ends.{scraps, ships}
+use Rattle.office_rules.specs.Import.{ImportResult, import_result, row_of_import, rows_effect}
+use Rattle.office_rules.specs.Machine.{Response, decide, effect, refusals, respond_by_retry, respond_to}
+use Rattle.office_rules.specs.Plan.{plans}
+use Rattle.office_rules.specs.ReadBack.{reads}
+use Rattle.office_rules.specs.Retry.{kept_of, retry_of}
+use Rattle.office_rules.specs.Sight.{Sight, map_in_sight}
+use Rattle.office_rules.specs.declared.retry.Retry.{Retry}
+use Rattle.office_rules.specs.declared.retry.Retry.TheVariants.{Repeats, Differs, Next, Skips}
+use Rattle.office_rules.proofs.Ties.{same_place, same_text, text_itself}
+use Rattle.office_laws.specs.SoloMachine.{SoloState, after_response, or_unkept, seat_named, solo_sight, with_put, with_puts}
+use Rattle.office_laws.proofs.OwnPlaces.{solo_seat_cmp}
+use Rattle.office_laws.proofs.Placed.{found_replaced}
+use Rattle.office_laws.specs.Exchanges.{Call, Exchange, Wanted, asks, reports, refused}
+use Rattle.office_laws.specs.Alone.{alone, alone_on}
+use Rattle.office_laws.specs.Gifts.{last_number_of_seat}
+use Rattle.office_laws.specs.Once.{is_accepted, is_change, number_of_wanted, writes}
+
+-- no refusal is answered 200
+pub not_success : (reason : Refusal) → (code_of (refusal_status reason) == 200) ≡ false
+not_success UnknownToken = refl
+not_success UnknownPath = refl
+not_success WrongCaller = refl
+not_success BadJson = refl
+not_success BadMember = refl
+not_success (WrongNumber expected) = refl
+not_success OtherBody = refl
+not_success UnknownMap = refl
+not_success UnknownOrder = refl
+not_success UnknownDevice = refl
+not_success Exists = refl
+not_success WrongState = refl
+not_success QuantityReached = refl
+not_success (BadPlan fault) = refl
+not_success (BadMap fault) = refl
+not_success BadSerial = refl
+not_success NumberTooWide = refl
+not_success Exhausted = refl
+not_success NoMacRoom = refl
+not_success RangeOverlap = refl
+not_success KeyBound = refl
+not_success CodingScheme = refl
+not_success ForeignIssuer = refl
+not_success (ImportConflict serial) = refl
+not_success MapDigestTaken = refl
+not_success Limit = refl
+not_success BadReadback = refl
+not_success BadNotBefore = refl
+not_success Unkept = refl
+
+-- a put of another row leaves the seats
+abbrev LeavesSeats : Put → Type 0
+LeavesSeats p = (s : SoloState) → (with_put p s).seats ≡ s.seats
+
+-- and so do those of a command: the seat's own row is put after them
+module _ (c : Section) (seat : List ℕ) (v : Sight) where
+  abbrev LeaveSeats : Option Effect → Type 0
+  LeaveSeats None = Unit {0}
+  LeaveSeats (Some made) = AllByRecursion LeavesSeats made.puts
+
+  after_some : {A : Type 0} (o : Option A) (f : A → Option Effect) → ((x : A) → LeaveSeats (f x))
+      → LeaveSeats (option_and_then f o)
+  after_some None f leaves = tt
+  after_some (Some x) f leaves = leaves x
+
+  step_leaves : (does : StepRule) (chip : List ℕ) → LeaveSeats (step_effect seat v does chip)
+  step_leaves does chip =
+      after_some (v.device chip) _ (λ d. after_some (map_in_sight v d.map) _ (λ m. (λ _. refl, tt)))
+
+  records_leave : (issuer : List ℕ) (rows : List ImportRow)
+      → AllByRecursion LeavesSeats (map (λ r. record_put (row_of_import issuer r)) rows)
+  records_leave issuer [] = tt
+  records_leave issuer (r ∷ rs) = (λ _. refl, records_leave issuer rs)
+
+  rows_leave : (issuer : List ℕ) (made : Result ImportResult (List ℕ))
+      → LeaveSeats (rows_effect issuer made)
+  rows_leave issuer (Err serial) = tt
+  rows_leave issuer (Ok i) = records_leave issuer i.added
+
+  map_leaves : (text : List ℕ) (there : Bool)
+      → AllByRecursion LeavesSeats (if there then [] else map_put text ∷ [])
+  map_leaves text true = tt
+  map_leaves text false = (λ _. refl, tt)
+
+  effect_leaves : (change : Changing) → LeaveSeats (effect c seat v change)
+  effect_leaves (MakeOrder n) = after_some (v.issuer n.issuer) _ (λ given. (λ _. refl, tt))
+  effect_leaves (ImportMap text) = map_leaves text (is_some (v.text (sha256 text)))
+  effect_leaves (RegisterDevice n) =
+      after_some (map_in_sight v n.map) _ (λ m. (λ _. refl, tt))
+  effect_leaves (PlanDevice n) = step_leaves (plans n.wishes) n.chip
+  effect_leaves (ReadBack n) = step_leaves (reads n.blocks) n.chip
+  effect_leaves (Identify n) =
+      after_some (v.device n.chip) _ (λ d. after_some (map_in_sight v d.map) _ (λ m.
+      after_some (v.order d.order) _ (λ o. after_some o.next _ (λ next.
+      (λ _. refl, (λ _. refl, tt))))))
+  effect_leaves (Ship chip) = step_leaves ships chip
+  effect_leaves (Scrap chip) = step_leaves scraps chip
+  effect_leaves (Import n) =
+      after_some n.rows _ (λ rows. after_some (v.issuer n.issuer) _ (λ given.
+      rows_leave n.issuer (import_result given rows)))
+
+-- so after them and the seat's row the seats are those of before with the row in its place
+seats_after : (ps : List Put) (row : SeatState) (s : SoloState) → AllByRecursion LeavesSeats ps
+    → (with_puts (ps ++ seat_put row ∷ []) s).seats ≡ with_row solo_seat_cmp row s.seats
+seats_after [] row s leave = refl
+seats_after (p ∷ ps) row s leave =
+    seats_after ps row (with_put p s) leave.1 ∙ ap (with_row solo_seat_cmp row) (leave.0 s)
+
+-- a repeat is of the number of the seat's row, whose reply is kept
+pub retry_repeats : (found : Option SeatState) (n : ℕ) (digest body : List ℕ)
+    → retry_of found n digest ≡ Repeats body
+    → (r : SeatState) × (found ≡ Some r) × (r.last ≡ n) × (r.reply ≡ body)
+retry_repeats None n digest body =
+    elim (n == 1) as (λ b. (if b then Next else Skips 1) ≡ Repeats body → (r : SeatState)
+    × (None ≡ Some r) × (r.last ≡ n) × (r.reply ≡ body)) [
+      | true ↦ λ e. cc
+      | false ↦ λ e. cc
+    ]
+retry_repeats (Some s) n digest body =
+    elim (n == s.last) as
+    (λ b. (n == s.last) ≡ b
+    → (if b then (if bytes_eq digest s.digest then Repeats s.reply else Differs) else
+    (if n == s.last + 1 then Next else Skips (s.last + 1))) ≡ Repeats body
+    → (r : SeatState) × (Some s ≡ Some r) × (r.last ≡ n) × (r.reply ≡ body)) [
+      | true ↦ λ same. elim (bytes_eq digest s.digest) as
+          (λ b. (if b then Repeats s.reply else Differs) ≡ Repeats body → (r : SeatState)
+          × (Some s ≡ Some r) × (r.last ≡ n) × (r.reply ≡ body)) [
+            | true ↦ λ e. (s, refl, sym (eqb-true n s.last same), (cc))
+            | false ↦ λ e. cc
+          ]
+      | false ↦ λ _. elim (n == s.last + 1) as
+          (λ b. (if b then Next else Skips (s.last + 1)) ≡ Repeats body → (r : SeatState)
+          × (Some s ≡ Some r) × (r.last ≡ n) × (r.reply ≡ body)) [
+            | true ↦ λ e. cc
+            | false ↦ λ e. cc
+          ]
+    ] refl
+
+-- what is next has the number after it
+turn_next : (found : Option SeatState) (n : ℕ) (digest : List ℕ) → retry_of found n digest ≡ Next
+    → n ≡ last_number_of_seat found + 1
+turn_next None n digest =
+    elim (n == 1) as (λ b. (n == 1) ≡ b → (if b then Next else Skips 1) ≡ Next → n ≡ 1) [
+      | true ↦ λ same _. eqb-true n 1 same
+      | false ↦ λ _ e. cc
+    ] refl
+turn_next (Some s) n digest =
+    elim (n == s.last) as
+    (λ b. (if b then (if bytes_eq digest s.digest then Repeats s.reply else Differs) else
+    (if n == s.last + 1 then Next else Skips (s.last + 1))) ≡ Next → n ≡ s.last + 1) [
+      | true ↦ elim (bytes_eq digest s.digest) as
+          (λ b. (if b then Repeats s.reply else Differs) ≡ Next → n ≡ s.last + 1) [
+            | true ↦ λ e. cc
+            | false ↦ λ e. cc
+          ]
+      | false ↦ elim (n == s.last + 1) as
+          (λ b. (n == s.last + 1) ≡ b → (if b then Next else Skips (s.last + 1)) ≡ Next → n
+          ≡ s.last + 1) [
+            | true ↦ λ same _. eqb-true n (s.last + 1) same
+            | false ↦ λ _ e. cc
+          ] refl
+    ]
+
+-- what an accepted command does: the seat's row has its number and its reply. It is the last one
+-- again, and nothing changes, or the next one; and each other seat's row stays
+pub record Accepts (seat : List ℕ) (number : ℕ) (reply : Answer) (s mid : SoloState) : Type 0 where
+  pub row : SeatState
+  pub there : seat_named seat mid ≡ Some row
+  pub last : row.last ≡ number
+  pub shown : reply ≡ acceptance row.reply
+  pub before : ((number ≡ last_number_of_seat (seat_named seat s)) × (mid ≡ s))
+      ⊎ (number ≡ last_number_of_seat (seat_named seat s) + 1)
+  pub others : (other : List ℕ) → bytes_eq other seat ≡ false
+      → seat_named other mid ≡ seat_named other s
+
+-- a reply by its status
+at_accepted : (reply : Answer) (body : List ℕ) (P Q : Type 0) → reply ≡ acceptance body → P
+    → MatchBool (code_of reply.status == 200) P Q
+at_accepted reply body P Q e p = rw e p
+
+at_refused : (reply : Answer) (reason : Refusal) (P Q : Type 0) → reply ≡ refusal reason → Q
+    → MatchBool (code_of reply.status == 200) P Q
+at_refused reply reason P Q e q = rw (e, not_success reason) q
+
+-- the seat's row in its place
+module _ (row : SeatState) where
+  tied : (rows : List SeatState)
+      → AllByRecursion (λ y. bytes_eq row.name y.name ≡ true → solo_seat_cmp row y ≡ Equal) rows
+  tied [] = tt
+  tied (y ∷ ys) = (
+    λ its. rw (← same_text row.name y.name its)
+        (tied_itself nat_list_cmp_total row.name),
+    tied ys,
+  )
+
+  fails : (other : List ℕ) → bytes_eq other row.name ≡ false → (rows : List SeatState)
+      → AllByRecursion (λ y. solo_seat_cmp row y ≡ Equal → bytes_eq other y.name ≡ false) rows
+  fails other differs [] = tt
+  fails other differs (y ∷ ys) =
+      (λ same. rw (← same_place row.name y.name same) differs, fails other differs ys)
+
+  pub row_found : (rows : List SeatState)
+      → find (λ r. bytes_eq row.name r.name) (with_row solo_seat_cmp row rows) ≡ Some row
+  row_found rows =
+      found_replaced solo_seat_cmp row (λ r. bytes_eq row.name r.name) rows
+      (text_itself row.name row.name refl) (tied rows)
+
+  pub row_other : (other : List ℕ) → bytes_eq other row.name ≡ false → (rows : List SeatState)
+      → find (λ r. bytes_eq other r.name) (with_row solo_seat_cmp row rows)
+      ≡ find (λ r. bytes_eq other r.name) rows
+  row_other other differs rows =
+      other_placed (λ r. bytes_eq other r.name) solo_seat_cmp row rows differs
+      (fails other differs rows)
+
+module _ (c : Section) (seat : List ℕ) (s mid : SoloState) (reply : Answer) where
+  abbrev v : Sight
+  v = solo_sight c seat s
+
+  -- the reply and the state after it are those of what the machine responds
+  abbrev Performed : Option Response → Type 0
+  Performed made =
+      ◌≡◌ {A = Answer × SoloState} (reply, mid) (or_unkept s (option_map (after_response s) made))
+
+  judged : (r : Request) → r.number ≡ last_number_of_seat (seat_named seat s) + 1 → (found : Option Refusal)
+      → (made : Option Effect) → LeaveSeats c seat v made → Performed (decide seat r found made)
+      → MatchBool (code_of reply.status == 200) (Accepts seat r.number reply s mid) (mid ≡ s)
+  judged r next (Some reason) made leave e =
+      at_refused reply reason _ _ (ap (λ (p : Answer × SoloState). p.0) e)
+      (ap (λ (p : Answer × SoloState). p.1) e)
+  judged r next None None leave e =
+      at_refused reply Unkept _ _ (ap (λ (p : Answer × SoloState). p.0) e)
+      (ap (λ (p : Answer × SoloState). p.1) e)
+  judged r next None (Some made) leave e =
+      let row : SeatState = kept_of seat r made.body in
+      let seats : mid.seats ≡ with_row solo_seat_cmp row s.seats =
+      ap (λ (p : Answer × SoloState). p.1.seats) e ∙ seats_after made.puts row s leave in
+      at_accepted reply made.body _ _ (ap (λ (p : Answer × SoloState). p.0) e) (record {
+        row = row;
+        there = ap (find (λ q. bytes_eq seat q.name)) seats ∙ row_found row s.seats;
+        last = refl;
+        shown = ap (λ (p : Answer × SoloState). p.0) e;
+        before = inr next;
+        others = λ other differs. ap (find (λ q. bytes_eq other q.name)) seats
+            ∙ row_other row other differs s.seats;
+      })
+
+  turned : (r : Request) (change : Changing) (turns : Retry)
+      → retry_of (seat_named seat s) r.number r.digest ≡ turns
+      → Performed (respond_by_retry c seat v r change turns)
+      → MatchBool (code_of reply.status == 200) (Accepts seat r.number reply s mid) (mid ≡ s)
+  turned r change (Repeats body) is e =
+      let kept = retry_repeats (seat_named seat s) r.number r.digest body is in
+      let same : mid ≡ s = ap (λ (p : Answer × SoloState). p.1) e in
+      at_accepted reply body _ _ (ap (λ (p : Answer × SoloState). p.0) e) (record {
+        row = kept.0;
+        there = ap (seat_named seat) same ∙ kept.1;
+        last = kept.2;
+        shown = ap (λ (p : Answer × SoloState). p.0) e ∙ ap acceptance (sym kept.3);
+        before = inl (sym kept.2 ∙ ap last_number_of_seat (sym kept.1), same);
+        others = λ other _. ap (seat_named other) same;
+      })
+  turned r change Differs is e =
+      at_refused reply OtherBody _ _ (ap (λ (p : Answer × SoloState). p.0) e)
+      (ap (λ (p : Answer × SoloState). p.1) e)
+  turned r change (Skips expected) is e =
+      at_refused reply (WrongNumber expected) _ _ (ap (λ (p : Answer × SoloState). p.0) e)
+      (ap (λ (p : Answer × SoloState). p.1) e)
+  turned r change Next is e =
+      judged r (turn_next (seat_named seat s) r.number r.digest is)
+      (first_that_holds (refusals c v change)) (effect c seat v change) (effect_leaves c seat v change) e
+
+  on_command : (r : Request) (command : Command) → Performed (respond_to c seat v r command)
+      → MatchBool (is_change command && code_of reply.status == 200)
+      (Accepts seat r.number reply s mid) (mid ≡ s)
+  on_command r (Show asked) e = ap (λ (p : Answer × SoloState). p.1) e
+  on_command r (Change change) e =
+      turned r change (retry_of (seat_named seat s) r.number r.digest) refl e
+
+on_wanted : (c : Call) (s mid : SoloState) (reply : Answer) (w : Wanted)
+    → ◌≡◌ {A = Answer × SoloState} (reply, mid) (alone_on c s w)
+    → MatchBool (writes w && code_of reply.status == 200) (Accepts c.seat (number_of_wanted w) reply s mid)
+    (mid ≡ s)
+on_wanted c s mid reply reports e = ap (λ (p : Answer × SoloState). p.1) e
+on_wanted c s mid reply (refused reason) e = ap (λ (p : Answer × SoloState). p.1) e
+on_wanted c s mid reply (asks r) e = on_command c.section c.seat s mid reply r r.command e
+
+-- an exchange of the own machine: an accepted command, or nothing changes
+pub takes : (x : Exchange) (s mid : SoloState) → ◌≡◌ {A = Answer × SoloState} (x.1, mid) (alone x.0 s)
+    → MatchBool (is_accepted x) (Accepts x.0.seat (number_of_wanted x.0.wanted) x.1 s mid) (mid ≡ s)
+takes x s mid e = on_wanted x.0 s mid x.1 x.0.wanted e

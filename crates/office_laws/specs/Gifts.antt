@@ -1,0 +1,84 @@
+-- What the identities of a run give.
+use Rattle.std.specs.Prelude.{◌≡◌, ◌&&◌, nat_lt, ℕ, Bool, false, List, [], ◌∷◌, filter, Option}
+use Rattle.std.specs.Prelude.{Some, None, is_some, IfSome}
+use Rattle.std.specs.List.{AllByRecursion}
+use Rattle.id_ranges.specs.Idevid.{Idevid}
+use Rattle.office_tables.specs.declared.rows.Given.{Given}
+use Rattle.office_tables.specs.declared.rows.OfCustomer.{OfCustomer}
+use Rattle.office_tables.specs.declared.rows.SeatState.{SeatState}
+use Rattle.office_tables.specs.Tables.{Tables, given_at, is_serial_of}
+use Rattle.office_commands.specs.IdentityReplies.{identity_body}
+use Rattle.office_commands.specs.Replies.{acceptance}
+use Rattle.office_commands.specs.declared.command.Command.{Command}
+use Rattle.office_commands.specs.declared.command.Command.TheVariants.{Change}
+use Rattle.office_commands.specs.declared.command.Change.TheVariants.{Identify}
+use Rattle.office_commands.specs.declared.new_identity.NewIdentity.{NewIdentity}
+use Rattle.office_rules.specs.Identity.{row_of}
+use Rattle.office_laws.specs.Fresh.{BlocksDisjoint, IsFreshRecord, addresses_of}
+use Rattle.office_laws.specs.SoloMachine.{seat_named}
+use Rattle.office_laws.specs.View.{view}
+use Rattle.office_laws.specs.Exchanges.{Exchange, Wanted, asks}
+use Rattle.office_laws.specs.Once.{number_of_wanted, once}
+
+-- the number of a seat's last accepted command, and 0 before the first
+abbrev pub last_number_of_seat : Option SeatState → ℕ
+last_number_of_seat None = 0
+last_number_of_seat (Some seat) = seat.last
+
+-- the identity that a command asks for, if that is what it asks for
+abbrev pub identity_of_command : Command → Option NewIdentity
+identity_of_command (Change (Identify i)) = Some i
+identity_of_command other = None
+
+-- the identity that is wanted, if there is one
+abbrev pub identity_wanted : Wanted → Option NewIdentity
+identity_wanted (asks request) = identity_of_command request.command
+identity_wanted other = None
+
+-- the exchange is that of an identity that is no repeat of one before the run: its number comes
+-- after its seat's last one then
+abbrev pub is_new_identity : Tables → Exchange → Bool
+is_new_identity t x = is_some (identity_wanted x.0.wanted)
+    && nat_lt (last_number_of_seat (seat_named x.0.seat (view x.0.section.name t)))
+    (number_of_wanted x.0.wanted)
+
+-- the accepted identities of a run from these tables, none of them a repeat
+abbrev pub new_identities : Tables → List Exchange → List Exchange
+new_identities t xs = filter (is_new_identity t) (once xs)
+
+-- the record that the identity's reply shows
+abbrev pub IsGift : Exchange → OfCustomer Given → Type 0
+IsGift x g = (i : NewIdentity) × (record_of : Idevid)
+    × (identity_wanted x.0.wanted ≡ Some i)
+    × (record_of.key ≡ i.key)
+    × (x.1 ≡ acceptance (identity_body i.chip record_of))
+    × (g ≡ record { customer = x.0.section.name; row = row_of record_of (Some i.chip) })
+
+-- the records that these identities' replies show, one for each
+abbrev pub AreGifts : List Exchange → List (OfCustomer Given) → Type 0
+AreGifts [] [] = Unit {0}
+AreGifts (x ∷ xs) (g ∷ gs) = IsGift x g × AreGifts xs gs
+AreGifts xs gs = ⊥
+
+-- no two have one serial number of one issuer, and none of the addresses of one is one of another's
+abbrev pub AreAllApart : Tables → List (OfCustomer Given) → Type 0
+AreAllApart t [] = Unit {0}
+AreAllApart t (g
+    ∷ gs) = AllByRecursion (λ other. (is_serial_of g.row.issuer g.row.serial other ≡ false)
+    × BlocksDisjoint (addresses_of t g) (addresses_of t other)) gs × AreAllApart t gs
+
+-- none of the records has the serial number of one that an import recorded, which has no chip
+abbrev pub AreNotImported : Tables → List (OfCustomer Given) → Type 0
+AreNotImported t gifts = (issuer serial : List ℕ)
+    → IfSome (given_at issuer serial t) (λ r. r.row.chip ≡ None
+    → AllByRecursion (λ g. is_serial_of issuer serial g ≡ false) gifts)
+
+-- each accepted identity that is no repeat gives a record, whose serial number was given to nobody
+-- before the run, which stands after it, and whose addresses are no other record's; no two give the
+-- same; and none gives what an import recorded
+pub record IssuesOnce (xs : List Exchange) (t t2 : Tables) : Type 0 where
+  pub gifts : List (OfCustomer Given)
+  pub shown : AreGifts (new_identities t xs) gifts
+  pub new : AllByRecursion (IsFreshRecord t t2) gifts
+  pub apart : AreAllApart t2 gifts
+  pub imported : AreNotImported t2 gifts

@@ -1,0 +1,20 @@
+-- What is promised of a run.
+use Rattle.std.specs.Prelude.{ℕ, List}
+use Rattle.site_core.specs.Ownership.{Ownership}
+use Rattle.office_tables.specs.Tables.{Tables}
+use Rattle.office_laws.specs.Grows.{Grows}
+use Rattle.office_laws.specs.Sound.{IsSound}
+use Rattle.office_laws.specs.Exchanges.{Exchange}
+use Rattle.office_laws.specs.Alone.{IsIsolated}
+use Rattle.office_laws.specs.Gifts.{IssuesOnce}
+use Rattle.office_laws.specs.Once.{ActsOnce}
+
+-- the tables are sound; each customer's replies and rows are those of the customer's own machine,
+-- run on the customer's own calls alone; nothing that was burnt is forgotten, and what is given
+-- stays; no identity gives what another gave; and a request that comes again acts once
+pub record Promises (site : Ownership) (xs : List Exchange) (t t2 : Tables) : Type 0 where
+  pub sound : IsSound site t2
+  pub isolated : (customer : List ℕ) → IsIsolated customer xs t t2
+  pub grows : Grows t t2
+  pub given : IssuesOnce xs t t2
+  pub once : (customer : List ℕ) → ActsOnce customer xs t t2
