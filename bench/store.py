@@ -91,7 +91,9 @@ STATEMENTS = {
         "given.issuer given.key",
     ),
     "given by mac": (
-        "SELECT issuer, serial, customer, key, chip, mac, not_after FROM given WHERE mac = ?1 ORDER BY issuer, serial",
+        "SELECT given.issuer, given.serial, customer, key, chip, mac, not_after, not_before FROM given"
+        " JOIN given_start ON given_start.issuer = given.issuer AND given_start.serial = given.serial"
+        " WHERE mac = ?1 ORDER BY given.issuer, given.serial",
         "given.mac",
     ),
     "add device": (
