@@ -1,6 +1,6 @@
 // Sets of fuse positions, as packed words.
 ghost use Rattle.std.specs.Prelude.{◌≡◌, ◌<◌, ◌≤◌, ◌+◌, ◌*◌, ◌/◌, ◌↔◌, true, ℕ, All, IsTrue};
-ghost use Rattle.std.specs.Prelude.{length, slice_index, bit_and, bit_or};
+ghost use Rattle.std.specs.Prelude.{slice_index, bit_and, bit_or};
 ghost use Rattle.std.specs.Int.{bit_not, w32};
 ghost use Rattle.std.specs.FinSet as set;
 ghost use Rattle.fusemap_core.specs.declared.pos.Pos.{Pos};

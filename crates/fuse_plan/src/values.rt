@@ -1,6 +1,6 @@
 // Where the ones and zeros of a value lie in a field.
-ghost use Rattle.std.specs.Prelude.{◌≡◌, ◌<◌, ◌≤◌, ℕ, ◌+◌, ◌-◌, ◌*◌, ◌==◌, ◌&&◌, not, nat_le};
-ghost use Rattle.std.specs.Prelude.{nat_lt, slice_index, length, if◌then◌else◌};
+ghost use Rattle.std.specs.Prelude.{◌≡◌, ◌<◌, ℕ, ◌+◌, ◌-◌, ◌*◌, ◌==◌, ◌&&◌, not, nat_le};
+ghost use Rattle.std.specs.Prelude.{nat_lt, slice_index, if◌then◌else◌};
 ghost use Rattle.std.specs.Int.{bit_at};
 ghost use Rattle.fusemap_core.specs.Map.{IsSmall, holds};
 ghost use Rattle.fuse_image.specs.Places.{places_where};

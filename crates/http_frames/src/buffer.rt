@@ -1,6 +1,6 @@
 //! The bytes of a stream that were read and not yet served.
 
-ghost use Rattle.std.specs.Prelude.{◌≡◌, ℕ, ◌+◌, ◌-◌, ◌<◌, ◌≤◌, ◌^◌, ◌++◌, List, [], ◌↔◌, ◌==◌};
+ghost use Rattle.std.specs.Prelude.{◌≡◌, ◌+◌, ◌-◌, ◌<◌, ◌≤◌, ◌^◌, [], ◌↔◌, ◌==◌};
 ghost use Rattle.std.specs.Prelude.{true, length, take, drop, IfOk, Option, vec_len};
 ghost use Rattle.http_frames.specs.Transfers.{ReadsBytes, failures_of};
 ghost use Rattle.http_frames.specs.Looks.{IsLook};

@@ -1,6 +1,6 @@
 //! What the bytes read so far begin with.
 
-ghost use Rattle.std.specs.Prelude.{◌≡◌, ℕ, ◌<◌, ◌≤◌, ◌==◌, ◌||◌, length, All, bytes_eq, codes};
+ghost use Rattle.std.specs.Prelude.{◌≡◌, ◌<◌, ◌≤◌, ◌==◌, ◌||◌, length, All, bytes_eq, codes};
 ghost use Rattle.httparse.specs.Spans.{IsHeaderWithin, IsWithin, span_bytes};
 ghost use Rattle.http_frames.specs.Fields.{headers_at, asks_close};
 ghost use Rattle.http_frames.specs.Looks.{IsHeadFound, IsLook};

@@ -1,7 +1,7 @@
 //! Readers and writers over memory, readers and writers that are interrupted or fail, and those of std with their calls counted.
 
-ghost use Rattle.std.specs.Prelude.{◌≡◌, ℕ, ◌+◌, ◌^◌, ◌<◌, ◌≤◌, ◌==◌, not, if◌then◌else◌, length};
-ghost use Rattle.std.specs.Prelude.{Some, None, []};
+ghost use Rattle.std.specs.Prelude.{◌≡◌, ◌+◌, ◌^◌, ◌<◌, ◌≤◌, ◌==◌, not, if◌then◌else◌};
+ghost use Rattle.std.specs.Prelude.{Some, None};
 
 use crate::transfer::{Drain, Source, Transfer};
 use std::io::{ErrorKind, Read, Write};

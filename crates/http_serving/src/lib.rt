@@ -1,7 +1,7 @@
 //! Serves a stream of HTTP/1.1 requests: requests in, replies out (RFC 9112).
 #![tactic(auto)]
 
-ghost use Rattle.std.specs.Prelude.{◌≡◌, ◌≢◌, ℕ, ◌+◌, ◌<◌, ◌≤◌, ◌^◌, ◌⊎◌, List, Option, Bool, map};
+ghost use Rattle.std.specs.Prelude.{◌≡◌, ◌≢◌, ℕ, ◌+◌, ◌<◌, ◌≤◌, ◌^◌, ◌⊎◌, List, Option, map};
 ghost use Rattle.http_replies.specs.Replies.{Answer, answer_of};
 ghost use Rattle.http_replies.specs.Runs.{Runs};
 ghost use Rattle.http_frames.specs.Frames.{Request, HasRequest};

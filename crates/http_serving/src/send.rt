@@ -1,7 +1,6 @@
 //! Writes replies, and counts the calls of the writer.
 
-ghost use Rattle.std.specs.Prelude.{◌≡◌, ℕ, ◌+◌, ◌-◌, ◌<◌, ◌≤◌, ◌^◌, ◌++◌, length, Bool};
-ghost use Rattle.std.specs.Prelude.{if◌then◌else◌, []};
+ghost use Rattle.std.specs.Prelude.{◌≡◌, ◌+◌, ◌-◌, ◌<◌, ◌≤◌, ◌^◌, length};
 ghost use Rattle.http_replies.specs.Replies.{answer_of, reply_text};
 ghost use Rattle.http_serving.specs.Sends.{Sending, sent_faults};
 

@@ -1,6 +1,5 @@
 // Records of device identities.
-ghost use Rattle.std.specs.Prelude.{◌≡◌, true};
-ghost use Rattle.text_core.specs.Serial.{is_serial};
+ghost use Rattle.std.specs.Prelude.{◌≡◌};
 ghost use Rattle.id_ranges.specs.Idevid.{new_idevid, no_end};
 
 use crate::fault::RangeFault;

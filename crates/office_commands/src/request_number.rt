@@ -1,5 +1,5 @@
 // The numbers of requests.
-ghost use Rattle.std.specs.Prelude.{◌≡◌, ◌≤◌, ◌&&◌, nat_le, None, Some, if◌then◌else◌};
+ghost use Rattle.std.specs.Prelude.{◌≡◌, ◌&&◌, nat_le, None, Some, if◌then◌else◌};
 ghost use Rattle.office_commands.specs.Wholes.{IsRequestNumber};
 
 use std::marker::Model;

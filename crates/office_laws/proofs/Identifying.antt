@@ -1,5 +1,6 @@
 -- What an identity finds in the tables.
 use Rattle.std.proofs.Common.{◌≡◌, ◌∙◌, ℕ, List, [], ◌∷◌, Option, Some, None, refl, subst}
+use Rattle.std.specs.Option.{option_map_or}
 use Rattle.std.specs.Prelude.{option_and_then, option_map}
 use Rattle.text_core.specs.Options.{first_that_holds}
 use Rattle.fusemap_core.specs.Map.{Map}
@@ -17,7 +18,7 @@ use Rattle.office_commands.specs.declared.new_identity.NewIdentity.{NewIdentity}
 use Rattle.office_rules.specs.Effect.{Effect, number_put, step_put}
 use Rattle.office_rules.specs.Identity.{step_of_identity, identity_effect, identity_refusals, idevid_of_order, number_and_key_refusals, row_of}
 use Rattle.office_rules.specs.OfficeMachine.{is_taken, map_named, next_of, office_order_sight, office_sight}
-use Rattle.office_rules.specs.Sight.{OrderSight, Sight, map_in_sight, step_refusals}
+use Rattle.office_rules.specs.Sight.{OrderSight, Refusals, Sight, map_in_sight, step_refusals}
 use Rattle.office_rules.proofs.Sights.{map_same}
 use Rattle.office_rules.proofs.Refusing.{NoneHolds, lowest_none}
 use Rattle.office_laws.proofs.Looking.{device_seen, gave, some_is}
@@ -107,11 +108,13 @@ module _ (s : Section) (seat : List ℕ) (t : Tables) (n : NewIdentity) where
   pub identity_free : (old : OfCustomer Device) (m : Map) (o : OfCustomer Order)
       → device_at s.name n.chip t ≡ Some old → map_named s.name old.row.map t ≡ Some m
       → order_at s.name old.row.order t ≡ Some o → first_that_holds (identity_refusals v n) ≡ None
-      → NoneHolds (number_and_key_refusals n.key (Some (office_order_sight s.name t o)) m old.row)
+      → NoneHolds (number_and_key_refusals n.key old.row (office_order_sight s.name t o))
   identity_free old m o there known in_order free =
-      let refused : first_that_holds (number_and_key_refusals n.key (v.order old.row.order) m old.row) ≡ None =
-      subst (λ found. first_that_holds (step_refusals (λ m d. number_and_key_refusals n.key (v.order d.order) m d) found)
+      let against : Device → Option OrderSight → Refusals = λ d seen.
+      option_map_or (number_and_key_refusals n.key d) seen [] in
+      let refused : first_that_holds (against old.row (v.order old.row.order)) ≡ None =
+      subst (λ found. first_that_holds (step_refusals (λ m d. against d (v.order d.order)) found)
       ≡ None) (device_seen s t seat n.chip old m there known) free in
-      lowest_none (number_and_key_refusals n.key (Some (office_order_sight s.name t o)) m old.row)
-      (subst (λ o. first_that_holds (number_and_key_refusals n.key (option_map (office_order_sight s.name t) o) m old.row)
+      lowest_none (number_and_key_refusals n.key old.row (office_order_sight s.name t o))
+      (subst (λ o. first_that_holds (against old.row (option_map (office_order_sight s.name t) o))
       ≡ None) in_order refused)

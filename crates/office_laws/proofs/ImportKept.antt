@@ -1,6 +1,7 @@
 -- An import of serial numbers keeps the tables sound, and forgets nothing.
-use Rattle.std.proofs.Common.{◌≡◌, ℕ, Bool, true, false, List, [], ◌∷◌, map, None, refl, sym, ◌∙◌, subst}
-use Rattle.std.specs.Prelude.{◌&&◌, ◌||◌, is_some, not, if◌then◌else◌, Some, Result, Ok, Err}
+use Rattle.std.proofs.Common.{◌≡◌, ℕ, Bool, true, false, List, [], ◌∷◌, map, None, refl, sym, ap, ◌∙◌, subst}
+use Rattle.std.specs.Result.{result_ok}
+use Rattle.std.specs.Prelude.{◌&&◌, ◌||◌, is_some, not, if◌then◌else◌, option_and_then, Some, Result, Ok, Err}
 use Rattle.site_core.specs.Ownership.{IsSection, Ownership}
 use Rattle.site_core.specs.Section.{Section}
 use Rattle.text_core.specs.Answer.{result_map}
@@ -10,10 +11,10 @@ use Rattle.office_tables.specs.declared.rows.OfCustomer.{OfCustomer}
 use Rattle.office_tables.specs.Tables.{Tables, given_at, given_by_key, with_given}
 use Rattle.office_commands.specs.declared.new_identity.NewImport.{NewImport}
 use Rattle.office_rules.specs.Effect.{Effect, record_put}
-use Rattle.office_rules.specs.Import.{ImportResult, import_effect, import_result, row_of_import, is_conflict, is_present, rows_effect, with_added}
+use Rattle.office_rules.specs.Import.{ImportResult, import_effect, merged_rows, import_result, row_of_import, is_conflict, is_present, with_added}
 use Rattle.office_rules.specs.Import.{with_present, with_import_row}
 use Rattle.office_rules.specs.OfficeMachine.{MakesPuts, issued_in, office_sight}
-use Rattle.office_rules.specs.Sight.{IssuedIn}
+use Rattle.office_rules.specs.Sight.{IssuedIn, Sight}
 use Rattle.office_rules.proofs.GivenRows.{given_with, owned_row}
 use Rattle.office_rules.proofs.Refusing.{is_some_map, none_from_test}
 use Rattle.office_laws.specs.Grows.{Grows}
@@ -21,7 +22,7 @@ use Rattle.office_laws.specs.Sound.{IsSound}
 use Rattle.office_laws.proofs.GivenLaws.{given_grows, given_sound}
 use Rattle.office_laws.proofs.Growing.{grows_itself}
 use Rattle.office_laws.proofs.Lasting.{Lasts, lasts_named}
-use Rattle.office_laws.proofs.Looking.{gave, issuer_found, puts_of}
+use Rattle.office_laws.proofs.Looking.{gave, issuer_found, puts_of, rows_taken}
 use Rattle.office_laws.proofs.Readings.{issuer_owner}
 
 -- a row that is neither present nor at odds has a serial number and a key that aren't given
@@ -97,16 +98,14 @@ module _ {owners : Ownership} {t : Tables} (sound : IsSound owners t) (s : Secti
       → import_effect (office_sight s seat t) n ≡ Some e → MakesPuts s e.puts t mid
       → Lasts owners t mid
   import_kept n e mid is puts =
-      let rows = gave n.rows _ e is in
-      let given = gave ((office_sight s seat t).issuer n.issuer) _ e rows.2 in
-      let found = issuer_found s t n.issuer given.0 given.1 in
+      let v : Sight = office_sight s seat t in
+      let i = gave (option_and_then result_ok (merged_rows v n)) _ e is in
+      let taken = rows_taken v n i.0 i.1 in
+      let found = issuer_found s t n.issuer taken.1 taken.2 in
       let mine = issuer_owner s section n.issuer found.0 in
-      by mine (import_result given.0 rows.0)
-      (subst (λ (g : IssuedIn). AllLast owners s n.issuer t mine t (import_result g rows.0)) found.1
-      (all_last owners s n.issuer t mine rows.0 t sound (grows_itself t))) given.2
-    where
-      by : (mine : owners.issuer n.issuer ≡ Some s.name) (made : Result ImportResult (List ℕ))
-          → AllLast owners s n.issuer t mine t made → rows_effect n.issuer made ≡ Some e
-          → Lasts owners t mid
-      by mine (Err serial) last is = cc
-      by mine (Ok i) last is = last mid (puts_of s t mid is puts)
+      let merged : import_result (issued_in n.issuer t) taken.0 ≡ Ok i.0 =
+      ap (λ (g : IssuedIn). import_result g taken.0) found.1 ∙ taken.3 in
+      let last : RowsLast owners s n.issuer t mine t i.0.added =
+      subst (AllLast owners s n.issuer t mine t) merged
+      (all_last owners s n.issuer t mine taken.0 t sound (grows_itself t)) in
+      last mid (puts_of s t mid i.2 puts)

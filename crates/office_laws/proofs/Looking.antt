@@ -1,15 +1,20 @@
 -- What the look-ups of a customer's seat found in the tables.
-use Rattle.std.proofs.Common.{◌≡◌, ◌∙◌, ℕ, Bool, true, false, List, Option, Some, None, refl, sym, subst}
+use Rattle.std.proofs.Common.{◌≡◌, ◌∙◌, ℕ, Bool, true, false, List, Option, Some, None, Result}
+use Rattle.std.proofs.Common.{Ok, Err, refl, sym, ap, subst}
+use Rattle.std.specs.Result.{result_ok}
 use Rattle.std.specs.Prelude.{bytes_eq, if◌then◌else◌, option_and_then, option_map}
 use Rattle.std.specs.List.{list_any}
 use Rattle.fusemap_core.specs.Map.{Map}
+use Rattle.import_rows.specs.declared.rows.ImportRow.{ImportRow}
 use Rattle.site_core.specs.Section.{Section}
 use Rattle.office_tables.specs.declared.rows.Device.{Device}
 use Rattle.office_tables.specs.declared.rows.OfCustomer.{OfCustomer}
 use Rattle.office_tables.specs.Tables.{Tables, device_at}
+use Rattle.office_commands.specs.declared.new_identity.NewImport.{NewImport}
 use Rattle.office_rules.specs.Effect.{Effect}
+use Rattle.office_rules.specs.Import.{ImportResult, merged_rows, import_result}
 use Rattle.office_rules.specs.OfficeMachine.{MakesPuts, issued_in, has_issuer, map_named, office_sight}
-use Rattle.office_rules.specs.Sight.{IssuedIn, device_in_sight, map_in_sight}
+use Rattle.office_rules.specs.Sight.{IssuedIn, Sight, device_in_sight, map_in_sight}
 use Rattle.office_rules.specs.declared.device_step.FoundDevice.{FoundDevice}
 use Rattle.office_rules.proofs.Sights.{map_same}
 
@@ -33,6 +38,21 @@ pub puts_of : (s : Section) (t mid : Tables) {made e : Effect} → Some made ≡
     → MakesPuts s e.puts t mid → MakesPuts s made.puts t mid
 puts_of s t mid {made} {e} is puts =
     subst (λ (x : Effect). MakesPuts s x.puts t mid) (sym (some_is is)) puts
+
+-- the rows of an import that was taken, in an issuer that was looked up
+pub rows_taken : (v : Sight) (n : NewImport) (i : ImportResult)
+    → option_and_then result_ok (merged_rows v n) ≡ Some i
+    → (rows : List ImportRow) × (given : IssuedIn) × (v.issuer n.issuer ≡ Some given)
+    × (import_result given rows ≡ Ok i)
+rows_taken v n i is =
+    let made = gave (merged_rows v n) result_ok i is in
+    let rows = gave n.rows _ made.0 made.1 in
+    let given = gave (v.issuer n.issuer) _ made.0 rows.2 in
+    (rows.0, given.0, given.1, some_is given.2 ∙ is_ok made.0 made.2)
+  where
+    is_ok : (made : Result ImportResult (List ℕ)) → result_ok made ≡ Some i → made ≡ Ok i
+    is_ok (Ok j) e = ap Ok (some_is e)
+    is_ok (Err serial) e = cc
 
 module _ (s : Section) (t : Tables) where
   -- an issuer that is looked up is one of the section's

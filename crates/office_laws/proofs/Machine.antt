@@ -1,7 +1,8 @@
 -- A step acts on the customer's view as the customer's own machine does, and leaves each other
 -- view.
 use Rattle.std.proofs.Common.{◌≡◌, ℕ, false, List, [], ◌∷◌, ◌++◌, map, Option, Some, None, refl, sym, ap, ◌∙◌, subst}
-use Rattle.std.specs.Prelude.{bytes_eq, is_some, if◌then◌else◌, option_map, Result, Ok, Err}
+use Rattle.std.specs.Result.{result_ok}
+use Rattle.std.specs.Prelude.{bytes_eq, is_some, if◌then◌else◌, option_and_then, option_map}
 use Rattle.std.specs.List.{AllByRecursion}
 use Rattle.text_core.specs.Options.{first_that_holds}
 use Rattle.http_replies.specs.Replies.{Answer}
@@ -15,23 +16,24 @@ use Rattle.office_commands.specs.declared.command.Command.{Command}
 use Rattle.office_commands.specs.declared.command.Command.TheVariants.{Change, Show}
 use Rattle.office_commands.specs.declared.command.Request.{Request}
 use Rattle.office_commands.specs.declared.refusal.Refusal.{Refusal}
+use Rattle.office_commands.specs.declared.refusal.Refusal.TheVariants.{BadMap}
 use Rattle.office_rules.specs.Effect.{StepRule, Effect, Put, map_put, record_put, step_effect}
 use Rattle.office_rules.specs.Ends.{scraps, ships}
-use Rattle.office_rules.specs.Import.{ImportResult, import_result, row_of_import, rows_effect}
+use Rattle.office_rules.specs.Import.{merged_rows, row_of_import}
 use Rattle.office_rules.specs.Machine.{Response, decide, effect, refusals, respond_by_retry, respond_to, response}
-use Rattle.office_rules.specs.Map.{bad_map, map_fault, text_refusals}
+use Rattle.office_rules.specs.Map.{map_fault, text_refusals}
 use Rattle.office_rules.specs.OfficeMachine.{Step, office_sight}
 use Rattle.office_rules.specs.Plan.{plans}
 use Rattle.office_rules.specs.ReadBack.{reads}
 use Rattle.office_rules.specs.Retry.{retry_of}
-use Rattle.office_rules.specs.Sight.{IssuedIn, Sight, map_in_sight}
+use Rattle.office_rules.specs.Sight.{IssuedIn, Sight, map_in_sight, refused_for}
 use Rattle.office_rules.specs.declared.retry.Retry.{Retry}
 use Rattle.office_rules.specs.declared.retry.Retry.TheVariants.{Repeats, Differs, Next, Skips}
 use Rattle.office_laws.specs.SoloMachine.{after_response, solo_step}
 use Rattle.office_laws.specs.Sound.{IsSound}
 use Rattle.office_laws.specs.View.{view}
 use Rattle.office_laws.proofs.Identifying.{identity_found}
-use Rattle.office_laws.proofs.Looking.{gave, issuer_found, some_is}
+use Rattle.office_laws.proofs.Looking.{gave, issuer_found, rows_taken, some_is}
 use Rattle.office_laws.proofs.Readings.{issuer_owner, order_issuer}
 use Rattle.office_laws.proofs.Seen.{seen_own}
 use Rattle.office_laws.proofs.Tidy.{IsDue, puts_act, sound_is_tidy}
@@ -61,7 +63,7 @@ module _ {owners : Ownership} {t : Tables} (sound : IsSound owners t) (s : Secti
       these m.2 (tt, tt)
 
   text_due : (text : List ℕ) (found : Option (List ℕ)) (fault : Option ℕ) → map_fault text ≡ fault
-      → first_that_holds (bad_map fault ++ text_refusals text found v.maps) ≡ None
+      → first_that_holds (refused_for BadMap fault ++ text_refusals text found v.maps) ≡ None
       → AreDue (if is_some found then [] else map_put text ∷ [])
   text_due text (Some other) fault e free = tt
   text_due text None None e free = (e, tt)
@@ -71,12 +73,6 @@ module _ {owners : Ownership} {t : Tables} (sound : IsSound owners t) (s : Secti
       → AreDue (map (λ r. record_put (row_of_import issuer r)) rows)
   rows_due issuer mine [] = tt
   rows_due issuer mine (r ∷ rs) = (mine, rows_due issuer mine rs)
-
-  adds_due : (issuer : List ℕ) → owners.issuer issuer ≡ Some s.name
-      → (made : Result ImportResult (List ℕ)) (o : Effect) → rows_effect issuer made ≡ Some o
-      → AreDue o.puts
-  adds_due issuer mine (Err serial) o e = cc
-  adds_due issuer mine (Ok i) o e = these e (rows_due issuer mine i.added)
 
   -- the puts of a command are due
   outcome_due : (c : Changing) (o : Effect) → first_that_holds (refusals s v c) ≡ None
@@ -94,9 +90,9 @@ module _ {owners : Ownership} {t : Tables} (sound : IsSound owners t) (s : Secti
   outcome_due (Ship chip) o free e = steps_due ships chip o e
   outcome_due (Scrap chip) o free e = steps_due scraps chip o e
   outcome_due (Import n) o free e =
-      let rows = gave n.rows _ o e in
-      let given = gave (v.issuer n.issuer) _ o rows.2 in
-      adds_due n.issuer (issuer_mine n.issuer given.0 given.1) (import_result given.0 rows.0) o given.2
+      let i = gave (option_and_then result_ok (merged_rows v n)) _ o e in
+      let taken = rows_taken v n i.0 i.1 in
+      these i.2 (rows_due n.issuer (issuer_mine n.issuer taken.1 taken.2) i.0.added)
 
   module _ (r : Request) where
     none_due : {made p : Response} → Some made ≡ Some p → made.puts ≡ [] → AreDue p.puts

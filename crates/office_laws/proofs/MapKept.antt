@@ -1,5 +1,5 @@
 -- The import of a fuse map keeps the tables sound, and forgets nothing.
-use Rattle.std.proofs.Common.{◌≡◌, ◌∙◌, ◌++◌, ℕ, Bool, List, [], ◌∷◌, Option, Some, None, refl, sym, ap}
+use Rattle.std.proofs.Common.{◌≡◌, ◌∙◌, ◌++◌, ℕ, List, [], ◌∷◌, Option, Some, None, refl, sym, ap}
 use Rattle.std.specs.Prelude.{if◌then◌else◌, is_some, option_map}
 use Rattle.sha2.specs.Sha256.{sha256}
 use Rattle.text_core.specs.Options.{first_that_holds}
@@ -9,11 +9,11 @@ use Rattle.office_tables.specs.declared.rows.Link.{Link}
 use Rattle.office_tables.specs.declared.rows.MapRow.{MapRow}
 use Rattle.office_tables.specs.declared.rows.OfCustomer.{OfCustomer}
 use Rattle.office_tables.specs.Tables.{Tables, link_at, map_at, map_with, with_link, with_map}
-use Rattle.office_commands.specs.declared.refusal.Refusal.{Refusal}
+use Rattle.office_commands.specs.declared.refusal.Refusal.TheVariants.{BadMap}
 use Rattle.office_rules.specs.Effect.{map_put}
-use Rattle.office_rules.specs.Map.{bad_map, map_effect, map_fault, map_refusals, text_refusals}
+use Rattle.office_rules.specs.Map.{map_effect, map_fault, map_refusals, text_refusals}
 use Rattle.office_rules.specs.OfficeMachine.{Links, MakesPuts, its, office_sight, body_of_map}
-use Rattle.office_rules.specs.Sight.{Sight}
+use Rattle.office_rules.specs.Sight.{Refusals, Sight, refused_for}
 use Rattle.office_laws.specs.Grows.{Grows}
 use Rattle.office_laws.specs.Sound.{IsLinked, IsSound}
 use Rattle.office_laws.proofs.Growing.{grows_itself, link_grows, map_grows}
@@ -22,8 +22,8 @@ use Rattle.office_laws.proofs.MapLaws.{link_sound, map_sound}
 use Rattle.office_laws.proofs.MapRows.{map_of_text, new_map_found}
 
 -- a text that nothing refuses has no fault
-no_fault_of : (text : List ℕ) (fault : Option ℕ) (later : List (Bool × Refusal))
-    → map_fault text ≡ fault → first_that_holds (bad_map fault ++ later) ≡ None → map_fault text ≡ None
+no_fault_of : (text : List ℕ) (fault : Option ℕ) (later : Refusals) → map_fault text ≡ fault
+    → first_that_holds (refused_for BadMap fault ++ later) ≡ None → map_fault text ≡ None
 no_fault_of text None later e free = e
 no_fault_of text (Some fault) later e free = cc
 

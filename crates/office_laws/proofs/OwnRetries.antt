@@ -1,6 +1,7 @@
 -- What a call does to the seats of the customer's own machine.
 use Rattle.std.proofs.Common.{◌≡◌, ◌∙◌, ◌+◌, ◌==◌, ◌++◌, ℕ, ◌⊎◌, inl, inr, true, false, List, [], ◌∷◌, Option, Some, None, Equal, refl, sym, ap}
-use Rattle.std.specs.Prelude.{Bool, ◌&&◌, bytes_eq, find, if◌then◌else◌, is_some, map, MatchBool, option_and_then, option_map, Result, Ok, Err}
+use Rattle.std.specs.Prelude.{Bool, ◌&&◌, bytes_eq, find, if◌then◌else◌, is_some, map, MatchBool, option_and_then, option_map}
+use Rattle.std.specs.Result.{result_ok}
 use Rattle.std.specs.List.{AllByRecursion}
 use Rattle.std.proofs.lemmas.Bool.{eqb-true}
 use Rattle.std.proofs.lemmas.Cmp.{nat_list_cmp_total, tied_itself}
@@ -27,7 +28,7 @@ use Rattle.office_commands.specs.Refusals.{refusal_status}
 use Rattle.office_commands.specs.Replies.{acceptance, refusal}
 use Rattle.office_rules.specs.Effect.{StepRule, Effect, Put, map_put, record_put, seat_put, step_effect}
 use Rattle.office_rules.specs.Ends.{scraps, ships}
-use Rattle.office_rules.specs.Import.{ImportResult, import_result, row_of_import, rows_effect}
+use Rattle.office_rules.specs.Import.{merged_rows, row_of_import}
 use Rattle.office_rules.specs.Machine.{Response, decide, effect, refusals, respond_by_retry, respond_to}
 use Rattle.office_rules.specs.Plan.{plans}
 use Rattle.office_rules.specs.ReadBack.{reads}
@@ -100,11 +101,6 @@ module _ (c : Section) (seat : List ℕ) (v : Sight) where
   records_leave issuer [] = tt
   records_leave issuer (r ∷ rs) = (λ _. refl, records_leave issuer rs)
 
-  rows_leave : (issuer : List ℕ) (made : Result ImportResult (List ℕ))
-      → LeaveSeats (rows_effect issuer made)
-  rows_leave issuer (Err serial) = tt
-  rows_leave issuer (Ok i) = records_leave issuer i.added
-
   map_leaves : (text : List ℕ) (there : Bool)
       → AllByRecursion LeavesSeats (if there then [] else map_put text ∷ [])
   map_leaves text true = tt
@@ -124,8 +120,7 @@ module _ (c : Section) (seat : List ℕ) (v : Sight) where
   effect_leaves (Ship chip) = step_leaves ships chip
   effect_leaves (Scrap chip) = step_leaves scraps chip
   effect_leaves (Import n) =
-      after_some n.rows _ (λ rows. after_some (v.issuer n.issuer) _ (λ given.
-      rows_leave n.issuer (import_result given rows)))
+      after_some (option_and_then result_ok (merged_rows v n)) _ (λ i. records_leave n.issuer i.added)
 
 -- so after them and the seat's row the seats are those of before with the row in its place
 seats_after : (ps : List Put) (row : SeatState) (s : SoloState) → AllByRecursion LeavesSeats ps

@@ -1,11 +1,12 @@
 -- The registration of a device keeps the tables sound, and forgets nothing.
-use Rattle.std.proofs.Common.{◌≡◌, ◌∙◌, ℕ, true, false, List, [], ◌∷◌, Some, None, refl, sym, subst}
-use Rattle.std.specs.Prelude.{if◌then◌else◌, is_some}
+use Rattle.std.proofs.Common.{◌≡◌, ◌∙◌, ℕ, Bool, true, false, List, [], ◌∷◌, Some, None, refl, sym, subst}
+use Rattle.std.specs.Option.{option_map_or}
+use Rattle.std.specs.Prelude.{◌||◌, is_some, not}
 use Rattle.std.proofs.lemmas.Bool.{not-false}
 use Rattle.std.proofs.lemmas.Slice.Eq.{bytes_eq-Decides}
 use Rattle.text_core.specs.Options.{first_that_holds}
 use Rattle.fusemap_core.specs.Map.{Map}
-use Rattle.fuse_image.specs.Redaction.{WordsFitMap, redacted}
+use Rattle.fuse_image.specs.Redaction.{WordsFitMap, redacted, shows_what_is_hidden}
 use Rattle.site_core.specs.Ownership.{IsSection, Ownership}
 use Rattle.site_core.specs.Section.{Section}
 use Rattle.office_tables.specs.declared.rows.Device.{Device}
@@ -13,11 +14,10 @@ use Rattle.office_tables.specs.declared.rows.Entry.{Entry}
 use Rattle.office_tables.specs.declared.rows.OfCustomer.{OfCustomer}
 use Rattle.office_tables.specs.Tables.{Tables, device_at, entry_under, link_at, order_at}
 use Rattle.office_commands.specs.declared.new_device.NewDevice.{NewDevice}
-use Rattle.office_commands.specs.declared.refusal.Refusal.TheVariants.{BadReadback}
 use Rattle.office_rules.specs.Effect.{Effect}
 use Rattle.office_rules.specs.OfficeMachine.{MakesPuts, its, map_named, map_text, office_order_sight, office_sight}
-use Rattle.office_rules.specs.Registration.{words_fit_map, readback_refusals, step_of_registration, registration_effect, registration_refusals}
-use Rattle.office_rules.specs.Registration.{redaction_refusals}
+use Rattle.office_rules.specs.Registration.{device_of_registration, first_step, readback_refusals}
+use Rattle.office_rules.specs.Registration.{registration_effect, registration_refusals, words_fit_map}
 use Rattle.office_rules.specs.Sight.{Sight, map_in_sight}
 use Rattle.office_rules.specs.declared.device_step.DeviceStep.{DeviceStep}
 use Rattle.office_rules.proofs.Linked.{map_is_linked}
@@ -33,14 +33,14 @@ use Rattle.office_laws.proofs.Registrations.{found_is_map, registered_kept}
 use Rattle.office_laws.proofs.StepKept.{entry_made, step_made}
 
 -- what nothing refuses of a read-back fits the map
-fits_from : (m : Map) (blocks : List (List ℕ)) → NoneHolds (readback_refusals (Some m) blocks)
+fits_from : (m : Map) (blocks : List (List ℕ)) → NoneHolds (readback_refusals blocks m)
     → words_fit_map m blocks ≡ true
 fits_from m blocks none =
-    elim (words_fit_map m blocks) as (λ b. NoneHolds (if b then redaction_refusals m (redacted m blocks)
-    else (true, BadReadback) ∷ []) → b ≡ true) [
-      | true ↦ λ _. refl
-      | false ↦ λ none. let no = none.0 in cc
-    ] none
+    by (words_fit_map m blocks) (shows_what_is_hidden m (redacted m blocks)) none.1.0
+  where
+    by : (fits hidden : Bool) → (not fits || hidden) ≡ false → fits ≡ true
+    by true hidden e = refl
+    by false hidden e = cc
 
 module _ {owners : Ownership} {t : Tables} (sound : IsSound owners t) (s : Section)
     (section : IsSection owners s) (seat : List ℕ) where
@@ -61,8 +61,8 @@ module _ {owners : Ownership} {t : Tables} (sound : IsSound owners t) (s : Secti
       let new : device_at s.name n.chip t ≡ None = none_from_test _
       (sym (is_some_map (λ (d : OfCustomer Device). d.row) (device_at s.name n.chip t)) ∙ none.1.1.0) in
       let fit : WordsFitMap m n.blocks = (bytes_eq-Decides _ _).0 (fits_from m n.blocks
-      (subst (λ x. NoneHolds (readback_refusals x n.blocks)) found.1 none.1.1.1.1)) in
-      let step : DeviceStep = step_of_registration m n (redacted m n.blocks) in
+      (subst (λ x. NoneHolds (option_map_or (readback_refusals n.blocks) x [])) found.1 none.1.1.1.1)) in
+      let step : DeviceStep = first_step (device_of_registration m n (redacted m n.blocks)) in
       let puts = puts_of s t mid found.2 puts in
       let change = step_made s seat t step puts.0 puts.1 in
       let id = change.0 in

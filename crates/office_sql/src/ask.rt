@@ -1,6 +1,5 @@
 // Whether the store is open.
 ghost use Rattle.std.specs.Prelude.{⊤};
-ghost use Rattle.sqlite.specs.Held.{state};
 ghost use Rattle.office_sql.specs.Asking.{SqlReads};
 
 use sqlite::{Alter, Connection, Error};

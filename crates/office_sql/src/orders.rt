@@ -1,10 +1,8 @@
 // The table of orders.
-ghost use Rattle.std.specs.Prelude.{◌≡◌, ◌∷◌, pos, IfOk, IsTrue, Some, map, filter, option_and_then, option_map, slice_get, string_bytes};
+ghost use Rattle.std.specs.Prelude.{◌≡◌, pos, IfOk, IsTrue, Some, map, filter, option_map, slice_get, string_bytes};
 ghost use Rattle.id_ranges.specs.Mac as spec;
-ghost use Rattle.id_ranges.specs.Mac.{mac_of_text};
 ghost use Rattle.sqlite.specs.Held.{state};
 ghost use Rattle.sqlite.specs.Order.{column};
-ghost use Rattle.sqlite.specs.declared.types.Value.TheVariants.{Null};
 ghost use Rattle.office_tables.specs.Keeping.{Visits};
 ghost use Rattle.office_tables.specs.Tables.{is_of, is_order, order_at, IsFree};
 ghost use Rattle.office_tables.specs.declared.rows.Write.TheVariants.{AddOrder as TheOrder, SetCursor as TheCursor};

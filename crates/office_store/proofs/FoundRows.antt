@@ -1,6 +1,6 @@
 -- What the rules of a schema say of the columns of a row, and of rows whose keys may not agree.
 use Rattle.std.proofs.Common.{◌≡◌, ℕ, zero, suc, ◌+◌, Bool, true, false, not, ◌&&◌, ◌==◌, ◌||◌, cond, List, [], ◌∷◌, drop, Option, refl, sym, ap}
-use Rattle.std.proofs.Common.{ap₂, subst, ◌∙◌, inl, inr, true≢false, IsTrue, pos, negsuc, is_eq, is_lt, Less, Equal, Greater, Ordering, nat_cmp}
+use Rattle.std.proofs.Common.{subst, ◌∙◌, inl, inr, true≢false, IsTrue, pos, negsuc, is_eq, is_lt, Less, Equal, Greater, Ordering, nat_cmp}
 use Rattle.std.proofs.Common.{arith}
 use Rattle.std.specs.List.{AllByRecursion, list_any}
 use Rattle.std.specs.Ordering.{ordering_reverse, ordering_then}
@@ -12,7 +12,7 @@ use Rattle.std.proofs.lemmas.Map.Text.{is_eq-slice_cmp}
 use Rattle.sqlite.specs.declared.types.Value.{Value}
 use Rattle.sqlite.specs.declared.types.Value.TheVariants.{Null, Int, Real, Text as Words, Blob as Bytes}
 use Rattle.sqlite.specs.Order.{Row, column, bytes, value_cmp}
-use Rattle.sqlite.specs.Tree.{Trees, IsAscending, rowid}
+use Rattle.sqlite.specs.Tree.{Trees, rowid}
 use Rattle.sqlite.specs.View.{IsShaped, is_int}
 use Rattle.sqlite_trees.specs.declared.store.Shape.TheVariants as shape
 use Rattle.sqlite.specs.Ops.{binary, is_null}

@@ -1,5 +1,4 @@
 // The end of a keeper over files.
-ghost use Rattle.std.specs.Prelude.{◌≡◌};
 ghost use Rattle.sqlite.specs.Files.{over_files, HoldsDatabase};
 ghost use Rattle.sqlite.specs.Recovery.{Image};
 ghost use Rattle.sqlite.specs.Tree.{Trees};

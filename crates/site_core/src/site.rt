@@ -4,7 +4,7 @@ ghost use Rattle.std.specs.List.{list_any, position};
 ghost use Rattle.sha2.specs.Sha256.{sha256};
 ghost use Rattle.site_core.specs.Caller.{IsSeatCaller, IsCaller, HoldsToken, caller_of};
 ghost use Rattle.site_core.specs.Caller.{seat_caller_with, manager_with, has_seat_with, seat_name_at};
-ghost use Rattle.site_core.specs.Caller.{seat_of, section_at, section_in};
+ghost use Rattle.site_core.specs.Caller.{section_at, section_in};
 ghost use Rattle.site_core.specs.Growth.{IsGrowth};
 ghost use Rattle.site_core.specs.Section.{tokens_of};
 ghost use Rattle.site_core.specs.Site.{IsSite};

@@ -1,5 +1,5 @@
 -- Why `devices::device_of_chip` meets its contract, where that has to be said.
-use Rattle.std.proofs.Common.{◌≡◌, ◌∙◌, refl, sym}
+use Rattle.std.proofs.Common.{◌∙◌, refl, sym}
 use Rattle.office_rules.proofs.Refusing.{made_of, refused_by, refused_by_none}
 use Rattle.office_judges.proofs.devices.device_of_chip.Goals as goal
 

@@ -1,5 +1,5 @@
 -- Why `restarted::replay_text` meets its contract, where that has to be said.
-use Rattle.std.proofs.Common.{◌≡◌, [], ◌∷◌, IfOk, subst, sym}
+use Rattle.std.proofs.Common.{[], ◌∷◌, IfOk, subst, sym}
 use Rattle.std.specs.List.{All, AllByRecursion}
 use Rattle.site_core.specs.Caller.{IsSeatCaller}
 use Rattle.site_core.specs.Ownership.{PoolsDisjoint, ownership_of}
