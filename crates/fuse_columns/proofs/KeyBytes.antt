@@ -194,13 +194,13 @@ none_else (Some d) never = absurd (never refl)
 
 pub keys_return : (m : Map) (t : KeyTable) (more : List ℕ) → AreKeysOf m t → keys_in m (keys_column m t ++ more) ≡ t
 unfolding keys_in keys_column
-keys_return m t more lies =
+keys_return m t more in_map =
     table_where-same (key_in_bytes (key_blocks m.fields) (flat_map (λ b. key_bytes (map.get t b)) (key_blocks m.fields) ++ more)) t
-    (λ block low. key_in_bytes-keys t (key_blocks m.fields) more block lies.digests
+    (λ block low. key_in_bytes-keys t (key_blocks m.fields) more block in_map.digests
     ∙ elim (cases_Bool (list_any (λ c. c == block) (key_blocks m.fields))) as (λ _.
     (if list_any (λ c. c == block) (key_blocks m.fields) then map.get t block else None) ≡ map.get t block) [
       | inl is ↦ cond-true (list_any (λ c. c == block) (key_blocks m.fields)) (map.get t block) None is
       | inr other ↦ cond-false (list_any (λ c. c == block) (key_blocks m.fields)) (map.get t block) None other
-          ∙ sym (none_else (map.get t block) (λ some. true≢false (sym (key_block_is m.fields block ∙ (lies.keys block some).1) ∙ other)))
+          ∙ sym (none_else (map.get t block) (λ some. true≢false (sym (key_block_is m.fields block ∙ (in_map.keys block some).1) ∙ other)))
     ])
-    (λ block past. none_else (map.get t block) (λ some. past (lies.keys block some).0))
+    (λ block past. none_else (map.get t block) (λ some. past (in_map.keys block some).0))

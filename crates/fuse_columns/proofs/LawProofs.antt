@@ -17,7 +17,7 @@ pub bits_come_back : BitsComeBack
 bits_come_back m is s bits = bits_return_whole m is s bits
 
 pub keys_come_back : KeysComeBack
-keys_come_back m t lies = keys_return_whole m t lies
+keys_come_back m t in_map = keys_return_whole m t in_map
 
 pub image_comes_back : ImageComesBack
 image_comes_back m is image bits keys =
@@ -26,7 +26,7 @@ image_comes_back m is image bits keys =
     λ i. record { burnt = burnt i; keys = table i }
 
 pub work_comes_back : WorkComesBack
-work_comes_back m is work lies = work_returns m is work lies
+work_comes_back m is work in_map = work_returns m is work in_map
 
 pub bits_lie_in_map : BitsInMap
 bits_lie_in_map m bytes = AreBits-bits_in m bytes

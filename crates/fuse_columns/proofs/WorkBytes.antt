@@ -28,8 +28,8 @@ unfolding keys_column
 length-keys_column m t digests = length-keys t (key_blocks m.fields) digests
 
 pub keys_return_whole : (m : Map) (t : KeyTable) → AreKeysOf m t → keys_in m (keys_column m t) ≡ t
-keys_return_whole m t lies =
-    ap (keys_in m) (sym (append-nil (keys_column m t))) ∙ keys_return m t [] lies
+keys_return_whole m t in_map =
+    ap (keys_in m) (sym (append-nil (keys_column m t))) ∙ keys_return m t [] in_map
 
 pub bits_return_whole : (m : Map) → IsMap m → (s : Positions) → AreBits m s → bits_in m (bits_column m s) ≡ s
 bits_return_whole m is s bits =
@@ -52,7 +52,7 @@ length-todo_column m work digests =
 -- work that lies in the map comes back whole
 pub work_returns : (m : Map) → IsMap m → (work : Pending) → IsPending m work → pending_in m (todo_column m work) ≡ work
 unfolding pending_in todo_column
-work_returns m is work lies =
+work_returns m is work in_map =
     let n : ℕ = bits_length m in
     let first : List ℕ = bits_column m work.first in
     let second : List ℕ = bits_column m work.second in
@@ -63,7 +63,7 @@ work_returns m is work lies =
     ap₂ (λ (k : ℕ) (bs : List ℕ). drop k bs) (sym (length-bits_column m work.first)) split ∙ drop-append_seam first (second ++ keys) in
     let last : drop (n + n) bytes ≡ keys =
     sym (drop-drop n n bytes) ∙ (ap₂ (λ (k : ℕ) (bs : List ℕ). drop k bs) (sym (length-bits_column m work.second)) rest ∙ drop-append_seam second keys) in
-    let e0 : bits_in m bytes ≡ work.first = ap (bits_in m) split ∙ bits_return m is work.first (second ++ keys) lies.first in
-    let e1 : bits_in m (drop n bytes) ≡ work.second = ap (bits_in m) rest ∙ bits_return m is work.second keys lies.second in
-    let e2 : keys_in m (drop (n + n) bytes) ≡ work.keys = ap (keys_in m) last ∙ keys_return_whole m work.keys lies.keys in
+    let e0 : bits_in m bytes ≡ work.first = ap (bits_in m) split ∙ bits_return m is work.first (second ++ keys) in_map.first in
+    let e1 : bits_in m (drop n bytes) ≡ work.second = ap (bits_in m) rest ∙ bits_return m is work.second keys in_map.second in
+    let e2 : keys_in m (drop (n + n) bytes) ≡ work.keys = ap (keys_in m) last ∙ keys_return_whole m work.keys in_map.keys in
     λ i. record { first = e0 i; second = e1 i; keys = e2 i }

@@ -33,13 +33,13 @@ block_is blocks block bit low = elim (cases_lt block (length blocks)) as (λ _. 
 pub sets_stay : (m : Map) → SetsStay m
 sets_stay m = record {
   none = λ p has. absurd (false≢true (sym (set.contains-empty pos_cmp p) ∙ has));
-  union = λ s t s_lies t_lies p has.
+  union = λ s t s_in_map t_in_map p has.
       elim (or_cases (set.contains s p) (set.contains t p) (sym (set.contains-union pos_total s t p) ∙ has)) as (λ _.
       IsPosition m.blocks p × (is_key_position m p ≡ false)) [
-        | inl one ↦ s_lies p one
-        | inr other ↦ t_lies p other
+        | inl one ↦ s_in_map p one
+        | inr other ↦ t_in_map p other
       ];
-  difference = λ s t s_lies p has. s_lies p (and_parts (set.contains s p) (not (set.contains t p)) (sym (set.contains-difference pos_total s t p) ∙ has)).0;
+  difference = λ s t s_in_map p has. s_in_map p (and_parts (set.contains s p) (not (set.contains t p)) (sym (set.contains-difference pos_total s t p) ∙ has)).0;
 }
 
 -- keys of a table that takes them from others
@@ -67,27 +67,27 @@ left_digest false a first = first
 
 joined_in_map : (m : Map) (t u : KeyTable) → AreKeysOf m t → AreKeysOf m u → AreKeysOf m (keys_union t u)
 unfolding keys_union
-joined_in_map m t u t_lies u_lies = record {
+joined_in_map m t u t_in_map u_in_map = record {
   keys = λ block has.
       elim (one_of_two (map.get t block) (map.get u block) (from_table (λ b. option_or (map.get t b) (map.get u b)) block has)) as (λ _.
       (block < 4) × (is_key_block m block ≡ true)) [
-        | inl one ↦ t_lies.keys block one
-        | inr other ↦ u_lies.keys block other
+        | inl one ↦ t_in_map.keys block one
+        | inr other ↦ u_in_map.keys block other
       ];
   digests =
       HoldsDigests-table_where (λ b. option_or (map.get t b) (map.get u b)) (λ block.
-      each_digest (map.get t block) (map.get u block) (t_lies.digests block) (u_lies.digests block));
+      each_digest (map.get t block) (map.get u block) (t_in_map.digests block) (u_in_map.digests block));
 }
 
 without_in_map : (m : Map) (t u : KeyTable) → AreKeysOf m t → AreKeysOf m (keys_without t u)
 unfolding keys_without
-without_in_map m t u t_lies = record {
+without_in_map m t u t_in_map = record {
   keys = λ block has.
-      t_lies.keys block (first_of_two (is_some (map.get u block)) (map.get t block)
+      t_in_map.keys block (first_of_two (is_some (map.get u block)) (map.get t block)
       (from_table (λ b. if is_some (map.get u b) then None else map.get t b) block has));
   digests =
       HoldsDigests-table_where (λ b. if is_some (map.get u b) then None else map.get t b) (λ block.
-      left_digest (is_some (map.get u block)) (map.get t block) (t_lies.digests block));
+      left_digest (is_some (map.get u block)) (map.get t block) (t_in_map.digests block));
 }
 
 no_keys : KeyTable
@@ -107,8 +107,8 @@ pub tables_stay : (m : Map) → TablesStay m
 unfolding no_keys
 tables_stay m = record {
   none = none_in_map m;
-  joined = λ t u t_lies u_lies. joined_in_map m t u t_lies u_lies;
-  without = λ t u t_lies. without_in_map m t u t_lies;
+  joined = λ t u t_in_map u_in_map. joined_in_map m t u t_in_map u_in_map;
+  without = λ t u t_in_map. without_in_map m t u t_in_map;
 }
 
 -- a bit past the words of a block reads 0

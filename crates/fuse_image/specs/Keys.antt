@@ -72,9 +72,9 @@ or_none : (d : Option (List ℕ)) → option_or d None ≡ d
 or_none None = refl
 or_none (Some d) = refl
 
-one_more : (f : ℕ → Option (List ℕ)) (n q : ℕ) (x : Option (List ℕ)) → x ≡ (if nat_lt q n then f q else None)
+at_next_block : (f : ℕ → Option (List ℕ)) (n q : ℕ) (x : Option (List ℕ)) → x ≡ (if nat_lt q n then f q else None)
     → (if q == n then option_or (f n) x else x) ≡ (if nat_lt q (suc n) then f q else None)
-one_more f n q x h = elim (cases_order q n) as (λ _. (if q == n then option_or (f n) x else x) ≡ (if nat_lt q (suc n) then f q else None)) [
+at_next_block f n q x h = elim (cases_order q n) as (λ _. (if q == n then option_or (f n) x else x) ≡ (if nat_lt q (suc n) then f q else None)) [
   | inl e ↦ cond-true (q == n) (option_or (f n) x) x (eq-eqb q n e)
       ∙ ap (λ y. option_or (f n) y) (h ∙ cond-false (nat_lt q n) (f q) None (le-ltb q n (omega (arith, e))))
       ∙ or_none (f n) ∙ sym (ap f e) ∙ sym (cond-true (nat_lt q (suc n)) (f q) None (lt-ltb q (suc n) (omega (arith, e))))
@@ -89,7 +89,7 @@ one_more f n q x h = elim (cases_order q n) as (λ _. (if q == n then option_or 
 get-table_below : (f : ℕ → Option (List ℕ)) (n q : ℕ) → map.get (table_below f n) q ≡ (if nat_lt q n then f q else None)
 unfolding table_below
 get-table_below f zero q = map.get-empty {X = List ℕ} nat_cmp q ∙ sym (cond-false (nat_lt q 0) (f q) None (le-ltb q 0 zero-le))
-get-table_below f (suc n) q = get-put_some (table_below f n) n q (f n) ∙ one_more f n q (map.get (table_below f n) q) (get-table_below f n q)
+get-table_below f (suc n) q = get-put_some (table_below f n) n q (f n) ∙ at_next_block f n q (map.get (table_below f n) q) (get-table_below f n q)
 
 -- what the table has at a block
 pub get-table_where : (f : ℕ → Option (List ℕ)) (q : ℕ) → map.get (table_where f) q ≡ (if nat_lt q 4 then f q else None)

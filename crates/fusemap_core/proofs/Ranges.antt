@@ -6,10 +6,10 @@ use Rattle.std.proofs.lemmas.Bool.{and_parts, leb-true}
 use Rattle.std.proofs.lemmas.Option.{cond_some, option_and_then_some}
 use Rattle.toml.specs.Data.{Data, get, as_integer}
 use Rattle.toml_members.specs.Documents.{integer_within, whole_within, whole_member, optional_whole, flag_member, name_member, items_member}
-use Rattle.text_core.specs.Options.{all_of}
+use Rattle.text_core.specs.Options.{all_of, list_of_length}
 use Rattle.fusemap_core.specs.declared.field.Field.{Field}
 use Rattle.fusemap_core.specs.Map.{Map, IsInRange}
-use Rattle.fusemap_core.specs.MapText.{largest_integer, optional_name, of_length, array_member, words_in, field_in, map_of_document}
+use Rattle.fusemap_core.specs.MapText.{largest_integer, optional_name, array_member, words_in, field_in, map_of_document}
 
 -- a number in a range
 in_bounds : (least greatest n found : ℕ) → (if nat_le least n && nat_le n greatest then Some n else None) ≡ Some found → (least ≤ found) × (found ≤ greatest)
@@ -59,8 +59,8 @@ All-all_of f P each (x ∷ xs) ys e =
     rw (← parts.4) (first_and_others P parts.0 parts.1 (each x parts.0 parts.2) (All-all_of f P each xs parts.1 parts.3))
 
 -- a list of so many items
-of_length_bounds : (least greatest : ℕ) (ds items : List Data) → of_length least greatest ds ≡ Some items → (least ≤ length items) × (length items ≤ greatest)
-of_length_bounds least greatest ds items e =
+length_bounds : (least greatest : ℕ) (ds items : List Data) → list_of_length least greatest ds ≡ Some items → (least ≤ length items) × (length items ≤ greatest)
+length_bounds least greatest ds items e =
     let chosen = cond_some (nat_le least (length ds) && nat_le (length ds) greatest) ds items e in
     let parts = and_parts (nat_le least (length ds)) (nat_le (length ds) greatest) chosen.0 in
     let low = leb-true least (length ds) parts.0 in
@@ -70,7 +70,7 @@ of_length_bounds least greatest ds items e =
 list_member_bounds : (name : List ℕ) (least greatest : ℕ) (d : Data) (items : List Data) → array_member name least greatest d ≡ Some items
     → (least ≤ length items) × (length items ≤ greatest)
 list_member_bounds name least greatest d items e =
-    option_and_then_some (of_length least greatest) (items_member name d) items e (λ ds there. of_length_bounds least greatest ds items)
+    option_and_then_some (list_of_length least greatest) (items_member name d) items e (λ ds there. length_bounds least greatest ds items)
 
 -- a field has at least one bit
 count_of_field : (d : Data) (f : Field) → field_in d ≡ Some f → 1 ≤ f.count

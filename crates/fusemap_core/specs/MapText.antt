@@ -1,10 +1,10 @@
 -- The fuse map that a text is.
-use Rattle.std.specs.Prelude.{◌≡◌, ℕ, ◌≤◌, ◌&&◌, nat_le, nat_lt, List, length, codes, Option, Some, None, option_and_then, Result, Ok, Err, if◌then◌else◌}
+use Rattle.std.specs.Prelude.{◌≡◌, ℕ, ◌≤◌, nat_lt, List, length, codes, Option, Some, None, option_and_then, Result, Ok, Err, if◌then◌else◌}
 use Rattle.std.specs.Option.{ok_or}
 use Rattle.toml.specs.Data.{Data, get}
 use Rattle.text_core.specs.Answer.{result_and_then}
 use Rattle.toml_members.specs.Documents.{document_of, whole_member, optional_whole, flag_member, name_in, name_member, items_member, if_there}
-use Rattle.text_core.specs.Options.{◌>>=◌, all_of}
+use Rattle.text_core.specs.Options.{◌>>=◌, all_of, list_of_length}
 use Rattle.fusemap_core.specs.declared.fault.MapFault.{MapFault}
 use Rattle.fusemap_core.specs.declared.fault.MapFault.TheVariants.{NotToml, BadMember}
 use Rattle.fusemap_core.specs.declared.field.Field.{Field}
@@ -19,13 +19,9 @@ largest_integer = 9223372036854775807
 abbrev pub optional_name : List ℕ → Data → Option (Option (List ℕ))
 optional_name name d = if_there name_in (get name d)
 
--- a list whose length lies in a range
-abbrev pub of_length : ℕ → ℕ → List Data → Option (List Data)
-of_length least greatest ds = if nat_le least (length ds) && nat_le (length ds) greatest then Some ds else None
-
 -- a member that is an array of so many items
 abbrev pub array_member : List ℕ → ℕ → ℕ → Data → Option (List Data)
-array_member name least greatest d = option_and_then (of_length least greatest) (items_member name d)
+array_member name least greatest d = option_and_then (list_of_length least greatest) (items_member name d)
 
 -- the words of a block
 abbrev pub words_in : Data → Option ℕ

@@ -2,6 +2,7 @@
 ghost use Rattle.std.specs.Prelude.{◌≡◌, ◌≢◌, ◌<◌, IfErr, IfOk, length, map, option_map};
 ghost use Rattle.toml.specs.View.{view};
 ghost use Rattle.text_core.specs.Answer.{GivesUnless};
+ghost use Rattle.text_core.specs.Options.{list_of_length};
 ghost use Rattle.fusemap_core.specs.Map.{Map};
 ghost use Rattle.fusemap_core.specs.MapFaults.{IsLowestMapFault};
 ghost use Rattle.fusemap_core.specs.MapText as map_text;
@@ -152,7 +153,7 @@ fn list_member<'v>(
 /// The items, if there are so many.
 fn of_length(items: &[Value], least: usize, greatest: usize) -> Option<&[Value]>
     ensures { option_map (λ found. map view found.now) result
-        ≡ map_text.of_length least greatest (map view items.now) }
+        ≡ list_of_length least greatest (map view items.now) }
 {
     if least <= items.len() && items.len() <= greatest {
         Some(items)

@@ -1,5 +1,5 @@
 -- A body as JSON (RFC 8259), and the members of a JSON value.
-use Rattle.std.specs.Prelude.{ℕ, List, [], ◌∷◌, length, ◌&&◌, nat_le, Option, Some, None, Result, option_and_then, option_map, if◌then◌else◌}
+use Rattle.std.specs.Prelude.{ℕ, List, [], ◌∷◌, ◌&&◌, nat_le, Option, Some, None, Result, option_and_then, option_map, if◌then◌else◌}
 use Rattle.std.specs.Option.{ok_or}
 use Rattle.std.specs.Str.{is_utf8}
 use Rattle.serde_json.specs.Data.{Data, null, string, Items, no_items, item}
@@ -8,6 +8,7 @@ use Rattle.serde_json.specs.Find.{get, as_array, as_str, as_number, as_u64}
 use Rattle.text_core.specs.Chip.{chip_of_text}
 use Rattle.text_core.specs.Digest.{digest_of_text}
 use Rattle.text_core.specs.Name.{name_of_text}
+use Rattle.text_core.specs.Options.{list_of_length}
 use Rattle.json_members.specs.declared.JsonFault.{JsonFault}
 use Rattle.json_members.specs.declared.JsonFault.TheVariants.{NotJson}
 
@@ -60,11 +61,7 @@ abbrev pub list_of : Items → List Data
 list_of no_items = []
 list_of (item d ds) = d ∷ list_of ds
 
--- a list whose length is of a range
-abbrev pub of_length : ℕ → ℕ → List Data → Option (List Data)
-of_length least greatest ds = if nat_le least (length ds) && nat_le (length ds) greatest then Some ds else None
-
 -- a member that is an array, with its length of a range
 abbrev pub list_member : List ℕ → ℕ → ℕ → Data → Option (List Data)
 list_member name least greatest d =
-    option_and_then (of_length least greatest) (option_map list_of (option_and_then as_array (get name d)))
+    option_and_then (list_of_length least greatest) (option_map list_of (option_and_then as_array (get name d)))

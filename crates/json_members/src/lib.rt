@@ -5,7 +5,7 @@ ghost use Rattle.std.specs.Prelude.{◌≡◌, ◌≤◌, IfOk, IfSome, Option, 
 ghost use Rattle.serde_json.specs.Data.{Data};
 ghost use Rattle.serde_json.specs.View.{view};
 ghost use Rattle.text_core.specs.Answer.{GivesUnless, result_map};
-ghost use Rattle.text_core.specs.Options.{all_of};
+ghost use Rattle.text_core.specs.Options.{all_of, list_of_length};
 ghost use Rattle.text_core.specs.Readers.{ReadsItems, ReadsOrFails};
 ghost use Rattle.json_members.specs.Json as json;
 ghost use Rattle.json_members.specs.Json.{json_read};
@@ -103,9 +103,10 @@ pub fn chip_member(value: &Value, name: &str) -> Option<Chip>
     Chip::parse(text_member(value, name)?)
 }
 
+/// The items, if there are so many.
 fn of_length(items: &[Value], least: usize, greatest: usize) -> Option<&[Value]>
     ensures { option_map (λ found. map view found.now) result
-        ≡ json.of_length least greatest (map view items.now) }
+        ≡ list_of_length least greatest (map view items.now) }
 {
     if least <= items.len() && items.len() <= greatest {
         Some(items)

@@ -27,12 +27,22 @@ use Rattle.office_rules.specs.Retry.{kept_of}
 use Rattle.office_rules.proofs.Fulfilled.{last_put, puts_made}
 use Rattle.office_core.specs.Retrying.{CommitsReply}
 
-pub commits_reply : (customer seat : List ℕ) (r : Request) (judged : Accepted) (row : OfCustomer SeatState) (t t2 : Tables)
-    → row ≡ seat_row_after customer seat r (string_bytes judged.body)
-    → Written (judged.writes.items ++ PutSeat row ∷ []) t t2 → CommitsReply customer seat r judged t t2
-commits_reply customer seat r judged row t t2 is all =
-    let last = Written_last judged.writes.items (PutSeat row) t t2 all in
-    (last.0, last.1, last.2 ∙ ap (λ (s : OfCustomer SeatState). with_seat s last.0) is)
+-- the row of a seat whose request has this number and this reply
+abbrev row_with : List ℕ → List ℕ → Request → ℕ → List ℕ → OfCustomer SeatState
+row_with customer seat r number reply = record {
+  customer = customer;
+  row = record { name = seat; last = number; digest = r.digest; reply = reply };
+}
+
+-- the writes of a judgement with the seat's row behind them commit its reply
+pub commits_reply : (customer seat : List ℕ) (r : Request) (judged : Accepted) (number : ℕ)
+    (reply : List ℕ) (t t2 : Tables) → number ≡ r.number → reply ≡ string_bytes judged.body
+    → Written (judged.writes.items ++ PutSeat (row_with customer seat r number reply) ∷ []) t t2
+    → CommitsReply customer seat r judged t t2
+commits_reply customer seat r judged number reply t t2 is said all =
+    let last = Written_last judged.writes.items
+    (PutSeat (row_with customer seat r number reply)) t t2 all in
+    (last.0, last.1, last.2 ∙ (λ i. with_seat (row_with customer seat r (is i) (said i)) last.0))
 
 -- what is accepted is what the machine responds where nothing refuses
 pub decides : (s : Section) (seat : List ℕ) (r : Request) (t : Tables) (c : Change) (a : Accepted)

@@ -5,9 +5,9 @@ use Rattle.office_tables.specs.declared.rows.Device.{Device}
 use Rattle.office_tables.specs.declared.rows.DeviceState.{DeviceState}
 use Rattle.office_commands.specs.declared.command.Change.{Change}
 use Rattle.office_commands.specs.declared.command.Change.TheVariants as change
-use Rattle.office_commands.specs.declared.refusal.Refusal.{Refusal}
 use Rattle.office_rules.specs.Effect.{StepRule}
 use Rattle.office_rules.specs.Ends.{may_be_scrapped, may_be_shipped, scrap_refusals, scraps, ship_refusals, ships}
+use Rattle.office_rules.specs.Sight.{Refusals}
 use Rattle.office_rules.specs.declared.device_step.DeviceStep.{DeviceStep}
 use Rattle.office_judges.specs.declared.ends.End.{End}
 use Rattle.office_judges.specs.declared.ends.End.TheVariants.{Scrap, Ship}
@@ -21,7 +21,7 @@ abbrev pub may_end : End → DeviceState → Bool
 may_end Ship = may_be_shipped
 may_end Scrap = may_be_scrapped
 
-abbrev pub end_refusals : End → Map → Device → List (Bool × Refusal)
+abbrev pub end_refusals : End → Map → Device → Refusals
 end_refusals Ship = ship_refusals
 end_refusals Scrap = scrap_refusals
 

@@ -1,10 +1,11 @@
 -- What the look-ups of a customer's seat found in the tables.
-use Rattle.std.proofs.Common.{◌≡◌, ◌∙◌, ℕ, Bool, true, false, List, Option, Some, None, Result}
-use Rattle.std.proofs.Common.{Ok, Err, refl, sym, ap, subst}
+use Rattle.std.proofs.Common.{◌≡◌, ◌∙◌, ℕ, Bool, true, false, List, Option, Some, None}
+use Rattle.std.proofs.Common.{Ok, refl, sym, subst}
 use Rattle.std.specs.Result.{result_ok}
 use Rattle.std.specs.Prelude.{bytes_eq, if◌then◌else◌, option_and_then, option_map}
 use Rattle.std.specs.List.{list_any}
 use Rattle.fusemap_core.specs.Map.{Map}
+use Rattle.text_core.proofs.Results.{ok_is}
 use Rattle.import_rows.specs.declared.rows.ImportRow.{ImportRow}
 use Rattle.site_core.specs.Section.{Section}
 use Rattle.office_tables.specs.declared.rows.Device.{Device}
@@ -48,11 +49,7 @@ rows_taken v n i is =
     let made = gave (merged_rows v n) result_ok i is in
     let rows = gave n.rows _ made.0 made.1 in
     let given = gave (v.issuer n.issuer) _ made.0 rows.2 in
-    (rows.0, given.0, given.1, some_is given.2 ∙ is_ok made.0 made.2)
-  where
-    is_ok : (made : Result ImportResult (List ℕ)) → result_ok made ≡ Some i → made ≡ Ok i
-    is_ok (Ok j) e = ap Ok (some_is e)
-    is_ok (Err serial) e = cc
+    (rows.0, given.0, given.1, some_is given.2 ∙ ok_is made.0 i made.2)
 
 module _ (s : Section) (t : Tables) where
   -- an issuer that is looked up is one of the section's

@@ -27,29 +27,29 @@ use Rattle.office_rules.specs.Sight.{OrderSight, Refusals, Sight, device_in_sigh
 use Rattle.office_rules.specs.declared.device_step.FoundDevice.{FoundDevice}
 
 -- each number is above the one before it, and the first above n
-abbrev AscendFrom : ℕ → List (Bool × Refusal) → Type 0
+abbrev AscendFrom : ℕ → Refusals → Type 0
 AscendFrom n [] = Unit {0}
 AscendFrom n (c ∷ cs) = (n < refusal_number c.1) × AscendFrom (refusal_number c.1) cs
 
 -- then all are above n
-pub above : (n : ℕ) (cs : List (Bool × Refusal)) → AscendFrom n cs → AllByRecursion (λ c. n < refusal_number c.1) cs
+pub above : (n : ℕ) (cs : Refusals) → AscendFrom n cs → AllByRecursion (λ c. n < refusal_number c.1) cs
 above n [] up = tt
 above n (c ∷ cs) up = (up.0, all_above n (refusal_number c.1) cs up.0 (above (refusal_number c.1) cs up.1))
   where
-    all_above : (n m : ℕ) (cs : List (Bool × Refusal)) → n < m → AllByRecursion (λ c. m < refusal_number c.1) cs → AllByRecursion (λ c.
+    all_above : (n m : ℕ) (cs : Refusals) → n < m → AllByRecursion (λ c. m < refusal_number c.1) cs → AllByRecursion (λ c.
         n < refusal_number c.1) cs
     all_above n m [] less up = tt
     all_above n m (c ∷ cs) less up = (omega (arith, less, up.0), all_above n m cs less up.1)
 
 -- none that holds has a lower number than the first that holds
-abbrev NoneBelow : Refusal → List (Bool × Refusal) → Type 0
+abbrev NoneBelow : Refusal → Refusals → Type 0
 NoneBelow r cs = AllByRecursion (λ c. c.0 ≡ true → refusal_number r ≤ refusal_number c.1) cs
 
-none_below : (r : Refusal) (cs : List (Bool × Refusal)) → AllByRecursion (λ c. refusal_number r < refusal_number c.1) cs → NoneBelow r cs
+none_below : (r : Refusal) (cs : Refusals) → AllByRecursion (λ c. refusal_number r < refusal_number c.1) cs → NoneBelow r cs
 none_below r [] up = tt
 none_below r (c ∷ cs) up = (λ _. omega (arith, up.0), none_below r cs up.1)
 
-first_is_lowest : (holds : Bool) (first r : Refusal) (cs : List (Bool × Refusal)) → AscendFrom (refusal_number first) cs
+first_is_lowest : (holds : Bool) (first r : Refusal) (cs : Refusals) → AscendFrom (refusal_number first) cs
     → (first_that_holds cs ≡ Some r → NoneBelow r cs) → (if holds then Some first else first_that_holds cs) ≡ Some r
     → (holds ≡ true → refusal_number r ≤ refusal_number first) × NoneBelow r cs
 first_is_lowest true first r cs up later e =
@@ -57,7 +57,7 @@ first_is_lowest true first r cs up later e =
     rw (← same) (λ _. omega arith, none_below first cs (above (refusal_number first) cs up))
 first_is_lowest false first r cs up later e = (λ h. absurd (false≢true h), later e)
 
-pub lowest_of_ascending : (n : ℕ) (cs : List (Bool × Refusal)) (r : Refusal) → AscendFrom n cs → first_that_holds cs ≡ Some r → NoneBelow r cs
+pub lowest_of_ascending : (n : ℕ) (cs : Refusals) (r : Refusal) → AscendFrom n cs → first_that_holds cs ≡ Some r → NoneBelow r cs
 lowest_of_ascending n [] r up e = cc
 lowest_of_ascending n (c ∷ cs) r up e = first_is_lowest c.0 c.1 r cs up.1 (lowest_of_ascending (refusal_number c.1) cs r up.1) e
 

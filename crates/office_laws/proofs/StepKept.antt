@@ -1,5 +1,5 @@
 -- A step of a device keeps the tables sound, and forgets nothing that was burnt.
-use Rattle.std.proofs.Common.{◌≡◌, ◌+◌, ◌∙◌, ◌++◌, ℕ, Bool, List, [], ◌∷◌, Option, Some, None, refl, sym, ap, subst}
+use Rattle.std.proofs.Common.{◌≡◌, ◌+◌, ◌∙◌, ◌++◌, ℕ, List, [], ◌∷◌, Option, Some, None, refl, sym, ap, subst}
 use Rattle.std.specs.Prelude.{bytes_eq, option_and_then, option_map}
 use Rattle.std.proofs.lemmas.Bool.{and_parts}
 use Rattle.text_core.specs.Options.{first_that_holds}
@@ -11,10 +11,9 @@ use Rattle.office_tables.specs.declared.rows.Entry.{Entry}
 use Rattle.office_tables.specs.declared.rows.NewEntry.{NewEntry}
 use Rattle.office_tables.specs.declared.rows.OfCustomer.{OfCustomer}
 use Rattle.office_tables.specs.Tables.{Tables, device_at, entry_under, entry_with, is_device, last_number, with_device, with_new_entry}
-use Rattle.office_commands.specs.declared.refusal.Refusal.{Refusal}
 use Rattle.office_rules.specs.Effect.{StepRule, Effect, entry_of, step_effect, step_put}
 use Rattle.office_rules.specs.OfficeMachine.{MakesPut, MakesPuts, its, map_named, map_text, office_sight}
-use Rattle.office_rules.specs.Sight.{Sight, device_in_sight, map_in_sight, step_refusals}
+use Rattle.office_rules.specs.Sight.{Refusals, Sight, device_in_sight, map_in_sight, step_refusals}
 use Rattle.office_rules.specs.declared.device_step.DeviceStep.{DeviceStep}
 use Rattle.office_rules.proofs.Sights.{entry_same, map_same}
 use Rattle.office_rules.proofs.Ties.{same_text}
@@ -98,7 +97,7 @@ module _ {owners : Ownership} {t : Tables} (sound : IsSound owners t) (s : Secti
       }
 
   -- a command that makes a step of a device, where nothing refuses it
-  pub steps_kept : (does : StepRule) (against : Map → Device → List (Bool × Refusal)) (chip : List ℕ)
+  pub steps_kept : (does : StepRule) (against : Map → Device → Refusals) (chip : List ℕ)
       (e : Effect) (mid : Tables) → first_that_holds (step_refusals against (device_in_sight v chip)) ≡ None
       → step_effect seat v does chip ≡ Some e
       → ((old : OfCustomer Device) (m : Map) → SerialIsOfIdentified old → IsMap m

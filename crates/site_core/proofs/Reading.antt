@@ -1,5 +1,5 @@
 -- The site that a text is, by its definition and by its relation.
-use Rattle.std.proofs.Common.{◌≡◌, ◌≢◌, ◌∙◌, ℕ, List, Option, Some, Result, Ok, Err, IfOk, IfErr, sym}
+use Rattle.std.proofs.Common.{◌≡◌, ◌≢◌, ◌∙◌, ℕ, List, Some, Result, Ok, IfOk, IfErr, sym}
 use Rattle.toml.specs.Data.{Data}
 use Rattle.text_core.specs.Answer.{GivesUnless}
 use Rattle.toml_members.proofs.Reading as reading

@@ -1,5 +1,5 @@
--- What a request is_within of the office is within its ranges.
-use Rattle.std.proofs.Common.{◌≡◌, ◌≤◌, ◌*◌, ◌/◌, ◌%◌, ◌==◌, ℕ, arith, true, false, cond, List, [], ◌∷◌, Option, Some, None, refl, ap, length}
+-- What is asked of the office is within its ranges.
+use Rattle.std.proofs.Common.{◌≡◌, ◌≤◌, ◌*◌, ◌/◌, ◌%◌, ◌==◌, ℕ, arith, true, false, cond, List, [], ◌∷◌, Option, Some, None, refl, length}
 use Rattle.std.specs.Prelude.{Result, Ok, Err, nat_le, ◌&&◌, codes, option_and_then, option_map, IfSome}
 use Rattle.std.specs.List.{AllByRecursion}
 use Rattle.std.specs.Option.{ok_or}
@@ -13,6 +13,7 @@ use Rattle.hex.proofs.HexLemmas.{decode_pairs-ok}
 use Rattle.text_core.specs.Answer.{result_and_then, result_map}
 use Rattle.text_core.specs.Digest.{digest_of_text}
 use Rattle.text_core.specs.Options.{◌>>=◌, all_of}
+use Rattle.text_core.proofs.Results.{ok_is}
 use Rattle.json_members.specs.Json.{chip_member, digest_member, json_of, name_member, text_if_member, text_member, whole_member, number_within}
 use Rattle.http_frames.specs.Fields.{path_of, query_of}
 use Rattle.http_frames.specs.Frames.{Request as HttpRequest}
@@ -98,11 +99,6 @@ make_order_within : (d : Data) → IfSome (make_order_of d) IsAsked
 unfolding make_order_of
 make_order_within d = each_gives IsAsked (number_member d) _ (λ number _.
     each_gives IsAsked (new_order_of d) _ (λ order is. let all = order_within d in rw is at all))
-
--- what is read of a result is what it is
-ok_is : {A E : Type 0} (r : Result A E) (x : A) → result_ok r ≡ Some x → r ≡ Ok x
-ok_is (Ok y) x e = ap Ok (cc)
-ok_is (Err y) x e = cc
 
 -- the digest of a text has 32 bytes
 digest_length : (text digest : List ℕ) → digest_of_text text ≡ Some digest → length digest ≡ 32

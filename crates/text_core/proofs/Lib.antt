@@ -2,4 +2,5 @@
 pub mod InFront
 pub mod Lists
 pub mod Padding
+pub mod Results
 pub mod Shorts

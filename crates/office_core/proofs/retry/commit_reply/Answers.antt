@@ -16,17 +16,7 @@ returns g c =
       was_honest = search rules;
       stays_open = search rules;
       change = λ is. (
-        commits_reply c.args.customer.now c.args.seat.now c.args.request.now c.args.judged _ _ _
-            (λ i. record {
-              customer = c.args.customer.now;
-              row = record {
-                name =
-                    c.args.seat.now;
-                last = c.value.ensures.same i;
-                digest = c.args.request.now.digest;
-                reply = reply i;
-              };
-            })
+        commits_reply c.args.customer.now c.args.seat.now c.args.request.now c.args.judged _ _ _ _ c.value.ensures.same reply
             (rw (c.deref.ensures.value, c.in_ok-push.ensures.items) at (c.in_ok-commit.ensures.ok is)),
         c.accepted.ensures,
       );
@@ -35,21 +25,7 @@ returns g c =
           (λ all. (
             c.requires.open (c.commit.ensures.was_honest honest),
             acceptance (string_bytes c.args.judged.body),
-            (
-              commits_reply c.args.customer.now c.args.seat.now c.args.request.now c.args.judged _ _ _
-                  (λ i. record {
-                    customer = c.args.customer.now;
-                    row = record {
-                      name =
-                          c.args.seat.now;
-                      last = c.value.ensures.same i;
-                      digest =
-                          c.args.request.now.digest;
-                      reply = reply i;
-                    };
-                  }) all,
-              refl,
-            ),
+            (commits_reply c.args.customer.now c.args.seat.now c.args.request.now c.args.judged _ _ _ _ c.value.ensures.same reply all, refl),
           ));
     }
 
@@ -65,20 +41,6 @@ returns-in_err-commit g c = record {
       (λ all. (
         c.requires.open (c.commit.ensures.was_honest honest),
         acceptance (string_bytes c.args.judged.body),
-        (
-          commits_reply c.args.customer.now c.args.seat.now c.args.request.now c.args.judged _ _ _
-              (λ i. record {
-                customer = c.args.customer.now;
-                row = record {
-                  name =
-                      c.args.seat.now;
-                  last = c.value.ensures.same i;
-                  digest =
-                      c.args.request.now.digest;
-                  reply = reply i;
-                };
-              }) all,
-          refl,
-        ),
+        (commits_reply c.args.customer.now c.args.seat.now c.args.request.now c.args.judged _ _ _ _ c.value.ensures.same reply all, refl),
       ));
 }
