@@ -1,5 +1,7 @@
 //! Tests of the server by conversations, over both keepers: each request gets its reply, whatever
-//! other customers ask, in streams and in lists.
+//! other customers ask, in streams and in lists. And those of stores in memory, which conversations
+//! are held over, too: which are adopted, what stands in their columns, what is served over those
+//! whose site grew and those of earlier schemas, and what few steps leave.
 #![tactic(auto)]
 
 #[cfg(test)]
@@ -11,6 +13,8 @@ mod counting;
 #[cfg(test)]
 mod digests;
 #[cfg(test)]
+mod grown_stores;
+#[cfg(test)]
 mod growths;
 #[cfg(test)]
 mod isolation;
@@ -18,6 +22,10 @@ mod isolation;
 mod parts;
 #[cfg(test)]
 mod seats;
+#[cfg(test)]
+mod stores;
+#[cfg(test)]
+mod upgrades;
 #[cfg(test)]
 mod visits;
 #[cfg(test)]

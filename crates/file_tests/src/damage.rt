@@ -1,5 +1,5 @@
 //! A store's files with their bytes changed, and what is served over them.
-use crate::disks::{InFiles, NO_STOP, SqlFiles, Store, opened_whole};
+use crate::disks::{FilesCase, InFiles, NO_STOP, Store, opened_whole, over_files};
 use std::alloc::Global;
 use std::str;
 use std::test::Fail;
@@ -206,12 +206,27 @@ fn refuses_another_head<K: InFiles>(alloc: Global) -> Result<bool, Fail> {
     Ok(written_over::<K>(alloc, &store)?.is_none())
 }
 
+/// Each kind of damage.
+struct Damages;
+
+impl FilesCase for Damages {
+    fn first_difference<K: InFiles>(alloc: Global) -> Result<String, Fail> {
+        if !refuses_another_head::<K>(alloc)? {
+            return Ok(String::from_str(alloc, "another head is opened")?);
+        }
+        for row in DAMAGES {
+            let found = first_lost_of::<K>(alloc, row)?;
+            if !found.is_empty() {
+                return Ok(found);
+            }
+        }
+        Ok(String::new(alloc))
+    }
+}
+
 /// Whatever a store's files hold, it is refused or each request gets a reply.
 #[test]
 fn damaged_stores_are_refused_or_served(rt: HostRuntime) -> Result<(), Fail> {
-    assert!(rt; refuses_another_head::<SqlFiles>(rt.alloc())?);
-    for row in DAMAGES {
-        assert_eq!(rt; first_lost_of::<SqlFiles>(rt.alloc(), row)?.as_str(), "");
-    }
+    assert_eq!(rt; over_files::<Damages>(rt.alloc())?.as_str(), "");
     Ok(())
 }

@@ -14,8 +14,9 @@ use test_texts::conversations::plans::PLANS;
 use test_texts::conversations::{Exchange, exchanges};
 use test_texts::samples::SITE;
 
-/// The keeper over a database in files in memory.
-pub type SqlFiles = SqlKeep<FileStore<Fuse<Memory>>>;
+/// The keeper over a database in files in memory. [`over_files`] alone names it beside the methods that
+/// have one: each call that names it costs the prover half a minute.
+type SqlFiles = SqlKeep<FileStore<Fuse<Memory>>>;
 
 /// When a store is stopped: how many calls its file and its log answer before they fail each further
 /// one, and whether what wasn't synced is lost then, as where the power fails.
@@ -71,8 +72,9 @@ impl Store {
     }
 }
 
-/// A file in memory that has these bytes, and answers so many calls.
-fn file_of(alloc: Global, bytes: &[u8], calls: u64) -> Result<Fuse<Memory>, Fail>
+/// A file in memory that has these bytes, and answers so many calls. All tests take files of this one
+/// type, since for each type the whole of the database is compiled once more.
+pub fn file_of(alloc: Global, bytes: &[u8], calls: u64) -> Result<Fuse<Memory>, Fail>
     ensures { IfOk result (λ file. IsTrue (⟦<Fuse<Memory> as Disk>⟧.is_usable file)) }
 {
     let mut memory = Memory::new(alloc);
@@ -118,6 +120,17 @@ pub trait InFiles: Keep {
 
     /// The bytes that it leaves where it is stopped, all that was written or what was synced alone.
     fn stopped(self, alloc: Global, loses_unsynced: bool) -> Option<Store>;
+}
+
+/// A case of stores in files.
+pub trait FilesCase {
+    /// What differs first, as a text that is empty where nothing does.
+    fn first_difference<K: InFiles>(alloc: Global) -> Result<String, Fail>;
+}
+
+/// What differs first in a case, over files in memory.
+pub fn over_files<C: FilesCase>(alloc: Global) -> Result<String, Fail> {
+    C::first_difference::<SqlFiles>(alloc)
 }
 
 /// The number that a query tells of a database once it is changed by SQL.
@@ -258,13 +271,25 @@ fn first_difference_opened_anew<K: InFiles>(
     Ok(String::new(alloc))
 }
 
+/// The conversations about plans, over a store that is opened anew for each request.
+struct PlansOpenedAnew;
+
+impl FilesCase for PlansOpenedAnew {
+    fn first_difference<K: InFiles>(alloc: Global) -> Result<String, Fail> {
+        for row in PLANS {
+            let found = first_difference_opened_anew::<K>(alloc, row.1)?;
+            if !found.is_empty() {
+                return Ok(format!(in alloc; "{}: {found}", row.0)?);
+            }
+        }
+        Ok(String::new(alloc))
+    }
+}
+
 /// The conversations about plans, over a store whose files are closed after each request and opened
 /// again.
 #[test]
 fn stores_are_opened_anew_between_requests(rt: HostRuntime) -> Result<(), Fail> {
-    for row in PLANS {
-        let found = first_difference_opened_anew::<SqlFiles>(rt.alloc(), row.1)?;
-        assert_eq!(rt; found.as_str(), "", "{}", row.0);
-    }
+    assert_eq!(rt; over_files::<PlansOpenedAnew>(rt.alloc())?.as_str(), "");
     Ok(())
 }

@@ -1,6 +1,6 @@
 //! Stores in files of a site whose text is another when they are next opened: which texts are
 //! taken, what is served then, and what a stop in between leaves.
-use crate::disks::{InFiles, NO_STOP, SqlFiles, Store, is_told, opened_for};
+use crate::disks::{FilesCase, InFiles, NO_STOP, Store, is_told, opened_for, over_files};
 use crate::stops::{CALL_LIMIT, Counted, stop_after, stopped_in};
 use std::alloc::{AllocError, Global};
 use std::test::Fail;
@@ -212,31 +212,69 @@ fn first_lost_in_growth<K: InFiles>(alloc: Global, loses_unsynced: bool) -> Resu
     first_lost_at::<K>(alloc, &store, (Counted::File, loses_unsynced))
 }
 
+/// Texts for which a store is next opened.
+struct NextTexts;
+
+impl FilesCase for NextTexts {
+    fn first_difference<K: InFiles>(alloc: Global) -> Result<String, Fail> {
+        first_difference_opened::<K>(alloc, NEXT_TEXTS)
+    }
+}
+
+/// What is shown before and after a site grew.
+struct BooksOverGrown;
+
+impl FilesCase for BooksOverGrown {
+    fn first_difference<K: InFiles>(alloc: Global) -> Result<String, Fail> {
+        first_difference_over_grown::<K>(alloc)
+    }
+}
+
+/// Requests before and after a site grew.
+struct GrowthsBetween;
+
+impl FilesCase for GrowthsBetween {
+    fn first_difference<K: InFiles>(alloc: Global) -> Result<String, Fail> {
+        first_difference_of_stores::<K>(alloc)
+    }
+}
+
+/// A growth that is killed.
+struct KilledGrowth;
+
+impl FilesCase for KilledGrowth {
+    fn first_difference<K: InFiles>(alloc: Global) -> Result<String, Fail> {
+        first_lost_in_growth::<K>(alloc, false)
+    }
+}
+
+/// A growth whose power fails.
+struct GrowthWithoutPower;
+
+impl FilesCase for GrowthWithoutPower {
+    fn first_difference<K: InFiles>(alloc: Global) -> Result<String, Fail> {
+        first_lost_in_growth::<K>(alloc, true)
+    }
+}
+
 /// Files are opened for the text that they hold and for those that grew from it, which they hold
 /// then; for another they aren't, and nothing is changed.
 #[test]
 fn stores_in_files_take_texts_that_grew(rt: HostRuntime) -> Result<(), Fail> {
-    let found = first_difference_opened::<SqlFiles>(rt.alloc(), NEXT_TEXTS)?;
-    assert_eq!(rt; found.as_str(), "");
+    assert_eq!(rt; over_files::<NextTexts>(rt.alloc())?.as_str(), "");
     Ok(())
 }
 
 /// What was shown before the site grew is shown after it, and the old text is refused then.
 #[test]
 fn books_stay_where_sites_grow(rt: HostRuntime) -> Result<(), Fail> {
-    assert_eq!(rt;
-        first_difference_over_grown::<SqlFiles>(rt.alloc())?.as_str(),
-        ""
-    );
+    assert_eq!(rt; over_files::<BooksOverGrown>(rt.alloc())?.as_str(), "");
     Ok(())
 }
 
 #[test]
 fn sites_grow_between_openings(rt: HostRuntime) -> Result<(), Fail> {
-    assert_eq!(rt;
-        first_difference_of_stores::<SqlFiles>(rt.alloc())?.as_str(),
-        ""
-    );
+    assert_eq!(rt; over_files::<GrowthsBetween>(rt.alloc())?.as_str(), "");
     Ok(())
 }
 
@@ -244,19 +282,13 @@ fn sites_grow_between_openings(rt: HostRuntime) -> Result<(), Fail> {
 /// the next opening takes the new one, with the same books.
 #[test]
 fn a_killed_growth_goes_on(rt: HostRuntime) -> Result<(), Fail> {
-    assert_eq!(rt;
-        first_lost_in_growth::<SqlFiles>(rt.alloc(), false)?.as_str(),
-        ""
-    );
+    assert_eq!(rt; over_files::<KilledGrowth>(rt.alloc())?.as_str(), "");
     Ok(())
 }
 
 /// The same, where what wasn't synced is lost at each stop.
 #[test]
 fn a_growth_goes_on_after_a_power_cut(rt: HostRuntime) -> Result<(), Fail> {
-    assert_eq!(rt;
-        first_lost_in_growth::<SqlFiles>(rt.alloc(), true)?.as_str(),
-        ""
-    );
+    assert_eq!(rt; over_files::<GrowthWithoutPower>(rt.alloc())?.as_str(), "");
     Ok(())
 }

@@ -1,10 +1,10 @@
 //! A store in files that crashes between two lists of requests, and whose site may grow there.
 
+use crate::disks::{NO_STOP, file_of};
 use crate::stops::rest_of;
 use office_restart::{Restarted, crash, replay_through_crash};
 use site_core::read_site_text;
 use sqlite::{Files, Options};
-use sqlite_disk::Memory;
 use std::alloc::Global;
 use std::test::Fail;
 use test_exchanges::lists::{first_difference_among, seat_requests};
@@ -29,8 +29,8 @@ fn first_difference_through_crash(
         return Err(Fail::from("no growth"));
     }
     let files = Files {
-        log: Memory::new(alloc),
-        db: Memory::new(alloc),
+        log: file_of(alloc, &[], NO_STOP.log_calls)?,
+        db: file_of(alloc, &[], NO_STOP.file_calls)?,
     };
     let done = replay_through_crash(
         alloc,

@@ -1,5 +1,5 @@
 //! A run that is stopped at each call of its store, and goes on over what is left.
-use crate::disks::{InFiles, NO_STOP, SqlFiles, Stop, Store, opened_whole};
+use crate::disks::{FilesCase, InFiles, NO_STOP, Stop, Store, opened_whole, over_files};
 use office_core::Keep;
 use std::alloc::{AllocError, Global};
 use std::test::Fail;
@@ -199,24 +199,36 @@ fn first_lost_at_stops<K: InFiles>(alloc: Global, loses_unsynced: bool) -> Resul
     first_lost_at::<K>(alloc, (Counted::File, loses_unsynced))
 }
 
+/// A run that is killed.
+struct KilledRun;
+
+impl FilesCase for KilledRun {
+    fn first_difference<K: InFiles>(alloc: Global) -> Result<String, Fail> {
+        first_lost_at_stops::<K>(alloc, false)
+    }
+}
+
+/// A run whose power fails.
+struct RunWithoutPower;
+
+impl FilesCase for RunWithoutPower {
+    fn first_difference<K: InFiles>(alloc: Global) -> Result<String, Fail> {
+        first_lost_at_stops::<K>(alloc, true)
+    }
+}
+
 /// A run over files is stopped at each call of either, and some of the openings behind are stopped
 /// too: what was replied is there, the request that was cut off gets its reply when it is sent again,
 /// and the books are those of an undisturbed run.
 #[test]
 fn a_killed_run_goes_on(rt: HostRuntime) -> Result<(), Fail> {
-    assert_eq!(rt;
-        first_lost_at_stops::<SqlFiles>(rt.alloc(), false)?.as_str(),
-        ""
-    );
+    assert_eq!(rt; over_files::<KilledRun>(rt.alloc())?.as_str(), "");
     Ok(())
 }
 
 /// The same, where what wasn't synced is lost at each stop.
 #[test]
 fn a_run_goes_on_after_a_power_cut(rt: HostRuntime) -> Result<(), Fail> {
-    assert_eq!(rt;
-        first_lost_at_stops::<SqlFiles>(rt.alloc(), true)?.as_str(),
-        ""
-    );
+    assert_eq!(rt; over_files::<RunWithoutPower>(rt.alloc())?.as_str(), "");
     Ok(())
 }

@@ -1,5 +1,5 @@
 //! Stores of earlier schemas in files, whose upgrade is stopped: what it leaves.
-use crate::disks::{InFiles, SqlFiles, Store, is_told, opened_whole};
+use crate::disks::{FilesCase, InFiles, Store, is_told, opened_whole, over_files};
 use crate::stops::{CALL_LIMIT, Counted, stop_after, stopped_in};
 use std::alloc::Global;
 use std::test::Fail;
@@ -78,35 +78,58 @@ fn first_lost_in_upgrade<K: InFiles>(
     first_lost_at::<K>(alloc, &store, earlier, (Counted::File, loses_unsynced))
 }
 
+/// An upgrade of schema 1 that is killed.
+struct KilledUpgrade;
+
+impl FilesCase for KilledUpgrade {
+    fn first_difference<K: InFiles>(alloc: Global) -> Result<String, Fail> {
+        first_lost_in_upgrade::<K>(alloc, &ONE, false)
+    }
+}
+
+/// An upgrade of schema 1 whose power fails.
+struct UpgradeWithoutPower;
+
+impl FilesCase for UpgradeWithoutPower {
+    fn first_difference<K: InFiles>(alloc: Global) -> Result<String, Fail> {
+        first_lost_in_upgrade::<K>(alloc, &ONE, true)
+    }
+}
+
+/// An upgrade of schema 2 that is killed, and one whose power fails.
+struct StoppedUpgradesOfTwo;
+
+impl FilesCase for StoppedUpgradesOfTwo {
+    fn first_difference<K: InFiles>(alloc: Global) -> Result<String, Fail> {
+        let found = first_lost_in_upgrade::<K>(alloc, &TWO, false)?;
+        if !found.is_empty() {
+            return Ok(found);
+        }
+        first_lost_in_upgrade::<K>(alloc, &TWO, true)
+    }
+}
+
 /// Their upgrade is stopped at each call of either file: the store has its schema or schema 3, and the next
 /// opening ends in schema 3, with the same books.
 #[test]
 fn a_killed_upgrade_goes_on(rt: HostRuntime) -> Result<(), Fail> {
-    assert_eq!(rt;
-        first_lost_in_upgrade::<SqlFiles>(rt.alloc(), &ONE, false)?.as_str(),
-        ""
-    );
+    assert_eq!(rt; over_files::<KilledUpgrade>(rt.alloc())?.as_str(), "");
     Ok(())
 }
 
 /// The same, where what wasn't synced is lost at each stop.
 #[test]
 fn an_upgrade_goes_on_after_a_power_cut(rt: HostRuntime) -> Result<(), Fail> {
-    assert_eq!(rt;
-        first_lost_in_upgrade::<SqlFiles>(rt.alloc(), &ONE, true)?.as_str(),
-        ""
-    );
+    assert_eq!(rt; over_files::<UpgradeWithoutPower>(rt.alloc())?.as_str(), "");
     Ok(())
 }
 
 /// Both of a store of schema 2.
 #[test]
 fn a_stopped_upgrade_of_schema_two_goes_on(rt: HostRuntime) -> Result<(), Fail> {
-    for loses_unsynced in [false, true] {
-        assert_eq!(rt;
-            first_lost_in_upgrade::<SqlFiles>(rt.alloc(), &TWO, loses_unsynced)?.as_str(),
-            ""
-        );
-    }
+    assert_eq!(rt;
+        over_files::<StoppedUpgradesOfTwo>(rt.alloc())?.as_str(),
+        ""
+    );
     Ok(())
 }
