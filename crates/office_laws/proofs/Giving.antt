@@ -97,25 +97,25 @@ module _ {site : Ownership} (t mid : Tables) (sound : IsSound site t) (later : I
       step_anew sound s seat number digest i reply mid later step next free
   of_lowest number digest i next step (Some reason) is responds = is_refused reason responds
 
-  of_turn : (number : ℕ) (digest : List ℕ) (i : NewIdentity)
+  of_retry : (number : ℕ) (digest : List ℕ) (i : NewIdentity)
       → is_after seat (view s.name t) number ≡ true
       → Step s seat t (asks_identity number digest i) reply mid
-      → (turns : Retry)
-      → retry_at seat (asks_identity number digest i) t ≡ turns
+      → (retry : Retry)
+      → retry_at seat (asks_identity number digest i) t ≡ retry
       → Responds (respond_by_retry s seat (office_sight s seat t) (asks_identity number digest i)
-      (Identify i) turns)
+      (Identify i) retry)
       → Shows s i t reply mid
-  of_turn number digest i past step (Repeats body) is responds =
+  of_retry number digest i past step (Repeats body) is responds =
       let own : retry_of (seat_named seat (view s.name t)) number digest ≡ Repeats body =
       ap (λ (found : Option SeatState). retry_of found number digest)
       (sym (seat_own sound s.name seat mine)) ∙ is in
       let kept = retry_repeats (seat_named seat (view s.name t)) number digest body own in
       let last : last_at seat (view s.name t) ≡ number = ap last_number_of_seat kept.1 ∙ kept.2 in
       absurd (grind (arith, nat_tests, last, past))
-  of_turn number digest i past step Differs is responds = is_refused OtherBody responds
-  of_turn number digest i past step (Skips expected) is responds =
+  of_retry number digest i past step Differs is responds = is_refused OtherBody responds
+  of_retry number digest i past step (Skips expected) is responds =
       is_refused (WrongNumber expected) responds
-  of_turn number digest i past step Next is responds =
+  of_retry number digest i past step Next is responds =
       of_lowest number digest i is step
       (first_that_holds (refusals s (office_sight s seat t) (Identify i))) refl responds
 
@@ -133,7 +133,7 @@ module _ {site : Ownership} (t mid : Tables) (sound : IsSound site t) (later : I
   of_change number digest (Identify j) i is past step =
       let same : j ≡ i = cc in
       subst (λ (i : NewIdentity). Shows s i t reply mid) same
-      (of_turn number digest j past step (retry_at seat (asks_identity number digest j) t) refl
+      (of_retry number digest j past step (retry_at seat (asks_identity number digest j) t) refl
       (step.0, step.1))
   of_change number digest (Ship chip) i is past step = cc
   of_change number digest (Scrap chip) i is past step = cc

@@ -13,7 +13,7 @@ use Rattle.office_rules.specs.OfficeMachine.{Step}
 use Rattle.office_laws.specs.Exchanges.{Call, Exchange, FulfilsWanted, Passes, asks}
 use Rattle.office_laws.specs.Stops.{IsLeft, IsCallPending, IsUnanswered, Leaves, LeavesAfter, Session, WasUnavailable, is_request, is_answered}
 
--- the exchange settles nothing
+-- the exchange answers nothing
 abbrev pub AnswersNothing : Exchange → Type 0
 AnswersNothing later = is_answered later ≡ false
 
@@ -22,14 +22,14 @@ all_more : (xs ys : List Exchange) → AllByRecursion AnswersNothing xs → AllB
 all_more [] ys all more = more
 all_more (x ∷ xs) ys all more = (all.0, all_more xs ys all.1 more)
 
--- a 503 settles nothing
+-- a 503 answers nothing
 pub answers_nothing : (x : Exchange) → is_unavailable x.1.status ≡ true → is_answered x ≡ false
 answers_nothing x is = and_right (is_request x.0.wanted) (not (is_unavailable x.1.status)) (ap not is)
 
--- more that settle nothing
+-- more that answer nothing
 unanswered_more : (xs ys : List Exchange) (c : Call) → AllByRecursion AnswersNothing ys
     → IsUnanswered xs c → IsUnanswered (xs ++ ys) c
-unanswered_more [] ys c more unsettled = absurd unsettled
+unanswered_more [] ys c more unanswered = absurd unanswered
 unanswered_more (x ∷ xs) ys c more (inl here) = inl (here.0, here.1, all_more xs ys here.2 more)
 unanswered_more (x ∷ xs) ys c more (inr later) = inr (unanswered_more xs ys c more later)
 
@@ -64,14 +64,14 @@ one_more : (xs : List Exchange) (x : Exchange) (r : Request) (t t2 : Tables)
     → ((left : Tables) → After left → Before left
     ⊎ ((reply : Answer) × Step x.0.section x.0.seat t r reply left))
     → (left : Tables) → After left → Leaves (xs ++ x ∷ []) t2 left
-one_more xs x r t t2 Before After Opened asked passes before opened settled crash left leaves =
+one_more xs x r t t2 Before After Opened asked passes before opened answered crash left leaves =
     elim (is_unavailable x.1.status) as
     (λ b. is_unavailable x.1.status ≡ b
     → MatchBool b ((x.1 ≡ refusal Unkept) × (t2 ≡ t)) (FulfilsWanted x.0 x.0.wanted t x.1 t2)
     → MatchBool b (Unit {0}) Opened → Leaves (xs ++ x ∷ []) t2 left) [
       | true ↦ λ is same _. subst (λ (m : Tables). Leaves (xs ++ x ∷ []) m left) (sym same.1)
           (by is (crash left leaves))
-      | false ↦ λ _ _ is. ([], settled is left leaves)
+      | false ↦ λ _ _ is. ([], answered is left leaves)
     ] refl passes opened
   where
     by : is_unavailable x.1.status ≡ true
@@ -94,13 +94,13 @@ pub leaves_more : (xs : List Exchange) (x : Exchange) (r : Request) (t mid t2 : 
     → ((left : Tables) → After left → Before left
     ⊎ ((reply : Answer) × Step x.0.section x.0.seat mid r reply left))
     → LeavesAfter (xs ++ x ∷ []) First t After t2
-leaves_more xs x r t mid t2 First Before After Opened asked passes before opened settled crash front
+leaves_more xs x r t mid t2 First Before After Opened asked passes before opened answered crash front
     starts left leaves =
     subst (λ (all : List Exchange). Leaves all t2 left) (append_assoc front xs (x ∷ []))
     (one_more (front ++ xs) x r mid t2 Before After Opened asked passes
-    (before front starts) opened settled crash left leaves)
+    (before front starts) opened answered crash left leaves)
 
--- exchanges that settle nothing, leave the tables and let a crash leave no more than before
+-- exchanges that answer nothing, leave the tables and let a crash leave no more than before
 pub leaves_unanswered : (xs : List Exchange) (t t2 : Tables) (Before After : Tables → Type 0)
     → AllByRecursion AnswersNothing xs → t2 ≡ t → ((left : Tables) → After left → Before left)
     → LeavesAfter xs Before t After t2
@@ -123,7 +123,7 @@ leaves_joined xs ys First Before After t mid t2 one two front starts left leaves
     subst (λ (all : List Exchange). Leaves all t2 left) (append_assoc front xs ys)
     (two (front ++ xs) (one front starts) left leaves)
 
--- what is unsettled was answered 503
+-- an unanswered call got a 503
 unanswered_unavailable : (xs : List Exchange) (c : Call) → IsUnanswered xs c → WasUnavailable xs c
 unanswered_unavailable [] c is = absurd is
 unanswered_unavailable (x ∷ xs) c (inl here) = inl (here.0, here.1)

@@ -108,17 +108,17 @@ module _ {owners : Ownership} {t : Tables} (sound : IsSound owners t) (s : Secti
         subst (λ (x : Response). AreDue x.puts) (some_is e)
         (all_with (IsDue owners s.name) o.puts _ (outcome_due c o free is) mine)
 
-    turned_due : (c : Changing) (p : Response) (turns : Retry)
-        → respond_by_retry s seat v r c turns ≡ Some p → AreDue p.puts
-    turned_due c p (Repeats body) e = none_due e refl
-    turned_due c p Differs e = none_due e refl
-    turned_due c p (Skips expected) e = none_due e refl
-    turned_due c p Next e = judged_due c p (first_that_holds (refusals s v c)) refl (effect s seat v c) refl e
+    retried_due : (c : Changing) (p : Response) (retry : Retry)
+        → respond_by_retry s seat v r c retry ≡ Some p → AreDue p.puts
+    retried_due c p (Repeats body) e = none_due e refl
+    retried_due c p Differs e = none_due e refl
+    retried_due c p (Skips expected) e = none_due e refl
+    retried_due c p Next e = judged_due c p (first_that_holds (refusals s v c)) refl (effect s seat v c) refl e
 
     served_due : (command : Command) (p : Response) → respond_to s seat v r command ≡ Some p
         → AreDue p.puts
     served_due (Show asked) p e = none_due e refl
-    served_due (Change c) p e = turned_due c p (retry_of v.seat r.number r.digest) e
+    served_due (Change c) p e = retried_due c p (retry_of v.seat r.number r.digest) e
 
     -- a step is the own machine's on the customer's view, and none on another's
     pub step_own : (reply : Answer) (t2 : Tables) → Step s seat t r reply t2

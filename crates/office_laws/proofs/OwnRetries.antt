@@ -160,14 +160,14 @@ retry_repeats (Some s) n digest body =
     ] refl
 
 -- what is next has the number after it
-turn_next : (found : Option SeatState) (n : ℕ) (digest : List ℕ) → retry_of found n digest ≡ Next
+retry_next : (found : Option SeatState) (n : ℕ) (digest : List ℕ) → retry_of found n digest ≡ Next
     → n ≡ last_number_of_seat found + 1
-turn_next None n digest =
+retry_next None n digest =
     elim (n == 1) as (λ b. (n == 1) ≡ b → (if b then Next else Skips 1) ≡ Next → n ≡ 1) [
       | true ↦ λ same _. eqb-true n 1 same
       | false ↦ λ _ e. cc
     ] refl
-turn_next (Some s) n digest =
+retry_next (Some s) n digest =
     elim (n == s.last) as
     (λ b. (if b then (if bytes_eq digest s.digest then Repeats s.reply else Differs) else
     (if n == s.last + 1 then Next else Skips (s.last + 1))) ≡ Next → n ≡ s.last + 1) [
@@ -267,11 +267,11 @@ module _ (c : Section) (seat : List ℕ) (s mid : SoloState) (reply : Answer) wh
             ∙ row_other row other differs s.seats;
       })
 
-  turned : (r : Request) (change : Changing) (turns : Retry)
-      → retry_of (seat_named seat s) r.number r.digest ≡ turns
-      → Performed (respond_by_retry c seat v r change turns)
+  by_retry : (r : Request) (change : Changing) (retry : Retry)
+      → retry_of (seat_named seat s) r.number r.digest ≡ retry
+      → Performed (respond_by_retry c seat v r change retry)
       → MatchBool (code_of reply.status == 200) (Accepts seat r.number reply s mid) (mid ≡ s)
-  turned r change (Repeats body) is e =
+  by_retry r change (Repeats body) is e =
       let kept = retry_repeats (seat_named seat s) r.number r.digest body is in
       let same : mid ≡ s = ap (λ (p : Answer × SoloState). p.1) e in
       at_accepted reply body _ _ (ap (λ (p : Answer × SoloState). p.0) e) (record {
@@ -282,14 +282,14 @@ module _ (c : Section) (seat : List ℕ) (s mid : SoloState) (reply : Answer) wh
         before = inl (sym kept.2 ∙ ap last_number_of_seat (sym kept.1), same);
         others = λ other _. ap (seat_named other) same;
       })
-  turned r change Differs is e =
+  by_retry r change Differs is e =
       at_refused reply OtherBody _ _ (ap (λ (p : Answer × SoloState). p.0) e)
       (ap (λ (p : Answer × SoloState). p.1) e)
-  turned r change (Skips expected) is e =
+  by_retry r change (Skips expected) is e =
       at_refused reply (WrongNumber expected) _ _ (ap (λ (p : Answer × SoloState). p.0) e)
       (ap (λ (p : Answer × SoloState). p.1) e)
-  turned r change Next is e =
-      judged r (turn_next (seat_named seat s) r.number r.digest is)
+  by_retry r change Next is e =
+      judged r (retry_next (seat_named seat s) r.number r.digest is)
       (first_that_holds (refusals c v change)) (effect c seat v change) (effect_leaves c seat v change) e
 
   on_command : (r : Request) (command : Command) → Performed (respond_to c seat v r command)
@@ -297,7 +297,7 @@ module _ (c : Section) (seat : List ℕ) (s mid : SoloState) (reply : Answer) wh
       (Accepts seat r.number reply s mid) (mid ≡ s)
   on_command r (Show asked) e = ap (λ (p : Answer × SoloState). p.1) e
   on_command r (Change change) e =
-      turned r change (retry_of (seat_named seat s) r.number r.digest) refl e
+      by_retry r change (retry_of (seat_named seat s) r.number r.digest) refl e
 
 on_wanted : (c : Call) (s mid : SoloState) (reply : Answer) (w : Wanted)
     → ◌≡◌ {A = Answer × SoloState} (reply, mid) (alone_on c s w)

@@ -137,20 +137,20 @@ module _ {owners : Ownership} {t : Tables} (sound : IsSound owners t) (apart : P
           grows = seat_grows t parts.0 (its s row) made.grows;
         })
 
-    in_turn : (c : Changing) (p : Response) → IsChange c → (turns : Retry)
-        → respond_by_retry s seat v r c turns ≡ Some p → MakesPuts s p.puts t t2
+    by_retry : (c : Changing) (p : Response) → IsChange c → (retry : Retry)
+        → respond_by_retry s seat v r c retry ≡ Some p → MakesPuts s p.puts t t2
         → Lasts owners t t2
-    in_turn c p asked (Repeats body) e puts = none_kept _ p e puts
-    in_turn c p asked Differs e puts = none_kept _ p e puts
-    in_turn c p asked (Skips expected) e puts = none_kept _ p e puts
-    in_turn c p asked Next e puts =
+    by_retry c p asked (Repeats body) e puts = none_kept _ p e puts
+    by_retry c p asked Differs e puts = none_kept _ p e puts
+    by_retry c p asked (Skips expected) e puts = none_kept _ p e puts
+    by_retry c p asked Next e puts =
         decided c p asked (first_that_holds (refusals s v c)) refl (effect s seat v c) refl e puts
 
     responded : (command : Command) (p : Response) → IsCommand command
         → respond_to s seat v r command ≡ Some p → MakesPuts s p.puts t t2 → Lasts owners t t2
     responded (Show asked) p is e puts = none_kept _ p e puts
     responded (Change c) p asked e puts =
-        in_turn c p asked (retry_of v.seat r.number r.digest) e puts
+        by_retry c p asked (retry_of v.seat r.number r.digest) e puts
 
     pub step_lasts : (reply : Answer) → IsAsked r → Step s seat t r reply t2 → Lasts owners t t2
     step_lasts reply asked (puts, is, made) =

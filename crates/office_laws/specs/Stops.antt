@@ -66,7 +66,7 @@ IsUnanswered (x ∷ xs) c =
     × AllByRecursion (λ later. is_answered later ≡ false) xs) ⊎ IsUnanswered xs c
 
 -- what a stop between two calls leaves after these exchanges, which led to t: only what is
--- unsettled is pending
+-- unanswered is pending
 abbrev pub Leaves : List Exchange → Tables → Tables → Type 0
 Leaves xs t left = (more : List Exchange) × IsLeft (IsUnanswered xs) t more left
 

@@ -76,11 +76,11 @@ nothing_in : (image : Image) (db : Trees) → AreFoundIn image db → IsSound no
 nothing_in image db (inl h) sound = let it = subst AreInOrder (sym h.5) (file_order h.0 h.2 h.1 h.4) in nothing_found it.0 it.1 db it.2 it.3 sound
 nothing_in image db (inr h) sound = empty_nothing db h.1
 
--- a store in files that was opened can be settled
-pub can_settle : (image : Image) (s : State) → s.in_transaction ≡ false
+-- the tables of a store in files that was opened can be prepared
+pub can_prepare : (image : Image) (s : State) → s.in_transaction ≡ false
     → (HasCleanDisk s → Opens s × IsLive s) → (HasCleanDisk s → FindsIn image s)
     → CanPrepareTables s
-can_settle image s mode opened finds =
+can_prepare image s mode opened finds =
     let same = λ (clean : HasCleanDisk s). (opened clean).0.clean in
     let found = λ (clean : HasCleanDisk s). subst (AreFoundIn image) (sym (ap (λ (d : Database). d.trees) (same clean))) (finds clean).reads in
     let sound = λ (clean : HasCleanDisk s). ((opened clean).1 (opened clean).0.is_open).0 in

@@ -307,10 +307,10 @@ module _ {S : Type 0} (g : Ghosts S) (site : TextOfSite) (old new : Held S) (cal
         committed = (test.rests clean).committed;
       }) (survives_weaker _ _ _ _ (λ clean db none. absurd none) test.crash)
 
--- what is settled after a test is settled
-pub settles_after : {S : Type 0} (g : Ghosts S) (site : TextOfSite) (old mid new : Held S) (r : Result (Unit {0}) OpenFault) (Says : Database → Type 0)
+-- tables that are prepared after a test are prepared
+pub prepared_after : {S : Type 0} (g : Ghosts S) (site : TextOfSite) (old mid new : Held S) (r : Result (Unit {0}) OpenFault) (Says : Database → Type 0)
     → Examines g site old mid (Ok tt) Says → PreparesTables g site mid new r → PreparesTables g site old new r
-settles_after g site old mid new r Says test it = record {
+prepared_after g site old mid new r Says test it = record {
   mode = it.mode;
   ready = it.ready;
   tells = it.tells;

@@ -104,16 +104,16 @@ pub asked_is : {A E : Type 0} (wanted : Result A E) (x : A) (e : E) → (Ok x �
 asked_is wanted x e (inl is) = sym is
 asked_is wanted x e (inr is) = cc
 
--- a request that is refused as it came settles nothing
-pub refused_settles : (site : SiteValue) (caller : Caller) (wanted : Result Parsed Refusal)
+-- a request that is refused as it came answers nothing
+pub refused_answers_nothing : (site : SiteValue) (caller : Caller) (wanted : Result Parsed Refusal)
     (reply : Answer) (reason : Refusal)
     → (Err reason ≡ wanted) ⊎ (◌≡◌ {A = Result Parsed Refusal} (Err reason) (Err Unkept))
     → (reply ≡ refusal reason) ⊎ (reply ≡ refusal Unkept)
     → AllByRecursion AnswersNothing (exchange_asked site caller wanted reply)
-refused_settles site Manager wanted reply reason is said = tt
-refused_settles site (Seat caller) wanted reply reason (inl is) said =
+refused_answers_nothing site Manager wanted reply reason is said = tt
+refused_answers_nothing site (Seat caller) wanted reply reason (inl is) said =
     (subst (λ (w : Result Parsed Refusal). AnswersNothing (exchange_of (section_at site caller) (seat_name_at site caller) w reply)) is refl, tt)
-refused_settles site (Seat caller) wanted reply reason (inr unkept) said =
+refused_answers_nothing site (Seat caller) wanted reply reason (inr unkept) said =
     (answers_nothing (exchange_of (section_at site caller) (seat_name_at site caller) wanted reply) (unavailable said), tt)
   where
     unavailable : (reply ≡ refusal reason) ⊎ (reply ≡ refusal Unkept) → is_unavailable reply.status ≡ true
@@ -125,14 +125,14 @@ pub unchanged : {K : Type 0} (k : Ghosts K) (Said : Answer → Type 0) (exchange
     (step : Tables → Answer → Tables → Type 0) (keep : K) (reply : Answer)
     → Said reply → AllByRecursion AnswersNothing (exchanges reply) → ((t : Tables) → step t reply t)
     → DeskSteps k Said exchanges step keep reply keep
-unchanged k Said exchanges step keep reply said unsettled same = record {
+unchanged k Said exchanges step keep reply said unanswered same = record {
   was_open = λ is. is;
   was_honest = λ honest. honest;
   said = said;
   answered = λ _ t stands. (
     t,
     same t,
-    leaves_unanswered (exchanges reply) t t (k.may_leave keep) (k.may_leave keep) unsettled refl (λ left is. is),
+    leaves_unanswered (exchanges reply) t t (k.may_leave keep) (k.may_leave keep) unanswered refl (λ left is. is),
     stands,
   );
 }
@@ -159,7 +159,7 @@ report_answers site caller wanted t reply text is asked_for =
 -- a report that is read by a keeper, and told
 module _ {K A : Type 0} (k : Ghosts K) (site : SiteValue) (caller : Caller) (parsed : Parsed)
     (bytes : A → List ℕ) (text : Tables → List ℕ) (Says : Tables → A → Type 0)
-    (unsettled : (reply : Answer) → AllByRecursion AnswersNothing (exchange_asked site caller (Ok parsed) reply))
+    (unanswered : (reply : Answer) → AllByRecursion AnswersNothing (exchange_asked site caller (Ok parsed) reply))
     (answer : (t : Tables) (v : A) → Says t v → bytes v ≡ text t)
     (answers : (t : Tables) (reply : Answer) → reply ≡ report_reply (text t) → ParsedOrUnkept site caller (Ok parsed) t reply t) where
   pub report_told : (old new : K) (result : Result A NoAnswer) (reply : Answer) → ReadsOnly k old new result Says
@@ -175,7 +175,7 @@ module _ {K A : Type 0} (k : Ghosts K) (site : SiteValue) (caller : Caller) (par
           t,
           answers t reply (told ∙ ap report_reply is),
           leaves_unanswered (exchange_asked site caller (Ok parsed) reply) t t (k.may_leave old)
-              (k.may_leave new) (unsettled reply) refl (read.read_only.crash honest),
+              (k.may_leave new) (unanswered reply) refl (read.read_only.crash honest),
           (λ after. read.read_only.same after ∙ stands (read.read_only.was_open after)),
         );
   }
@@ -187,7 +187,7 @@ module _ {K A : Type 0} (k : Ghosts K) (site : SiteValue) (caller : Caller) (par
       t,
       unkept_asked site caller (Ok parsed) t reply none,
       leaves_unanswered (exchange_asked site caller (Ok parsed) reply) t t (k.may_leave old) (k.may_leave new)
-          (unsettled reply) refl (read.read_only.crash honest),
+          (unanswered reply) refl (read.read_only.crash honest),
       (λ after. read.read_only.same after ∙ stands (read.read_only.was_open after)),
     );
   }

@@ -7,7 +7,7 @@ use Rattle.office_store.specs.Adopting.{PreparesTables}
 use Rattle.office_store.specs.Found.{IsFound}
 use Rattle.office_store.specs.Meta.{HasMeta}
 use Rattle.office_store.proofs.Refusals.{found_after, is_err, says_of}
-use Rattle.office_store.proofs.Preparing.{refused, settles_after}
+use Rattle.office_store.proofs.Preparing.{refused, prepared_after}
 use Rattle.office_store.proofs.adopting.find_first.Goals as goal
 
 pub upgrade-requires : goal.upgrade-requires
@@ -31,7 +31,7 @@ upgrade-requires g c =
 
 pub returns : goal.returns
 returns g c =
-    settles_after g.S.Store c.args.site.now c.args.conn.now c.test_tables.new.conn
+    prepared_after g.S.Store c.args.site.now c.args.conn.now c.test_tables.new.conn
     c.upgrade.new.conn c.upgrade.result _ c.in_ok-test_tables.ensures c.upgrade.ensures
 
 pub returns-in_err-test_tables : goal.returns-in_err-test_tables

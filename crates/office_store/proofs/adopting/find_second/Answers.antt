@@ -11,7 +11,7 @@ use Rattle.office_store.specs.Adopting.{Examines, PreparesTables}
 use Rattle.office_store.specs.Found.{HasStarts, IsFound}
 use Rattle.office_store.specs.Meta.{HasMeta}
 use Rattle.office_store.proofs.Refusals.{examines_then, found_after, is_err, says_of}
-use Rattle.office_store.proofs.Preparing.{refused, settles_after}
+use Rattle.office_store.proofs.Preparing.{refused, prepared_after}
 use Rattle.office_store.proofs.adopting.find_second.Goals as goal
 
 -- what the first test says
@@ -71,7 +71,7 @@ returns g c =
     let two = c.in_ok-test_starts.ensures site Second (λ calm. let known = asked g.S.Store site old mid one calm in (known.0.schema, known.1)) in
     let both = examines_then g.S.Store site old mid new (Ok tt) (Known site) (λ (db : Database).
     HasStarts db.trees) (Whole site) one two (λ calm known has. (known, has)) in
-    settles_after g.S.Store site old new c.upgrade.new.conn c.upgrade.result (Whole site) both c.upgrade.ensures
+    prepared_after g.S.Store site old new c.upgrade.new.conn c.upgrade.result (Whole site) both c.upgrade.ensures
 
 pub returns-in_err-test_tables : goal.returns-in_err-test_tables
 returns-in_err-test_tables g c =
@@ -91,4 +91,4 @@ returns-in_err-test_starts g c =
     let two = c.in_err-test_starts.ensures site Second (λ calm. let known = asked g.S.Store site old mid one calm in (known.0.schema, known.1)) in
     let calm = clean_if_open (g.S.Store.view new.store) (g.met.S.Store.shut_if_dirty new.store) in
     is_err (λ r. PreparesTables g.S.Store site old new r) c.from_residual-in_err-test_starts.result _ c.from_residual-in_err-test_starts.ensures.1
-    (settles_after g.S.Store site old mid new _ (Known site) one (refused g.S.Store site mid new calm _ (λ (db : Database). HasStarts db.trees) two))
+    (prepared_after g.S.Store site old mid new _ (Known site) one (refused g.S.Store site mid new calm _ (λ (db : Database). HasStarts db.trees) two))

@@ -4,7 +4,7 @@ use Rattle.office_store.specs.declared.version.Version.TheVariants.{Third}
 use Rattle.office_store.specs.Adopting.{IsGrowable, PreparesTables}
 use Rattle.office_store.specs.Found.{IsFound}
 use Rattle.office_store.proofs.Refusals.{found_after, is_err, says_of}
-use Rattle.office_store.proofs.Preparing.{refused, settles_after}
+use Rattle.office_store.proofs.Preparing.{refused, prepared_after}
 use Rattle.office_store.proofs.adopting.find_third.Goals as goal
 
 pub hold_text-requires : goal.hold_text-requires
@@ -21,7 +21,7 @@ hold_text-requires g c =
 
 pub returns : goal.returns
 returns g c =
-    settles_after g.S.Store c.args.site.now c.args.conn.now c.test_third.new.conn
+    prepared_after g.S.Store c.args.site.now c.args.conn.now c.test_third.new.conn
     c.hold_text.new.conn c.hold_text.result _ c.in_ok-test_third.ensures c.hold_text.ensures
 
 pub returns-in_err-test_third : goal.returns-in_err-test_third

@@ -4,7 +4,7 @@ use Rattle.sqlite.specs.declared.error.Error.{Error}
 use Rattle.sqlite.proofs.StateLemmas.{clean_if_open}
 use Rattle.office_store.specs.Found.{Tests}
 use Rattle.office_store.specs.Texts.{HoldsText}
-use Rattle.office_store.proofs.Preparing.{has_it, not_asked, settles_after}
+use Rattle.office_store.proofs.Preparing.{has_it, not_asked, prepared_after}
 use Rattle.office_store.proofs.adopting.hold_text.Goals as goal
 
 pub has_text-requires : goal.has_text-requires
@@ -35,6 +35,6 @@ returns-in-Err g c =
 pub returns-in-Ok-false : goal.returns-in-Ok-false
 returns-in-Ok-false g c =
     let test = c.in-Ok-false.ensures in
-    settles_after g.S.Store c.args.site.now c.args.conn.now c.has_text.new.conn c.grow.new.conn c.grow.result (λ _. ⊤)
+    prepared_after g.S.Store c.args.site.now c.args.conn.now c.has_text.new.conn c.grow.new.conn c.grow.result (λ _. ⊤)
     (record { answer = λ clean. tt; same = test.same; rests = test.rests; mode = test.mode c.requires.found.mode; refused = tt; crash = test.crash })
     c.grow.ensures

@@ -5,7 +5,7 @@ use Rattle.sqlite.specs.WalFiles.{image_at}
 use Rattle.office_sql.specs.Tables.{tables_in}
 use Rattle.office_store.specs.declared.version.Version.TheVariants.{First}
 use Rattle.office_store.specs.Meta.{HoldsSite, HasMeta}
-use Rattle.office_store.proofs.FoundFiles.{can_settle}
+use Rattle.office_store.proofs.FoundFiles.{can_prepare}
 use Rattle.office_store.proofs.FoundResults.{both_of}
 use Rattle.office_store.proofs.opening.open.Goals as goal
 
@@ -21,7 +21,7 @@ returns-in-Ok-clause-tables g c =
     c.prepare_or_close.ensures.clean c.prepare_or_close.ensures.tables
 
 pub prepare_or_close-requires : goal.prepare_or_close-requires
-prepare_or_close-requires g c = can_settle (image_at g.S.Start) (file_state c.in-Ok.conn)
+prepare_or_close-requires g c = can_prepare (image_at g.S.Start) (file_state c.in-Ok.conn)
     c.in-Ok.ensures.fresh.autocommit c.in-Ok.ensures.opened c.in-Ok.ensures.found
 
 pub returns-in-Ok-clause-unstarted : goal.returns-in-Ok-clause-unstarted
