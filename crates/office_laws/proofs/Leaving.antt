@@ -11,7 +11,7 @@ use Rattle.office_commands.specs.declared.refusal.Refusal.TheVariants.{Unkept}
 use Rattle.office_commands.specs.Replies.{refusal}
 use Rattle.office_rules.specs.OfficeMachine.{Step}
 use Rattle.office_laws.specs.Exchanges.{Call, Exchange, FulfilsWanted, Passes, asks}
-use Rattle.office_laws.specs.Stops.{IsLeft, IsCallPending, IsUnanswered, Leaves, LeavesAfter, Session, WasUnavailable, is_request, is_answered}
+use Rattle.office_laws.specs.Stops.{IsInDoubt, IsLeft, IsUnanswered, Leaves, LeavesAfter, Session, WasUnavailable, is_request, is_answered}
 
 -- the exchange answers nothing
 abbrev pub AnswersNothing : Exchange → Type 0
@@ -131,7 +131,7 @@ unanswered_unavailable (x ∷ xs) c (inr later) = inr (unanswered_unavailable xs
 
 -- so what a crash may leave after a session is what a stop may leave
 pub stop_leaves : (s : Session) (t : Tables) (more : List Exchange) (left : Tables)
-    → IsLeft (IsUnanswered s.exchanges) t more left → IsLeft (IsCallPending s) t more left
+    → IsLeft (IsUnanswered s.exchanges) t more left → IsLeft (IsInDoubt s) t more left
 stop_leaves s t [] left is = is
 stop_leaves s t (x ∷ []) left is = (inr (unanswered_unavailable s.exchanges x.0 is.0), is.1, is.2)
 stop_leaves s t (x ∷ y ∷ others) left is = absurd is

@@ -10,7 +10,7 @@ use Rattle.office_commands.specs.declared.refusal.Refusal.TheVariants.{Unkept}
 use Rattle.office_commands.specs.Replies.{refusal}
 use Rattle.office_laws.specs.Exchanges.{Call, Exchange, IsRun, FulfilsWanted, Passes, Wanted, asks, reports, refused, calls_of}
 use Rattle.office_laws.specs.Growth.{AreSeats, IsSeat}
-use Rattle.office_laws.specs.Stops.{AreSessions, IsLeft, IsCallPending, IsStoppedRun, Session, WasUnavailable, is_request}
+use Rattle.office_laws.specs.Stops.{AreSessions, IsInDoubt, IsLeft, IsStoppedRun, Session, WasUnavailable, is_request}
 use Rattle.office_laws.proofs.Grown.{growth_itself, growth_more}
 use Rattle.office_laws.proofs.Served.{answers}
 
@@ -27,11 +27,11 @@ step_passes x t t2 is made = passes x.0.wanted is made
     passes (refused reason) is made = cc
 
 -- what a stop leaves is a run more
-left_runs : (Pending : Call → Type 0) (t : Tables) (more : List Exchange) (left : Tables)
-    → IsLeft Pending t more left → IsRun more t left
-left_runs Pending t [] left is = is
-left_runs Pending t (x ∷ []) left is = (left, step_passes x t left is.1 is.2, refl)
-left_runs Pending t (x ∷ y ∷ others) left is = absurd is
+left_runs : (InDoubt : Call → Type 0) (t : Tables) (more : List Exchange) (left : Tables)
+    → IsLeft InDoubt t more left → IsRun more t left
+left_runs InDoubt t [] left is = is
+left_runs InDoubt t (x ∷ []) left is = (left, step_passes x t left is.1 is.2, refl)
+left_runs InDoubt t (x ∷ y ∷ others) left is = absurd is
 
 -- so a run with stops is one run
 pub stopped_runs : (ss : List Session) (all : List Exchange) (t t2 : Tables)
@@ -41,7 +41,7 @@ stopped_runs (s ∷ ss) all t t2 run =
     let later : IsRun run.5 run.3 t2 = stopped_runs ss run.5 run.3 t2 run.6 in
     rw run.7 (runs_both Passes t s.exchanges run.0 (run.2 ++ run.5) t2 run.1
     (runs_both Passes run.0 run.2 run.3 run.5 t2
-    (left_runs (IsCallPending s) run.0 run.2 run.3 run.4) later))
+    (left_runs (IsInDoubt s) run.0 run.2 run.3 run.4) later))
 
 -- calls of a site's seats, before others
 seats_joined : (site : Ownership) → PoolsDisjoint site → (cs ds : List Call) (last : Ownership)
@@ -62,27 +62,27 @@ pub calls_joined : (xs ys : List Exchange) → calls_of (xs ++ ys) ≡ calls_of 
 calls_joined [] ys = refl
 calls_joined (x ∷ xs) ys = ap (λ (cs : List Call). x.0 ∷ cs) (calls_joined xs ys)
 
--- what is pending is a call of the session
+-- what is in doubt is a call of the session
 unavailable_seat : (site : Ownership) (xs : List Exchange) (c : Call)
     → AllByRecursion (IsSeat site) (calls_of xs) → WasUnavailable xs c → IsSeat site c
 unavailable_seat site [] c all is = absurd is
 unavailable_seat site (x ∷ xs) c all (inl here) = rw here.0 all.0
 unavailable_seat site (x ∷ xs) c all (inr later) = unavailable_seat site xs c all.1 later
 
-pending_seat : (site : Ownership) (s : Session)
+in_doubt_seat : (site : Ownership) (s : Session)
     → AllByRecursion (IsSeat site) (calls_of s.exchanges) → IfSome s.cut_off (IsSeat site)
-    → (c : Call) → IsCallPending s c → IsSeat site c
-pending_seat site s all seat c (inl cut) = rw cut at seat
-pending_seat site s all seat c (inr unavailable) =
+    → (c : Call) → IsInDoubt s c → IsSeat site c
+in_doubt_seat site s all seat c (inl cut) = rw cut at seat
+in_doubt_seat site s all seat c (inr unavailable) =
     unavailable_seat site s.exchanges c all unavailable
 
-left_seats : (site : Ownership) (Pending : Call → Type 0) (t : Tables) (more : List Exchange)
+left_seats : (site : Ownership) (InDoubt : Call → Type 0) (t : Tables) (more : List Exchange)
     (left : Tables)
-    → ((c : Call) → Pending c → IsSeat site c) → IsLeft Pending t more left
+    → ((c : Call) → InDoubt c → IsSeat site c) → IsLeft InDoubt t more left
     → AllByRecursion (IsSeat site) (calls_of more)
-left_seats site Pending t [] left seat is = tt
-left_seats site Pending t (x ∷ []) left seat is = (seat x.0 is.0, tt)
-left_seats site Pending t (x ∷ y ∷ others) left seat is = absurd is
+left_seats site InDoubt t [] left seat is = tt
+left_seats site InDoubt t (x ∷ []) left seat is = (seat x.0 is.0, tt)
+left_seats site InDoubt t (x ∷ y ∷ others) left seat is = absurd is
 
 -- so the callers of all exchanges are seats
 pub stopped_seats : (first : Ownership) (ss : List Session) (all : List Exchange) (last : Ownership)
@@ -100,5 +100,5 @@ stopped_seats first (s ∷ ss) all last t t2 sessions run =
     (seats_joined sessions.0 sessions.2 (calls_of s.exchanges)
     (calls_of run.2 ++ calls_of run.5) last sessions.3
     (seats_joined sessions.0 sessions.2 (calls_of run.2) (calls_of run.5) last
-    (left_seats sessions.0 (IsCallPending s) run.0 run.2 run.3
-    (pending_seat sessions.0 s sessions.3 sessions.4) run.4) later)))
+    (left_seats sessions.0 (IsInDoubt s) run.0 run.2 run.3
+    (in_doubt_seat sessions.0 s sessions.3 sessions.4) run.4) later)))

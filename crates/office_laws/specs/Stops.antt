@@ -19,22 +19,22 @@ abbrev pub WasUnavailable : List Exchange → Call → Type 0
 WasUnavailable [] c = ⊥
 WasUnavailable (x ∷ xs) c = ((c ≡ x.0) × (is_unavailable x.1.status ≡ true)) ⊎ WasUnavailable xs c
 
--- the call was cut off by the stop, or was answered 503 since the stop before it
-abbrev pub IsCallPending : Session → Call → Type 0
-IsCallPending s c = (s.cut_off ≡ Some c) ⊎ WasUnavailable s.exchanges c
+-- the call is in doubt: it was cut off by the stop, or answered 503 since the stop before it
+abbrev pub IsInDoubt : Session → Call → Type 0
+IsInDoubt s c = (s.cut_off ≡ Some c) ⊎ WasUnavailable s.exchanges c
 
 -- a request of the office is asked for
 abbrev pub is_request : Wanted → Bool
 is_request (asks request) = true
 is_request other = false
 
--- what a stop leaves where such calls are pending: the tables as they stood, or those after one
--- step more, of a request of the office that is pending
+-- what a stop leaves where these calls are in doubt: the tables as they stood, or those after one
+-- step more, of a request of the office that is in doubt
 abbrev pub IsLeft : (Call → Type 0) → Tables → List Exchange → Tables → Type 0
-IsLeft Pending t [] left = left ≡ t
-IsLeft Pending t (more ∷ []) left = Pending more.0 × (is_request more.0.wanted ≡ true)
+IsLeft InDoubt t [] left = left ≡ t
+IsLeft InDoubt t (more ∷ []) left = InDoubt more.0 × (is_request more.0.wanted ≡ true)
     × FulfilsWanted more.0 more.0.wanted t more.1 left
-IsLeft Pending t (more ∷ other ∷ others) left = ⊥
+IsLeft InDoubt t (more ∷ other ∷ others) left = ⊥
 
 -- sessions, each but the first on what the stop before it left. `all` are their exchanges in turn,
 -- with each step that a stop left at its place
@@ -42,7 +42,7 @@ abbrev pub IsStoppedRun : List Session → List Exchange → Tables → Tables �
 IsStoppedRun [] all t t2 = (all ≡ []) × (t2 ≡ t)
 IsStoppedRun (s ∷ ss) all t t2 =
     (mid : Tables) × IsRun s.exchanges t mid
-    × (more : List Exchange) × (left : Tables) × IsLeft (IsCallPending s) mid more left
+    × (more : List Exchange) × (left : Tables) × IsLeft (IsInDoubt s) mid more left
     × (rest : List Exchange) × IsStoppedRun ss rest left t2 × (all ≡ s.exchanges ++ (more ++ rest))
 
 -- the callers of each session are seats of one site. The first site grows from this one, each from
@@ -54,7 +54,7 @@ AreSessions first (s ∷ ss) last = (site : Ownership)
     × AllByRecursion (IsSeat site) (calls_of s.exchanges) × IfSome s.cut_off (IsSeat site)
     × AreSessions site ss last
 
--- a request of the office was answered, and not with 503: nothing of those before it is left open
+-- a request of the office was answered, and not with 503: no call before it stays unanswered
 abbrev pub is_answered : Exchange → Bool
 is_answered x = is_request x.0.wanted && not (is_unavailable x.1.status)
 
@@ -66,7 +66,7 @@ IsUnanswered (x ∷ xs) c =
     × AllByRecursion (λ later. is_answered later ≡ false) xs) ⊎ IsUnanswered xs c
 
 -- what a stop between two calls leaves after these exchanges, which led to t: only what is
--- unanswered is pending
+-- unanswered is in doubt
 abbrev pub Leaves : List Exchange → Tables → Tables → Type 0
 Leaves xs t left = (more : List Exchange) × IsLeft (IsUnanswered xs) t more left
 

@@ -17,7 +17,7 @@ ghost use Rattle.office_laws.specs.Alone.{IsIsolated, exchanges_of};
 ghost use Rattle.office_laws.specs.Gifts.{AreNotImported, IssuesOnce};
 ghost use Rattle.office_laws.specs.Once.{ActsOnce};
 ghost use Rattle.office_laws.specs.Promises.{Promises};
-ghost use Rattle.office_laws.specs.Stops.{AreSessions, IsLeft, IsCallPending, IsStoppedRun, Leaves, Session};
+ghost use Rattle.office_laws.specs.Stops.{AreSessions, IsInDoubt, IsLeft, IsStoppedRun, Leaves, Session};
 
 /// A run from sound tables: the tables stay sound, though the site grew; each customer's replies
 /// and rows are those of the customer's own machine, run on the customer's own calls alone; and
@@ -97,7 +97,7 @@ pub fn stopped_runs_are_runs()
         → IsSound first t → AreSessions first ss last → IsStoppedRun ss all t t2
         → Promises last all t t2 }
     ensures crash { (s : Session) (t left : Tables)
-        → Leaves s.exchanges t left → (more : List Exchange) × IsLeft (IsCallPending s) t more left }
+        → Leaves s.exchanges t left → (more : List Exchange) × IsLeft (IsInDoubt s) t more left }
 {}
 
 /// A site may grow: tables that are sound for a site are sound for each that grew from it. A site is a
