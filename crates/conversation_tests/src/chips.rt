@@ -1,10 +1,10 @@
 //! The devices of a customer, visited in the order of their chips.
-use office_core::{DeviceRow, MemKeep, Sink};
+use office_core::{DeviceRow, Sink};
 use std::alloc::Global;
 use std::fmt::Write;
 use std::test::Fail;
 use test_exchanges::conversation::first_difference;
-use test_exchanges::keepers::{Fresh, SqlMemory};
+use test_exchanges::keepers::{Fresh, KeeperCase, over_each};
 use test_texts::conversations::devices::READ_BACKS;
 use text_core::Name;
 
@@ -25,27 +25,30 @@ impl Sink<DeviceRow> for Chips {
     }
 }
 
-/// Visits a customer's devices after the conversation about read-backs, over a keeper without rows:
-/// what differs where the chips aren't both there in their order.
-fn difference_of_visit<K: Fresh>(alloc: Global) -> Result<String, Fail> {
-    let mut keep = K::fresh(alloc)?;
-    let found = first_difference(alloc, &mut keep, READ_BACKS)?;
-    if !found.is_empty() {
-        return Ok(found);
+/// A visit of a customer's devices after the conversation about read-backs, over a keeper without
+/// rows, that must find the chips both, in their order.
+struct Visit;
+
+impl KeeperCase for Visit {
+    fn first_difference<K: Fresh>(&self, alloc: Global) -> Result<String, Fail> {
+        let mut keep = K::fresh(alloc)?;
+        let found = first_difference(alloc, &mut keep, READ_BACKS)?;
+        if !found.is_empty() {
+            return Ok(found);
+        }
+        let mut chips = Chips {
+            found: String::new(alloc),
+        };
+        keep.visit_devices(&Name::parse("acme").ok_or("no name")?, &mut chips)?;
+        if chips.found.as_str() == CHIPS {
+            return Ok(String::new(alloc));
+        }
+        Ok(format!(in alloc; "{CHIPS} -> {}", chips.found)?)
     }
-    let mut chips = Chips {
-        found: String::new(alloc),
-    };
-    keep.visit_devices(&Name::parse("acme").ok_or("no name")?, &mut chips)?;
-    if chips.found.as_str() == CHIPS {
-        return Ok(String::new(alloc));
-    }
-    Ok(format!(in alloc; "{CHIPS} -> {}", chips.found)?)
 }
 
 #[test]
 fn devices_are_visited_by_their_chips(rt: HostRuntime) -> Result<(), Fail> {
-    assert_eq!(rt; difference_of_visit::<MemKeep>(rt.alloc())?.as_str(), "");
-    assert_eq!(rt; difference_of_visit::<SqlMemory>(rt.alloc())?.as_str(), "");
+    assert_eq!(rt; over_each(rt.alloc(), &Visit)?.as_str(), "");
     Ok(())
 }

@@ -1,9 +1,8 @@
 //! The conversations by their subjects, each over a keeper without rows of either kind.
-use office_core::MemKeep;
 use std::alloc::Global;
 use std::test::Fail;
 use test_exchanges::conversation::first_difference;
-use test_exchanges::keepers::{Fresh, SqlMemory};
+use test_exchanges::keepers::{Fresh, KeeperCase, over_each};
 use test_texts::conversations::beginnings::BEGINNINGS;
 use test_texts::conversations::devices::DEVICES;
 use test_texts::conversations::identities::IDENTITIES;
@@ -12,30 +11,31 @@ use test_texts::conversations::orders::ORDERS;
 use test_texts::conversations::plans::PLANS;
 use test_texts::conversations::reports::REPORTS;
 
-/// Holds conversations, each over a keeper without rows: what differs first, behind the name of its
-/// conversation.
-fn first_of<K: Fresh>(alloc: Global, table: &[(&str, &str)]) -> Result<String, Fail> {
-    for row in table {
-        let mut keep = K::fresh(alloc)?;
-        let found = first_difference(alloc, &mut keep, row.1)?;
-        if !found.is_empty() {
-            return Ok(format!(in alloc; "{}: {found}", row.0)?);
+/// Conversations by their names, each over a keeper without rows.
+#[derive(Drop)]
+struct Conversations {
+    table: &'static [(&'static str, &'static str)],
+}
+
+impl KeeperCase for Conversations {
+    fn first_difference<K: Fresh>(&self, alloc: Global) -> Result<String, Fail> {
+        for row in self.table {
+            let mut keep = K::fresh(alloc)?;
+            let found = first_difference(alloc, &mut keep, row.1)?;
+            if !found.is_empty() {
+                return Ok(format!(in alloc; "{}: {found}", row.0)?);
+            }
         }
+        Ok(String::new(alloc))
     }
-    Ok(String::new(alloc))
 }
 
 /// Holds conversations over each keeper: what differs first.
-fn first_of_each(alloc: Global, table: &[(&str, &str)]) -> Result<String, Fail> {
-    let found = first_of::<MemKeep>(alloc, table)?;
-    if !found.is_empty() {
-        return Ok(found);
-    }
-    let found = first_of::<SqlMemory>(alloc, table)?;
-    if found.is_empty() {
-        return Ok(found);
-    }
-    Ok(format!(in alloc; "over SQL: {found}")?)
+fn first_of_each(
+    alloc: Global,
+    table: &'static [(&'static str, &'static str)],
+) -> Result<String, Fail> {
+    over_each(alloc, &Conversations { table })
 }
 
 /// Each table of conversations has a test of its own, or few share one, since the prover sets a bound to all
@@ -57,7 +57,7 @@ fn beginnings_get_their_replies(rt: HostRuntime) -> Result<(), Fail> {
 #[test]
 fn maps_and_devices_get_their_replies(rt: HostRuntime) -> Result<(), Fail> {
     for table in &[MAPS, DEVICES] {
-        let found = first_of_each(rt.alloc(), table)?;
+        let found = first_of_each(rt.alloc(), *table)?;
         assert_eq!(rt; found.as_str(), "");
     }
     Ok(())

@@ -1,9 +1,8 @@
 //! What a seat is answered whatever the seats of another customer ask, by streams and by lists.
-use office_core::MemKeep;
 use std::alloc::{AllocError, Global};
 use std::test::Fail;
 use test_exchanges::conversation::{first_difference_of, in_turns};
-use test_exchanges::keepers::{Fresh, SqlMemory};
+use test_exchanges::keepers::{Fresh, KeeperCase, over_each, over_memory};
 use test_exchanges::lists::first_difference_in_list;
 use test_texts::conversations::devices::{ACME, BOLT};
 use test_texts::conversations::{Exchange, exchanges};
@@ -91,16 +90,19 @@ fn first_in_list<K: Fresh>(alloc: Global, conversation: &str) -> Result<String, 
     first_difference_in_list(alloc, &mut K::fresh(alloc)?, SITE, exchanges.as_slice())
 }
 
-/// Has bolt make its first order, over a keeper without rows and then over another behind all of
-/// acme's orders: what differs first.
-fn first_beside_orders<K: Fresh>(alloc: Global) -> Result<String, Fail> {
-    let found = first_in_list::<K>(alloc, FIRST_OF_BOLT)?;
-    if !found.is_empty() {
-        return Ok(found);
+/// Bolt's first order, over a keeper without rows and then over another behind all of acme's orders.
+struct BesideOrders;
+
+impl KeeperCase for BesideOrders {
+    fn first_difference<K: Fresh>(&self, alloc: Global) -> Result<String, Fail> {
+        let found = first_in_list::<K>(alloc, FIRST_OF_BOLT)?;
+        if !found.is_empty() {
+            return Ok(found);
+        }
+        let mut conversation = orders_to_the_limit(alloc)?;
+        conversation.push_str(FIRST_OF_BOLT)?;
+        first_in_list::<K>(alloc, conversation.as_str())
     }
-    let mut conversation = orders_to_the_limit(alloc)?;
-    conversation.push_str(FIRST_OF_BOLT)?;
-    first_in_list::<K>(alloc, conversation.as_str())
 }
 
 /// Makes exchanges over a keeper without rows, a stream for each, and by one list over another: what
@@ -117,16 +119,27 @@ fn first_of_both_ways<K: Fresh>(alloc: Global, exchanges: &[Exchange<'_>]) -> Re
     Ok(format!(in alloc; "in a list: {found}")?)
 }
 
-/// Holds the two seats' conversations in turns: what differs first.
-fn first_of_turns<K: Fresh>(alloc: Global, turns: &str) -> Result<String, Fail> {
-    let exchanges = in_turns(alloc, ACME, BOLT, turns)?;
-    first_of_both_ways::<K>(alloc, exchanges.as_slice())
+/// The two seats' conversations in turns.
+#[derive(Drop)]
+struct InTurns {
+    turns: &'static str,
 }
 
-/// Has both customers import one map: what differs first.
-fn first_of_shared_map<K: Fresh>(alloc: Global) -> Result<String, Fail> {
-    let exchanges = exchanges(alloc, SHARED_MAP)?;
-    first_of_both_ways::<K>(alloc, exchanges.as_slice())
+impl KeeperCase for InTurns {
+    fn first_difference<K: Fresh>(&self, alloc: Global) -> Result<String, Fail> {
+        let exchanges = in_turns(alloc, ACME, BOLT, self.turns)?;
+        first_of_both_ways::<K>(alloc, exchanges.as_slice())
+    }
+}
+
+/// Both customers import one map.
+struct SharedMap;
+
+impl KeeperCase for SharedMap {
+    fn first_difference<K: Fresh>(&self, alloc: Global) -> Result<String, Fail> {
+        let exchanges = exchanges(alloc, SHARED_MAP)?;
+        first_of_both_ways::<K>(alloc, exchanges.as_slice())
+    }
 }
 
 /// Three requests of each of two seats in each of the twenty orders in which they can come, and then
@@ -134,10 +147,8 @@ fn first_of_shared_map<K: Fresh>(alloc: Global) -> Result<String, Fail> {
 #[test]
 fn seats_are_served_as_if_alone(rt: HostRuntime) -> Result<(), Fail> {
     for turns in TURNS {
-        let found = first_of_turns::<MemKeep>(rt.alloc(), turns)?;
+        let found = over_each(rt.alloc(), &InTurns { turns: *turns })?;
         assert_eq!(rt; found.as_str(), "", "{turns}");
-        let found = first_of_turns::<SqlMemory>(rt.alloc(), turns)?;
-        assert_eq!(rt; found.as_str(), "", "{turns} over SQL");
     }
     Ok(())
 }
@@ -146,14 +157,13 @@ fn seats_are_served_as_if_alone(rt: HostRuntime) -> Result<(), Fail> {
 /// the reply that it gets in an empty store.
 #[test]
 fn orders_to_the_limit_leave_another_customer_alone(rt: HostRuntime) -> Result<(), Fail> {
-    assert_eq!(rt; first_beside_orders::<MemKeep>(rt.alloc())?.as_str(), "");
+    assert_eq!(rt; over_memory(rt.alloc(), &BesideOrders)?.as_str(), "");
     Ok(())
 }
 
 /// Two customers import one text and get one digest, and each has devices under it.
 #[test]
 fn maps_may_be_shared(rt: HostRuntime) -> Result<(), Fail> {
-    assert_eq!(rt; first_of_shared_map::<MemKeep>(rt.alloc())?.as_str(), "");
-    assert_eq!(rt; first_of_shared_map::<SqlMemory>(rt.alloc())?.as_str(), "");
+    assert_eq!(rt; over_each(rt.alloc(), &SharedMap)?.as_str(), "");
     Ok(())
 }

@@ -2,13 +2,12 @@
 ghost use Rattle.std.specs.Prelude.{◌<◌};
 
 use crate::isolation::TURNS;
-use office_core::MemKeep;
 use station_api::Served;
 use std::alloc::{AllocError, Global};
 use std::str;
 use std::test::Fail;
 use test_exchanges::conversation::{in_turns, serve_for, streams_of};
-use test_exchanges::keepers::{Fresh, SqlMemory};
+use test_exchanges::keepers::{Fresh, KeeperCase, over_each};
 use test_exchanges::lists::first_difference_in_list;
 use test_texts::conversations::Exchange;
 use test_texts::conversations::devices::{ACME, BOLT};
@@ -99,22 +98,29 @@ fn first_for_site<K: Fresh>(
     first_difference_in_list(alloc, &mut K::of_site(alloc, site)?, site, exchanges)
 }
 
-/// Holds the two seats' conversations in turns over one store with the whole site, and then over two
-/// stores, each with the requests and the section of one customer: what differs first.
-fn first_of_parts<K: Fresh>(alloc: Global, turns: &str) -> Result<String, Fail> {
-    let exchanges = in_turns(alloc, ACME, BOLT, turns)?;
-    let found = first_for_site::<K>(alloc, SITE, exchanges.as_slice())?;
-    if !found.is_empty() {
-        return Ok(found);
-    }
-    for part in PARTS {
-        let own = part_of(alloc, exchanges.as_slice(), part.0)?;
-        let found = first_for_site::<K>(alloc, part.1, own.as_slice())?;
+/// The two seats' conversations in turns over one store with the whole site, and then over two stores,
+/// each with the requests and the section of one customer.
+#[derive(Drop)]
+struct WholeAndParts {
+    turns: &'static str,
+}
+
+impl KeeperCase for WholeAndParts {
+    fn first_difference<K: Fresh>(&self, alloc: Global) -> Result<String, Fail> {
+        let exchanges = in_turns(alloc, ACME, BOLT, self.turns)?;
+        let found = first_for_site::<K>(alloc, SITE, exchanges.as_slice())?;
         if !found.is_empty() {
-            return Ok(format!(in alloc; "alone: {found}")?);
+            return Ok(found);
         }
+        for part in PARTS {
+            let own = part_of(alloc, exchanges.as_slice(), part.0)?;
+            let found = first_for_site::<K>(alloc, part.1, own.as_slice())?;
+            if !found.is_empty() {
+                return Ok(format!(in alloc; "alone: {found}")?);
+            }
+        }
+        Ok(String::new(alloc))
     }
-    Ok(String::new(alloc))
 }
 
 /// Each customer gets the same replies, byte for byte, where one store serves the whole site and where
@@ -123,10 +129,8 @@ fn first_of_parts<K: Fresh>(alloc: Global, turns: &str) -> Result<String, Fail> 
 fn parts_of_a_site_are_served_as_the_whole(rt: HostRuntime) -> Result<(), Fail> {
     assert_eq!(rt; first_strange_part(rt.alloc())?.as_str(), "");
     for turns in TURNS {
-        let found = first_of_parts::<MemKeep>(rt.alloc(), turns)?;
+        let found = over_each(rt.alloc(), &WholeAndParts { turns: *turns })?;
         assert_eq!(rt; found.as_str(), "", "{turns}");
-        let found = first_of_parts::<SqlMemory>(rt.alloc(), turns)?;
-        assert_eq!(rt; found.as_str(), "", "{turns} over SQL");
     }
     Ok(())
 }

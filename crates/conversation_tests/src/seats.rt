@@ -1,11 +1,11 @@
 //! What stands in the rows of seats: numbers up to the greatest that a request may have, and the
 //! digests by which repeats are known.
 use crate::digests::difference_with_taken_digest;
-use office_core::{Keep, MemKeep, OfCustomer, SeatState, Write};
+use office_core::{Keep, OfCustomer, SeatState, Write};
 use std::alloc::Global;
 use std::test::Fail;
 use test_exchanges::conversation::first_difference;
-use test_exchanges::keepers::{Fresh, SqlMemory};
+use test_exchanges::keepers::{Fresh, KeeperCase, over_each};
 use test_texts::conversations::devices::ACME;
 use text_core::{Digest, Name, Text};
 
@@ -101,23 +101,27 @@ fn first_after_greatest<K: Keep>(alloc: Global, keep: &mut K) -> Result<String, 
     first_difference(alloc, keep, GREATEST)
 }
 
-/// What differs first of what stands in the rows of seats, or of what rows that were put there lead to,
-/// each over a keeper without rows.
-fn first_of_rows<K: Fresh>(alloc: Global) -> Result<String, Fail> {
-    for row in LAST_REQUESTS {
-        let mut keep = K::fresh(alloc)?;
-        let digest = digest_after(alloc, &mut keep, row.0)?;
-        if digest.as_str() != row.1 {
-            return Ok(format!(in alloc; "{}: the digest {} -> {digest}", row.0, row.1)?);
+/// What stands in the rows of seats, and what rows that were put there lead to, each over a keeper
+/// without rows.
+struct Rows;
+
+impl KeeperCase for Rows {
+    fn first_difference<K: Fresh>(&self, alloc: Global) -> Result<String, Fail> {
+        for row in LAST_REQUESTS {
+            let mut keep = K::fresh(alloc)?;
+            let digest = digest_after(alloc, &mut keep, row.0)?;
+            if digest.as_str() != row.1 {
+                return Ok(format!(in alloc; "{}: the digest {} -> {digest}", row.0, row.1)?);
+            }
         }
+        let mut keep = K::fresh(alloc)?;
+        let found = difference_with_taken_digest(alloc, &mut keep)?;
+        if !found.is_empty() {
+            return Ok(found);
+        }
+        let mut keep = K::fresh(alloc)?;
+        first_after_greatest(alloc, &mut keep)
     }
-    let mut keep = K::fresh(alloc)?;
-    let found = difference_with_taken_digest(alloc, &mut keep)?;
-    if !found.is_empty() {
-        return Ok(found);
-    }
-    let mut keep = K::fresh(alloc)?;
-    first_after_greatest(alloc, &mut keep)
 }
 
 /// Digests of requests as they are kept. And tables that no server makes: those in which `acme` has the
@@ -125,7 +129,6 @@ fn first_of_rows<K: Fresh>(alloc: Global) -> Result<String, Fail> {
 /// reply, and those in which a seat's next number is the greatest.
 #[test]
 fn rows_are_kept_and_found_as_they_must(rt: HostRuntime) -> Result<(), Fail> {
-    assert_eq!(rt; first_of_rows::<MemKeep>(rt.alloc())?.as_str(), "");
-    assert_eq!(rt; first_of_rows::<SqlMemory>(rt.alloc())?.as_str(), "");
+    assert_eq!(rt; over_each(rt.alloc(), &Rows)?.as_str(), "");
     Ok(())
 }

@@ -6,7 +6,7 @@ use station_jobs::serve_connections;
 use std::alloc::Global;
 use std::io;
 use std::io::Write;
-use std::net::{TcpListener, TcpStream};
+use std::net::{SocketAddr, TcpListener, TcpStream};
 use std::test::Fail;
 use test_texts::samples::SITE;
 
@@ -14,23 +14,35 @@ use test_texts::samples::SITE;
 const ORDERED_LAST: &str =
     "HTTP/1.1 200 OK\r\nContent-Type: application/json\r\nContent-Length: 132\r\nConnection: close\r\n\r\n{\"first\":998,\"issuer\":\"acme-ca\",\"mac\":null,\"macs\":0,\"name\":\"o1\",\"next\":\"A998\",\"not_before\":null,\"prefix\":\"A\",\"quantity\":2,\"width\":3}";
 
-/// Makes two connections, writes a head that doesn't end to the first and an order that ends its
-/// connection to the second, has both served, and reads what each gets.
+/// A connection to an address, to which these bytes are written.
+fn written_to(rt: &HostRuntime, address: SocketAddr, bytes: &[u8]) -> Result<TcpStream, Fail> {
+    let mut stream = TcpStream::connect(rt, address)?;
+    stream.write_all(bytes)?;
+    Ok(stream)
+}
+
+/// Serves two connections for the sample site, over memory without rows.
+fn serve_two(alloc: Global, listener: &TcpListener) -> Result<(), Fail> {
+    let site = read_site(alloc, SITE)?;
+    let mut keep = MemKeep::new(alloc);
+    serve_connections(alloc, &mut keep, &site, listener, 2).map_err(|_| "no connection")?;
+    Ok(())
+}
+
+/// Makes two connections, the first with a head that doesn't end and the second with an order that ends
+/// its connection, has both served, and reads what each gets.
 fn replies_in_turn(rt: &HostRuntime, alloc: Global) -> Result<(String, String), Fail> {
-    let listener = TcpListener::bind(rt, "127.0.0.1:0")?;
-    let address = listener.local_addr()?;
-    let mut first = TcpStream::connect(rt, address)?;
-    let mut second = TcpStream::connect(rt, address)?;
+    let head = "a".repeat(alloc, LONG_HEAD)?;
     let last = ORDER.replace(
         alloc,
         "Content-Length",
         "Connection: close\r\nContent-Length",
     )?;
-    first.write_all(&[b'a'; LONG_HEAD])?;
-    second.write_all(last.as_bytes())?;
-    let site = read_site(alloc, SITE)?;
-    let mut keep = MemKeep::new(alloc);
-    serve_connections(alloc, &mut keep, &site, &listener, 2).map_err(|_| "no connection")?;
+    let listener = TcpListener::bind(rt, "127.0.0.1:0")?;
+    let address = listener.local_addr()?;
+    let first = written_to(rt, address, head.as_bytes())?;
+    let second = written_to(rt, address, last.as_bytes())?;
+    serve_two(alloc, &listener)?;
     let first = io::read_to_string(alloc, first)?;
     Ok((first, io::read_to_string(alloc, second)?))
 }

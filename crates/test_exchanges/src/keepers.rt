@@ -1,4 +1,4 @@
-//! The keepers over which tests are run.
+//! The keepers over which tests are run, and cases that are held over each.
 use office_core::{Keep, MemKeep};
 use office_store::{SqlKeep, adopt};
 use site_core::read_site_text;
@@ -32,6 +32,36 @@ impl Fresh for SqlMemory {
         let conn = Connection::open_in_memory(alloc)?;
         adopted(alloc, conn, site)
     }
+}
+
+/// A case that is held over keepers of any kind.
+pub trait KeeperCase {
+    /// What differs first over keepers of one kind, as a text that is empty where nothing does.
+    fn first_difference<K: Fresh>(&self, alloc: Global) -> Result<String, Fail>;
+}
+
+/// What differs first in a case, over the keeper in memory.
+pub fn over_memory<C: KeeperCase>(alloc: Global, case: &C) -> Result<String, Fail> {
+    case.first_difference::<MemKeep>(alloc)
+}
+
+/// What differs first in a case, over a database in memory. It alone names that keeper for a case: each
+/// call that does costs the prover a quarter of a minute.
+pub fn over_database<C: KeeperCase>(alloc: Global, case: &C) -> Result<String, Fail> {
+    let found = case.first_difference::<SqlMemory>(alloc)?;
+    if found.is_empty() {
+        return Ok(found);
+    }
+    Ok(format!(in alloc; "over SQL: {found}")?)
+}
+
+/// What differs first in a case, over the one and then over the other.
+pub fn over_each<C: KeeperCase>(alloc: Global, case: &C) -> Result<String, Fail> {
+    let found = over_memory(alloc, case)?;
+    if !found.is_empty() {
+        return Ok(found);
+    }
+    over_database(alloc, case)
 }
 
 /// The keeper over a database for the site of a text.
