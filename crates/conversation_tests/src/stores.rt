@@ -110,6 +110,27 @@ const CHANGED: &[(&str, &str, u8)] = &[
         2,
     ),
     ("DROP TABLE given_start", SITE, 2),
+    // Two records with an address each, with one address, and with none.
+    (
+        "INSERT INTO given VALUES ('acme-ca', 'Z1', 'acme', X'00', NULL, '020000000010', '99991231235959Z'), ('acme-ca', 'Z2', 'acme', X'01', NULL, '020000000011', '99991231235959Z'); INSERT INTO given_start VALUES ('acme-ca', 'Z1', NULL), ('acme-ca', 'Z2', NULL)",
+        SITE,
+        0,
+    ),
+    (
+        "INSERT INTO given VALUES ('acme-ca', 'Z1', 'acme', X'00', NULL, '020000000010', '99991231235959Z'), ('acme-ca', 'Z2', 'acme', X'01', NULL, '020000000011', '99991231235959Z'); INSERT INTO given_start VALUES ('acme-ca', 'Z1', NULL), ('acme-ca', 'Z2', NULL); UPDATE given SET mac = '020000000010'",
+        SITE,
+        2,
+    ),
+    (
+        "INSERT INTO given VALUES ('acme-ca', 'Z1', 'acme', X'00', NULL, '020000000010', '99991231235959Z'), ('acme-ca', 'Z2', 'acme', X'01', NULL, '020000000011', '99991231235959Z'); INSERT INTO given_start VALUES ('acme-ca', 'Z1', NULL), ('acme-ca', 'Z2', NULL); UPDATE given SET mac = '020000000010'",
+        OTHER_SITE,
+        2,
+    ),
+    (
+        "INSERT INTO given VALUES ('acme-ca', 'Z1', 'acme', X'00', NULL, '020000000010', '99991231235959Z'), ('acme-ca', 'Z2', 'acme', X'01', NULL, '020000000011', '99991231235959Z'); INSERT INTO given_start VALUES ('acme-ca', 'Z1', NULL), ('acme-ca', 'Z2', NULL); UPDATE given SET mac = NULL",
+        SITE,
+        0,
+    ),
 ];
 
 /// The store holds the text of a site of no customer, and names its digest.

@@ -7,6 +7,7 @@ use std::test::Fail;
 use test_exchanges::conversation::first_difference;
 use test_exchanges::keepers::adopted;
 use test_texts::earlier::{Earlier, sql_of};
+use test_texts::early::{CHANGED_EARLY, EARLIEST, EARLY};
 use test_texts::samples::SITE;
 use test_texts::schema_one::{CHANGED_ONE, ONE};
 use test_texts::schema_two::{CHANGED_TWO, TWO};
@@ -53,6 +54,15 @@ fn stores_of_schema_one_go_on(rt: HostRuntime) -> Result<(), Fail> {
     Ok(())
 }
 
+/// So are those of schema 1 in whose `given` an address is a key for itself, in either form.
+#[test]
+fn early_stores_go_on(rt: HostRuntime) -> Result<(), Fail> {
+    for earlier in [&EARLIEST, &EARLY] {
+        assert_eq!(rt; first_difference_in_life(rt.alloc(), earlier)?.as_str(), "");
+    }
+    Ok(())
+}
+
 /// So is one of schema 2, with the beginnings that it has.
 #[test]
 fn stores_of_schema_two_go_on(rt: HostRuntime) -> Result<(), Fail> {
@@ -65,6 +75,17 @@ fn changed_stores_of_schema_one_are_refused(rt: HostRuntime) -> Result<(), Fail>
     for row in CHANGED_ONE {
         let fault = fault_of_changed(rt.alloc(), &ONE, row.0, row.1)?;
         assert_eq!(rt; fault, row.2, "{}", row.0);
+    }
+    Ok(())
+}
+
+#[test]
+fn changed_early_stores_are_refused(rt: HostRuntime) -> Result<(), Fail> {
+    for earlier in [&EARLIEST, &EARLY] {
+        for row in CHANGED_EARLY {
+            let fault = fault_of_changed(rt.alloc(), earlier, row.0, row.1)?;
+            assert_eq!(rt; fault, row.2, "{}", row.0);
+        }
     }
     Ok(())
 }

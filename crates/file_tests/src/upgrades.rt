@@ -6,6 +6,7 @@ use std::test::Fail;
 use test_exchanges::conversation::first_difference_of;
 use test_texts::conversations::{Exchange, exchanges};
 use test_texts::earlier::{Earlier, sql_of};
+use test_texts::early::{EARLIEST, EARLY};
 use test_texts::samples::SITE;
 use test_texts::schema_one::ONE;
 use test_texts::schema_two::TWO;
@@ -109,6 +110,20 @@ impl FilesCase for StoppedUpgradesOfTwo {
     }
 }
 
+/// An upgrade of either store whose `given` has an address for a key that is killed, and one whose power
+/// fails.
+struct StoppedUpgradesOfEarly;
+
+impl FilesCase for StoppedUpgradesOfEarly {
+    fn first_difference<K: InFiles>(alloc: Global) -> Result<String, Fail> {
+        let found = first_lost_in_upgrade::<K>(alloc, &EARLIEST, false)?;
+        if !found.is_empty() {
+            return Ok(found);
+        }
+        first_lost_in_upgrade::<K>(alloc, &EARLY, true)
+    }
+}
+
 /// Their upgrade is stopped at each call of either file: the store has its schema or schema 3, and the next
 /// opening ends in schema 3, with the same books.
 #[test]
@@ -129,6 +144,16 @@ fn an_upgrade_goes_on_after_a_power_cut(rt: HostRuntime) -> Result<(), Fail> {
 fn a_stopped_upgrade_of_schema_two_goes_on(rt: HostRuntime) -> Result<(), Fail> {
     assert_eq!(rt;
         over_files::<StoppedUpgradesOfTwo>(rt.alloc())?.as_str(),
+        ""
+    );
+    Ok(())
+}
+
+/// Of the stores of schema 1 whose `given` is made anew, one each.
+#[test]
+fn a_stopped_upgrade_of_an_early_store_goes_on(rt: HostRuntime) -> Result<(), Fail> {
+    assert_eq!(rt;
+        over_files::<StoppedUpgradesOfEarly>(rt.alloc())?.as_str(),
         ""
     );
     Ok(())

@@ -15,9 +15,8 @@ use Rattle.office_sql.specs.Change.{Rests}
 use Rattle.sqlite.specs.Query.{Query, IsAnswer}
 use Rattle.sqlite.specs.Schema.{Schema}
 use Rattle.office_store.specs.declared.version.Version.{Version}
-use Rattle.office_store.specs.declared.version.Version.TheVariants.{First}
 use Rattle.office_store.specs.Found.{IsFound, IsFoundLater, Tests}
-use Rattle.office_store.specs.Versions.{schema_of}
+use Rattle.office_store.specs.Versions.{number_of_version, schema_of}
 use Rattle.office_sql.proofs.Asked.{was_clean, leaves, shown_open, query_rests}
 use Rattle.office_sql.proofs.Bare.{IsBare, bare_commits_nothing}
 use Rattle.office_sql.proofs.LedgerAsked.{IsReadAs}
@@ -32,8 +31,8 @@ pub of_a_version : (text : List ℕ) (body : Query) → ((version : Version) →
 of_a_version text body read schema it = subst (λ s. IsReadAs s text body) (sym it.1) (read it.0)
 
 -- under that of each in which beginnings of validity are told
-pub of_a_later : (text : List ℕ) (body : Query) → ((version : Version) → version ≢ First → IsReadAs (schema_of version) text body)
-    → (schema : Schema) → (version : Version) × (version ≢ First) × (schema ≡ schema_of version) → IsReadAs schema text body
+pub of_a_later : (text : List ℕ) (body : Query) → ((version : Version) → number_of_version version ≢ 1 → IsReadAs (schema_of version) text body)
+    → (schema : Schema) → (version : Version) × (number_of_version version ≢ 1) × (schema ≡ schema_of version) → IsReadAs schema text body
 of_a_later text body read schema it = subst (λ s. IsReadAs s text body) (sym it.2) (read it.0 it.1)
 
 -- and under one schema

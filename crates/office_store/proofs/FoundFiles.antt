@@ -21,11 +21,12 @@ use Rattle.sqlite_catalog.specs.Listing.{IsSound}
 use Rattle.office_sql.specs.Schema.{no_schema}
 use Rattle.office_sql.specs.Rows.{order_in_row, given_in_row, starts_order, starts_given}
 use Rattle.office_store.specs.declared.version.Version.{Version}
-use Rattle.office_store.specs.declared.version.Version.TheVariants.{First, Second, Third}
+use Rattle.office_store.specs.declared.version.Version.TheVariants.{Earliest, Early, First, Second, Third}
 use Rattle.office_store.specs.Versions.{schema_of}
 use Rattle.office_store.specs.Adopting.{CanPrepareTables}
 use Rattle.office_store.specs.Found.{AreAllStarted, AreStartsFound, HasWhole, IsFound}
 use Rattle.office_store.specs.Meta.{HasNothing}
+use Rattle.office_store.specs.Stores.{IsNoStore}
 use Rattle.office_store.proofs.FoundNothing.{no_office_rows, no_starts, nothing_found, has_nothing}
 use Rattle.office_store.proofs.FoundVersion.{over, version_found}
 
@@ -56,6 +57,8 @@ empty_found version db sound none =
     record { schema = refl; sound = sound; rows = rows; starts = starts version }
   where
     starts : (version : Version) → AreStartsFound version (over version db)
+    starts Earliest = (none.0 17 (omega arith), none.0 19 (omega arith))
+    starts Early = (none.0 17 (omega arith), none.0 19 (omega arith))
     starts First = (none.0 17 (omega arith), none.0 19 (omega arith))
     starts Second = λ _. none_started db none
     starts Third = λ _. none_started db none
@@ -72,9 +75,11 @@ version_in image version db (inl h) sound whole = let it = subst AreInOrder (sym
     (file_order h.0 h.2 h.1 h.4) in version_found version it.0 it.1 db sound it.2 it.3 whole
 version_in image version db (inr h) sound whole = empty_found version db sound h.1
 
-nothing_in : (image : Image) (db : Trees) → AreFoundIn image db → IsSound no_schema db → HasNothing db
-nothing_in image db (inl h) sound = let it = subst AreInOrder (sym h.5) (file_order h.0 h.2 h.1 h.4) in nothing_found it.0 it.1 db it.2 it.3 sound
-nothing_in image db (inr h) sound = empty_nothing db h.1
+nothing_in : (image : Image) (db : Trees) → AreFoundIn image db → IsSound no_schema db → IsNoStore db
+nothing_in image db (inl h) sound =
+    let it = subst AreInOrder (sym h.5) (file_order h.0 h.2 h.1 h.4) in
+    record { schema = sound; nothing = nothing_found it.0 it.1 db it.2 it.3 sound }
+nothing_in image db (inr h) sound = record { schema = sound; nothing = empty_nothing db h.1 }
 
 -- the tables of a store in files that was opened can be prepared
 pub can_prepare : (image : Image) (s : State) → s.in_transaction ≡ false

@@ -1,4 +1,4 @@
--- A database without tables has nothing, and of the first version no starts.
+-- A database without tables has nothing, and of a version with the number 1 no starts.
 use Rattle.std.proofs.Common.{◌≡◌, ℕ, ◌≢◌, ◌==◌, Bool, true, false, true≢false, List, [], map, refl, ap, subst, sym, ◌∙◌, inl, inr, Ordering, arith}
 use Rattle.std.specs.List.{list_any}
 use Rattle.sqlite.specs.Order.{Row}
@@ -20,7 +20,8 @@ use Rattle.sqlite_rules.proofs.ListLemmas.{some_from}
 use Rattle.office_sql.specs.Rows.{seat_in_row, map_in_row, link_in_row, order_in_row, device_in_row, given_in_row, entry_in_row, with_order_start}
 use Rattle.office_sql.specs.Rows.{with_given_start}
 use Rattle.office_sql.specs.Tables.{AreOfficeRows, AreRows, AreStarted, tables_in}
-use Rattle.office_store.specs.declared.version.Version.TheVariants.{First}
+use Rattle.office_store.specs.declared.version.Version.TheVariants.{Earliest, Early, First}
+use Rattle.office_store.specs.Found.{TellsNoStart}
 use Rattle.office_store.specs.Meta.{meta_in, HasNothing}
 use Rattle.office_store.specs.Versions.{schema_of}
 
@@ -104,9 +105,21 @@ module _ (shapes : ℕ → Shape) (reals : ℕ → ℕ) (trees : Trees) (listed 
       has_nothing trees (none 0 (λ e. cc) (λ e. cc)) (none 1 (λ e. cc) (λ e. cc)) (none 3 (λ e. cc) (λ e. cc)) (none 5 (λ e. cc) (λ e. cc))
       (none 7 (λ e. cc) (λ e. cc)) (none 9 (λ e. cc) (λ e. cc)) (none 11 (λ e. cc) (λ e. cc)) (none 15 (λ e. cc) (λ e. cc))
 
-  -- and the first version lists no starts
-  pub no_starts_found : IsSound (schema_of First) trees → (trees 17 ≡ []) × (trees 19 ≡ [])
-  no_starts_found sound = (
+  -- and the versions with the number 1 list no starts
+  pub earliest_unstarted : IsSound (schema_of Earliest) trees → TellsNoStart trees
+  earliest_unstarted sound = (
+    empty_at (schema_of Earliest) shapes reals trees sound listed ordered 17 (λ e. cc) (λ e. cc) refl refl refl,
+    empty_at (schema_of Earliest) shapes reals trees sound listed ordered 19 (λ e. cc) (λ e. cc) refl refl refl,
+  )
+
+  pub early_unstarted : IsSound (schema_of Early) trees → TellsNoStart trees
+  early_unstarted sound = (
+    empty_at (schema_of Early) shapes reals trees sound listed ordered 17 (λ e. cc) (λ e. cc) refl refl refl,
+    empty_at (schema_of Early) shapes reals trees sound listed ordered 19 (λ e. cc) (λ e. cc) refl refl refl,
+  )
+
+  pub first_unstarted : IsSound (schema_of First) trees → TellsNoStart trees
+  first_unstarted sound = (
     empty_at (schema_of First) shapes reals trees sound listed ordered 17 (λ e. cc) (λ e. cc) refl refl refl,
     empty_at (schema_of First) shapes reals trees sound listed ordered 19 (λ e. cc) (λ e. cc) refl refl refl,
   )

@@ -1,4 +1,5 @@
--- A sound database of a schema that begins with the first version's tables, whose trees are in order, has the office's rows,
+-- A sound database of a schema that begins with the first version's tables, whatever the keys of `given`
+-- beside that of its serial numbers, whose trees are in order, has the office's rows,
 -- if no number of a map or of an entry is below zero. One lemma for each table.
 use Rattle.std.proofs.Common.{◌≡◌, ℕ, List, false, [], ◌∷◌, ◌++◌, refl, sym, ap, subst, ◌∙◌, inl, inr, is_eq, Less, IsTrue}
 use Rattle.std.specs.List.{AllByRecursion}
@@ -21,9 +22,8 @@ use Rattle.sqlite_trees.proofs.ListLemmas.{all_both, all_weaker, ascending-map}
 use Rattle.office_tables.specs.Tables.{seat_cmp, order_cmp, map_cmp, link_cmp, device_cmp, given_cmp, entry_cmp}
 use Rattle.office_sql.specs.Schema.{seat_table, map_table, link_table, orders_table, device_table, given_table, ledger_table}
 use Rattle.office_sql.specs.Rows.{seat_in_row, map_in_row, link_in_row, order_in_row, device_in_row, given_in_row, entry_in_row}
-use Rattle.office_store.specs.declared.version.Version.TheVariants.{First}
 use Rattle.office_store.specs.Found.{HasWhole, IsNotBelow}
-use Rattle.office_store.specs.Versions.{schema_of}
+use Rattle.office_store.specs.Versions.{given_keyed, schema_keyed}
 use Rattle.office_sql.specs.Tables.{AreOfficeRows, AreRows, IsText, IsWhole, IsSeatRow, IsMapRow, IsLinkRow, IsOrderRow, IsDeviceRow, IsGivenRow, IsEntryRow}
 use Rattle.office_sql.proofs.Kept.{narrowed}
 use Rattle.office_sql.proofs.MapValues.{wholes_cmp}
@@ -35,13 +35,17 @@ maps_apart : (a b : Row) → IsMapRow a → IsMapRow b → value_cmp (rowid a) (
 maps_apart a b ka kb low = ap is_eq (sym (wholes_cmp (column a 0) (column b 0) ka.0 kb.0) ∙ low)
 
 -- the first version's tables and indexes, and more
-abbrev pub grown : List Table → List Index → Schema
-grown tables indexes = record { tables = (schema_of First).tables ++ tables; indexes = (schema_of First).indexes ++ indexes; views = [] }
+abbrev pub grown : List ℕ → List ℕ → List ℕ → List Table → List Index → Schema
+grown one two three tables indexes =
+    record { tables = (schema_keyed one two three).tables ++ tables; indexes = (schema_keyed one two three).indexes ++ indexes; views = [] }
 
-module _ (more_tables : List Table) (more_indexes : List Index) (shapes : ℕ → Shape) (reals : ℕ → ℕ) (trees : Trees)
-    (sound : IsSound (grown more_tables more_indexes) trees) (listed : IsListed (trees catalog_tree) shapes reals) (ordered : IsOrdered shapes trees) where
+-- the key of the serial numbers of `given` is the first or the second
+module _ (one two three : List ℕ) (keyed : (P : List ℕ → Type 0) → P one → P two → P (1 ∷ 2 ∷ [])) (more_tables : List Table)
+    (more_indexes : List Index) (shapes : ℕ → Shape) (reals : ℕ → ℕ) (trees : Trees)
+    (sound : IsSound (grown one two three more_tables more_indexes) trees) (listed : IsListed (trees catalog_tree) shapes reals)
+    (ordered : IsOrdered shapes trees) where
   abbrev schema : Schema
-  schema = grown more_tables more_indexes
+  schema = grown one two three more_tables more_indexes
 
   rising : IsShaped shape.Table (trees catalog_tree)
   rising = subst (λ s. IsShaped s (trees catalog_tree)) listed.itself.0 (ordered catalog_tree)
@@ -105,14 +109,16 @@ module _ (more_tables : List Table) (more_indexes : List Index) (shapes : ℕ �
       let rows = trees 11 in
       rows_found (1 ∷ 2 ∷ []) IsGivenRow given_cmp given_in_row
       (λ a b e f. then_ties _ _ _ _ (texts_tie (column a 1) (column b 1) e.0 f.0) (last_ties _ _ (texts_tie (column a 2) (column b 2) e.1 f.1)))
-      rows (shaped given_table (inr (inr (inr (inr (inr (inr (inl refl))))))))
+      rows (shaped (given_keyed one two three) (inr (inr (inr (inr (inr (inr (inl refl))))))))
       (all_both _ _ IsGivenRow (λ r d n. (
         text_at schema trees given_table r d n 0 (refl, refl, refl) (refl, refl),
         text_at schema trees given_table r d n 1 (refl, refl, refl) (refl, refl),
         blob_at schema trees given_table r d n 3 (refl, refl, refl) (refl, refl),
         text_if_at schema trees given_table r d 5 (refl, refl, refl),
       )) rows (sound.obeys.rules Datatype).1.1.1.1.1.1.0 (sound.obeys.rules NotNull).1.1.1.1.1.1.0)
-      (all_weaker _ (λ r. clashes plain (1 ∷ 2 ∷ []) rows r ≡ false) (λ r h. not_true _ (both_true _ _ h).0) rows (sound.obeys.rules Unique).1.1.1.1.1.1.0)
+      (all_weaker _ (λ r. clashes plain (1 ∷ 2 ∷ []) rows r ≡ false)
+      (λ r h. keyed (λ places. clashes plain places rows r ≡ false) (not_true _ (both_true _ _ h).0) (not_true _ (both_true _ _ (both_true _ _ h).1).0))
+      rows (sound.obeys.rules Unique).1.1.1.1.1.1.0)
 
   module _ (whole : HasWhole trees) where
     maps_found : AreRows IsMapRow map_cmp map_in_row (trees 3)

@@ -62,7 +62,7 @@ strict_one true strict null k a h s e = absurd (true≢false h)
 strict_one false true null k a h s e = e
 strict_one false false null k a h s e = absurd (true≢false (sym s))
 
-typed_at : (key : Option ℕ) (at : ℕ) (cs : List Column) (i : ℕ) (k : Kind) → IsKind key at cs i k
+pub typed_at : (key : Option ℕ) (at : ℕ) (cs : List Column) (i : ℕ) (k : Kind) → IsKind key at cs i k
     → (vs : Row) → are_typed key at cs vs ≡ true → is_of k (column vs i) ≡ true
 typed_at key at [] i k is vs h = absurd is
 typed_at key at (c ∷ cs) zero k is [] h = refl
@@ -91,7 +91,7 @@ present_at key at (c ∷ cs) (suc i) is row h =
     let same : at + 1 + i + 1 ≡ at + suc i + 1 = omega arith in
     subst (λ p. not (is_null (column row p)) ≡ true) same (present_at key (at + 1) cs i is row (both_true _ _ h).1)
 
-dropped : (row : Row) (i : ℕ) → column (drop 1 row) i ≡ column row (suc i)
+pub dropped : (row : Row) (i : ℕ) → column (drop 1 row) i ≡ column row (suc i)
 dropped [] zero = refl
 dropped [] (suc i) = refl
 dropped (v ∷ row) i = refl

@@ -1,6 +1,6 @@
 -- The starts of a sound database of a schema that begins with the second version's tables, whose trees are in order: each is
 -- one of an order or a record, and where none of these lacks one, each has exactly one.
-use Rattle.std.proofs.Common.{◌≡◌, ◌≢◌, ℕ, List, [], ◌∷◌, ◌&&◌, ◌||◌, codes, map, filter, find, Bool, true, false, Some, refl, sym, ap, subst, ◌∙◌}
+use Rattle.std.proofs.Common.{◌≡◌, ℕ, List, [], ◌∷◌, ◌&&◌, ◌||◌, codes, map, filter, find, Bool, true, false, Some, refl, sym, ap, subst, ◌∙◌}
 use Rattle.std.proofs.Common.{inl, inr, Ordering, is_eq, true≢false, slice_get}
 use Rattle.std.specs.Prelude.{is_some}
 use Rattle.std.specs.List.{AllByRecursion}
@@ -113,7 +113,8 @@ module _ (more : List Table) (shapes : ℕ → Shape) (reals : ℕ → ℕ) (tre
       let starts = trees 17 in
       rows_found (1 ∷ 2 ∷ []) IsStartRow order_cmp order_in_row
       (λ a b e f. then_ties _ _ _ _ (texts_tie (column a 1) (column b 1) e.0 f.0) (last_ties _ _ (texts_tie (column a 2) (column b 2) e.1 f.1)))
-      starts (shaped (order_start_table ∷ given_start_table ∷ more) later_indexes shapes reals trees sound listed ordered
+      starts (shaped (1 ∷ 2 ∷ []) (1 ∷ 4 ∷ []) (6 ∷ 1 ∷ 2 ∷ []) (λ P first second. first)
+      (order_start_table ∷ given_start_table ∷ more) later_indexes shapes reals trees sound listed ordered
       order_start_table (inr (inr (inr (inr (inr (inr (inr (inr (inl refl)))))))))) (order_starts_typed more trees sound)
       (all_weaker _ (λ r. clashes plain (1 ∷ 2 ∷ []) starts r
       ≡ false) (λ r h.
@@ -124,7 +125,8 @@ module _ (more : List Table) (shapes : ℕ → Shape) (reals : ℕ → ℕ) (tre
       let starts = trees 19 in
       rows_found (1 ∷ 2 ∷ []) IsStartRow given_cmp given_in_row
       (λ a b e f. then_ties _ _ _ _ (texts_tie (column a 1) (column b 1) e.0 f.0) (last_ties _ _ (texts_tie (column a 2) (column b 2) e.1 f.1)))
-      starts (shaped (order_start_table ∷ given_start_table ∷ more) later_indexes shapes reals trees sound listed ordered
+      starts (shaped (1 ∷ 2 ∷ []) (1 ∷ 4 ∷ []) (6 ∷ 1 ∷ 2 ∷ []) (λ P first second. first)
+      (order_start_table ∷ given_start_table ∷ more) later_indexes shapes reals trees sound listed ordered
       given_start_table (inr (inr (inr (inr (inr (inr (inr (inr (inr (inl refl))))))))))) (given_starts_typed more trees sound)
       (all_weaker _ (λ r. clashes plain (1 ∷ 2 ∷ []) starts r
       ≡ false) (λ r h.

@@ -8,10 +8,10 @@ use Rattle.sqlite_trees.specs.Objects.{catalog_tree, IsListed}
 use Rattle.sqlite_catalog.specs.Listing.{IsSound}
 use Rattle.office_sql.specs.Schema.{office_schema, site_text_table}
 use Rattle.office_store.specs.declared.version.Version.{Version}
-use Rattle.office_store.specs.declared.version.Version.TheVariants.{First, Second, Third}
+use Rattle.office_store.specs.declared.version.Version.TheVariants.{Earliest, Early, First, Second, Third}
 use Rattle.office_store.specs.Found.{HasWhole, IsFound}
 use Rattle.office_store.specs.Versions.{schema_of}
-use Rattle.office_store.proofs.FoundNothing.{no_starts_found}
+use Rattle.office_store.proofs.FoundNothing.{earliest_unstarted, early_unstarted, first_unstarted}
 use Rattle.office_store.proofs.FoundOffice.{rows_of_office}
 use Rattle.office_store.proofs.FoundStarts.{all_started}
 
@@ -22,15 +22,29 @@ over version trees = record { schema = schema_of version; trees = trees }
 pub version_found : (version : Version) (shapes : ℕ → Shape) (reals : ℕ → ℕ) (trees : Trees) → IsSound (schema_of version) trees
     → IsListed (trees catalog_tree) shapes reals → IsOrdered shapes trees → HasWhole trees
     → IsFound version (over version trees)
+version_found Earliest shapes reals trees sound listed ordered whole = record {
+  schema = refl;
+  sound = sound;
+  rows = rows_of_office (1 ∷ 2 ∷ []) (1 ∷ 4 ∷ []) (6 ∷ []) (λ P first second. first) [] [] shapes reals trees sound listed ordered whole;
+  starts = earliest_unstarted shapes reals trees listed ordered sound;
+}
+version_found Early shapes reals trees sound listed ordered whole = record {
+  schema = refl;
+  sound = sound;
+  rows = rows_of_office (6 ∷ []) (1 ∷ 2 ∷ []) (1 ∷ 4 ∷ []) (λ P first second. second) [] [] shapes reals trees sound listed ordered whole;
+  starts = early_unstarted shapes reals trees listed ordered sound;
+}
 version_found First shapes reals trees sound listed ordered whole = record {
   schema = refl;
   sound = sound;
-  rows = rows_of_office [] [] shapes reals trees sound listed ordered whole;
-  starts = no_starts_found shapes reals trees listed ordered sound;
+  rows = rows_of_office (1 ∷ 2 ∷ []) (1 ∷ 4 ∷ []) (6 ∷ 1 ∷ 2 ∷ []) (λ P first second. first) [] [] shapes reals trees sound listed ordered whole;
+  starts = first_unstarted shapes reals trees listed ordered sound;
 }
 version_found Second shapes reals trees sound listed ordered whole =
-    let rows = rows_of_office (drop 8 (schema_of Second).tables) (drop 9 (schema_of Second).indexes) shapes reals trees sound listed ordered whole in
+    let rows = rows_of_office (1 ∷ 2 ∷ []) (1 ∷ 4 ∷ []) (6 ∷ 1 ∷ 2 ∷ []) (λ P first second. first)
+    (drop 8 (schema_of Second).tables) (drop 9 (schema_of Second).indexes) shapes reals trees sound listed ordered whole in
     record { schema = refl; sound = sound; rows = rows; starts = all_started [] shapes reals trees sound listed ordered rows }
 version_found Third shapes reals trees sound listed ordered whole =
-    let rows = rows_of_office (drop 8 office_schema.tables) (drop 9 office_schema.indexes) shapes reals trees sound listed ordered whole in
+    let rows = rows_of_office (1 ∷ 2 ∷ []) (1 ∷ 4 ∷ []) (6 ∷ 1 ∷ 2 ∷ []) (λ P first second. first)
+    (drop 8 office_schema.tables) (drop 9 office_schema.indexes) shapes reals trees sound listed ordered whole in
     record { schema = refl; sound = sound; rows = rows; starts = all_started (site_text_table ∷ []) shapes reals trees sound listed ordered rows }

@@ -18,6 +18,10 @@ mod StartKeys
 mod FoundStarts
 mod FoundVersion
 mod FoundAsked
+mod QueryRows
+mod AddressRows
+mod AddressKept
+mod AddressWalk
 mod CreateSteps
 mod CreateTexts
 mod CreateStarts
@@ -32,3 +36,10 @@ mod Refusals
 mod Preparing
 mod LeftOfSite
 mod Telling
+mod Opened
+mod Drops
+mod RemakeTexts
+mod RemakeReads
+mod RemakeRows
+mod RemakePuts
+mod Remakes

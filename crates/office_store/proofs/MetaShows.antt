@@ -20,7 +20,7 @@ use Rattle.office_sql.specs.Scan.{env, passes, scan}
 use Rattle.sqlite.specs.Program.{overlay}
 use Rattle.sqlite.specs.Query.{IsAnswer}
 use Rattle.office_store.specs.declared.version.Version.{Version}
-use Rattle.office_store.specs.declared.version.Version.TheVariants.{First, Second, Third}
+use Rattle.office_store.specs.declared.version.Version.TheVariants.{Earliest, Early, First, Second, Third}
 use Rattle.office_store.specs.Found.{IsFound}
 use Rattle.office_store.specs.Meta.{meta_in, meta_of, meta_of_version, metas_in, IsMetaOf, ShowMeta, TellNoSite}
 use Rattle.office_store.specs.Versions.{schema_of}
@@ -42,6 +42,8 @@ row_order = (col 1 0, ascending Binary) ∷ []
 
 pub row_read : (version : Version) → IsReadAs (schema_of version) row_text (scan 0 [] row_shown row_order)
 unfolding understood everything
+row_read Earliest = record { names = codes "id" ∷ codes "schema" ∷ codes "site" ∷ []; is = refl; plain = (refl, refl); unlisted = refl; bare = λ schema base. refl }
+row_read Early = record { names = codes "id" ∷ codes "schema" ∷ codes "site" ∷ []; is = refl; plain = (refl, refl); unlisted = refl; bare = λ schema base. refl }
 row_read First = record { names = codes "id" ∷ codes "schema" ∷ codes "site" ∷ []; is = refl; plain = (refl, refl); unlisted = refl; bare = λ schema base. refl }
 row_read Second = record { names = codes "id" ∷ codes "schema" ∷ codes "site" ∷ []; is = refl; plain = (refl, refl); unlisted = refl; bare = λ schema base. refl }
 row_read Third = record { names = codes "id" ∷ codes "schema" ∷ codes "site" ∷ []; is = refl; plain = (refl, refl); unlisted = refl; bare = λ schema base. refl }
@@ -56,6 +58,14 @@ shows_metas all rows s =
 
 -- each site in meta is a blob
 sites_are_blobs : (version : Version) (db : Trees) → IsSound (schema_of version) db → AllByRecursion (IsBlob 3) (db 0)
+sites_are_blobs Earliest db sound =
+    all_both _ _ (IsBlob 3) (λ r d n.
+    blob_at (schema_of Earliest) db meta_table r d n 2 (refl, refl, refl) (refl, refl)) (db 0)
+    (sound.obeys.rules Datatype).0 (sound.obeys.rules NotNull).0
+sites_are_blobs Early db sound =
+    all_both _ _ (IsBlob 3) (λ r d n.
+    blob_at (schema_of Early) db meta_table r d n 2 (refl, refl, refl) (refl, refl)) (db 0)
+    (sound.obeys.rules Datatype).0 (sound.obeys.rules NotNull).0
 sites_are_blobs First db sound =
     all_both _ _ (IsBlob 3) (λ r d n.
     blob_at (schema_of First) db meta_table r d n 2 (refl, refl, refl) (refl, refl)) (db 0)

@@ -19,15 +19,19 @@ use Rattle.office_sql.specs.Tables.{IsOffice, office_over, tables_in}
 use Rattle.office_store.specs.declared.fault.OpenFault.{OpenFault}
 use Rattle.office_store.specs.declared.fault.OpenFault.TheVariants.{Failed}
 use Rattle.office_store.specs.declared.version.Version.{Version}
-use Rattle.office_store.specs.declared.version.Version.TheVariants.{First, Second, Third}
-use Rattle.office_store.specs.Adopting.{AreUnstarted, CanPrepareTables, CanTake, Examines, IsFoundAt, IsGrowable, IsOtherSchema, IsRefusedFor}
+use Rattle.office_store.specs.declared.version.Version.TheVariants.{Earliest, Early, First, Second, Third}
+use Rattle.office_store.specs.Addresses.{HasApartAddresses}
+use Rattle.office_store.specs.Adopting.{AreUnstarted, CanPrepareTables, CanTake, Examines, IsApartAt, IsFoundAt, IsGrowable, IsOtherSchema, IsRefusedFor}
 use Rattle.office_store.specs.Adopting.{IsPreparedFor, LeavesAtMost, PreparesTables, StaysUnstarted, TakesGrowth, TakesOwn}
 use Rattle.office_store.specs.Found.{HasStarts, IsFound, Tests}
 use Rattle.office_store.specs.Growing.{HasGrown, IsGrown}
-use Rattle.office_store.specs.Meta.{HasNothing, HoldsSite, IsBegun, IsCreated, HasMeta}
+use Rattle.office_store.specs.Meta.{HoldsSite, IsBegun, IsCreated, HasMeta}
+use Rattle.office_store.specs.Stores.{HasSchema, IsNoStore, IsStore, IsStoreOrNone}
 use Rattle.office_store.specs.Texts.{HoldsText, IsGrownFrom}
 use Rattle.office_store.specs.Upgrading.{IsUpgrade, IsUpgraded}
+use Rattle.office_store.specs.Versions.{schema_of}
 use Rattle.office_sql.proofs.Asked.{was_clean}
+use Rattle.office_store.proofs.AddressKept.{apart_grown, apart_if_none, apart_upgraded}
 use Rattle.office_store.proofs.Telling.{not_silent, not_third, site_once, told_once}
 use Rattle.office_store.proofs.TextShows.{one_text}
 use Rattle.sqlite.specs.declared.error.Error.{Error}
@@ -71,6 +75,9 @@ unprepared g site old new fault mode refused unchanged crash = record {
   tells = λ clean. tt;
   grown = λ clean. tt;
   own = λ clean. tt;
+  apart = λ clean. tt;
+  was = λ clean. tt;
+  there = λ clean. tt;
   kept = λ clean. tt;
   unstarted = λ clean. tt;
   refused = refused;
@@ -96,13 +103,21 @@ never_earlier own text db tells version other earlier told = absurd (not_third v
 never_first : (text : List ℕ) (db : Trees) (t : Tables) → HoldsSite text db → StaysUnstarted db t
 never_first text db t tells site told = absurd (not_third First site (sha256 text) db (λ e. cc) told tells.named)
 
+-- a database of a version lists that version's schema
+lists_schema : (version : Version) (db : Database) → IsFound version db → HasSchema (schema_of version) db.trees
+lists_schema version db found = subst (λ s. HasSchema s db.trees) found.schema found.sound
+
+-- so it was a store, if it told of itself
+store_of : (version : Version) (site : List ℕ) (db : Database) → IsFound version db → HasMeta version site db.trees → IsStore db.trees
+store_of version site db found told = (version, record { schema = lists_schema version db found; told = (site, told) })
+
 -- what making tables may leave: the tables of a store that had none
 leaves_made : (site : TextOfSite) (old new : State) → CanPrepareTables old → old.now.schema ≡ no_schema
     → Survives old new (λ trees. IsTrue old.is_open × IsBegun site.text (office_over trees))
     → Survives old new (IsPreparedFor site old)
 leaves_made site old new can bare survives = survives_weaker _ _ _ _ (λ clean db begun.
     let calm = was_clean _ _ _ survives clean in
-    inl (sym (ap (λ (d : Database). tables_in d.trees) (can.shows_committed calm)) ∙ (can.bare calm bare).tables, begun.1)) survives
+    inl (subst (λ (d : Database). IsNoStore d.trees) (can.shows_committed calm) (can.bare calm bare), begun.1)) survives
 
 -- what an upgrade may leave: the tables of the store, upgraded
 leaves_upgraded : (site : TextOfSite) (version : Version) (old new : State) → version ≢ Third
@@ -115,6 +130,7 @@ leaves_upgraded site version old new earlier found told survives = survives_weak
     inr (inl (
       version,
       earlier,
+      subst (HasSchema (schema_of version)) same (lists_schema version old.now (found.found calm)),
       subst (HasMeta version (sha256 site.text))
           same (told calm),
       subst (λ t.
@@ -123,16 +139,24 @@ leaves_upgraded site version old new earlier found told survives = survives_weak
 
 -- what a growth may leave: the tables of the store, with the new text
 leaves_grown : (site : TextOfSite) (old new : State) → IsFoundAt Third old → (HasCleanDisk old → IsGrowable site.site old.now)
+    → (HasCleanDisk old → ¬ HoldsText site.text old.now.trees)
     → Survives old new (λ trees. IsTrue old.is_open × IsGrown site.text old.now.trees (office_over trees))
     → Survives old new (IsPreparedFor site old)
-leaves_grown site old new found can survives = survives_weaker _ _ _ _ (λ clean db made.
+leaves_grown site old new found can other survives = survives_weaker _ _ _ _ (λ clean db made.
     let calm = was_clean _ _ _ survives clean in
     let same = ap (λ (d : Database). d.trees) (found.shows_committed calm) in
-    inr (inr (subst (CanTake site.site) same (can calm).1, subst (λ t. IsGrown site.text t (office_over db)) same made.1))) survives
+    inr (inr (
+      subst (HasSchema (schema_of Third)) same (lists_schema Third old.now (found.found calm)),
+      subst (CanTake site.site) same (can calm).1,
+      subst (λ t. ¬ HoldsText site.text t) same (other calm),
+      subst (λ t. IsGrown site.text t (office_over db)) same made.1,
+    ))) survives
 
 -- no beginning of validity is told in a store of the first version
 starts_of : (version : Version) (site : List ℕ) (db : Database) → IsFound version db
     → version ≢ Third → HasMeta version site db.trees → StaysUnstarted db.trees (tables_in db.trees)
+starts_of Earliest site db found earlier told other is = unstarted db.trees found.starts
+starts_of Early site db found earlier told other is = unstarted db.trees found.starts
 starts_of First site db found earlier told other is = unstarted db.trees found.starts
 starts_of Second site db found earlier told other is = let e : ◌≡◌ {A = ℕ} 1 2 = told_once First Second other site db.trees is told in absurd (cc)
 starts_of Third site db found earlier told other is = absurd (earlier refl)
@@ -140,7 +164,7 @@ starts_of Third site db found earlier told other is = absurd (earlier refl)
 module _ {S : Type 0} (g : Ghosts S) (site : TextOfSite) (old new : Held S) (calm : IsTrue (state g new).is_open → HasCleanDisk (state g new)) where
   module _ (can : CanPrepareTables (state g old)) (bare : (state g old).now.schema ≡ no_schema) (mode : new.in_transaction ≡ false)
       (survives : Survives (state g old) (state g new) (λ trees. IsTrue (state g old).is_open × IsBegun site.text (office_over trees))) where
-    nothing : HasCleanDisk (state g new) → HasNothing (state g old).now.trees
+    nothing : HasCleanDisk (state g new) → IsNoStore (state g old).now.trees
     nothing clean = can.bare (was_clean _ _ _ survives clean) bare
 
     -- the tables were made
@@ -157,9 +181,12 @@ module _ {S : Type 0} (g : Ghosts S) (site : TextOfSite) (old new : Held S) (cal
         },
       );
       tells = λ clean. (created clean).begun.fresh.tells;
-      grown = λ clean older tells. absurd (not_silent Third (sha256 older) (state g old).now.trees (nothing clean).silent tells.named);
-      own = λ clean version other earlier told. absurd (not_silent version other (state g old).now.trees (nothing clean).silent told);
-      kept = λ clean. (created clean).begun.fresh.tables ∙ sym (nothing clean).tables;
+      grown = λ clean older tells. absurd (not_silent Third (sha256 older) (state g old).now.trees (nothing clean).nothing.silent tells.named);
+      own = λ clean version other earlier told. absurd (not_silent version other (state g old).now.trees (nothing clean).nothing.silent told);
+      apart = λ clean. apart_if_none (state g new).now.trees (created clean).begun.fresh.tables;
+      was = λ clean. inl (nothing clean);
+      there = λ clean some. absurd (some bare);
+      kept = λ clean. (created clean).begun.fresh.tables ∙ sym (nothing clean).nothing.tables;
       unstarted = λ clean other told. subst AreUnstarted (sym (created clean).begun.fresh.tables) (tt, tt);
       refused = tt;
       unchanged = λ clean. tt;
@@ -184,10 +211,13 @@ module _ {S : Type 0} (g : Ghosts S) (site : TextOfSite) (old new : Held S) (cal
       other.1 version (ap (λ (d : Database). d.schema) ((undone clean).now up
       ∙ sym (found.shows_committed (before clean))) ∙ (found.found (before clean)).schema))
 
-  module _ (version : Version) (earlier : version ≢ Third) (found : IsFoundAt version (state g old))
+  module _ (version : Version) (earlier : version ≢ Third) (found : IsFoundAt version (state g old)) (apart : IsApartAt (state g old))
       (told : HasCleanDisk (state g old) → HasMeta version (sha256 site.text) (state g old).now.trees) (mode : new.in_transaction ≡ false)
       (survives : Survives (state g old) (state g new) (λ trees. IsTrue (state g old).is_open
       × IsUpgrade version site.text (state g old).now.trees (office_over trees))) where
+    earlier_store : HasCleanDisk (state g old) → IsStore (state g old).now.trees
+    earlier_store clean = store_of version (sha256 site.text) (state g old).now (found.found clean) (told clean)
+
     before_upgrade : HasCleanDisk (state g new) → HasCleanDisk (state g old)
     before_upgrade = was_clean (state g old) (state g new) _ survives
 
@@ -201,6 +231,9 @@ module _ {S : Type 0} (g : Ghosts S) (site : TextOfSite) (old new : Held S) (cal
           absurd (not_third version (sha256 site.text) (sha256 older)
           (state g old).now.trees earlier (told (before_upgrade clean)) tells.named);
       own = λ clean version2 other earlier2 is. site_once version2 version other (sha256 site.text) (state g old).now.trees is (told (before_upgrade clean));
+      apart = λ clean. apart_upgraded version site.text (state g old).now.trees (state g new).now earlier (it clean).upgrade (apart (before_upgrade clean));
+      was = λ clean. inr (earlier_store (before_upgrade clean));
+      there = λ clean some. earlier_store (before_upgrade clean);
       kept = λ clean. (it clean).upgrade.tables;
       unstarted = λ clean other is. subst AreUnstarted (sym (it clean).upgrade.tables)
           (starts_of version (sha256 site.text) (state g old).now (found.found (before_upgrade clean)) earlier (told (before_upgrade clean)) other is);
@@ -216,9 +249,13 @@ module _ {S : Type 0} (g : Ghosts S) (site : TextOfSite) (old new : Held S) (cal
         undone_keeps (state g old) (state g new) (undone clean))
         (leaves_upgraded site version (state g old) (state g new) earlier found told survives)
 
-  module _ (found : IsFoundAt Third (state g old)) (can : HasCleanDisk (state g old)
+  module _ (found : IsFoundAt Third (state g old)) (apart : IsApartAt (state g old)) (can : HasCleanDisk (state g old)
       → IsGrowable site.site (state g old).now) (mode : new.in_transaction ≡ false) where
-    module _ (survives : Survives (state g old) (state g new) (λ trees. IsTrue (state g old).is_open
+    third_store : HasCleanDisk (state g old) → IsStore (state g old).now.trees
+    third_store clean = let take = (can clean).1 in store_of Third (sha256 take.0) (state g old).now (found.found clean) take.1.named
+
+    module _ (other : HasCleanDisk (state g old) → ¬ HoldsText site.text (state g old).now.trees)
+        (survives : Survives (state g old) (state g new) (λ trees. IsTrue (state g old).is_open
         × IsGrown site.text (state g old).now.trees (office_over trees))) where
       before_growth : HasCleanDisk (state g new) → HasCleanDisk (state g old)
       before_growth = was_clean (state g old) (state g new) _ survives
@@ -231,17 +268,20 @@ module _ {S : Type 0} (g : Ghosts S) (site : TextOfSite) (old new : Held S) (cal
         tells = λ clean. (it clean).grown.tells;
         grown = λ clean. takes site.site (state g old).now.trees (can (before_growth clean)).1;
         own = λ clean. let take = (can (before_growth clean)).1 in never_earlier site.text take.0 (state g old).now.trees take.1;
+        apart = λ clean. apart_grown site.text (state g old).now.trees (state g new).now (it clean).grown (apart (before_growth clean));
+        was = λ clean. inr (third_store (before_growth clean));
+        there = λ clean some. third_store (before_growth clean);
         kept = λ clean. (it clean).grown.tables;
         unstarted = λ clean. let take = (can (before_growth clean)).1 in never_first take.0 (state g old).now.trees (tables_in (state g new).now.trees) take.1;
         refused = tt;
         unchanged = λ clean. tt;
-        crash = leaves_grown site (state g old) (state g new) found can survives;
+        crash = leaves_grown site (state g old) (state g new) found can other survives;
       }
 
       -- it wasn't
       pub not_grown : (HasCleanDisk (state g new) → IsUndone (state g old) (state g new)) → PreparesTables g site old new (Err Failed)
       not_grown undone = unprepared g site old new Failed mode (undone_failed Third found before_growth undone)
-          (λ clean. undone_keeps (state g old) (state g new) (undone clean)) (leaves_grown site (state g old) (state g new) found can survives)
+          (λ clean. undone_keeps (state g old) (state g new) (undone clean)) (leaves_grown site (state g old) (state g new) found can other survives)
 
     -- whether the text is there was asked
     module _ (r : Result Bool Error) (tests : Tests g old new r (λ db same. IsTrue same ↔ HoldsText site.text db)) where
@@ -274,6 +314,9 @@ module _ {S : Type 0} (g : Ghosts S) (site : TextOfSite) (old new : Held S) (cal
               (holds clean)) (take clean).1);
           grown = λ clean. takes site.site (state g old).now.trees (take clean);
           own = λ clean. never_earlier site.text (take clean).0 (state g old).now.trees (take clean).1;
+          apart = λ clean. subst (λ (d : Database). HasApartAddresses d.trees) (sym (tests.same clean).0.now_is) (apart (before clean));
+          was = λ clean. inr (third_store (before clean));
+          there = λ clean some. third_store (before clean);
           kept = λ clean. ap (λ (d : Database). tables_in d.trees) (tests.same clean).0.now_is;
           unstarted = λ clean. never_first (take clean).0 (state g old).now.trees (tables_in (state g new).now.trees) (take clean).1;
           refused = tt;
@@ -316,6 +359,9 @@ prepared_after g site old mid new r Says test it = record {
   tells = it.tells;
   grown = λ clean. grown_too r (same clean) (it.grown clean);
   own = λ clean. own_too r (same clean) (it.own clean);
+  apart = it.apart;
+  was = λ clean. was_too r (same clean) (it.was clean);
+  there = λ clean. there_too r (same clean) (it.there clean);
   kept = λ clean. kept r (same clean) (it.kept clean);
   unstarted = λ clean. unstarted_too r (same clean) (it.unstarted clean);
   refused = it.refused;
@@ -356,6 +402,17 @@ prepared_after g site old mid new r Says test it = record {
         → OnOk r (TakesOwn site.text (state g old).now.trees)
     own_too (Ok _) e h = subst (λ (d : Database). TakesOwn site.text d.trees) e h
     own_too (Err _) e h = tt
+
+    was_too : (r : Result (Unit {0}) OpenFault) → (state g mid).now ≡ (state g old).now
+        → OnOk r (IsStoreOrNone (state g mid).now.trees) → OnOk r (IsStoreOrNone (state g old).now.trees)
+    was_too (Ok _) e h = subst (λ (d : Database). IsStoreOrNone d.trees) e h
+    was_too (Err _) e h = tt
+
+    there_too : (r : Result (Unit {0}) OpenFault) → (state g mid).now ≡ (state g old).now
+        → OnOk r ((state g mid).now.schema ≢ no_schema → IsStore (state g mid).now.trees)
+        → OnOk r ((state g old).now.schema ≢ no_schema → IsStore (state g old).now.trees)
+    there_too (Ok _) e h = subst (λ (d : Database). d.schema ≢ no_schema → IsStore d.trees) e h
+    there_too (Err _) e h = tt
 
     keeps : (r : Result (Unit {0}) OpenFault) → IsUnchanged (state g old) (state g mid)
         → IfErr r (λ _. KeepsCommit (state g mid) (state g new)) → IfErr r (λ _. KeepsCommit (state g old) (state g new))

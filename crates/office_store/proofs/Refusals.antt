@@ -18,8 +18,9 @@ use Rattle.office_store.specs.declared.fault.OpenFault.{OpenFault}
 use Rattle.office_store.specs.declared.fault.OpenFault.TheVariants.{OtherSite, OtherTables, Failed}
 use Rattle.office_store.specs.declared.meta.Meta.{Meta}
 use Rattle.office_store.specs.declared.version.Version.{Version}
-use Rattle.office_store.specs.declared.version.Version.TheVariants.{First, Second, Third}
+use Rattle.office_store.specs.declared.version.Version.TheVariants.{Earliest, Early, First, Second, Third}
 use Rattle.office_store.specs.Adopting.{AreStartsAsked, CanTake, Examines, HasOtherTables, IsFoundAt, IsOfOtherSite, IsOther, IsShownText, TellsOther}
+use Rattle.office_store.specs.Addresses.{HasApartAddresses}
 use Rattle.office_store.specs.Found.{HasStarts, HasWhole, IsFound, Tests}
 use Rattle.office_store.specs.Meta.{meta_of_version, metas_in, IsMetaOf, HasMeta}
 use Rattle.office_store.specs.Texts.{IsGrownFrom, ShowTexts}
@@ -38,6 +39,8 @@ is_err X (Err told) fault is x = subst (λ f. X (Err f)) (sym is) x
 
 -- a store of an earlier version that tells another site is another site's
 is_other : (site : TextOfSite) (version : Version) (db : Trees) → version ≢ Third → TellsOther version (sha256 site.text) db → IsOther site version db
+is_other site Earliest db earlier other = other
+is_other site Early db earlier other = other
 is_other site First db earlier other = other
 is_other site Second db earlier other = other
 is_other site Third db earlier other = absurd (earlier refl)
@@ -179,6 +182,17 @@ module _ {S : Type 0} (g : Ghosts S) (site : TextOfSite) (old new : Held S)
       ∙ low) in
       inr (version, schema_after answer _ tests clean, inr (inr (inl (are_asked, lacks)))))
 
+  -- and one address in two records
+  pub twice_found : (answer : Bool) → answer ≡ false → Tests {E = Error} g old new (Ok answer) (λ db apart. IsTrue apart ↔ HasApartAddresses db)
+      → (Says : Database → Type 0) → Examines g site old new (Err OtherTables) Says
+  twice_found answer twice tests Says = not_passed (Ok answer) _ tests OtherTables Says (λ clean told. absurd (let e = told in cc))
+      (λ clean _.
+      let same = same_trees answer _ tests clean in
+      let meets = λ (apart : HasApartAddresses (state g new).now.trees). true≢false
+      (sym ((tests.answer clean).1 (subst (λ (d : Database). HasApartAddresses d.trees) same apart))
+      ∙ twice) in
+      inr (version, schema_after answer _ tests clean, inr (inr (inr (inr meets)))))
+
   module _ (meta : Option Meta) (tests : Tests {E = Error} g old new (Ok meta) (λ db row. IsMetaOf (metas_in db) row)) where
     told : HasCleanDisk (state g new) → IsMetaOf (metas_in (state g new).now.trees) meta
     told clean = subst (λ (d : Database). IsMetaOf (metas_in d.trees) meta) (sym (same_trees meta _ tests clean)) (tests.answer clean)
@@ -246,6 +260,6 @@ module _ {S : Type 0} (g : Ghosts S) (site : TextOfSite) (old new : Held S)
         inr (
           Third,
           is_third clean,
-          inr (inr (inr (λ text utf tells.
-              never is text utf (tells_shown text _ read.0 read.1.items (after clean) tells)))),
+          inr (inr (inr (inl (λ text utf tells.
+              never is text utf (tells_shown text _ read.0 read.1.items (after clean) tells))))),
         ))

@@ -6,7 +6,7 @@ use Rattle.sqlite.specs.Order.{Row}
 use Rattle.sqlite.specs.Tree.{Trees}
 use Rattle.office_store.specs.declared.meta.Meta.{Meta}
 use Rattle.office_store.specs.declared.version.Version.{Version}
-use Rattle.office_store.specs.declared.version.Version.TheVariants.{First, Second, Third}
+use Rattle.office_store.specs.declared.version.Version.TheVariants.{Earliest, Early, First, Second, Third}
 use Rattle.office_store.specs.Adopting.{IsShownText}
 use Rattle.office_store.specs.Meta.{metas_in, new_meta, HoldsSite, IsMetaOf, HasMeta}
 use Rattle.office_store.specs.Texts.{ShowTexts}
@@ -35,6 +35,8 @@ site_once version version2 site other db one two = ap site_in (sym one ∙ two)
 
 -- a store of an earlier version isn't of the third
 pub not_third : (version : Version) (site other : List ℕ) (db : Trees) → version ≢ Third → HasMeta version site db → HasMeta Third other db → ⊥
+not_third Earliest site other db earlier one two = let e : ◌≡◌ {A = ℕ} 1 3 = told_once Earliest Third site other db one two in absurd (cc)
+not_third Early site other db earlier one two = let e : ◌≡◌ {A = ℕ} 1 3 = told_once Early Third site other db one two in absurd (cc)
 not_third First site other db earlier one two = let e : ◌≡◌ {A = ℕ} 1 3 = told_once First Third site other db one two in absurd (cc)
 not_third Second site other db earlier one two = let e : ◌≡◌ {A = ℕ} 2 3 = told_once Second Third site other db one two in absurd (cc)
 not_third Third site other db earlier one two = earlier refl

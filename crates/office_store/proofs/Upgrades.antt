@@ -20,14 +20,14 @@ use Rattle.office_sql.proofs.Offices.{meta_changed, text_changed}
 use Rattle.office_sql.proofs.StartsFilled.{Starts, silent_start}
 use Rattle.sha2.specs.Sha256.{sha256}
 use Rattle.office_store.specs.declared.version.Version.{Version}
-use Rattle.office_store.specs.declared.version.Version.TheVariants.{First, Second, Third}
-use Rattle.office_store.specs.Found.{HasStarts, IsFound}
+use Rattle.office_store.specs.declared.version.Version.TheVariants.{Earliest, Early, First, Second, Third}
+use Rattle.office_store.specs.Found.{HasStarts, IsFound, TellsNoStart}
 use Rattle.office_store.specs.Growing.{IsGrown, ReplacesName}
 use Rattle.office_store.specs.Meta.{meta_in, HasMeta}
 use Rattle.office_store.specs.Texts.{IsOnlyText}
 use Rattle.office_store.specs.Upgrading.{GainsLater, GainsNone, GainsNoStart, GainsText, IsFilled, IsUpgrade, KeepsAllBut, LacksGivenStarts}
 use Rattle.office_store.specs.Upgrading.{LacksOrderStarts, PutsText, TellsItself, TellsThird}
-use Rattle.office_store.specs.Versions.{schema_of}
+use Rattle.office_store.specs.Versions.{IsEarly, schema_of}
 use Rattle.office_store.proofs.CreateStarts.{all_front}
 
 -- what was filled says nothing
@@ -75,15 +75,15 @@ as_none : {A : Type 0} (is_for : A → Row → Bool) (starts none : List Row) (a
     → none ≡ [] → start_in_rows is_for starts a ≡ start_in_rows is_for none a
 as_none is_for starts none a silent empty = silent_start is_for starts a silent ∙ sym (ap (λ l. start_in_rows is_for l a) empty)
 
--- ---- a database of the first version
+-- ---- a database of a version with the number 1
 
-module _ (x y : Database) (found : IsFound First x) (gains : GainsLater x y) where
+module _ (x y : Database) (rows : AreOfficeRows x.trees) (unstarted : TellsNoStart x.trees) (gains : GainsLater x y) where
   -- once the tables are made, they can be filled
   pub lacks_orders : LacksOrderStarts y
   lacks_orders = record {
     schema = gains.schema;
     rows = subst (AreRows IsOrderRow order_cmp order_in_row)
-        (sym gains.others.1.1.1.1.0) found.rows.orders;
+        (sym gains.others.1.1.1.1.0) rows.orders;
     none = gains.orders;
   }
 
@@ -91,7 +91,7 @@ module _ (x y : Database) (found : IsFound First x) (gains : GainsLater x y) whe
   lacks_given = record {
     schema = gains.schema;
     rows = subst (AreRows IsGivenRow given_cmp given_in_row)
-        (sym gains.others.1.1.1.1.1.1.0) found.rows.given;
+        (sym gains.others.1.1.1.1.1.1.0) rows.given;
     none = gains.given;
   }
 
@@ -135,26 +135,45 @@ module _ (x y : Database) (found : IsFound First x) (gains : GainsLater x y) whe
     no_order_starts : with_order_start (z.trees 17) ≡ with_order_start (x.trees 17)
     no_order_starts i o =
         let silent = subst (AllByRecursion (λ s. column s 3 ≡ Null)) (sym order_starts) orders.silent in
-        record o { row = record o.row { not_before = as_none starts_order (z.trees 17) (x.trees 17) o silent found.starts.0 i } }
+        record o { row = record o.row { not_before = as_none starts_order (z.trees 17) (x.trees 17) o silent unstarted.0 i } }
 
     no_given_starts : with_given_start (z.trees 19) ≡ with_given_start (x.trees 19)
-    no_given_starts i o = record o { row = record o.row { not_before = as_none starts_given (z.trees 19) (x.trees 19) o given.silent found.starts.1 i } }
+    no_given_starts i o = record o { row = record o.row { not_before = as_none starts_given (z.trees 19) (x.trees 19) o given.silent unstarted.1 i } }
 
     -- all is as the office has it, and says what it said
-    pub first_filled : IsFilled First x z
-    first_filled = record {
+    filled_as : (version : Version) → KeepsRows (schema_of version).tables x.trees z.trees → IsFilled version x z
+    filled_as version stand = record {
       office = record {
         schema = given.schema;
         sound = given.sound;
-        rows = office_rows x.trees z.trees rows_stand found.rows;
+        rows = office_rows x.trees z.trees rows_stand rows;
         orders_started = subst₂ (AreStarted starts_order order_in_row)
             (sym (given.others.1.1.1.1.0 (eqb-false _ _ refl) ∙ orders.others.1.1.1.1.0 (eqb-false _ _ refl))) (sym order_starts) orders.started;
         given_started = subst (λ l. AreStarted starts_given given_in_row l (z.trees 19)) (sym (given.others.1.1.1.1.1.1.0 (eqb-false _ _ refl))) given.started;
       };
       tables = tables_same x.trees z.trees rows_stand no_order_starts no_given_starts;
-      rows = rows_stand;
+      rows = stand;
       none = given.others.1.1.1.1.1.1.1.1.1.1.0 (eqb-false _ _ refl) ∙ orders.others.1.1.1.1.1.1.1.1.1.1.0 (eqb-false _ _ refl) ∙ gains.texts;
     }
+
+    -- of the first version, and of one before it
+    pub first_filled : IsFilled First x z
+    first_filled = filled_as First rows_stand
+
+    pub early_filled : (version : Version) → IsEarly version → IsFilled version x z
+    early_filled Earliest early = filled_as Earliest rows_stand
+    early_filled Early early = filled_as Early rows_stand
+    early_filled First early = absurd early
+    early_filled Second early = absurd early
+    early_filled Third early = absurd early
+
+-- no beginning of validity is told in a version before the first
+pub early_unstarted : (version : Version) → IsEarly version → (x : Database) → IsFound version x → TellsNoStart x.trees
+early_unstarted Earliest early x found = found.starts
+early_unstarted Early early x found = found.starts
+early_unstarted First early x found = absurd early
+early_unstarted Second early x found = absurd early
+early_unstarted Third early x found = absurd early
 
 -- ---- one of the second
 
@@ -180,6 +199,8 @@ second_filled x z found starts gains =
 
 -- a store that is filled tells of itself what it told
 meta_stands : (version : Version) (x z : Database) → IsFilled version x z → z.trees 0 ≡ x.trees 0
+meta_stands Earliest x z filled = filled.rows.0
+meta_stands Early x z filled = filled.rows.0
 meta_stands First x z filled = filled.rows.0
 meta_stands Second x z filled = filled.rows.0
 meta_stands Third x z filled = filled.rows.0
@@ -205,6 +226,18 @@ stands x z u w (t ∷ tables) apart puts tells same =
 
 rows_upgraded : (version : Version) → version ≢ Third → (x z u w : Database) → IsFilled version x z
     → (text : List ℕ) → PutsText text z u → TellsThird u w → KeepsAllBut 0 (schema_of version).tables x.trees w.trees
+rows_upgraded Earliest earlier x z u w filled text puts tells =
+    let rest = order_start_table ∷ given_start_table ∷ site_text_table ∷ [] in
+    let tables = (schema_of Earliest).tables in
+    stands x.trees z.trees u.trees w.trees tables (refl, (refl, (refl, (refl, (refl, (refl, (refl, (refl, tt))))))))
+    (all_front (λ t. t.tree ≢ 21 → u.trees t.tree ≡ z.trees t.tree) tables rest puts.others)
+    (all_front (λ t. t.tree ≢ 0 → w.trees t.tree ≡ u.trees t.tree) tables rest tells.others) filled.rows
+rows_upgraded Early earlier x z u w filled text puts tells =
+    let rest = order_start_table ∷ given_start_table ∷ site_text_table ∷ [] in
+    let tables = (schema_of Early).tables in
+    stands x.trees z.trees u.trees w.trees tables (refl, (refl, (refl, (refl, (refl, (refl, (refl, (refl, tt))))))))
+    (all_front (λ t. t.tree ≢ 21 → u.trees t.tree ≡ z.trees t.tree) tables rest puts.others)
+    (all_front (λ t. t.tree ≢ 0 → w.trees t.tree ≡ u.trees t.tree) tables rest tells.others) filled.rows
 rows_upgraded First earlier x z u w filled text puts tells =
     let rest = order_start_table ∷ given_start_table ∷ site_text_table ∷ [] in
     let tables = (schema_of First).tables in

@@ -12,7 +12,7 @@ use Rattle.sqlite.specs.Effect.{Database}
 use Rattle.sqlite.specs.Store.{Ghosts}
 use Rattle.sqlite.specs.Held.{Held, state}
 use Rattle.sqlite.specs.State.{State, HasCleanDisk, IsUnchanged, KeepsCommit, Survives}
-use Rattle.office_tables.specs.Tables.{Tables, no_rows}
+use Rattle.office_tables.specs.Tables.{Tables}
 use Rattle.office_sql.specs.Change.{Rests}
 use Rattle.office_sql.specs.Keeping.{IsReady}
 use Rattle.office_sql.specs.Schema.{no_schema}
@@ -22,11 +22,13 @@ use Rattle.office_store.specs.declared.adopting.Handed.TheVariants as handed
 use Rattle.office_store.specs.declared.fault.OpenFault.{OpenFault}
 use Rattle.office_store.specs.declared.fault.OpenFault.TheVariants.{OtherSite, OtherTables, Failed}
 use Rattle.office_store.specs.declared.version.Version.{Version}
-use Rattle.office_store.specs.declared.version.Version.TheVariants.{First, Second, Third}
+use Rattle.office_store.specs.declared.version.Version.TheVariants.{Earliest, Early, First, Second, Third}
+use Rattle.office_store.specs.Addresses.{HasApartAddresses}
 use Rattle.office_store.specs.Found.{HasStarts, HasWhole, IsFound}
-use Rattle.office_store.specs.Meta.{metas_in, HasNothing, HoldsSite, IsBegun, HasMeta, TellNoSite, new_meta}
+use Rattle.office_store.specs.Meta.{metas_in, HoldsSite, IsBegun, HasMeta, TellNoSite, new_meta}
 use Rattle.office_store.specs.Growing.{IsGrown}
-use Rattle.office_store.specs.Texts.{IsGrownFrom, IsOnlyText}
+use Rattle.office_store.specs.Stores.{HasSchema, IsNoStore, IsStore, IsStoreOrNone}
+use Rattle.office_store.specs.Texts.{HoldsText, IsGrownFrom, IsOnlyText}
 use Rattle.office_store.specs.declared.meta.Meta.{Meta}
 use Rattle.office_store.specs.Upgrading.{IsUpgrade}
 use Rattle.office_store.specs.Versions.{schema_of, IsOfNoVersion}
@@ -37,18 +39,26 @@ FindsVersion db =
     (version : Version) → db.schema ≡ schema_of version → HasWhole db.trees → IsFound version db
 
 -- no transaction is under way and what was committed is shown; a schema of a version is that of a
--- database of the version, if no number is below zero; and with no schema there is no row
+-- database of the version, if no number is below zero; and with no schema there is no store yet
 pub record CanPrepareTables (s : State) : Type 0 where
   pub mode : s.in_transaction ≡ false
   pub shows_committed : HasCleanDisk s → s.now ≡ s.committed
   pub found : HasCleanDisk s → FindsVersion s.now
-  pub bare : HasCleanDisk s → s.now.schema ≡ no_schema → HasNothing s.now.trees
+  pub bare : HasCleanDisk s → s.now.schema ≡ no_schema → IsNoStore s.now.trees
 
 -- the same once its numbers were tested
 pub record IsFoundAt (version : Version) (s : State) : Type 0 where
   pub mode : s.in_transaction ≡ false
   pub shows_committed : HasCleanDisk s → s.now ≡ s.committed
   pub found : HasCleanDisk s → IsFound version s.now
+
+-- and once its addresses were: no two records have one
+abbrev pub IsApartAt : State → Type 0
+IsApartAt s = HasCleanDisk s → HasApartAddresses s.now.trees
+
+-- a database of a version, in which no two records have one address
+abbrev pub IsFoundApart : Version → Database → Type 0
+IsFoundApart version db = IsFound version db × HasApartAddresses db.trees
 
 -- the store tells of a text that has this SHA-256
 pub record IsOurs (site : List ℕ) (db : Trees) : Type 0 where
@@ -71,6 +81,8 @@ HoldsOther site db = (text : List ℕ) × HoldsSite text db × ¬ IsGrownFrom te
 
 -- a store of another site, by its version
 abbrev pub IsOther : TextOfSite → Version → Trees → Type 0
+IsOther site Earliest db = TellsOther Earliest (sha256 site.text) db
+IsOther site Early db = TellsOther Early (sha256 site.text) db
 IsOther site First db = TellsOther First (sha256 site.text) db
 IsOther site Second db = TellsOther Second (sha256 site.text) db
 IsOther site Third db = HoldsOther site.site db
@@ -86,6 +98,8 @@ IsOtherSchema schema = (schema ≢ no_schema) × IsOfNoVersion schema
 -- the beginnings of validity are asked for in a store of the second version and this site, and of
 -- the third
 abbrev pub AreStartsAsked : List ℕ → Version → Trees → Type 0
+AreStartsAsked site Earliest db = ⊥
+AreStartsAsked site Early db = ⊥
 AreStartsAsked site First db = ⊥
 AreStartsAsked site Second db = HasMeta Second site db
 AreStartsAsked site Third db = ⊤
@@ -100,11 +114,12 @@ LacksText Third db = (text : List ℕ) → IsUtf8 text → ¬ HoldsSite text db
 LacksText _ db = ⊥
 
 -- rows that aren't a version's: with a number of a map or of an entry below zero, with a meta that
--- tells no site, without a beginning of validity, or without the site's text
+-- tells no site, without a beginning of validity, without the site's text, or with one address in
+-- two records
 abbrev pub HasOtherRows : List ℕ → Version → Trees → Type 0
 HasOtherRows site version db =
     (¬ HasWhole db) ⊎ TellNoSite version (metas_in db) ⊎ LacksStarts site version db
-    ⊎ LacksText version db
+    ⊎ LacksText version db ⊎ ¬ HasApartAddresses db
 
 -- the tables are other ones: by their schema, or by the rows in a schema of a version
 abbrev pub HasOtherTables : List ℕ → Database → Type 0
@@ -132,12 +147,13 @@ pub record Examines {S : Type 0} (g : Ghosts S) (site : TextOfSite) (old new : H
 
 -- the tables of a store that had none, whole: all of them, with no row but those that tell of the text
 abbrev pub IsMadeFor : List ℕ → State → Trees → Type 0
-IsMadeFor text before db = (tables_in before.committed.trees ≡ no_rows) × IsBegun text (office_over db)
+IsMadeFor text before db = IsNoStore before.committed.trees × IsBegun text (office_over db)
 
 -- the tables of a store of an earlier version and this site, upgraded, whole
 abbrev pub IsUpgradedFor : List ℕ → State → Trees → Type 0
 IsUpgradedFor text before db =
-    (version : Version) × (version ≢ Third) × HasMeta version (sha256 text) before.committed.trees
+    (version : Version) × (version ≢ Third) × HasSchema (schema_of version) before.committed.trees
+    × HasMeta version (sha256 text) before.committed.trees
     × IsUpgrade version text before.committed.trees (office_over db)
 
 -- the store told of a text of which the site is a growth
@@ -148,10 +164,13 @@ CanTake site db = (text : List ℕ) × HoldsSite text db × IsGrownFrom text sit
 abbrev pub IsGrowable : SiteValue → Database → Type 0
 IsGrowable site db = HasStarts db.trees × CanTake site db.trees
 
--- the tables of a store that told of a text of which the site is a growth, with the new text, whole
+-- the tables of a store that told of another text, of which the site is a growth, with the new text,
+-- whole: a store that holds the text stays as it is
 abbrev pub IsGrownFor : TextOfSite → State → Trees → Type 0
 IsGrownFor site before db =
-    CanTake site.site before.committed.trees × IsGrown site.text before.committed.trees (office_over db)
+    HasSchema (schema_of Third) before.committed.trees × CanTake site.site before.committed.trees
+    × (¬ HoldsText site.text before.committed.trees)
+    × IsGrown site.text before.committed.trees (office_over db)
 
 -- what the one transaction may leave
 abbrev pub IsPreparedFor : TextOfSite → State → Trees → Type 0
@@ -182,8 +201,9 @@ TakesOwn text before =
     (version : Version) (other : List ℕ) → version ≢ Third → HasMeta version other before → other ≡ sha256 text
 
 -- an answer leaves the connection open and ready, with the tables that it had, and of the first
--- version with no beginning of validity; the store tells of the site's text, and told of none of
--- which the site is no growth, and in an earlier version of this one; a fault leaves what was
+-- version with no beginning of validity; it was a store of a version, or there was none yet, and no
+-- schema; the store tells of the site's text, and told of none of which the site is no growth, and
+-- in an earlier version of this one; no two records have one address; a fault leaves what was
 -- committed; and a crash leaves what it left before, or what the one transaction makes
 pub record PreparesTables {S : Type 0} (g : Ghosts S) (site : TextOfSite) (old new : Held S)
     (result : Result (Unit {0}) OpenFault) : Type 0 where
@@ -192,6 +212,10 @@ pub record PreparesTables {S : Type 0} (g : Ghosts S) (site : TextOfSite) (old n
   pub tells : HasCleanDisk (state g new) → OnOk result (HoldsSite site.text (state g new).now.trees)
   pub grown : HasCleanDisk (state g new) → OnOk result (TakesGrowth site.site (state g old).now.trees)
   pub own : HasCleanDisk (state g new) → OnOk result (TakesOwn site.text (state g old).now.trees)
+  pub apart : HasCleanDisk (state g new) → OnOk result (HasApartAddresses (state g new).now.trees)
+  pub was : HasCleanDisk (state g new) → OnOk result (IsStoreOrNone (state g old).now.trees)
+  pub there : HasCleanDisk (state g new) → OnOk result
+      ((state g old).now.schema ≢ no_schema → IsStore (state g old).now.trees)
   pub kept : HasCleanDisk (state g new) → OnOk result (tables_in (state g new).now.trees ≡ tables_in (state g old).now.trees)
   pub unstarted : HasCleanDisk (state g new) → OnOk result
       (StaysUnstarted (state g old).now.trees (tables_in (state g new).now.trees))

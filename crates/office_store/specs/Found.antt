@@ -16,8 +16,8 @@ use Rattle.sqlite.specs.Effect.{Database, IsDatabase}
 use Rattle.office_sql.specs.Rows.{order_in_row, given_in_row, starts_order, starts_given}
 use Rattle.office_sql.specs.Tables.{AreOfficeRows, AreStarted}
 use Rattle.office_store.specs.declared.version.Version.{Version}
-use Rattle.office_store.specs.declared.version.Version.TheVariants.{First, Second, Third}
-use Rattle.office_store.specs.Versions.{schema_of}
+use Rattle.office_store.specs.declared.version.Version.TheVariants.{Earliest, Early, First, Second, Third}
+use Rattle.office_store.specs.Versions.{number_of_version, schema_of}
 
 -- as SQL sees it
 abbrev pub is_below : Value → Bool
@@ -52,10 +52,16 @@ pub record AreAllStarted (trees : Trees) : Type 0 where
   pub orders : AreStarted starts_order order_in_row (trees 7) (trees 17)
   pub given : AreStarted starts_given given_in_row (trees 11) (trees 19)
 
--- beside the office's rows: in the first version no beginning of validity is told, and in the
--- others, where none lacks, each order and each record has exactly one
+-- no beginning of validity is told
+abbrev pub TellsNoStart : Trees → Type 0
+TellsNoStart db = (db 17 ≡ []) × (db 19 ≡ [])
+
+-- beside the office's rows: in the versions with the number 1 no beginning of validity is told, and
+-- in the others, where none lacks, each order and each record has exactly one
 abbrev pub AreStartsFound : Version → Database → Type 0
-AreStartsFound First db = (db.trees 17 ≡ []) × (db.trees 19 ≡ [])
+AreStartsFound Earliest db = TellsNoStart db.trees
+AreStartsFound Early db = TellsNoStart db.trees
+AreStartsFound First db = TellsNoStart db.trees
 AreStartsFound Second db = HasStarts db.trees → AreAllStarted db.trees
 AreStartsFound Third db = HasStarts db.trees → AreAllStarted db.trees
 
@@ -68,7 +74,7 @@ pub record IsFound (version : Version) (db : Database) : Type 0 where
 
 -- a database of a version in which beginnings of validity are told
 abbrev pub IsFoundLater : Database → Type 0
-IsFoundLater db = (version : Version) × (version ≢ First) × IsFound version db
+IsFoundLater db = (version : Version) × (number_of_version version ≢ 1) × IsFound version db
 
 -- an open connection sees a database of which this is so
 abbrev pub Sees : (Database → Type 0) → State → Type 0

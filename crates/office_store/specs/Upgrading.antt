@@ -18,7 +18,7 @@ use Rattle.office_store.specs.declared.version.Version.TheVariants.{First, Secon
 use Rattle.office_store.specs.Found.{HasStarts, IsFound, Sees}
 use Rattle.office_store.specs.Meta.{HasMeta}
 use Rattle.office_store.specs.Texts.{HoldsText}
-use Rattle.office_store.specs.Versions.{schema_of}
+use Rattle.office_store.specs.Versions.{number_of_version, schema_of}
 
 -- the rows of these tables stand, but for those of one tree
 abbrev pub KeepsAllBut : ℕ → List Table → Trees → Trees → Type 0
@@ -42,6 +42,7 @@ pub record GainsText (old new : Database) : Type 0 where
 -- the tables of the first version stand, and the others are made, with no row
 pub record GainsLater (old new : Database) : Type 0 where
   pub schema : new.schema ≡ office_schema
+  pub sound : IsDatabase new
   pub orders : new.trees 17 ≡ []
   pub given : new.trees 19 ≡ []
   pub texts : new.trees 21 ≡ []
@@ -115,7 +116,7 @@ pub record CanUpgrade (version : Version) (s : State) : Type 0 where
   pub earlier : version ≢ Third
   pub found : Sees (IsFound version) s
   pub told : Sees (λ db. TellsItself version db.trees) s
-  pub started : version ≢ First → Sees (λ db. HasStarts db.trees) s
+  pub started : number_of_version version ≢ 1 → Sees (λ db. HasStarts db.trees) s
 
 -- it was made, and was committed
 pub record IsUpgraded (version : Version) (text : List ℕ) (old new : State) : Type 0 where

@@ -1,11 +1,16 @@
 -- The schemas that a database of the office may have, and the numbers by which a store tells them.
-use Rattle.std.specs.Prelude.{◌≢◌, ℕ, [], take}
+use Rattle.std.specs.Prelude.{◌≢◌, ⊤, ℕ, List, [], ◌∷◌, ◌++◌, codes, take, drop}
+use Rattle.sqlite.specs.Table.{Table}
 use Rattle.sqlite.specs.Schema.{Schema}
-use Rattle.office_sql.specs.Schema.{office_schema}
+use Rattle.sqlite_schema.specs.declared.schema.Index.{Index}
+use Rattle.sqlite_value.specs.Keys.{plain}
+use Rattle.office_sql.specs.Schema.{office_schema, given_table, ledger_table, index_at}
 use Rattle.office_store.specs.declared.version.Version.{Version}
-use Rattle.office_store.specs.declared.version.Version.TheVariants.{First, Second, Third}
+use Rattle.office_store.specs.declared.version.Version.TheVariants.{Earliest, Early, First, Second, Third}
 
 abbrev pub number_of_version : Version → ℕ
+number_of_version Earliest = 1
+number_of_version Early = 1
 number_of_version First = 1
 number_of_version Second = 2
 number_of_version Third = 3
@@ -18,12 +23,41 @@ first_tables tables indexes = record {
   views = [];
 }
 
+-- the table `given` with these three keys
+abbrev pub given_keyed : List ℕ → List ℕ → List ℕ → Table
+given_keyed one two three =
+    record given_table { uniques = one ∷ two ∷ three ∷ []; orders = plain ∷ plain ∷ plain ∷ [] }
+
+-- and the indexes of its keys
+abbrev pub given_indexes : List ℕ → List ℕ → List ℕ → List Index
+given_indexes one two three =
+    index_at 12 (codes "sqlite_autoindex_given_1") 11 one
+    ∷ index_at 13 (codes "sqlite_autoindex_given_2") 11 two
+    ∷ index_at 14 (codes "sqlite_autoindex_given_3") 11 three ∷ []
+
+-- the first version's schema with such a `given`
+abbrev pub schema_keyed : List ℕ → List ℕ → List ℕ → Schema
+schema_keyed one two three = record {
+  tables = take 6 office_schema.tables ++ given_keyed one two three ∷ ledger_table ∷ [];
+  indexes = take 5 office_schema.indexes ++ given_indexes one two three
+      ++ take 1 (drop 8 office_schema.indexes);
+  views = [];
+}
+
 -- the schema of a version: the first has no table of beginnings of validity, and neither it nor the
--- second one of the site's text
+-- second one of the site's text; before it `given` had a key of the address alone, named last or first
 abbrev pub schema_of : Version → Schema
+schema_of Earliest = schema_keyed (1 ∷ 2 ∷ []) (1 ∷ 4 ∷ []) (6 ∷ [])
+schema_of Early = schema_keyed (6 ∷ []) (1 ∷ 2 ∷ []) (1 ∷ 4 ∷ [])
 schema_of First = first_tables 8 9
 schema_of Second = first_tables 10 11
 schema_of Third = office_schema
+
+-- a version whose `given` has a key of the address alone
+abbrev pub IsEarly : Version → Type 0
+IsEarly Earliest = ⊤
+IsEarly Early = ⊤
+IsEarly _ = ⊥
 
 -- a schema that no version has
 abbrev pub IsOfNoVersion : Schema → Type 0

@@ -5,19 +5,23 @@ ghost use Rattle.sqlite.specs.Held.{state};
 ghost use Rattle.office_sql.specs.Schema.{no_schema};
 ghost use Rattle.office_sql.specs.Tables.{tables_in};
 ghost use Rattle.office_store.specs.Adopting.{AreStartsAsked, CanPrepareTables, CanTake, Examines, HandedKeeps, HandedLeaves, IsFoundAt, IsGrowable};
-ghost use Rattle.office_store.specs.Adopting.{IsHandedFor, IsOurs, IsShownText, LeavesAtMost, PreparesTables, StaysUnstarted, TakesGrowth, TakesOwn};
+ghost use Rattle.office_store.specs.Adopting.{IsApartAt, IsFoundApart, IsHandedFor, IsOurs, IsShownText, LeavesAtMost, PreparesTables};
+ghost use Rattle.office_store.specs.Adopting.{StaysUnstarted, TakesGrowth, TakesOwn};
+ghost use Rattle.office_store.specs.Addresses.{HasApartAddresses};
 ghost use Rattle.office_store.specs.Found.{HasStarts, IsFound};
 ghost use Rattle.office_store.specs.Meta.{meta_of_version, new_meta, HasMeta};
+ghost use Rattle.office_store.specs.Stores.{IsStoreOrNone};
 ghost use Rattle.office_store.specs.Texts.{HoldsText, IsGrownFrom};
 ghost use Rattle.office_store.specs.Upgrading.{CanUpgrade};
-ghost use Rattle.office_store.specs.Versions.{schema_of};
+ghost use Rattle.office_store.specs.Versions.{number_of_version, schema_of};
 ghost use Rattle.office_store.specs.declared.fault.OpenFault.TheVariants.{OtherSite as TheSite, OtherTables as TheTables};
-ghost use Rattle.office_store.specs.declared.version.Version.TheVariants.{First, Second, Third};
+ghost use Rattle.office_store.specs.declared.version.Version.TheVariants.{Second, Third};
 ghost use Rattle.office_store.specs.declared.version.Version.{Version as TheVersion};
 ghost use Rattle.sha2.specs.Sha256.{sha256};
 ghost use Rattle.site_core.specs.SiteText.{TextOfSite};
 ghost use Rattle.std.specs.Str.{IsUtf8};
 
+use crate::addresses::has_apart_addresses;
 use crate::create::make_tables;
 use crate::fault::OpenFault;
 use crate::found::{has_starts, has_whole_numbers, reread};
@@ -96,6 +100,30 @@ fn test_numbers<S: Alter>(conn: &mut Connection<S>, version: Version) -> Result<
     }
 }
 
+/// Tests that no two records have one address.
+fn test_addresses<S: Alter>(conn: &mut Connection<S>) -> Result<(), OpenFault>
+    requires { (version : TheVersion) × IsFoundAt version (state S.Store conn.old) }
+    ensures { (site : TextOfSite) → Examines S.Store site conn.old conn.new result (λ db.
+        HasApartAddresses db.trees) }
+{
+    match has_apart_addresses(conn) {
+        Ok(true) => Ok(()),
+        Ok(false) => Err(OpenFault::OtherTables),
+        Err(_) => Err(OpenFault::Failed),
+    }
+}
+
+/// Tests the rows of a store that has the tables of a version: its numbers and its addresses.
+fn test_rows<S: Alter>(conn: &mut Connection<S>, version: Version) -> Result<(), OpenFault>
+    requires can { CanPrepareTables (state S.Store conn.old) }
+    requires has { (state S.Store conn.old).now.schema ≡ schema_of version }
+    ensures { (site : TextOfSite)
+        → Examines S.Store site conn.old conn.new result (IsFoundApart version) }
+{
+    test_numbers(conn, version)?;
+    test_addresses(conn)
+}
+
 /// Whether the store tells of a text: it is of the third version, and names the text's SHA-256.
 fn tells_text(meta: Option<Meta>, text: &str) -> bool
     ensures { IsTrue result ↔ (meta ≡ Some (new_meta (sha256 text.now))) }
@@ -159,8 +187,11 @@ fn test_growth<S: Alter>(
 /// Holds the text of a site that grew.
 fn grow<S: Alter>(conn: &mut Connection<S>, site: &SiteText) -> Result<(), OpenFault>
     requires found { IsFoundAt Third (state S.Store conn.old) }
+    requires apart { IsApartAt (state S.Store conn.old) }
     requires can { HasCleanDisk (state S.Store conn.old)
         → IsGrowable site.now.site (state S.Store conn.old).now }
+    requires other { HasCleanDisk (state S.Store conn.old)
+        → ¬ HoldsText site.now.text (state S.Store conn.old).now.trees }
     ensures { PreparesTables S.Store site.now conn.old conn.new result }
 {
     match grow_text(conn, site) {
@@ -186,7 +217,7 @@ fn test_site<S: Alter>(
     }
 }
 
-/// Tests a store that has the tables of an earlier version: its numbers, and whose site it is of.
+/// Tests a store that has the tables of an earlier version: its rows, and whose site it is of.
 fn test_tables<S: Alter>(
     conn: &mut Connection<S>,
     site: &SiteText,
@@ -196,15 +227,15 @@ fn test_tables<S: Alter>(
     requires can { CanPrepareTables (state S.Store conn.old) }
     requires has { (state S.Store conn.old).now.schema ≡ schema_of version }
     ensures { Examines S.Store site.now conn.old conn.new result
-        (λ db. IsFound version db × HasMeta version (sha256 site.now.text) db.trees) }
+        (λ db. IsFoundApart version db × HasMeta version (sha256 site.now.text) db.trees) }
 {
-    test_numbers(conn, version)?;
+    test_rows(conn, version)?;
     test_site(conn, site, version)
 }
 
 /// Tests that of each order and each record its beginning of validity is told.
 fn test_starts<S: Alter>(conn: &mut Connection<S>) -> Result<(), OpenFault>
-    requires { (version : TheVersion) × (version ≢ First)
+    requires { (version : TheVersion) × (number_of_version version ≢ 1)
         × IsFoundAt version (state S.Store conn.old) }
     ensures { (site : TextOfSite) → (version : TheVersion)
         → (HasCleanDisk (state S.Store conn.old) → (state S.Store conn.old).now.schema ≡ schema_of version
@@ -225,6 +256,7 @@ fn upgrade<S: Alter>(
     version: Version,
 ) -> Result<(), OpenFault>
     requires found { IsFoundAt version (state S.Store conn.old) }
+    requires apart { IsApartAt (state S.Store conn.old) }
     requires can { CanUpgrade version (state S.Store conn.old) }
     requires names_site { HasCleanDisk (state S.Store conn.old)
         → HasMeta version (sha256 site.now.text) (state S.Store conn.old).now.trees }
@@ -236,13 +268,19 @@ fn upgrade<S: Alter>(
     }
 }
 
-fn find_first<S: Alter>(conn: &mut Connection<S>, site: &SiteText) -> Result<(), OpenFault>
+/// Tests and upgrades a store whose version has the number 1.
+fn find_first<S: Alter>(
+    conn: &mut Connection<S>,
+    site: &SiteText,
+    version: Version,
+) -> Result<(), OpenFault>
+    requires first { number_of_version version ≡ 1 }
     requires can { CanPrepareTables (state S.Store conn.old) }
-    requires has { (state S.Store conn.old).now.schema ≡ schema_of First }
+    requires has { (state S.Store conn.old).now.schema ≡ schema_of version }
     ensures { PreparesTables S.Store site.now conn.old conn.new result }
 {
-    test_tables(conn, site, Version::First)?;
-    upgrade(conn, site, Version::First)
+    test_tables(conn, site, version)?;
+    upgrade(conn, site, version)
 }
 
 fn find_second<S: Alter>(conn: &mut Connection<S>, site: &SiteText) -> Result<(), OpenFault>
@@ -255,7 +293,7 @@ fn find_second<S: Alter>(conn: &mut Connection<S>, site: &SiteText) -> Result<()
     upgrade(conn, site, Version::Second)
 }
 
-/// Tests a store of the third version: its numbers, its beginnings of validity, and that the site is
+/// Tests a store of the third version: its rows, its beginnings of validity, and that the site is
 /// a growth of the one whose text it holds.
 fn test_third<S: Alter>(
     alloc: Global,
@@ -265,9 +303,9 @@ fn test_third<S: Alter>(
     requires can { CanPrepareTables (state S.Store conn.old) }
     requires has { (state S.Store conn.old).now.schema ≡ schema_of Third }
     ensures { Examines S.Store site.now conn.old conn.new result
-        (λ db. IsFound Third db × IsGrowable site.now.site db) }
+        (λ db. IsFoundApart Third db × IsGrowable site.now.site db) }
 {
-    test_numbers(conn, Version::Third)?;
+    test_rows(conn, Version::Third)?;
     test_starts(conn)?;
     test_growth(alloc, conn, site)
 }
@@ -275,6 +313,7 @@ fn test_third<S: Alter>(
 /// Holds the text of the site, where it isn't held.
 fn hold_text<S: Alter>(conn: &mut Connection<S>, site: &SiteText) -> Result<(), OpenFault>
     requires found { IsFoundAt Third (state S.Store conn.old) }
+    requires apart { IsApartAt (state S.Store conn.old) }
     requires can { HasCleanDisk (state S.Store conn.old)
         → IsGrowable site.now.site (state S.Store conn.old).now }
     ensures { PreparesTables S.Store site.now conn.old conn.new result }
@@ -312,7 +351,7 @@ fn find<S: Alter>(
     ensures { PreparesTables S.Store site.now conn.old conn.new result }
 {
     match version {
-        Version::First => find_first(conn, site),
+        Version::Earliest | Version::Early | Version::First => find_first(conn, site, version),
         Version::Second => find_second(conn, site),
         Version::Third => find_third(alloc, conn, site),
     }
@@ -361,6 +400,8 @@ pub fn adopt<S: Alter + Drop>(
         → TakesGrowth site.now.site (state S.Store conn).committed.trees) }
     ensures own { IfOk result (λ keep. HasCleanDisk (state S.Store keep.conn)
         → TakesOwn site.now.text (state S.Store conn).committed.trees) }
+    ensures apart { IfOk result (λ keep. HasCleanDisk (state S.Store keep.conn)
+        → HasApartAddresses (state S.Store keep.conn).now.trees) }
     ensures clean { IfOk result (λ keep. HasCleanDisk (state S.Store keep.conn)
         → HasCleanDisk (state S.Store conn)) }
     ensures tables { IfOk result (λ keep. HasCleanDisk (state S.Store keep.conn)
@@ -369,6 +410,8 @@ pub fn adopt<S: Alter + Drop>(
     ensures unstarted { IfOk result (λ keep. HasCleanDisk (state S.Store keep.conn)
         → StaysUnstarted (state S.Store conn).committed.trees
         (tables_in (state S.Store keep.conn).now.trees)) }
+    ensures was { IfOk result (λ keep. HasCleanDisk (state S.Store keep.conn)
+        → IsStoreOrNone (state S.Store conn).committed.trees) }
     ensures crash { IfOk result (λ keep. HasCleanDisk (state S.Store keep.conn)
         → LeavesAtMost site.now (state S.Store conn) (state S.Store keep.conn)) }
     ensures refused { IfErr result (λ e. IsHandedFor S.Store site.now e.0 e.1) }

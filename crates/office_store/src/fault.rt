@@ -10,8 +10,9 @@ pub enum OpenFault {
     /// The store is of another site.
     #[error("the store is of another site")]
     OtherSite,
-    /// The store has other tables than those of a version, tells of another one, or doesn't tell
-    /// the beginning of validity of an order or a record.
+    /// The store has other tables than those of a version, tells of another one, doesn't tell the
+    /// beginning of validity of an order or a record, or has one address in two records; or there is
+    /// none, where none is to be made.
     #[error("the store has other tables")]
     OtherTables,
     /// The store failed, or there is no memory.

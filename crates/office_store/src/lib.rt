@@ -1,6 +1,7 @@
 //! The keeper of the tables over SQL.
 #![tactic(auto)]
 
+mod addresses;
 mod adopting;
 mod create;
 mod ending;
@@ -12,6 +13,7 @@ mod maps;
 mod meta;
 mod opening;
 mod places;
+mod remake;
 mod remembered;
 mod schema;
 mod site_text;
@@ -23,4 +25,4 @@ pub use adopting::{Handed, adopt};
 pub use ending::into_store;
 pub use fault::OpenFault;
 pub use keep::SqlKeep;
-pub use opening::open;
+pub use opening::{Absent, open};

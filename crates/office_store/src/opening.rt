@@ -1,29 +1,76 @@
 // A store in files.
-ghost use Rattle.std.specs.Prelude.{◌≡◌, codes, IsTrue, IfOk};
+ghost use Rattle.std.specs.Prelude.{◌≡◌, ◌↔◌, false, codes, IsTrue, IfOk, IfErr};
 ghost use Rattle.sqlite.specs.Files.{file_state, HoldsDatabase};
 ghost use Rattle.sqlite.specs.Tree.{Trees};
 ghost use Rattle.sqlite.specs.Held.{state};
-ghost use Rattle.sqlite.specs.State.{HasCleanDisk};
+ghost use Rattle.sqlite.specs.State.{HasCleanDisk, Survives};
 ghost use Rattle.sqlite.specs.WalFiles.{image_at};
 ghost use Rattle.office_sql.specs.Tables.{tables_in};
-ghost use Rattle.office_store.specs.Adopting.{CanPrepareTables, IsOurs, StaysUnstarted, TakesGrowth, TakesOwn};
+ghost use Rattle.office_store.specs.Addresses.{HasApartAddresses};
+ghost use Rattle.office_store.specs.Adopting.{CanPrepareTables, IsOurs, IsPreparedFor, StaysUnstarted, TakesGrowth, TakesOwn};
 ghost use Rattle.office_store.specs.Texts.{HoldsText};
-ghost use Rattle.office_store.specs.Opening.{HasTablesOf};
+ghost use Rattle.office_store.specs.Opening.{HasTablesOf, IsTaken, IsTakenFrom, IsTurnedAway, LacksStore, NamesNoFile, TellsWhy, FilesHeld};
+ghost use Rattle.office_store.specs.declared.fault.OpenFault.TheVariants.{OtherTables};
+ghost use Rattle.office_store.specs.declared.opening.Absent.TheVariants.{Refuse};
 
 use crate::adopting::prepare_tables;
 use crate::fault::OpenFault;
 use crate::keep::SqlKeep;
+use crate::schema::is_empty_schema;
 use site_core::SiteText;
 use sqlite::{Alter, Connection, FileFrom, FileStore};
 use sqlite_disk::Start;
 use std::alloc::Global;
+use std::fs;
+use std::io::ErrorKind;
 
-/// Makes or tests the tables of a connection, which is closed where that fails.
-fn prepare_or_close<S: Alter + Drop>(
+/// What becomes of a path at which there is no store yet.
+#[derive(Clone, Copy)]
+pub enum Absent {
+    /// One is made.
+    Make,
+    /// It is refused as other tables are, and nothing is made.
+    Refuse,
+}
+
+/// Whether a path may be the name of a file.
+fn may_name_file(path: &str) -> bool
+    ensures { NamesNoFile path.now → result ≡ false }
+{
+    !path.is_empty() && path != ":memory:" && !path.starts_with("file:")
+}
+
+/// Whether there is no file of this name, or one of no bytes, where no store is to be made.
+fn is_missing(rt: &HostRuntime, path: &str, absent: Absent) -> bool
+    ensures refuses { IsTrue result → absent ≡ Refuse }
+    ensures named { IsTrue result → ¬ NamesNoFile path.now }
+{
+    if matches!(absent, Absent::Make) || !may_name_file(path) {
+        return false;
+    }
+    match fs::metadata(rt, path) {
+        Ok(file) => file.is_file() && file.len() == 0,
+        Err(error) => error.kind() == ErrorKind::NotFound,
+    }
+}
+
+/// Whether a database has no store, where none is to be made.
+fn lacks_store<S: Alter>(conn: &Connection<S>, absent: Absent) -> bool
+    ensures { IsTrue result ↔ LacksStore absent (state S.Store conn.now).now }
+{
+    match absent {
+        Absent::Make => false,
+        Absent::Refuse => is_empty_schema(conn.schema()),
+    }
+}
+
+/// Makes or tests the tables of a connection. Where that fails it hands the connection back.
+fn prepare_or_hand_back<S: Alter>(
     alloc: Global,
     mut conn: Connection<S>,
     site: &SiteText,
-) -> Result<SqlKeep<S>, OpenFault>
+    absent: Absent,
+) -> Result<SqlKeep<S>, (OpenFault, Connection<S>)>
     requires { CanPrepareTables (state S.Store conn) }
     ensures site { IfOk result (λ keep. keep.site ≡ site.now.digest) }
     ensures open { IfOk result (λ keep. HasCleanDisk (state S.Store keep.conn)
@@ -36,6 +83,8 @@ fn prepare_or_close<S: Alter + Drop>(
         → TakesGrowth site.now.site (state S.Store conn).now.trees) }
     ensures own { IfOk result (λ keep. HasCleanDisk (state S.Store keep.conn)
         → TakesOwn site.now.text (state S.Store conn).now.trees) }
+    ensures apart { IfOk result (λ keep. HasCleanDisk (state S.Store keep.conn)
+        → HasApartAddresses (state S.Store keep.conn).now.trees) }
     ensures clean { IfOk result (λ keep. HasCleanDisk (state S.Store keep.conn)
         → HasCleanDisk (state S.Store conn)) }
     ensures tables { IfOk result (λ keep. HasCleanDisk (state S.Store keep.conn)
@@ -46,18 +95,33 @@ fn prepare_or_close<S: Alter + Drop>(
         (tables_in (state S.Store keep.conn).now.trees)) }
     ensures left { IfOk result (λ keep. HasCleanDisk (state S.Store keep.conn) → (db : Trees)
         → (state S.Store keep.conn).may_leave db → db ≡ (state S.Store keep.conn).now.trees) }
+    ensures was { IfOk result (λ keep. HasCleanDisk (state S.Store keep.conn)
+        → IsTaken absent (state S.Store conn).now.trees) }
+    ensures crash { IfOk result (λ keep. Survives (state S.Store conn) (state S.Store keep.conn)
+        (IsPreparedFor site.now (state S.Store conn))) }
+    ensures turned_away { IfErr result (λ e. IsTurnedAway S.Store absent site.now conn e.1 e.0) }
 {
+    if lacks_store(&conn, absent) {
+        return Err((OpenFault::OtherTables, conn));
+    }
     match prepare_tables(alloc, &mut conn, site) {
         Ok(()) => Ok(SqlKeep::over(alloc, conn, site.digest())),
-        Err(fault) => Err(fault),
+        Err(fault) => Err((fault, conn)),
     }
+}
+
+/// The fault with which a connection was handed back, which is closed.
+fn fault_of<S: Alter + Drop>(refused: (OpenFault, Connection<S>)) -> OpenFault
+    ensures { result ≡ refused.0 }
+{
+    refused.0
 }
 
 /// Opens the store of a site: the database in the file at this path, with the log beside it in
 /// `<path>-wal`. Where there are no such files it makes them. An empty database gets the tables of
 /// the office and the site's text. One of an earlier version must be of this text, and gets what it
 /// lacks; one of this version holds the text of a site of which this one must be a growth, and then
-/// holds this text.
+/// holds this text. Where there is no store, `absent` says whether one is made.
 /// `start` stands for what the files held before, of which the clauses speak, and says how a crash
 /// is read: a program passes `Unknown`, which supposes that a torn write leaves each byte old or
 /// new, or `Wary`, which supposes less.
@@ -65,14 +129,16 @@ fn prepare_or_close<S: Alter + Drop>(
 /// # Errors
 ///
 /// `OtherSite` where the database is another site's, `OtherTables` where its tables aren't the
-/// office's, and `Failed` where a file can't be opened, read or written, where the path is
-/// `:memory:` or begins with `file:`, and where there is no memory. The files are closed then.
+/// office's, or where there is no store and none is to be made, and `Failed` where a file can't be
+/// opened, read or written, where the path is empty, is `:memory:` or begins with `file:`, and where
+/// there is no memory. The files are closed then, and no row that was committed is changed.
 pub fn open<S: Start>(
     rt: &HostRuntime,
     alloc: Global,
     path: &str,
     start: S,
     site: &SiteText,
+    absent: Absent,
 ) -> Result<SqlKeep<FileStore<FileFrom<S>>>, OpenFault>
     ensures site { IfOk result (λ keep. keep.site ≡ site.now.digest) }
     ensures open { IfOk result (λ keep. HasCleanDisk (file_state keep.conn)
@@ -85,6 +151,8 @@ pub fn open<S: Start>(
         → (db : Trees) → HoldsDatabase (image_at S.Start) db → TakesGrowth site.now.site db) }
     ensures own { IfOk result (λ keep. HasCleanDisk (file_state keep.conn)
         → (db : Trees) → HoldsDatabase (image_at S.Start) db → TakesOwn site.now.text db) }
+    ensures apart { IfOk result (λ keep. HasCleanDisk (file_state keep.conn)
+        → HasApartAddresses (file_state keep.conn).now.trees) }
     ensures tables { IfOk result (λ keep. HasCleanDisk (file_state keep.conn)
         → HasTablesOf (image_at S.Start) (tables_in (file_state keep.conn).now.trees)) }
     ensures unstarted { IfOk result (λ keep. HasCleanDisk (file_state keep.conn)
@@ -92,10 +160,20 @@ pub fn open<S: Start>(
         → StaysUnstarted db (tables_in (file_state keep.conn).now.trees)) }
     ensures left { IfOk result (λ keep. HasCleanDisk (file_state keep.conn) → (db : Trees)
         → (file_state keep.conn).may_leave db → db ≡ (file_state keep.conn).now.trees) }
+    ensures was { IfOk result (λ keep. HasCleanDisk (file_state keep.conn)
+        → FilesHeld (image_at S.Start) (IsTaken absent)) }
+    ensures taken { IfOk result (IsTakenFrom (image_at S.Start) site.now) }
+    ensures refused { TellsWhy (image_at S.Start) path.now absent site.now result }
     ensures memory { path.now ≡ codes ":memory:" → result ≡ Err OpenFault.Failed }
 {
+    if is_missing(rt, path, absent) {
+        return Err(OpenFault::OtherTables);
+    }
     match Connection::open_from(rt, path, false, start) {
-        Ok(conn) => prepare_or_close(alloc, conn, site),
+        Ok(conn) => match prepare_or_hand_back(alloc, conn, site, absent) {
+            Ok(keep) => Ok(keep),
+            Err(refused) => Err(fault_of(refused)),
+        },
         Err(_) => Err(OpenFault::Failed),
     }
 }

@@ -12,8 +12,10 @@ ghost use Rattle.office_store.specs.Upgrading.{CanUpgrade, GainsNone, GainsNoSta
 ghost use Rattle.office_store.specs.Upgrading.{LacksOrderStarts, TellsItself, TellsThird};
 ghost use Rattle.office_store.specs.declared.version.Version.{Version as TheVersion};
 ghost use Rattle.office_store.specs.declared.version.Version.TheVariants.{First, Second};
+ghost use Rattle.office_store.specs.Versions.{IsEarly};
 
 use crate::create::{add_text, make_later, make_text};
+use crate::remake::remake_tables;
 use crate::version::Version;
 use sqlite::{Alter, Connection, Error, Transaction};
 
@@ -78,6 +80,18 @@ fn fill_second<S: Alter>(tx: &mut Transaction<'_, S>) -> Result<(), Error>
     make_text(tx)
 }
 
+/// Makes what a store of a version before the first lacks, whose `given` and ledger are made anew.
+fn fill_early<S: Alter>(tx: &mut Transaction<'_, S>, version: Version) -> Result<(), Error>
+    requires early { IsEarly version }
+    requires found { Sees (IsFound version) (state S.Store tx.old.conn.now) }
+    ensures same_reference { tx.new.conn.ghost_name ≡ tx.old.conn.ghost_name }
+    ensures changes { SqlWrites S.Store tx.old.conn.now tx.new.conn.now result
+        (λ old new _. IsFilled version old new) }
+{
+    remake_tables(tx)?;
+    fill_starts(tx)
+}
+
 /// Makes what one of an earlier version lacks.
 fn fill<S: Alter>(tx: &mut Transaction<'_, S>, version: Version) -> Result<(), Error>
     requires { CanUpgrade version (state S.Store tx.old.conn.now) }
@@ -86,6 +100,7 @@ fn fill<S: Alter>(tx: &mut Transaction<'_, S>, version: Version) -> Result<(), E
         (λ old new _. IsFilled version old new) }
 {
     match version {
+        Version::Earliest | Version::Early => fill_early(tx, version),
         Version::First => fill_first(tx),
         _ => fill_second(tx),
     }

@@ -5,6 +5,11 @@ ghost use Rattle.office_store.specs.Versions.{number_of_version};
 /// A schema that a database of the office may have.
 #[derive(Clone, Copy)]
 pub enum Version {
+    /// That of the first program, with no beginnings of validity, in which an address is a key of
+    /// `given` for itself, named behind the other keys.
+    Earliest,
+    /// That of the program after it, which names this key at the column.
+    Early,
     /// That of an earlier program, with no beginnings of validity.
     First,
     /// That of a later one, with no text of the site.
@@ -19,7 +24,7 @@ impl Version {
         ensures { result ≡ number_of_version self }
     {
         match self {
-            Version::First => 1,
+            Version::Earliest | Version::Early | Version::First => 1,
             Version::Second => 2,
             Version::Third => 3,
         }

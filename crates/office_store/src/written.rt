@@ -120,6 +120,7 @@ pub(crate) fn replaced_device<S: Alter>(
         → (state S.Store conn.new).may_leave db → (state S.Store conn.old).may_leave db }
     ensures answer { is_open_at S.Store conn.new
         → IfOk result (λ row. IsReplaced written.entry row (tables_of S.Store conn.old).devices) }
+    ensures limit { conn.new.step_limit ≡ conn.old.step_limit }
 {
     match written {
         WrittenDevices::One(device) => match known_row(answer, device) {

@@ -1,6 +1,7 @@
 //! The server behind programming stations, as a program of the command line.
 #![tactic(auto)]
 
+use sqlite_disk::Unknown;
 use station_jobs::{job_from_env, report, run};
 use std::io;
 use std::process::ExitCode;
@@ -20,7 +21,8 @@ fn start(rt: &HostRuntime) -> u8 {
             rt.reader(),
             io::writer(rt),
             &mut rt.stderr(),
+            Unknown,
         ),
-        Err(fault) => report(rt, &fault),
+        Err(fault) => report(&fault, &mut io::writer(rt), &mut rt.stderr()),
     }
 }

@@ -66,7 +66,8 @@ of_stream : (result : Result Unit Failure) (served : Served) → result ≡ resu
 of_stream result served is = subst (λ r. IfErr r IsOfStream) (sym is) (end_failure served)
 
 -- what holds of each failure of this kind
-pub failing : (result : Result Unit Failure) (P Q : Failure → Type 0) → ((failure : Failure) → P failure → Q failure) → IfErr result P → IfErr result Q
+pub failing : {A : Type 0} (result : Result A Failure) (P Q : Failure → Type 0)
+    → ((failure : Failure) → P failure → Q failure) → IfErr result P → IfErr result Q
 failing (Ok done) P Q all holds = tt
 failing (Err failure) P Q all holds = all failure holds
 

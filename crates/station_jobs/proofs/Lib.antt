@@ -1,4 +1,5 @@
 -- The lemmas of this crate.
+pub mod Books
 pub mod Ending
 pub mod FileTexts
 pub mod Leading

@@ -1,6 +1,6 @@
 -- The command line, and the job of its words.
-use Rattle.std.specs.Prelude.{◌≡◌, ◌≢◌, ℕ, List, [], ◌∷◌, codes, map, true, Option, Some, None, option_and_then, option_map, string_bytes, bytes_eq}
-use Rattle.std.specs.Prelude.{if◌then◌else◌}
+use Rattle.std.specs.Prelude.{◌≡◌, ◌≢◌, ℕ, List, [], ◌∷◌, codes, map, Bool, true, false, ◌&&◌, Option, Some, None, is_none}
+use Rattle.std.specs.Prelude.{option_and_then, option_map, string_bytes, bytes_eq, if◌then◌else◌}
 use Rattle.std.specs.Borrow.{Bor}
 use Rattle.clap.specs.Words.{App, IsAmong, Kinds, Row, Rule, Text, fault_of, first_of, new_app, new_rule, subcommand_of, with_rule, with_subcommand}
 use Rattle.std.specs.Str.Parse.{digits_value, without_leading_plus}
@@ -8,7 +8,10 @@ use Rattle.clap.specs.ValueTests.{is_unsigned_in}
 use Rattle.clap.specs.declared.builder.value_parser.ValueParser.TheVariants.{Unsigned}
 use Rattle.clap.specs.declared.error.kind.ErrorKind.{ErrorKind}
 use Rattle.clap.specs.declared.error.kind.ErrorKind.TheVariants.{DisplayHelp, OutOfMemory}
+use Rattle.clap.specs.declared.builder.action.ArgAction.TheVariants.{SetTrue}
+use Rattle.std.specs.Option.{option_map_or}
 use Rattle.station_jobs.specs.declared.job.Job.{Job}
+use Rattle.station_jobs.specs.declared.job.StoreName.{StoreName}
 use Rattle.station_jobs.specs.declared.job.Job.TheVariants.{CheckMap, Replay, Serve}
 use Rattle.station_jobs.specs.declared.job.WordsFault.{WordsFault}
 use Rattle.station_jobs.specs.declared.job.WordsFault.TheVariants.{Help, Refused, NoMemory}
@@ -29,6 +32,10 @@ db_rule = record (new_rule (codes "db")) { long = Some (codes "db"); value_names
 abbrev pub required_db_rule : Rule
 required_db_rule = record db_rule { required = true }
 
+-- `--existing`, a flag
+abbrev pub existing_rule : Rule
+existing_rule = record (new_rule (codes "existing")) { long = Some (codes "existing"); action = Some SetTrue }
+
 -- `--port N`, a number from 1 to 65535, which has to be there
 abbrev pub port_rule : Rule
 port_rule = record (new_rule (codes "port")) {
@@ -47,13 +54,17 @@ connections_rule = record (new_rule (codes "connections")) {
   required = true;
 }
 
--- `serve --site F --db F --port N --connections K`
-abbrev pub serve_app : App
-serve_app = with_rule (with_rule (with_rule (with_rule (new_app (codes "serve")) site_rule) required_db_rule) port_rule) connections_rule
+-- `serve --site F --db F [--existing]`
+abbrev pub books_app : App
+books_app = with_rule (with_rule (with_rule (new_app (codes "serve")) site_rule) required_db_rule) existing_rule
 
--- `replay --site F [--db F]`
+-- and `--port N --connections K`
+abbrev pub serve_app : App
+serve_app = with_rule (with_rule books_app port_rule) connections_rule
+
+-- `replay --site F [--db F [--existing]]`
 abbrev pub replay_app : App
-replay_app = with_rule (with_rule (new_app (codes "replay")) site_rule) db_rule
+replay_app = with_rule (with_rule (with_rule (new_app (codes "replay")) site_rule) db_rule) existing_rule
 
 -- `F`, which has to be there
 abbrev pub map_rule : Rule
@@ -67,7 +78,8 @@ check_map_app = with_rule (new_app (codes "check-map")) map_rule
 abbrev pub top_app : App
 top_app = let app = new_app (codes "station") in record app { top = record app.top { subcommand_required = true } }
 
--- `station serve --site F --db F --port N --connections K`, `station replay --site F [--db F]` and `station check-map F`
+-- `station serve --site F --db F [--existing] --port N --connections K`, `station replay --site F [--db F [--existing]]` and
+-- `station check-map F`
 abbrev pub station_app : App
 station_app = with_subcommand (with_subcommand (with_subcommand top_app serve_app.top) replay_app.top) check_map_app.top
 
@@ -80,18 +92,30 @@ number_of_digits least most text =
 abbrev pub number_of_option : Text → ℕ → ℕ → List Row → Option ℕ
 number_of_option id least most options = option_and_then (number_of_digits least most) (first_of id options)
 
+-- whether a flag is there: `clap` gives it the value `true` then, and else `false`
+abbrev pub has_flag : Text → List Row → Bool
+has_flag id options = option_map_or (λ text. bytes_eq text (codes "true")) (first_of id options) false
+
+-- the store that the options name
+abbrev pub store_of : List Row → Option StoreName
+store_of options =
+    option_map (λ file. record { file = file; is_existing = has_flag (codes "existing") options })
+    (first_of (codes "db") options)
+
 -- the job of `serve`, by its options
 abbrev pub serve_of : List Row → Option Job
 serve_of options =
-    option_and_then (λ site. option_and_then (λ db. option_and_then (λ port. option_map (Serve site db port)
+    option_and_then (λ site. option_and_then (λ store. option_and_then (λ port. option_map (Serve site store port)
     (number_of_option (codes "connections") 1 1000000 options))
     (number_of_option (codes "port") 1 65535 options))
-    (first_of (codes "db") options))
+    (store_of options))
     (first_of (codes "site") options)
 
--- the job of `replay`, by its options
+-- the job of `replay`, by its options: a store that has to be there is named
 abbrev pub replay_of : List Row → Option Job
-replay_of options = option_map (λ site. Replay site (first_of (codes "db") options)) (first_of (codes "site") options)
+replay_of options =
+    if is_none (store_of options) && has_flag (codes "existing") options then None
+    else option_map (λ site. Replay site (store_of options)) (first_of (codes "site") options)
 
 -- the job of `check-map`, by its options
 abbrev pub check_map_of : List Row → Option Job

@@ -3,6 +3,8 @@ pub mod CommandLine
 pub mod FileText
 pub mod Listening
 pub mod MapFile
+pub mod Patience
 pub mod Replaying
 pub mod SiteFile
 pub mod Statuses
+pub mod Storing

@@ -7,9 +7,10 @@ use Rattle.office_laws.specs.Sound.{IsSound}
 use Rattle.office_store.specs.Faults.{open_fault_number}
 use Rattle.office_store.specs.declared.fault.OpenFault.{OpenFault}
 use Rattle.office_tables.specs.Tables.{Tables}
+use Rattle.office_tables.specs.declared.keep.Keep.{Ghosts}
 use Rattle.site_core.specs.Ownership.{ownership_of}
 use Rattle.site_core.specs.Section.{SiteValue}
-use Rattle.station_api.specs.Books.{StreamKeepsPromises}
+use Rattle.station_api.specs.Books.{Leads, StreamKeepsPromises}
 use Rattle.station_api.specs.HttpAnswers.{AreSaid, AnswersHttp}
 use Rattle.station_jobs.specs.Statuses.{result_of_ending}
 use Rattle.station_jobs.specs.declared.failure.Failure.{Failure}
@@ -24,6 +25,15 @@ Replays site t left_old left_new written_old written_new result =
     × (t2 : Tables) × Runs (AnswersHttp site) t (requests_with_answers pieces) t2
     × (IsSound (ownership_of site) t
     → StreamKeepsPromises site t (requests_with_answers pieces) t2)
+
+-- a stream was served over a keeper, and the result is what its end says
+abbrev pub ServesOver : {K : Type 0} → Ghosts K → SiteValue → Option (List ℕ) → Option (List ℕ)
+    → Option (List ℕ) → Option (List ℕ) → Result Unit Failure → K → K → Type 0
+ServesOver k site left_old left_new written_old written_new result old new =
+    (served : Served) × (result ≡ result_of_ending served) × (pieces : List HttpExchange)
+    × Tells left_old left_new written_old written_new served pieces
+    × AreSaid site (requests_with_answers pieces)
+    × Leads k site old new (requests_with_answers pieces)
 
 -- a failure that the end of a stream says
 abbrev pub IsOfStream : Failure → Type 0

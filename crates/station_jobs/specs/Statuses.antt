@@ -1,5 +1,6 @@
 -- The status that the program ends with, and the line that it writes where it failed.
-use Rattle.std.specs.Prelude.{ℕ, ◌≡◌, ◌≤◌, ◌++◌, List, codes, decimal, Result, Ok, Err}
+use Rattle.std.specs.Prelude.{ℕ, ◌≡◌, ◌≤◌, ◌++◌, List, codes, decimal, Option, Result, Ok, Err, string_bytes}
+use Rattle.std.specs.Io.KnownBytes.{Appends, Keeps}
 use Rattle.http_serving.specs.declared.Served.{Served}
 use Rattle.http_serving.specs.declared.Served.TheVariants.{Ended, Closed, Cut, ReadFault, WriteFault}
 use Rattle.station_jobs.specs.declared.failure.Failure.{Failure}
@@ -13,6 +14,14 @@ abbrev pub HasStatus : WordsFault → ℕ → Type 0
 HasStatus (Help text) status = status ≤ 1
 HasStatus (Refused text) status = status ≡ 2
 HasStatus WordsFault.NoMemory status = status ≡ 1
+
+-- what is printed for a fault, on the output and on standard error: help on the output alone where it
+-- is printed, and for any other fault nothing there
+abbrev pub IsReported : WordsFault → ℕ → Option (List ℕ) → Option (List ℕ) → Option (List ℕ) → Option (List ℕ) → Type 0
+IsReported (Help text) status output_old output_new err_old err_new =
+    status ≡ 0 → Appends output_old output_new (string_bytes text) × Keeps err_old err_new
+IsReported (Refused text) status output_old output_new err_old err_new = Keeps output_old output_new
+IsReported WordsFault.NoMemory status output_old output_new err_old err_new = Keeps output_old output_new
 
 -- the line of a failure, without its line feed
 abbrev pub line_of : Failure → List ℕ

@@ -2,14 +2,15 @@
 ghost use Rattle.std.specs.Prelude.{◌≡◌, ◌⊎◌, false, Some, None, ◌≤◌, IfOk, IfErr, IfSome, option_and_then};
 ghost use Rattle.clap.specs.Words.{app_of, fault_of, first_of, found_of, kind_of, rows_of, rule_of, subcommand_rows_of};
 ghost use Rattle.clap.specs.declared.builder.command.Command.TheViews.{out-Command as fields_of};
-ghost use Rattle.station_jobs.specs.CommandLine.{CanGive, IsFaultOfKind, RefusesWith, check_map_app, check_map_of, connections_rule, db_rule, job_by};
+ghost use Rattle.station_jobs.specs.CommandLine.{CanGive, IsFaultOfKind, RefusesWith, books_app, check_map_app};
+ghost use Rattle.station_jobs.specs.CommandLine.{check_map_of, connections_rule, db_rule, existing_rule, has_flag, job_by};
 ghost use Rattle.station_jobs.specs.CommandLine.{job_read, number_of_digits, number_of_option, port_rule, replay_app, replay_of, required_db_rule};
-ghost use Rattle.station_jobs.specs.CommandLine.{serve_app, serve_of, site_rule, station_app, texts, top_app};
+ghost use Rattle.station_jobs.specs.CommandLine.{serve_app, serve_of, site_rule, station_app, store_of, texts, top_app};
 ghost use Rattle.station_jobs.specs.declared.job.WordsFault.TheVariants.{NoMemory};
 
 use clap::builder::ValueParser;
 use clap::error::ErrorKind;
-use clap::{Arg, ArgMatches, Command, Error};
+use clap::{Arg, ArgAction, ArgMatches, Command, Error};
 use std::alloc::{AllocError, Global};
 use std::rt::Env;
 use std::{env, io};
@@ -18,14 +19,24 @@ use text_core::Text;
 /// Why a word that the system passed the program is refused.
 const NOT_UTF8: &str = "error: a word of the command line is not UTF-8\n";
 
-/// Why words that `clap` takes are refused, should it ever enter a subcommand that names no job.
-const NO_JOB: &str = "error: the words name no job\n";
+/// Why words that `clap` takes are refused: where `replay` is to find a store and none is named, or
+/// should `clap` ever enter a subcommand that names no job.
+const NO_JOB: &str = "error: the words name no job (--existing speaks of the store of --db)\n";
 
 /// The greatest number of a port.
 const PORT_LIMIT: u64 = 65535;
 
 /// The most connections that one run serves.
 const CONNECTION_LIMIT: u64 = 1_000_000;
+
+/// The store that a job is served over.
+#[derive(Drop)]
+pub struct StoreName {
+    /// The name of its file, as it was given.
+    pub file: Text,
+    /// Whether it has to be there: else it is made where there is none.
+    pub is_existing: bool,
+}
 
 /// What the program is to do.
 #[derive(Drop)]
@@ -34,8 +45,8 @@ pub enum Job {
     Serve {
         /// The name of the site's file, as it was given.
         site: Text,
-        /// The name of the store's file, as it was given.
-        db: Text,
+        /// The store.
+        store: StoreName,
         /// The port of this machine that is listened on, which isn't 0.
         port: u16,
         /// How many connections are served, 1 to 1,000,000.
@@ -45,9 +56,8 @@ pub enum Job {
     Replay {
         /// The name of the site's file, as it was given.
         site: Text,
-        /// The name of the store's file, as it was given. Without one the tables are in memory, and
-        /// end with the job.
-        db: Option<Text>,
+        /// The store. Without one the tables are in memory, and end with the job.
+        store: Option<StoreName>,
     },
     /// Reads one fuse map, and tells its name and its size, or its fault.
     CheckMap {
@@ -200,6 +210,17 @@ fn required_store_option<'a>(alloc: Global) -> Arg<'a>
         .help("The file of the store, made where there is none")
 }
 
+/// The flag `--existing`.
+fn existing_option<'a>(alloc: Global) -> Arg<'a>
+    ensures rule { rule_of result ≡ existing_rule }
+    ensures local { result.global ≡ false }
+{
+    Arg::new(alloc, "existing")
+        .long("existing")
+        .action(ArgAction::SetTrue)
+        .help("Serve only over a store that is there: none is made")
+}
+
 /// The option `--port N`.
 fn port_option<'a>(alloc: Global) -> Arg<'a>
     ensures rule { rule_of result ≡ port_rule }
@@ -226,20 +247,29 @@ fn connections_option<'a>(alloc: Global) -> Arg<'a>
         .help("How many connections to serve before it ends, 1 to 1000000")
 }
 
-/// The subcommand `serve --site F --db F --port N --connections K`.
+/// The subcommand `serve --site F --db F [--existing] --port N --connections K`.
 fn serve_command<'a>(alloc: Global) -> Result<Command<'a>, AllocError>
     ensures shape { IfOk result (λ command. app_of command ≡ serve_app) }
+    ensures local { IfOk result (λ command. (fields_of command).has_globals ≡ false) }
+{
+    books_command(alloc)?
+        .arg(port_option(alloc))?
+        .arg(connections_option(alloc))
+}
+
+/// The same without the options of its port.
+fn books_command<'a>(alloc: Global) -> Result<Command<'a>, AllocError>
+    ensures shape { IfOk result (λ command. app_of command ≡ books_app) }
     ensures local { IfOk result (λ command. (fields_of command).has_globals ≡ false) }
 {
     Command::new(alloc, "serve")
         .about("Serves connections of a port, one after another, over the store in a file")
         .arg(site_option(alloc))?
         .arg(required_store_option(alloc))?
-        .arg(port_option(alloc))?
-        .arg(connections_option(alloc))
+        .arg(existing_option(alloc))
 }
 
-/// The subcommand `replay --site F [--db F]`.
+/// The subcommand `replay --site F [--db F [--existing]]`.
 fn replay_command<'a>(alloc: Global) -> Result<Command<'a>, AllocError>
     ensures shape { IfOk result (λ command. app_of command ≡ replay_app) }
     ensures local { IfOk result (λ command. (fields_of command).has_globals ≡ false) }
@@ -247,7 +277,8 @@ fn replay_command<'a>(alloc: Global) -> Result<Command<'a>, AllocError>
     Command::new(alloc, "replay")
         .about("Serves one stream of requests, from standard input to standard output")
         .arg(site_option(alloc))?
-        .arg(store_option(alloc))
+        .arg(store_option(alloc))?
+        .arg(existing_option(alloc))
 }
 
 /// The subcommand `check-map F`.
@@ -311,7 +342,7 @@ fn serve_job(alloc: Global, options: &ArgMatches<'_>) -> Result<Option<Job>, All
     let Some(site) = option_text(alloc, options, "site")? else {
         return Ok(None);
     };
-    let Some(db) = option_text(alloc, options, "db")? else {
+    let Some(store) = store_named(alloc, options)? else {
         return Ok(None);
     };
     let Some(port) = option_number(options, "port", 1, PORT_LIMIT) else {
@@ -322,7 +353,7 @@ fn serve_job(alloc: Global, options: &ArgMatches<'_>) -> Result<Option<Job>, All
     };
     Ok(Some(Job::Serve {
         site,
-        db,
+        store,
         port: port as u16,
         connections: connections as u32,
     }))
@@ -332,11 +363,25 @@ fn serve_job(alloc: Global, options: &ArgMatches<'_>) -> Result<Option<Job>, All
 fn replay_job(alloc: Global, options: &ArgMatches<'_>) -> Result<Option<Job>, AllocError>
     ensures { IfOk result (λ job. job ≡ replay_of (rows_of (found_of options.now))) }
 {
-    match option_text(alloc, options, "site")? {
-        Some(site) => {
-            let db = option_text(alloc, options, "db")?;
-            Ok(Some(Job::Replay { site, db }))
-        }
+    let Some(site) = option_text(alloc, options, "site")? else {
+        return Ok(None);
+    };
+    let store = store_named(alloc, options)?;
+    if store.is_none() && has_flag(options, "existing") {
+        return Ok(None);
+    }
+    Ok(Some(Job::Replay { site, store }))
+}
+
+/// The store that these options name, if they name one.
+fn store_named(alloc: Global, options: &ArgMatches<'_>) -> Result<Option<StoreName>, AllocError>
+    ensures { IfOk result (λ store. store ≡ store_of (rows_of (found_of options.now))) }
+{
+    match option_text(alloc, options, "db")? {
+        Some(file) => Ok(Some(StoreName {
+            file,
+            is_existing: has_flag(options, "existing"),
+        })),
         None => Ok(None),
     }
 }
@@ -348,6 +393,17 @@ fn check_map_job(alloc: Global, options: &ArgMatches<'_>) -> Result<Option<Job>,
     match option_text(alloc, options, "map")? {
         Some(map) => Ok(Some(Job::CheckMap { map })),
         None => Ok(None),
+    }
+}
+
+/// Whether a flag is among the options.
+#[tactic(auto, using(crate::proofs::Options::first_of_rows))]
+fn has_flag(options: &ArgMatches<'_>, id: &str) -> bool
+    ensures { result ≡ has_flag id.now (rows_of (found_of options.now)) }
+{
+    match options.get_str(id) {
+        Some(text) => text == "true",
+        None => false,
     }
 }
 

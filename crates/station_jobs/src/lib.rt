@@ -2,10 +2,14 @@
 //! reader and two writers.
 #![tactic(auto)]
 
+mod arrivals;
+mod ends;
 mod failure;
 mod file_text;
 mod job;
 mod map_file;
+mod patience;
+mod private;
 mod reporting;
 mod running;
 mod serving;
@@ -13,7 +17,8 @@ mod site_file;
 mod stored;
 
 pub use failure::Failure;
-pub use job::{Job, WordsFault, job_from_env, read_job};
+pub use job::{Job, StoreName, WordsFault, job_from_env, read_job};
+pub use patience::Bounds;
 pub use reporting::report;
 pub use running::run;
-pub use serving::{STALL_SECONDS, serve_connections};
+pub use serving::{listen, serve_connections};

@@ -1,14 +1,10 @@
 //! Does the jobs of the command line.
-ghost use Rattle.std.specs.Prelude.{◌≡◌, ◌≢◌, ◌+◌, ◌<◌, ◌≤◌, ◌^◌, ◌⊎◌, ◌++◌, ◌∷◌, [], List, IfOk, IfErr, IsErrAnd, MatchResult, OnOk};
+ghost use Rattle.std.specs.Prelude.{◌≡◌, ◌≢◌, ◌+◌, ◌<◌, ◌≤◌, ◌^◌, ◌⊎◌, ◌++◌, ◌∷◌, [], IfOk, IfErr, IsErrAnd, MatchResult, OnOk};
 ghost use Rattle.std.specs.Io.KnownBytes.{Appends, Keeps};
-ghost use Rattle.http_serving.specs.Streams.{HttpExchange, Tells, requests_with_answers};
-ghost use Rattle.http_serving.specs.declared.Served.{Served};
 ghost use Rattle.office_tables.specs.Tables.{no_rows};
-ghost use Rattle.station_api.specs.Books.{Leads};
-ghost use Rattle.station_api.specs.HttpAnswers.{AreSaid};
 ghost use Rattle.station_jobs.specs.FileText.{IsUnread};
 ghost use Rattle.station_jobs.specs.MapFile.{map_of_file, map_line};
-ghost use Rattle.station_jobs.specs.Replaying.{IsOfStream, Replays, failed_reads, failed_writes};
+ghost use Rattle.station_jobs.specs.Replaying.{IsOfStream, Replays, ServesOver, failed_reads, failed_writes};
 ghost use Rattle.station_jobs.specs.SiteFile.{site_in};
 ghost use Rattle.station_jobs.specs.Statuses.{result_of_ending, line_of, status_of};
 
@@ -17,9 +13,10 @@ use crate::job::Job;
 use crate::map_file::{map_of_file, read_map_file, write_map_line};
 use crate::serving::{Door, serve_site};
 use crate::site_file::{bytes_of_file, read_site_file, site_text_of_bytes};
-use crate::stored::replay_stored;
+use crate::stored::{StoreFile, replay_stored};
 use office_core::{Keep, MemKeep};
 use site_core::Site;
+use sqlite_disk::Start;
 use station_api::{Counted, Drain, Served, Source, serve_stream};
 use std::alloc::Global;
 use std::io;
@@ -27,13 +24,17 @@ use std::io::{Read, Write};
 
 /// Does a job: reads the file that it names, then its input, writes its output, and writes one line
 /// on `err` where it fails. Answers the status that the program ends with: 0, or 1 where it failed.
-pub fn run<E: Write>(
+///
+/// `start` stands for what a store's files hold, of which the clauses of its opening speak, and says
+/// how a crash is read. The program passes `Unknown`, and a theorem over the program is of any.
+pub fn run<E: Write, S: Start>(
     rt: &HostRuntime,
     alloc: Global,
     job: &Job,
     input: impl Read + Drop,
     mut output: impl Write + Drop,
     err: &mut E,
+    start: S,
 ) -> u8
     ensures status { result ≤ 1 }
     ensures prints_nothing { result ≡ 0 → Keeps (E.contents err.old) (E.contents err.new) }
@@ -41,33 +42,29 @@ pub fn run<E: Write>(
     let done = match job {
         Job::Serve {
             site,
-            db,
+            store,
             port,
             connections,
         } => {
             let name = site.as_str();
             let file = read_site_file(rt, alloc, name);
+            let store = StoreFile::of(store, start);
             let door = Door {
                 port: *port,
                 connections: *connections,
             };
-            serve_site(rt, alloc, name, file, db.as_str(), door, &mut output)
+            served_job(serve_site(rt, alloc, name, file, store, door, &mut output))
         }
-        Job::Replay { site, db } => {
+        Job::Replay { site, store } => {
             let name = site.as_str();
             let file = read_site_file(rt, alloc, name);
             let mut reader = Counted::new(input);
             let mut writer = Counted::new(output);
-            match db {
-                Some(db) => replay_stored(
-                    rt,
-                    alloc,
-                    name,
-                    file,
-                    db.as_str(),
-                    &mut reader,
-                    &mut writer,
-                ),
+            match store {
+                Some(store) => {
+                    let store = StoreFile::of(store, start);
+                    replay_stored(rt, alloc, name, file, store, &mut reader, &mut writer)
+                }
                 None => replay(alloc, name, file, &mut reader, &mut writer),
             }
         }
@@ -78,6 +75,16 @@ pub fn run<E: Write>(
         }
     };
     finish(done, err)
+}
+
+/// What serving says of a failure.
+fn served_job(served: Result<u32, Failure<'_>>) -> Result<(), Failure<'_>>
+    ensures { MatchResult served.entry (λ _. result ≡ Ok tt) (λ failure. result ≡ Err failure) }
+{
+    match served {
+        Ok(_) => Ok(()),
+        Err(failure) => Err(failure),
+    }
 }
 
 /// Serves one stream over a keeper in memory that has no rows, for the site that a file describes,
@@ -138,11 +145,8 @@ pub fn serve<K: Keep, R: Source, W: Drain>(
     ensures was_honest { K.is_honest keep.new → K.is_honest keep.old }
 
     // The result is what an end of the stream says, and the stream came to that end, over this keeper.
-    ensures served { (served : Served) × (result ≡ result_of_ending served)
-        × (pieces : List HttpExchange)
-        × Tells (R.left reader.old) (R.left reader.new) (W.written writer.old) (W.written writer.new) served pieces
-        × AreSaid site.now (requests_with_answers pieces)
-        × Leads K.Keep site.now keep.old keep.new (requests_with_answers pieces) }
+    ensures served { ServesOver K.Keep site.now (R.left reader.old) (R.left reader.new)
+        (W.written writer.old) (W.written writer.new) result keep.old keep.new }
     ensures calls { R.calls reader.new + W.calls writer.new
         ≤ R.calls reader.old + W.calls writer.old + 16777216 }
     ensures limit { result ≡ Err Failure.TurnLimit → R.calls reader.new + W.calls writer.new

@@ -1,30 +1,36 @@
 //! Connections of a port of this machine, served one after another over the store in a file.
-ghost use Rattle.std.specs.Prelude.{◌≡◌, ◌≢◌, ◌↔◌, ◌⊎◌, ◌+◌, ◌<◌, ◌^◌, ◌++◌, ◌∷◌, [], IsTrue, IfOk, IfErr, IsErrAnd, OnOk};
+ghost use Rattle.std.specs.Prelude.{◌≡◌, ◌≢◌, ◌⊎◌, ◌+◌, ◌<◌, ◌≤◌, ◌^◌, ◌++◌, ◌∷◌, []};
+ghost use Rattle.std.specs.Prelude.{List, Some, IfOk, IfErr, IsErrAnd, OnOk};
 ghost use Rattle.std.specs.Io.KnownBytes.{Appends, Keeps};
-ghost use Rattle.std.specs.IoError.{error_kind};
 ghost use Rattle.std.specs.Net.Addr.{ipv4_octets};
 ghost use Rattle.std.specs.Net.Socket.{v4_ip, v4_port};
+ghost use Rattle.http_serving.specs.Streams.{HttpExchange, Tells, requests_with_answers};
+ghost use Rattle.sqlite.specs.WalFiles.{image_at};
+ghost use Rattle.station_api.specs.Books.{Leads};
+ghost use Rattle.station_api.specs.HttpAnswers.{AreSaid};
 ghost use Rattle.station_jobs.specs.FileText.{IsUnread};
 ghost use Rattle.station_jobs.specs.Listening.{IsOfPort, LeadsOn, listening_line};
 ghost use Rattle.station_jobs.specs.Replaying.{IsOfStore};
 ghost use Rattle.station_jobs.specs.SiteFile.{site_in};
+ghost use Rattle.station_jobs.specs.Storing.{FromOpening, text_of_site};
 
+use crate::arrivals::Arrivals;
+use crate::ends::{ClientReader, ClientWriter, Line};
 use crate::failure::Failure;
+use crate::patience::Bounds;
 use crate::site_file::{bytes_of_file, site_text_of_bytes};
-use crate::stored::open_limited;
+use crate::stored::{StoreFile, open_limited};
 use office_core::Keep;
+use office_store::SqlKeep;
 use site_core::{Site, SiteText};
-use station_api::{Counted, Served, serve_stream};
+use sqlite::{Alter, FileFrom, FileStore};
+use sqlite_disk::Start;
+use station_api::{Drain, Served, Source, serve_stream};
 use std::alloc::Global;
 use std::io;
-use std::io::{ErrorKind, Write};
-use std::net::{Ipv4Addr, SocketAddrV4, TcpListener, TcpStream};
-use std::time::Duration;
-
-/// How many seconds one read or write of a connection may wait for the other side. A wait that is
-/// longer fails, which ends the connection, so that a client that stalls doesn't keep the others
-/// waiting for ever.
-pub const STALL_SECONDS: u64 = 10;
+use std::io::{Read, Write};
+use std::net::{Ipv4Addr, OpenListener, OpenStream, SocketAddrV4, TcpListener};
+use std::time::Clock;
 
 /// Where connections come in, and how many are served.
 #[derive(Clone, Copy)]
@@ -35,25 +41,24 @@ pub struct Door {
     pub connections: u32,
 }
 
-/// Serves as many connections as the door says over the store in the file with the name `db`, which
-/// is made where there is none, for the site that a file describes, by what reading the file with
-/// this name gave. Once the port is listened on, its line is written. The store is closed at the
-/// end.
+/// Serves as many connections as the door says over the store in a file, for the site that a file
+/// describes, by what reading the file with this name gave. Once the port is listened on, its line is
+/// written. The store is closed at the end. Answers how many connections were accepted.
 ///
 /// # Errors
 ///
 /// In this order: the site's file wasn't read or describes no site, the store isn't opened, the
 /// port can't be listened on, its line can't be written, or waiting for a connection fails. What
 /// becomes of a connection is no error.
-pub fn serve_site<'a, W: Write>(
+pub fn serve_site<'a, S: Start, W: Write>(
     rt: &HostRuntime,
     alloc: Global,
     name: &'a str,
     file: io::Result<Vec<u8>>,
-    db: &str,
+    store: StoreFile<'_, S>,
     door: Door,
     output: &mut W,
-) -> Result<(), Failure<'a>>
+) -> Result<u32, Failure<'a>>
     ensures unread { IfErr file (λ error. IsErrAnd result (IsUnread name.entry error)) }
 
     // A file that describes no site is the failure, whatever the store and the port.
@@ -64,6 +69,14 @@ pub fn serve_site<'a, W: Write>(
     ensures failed { IfOk file (λ bytes. IfOk (site_in name.entry bytes.items) (λ _.
         IfErr result (λ failure. (failure ≡ Failure.NoMemory) ⊎ IsOfStore failure
         ⊎ IsOfPort failure))) }
+    ensures accepted { IfOk result (λ accepted. accepted ≡ door.connections) }
+
+    // The store wasn't opened, or it was as its opening says, and what the connections asked for
+    // leads from its tables to those that stand when it is closed.
+    ensures books { IfOk file (λ bytes. IfOk (site_in name.entry bytes.items) (λ site.
+        IsErrAnd result (λ failure. (failure ≡ Failure.NoMemory) ⊎ IsOfStore failure)
+        ⊎ FromOpening (text_of_site bytes.items site) (image_at S.Start) store.entry.absent
+        (LeadsOn ⟦<SqlKeep<FileStore<FileFrom<S>>> as Keep>⟧ site))) }
     ensures printed { OnOk result (Appends (W.contents output.old) (W.contents output.new)
         (listening_line door.port ++ 10 ∷ [])) }
 
@@ -74,26 +87,36 @@ pub fn serve_site<'a, W: Write>(
 {
     let bytes = bytes_of_file(name, file)?;
     let site = site_text_of_bytes(alloc, name, bytes.as_slice())?;
-    serve_store(rt, alloc, &site, db, door, output)
+
+    // That this is the SHA-256 of the text is known of each text that was read.
+    let _digest = site.digest();
+    serve_store(rt, alloc, &site, store, door, output)
 }
 
-/// Serves connections over the store of a site in the file with the name `db`, and closes it.
-fn serve_store<W: Write>(
+/// Serves connections over the store of a site in a file, and closes it.
+fn serve_store<S: Start, W: Write>(
     rt: &HostRuntime,
     alloc: Global,
     site: &SiteText,
-    db: &str,
+    store: StoreFile<'_, S>,
     door: Door,
     output: &mut W,
-) -> Result<(), Failure<'static>>
+) -> Result<u32, Failure<'static>>
     ensures failed { IfErr result (λ failure. IsOfStore failure ⊎ IsOfPort failure) }
+    ensures accepted { IfOk result (λ accepted. accepted ≡ door.connections) }
+
+    // The store wasn't opened, or it was as its opening says, and what the connections asked for
+    // leads from its tables to those that stand when it is closed.
+    ensures books { IsErrAnd result IsOfStore
+        ⊎ FromOpening site.now (image_at S.Start) store.entry.absent
+        (LeadsOn ⟦<SqlKeep<FileStore<FileFrom<S>>> as Keep>⟧ site.now.site) }
     ensures printed { OnOk result (Appends (W.contents output.old) (W.contents output.new)
         (listening_line door.port ++ 10 ∷ [])) }
     ensures prints_nothing { IfErr result (λ failure. failure ≢ Failure.WriteFailed
         → failure ≢ Failure.AcceptFailed
         → Keeps (W.contents output.old) (W.contents output.new)) }
 {
-    let mut keep = open_limited(rt, alloc, db, site)?;
+    let mut keep = open_limited(rt, alloc, store, site)?;
     let served = serve_port(rt, alloc, &mut keep, site.site(), door, output);
 
     // What was committed is in the store's log, should this fail.
@@ -101,17 +124,19 @@ fn serve_store<W: Write>(
     served
 }
 
-/// Listens on the port of the door, tells so, and serves its connections over a keeper.
-fn serve_port<K: Keep, W: Write>(
+/// Listens on the port of the door, tells so, and serves its connections over a store, whose statements
+/// have the limit of steps. Answers how many were accepted.
+fn serve_port<S: Alter, W: Write>(
     rt: &HostRuntime,
     alloc: Global,
-    keep: &mut K,
+    keep: &mut SqlKeep<S>,
     site: &Site,
     door: Door,
     output: &mut W,
-) -> Result<(), Failure<'static>>
-    ensures was_honest { K.is_honest keep.new → K.is_honest keep.old }
-    ensures reaches { LeadsOn K.Keep site.now keep.old keep.new }
+) -> Result<u32, Failure<'static>>
+    requires limit { keep.old.conn.step_limit ≡ Some 1000000000 }
+    ensures reaches { LeadsOn ⟦<SqlKeep<S> as Keep>⟧ site.now keep.old keep.new }
+    ensures accepted { IfOk result (λ accepted. accepted ≡ door.connections) }
     ensures failed { IfErr result IsOfPort }
     ensures printed { OnOk result (Appends (W.contents output.old) (W.contents output.new)
         (listening_line door.port ++ 10 ∷ [])) }
@@ -123,11 +148,16 @@ fn serve_port<K: Keep, W: Write>(
     if write_listening_line(door.port, output).is_err() {
         return Err(Failure::WriteFailed);
     }
-    serve_connections(alloc, keep, site, &listener, door.connections)
+    let bounds = Bounds::of_program();
+    serve_connections(rt, alloc, keep, site, &listener, bounds, door.connections)
 }
 
-/// Listens on a port of this machine.
-fn listen(rt: &HostRuntime, port: u16) -> Result<TcpListener, Failure<'static>>
+/// Listens on a port of this machine, which no other machine can reach.
+///
+/// # Errors
+///
+/// `ListenFailed` where the port can't be had.
+pub fn listen(rt: &HostRuntime, port: u16) -> Result<TcpListener, Failure<'static>>
     ensures { IfErr result (λ failure. failure ≡ Failure.ListenFailed) }
 {
     match TcpListener::bind(rt, own_address(port)) {
@@ -153,90 +183,81 @@ fn write_listening_line<W: Write>(port: u16, output: &mut W) -> io::Result<()>
     output.flush()
 }
 
-/// Serves so many connections that a listener accepts, one after another, over a keeper. What
-/// becomes of one ends that one alone.
+/// Serves so many connections that a listener accepts, one after another, over a keeper, and answers
+/// how many were accepted. What becomes of one ends that one alone. A client is waited for no longer
+/// than the bounds say, and where another connection waits a client that has had a reply gives way
+/// to it. The listener may be one of std's or of a test.
 ///
 /// # Errors
 ///
 /// `AcceptFailed` where waiting for a connection fails. The connections before it were served.
-pub fn serve_connections<K: Keep>(
+pub fn serve_connections<K: Keep, R: Clock, S, L>(
+    clock: &R,
     alloc: Global,
     keep: &mut K,
     site: &Site,
-    listener: &TcpListener,
+    listener: &L,
+    bounds: Bounds,
     count: u32,
-) -> Result<(), Failure<'static>>
+) -> Result<u32, Failure<'static>>
+where
+    S: Read + Write + OpenStream + Drop,
+    L: OpenListener<Stream = S>,
     ensures was_honest { K.is_honest keep.new → K.is_honest keep.old }
 
     // Whatever the connections said, the tables change by answers to requests alone, a crash leaves
     // what a stop may leave, and from sound tables the books are kept over all connections.
     ensures reaches { LeadsOn K.Keep site.now keep.old keep.new }
+
+    // No connection ends the others: so many are accepted, unless waiting for one fails.
+    ensures accepted { IfOk result (λ accepted. accepted ≡ count) }
     ensures failed { IfErr result (λ failure. failure ≡ Failure.AcceptFailed) }
 {
+    let arrivals = Arrivals::of(listener);
     let mut connections = Connections {
-        listener,
+        arrivals: &arrivals,
         accepted: 0,
     };
-    serve_accepted(alloc, keep, site, &mut connections, count)
+    serve_accepted(clock, alloc, keep, site, &mut connections, bounds, count)?;
+    Ok(connections.accepted)
 }
 
-/// The connections that a listener accepts, counted.
+/// The connections of a listener that were accepted to be served, counted.
 #[derive(Drop)]
-struct Connections<'a> {
-    listener: &'a TcpListener,
+struct Connections<'a, L, S: Drop> {
+    arrivals: &'a Arrivals<'a, L, S>,
     accepted: u32,
 }
 
-impl Connections<'_> {
+impl<'a, S: Drop, L: OpenListener<Stream = S>> Connections<'a, L, S> {
     /// Waits for the next connection.
-    fn accept(&mut self) -> Result<TcpStream, Failure<'static>>
+    fn accept(&mut self) -> Result<S, Failure<'static>>
         requires { self.old.accepted + 1 < 2 ^ 32 }
         ensures counted { OnOk result (self.new.accepted ≡ self.old.accepted + 1) }
         ensures failed { IfErr result (λ failure. failure ≡ Failure.AcceptFailed) }
     {
-        let stream = next_connection(self.listener)?;
+        let stream = self.arrivals.next()?;
         self.accepted += 1;
         Ok(stream)
     }
 }
 
-/// The next connection of a listener. One that is gone before it is accepted is passed over.
-fn next_connection(listener: &TcpListener) -> Result<TcpStream, Failure<'static>>
-    ensures { IfErr result (λ failure. failure ≡ Failure.AcceptFailed) }
-{
-    for stream in listener.incoming() {
-        match stream {
-            Ok(stream) => return Ok(stream),
-            Err(error) if is_passed_over(&error) => {}
-            Err(_) => return Err(Failure::AcceptFailed),
-        }
-    }
-    Err(Failure::AcceptFailed)
-}
-
-/// Whether the next connection is waited for after this error: one was gone before it was accepted,
-/// or the call was interrupted.
-fn is_passed_over(error: &io::Error) -> bool
-    ensures { IsTrue result ↔ ((error_kind error.now ≡ ErrorKind.ConnectionAborted)
-        ⊎ (error_kind error.now ≡ ErrorKind.Interrupted)) }
-{
-    let kind = error.kind();
-    kind == ErrorKind::ConnectionAborted || kind == ErrorKind::Interrupted
-}
-
 /// Serves so many of the connections over a keeper.
-fn serve_accepted<K: Keep>(
+fn serve_accepted<K: Keep, R: Clock, S, L>(
+    clock: &R,
     alloc: Global,
     keep: &mut K,
     site: &Site,
-    connections: &mut Connections<'_>,
+    connections: &mut Connections<'_, L, S>,
+    bounds: Bounds,
     count: u32,
 ) -> Result<(), Failure<'static>>
+where
+    S: Read + Write + OpenStream + Drop,
+    L: OpenListener<Stream = S>,
     requires { connections.old.accepted + count < 2 ^ 32 }
     ensures was_honest { K.is_honest keep.new → K.is_honest keep.old }
     ensures reaches { LeadsOn K.Keep site.now keep.old keep.new }
-
-    // No connection ends the others: so many are accepted, unless waiting for one fails.
     ensures counted { OnOk result (connections.new.accepted ≡ connections.old.accepted + count) }
     ensures failed { IfErr result (λ failure. failure ≡ Failure.AcceptFailed) }
 {
@@ -244,32 +265,69 @@ fn serve_accepted<K: Keep>(
     let _customers = site.customers();
     for _turn in 0..count {
         let stream = connections.accept()?;
-        let _ = serve_connection(alloc, keep, site, &stream);
+        let _ = serve_client(
+            clock,
+            alloc,
+            keep,
+            site,
+            connections.arrivals,
+            bounds,
+            stream,
+        );
     }
     Ok(())
 }
 
-/// Serves the stream of a connection over a keeper, and answers how it ended, or why the connection
-/// can't be set up.
-fn serve_connection<K: Keep>(
+/// Serves the client of a connection over a keeper, and answers how its stream ended, or why the
+/// connection can't be set up.
+fn serve_client<K: Keep, R: Clock, S, L>(
+    clock: &R,
     alloc: Global,
     keep: &mut K,
     site: &Site,
-    stream: &TcpStream,
+    arrivals: &Arrivals<'_, L, S>,
+    bounds: Bounds,
+    stream: S,
 ) -> io::Result<Served>
+where
+    S: Read + Write + OpenStream + Drop,
+    L: OpenListener<Stream = S>,
     ensures was_honest { K.is_honest keep.new → K.is_honest keep.old }
     ensures reaches { LeadsOn K.Keep site.now keep.old keep.new }
 {
-    set_up(stream)?;
-    let mut reader = Counted::new(stream);
-    let mut writer = Counted::new(stream);
-    Ok(serve_stream(alloc, keep, site, &mut reader, &mut writer))
+    set_up(&stream, bounds)?;
+    let line = Line::begin(clock, arrivals, bounds, stream)?;
+    let mut reader = ClientReader::new(&line);
+    let mut writer = ClientWriter::new(&line);
+    Ok(serve_connection(alloc, keep, site, &mut reader, &mut writer))
 }
 
-/// Has a connection send each reply at once, and wait no longer for the other side than it may.
-fn set_up(stream: &TcpStream) -> io::Result<()> {
-    let limit = Duration::from_secs(STALL_SECONDS);
+/// Serves a connection by its two ends over a keeper, and answers how its stream ended.
+fn serve_connection<K: Keep, R: Source, W: Drain>(
+    alloc: Global,
+    keep: &mut K,
+    site: &Site,
+    reader: &mut R,
+    writer: &mut W,
+) -> Served
+    requires reader { R.calls reader.old + 2 ^ 25 < 2 ^ 64 }
+    requires writer { W.calls writer.old + 2 ^ 25 < 2 ^ 64 }
+    ensures was_honest { K.is_honest keep.new → K.is_honest keep.old }
+
+    // Each request that was read whole has its reply, where the ends tell their bytes.
+    ensures served { (pieces : List HttpExchange)
+        × Tells (R.left reader.old) (R.left reader.new)
+        (W.written writer.old) (W.written writer.new) result pieces
+        × AreSaid site.now (requests_with_answers pieces)
+        × Leads K.Keep site.now keep.old keep.new (requests_with_answers pieces) }
+    ensures unserved { result ≡ Served.NoMemory → keep.new ≡ keep.old }
+{
+    serve_stream(alloc, keep, site, reader, writer)
+}
+
+/// Has a connection send each reply at once, and wait for its client so long at a time.
+fn set_up<S: OpenStream>(stream: &S, bounds: Bounds) -> io::Result<()> {
     stream.set_nodelay(true)?;
-    stream.set_read_timeout(Some(limit))?;
-    stream.set_write_timeout(Some(limit))
+    stream.set_read_timeout(Some(bounds.slice))?;
+    stream.set_write_timeout(Some(bounds.slice))
 }

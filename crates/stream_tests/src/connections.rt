@@ -1,13 +1,15 @@
 //! Connections to a port of this machine.
+use crate::serving::{SHOWN, UNKNOWN};
 use crate::streams::{BAD_HEAD, LONG_HEAD, ORDER};
 use office_core::MemKeep;
 use site_core::read_site;
-use station_jobs::serve_connections;
+use station_jobs::{Bounds, listen, serve_connections};
 use std::alloc::Global;
 use std::io;
 use std::io::Write;
 use std::net::{SocketAddr, TcpListener, TcpStream};
 use std::test::Fail;
+use std::time::Duration;
 use test_texts::samples::SITE;
 
 /// The reply to the order on a connection that ends with it.
@@ -21,36 +23,54 @@ fn written_to(rt: &HostRuntime, address: SocketAddr, bytes: &[u8]) -> Result<Tcp
     Ok(stream)
 }
 
+/// The bounds of the program, but that a new connection which says nothing gives way at once.
+fn bounds() -> Bounds {
+    Bounds {
+        slice: Duration::from_millis(2),
+        first_byte: Duration::from_millis(10),
+        ..Bounds::of_program()
+    }
+}
+
 /// Serves two connections for the sample site, over memory without rows.
-fn serve_two(alloc: Global, listener: &TcpListener) -> Result<(), Fail> {
+fn serve_two(rt: &HostRuntime, alloc: Global, listener: &TcpListener) -> Result<(), Fail> {
     let site = read_site(alloc, SITE)?;
     let mut keep = MemKeep::new(alloc);
-    serve_connections(alloc, &mut keep, &site, listener, 2).map_err(|_| "no connection")?;
+    serve_connections(rt, alloc, &mut keep, &site, listener, bounds(), 2).map_err(
+        |_| "no connection",
+    )?;
     Ok(())
 }
 
-/// Makes two connections, the first with a head that doesn't end and the second with an order that ends
-/// its connection, has both served, and reads what each gets.
-fn replies_in_turn(rt: &HostRuntime, alloc: Global) -> Result<(String, String), Fail> {
-    let head = "a".repeat(alloc, LONG_HEAD)?;
+/// Makes two connections, the first with some bytes and the second with an order that ends its
+/// connection, has both served, and reads what each gets.
+fn replies_in_turn(
+    rt: &HostRuntime,
+    alloc: Global,
+    bytes: &[u8],
+) -> Result<(String, String), Fail> {
     let last = ORDER.replace(
         alloc,
         "Content-Length",
         "Connection: close\r\nContent-Length",
     )?;
-    let listener = TcpListener::bind(rt, "127.0.0.1:0")?;
+    let listener = listen(rt, 0).map_err(|_| "no port")?;
     let address = listener.local_addr()?;
-    let first = written_to(rt, address, head.as_bytes())?;
+    let first = written_to(rt, address, bytes)?;
     let second = written_to(rt, address, last.as_bytes())?;
-    serve_two(alloc, &listener)?;
+    serve_two(rt, alloc, &listener)?;
     let first = io::read_to_string(alloc, first)?;
     Ok((first, io::read_to_string(alloc, second)?))
 }
 
 #[test]
 fn connections_are_served_in_turn(rt: HostRuntime) -> Result<(), Fail> {
-    let (first, second) = replies_in_turn(&rt, rt.alloc())?;
-    assert_eq!(rt; first.as_str(), BAD_HEAD);
-    assert_eq!(rt; second.as_str(), ORDERED_LAST);
+    let head = "a".repeat(rt.alloc(), LONG_HEAD)?;
+    // A head that doesn't end, a client that says nothing, and one that keeps its connection.
+    for (bytes, got) in [(head.as_str(), BAD_HEAD), ("", ""), (SHOWN, UNKNOWN)] {
+        let (first, second) = replies_in_turn(&rt, rt.alloc(), bytes.as_bytes())?;
+        assert_eq!(rt; first.as_str(), got, "{bytes}");
+        assert_eq!(rt; second.as_str(), ORDERED_LAST, "{bytes}");
+    }
     Ok(())
 }

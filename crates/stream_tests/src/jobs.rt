@@ -1,7 +1,8 @@
 //! The program's command line, and its jobs over files, readers and writers.
 use crate::replays::make_folder;
 use crate::streams::ORDER;
-use station_jobs::{Job, WordsFault, read_job, run};
+use sqlite_disk::Unknown;
+use station_jobs::{Job, StoreName, WordsFault, read_job, run};
 use std::alloc::{AllocError, Global};
 use std::io::{Read, Write};
 use std::test::Fail;
@@ -30,6 +31,14 @@ const LINES: &[(&str, &str)] = &[
         "station serve --connections=1000000 --port=65535 --db=x --site=a",
         "serve a x",
     ),
+    (
+        "station serve --existing --site a --db x --port 80 --connections 1",
+        "serve a x existing",
+    ),
+    (
+        "station replay --site a --db x --existing",
+        "replay a x existing",
+    ),
     ("station check-map map.toml", "check-map map.toml"),
     ("station check-map ../a/map.toml", "check-map ../a/map.toml"),
     ("station check-map -- --help", "check-map --help"),
@@ -55,6 +64,12 @@ const LINES: &[(&str, &str)] = &[
     ("station replay --site a --site b", "refused"),
     ("station replay --site a b", "refused"),
     ("station replay --db x", "refused"),
+    ("station replay --site a --existing", "refused"),
+    (
+        "station replay --site a --db x --existing --existing",
+        "refused",
+    ),
+    ("station replay --site a --db x --existing=yes", "refused"),
     ("station replay --site a --db", "refused"),
     ("station replay --db --site a", "refused"),
     ("station replay --site a --db x --db y", "refused"),
@@ -112,9 +127,9 @@ fn word_for<'a>(text: &'a str, part: &str, word: &'a str) -> &'a str {
 fn outcome(alloc: Global, words: &[&str]) -> Result<String, AllocError> {
     let found = read_job(alloc, words);
     let (outcome, name, store) = match &found {
-        Ok(Job::Replay { site, db }) => ("replay ", site.as_str(), db.as_ref()),
+        Ok(Job::Replay { site, store }) => ("replay ", site.as_str(), store.as_ref()),
         Ok(Job::CheckMap { map }) => ("check-map ", map.as_str(), None),
-        Ok(Job::Serve { site, db, .. }) => ("serve ", site.as_str(), Some(db)),
+        Ok(Job::Serve { site, store, .. }) => ("serve ", site.as_str(), Some(store)),
         Err(WordsFault::Help(text)) => (
             word_for(text.as_str(), "Usage: station", "help"),
             "",
@@ -124,7 +139,10 @@ fn outcome(alloc: Global, words: &[&str]) -> Result<String, AllocError> {
         Err(WordsFault::NoMemory) => ("no memory", "", None),
     };
     match store {
-        Some(store) => format!(in alloc; "{outcome}{name} {}", store.as_str()),
+        Some(StoreName { file, is_existing }) => {
+            let existing = if *is_existing { " existing" } else { "" };
+            format!(in alloc; "{outcome}{name} {}{existing}", file.as_str())
+        }
         None => format!(in alloc; "{outcome}{name}"),
     }
 }
@@ -263,7 +281,7 @@ fn job(alloc: Global, kind: &str, name: &str) -> Result<Job, Fail> {
     if kind == "replay" {
         return Ok(Job::Replay {
             site: name,
-            db: None,
+            store: None,
         });
     }
     Ok(Job::CheckMap { map: name })
@@ -290,7 +308,7 @@ pub fn written_by(
 ) -> Result<String, Fail> {
     let mut out = Vec::new(alloc);
     let mut err = Vec::new(alloc);
-    let status = run(rt, alloc, job, input, &mut out, &mut err);
+    let status = run(rt, alloc, job, input, &mut out, &mut err, Unknown);
     if (status == 1) == err.is_empty() {
         return Err(Fail::from("another status"));
     }
@@ -300,9 +318,9 @@ pub fn written_by(
 
 /// A writer that takes so many bytes and then fails, and may fail to flush. As a reader it fails.
 #[derive(Drop)]
-struct Short {
-    room: usize,
-    flushes: bool,
+pub struct Short {
+    pub room: usize,
+    pub flushes: bool,
 }
 
 impl Read for Short {
@@ -329,6 +347,16 @@ impl Write for Short {
     }
 }
 
+/// A reader whose each call is interrupted.
+#[derive(Drop)]
+struct Interrupting;
+
+impl Read for Interrupting {
+    fn read(&mut self, _room: &mut [u8]) -> io::Result<usize> {
+        Err(io::Error::from(io::ErrorKind::Interrupted))
+    }
+}
+
 /// Does a job to a writer that may fail: the line on standard error.
 fn line_of_failure(
     rt: &HostRuntime,
@@ -338,7 +366,7 @@ fn line_of_failure(
     output: Short,
 ) -> Result<String, Fail> {
     let mut err = Vec::new(alloc);
-    let status = run(rt, alloc, job, input, output, &mut err);
+    let status = run(rt, alloc, job, input, output, &mut err, Unknown);
     if (status == 1) == err.is_empty() {
         return Err(Fail::from("another status"));
     }
@@ -459,5 +487,13 @@ fn failed_reads_and_writes_are_told(rt: HostRuntime) -> Result<(), Fail> {
     assert_eq!(rt; told.as_str(), "station: read failed\n");
     let told = line_of_replay(&rt, rt.alloc(), ORDER.as_bytes())?;
     assert_eq!(rt; told.as_str(), WRITE_FAILED);
+    Ok(())
+}
+
+#[test]
+fn the_limit_of_calls_is_told(rt: HostRuntime) -> Result<(), Fail> {
+    fs::write(&rt, "site.toml", SITE)?;
+    let told = line_of_replay(&rt, rt.alloc(), Interrupting)?;
+    assert_eq!(rt; told.as_str(), "station: turn limit\n");
     Ok(())
 }

@@ -2,10 +2,20 @@
 #![tactic(auto)]
 
 #[cfg(test)]
+mod clients;
+#[cfg(test)]
 mod connections;
 #[cfg(test)]
 mod jobs;
 #[cfg(test)]
+mod patience;
+#[cfg(test)]
+mod refused;
+#[cfg(test)]
 mod replays;
 #[cfg(test)]
+mod serving;
+#[cfg(test)]
 mod streams;
+#[cfg(test)]
+mod words;

@@ -2,7 +2,7 @@
 //! that it refuses.
 use crate::jobs::written_by;
 use crate::streams::{CHUNKS_REFUSED, CUT_ORDER, IN_CHUNKS, with_orders};
-use station_jobs::Job;
+use station_jobs::{Job, StoreName};
 use std::alloc::Global;
 use std::fs;
 use std::test::Fail;
@@ -22,6 +22,7 @@ const FILES_OF_RUNS: &[(&str, &str)] = &[
     (GROWN_SITE, SITE_WITH_A_CUSTOMER),
     ("stored_other.toml", "customer = []\n"),
     ("stored_none.toml", ""),
+    ("bare.db", ""),
     (
         "text.db",
         "This is a text, and neither a database nor empty.\n",
@@ -34,6 +35,8 @@ const ORDER_SHOWN: &str = "GET /v1/order?name=o1 HTTP/1.1\r\nAuthorization: Bear
 /// Runs, one after another: the name of the site's file, that of the store's where there is one, the
 /// stream, in which `$SHOWN` stands for a request that shows the order, and what is written. The
 /// second run over a store finds what the first left. A fault of the site comes before one of the store.
+/// One that has to be there is told so before its name; where it isn't none is made, so that it isn't
+/// there for the next run either.
 const RUNS: &[(&str, Option<&str>, &str, &str)] = &[
     (STORED_SITE, None, CUT_ORDER, ""),
     (STORED_SITE, None, IN_CHUNKS, CHUNKS_REFUSED),
@@ -45,6 +48,31 @@ const RUNS: &[(&str, Option<&str>, &str, &str)] = &[
         "$ORDERED$ORDERED",
     ),
     (STORED_SITE, Some("own.db"), "", ""),
+    (STORED_SITE, Some("existing own.db"), "$SHOWN", "$ORDERED"),
+    (
+        STORED_SITE,
+        Some("existing none.db"),
+        "$ORDER",
+        "station: store fault 2\n",
+    ),
+    (
+        STORED_SITE,
+        Some("existing none.db"),
+        "$ORDER",
+        "station: store fault 2\n",
+    ),
+    (
+        STORED_SITE,
+        Some("existing bare.db"),
+        "$ORDER",
+        "station: store fault 2\n",
+    ),
+    (
+        STORED_SITE,
+        Some("existing text.db"),
+        "$ORDER",
+        "station: store fault 3\n",
+    ),
     (
         "stored_other.toml",
         Some("own.db"),
@@ -103,15 +131,21 @@ const RUNS: &[(&str, Option<&str>, &str, &str)] = &[
     ),
 ];
 
+/// What stands before the name of a store that has to be there.
+const EXISTING: &str = "existing ";
+
 /// The job of a run.
 fn job_of(alloc: Global, site: &str, db: Option<&str>) -> Result<Job, Fail> {
-    let db = match db {
-        Some(db) => Some(Text::copy_of(alloc, db)?),
+    let store = match db {
+        Some(db) => Some(StoreName {
+            file: Text::copy_of(alloc, db.trim_start_matches(EXISTING))?,
+            is_existing: db.starts_with(EXISTING),
+        }),
         None => None,
     };
     Ok(Job::Replay {
         site: Text::copy_of(alloc, site)?,
-        db,
+        store,
     })
 }
 

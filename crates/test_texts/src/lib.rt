@@ -4,6 +4,7 @@
 
 pub mod conversations;
 pub mod earlier;
+pub mod early;
 pub mod samples;
 pub mod schema_one;
 pub mod schema_two;

@@ -3,19 +3,27 @@
 use crate::earlier::Earlier;
 use crate::samples::{OTHER_SITE, SITE, SITE_WITH_A_POOL};
 
-/// The store as SQL that makes it anew: its tables in the order in which they were made, and their rows. It
-/// is `bench/schema1.sql`, with `$TEXT` in place of the sample map's text, its digest and long runs of zeros
-/// by their placeholders. Two customers have orders with addresses and without, a map that both imported, a
-/// device in each state, serial numbers that an import brought, and the reply of each seat's last request.
-pub const SCHEMA_ONE: &str =
+/// The store as SQL that makes it anew, in three parts: its tables in the order in which they were made, and
+/// their rows. It is `bench/schema1.sql`, with `$TEXT` in place of the sample map's text, its digest and long
+/// runs of zeros by their placeholders. Two customers have orders with addresses and without, a map that both
+/// imported, a device in each state, serial numbers that an import brought, and the reply of each seat's last
+/// request.
+pub const BEFORE_GIVEN: &str =
     r#"CREATE TABLE meta (id INTEGER PRIMARY KEY, schema INTEGER NOT NULL, site BLOB NOT NULL) STRICT;
 CREATE TABLE seat (name TEXT NOT NULL, customer TEXT NOT NULL, last INTEGER NOT NULL, digest BLOB NOT NULL, reply TEXT NOT NULL, PRIMARY KEY (name)) STRICT;
 CREATE TABLE map (id INTEGER PRIMARY KEY, body TEXT NOT NULL, digest BLOB NOT NULL, UNIQUE (body)) STRICT;
 CREATE TABLE link (customer TEXT NOT NULL, digest BLOB NOT NULL, map INTEGER NOT NULL, PRIMARY KEY (customer, digest), FOREIGN KEY (map) REFERENCES map (id)) STRICT;
 CREATE TABLE orders (customer TEXT NOT NULL, name TEXT NOT NULL, issuer TEXT NOT NULL, prefix TEXT NOT NULL, width INTEGER NOT NULL, first INTEGER NOT NULL, quantity INTEGER NOT NULL, macs INTEGER NOT NULL, mac TEXT, cursor INTEGER NOT NULL, PRIMARY KEY (customer, name)) STRICT;
 CREATE TABLE device (customer TEXT NOT NULL, chip TEXT NOT NULL, ord TEXT NOT NULL, map BLOB NOT NULL, state TEXT NOT NULL, reason TEXT, bits BLOB NOT NULL, keys BLOB NOT NULL, todo BLOB NOT NULL, serial TEXT, PRIMARY KEY (customer, chip), FOREIGN KEY (customer, ord) REFERENCES orders (customer, name), FOREIGN KEY (customer, map) REFERENCES link (customer, digest)) STRICT;
-CREATE TABLE given (issuer TEXT NOT NULL, serial TEXT NOT NULL, customer TEXT NOT NULL, key BLOB NOT NULL, chip TEXT, mac TEXT, not_after TEXT NOT NULL, PRIMARY KEY (issuer, serial), UNIQUE (issuer, key), UNIQUE (mac, issuer, serial)) STRICT;
-CREATE TABLE ledger (id INTEGER PRIMARY KEY, customer TEXT NOT NULL, chip TEXT NOT NULL, n INTEGER NOT NULL, event TEXT NOT NULL, note TEXT NOT NULL, seat TEXT NOT NULL, bits BLOB NOT NULL, keys BLOB NOT NULL, UNIQUE (customer, chip, n), FOREIGN KEY (customer, chip) REFERENCES device (customer, chip)) STRICT;
+"#;
+
+/// Its table `given`.
+pub const GIVEN: &str =
+    "CREATE TABLE given (issuer TEXT NOT NULL, serial TEXT NOT NULL, customer TEXT NOT NULL, key BLOB NOT NULL, chip TEXT, mac TEXT, not_after TEXT NOT NULL, PRIMARY KEY (issuer, serial), UNIQUE (issuer, key), UNIQUE (mac, issuer, serial)) STRICT;\n";
+
+/// The ledger, and the rows of all tables.
+pub const BEHIND_GIVEN: &str =
+    r#"CREATE TABLE ledger (id INTEGER PRIMARY KEY, customer TEXT NOT NULL, chip TEXT NOT NULL, n INTEGER NOT NULL, event TEXT NOT NULL, note TEXT NOT NULL, seat TEXT NOT NULL, bits BLOB NOT NULL, keys BLOB NOT NULL, UNIQUE (customer, chip, n), FOREIGN KEY (customer, chip) REFERENCES device (customer, chip)) STRICT;
 INSERT INTO meta VALUES (1, 1, x'57ba0f753ed41ffe5734c9f5a8648bfa0b2304459a94f590d3bd5c9ea74c431c');
 INSERT INTO seat VALUES ('a1', 'acme', 34, x'76b71bf1784f7502a9755d317fe3758a541941a04bcdd4f3a083a8c5b7498c70', '{"chip":"000000000009","issuer":"acme-ca","key_sha256":"2c9b255b3fa784b93c407cd04bc84674dcd7ea867a5903be37bd09a88101cd83","mac":null,"not_after":"99991231235959Z","serial":"B0011"}');
 INSERT INTO seat VALUES ('b1', 'bolt', 7, x'f8cbd84ed620d5dd99249d832006bd5b36faeb508f3fd74021ef866a9aed3684', '{"added":1,"present":0}');
@@ -82,7 +90,7 @@ INSERT INTO ledger VALUES (34, 'bolt', '000000000001', 4, 'identified', 'A0009',
 
 /// What the books show, over the store once it is upgraded: no order and no record has a beginning of
 /// validity.
-const SHOWN: &str = r#"
+pub const SHOWN: &str = r#"
 a1 GET /v1/order?name=with-macs
 200 {"first":9,"issuer":"acme-ca","mac":"020000000010","macs":1,"name":"with-macs","next":"A0011",
   "not_before":null,"prefix":"A","quantity":3,"width":4}
@@ -203,12 +211,15 @@ a1 GET /v1/order?name=begun
   "not_before":"20240229120000Z","prefix":"D","quantity":2,"width":3}
 "#;
 
+/// What is asked for of it in turn.
+pub const LIFE: &[&str] = &[SHOWN, REPEATED, SHOWN, GOES_ON, SHOWN_THEN];
+
 /// The store, and what is asked for of it.
 pub const ONE: Earlier = Earlier {
     schema: 1,
-    sql: &[SCHEMA_ONE],
+    sql: &[BEFORE_GIVEN, GIVEN, BEHIND_GIVEN],
     shown: SHOWN,
-    life: &[SHOWN, REPEATED, SHOWN, GOES_ON, SHOWN_THEN],
+    life: LIFE,
 };
 
 /// Changes of the store by SQL, the text of the site for which it is adopted then, and the number of the

@@ -2,7 +2,7 @@
 //! served over it.
 use crate::earlier::Earlier;
 use crate::samples::{OTHER_SITE, SITE, SITE_WITH_A_POOL};
-use crate::schema_one::SCHEMA_ONE;
+use crate::schema_one::{BEFORE_GIVEN, BEHIND_GIVEN, GIVEN};
 
 /// What that program did to the store of schema 1: two tables more, in which no order and no record has a
 /// beginning of validity, and the number.
@@ -94,7 +94,7 @@ a1 GET /v1/order?name=begun
 /// The store, and what is asked for of it.
 pub const TWO: Earlier = Earlier {
     schema: 2,
-    sql: &[SCHEMA_ONE, TAKEN_TO_TWO, BEGUN],
+    sql: &[BEFORE_GIVEN, GIVEN, BEHIND_GIVEN, TAKEN_TO_TWO, BEGUN],
     shown: SHOWN,
     life: &[SHOWN, REPEATED, SHOWN, GOES_ON, SHOWN_THEN],
 };

@@ -5,6 +5,7 @@ use Rattle.sqlite.proofs.StateLemmas.{clean_if_open}
 use Rattle.office_sql.specs.Keeping.{IsReady}
 use Rattle.office_sql.proofs.Asked.{was_clean}
 use Rattle.office_store.specs.Meta.{HoldsSite, HasMeta}
+use Rattle.office_store.specs.Stores.{IsStoreOrNone}
 use Rattle.office_store.proofs.Answers.{ready_if_open}
 use Rattle.office_store.proofs.LeftOfSite.{left_of_site}
 use Rattle.office_store.proofs.Preparing.{left_anew}
@@ -35,6 +36,13 @@ returns-in-Ok-prepare_tables-clause-own g c = λ clean version other earlier tol
     let calm = subst (λ h. HasCleanDisk (state g.S.Store h)) c.over.ensures.conn clean in
     let before = was_clean (state g.S.Store c.in-Ok.conn) (state g.S.Store conn) _ c.prepare_tables.ensures.crash calm in
     c.in-Ok-prepare_tables.ensures.own calm version other earlier (subst (HasMeta version other) (sym (c.in-Ok.ensures.tables before)) told)
+
+pub returns-in-Ok-prepare_tables-clause-was : goal.returns-in-Ok-prepare_tables-clause-was
+returns-in-Ok-prepare_tables-clause-was g c = λ clean.
+    let conn = c.prepare_tables.new.conn in
+    let calm = subst (λ h. HasCleanDisk (state g.S.Store h)) c.over.ensures.conn clean in
+    let before = was_clean (state g.S.Store c.in-Ok.conn) (state g.S.Store conn) _ c.prepare_tables.ensures.crash calm in
+    subst IsStoreOrNone (c.in-Ok.ensures.tables before) (c.in-Ok-prepare_tables.ensures.was calm)
 
 pub returns-in-Ok-prepare_tables-clause-crash : goal.returns-in-Ok-prepare_tables-clause-crash
 returns-in-Ok-prepare_tables-clause-crash g c = λ clean db left.

@@ -1,8 +1,7 @@
 use Rattle.sqlite.specs.Effect.{Database}
 use Rattle.sqlite.proofs.StateLemmas.{clean_if_open}
 use Rattle.office_store.specs.declared.version.Version.TheVariants.{Third}
-use Rattle.office_store.specs.Adopting.{IsGrowable, PreparesTables}
-use Rattle.office_store.specs.Found.{IsFound}
+use Rattle.office_store.specs.Adopting.{IsFoundApart, IsGrowable, PreparesTables}
 use Rattle.office_store.proofs.Refusals.{found_after, is_err, says_of}
 use Rattle.office_store.proofs.Preparing.{refused, prepared_after}
 use Rattle.office_store.proofs.adopting.find_third.Goals as goal
@@ -13,9 +12,10 @@ hold_text-requires g c =
     let old = c.args.conn.now in
     let conn = c.test_third.new.conn in
     let test = c.in_ok-test_third.ensures in
-    let Says = λ (db : Database). IsFound Third db × IsGrowable site.site db in
+    let Says = λ (db : Database). IsFoundApart Third db × IsGrowable site.site db in
     record {
-      found = found_after g.S.Store site old conn Says Third test c.requires.can.shows_committed (λ calm both. both.0);
+      found = found_after g.S.Store site old conn Says Third test c.requires.can.shows_committed (λ calm both. both.0.0);
+      apart = λ calm. (says_of g.S.Store site old conn Says test calm).0.1;
       can = λ calm. (says_of g.S.Store site old conn Says test calm).1;
     }
 

@@ -21,11 +21,11 @@ returns-in-Ok g c =
     let conn = c.grow_text.new.conn in
     let it = c.in-Ok.ensures in
     grew g.S.Store c.args.site.now c.args.conn.now conn (clean_if_open (g.S.Store.view conn.store) (g.met.S.Store.shut_if_dirty conn.store))
-    c.requires.found c.requires.can it.mode it.crash it.ok
+    c.requires.found c.requires.apart c.requires.can it.mode c.requires.other it.crash it.ok
 
 pub returns-in-Err : goal.returns-in-Err
 returns-in-Err g c =
     let conn = c.grow_text.new.conn in
     let it = c.in-Err.ensures in
     not_grown g.S.Store c.args.site.now c.args.conn.now conn (clean_if_open (g.S.Store.view conn.store) (g.met.S.Store.shut_if_dirty conn.store))
-    c.requires.found c.requires.can it.mode it.crash it.err
+    c.requires.found c.requires.apart c.requires.can it.mode c.requires.other it.crash it.err

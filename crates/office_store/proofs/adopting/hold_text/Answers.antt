@@ -1,6 +1,7 @@
-use Rattle.std.proofs.Common.{◌↔◌, Bool, Ok, Err, IsTrue, subst}
+use Rattle.std.proofs.Common.{◌↔◌, ◌∙◌, Bool, Ok, Err, IsTrue, subst, sym, true≢false}
 use Rattle.std.specs.Prelude.{⊤}
 use Rattle.sqlite.specs.declared.error.Error.{Error}
+use Rattle.sqlite.specs.Effect.{Database}
 use Rattle.sqlite.proofs.StateLemmas.{clean_if_open}
 use Rattle.office_store.specs.Found.{Tests}
 use Rattle.office_store.specs.Texts.{HoldsText}
@@ -20,7 +21,7 @@ returns-in-Ok-true g c =
     Tests {E = Error} g.S.Store old conn (Ok c.in-Ok-true.field-0) (λ db same.
     IsTrue same ↔ HoldsText t db)) c.text.ensures.same c.in-Ok-true.ensures in
     has_it g.S.Store c.args.site.now old conn (clean_if_open (g.S.Store.view conn.store) (g.met.S.Store.shut_if_dirty conn.store))
-    c.requires.found c.requires.can (test.mode c.requires.found.mode) c.in-Ok-true.field-0 c.in-Ok-true.field-0-test test
+    c.requires.found c.requires.apart c.requires.can (test.mode c.requires.found.mode) c.in-Ok-true.field-0 c.in-Ok-true.field-0-test test
 
 pub returns-in-Err : goal.returns-in-Err
 returns-in-Err g c =
@@ -30,7 +31,17 @@ returns-in-Err g c =
     Tests {A = Bool} g.S.Store old conn (Err c.in-Err.field-0) (λ db same.
     IsTrue same ↔ HoldsText t db)) c.text.ensures.same c.in-Err.ensures in
     not_asked g.S.Store c.args.site.now old conn (clean_if_open (g.S.Store.view conn.store) (g.met.S.Store.shut_if_dirty conn.store))
-    c.requires.found c.requires.can (test.mode c.requires.found.mode) c.in-Err.field-0 test
+    c.requires.found c.requires.apart c.requires.can (test.mode c.requires.found.mode) c.in-Err.field-0 test
+
+pub grow-requires-clause-other : goal.grow-requires-clause-other
+grow-requires-clause-other g c = λ clean holds.
+    let old = c.args.conn.now in
+    let conn = c.has_text.new.conn in
+    let test = subst (λ t.
+    Tests {E = Error} g.S.Store old conn (Ok c.in-Ok-false.field-0) (λ db same.
+    IsTrue same ↔ HoldsText t db)) c.text.ensures.same c.in-Ok-false.ensures in
+    let had = subst (λ (d : Database). HoldsText c.args.site.now.text d.trees) (test.same clean).0.now_is holds in
+    true≢false (sym ((test.answer clean).1 had) ∙ c.in-Ok-false.field-0-test)
 
 pub returns-in-Ok-false : goal.returns-in-Ok-false
 returns-in-Ok-false g c =

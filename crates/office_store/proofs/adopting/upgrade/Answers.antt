@@ -26,7 +26,7 @@ returns-in-Ok g c =
     let it = c.in-Ok.ensures in
     let crash : Leaves g.S.Store old conn c.args.version c.args.site.now.text = subst (Leaves g.S.Store old conn c.args.version) c.text.ensures.same it.crash in
     upgraded g.S.Store c.args.site.now old conn (clean_if_open (g.S.Store.view conn.store) (g.met.S.Store.shut_if_dirty conn.store))
-    c.args.version c.requires.can.earlier c.requires.found c.requires.names_site it.mode crash
+    c.args.version c.requires.can.earlier c.requires.found c.requires.apart c.requires.names_site it.mode crash
     (subst (λ t. HasCleanDisk (state g.S.Store conn) → IsUpgraded c.args.version t (state g.S.Store old) (state g.S.Store conn)) c.text.ensures.same it.ok)
 
 pub returns-in-Err : goal.returns-in-Err
@@ -36,4 +36,4 @@ returns-in-Err g c =
     let it = c.in-Err.ensures in
     let crash : Leaves g.S.Store old conn c.args.version c.args.site.now.text = subst (Leaves g.S.Store old conn c.args.version) c.text.ensures.same it.crash in
     not_upgraded g.S.Store c.args.site.now old conn (clean_if_open (g.S.Store.view conn.store) (g.met.S.Store.shut_if_dirty conn.store))
-    c.args.version c.requires.can.earlier c.requires.found c.requires.names_site it.mode crash it.err
+    c.args.version c.requires.can.earlier c.requires.found c.requires.apart c.requires.names_site it.mode crash it.err

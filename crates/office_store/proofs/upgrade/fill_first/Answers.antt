@@ -15,7 +15,7 @@ fill_starts-requires-clause-orders g c up =
     let clean = clean_if_open (g.S.Store.view store) (g.met.S.Store.shut_if_dirty store) up in
     let first = c.in_ok-make_later.ensures.changes in
     let found = c.requires (first.inside clean).was_open in
-    lacks_orders _ _ found (first.answer clean found.schema)
+    lacks_orders _ _ found.rows found.starts (first.answer clean found.schema)
 
 pub fill_starts-requires-clause-given : goal.fill_starts-requires-clause-given
 fill_starts-requires-clause-given g c up =
@@ -23,7 +23,7 @@ fill_starts-requires-clause-given g c up =
     let clean = clean_if_open (g.S.Store.view store) (g.met.S.Store.shut_if_dirty store) up in
     let first = c.in_ok-make_later.ensures.changes in
     let found = c.requires (first.inside clean).was_open in
-    lacks_given _ _ found (first.answer clean found.schema)
+    lacks_given _ _ found.rows found.starts (first.answer clean found.schema)
 
 pub returns-clause-changes : goal.returns-clause-changes
 returns-clause-changes g c =
@@ -33,4 +33,4 @@ returns-clause-changes g c =
     said_if_open g.S.Store old new c.fill_starts.result (IsFound First) (λ x z _. IsFilled First x z) c.requires
     (changes_then g.S.Store old mid new c.in_ok-make_later.field-0 c.fill_starts.result
     (λ x y _. x.schema ≡ schema_of First → GainsLater x y) (λ y z _. GainsNoStart y z) (λ x z _. IsFound First x → IsFilled First x z)
-    c.in_ok-make_later.ensures.changes c.fill_starts.ensures.changes (λ x y z _ p q found. first_filled x y found (p found.schema) z q))
+    c.in_ok-make_later.ensures.changes c.fill_starts.ensures.changes (λ x y z _ p q found. first_filled x y found.rows found.starts (p found.schema) z q))

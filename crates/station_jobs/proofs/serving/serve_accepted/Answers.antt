@@ -13,11 +13,11 @@ loop-turn-init g c = record {
 pub loop-turn-preserved : goal.loop-turn-preserved
 loop-turn-preserved g c =
     let seen = c.loop-turn.invariant in
-    let turn = c.serve_connection.ensures in
+    let turn = c.serve_client.ensures in
     record {
       was_honest = λ honest. seen.was_honest (turn.was_honest honest);
       reaches = leads_both g.K.Keep c.args.site.now c.args.keep.now c.loop-turn.keep
-          c.serve_connection.new.keep c.customers-customers.ensures.site turn.was_honest
+          c.serve_client.new.keep c.customers-customers.ensures.site turn.was_honest
           seen.reaches turn.reaches;
       counted = search rules;
     }

@@ -3,7 +3,7 @@ use Rattle.station_jobs.proofs.Leading.{leads_itself}
 use Rattle.station_jobs.proofs.serving.serve_port.Goals as goal
 
 pub returns-in_err-listener-clause-reaches : goal.returns-in_err-listener-clause-reaches
-returns-in_err-listener-clause-reaches g c = leads_itself g.K.Keep c.args.site.now c.args.keep.now
+returns-in_err-listener-clause-reaches g c = search leads_itself
 
 pub returns-then-is_err-clause-reaches : goal.returns-then-is_err-clause-reaches
-returns-then-is_err-clause-reaches g c = leads_itself g.K.Keep c.args.site.now c.args.keep.now
+returns-then-is_err-clause-reaches g c = search leads_itself

@@ -8,3 +8,14 @@ use Rattle.station_jobs.proofs.serving.serve_store.Goals as goal
 pub returns-clause-failed : goal.returns-clause-failed
 returns-clause-failed g c =
     failing c.serve_port-served.result IsOfPort (λ failure. IsOfStore failure ⊎ IsOfPort failure) (λ failure h. inr h) c.serve_port-served.ensures.failed
+
+pub serve_port-served-requires : goal.serve_port-served-requires
+serve_port-served-requires g c = record { limit = c.in_ok-keep.ensures.opened.limit }
+
+pub returns-clause-books : goal.returns-clause-books
+returns-clause-books g c = inr (
+  c.in_ok-keep.keep,
+  c.serve_port-served.new.keep,
+  c.in_ok-keep.ensures.opened,
+  rw c.site.ensures.same at c.serve_port-served.ensures.reaches,
+)

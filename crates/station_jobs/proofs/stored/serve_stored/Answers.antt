@@ -1,16 +1,27 @@
 -- Why `stored::serve_stored` meets its contract, where that has to be said.
-use Rattle.std.proofs.Common.{◌≡◌}
+use Rattle.std.proofs.Common.{◌≡◌, inr}
 use Rattle.station_jobs.specs.Replaying.{IsOfStore}
 use Rattle.station_jobs.proofs.Ending.{fails_before, fails_behind}
 use Rattle.station_jobs.proofs.stored.serve_stored.Goals as goal
 
+pub serve_limited-served-requires-clause-limit : goal.serve_limited-served-requires-clause-limit
+serve_limited-served-requires-clause-limit g c = c.in_ok-keep.ensures.opened.limit
+
 pub returns-clause-failed : goal.returns-clause-failed
 returns-clause-failed g c =
-    let served = c.serve-served.ensures.served in
-    fails_behind IsOfStore c.serve-served.result served.0 served.1
+    let served = c.serve_limited-served.ensures.served in
+    fails_behind IsOfStore c.serve_limited-served.result served.0 served.1
+
+pub returns-clause-books : goal.returns-clause-books
+returns-clause-books g c = inr (
+  c.in_ok-keep.keep,
+  c.serve_limited-served.new.keep,
+  c.in_ok-keep.ensures.opened,
+  rw c.site.ensures.same at c.serve_limited-served.ensures.served,
+)
 
 pub returns-clause-prints_nothing : goal.returns-clause-prints_nothing
 returns-clause-prints_nothing g c =
-    let served = c.serve-served.ensures.served in
-    fails_before (λ _. (c.serve-served.new.reader ≡ c.args.reader.now) × (c.serve-served.new.writer ≡ c.args.writer.now))
-    c.serve-served.result served.0 served.1
+    let served = c.serve_limited-served.ensures.served in
+    fails_before (λ _. (c.serve_limited-served.new.reader ≡ c.args.reader.now) × (c.serve_limited-served.new.writer ≡ c.args.writer.now))
+    c.serve_limited-served.result served.0 served.1

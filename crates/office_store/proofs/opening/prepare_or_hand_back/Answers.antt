@@ -1,4 +1,4 @@
-use Rattle.std.proofs.Common.{◌≡◌, ◌∙◌, ap, rules, subst, sym, IsTrue}
+use Rattle.std.proofs.Common.{◌≡◌, ◌∙◌, ap, rules, subst, sym, true≢false, IsTrue}
 use Rattle.sqlite.specs.Effect.{Database}
 use Rattle.sqlite.specs.State.{HasCleanDisk}
 use Rattle.sqlite.specs.Tree.{Trees}
@@ -8,7 +8,8 @@ use Rattle.office_sql.specs.Keeping.{IsReady}
 use Rattle.office_store.specs.Meta.{HoldsSite}
 use Rattle.office_store.proofs.Answers.{ready_if_open}
 use Rattle.office_store.proofs.LeftOfSite.{left_of_site}
-use Rattle.office_store.proofs.opening.prepare_or_close.Goals as goal
+use Rattle.office_store.proofs.Opened.{taken}
+use Rattle.office_store.proofs.opening.prepare_or_hand_back.Goals as goal
 
 pub over-requires-clause-ready : goal.over-requires-clause-ready
 over-requires-clause-ready g c =
@@ -40,3 +41,9 @@ returns-in-Ok-clause-left g c = λ clean.
 
 pub returns-in-Ok-clause-own : goal.returns-in-Ok-clause-own
 returns-in-Ok-clause-own g c = λ clean. c.in-Ok.ensures.own (subst (λ h. HasCleanDisk (state g.S.Store h)) c.over.ensures.conn clean)
+
+pub returns-in-Ok-clause-was : goal.returns-in-Ok-clause-was
+returns-in-Ok-clause-was g c = λ clean.
+    let calm = subst (λ h. HasCleanDisk (state g.S.Store h)) c.over.ensures.conn clean in
+    taken c.args.absent (state g.S.Store c.args.conn).now (c.in-Ok.ensures.was calm) (c.in-Ok.ensures.there calm)
+    (λ lacks. true≢false (sym (c.lacks_store.ensures.1 lacks) ∙ c.if-lacks_store.false))

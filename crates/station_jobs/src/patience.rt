@@ -1,0 +1,165 @@
+//! How long a connection may wait for its client, while others wait for it.
+ghost use Rattle.std.specs.Prelude.{◌≡◌, ◌↔◌, ◌*◌, ◌≤◌, IsTrue};
+ghost use Rattle.std.specs.Duration.{as_nanos};
+ghost use Rattle.station_jobs.specs.Patience.{IsOver, IsOutOfTime, IsTooLong, IsTurn, MayLook, passed};
+
+use std::time::{Duration, Instant};
+
+/// How many milliseconds the bytes of a client are waited for at a time. Between two such waits the
+/// listener is asked whether another connection waits.
+pub const SLICE_MILLISECONDS: u64 = 50;
+
+/// How many seconds a new connection may say nothing, where another one waits.
+pub const FIRST_BYTE_SECONDS: u64 = 2;
+
+/// How many seconds a connection of which no request is under way may say nothing, where no other one
+/// waits.
+pub const SILENCE_SECONDS: u64 = 10;
+
+/// How many seconds a request may take, from its first byte on.
+pub const REQUEST_SECONDS: u64 = 10;
+
+/// How many seconds a client may take for the bytes of a reply.
+pub const REPLY_SECONDS: u64 = 10;
+
+/// How many seconds a connection may last, where another one waits.
+pub const CONNECTION_SECONDS: u64 = 60;
+
+/// How long a connection may wait for its client.
+#[derive(Clone, Copy)]
+pub struct Bounds {
+    /// One wait for bytes, after which the listener is asked. It isn't 0.
+    pub slice: Duration,
+    /// The first byte of a new connection, where another one waits.
+    pub first_byte: Duration,
+    /// The first byte of a request, where no other connection waits.
+    pub silence: Duration,
+    /// A request, from its first byte on.
+    pub request: Duration,
+    /// The waits of one reply for the client to take it.
+    pub reply: Duration,
+    /// The connection, where another one waits.
+    pub connection: Duration,
+}
+
+impl Bounds {
+    /// The bounds of the program.
+    pub fn of_program() -> Bounds
+        ensures slice { as_nanos result.slice ≡ 50 * 1_000_000 }
+        ensures first_byte { as_nanos result.first_byte ≡ 2 * 1_000_000_000 }
+        ensures silence { as_nanos result.silence ≡ 10 * 1_000_000_000 }
+        ensures request { as_nanos result.request ≡ 10 * 1_000_000_000 }
+        ensures reply { as_nanos result.reply ≡ 10 * 1_000_000_000 }
+        ensures connection { as_nanos result.connection ≡ 60 * 1_000_000_000 }
+    {
+        Bounds {
+            slice: Duration::from_millis(SLICE_MILLISECONDS),
+            first_byte: Duration::from_secs(FIRST_BYTE_SECONDS),
+            silence: Duration::from_secs(SILENCE_SECONDS),
+            request: Duration::from_secs(REQUEST_SECONDS),
+            reply: Duration::from_secs(REPLY_SECONDS),
+            connection: Duration::from_secs(CONNECTION_SECONDS),
+        }
+    }
+}
+
+/// What is waited for.
+#[derive(Clone, Copy)]
+pub enum Awaited {
+    /// The first byte of a new connection.
+    FirstByte,
+    /// The first byte of a request behind others.
+    NextRequest,
+    /// The rest of a request of which something was read.
+    RestOfRequest,
+}
+
+/// A wait for a client.
+#[derive(Clone, Copy)]
+pub struct Wait {
+    /// What is waited for.
+    pub awaited: Awaited,
+    /// Since when: for the rest of a request since its first byte was read.
+    pub since: Instant,
+    /// When the connection began to be served.
+    pub opened: Instant,
+    /// Whether another connection waits.
+    pub another_waits: bool,
+}
+
+/// Whether so much time is no less than a bound.
+fn has_reached(time: Duration, bound: Duration) -> bool
+    ensures { IsTrue result ↔ (as_nanos bound ≤ as_nanos time) }
+{
+    time.checked_sub(bound).is_some()
+}
+
+/// Whether a wait of this length is too long.
+fn is_too_long(bounds: &Bounds, awaited: Awaited, another_waits: bool, waited: Duration) -> bool
+    ensures { IsTrue result ↔ IsTooLong bounds.now awaited another_waits (as_nanos waited) }
+{
+    match awaited {
+        Awaited::FirstByte => {
+            (another_waits && has_reached(waited, bounds.first_byte))
+                || has_reached(waited, bounds.silence)
+        }
+        Awaited::NextRequest => another_waits || has_reached(waited, bounds.silence),
+        Awaited::RestOfRequest => has_reached(waited, bounds.request),
+    }
+}
+
+/// Whether the connection has lasted too long for another one that waits.
+fn is_out_of_time(bounds: &Bounds, wait: &Wait, now: Instant) -> bool
+    ensures { IsTrue result ↔ IsOutOfTime bounds.now wait.now now }
+{
+    wait.another_waits && has_reached(now.duration_since(wait.opened), bounds.connection)
+}
+
+/// Whether a client is waited for no longer, at this moment.
+fn is_over(bounds: &Bounds, wait: &Wait, now: Instant) -> bool
+    ensures { IsTrue result ↔ IsOver bounds.now wait.now now }
+{
+    let waited = now.duration_since(wait.since);
+    is_too_long(bounds, wait.awaited, wait.another_waits, waited)
+        || is_out_of_time(bounds, wait, now)
+}
+
+/// Whether what a client that isn't waited for has sent already is read: that of one of which no
+/// request is under way, while the connection has its time.
+fn may_look(bounds: &Bounds, wait: &Wait, now: Instant) -> bool
+    ensures { IsTrue result ↔ MayLook bounds.now wait.now now }
+{
+    !matches!(wait.awaited, Awaited::RestOfRequest) && !is_out_of_time(bounds, wait, now)
+}
+
+/// What is done for a client next.
+#[derive(Clone, Copy)]
+pub enum Turn {
+    /// It is waited for.
+    Wait,
+    /// What it has sent already is read, and where there is nothing the connection ends.
+    Look,
+    /// The connection ends.
+    End,
+}
+
+/// What is done for a client next, at this moment.
+pub fn turn_of(bounds: &Bounds, wait: &Wait, now: Instant) -> Turn
+    ensures { IsTurn bounds.now wait.now now result }
+{
+    if !is_over(bounds, wait, now) {
+        return Turn::Wait;
+    }
+    if may_look(bounds, wait, now) {
+        Turn::Look
+    } else {
+        Turn::End
+    }
+}
+
+/// Whether a client has taken too long for the bytes of a reply.
+pub fn is_untaken(bounds: &Bounds, waited: Duration) -> bool
+    ensures { IsTrue result ↔ (as_nanos bounds.now.reply ≤ as_nanos waited) }
+{
+    has_reached(waited, bounds.reply)
+}

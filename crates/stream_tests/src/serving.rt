@@ -1,0 +1,208 @@
+//! The job of a port: what the program serves over a file, twice, and where it fails.
+use crate::clients::{Clients, Outcome, Script, Time};
+use crate::streams::{ORDER, ORDERED};
+use office_core::MemKeep;
+use site_core::read_site;
+use sqlite_disk::Unknown;
+use station_jobs::{Bounds, listen, read_job, run, serve_connections};
+use std::alloc::Global;
+use std::cell::{Cell, RefCell};
+use std::io::{ErrorKind, Write};
+use std::net::{Ipv4Addr, SocketAddrV4, TcpStream};
+use std::os::unix::fs::PermissionsExt;
+use std::test::Fail;
+use std::{fs, io};
+use test_texts::samples::SITE;
+
+/// A request that shows the order, and the reply where there is none.
+pub const SHOWN: &str = "GET /v1/order?name=o1 HTTP/1.1\r\nAuthorization: Bearer abc\r\n\r\n";
+
+pub const UNKNOWN: &str =
+    "HTTP/1.1 404 Not Found\r\nContent-Type: application/json\r\nContent-Length: 33\r\n\r\n{\"error\":\"unknown_order\",\"no\":14}";
+
+/// A client that asks once and closes its side.
+const ONE: Script = (0, &[(0, SHOWN), (0, "")], 65_536);
+
+/// How many clients come, one after another.
+const MANY: usize = 1_100;
+
+/// How long a remark in a site's text is, that makes it one of more than 100,000 bytes.
+const LONG_REMARK: usize = 100_000;
+
+/// A site without a manager.
+const SITE_ALONE: &str =
+    "[[customer]]\nname = \"acme\"\nissuer = [\"acme-ca\"]\n[[customer.seat]]\nname = \"a1\"\ntoken = \"ba7816bf8f01cfea414140de5dae2223b00361a396177a9cb410ff61f20015ad\"\n";
+
+/// A writer that holds what is written, and at its flush connects to a port so often and sends there
+/// what each connection is to send.
+#[derive(Drop)]
+struct Callers<'r, 'q, 's, 'v, 'w> {
+    rt: &'r HostRuntime,
+    port: u16,
+    requests: &'q [&'s str],
+    streams: &'v RefCell<Vec<TcpStream>>,
+    written: &'w RefCell<Vec<u8>>,
+}
+
+impl Write for Callers<'_, '_, '_, '_, '_> {
+    fn write(&mut self, bytes: &[u8]) -> io::Result<usize> {
+        match self.written.try_borrow_mut() {
+            Ok(mut written) => written.extend_from_slice(bytes)?,
+            Err(_) => return Err(io::Error::from(ErrorKind::Other)),
+        }
+        Ok(bytes.len())
+    }
+
+    fn flush(&mut self) -> io::Result<()> {
+        let Ok(mut streams) = self.streams.try_borrow_mut() else {
+            return Err(io::Error::from(ErrorKind::Other));
+        };
+        for request in self.requests {
+            let address = SocketAddrV4::new(Ipv4Addr::new(127, 0, 0, 1), self.port);
+            let mut stream = TcpStream::connect(self.rt, address)?;
+            stream.write_all(request.as_bytes())?;
+            if streams.push(stream).is_err() {
+                return Err(io::Error::from(ErrorKind::OutOfMemory));
+            }
+        }
+        Ok(())
+    }
+}
+
+/// What the program writes and what each connection gets, in a run of its port over a store with these
+/// words: the lines on both outputs, and the replies behind each other.
+fn served(
+    rt: &HostRuntime,
+    alloc: Global,
+    port: u16,
+    store: &str,
+    requests: &[&str],
+) -> Result<String, Fail> {
+    let count = requests.len();
+    let line = format!(in alloc;
+        "station serve --site served.toml --port {port} --connections {count} {store}"
+    )?;
+    let words: Vec<&str> = line.split_whitespace().collect(alloc)?;
+    let job = read_job(alloc, words.as_slice()).map_err(|_| "no job")?;
+    let streams = RefCell::new(Vec::new(alloc));
+    let written = RefCell::new(Vec::new(alloc));
+    let callers = Callers {
+        rt,
+        port,
+        requests,
+        streams: &streams,
+        written: &written,
+    };
+    let mut err = Vec::new(alloc);
+    run(rt, alloc, &job, b"".as_slice(), callers, &mut err, Unknown);
+    let mut text = String::from_utf8(written.into_inner()).map_err(|_| "no text")?;
+    text.push_str(String::from_utf8(err).map_err(|_| "no text")?.as_str())?;
+    for stream in streams.into_inner() {
+        text.push_str(io::read_to_string(alloc, stream)?.as_str())?;
+    }
+    Ok(text)
+}
+
+/// A port of this machine that nothing listens on.
+fn free_port(rt: &HostRuntime) -> Result<u16, Fail> {
+    let listener = listen(rt, 0).map_err(|_| "no port")?;
+    Ok(listener.local_addr()?.port())
+}
+
+/// The line of a port, and then what connections got.
+fn with_line(alloc: Global, port: u16, replies: &[&str]) -> Result<String, Fail> {
+    let mut text = format!(in alloc; "listening on 127.0.0.1:{port}\n")?;
+    for reply in replies {
+        text.push_str(reply)?;
+    }
+    Ok(text)
+}
+
+#[test]
+fn the_port_is_of_this_machine_alone(rt: HostRuntime) -> Result<(), Fail> {
+    let listener = listen(&rt, 0).map_err(|_| "no port")?;
+    let ip = listener.local_addr()?.ip().to_string(rt.alloc())?;
+    assert_eq!(rt; ip.as_str(), "127.0.0.1");
+    Ok(())
+}
+
+#[test]
+fn what_a_first_run_issued_the_second_knows(rt: HostRuntime) -> Result<(), Fail> {
+    let alloc = rt.alloc();
+    let remark = "x".repeat(alloc, LONG_REMARK)?;
+    let site = format!(in alloc; "{SITE}# {remark}\n")?;
+    fs::write(&rt, "served.toml", site.as_str())?;
+    let port = free_port(&rt)?;
+    let first = served(&rt, alloc, port, "--db served.db", &[SHOWN, ORDER])?;
+    let wanted = with_line(alloc, port, &[UNKNOWN, ORDERED])?;
+    assert_eq!(rt; first.as_str(), wanted.as_str());
+    let again = "--db served.db --existing";
+    let second = served(&rt, alloc, port, again, &[SHOWN, ORDER])?;
+    let wanted = with_line(alloc, port, &[ORDERED, ORDERED])?;
+    assert_eq!(rt; second.as_str(), wanted.as_str());
+    for name in ["served.db", "served.db-wal"] {
+        let mode = fs::metadata(&rt, name)?.permissions().mode();
+        assert_eq!(rt; mode & 0o777, 0o600, "{name}");
+    }
+    Ok(())
+}
+
+#[test]
+fn failures_of_a_port_are_told_behind_those_of_the_store(rt: HostRuntime) -> Result<(), Fail> {
+    let alloc = rt.alloc();
+    fs::write(&rt, "served.toml", SITE)?;
+    let taken = listen(&rt, 0).map_err(|_| "no port")?;
+    let port = taken.local_addr()?.port();
+    for (store, line) in [
+        ("--db no/such/file", "station: store fault 3\n"),
+        ("--db taken.db", "station: listen failed\n"),
+    ] {
+        let told = served(&rt, alloc, port, store, &[SHOWN])?;
+        assert_eq!(rt; told.as_str(), line, "{store}");
+    }
+    Ok(())
+}
+
+/// Serves so many simulated clients that ask once, for a site without a manager, where as many come:
+/// how many replies they took, or the line of the failure.
+fn replies_to_many(alloc: Global, count: u32, come: usize) -> Result<String, Fail> {
+    let mut scripts = Vec::new(alloc);
+    let mut outcomes = Vec::new(alloc);
+    for _client in 0..come {
+        scripts.push(ONE)?;
+        outcomes.push(Outcome::new(Vec::new(alloc)))?;
+    }
+    let time = Time::new();
+    let clients = Clients {
+        time: &time,
+        scripts: scripts.as_slice(),
+        outcomes: outcomes.as_slice(),
+        come: Cell::new(0),
+        blocks: Cell::new(true),
+    };
+    let site = read_site(alloc, SITE_ALONE)?;
+    let mut keep = MemKeep::new(alloc);
+    let bounds = Bounds::of_program();
+    match serve_connections(&time, alloc, &mut keep, &site, &clients, bounds, count) {
+        Ok(accepted) => {
+            let replies = outcomes
+                .iter()
+                .filter(|outcome| outcome.replies() == 1)
+                .count();
+            Ok(format!(in alloc; "{accepted} accepted, {replies} replied to")?)
+        }
+        Err(failure) => Ok(failure.to_string(alloc)?),
+    }
+}
+
+#[test]
+fn each_connection_is_served(rt: HostRuntime) -> Result<(), Fail> {
+    for (count, come, wanted) in [
+        (1_100, MANY, "1100 accepted, 1100 replied to"),
+        (3, 2, "station: accept failed"),
+    ] {
+        let told = replies_to_many(rt.alloc(), count, come)?;
+        assert_eq!(rt; told.as_str(), wanted, "{count} of {come}");
+    }
+    Ok(())
+}
