@@ -19,6 +19,7 @@ import io
 import json
 import os
 import re
+import selectors
 import shlex
 import subprocess
 import sys
@@ -43,6 +44,10 @@ FAR = 2**53 - 1
 # Answers that say nothing of the request: it is sent again. The pauses between, in seconds, double.
 RETRIED = (502, 503, 504)
 FIRST_PAUSE, LONGEST_PAUSE = 0.1, 10.0
+
+# How many seconds an unused connection is kept: of one that went without a word, as with the machine behind it, a
+# request would wait for its reply in vain.
+LONGEST_IDLE = 30.0
 
 # Refusals: a number that isn't the next, and one that was accepted with another request. Up to these, a refusal says
 # nothing of what became of the same request when it was sent before.
@@ -341,7 +346,9 @@ def answer_of(status: int, kind: str, data: bytes) -> Any:
 
 
 class Station:
-    """A seat: one process and one request at a time. `patience` is how many seconds it asks for a reply."""
+    """A seat: one process and one request at a time. `patience` is how many seconds it asks for a reply.
+
+    Its connection is kept between requests, and made anew where the other side has closed it."""
 
     def __init__(
         self,
@@ -358,8 +365,10 @@ class Station:
             self._connect = lambda: http.client.HTTPSConnection(parts.netloc, timeout=timeout, context=context)
         else:
             self._connect = lambda: http.client.HTTPConnection(parts.netloc, timeout=timeout)
+        self._connection: Optional[http.client.HTTPConnection] = None
+        self._used = 0.0
         self._path = parts.path.rstrip("/")
-        self._fields = {"Authorization": f"Bearer {token}", "Connection": "close"}
+        self._fields = {"Authorization": f"Bearer {token}"}
         self._patience = patience
         self._file = Path(file)
         self._lock = self._locked()
@@ -376,7 +385,8 @@ class Station:
         self.close()
 
     def close(self) -> None:
-        """Lets another process have the state file."""
+        """Closes the connection, and lets another process have the state file."""
+        self._hang_up()
         self._lock.close()
 
     # The state file.
@@ -421,29 +431,52 @@ class Station:
 
     # Requests.
 
+    def _hang_up(self) -> None:
+        if self._connection:
+            self._connection.close()
+            self._connection = None
+
+    def _is_kept(self) -> bool:
+        """Whether the last reply's connection is still there. One that has anything to read is closed: that is its end,
+        or what nobody asked for."""
+        if not self._connection or not self._connection.sock:
+            return False
+        with selectors.DefaultSelector() as selector:
+            selector.register(self._connection.sock, selectors.EVENT_READ)
+            if not selector.select(0) and time.monotonic() - self._used < LONGEST_IDLE:
+                return True
+        self._hang_up()
+        return False
+
     def _once(self, method: str, target: str, body: Optional[bytes]) -> tuple[int, str, bytes]:
-        """What one sending gets: a whole reply, or an error."""
-        connection = self._connect()
+        """What one sending gets: a whole reply, or an error, behind which the connection is closed."""
         try:
+            self._connection = connection = self._connection or self._connect()
             connection.request(method, self._path + target, body, self._fields)
             reply = connection.getresponse()
             data = reply.read()
-        finally:
-            connection.close()
-        if reply.headers.get("Content-Length") != str(len(data)):
-            raise http.client.IncompleteRead(data)
+            if reply.headers.get("Content-Length") != str(len(data)):
+                raise http.client.IncompleteRead(data)
+        except BaseException:
+            self._hang_up()
+            raise
+        self._used = time.monotonic()
         return reply.status, reply.headers.get_content_type(), data
 
     def _asked(self, method: str, target: str, body: Optional[bytes] = None) -> tuple[int, str, bytes, bool]:
         """A reply, asked for until it comes, and whether it was asked for more than once."""
         end, pause, again = time.monotonic() + self._patience, FIRST_PAUSE, False
         while True:
+            is_kept = self._is_kept()
             try:
                 reply = self._once(method, target, body)
                 if reply[0] not in RETRIED:
                     return (*reply, again)
                 fault = f"status {reply[0]}"
             except (OSError, http.client.HTTPException) as error:
+                if is_kept and isinstance(error, ConnectionError):
+                    again = True  # closed while the request was on its way: another connection, at once
+                    continue
                 fault = repr(error)
             if time.monotonic() + pause > end:
                 raise NoReply(f"{method} {target}: {fault}")

@@ -145,6 +145,45 @@ class Proxy:
         self.listener.close()
 
 
+class KeptProxy(Proxy):
+    """Keeps its connections, as the program does; each of `faults`, in turn, befalls a request of one.
+
+    | closed  | it gets its reply, and then the connection is closed |
+    | unread  | the connection is closed when it comes |
+    | dropped | it is read, and then the connection is closed |
+    | done    | it is done, and then the connection is closed |
+    """
+
+    FAULTS = ["closed", "unread", "dropped", "done"]
+
+    def __init__(self, program, faults=()):
+        self.connections, self.ended = 0, threading.Semaphore(0)
+        super().__init__(program, faults)
+
+    def pass_on(self, client):
+        self.connections += 1
+        try:
+            while client.recv(1, socket.MSG_PEEK):
+                fault = self.faults.pop(0) if self.faults else None
+                request = b"" if fault == "unread" else whole(client)
+                self.seen.append((fault, request))
+                reply = b"" if fault in ("unread", "dropped") else self.answered(request)
+                if fault in ("unread", "dropped", "done"):
+                    break
+                client.sendall(reply)
+                if fault == "closed":
+                    break
+        finally:
+            client.close()
+            self.ended.release()
+
+    def answered(self, request):
+        with socket.create_connection((HOST, self.program.port)) as server:
+            server.sendall(request)
+            server.shutdown(socket.SHUT_WR)
+            return b"".join(iter(lambda: server.recv(65536), b""))
+
+
 def whole(client):
     """A request, as far as its Content-Length says."""
     data = b""
@@ -208,8 +247,8 @@ class StationCase(unittest.TestCase):
         self.addCleanup(station.close)
         return station
 
-    def proxy(self, faults=()):
-        proxy = Proxy(self.program, faults)
+    def proxy(self, faults=(), kind=Proxy):
+        proxy = kind(self.program, faults)
         self.addCleanup(proxy.close)
         return proxy
 
