@@ -1,5 +1,5 @@
 -- How long a connection may wait for its client.
-use Rattle.std.specs.Prelude.{ℕ, ◌≢◌, ◌-◌, ◌≤◌, ◌⊎◌, Bool, IsTrue}
+use Rattle.std.specs.Prelude.{ℕ, ◌≢◌, ◌-◌, ◌≤◌, ◌⊎◌, IsTrue}
 use Rattle.std.specs.Duration.{as_nanos}
 use Rattle.std.specs.Time.{instant_nanos}
 use Rattle.std.specs.declared.time.Instant.{Instant}
@@ -14,12 +14,19 @@ use Rattle.station_jobs.specs.declared.patience.Wait.{Wait}
 abbrev pub passed : Instant → Instant → ℕ
 passed earlier later = instant_nanos later - instant_nanos earlier
 
--- a wait of so many nanoseconds for this is too long: a connection that says nothing gives way to
--- another, at once where it has had a reply, and ends where none waits; and a request is whole in time
-abbrev pub IsTooLong : Bounds → Awaited → Bool → ℕ → Type 0
-IsTooLong bounds FirstByte another_waits waited = (IsTrue another_waits × (as_nanos bounds.first_byte ≤ waited)) ⊎ (as_nanos bounds.silence ≤ waited)
-IsTooLong bounds NextRequest another_waits waited = IsTrue another_waits ⊎ (as_nanos bounds.silence ≤ waited)
-IsTooLong bounds RestOfRequest another_waits waited = as_nanos bounds.request ≤ waited
+-- a connection of which no request is under way gives way to another: where it says nothing for one
+-- wait, and where the other one has waited for its turn
+abbrev pub GivesWay : Bounds → Wait → Instant → Type 0
+GivesWay bounds wait now = IsTrue wait.another_waits
+    × ((as_nanos bounds.slice ≤ passed wait.since now) ⊎ (as_nanos bounds.turn ≤ passed wait.another_since now))
+
+-- the wait for this is too long: a connection that says nothing gives way to another, and ends where
+-- none waits; and a request is whole in time
+abbrev pub IsTooLong : Bounds → Wait → Instant → Awaited → Type 0
+IsTooLong bounds wait now FirstByte =
+    (IsTrue wait.another_waits × (as_nanos bounds.first_byte ≤ passed wait.since now)) ⊎ (as_nanos bounds.silence ≤ passed wait.since now)
+IsTooLong bounds wait now NextRequest = GivesWay bounds wait now ⊎ (as_nanos bounds.silence ≤ passed wait.since now)
+IsTooLong bounds wait now RestOfRequest = as_nanos bounds.request ≤ passed wait.since now
 
 -- the connection has lasted too long, where another waits
 abbrev pub IsOutOfTime : Bounds → Wait → Instant → Type 0
@@ -28,7 +35,7 @@ IsOutOfTime bounds wait now = IsTrue wait.another_waits × (as_nanos bounds.conn
 -- the client is waited for no longer
 abbrev pub IsOver : Bounds → Wait → Instant → Type 0
 IsOver bounds wait now =
-    IsTooLong bounds wait.awaited wait.another_waits (passed wait.since now) ⊎ IsOutOfTime bounds wait now
+    IsTooLong bounds wait now wait.awaited ⊎ IsOutOfTime bounds wait now
 
 -- what was sent before is read: where no request is under way, and the connection has its time
 abbrev pub MayLook : Bounds → Wait → Instant → Type 0

@@ -23,6 +23,8 @@ pub struct Line<'a, R, L, S: Drop> {
     stream: RefCell<S>,
     /// How long the client was waited for to take what it is sent, since it was last read.
     untaken: Cell<Duration>,
+    /// Since when another connection was seen to wait, which it then does to the end.
+    another_since: Cell<Option<Instant>>,
 }
 
 /// Whether a call that failed so may be made again: nothing came or was taken in its time.
@@ -58,6 +60,7 @@ impl<'a, R: Clock, S: Drop, L: OpenListener<Stream = S>> Line<'a, R, L, S> {
             opened: Instant::now(clock)?,
             stream: RefCell::new(stream),
             untaken: Cell::new(Duration::ZERO),
+            another_since: Cell::new(None),
         })
     }
 
@@ -66,15 +69,29 @@ impl<'a, R: Clock, S: Drop, L: OpenListener<Stream = S>> Line<'a, R, L, S> {
         Instant::now(self.clock).ok()
     }
 
+    /// Since when another connection waits, of which one is seen to wait now.
+    fn waits_since(&self, now: Instant) -> Instant {
+        match self.another_since.get() {
+            Some(since) => since,
+            None => {
+                self.another_since.set(Some(now));
+                now
+            }
+        }
+    }
+
     /// What is done for the client next, if the clock tells the time.
     fn turn(&self, awaited: Awaited, since: Instant) -> Option<Turn> {
+        let another_waits = self.arrivals.one_waits();
+        let now = self.now()?;
         let wait = Wait {
             awaited,
             since,
             opened: self.opened,
-            another_waits: self.arrivals.one_waits(),
+            another_waits,
+            another_since: if another_waits { self.waits_since(now) } else { now },
         };
-        Some(turn_of(&self.bounds, &wait, self.now()?))
+        Some(turn_of(&self.bounds, &wait, now))
     }
 
     /// Counts a wait of the client for what it is sent, which began at a moment.

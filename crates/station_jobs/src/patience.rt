@@ -1,7 +1,7 @@
 //! How long a connection may wait for its client, while others wait for it.
 ghost use Rattle.std.specs.Prelude.{◌≡◌, ◌↔◌, ◌*◌, ◌≤◌, IsTrue};
 ghost use Rattle.std.specs.Duration.{as_nanos};
-ghost use Rattle.station_jobs.specs.Patience.{IsOver, IsOutOfTime, IsTooLong, IsTurn, MayLook, passed};
+ghost use Rattle.station_jobs.specs.Patience.{GivesWay, IsOver, IsOutOfTime, IsTooLong, IsTurn, MayLook};
 
 use std::time::{Duration, Instant};
 
@@ -22,14 +22,21 @@ pub const REQUEST_SECONDS: u64 = 10;
 /// How many seconds a client may take for the bytes of a reply.
 pub const REPLY_SECONDS: u64 = 10;
 
+/// How many milliseconds a connection of which one request follows the other may go on, where another
+/// one waits.
+pub const TURN_MILLISECONDS: u64 = 400;
+
 /// How many seconds a connection may last, where another one waits.
 pub const CONNECTION_SECONDS: u64 = 60;
 
 /// How long a connection may wait for its client.
 #[derive(Clone, Copy)]
 pub struct Bounds {
-    /// One wait for bytes, after which the listener is asked. It isn't 0.
+    /// One wait for bytes, after which the listener is asked. It isn't 0. A connection of which a
+    /// request was answered, and that says nothing for as long, gives way to another.
     pub slice: Duration,
+    /// A connection of which one request follows the other, since another waits.
+    pub turn: Duration,
     /// The first byte of a new connection, where another one waits.
     pub first_byte: Duration,
     /// The first byte of a request, where no other connection waits.
@@ -46,6 +53,7 @@ impl Bounds {
     /// The bounds of the program.
     pub fn of_program() -> Bounds
         ensures slice { as_nanos result.slice ≡ 50 * 1_000_000 }
+        ensures turn { as_nanos result.turn ≡ 400 * 1_000_000 }
         ensures first_byte { as_nanos result.first_byte ≡ 2 * 1_000_000_000 }
         ensures silence { as_nanos result.silence ≡ 10 * 1_000_000_000 }
         ensures request { as_nanos result.request ≡ 10 * 1_000_000_000 }
@@ -54,6 +62,7 @@ impl Bounds {
     {
         Bounds {
             slice: Duration::from_millis(SLICE_MILLISECONDS),
+            turn: Duration::from_millis(TURN_MILLISECONDS),
             first_byte: Duration::from_secs(FIRST_BYTE_SECONDS),
             silence: Duration::from_secs(SILENCE_SECONDS),
             request: Duration::from_secs(REQUEST_SECONDS),
@@ -85,6 +94,8 @@ pub struct Wait {
     pub opened: Instant,
     /// Whether another connection waits.
     pub another_waits: bool,
+    /// Since when it waits, as far as the listener was asked; of no meaning where none waits.
+    pub another_since: Instant,
 }
 
 /// Whether so much time is no less than a bound.
@@ -94,16 +105,28 @@ fn has_reached(time: Duration, bound: Duration) -> bool
     time.checked_sub(bound).is_some()
 }
 
-/// Whether a wait of this length is too long.
-fn is_too_long(bounds: &Bounds, awaited: Awaited, another_waits: bool, waited: Duration) -> bool
-    ensures { IsTrue result ↔ IsTooLong bounds.now awaited another_waits (as_nanos waited) }
+/// Whether a connection of which no request is under way gives way to another one.
+fn gives_way(bounds: &Bounds, wait: &Wait, now: Instant) -> bool
+    ensures { IsTrue result ↔ GivesWay bounds.now wait.now now }
 {
-    match awaited {
+    wait.another_waits
+        && (has_reached(now.duration_since(wait.since), bounds.slice)
+            || has_reached(now.duration_since(wait.another_since), bounds.turn))
+}
+
+/// Whether a wait for this is too long.
+fn is_too_long(bounds: &Bounds, wait: &Wait, now: Instant) -> bool
+    ensures { IsTrue result ↔ IsTooLong bounds.now wait.now now wait.now.awaited }
+{
+    let waited = now.duration_since(wait.since);
+    match wait.awaited {
         Awaited::FirstByte => {
-            (another_waits && has_reached(waited, bounds.first_byte))
+            (wait.another_waits && has_reached(waited, bounds.first_byte))
                 || has_reached(waited, bounds.silence)
         }
-        Awaited::NextRequest => another_waits || has_reached(waited, bounds.silence),
+        Awaited::NextRequest => {
+            gives_way(bounds, wait, now) || has_reached(waited, bounds.silence)
+        }
         Awaited::RestOfRequest => has_reached(waited, bounds.request),
     }
 }
@@ -119,9 +142,7 @@ fn is_out_of_time(bounds: &Bounds, wait: &Wait, now: Instant) -> bool
 fn is_over(bounds: &Bounds, wait: &Wait, now: Instant) -> bool
     ensures { IsTrue result ↔ IsOver bounds.now wait.now now }
 {
-    let waited = now.duration_since(wait.since);
-    is_too_long(bounds, wait.awaited, wait.another_waits, waited)
-        || is_out_of_time(bounds, wait, now)
+    is_too_long(bounds, wait, now) || is_out_of_time(bounds, wait, now)
 }
 
 /// Whether what a client that isn't waited for has sent already is read: that of one of which no

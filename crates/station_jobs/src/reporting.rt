@@ -1,6 +1,6 @@
 //! What is printed where the words of the command line give no job.
 ghost use Rattle.std.specs.Prelude.{◌++◌, ◌∷◌, [], OnOk};
-ghost use Rattle.std.specs.Io.KnownBytes.{Appends, Keeps};
+ghost use Rattle.std.specs.Io.KnownBytes.{Appends};
 ghost use Rattle.station_jobs.specs.Statuses.{HasStatus, IsReported, line_of};
 
 use crate::failure::Failure;
