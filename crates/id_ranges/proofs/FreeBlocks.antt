@@ -1,8 +1,7 @@
 -- Free blocks of addresses.
-use Rattle.std.proofs.Common.{◌≡◌, ℕ, ◌+◌, ◌<◌, ◌≤◌, max, Bool, true, false, not, List, [], ◌∷◌, Some, None, find, slice_index_or, All, inl, inr, refl, ap}
+use Rattle.std.proofs.Common.{◌≡◌, ℕ, ◌+◌, ◌<◌, ◌≤◌, max, Bool, true, false, not, List, [], ◌∷◌, length, Some, find, slice_index_or, All, inl, inr, ap}
 use Rattle.std.proofs.Common.{sym, ◌∙◌, arith}
-use Rattle.std.proofs.lemmas.Bool.{cases_Bool, lt-ltb, ltb-true, le-leb, leb-true, not-true, and_from, and_parts, both_ways, false_from_ne_true, or_left}
-use Rattle.std.proofs.lemmas.Bool.{or_right, or_from}
+use Rattle.std.proofs.lemmas.Bool.{cases_Bool, lt-ltb, ltb-true, le-leb, leb-true, not-true, and_from, and_parts, both_ways, false_from_ne_true}
 use Rattle.std.proofs.lemmas.List.Folds.{list_any_at, list_any_none}
 use Rattle.std.proofs.lemmas.Option.{none-some, same_Some}
 use Rattle.std.specs.List.{list_any}
@@ -16,24 +15,6 @@ find-passes p (y ∷ ys) x found =
     elim (cases_Bool (p y)) [
       | inl passes ↦ let same : y ≡ x = same_Some y x (rw passes at found) in rw same at passes
       | inr fails ↦ find-passes p ys x (rw fails at found)
-    ]
-
--- where what one test finds passes another, an element passes the other
-pub list_any-from_find : {X : Type 0} (p q : X → Bool) (xs : List X) (x : X) → find p xs ≡ Some x → q x ≡ true → list_any q xs ≡ true
-list_any-from_find p q [] x found also = absurd (none-some x found)
-list_any-from_find p q (y ∷ ys) x found also =
-    elim (cases_Bool (p y)) [
-      | inl passes ↦ let same : y ≡ x = same_Some y x (rw passes at found) in or_left (q y) (list_any q ys) (ap q same ∙ also)
-      | inr fails ↦ or_right (q y) (list_any q ys) (list_any-from_find p q ys x (rw fails at found) also)
-    ]
-
--- nothing is found where no element passes
-pub list_any-from_none : {X : Type 0} (p : X → Bool) (xs : List X) → find p xs ≡ None → list_any p xs ≡ false
-list_any-from_none p [] none = refl
-list_any-from_none p (y ∷ ys) none =
-    elim (cases_Bool (p y)) [
-      | inl passes ↦ absurd (none-some y (sym (rw passes at none)))
-      | inr fails ↦ or_from (p y) (list_any p ys) fails (list_any-from_none p ys (rw fails at none))
     ]
 
 -- two intervals that meet have an address in common
@@ -74,26 +55,25 @@ free-from_apart intervals start count apart =
     ap not (list_any_none (λ interval. is_in interval mac) intervals (λ k d below.
     false_from_ne_true _ (λ passes. apart k d below mac (low, high) (IsIn-from_is_in (slice_index_or intervals k d) mac passes)))))
 
--- where an interval meets a block, no block of that length from the first one's start to the interval's end is free
-pub not_free_later : (intervals : List (ℕ × ℕ)) (start count k : ℕ) (interval : ℕ × ℕ) → 1 ≤ count
-    → find (blocks_overlap (start, count)) intervals ≡ Some interval
-    → start ≤ k → k < interval.0 + interval.1 → is_free intervals count k ≡ false
-not_free_later intervals start count k interval some found low high =
-    let met = IsIn-from_meets (start, count) interval (find-passes (blocks_overlap (start, count)) intervals interval found) in
+-- where the interval at i meets a block, no block of that length from the first one's start to the interval's end is free
+pub not_free_later : (intervals : List (ℕ × ℕ)) (start count k i : ℕ) (interval : ℕ × ℕ) → 1 ≤ count → i < length intervals
+    → interval ≡ slice_index_or intervals i interval → blocks_overlap (start, count) interval ≡ true → start ≤ k → k < interval.0 + interval.1
+    → is_free intervals count k ≡ false
+not_free_later intervals start count k i interval some below here meets low high =
+    let met = IsIn-from_meets (start, count) interval meets in
     let mac : ℕ = max k interval.0 in
     let inside : IsIn interval mac = (omega arith, omega arith) in
     not_free-from_IsIn intervals k count mac (omega arith, omega arith)
-    (list_any-from_find (blocks_overlap (start, count)) (λ i. is_in i mac) intervals interval found (is_in-from_IsIn interval mac inside))
+    (list_any_at (λ j. is_in j mac) intervals i interval below (ap (λ j. is_in j mac) (sym here) ∙ is_in-from_IsIn interval mac inside))
 
 -- a block that no interval meets is free
-pub free_from_none : (intervals : List (ℕ × ℕ)) (start count : ℕ) → find (blocks_overlap (start, count)) intervals ≡ None → is_free intervals count start ≡ true
+pub free_from_none : (intervals : List (ℕ × ℕ)) (start count : ℕ) → ((j : ℕ) (d : ℕ × ℕ) → j < length intervals
+    → blocks_overlap (start, count) (slice_index_or intervals j d) ≡ false)
+    → is_free intervals count start ≡ true
 free_from_none intervals start count none =
     free-from_apart intervals start count (λ k d below mac one other.
-    both_ways _ (list_any-from_none (blocks_overlap (start, count)) intervals none)
-    (list_any_at (blocks_overlap (start, count)) intervals k d below (blocks_overlap-from_IsIn (start, count) (slice_index_or intervals k d) mac one other)))
+    both_ways _ (none k d below) (blocks_overlap-from_IsIn (start, count) (slice_index_or intervals k d) mac one other))
 
 -- the end of an interval that meets a block is past the block's start
-pub end_past_start : (intervals : List (ℕ × ℕ)) (start count : ℕ) (interval : ℕ × ℕ) → find (blocks_overlap (start, count)) intervals ≡ Some interval
-    → start < interval.0 + interval.1
-end_past_start intervals start count interval found =
-    let met = ltb-true _ _ (find-passes (blocks_overlap (start, count)) intervals interval found) in omega arith
+pub end_past_start : (start count : ℕ) (interval : ℕ × ℕ) → blocks_overlap (start, count) interval ≡ true → start < interval.0 + interval.1
+end_past_start start count interval meets = let met = ltb-true _ _ meets in omega arith

@@ -1,5 +1,5 @@
 // The lowest free block of addresses.
-ghost use Rattle.std.specs.Prelude.{◌≡◌, ◌≤◌, ℕ, true, false, find, Any, IfOk, OnErr};
+ghost use Rattle.std.specs.Prelude.{◌≡◌, ◌<◌, ◌≤◌, ◌^◌, ℕ, true, false, find, Any, IfOk, OnErr};
 ghost use Rattle.std.specs.Option.{ok_or};
 ghost use Rattle.id_ranges.specs.Blocks as spec;
 ghost use Rattle.id_ranges.specs.Blocks.{is_free, starts, reserved_start, IsBlockWithin};
@@ -41,23 +41,32 @@ fn start_in(pool: &MacPool, reserved: &[(Mac, u64)], count: u64) -> Option<Mac>
     let last = pool.first().value() + (pool.count() - count);
     let mut start = pool.first().value();
     while start <= last {
-        let Some(interval) = meeting(reserved, start, count) else {
+        let end = end_of_meeting(reserved, start, count);
+        if end == start {
             return Some(Mac::new(start));
-        };
-        start = interval.0.value().saturating_add(interval.1);
+        }
+        start = end;
     }
     None
 }
 
-/// The first interval with an address of the block of `count` addresses from this one on.
-fn meeting(reserved: &[(Mac, u64)], start: u64, count: u64) -> Option<(Mac, u64)>
-    requires { 1 ≤ count }
-    ensures { result ≡ find (spec.blocks_overlap (start, count)) reserved.now }
+/// The end of those intervals that one walk finds to meet the block of `count` addresses, which goes
+/// from this address on, and from the end of each that it finds. The address itself where none
+/// meets it.
+fn end_of_meeting(reserved: &[(Mac, u64)], start: u64, count: u64) -> u64
+    requires count { 1 ≤ count }
+    requires below { start < 2 ^ 48 }
+    ensures past { start ≤ result }
+    ensures taken { (k : ℕ) → start ≤ k → k < result → is_free reserved.now count k ≡ false }
+    ensures free { result ≡ start → is_free reserved.now count start ≡ true }
 {
-    reserved
-        .iter()
-        .copied()
-        .find(|interval| meets(start, count, interval))
+    let mut end = start;
+    for interval in reserved {
+        if meets(end, count, interval) {
+            end = interval.0.value().saturating_add(interval.1);
+        }
+    }
+    end
 }
 
 /// Whether an interval has an address of the block of `count` addresses from this one on.

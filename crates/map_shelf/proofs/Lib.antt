@@ -1,2 +1,4 @@
 -- The lemmas of this crate.
+pub mod Brought
+pub mod NumberedMaps
 pub mod Places

@@ -4,6 +4,7 @@
 
 mod kept_map;
 mod numbered;
+mod recent;
 mod shelf;
 
 pub use numbered::NumberShelf;

@@ -1,11 +1,13 @@
 // The maps that are kept by number.
-ghost use Rattle.std.specs.Prelude.{◌≡◌, ℕ, Option, Some, IfSome, nat_eq, position};
+ghost use Rattle.std.specs.Prelude.{◌≡◌, ◌⊎◌, ℕ, Option, Some, IfNone, IfSome, OnErr, OnOk};
+ghost use Rattle.std.specs.Prelude.{nat_eq, position, remove};
 ghost use Rattle.fusemap_core.specs.Map.{Map};
-ghost use Rattle.map_shelf.specs.Numbers.{AreMapsOfNumbers, IsMapOfNumber};
+ghost use Rattle.map_shelf.specs.Numbers.{AreMapsOfNumbers, numbers_of};
+ghost use Rattle.map_shelf.specs.Recent.{with_first};
 
-use crate::shelf::KEPT_LIMIT;
+use crate::recent::{bring_first, put_first};
 use fusemap_core::FuseMap;
-use std::alloc::Global;
+use std::alloc::{AllocError, Global};
 
 /// A fuse map, and the number of the text that describes it.
 #[derive(Drop)]
@@ -38,45 +40,39 @@ impl NumberShelf {
             → IfSome result (λ map. map_of id ≡ Some map) }
         ensures right { (map_of : ℕ → Option Map) → AreMapsOfNumbers map_of self.old
             → AreMapsOfNumbers map_of self.new }
+        ensures again { IfSome (position (nat_eq id) (numbers_of self.old)) (λ place.
+            numbers_of self.new ≡ with_first id (remove (numbers_of self.old) place)) }
+        ensures other { IfNone (position (nat_eq id) (numbers_of self.old))
+            (numbers_of self.new ≡ numbers_of self.old) }
     {
-        let one = self.take(id)?;
-        let map = one.map.copy().ok();
-        self.put_first(one);
-        map
+        let place = place_of(self.kept.as_slice(), id)?;
+        let map = self.kept[place].map.copy();
+        bring_first(&mut self.kept, place);
+        map.ok()
     }
 
     /// Keeps the fuse map of a number, if there is memory for it.
     pub fn keep(&mut self, id: u64, map: &FuseMap)
-        ensures { (map_of : ℕ → Option Map) → AreMapsOfNumbers map_of self.old
+        ensures right { (map_of : ℕ → Option Map) → AreMapsOfNumbers map_of self.old
             → map_of id ≡ Some map.now
             → AreMapsOfNumbers map_of self.new }
+        ensures kept { (numbers_of self.new ≡ with_first id (numbers_of self.old))
+            ⊎ (numbers_of self.new ≡ numbers_of self.old) }
     {
-        if let Ok(map) = map.copy() {
-            self.put_first(NumberedMap { id, map });
-        }
+        let _unkept = self.put(id, map);
     }
 
-    /// Takes the map of a number out, where it is kept.
-    fn take(&mut self, id: u64) -> Option<NumberedMap>
-        ensures number { IfSome result (λ one. one.id ≡ id) }
-        ensures taken { (map_of : ℕ → Option Map) → AreMapsOfNumbers map_of self.old
-            → IfSome result (IsMapOfNumber map_of) }
+    /// Keeps the fuse map of a number before all others. Where memory runs out for it, nothing
+    /// changes.
+    fn put(&mut self, id: u64, map: &FuseMap) -> Result<(), AllocError>
         ensures right { (map_of : ℕ → Option Map) → AreMapsOfNumbers map_of self.old
+            → map_of id ≡ Some map.now
             → AreMapsOfNumbers map_of self.new }
+        ensures ok { OnOk result (numbers_of self.new ≡ with_first id (numbers_of self.old)) }
+        ensures err { OnErr result (numbers_of self.new ≡ numbers_of self.old) }
     {
-        let place = place_of(self.kept.as_slice(), id)?;
-        Some(self.kept.remove(place))
-    }
-
-    /// Keeps a map before all others, and no more of them than the limit. Where there is no memory
-    /// for it, it isn't kept.
-    fn put_first(&mut self, one: NumberedMap)
-        ensures { (map_of : ℕ → Option Map) → AreMapsOfNumbers map_of self.old
-            → IsMapOfNumber map_of one
-            → AreMapsOfNumbers map_of self.new }
-    {
-        self.kept.truncate(KEPT_LIMIT - 1);
-        let _unkept = self.kept.insert(0, one);
+        let map = map.copy()?;
+        put_first(&mut self.kept, NumberedMap { id, map })
     }
 }
 

@@ -1,38 +1,36 @@
 // The maps that are kept.
-ghost use Rattle.std.specs.Prelude.{◌≡◌, IfOk, IfSome, bytes_eq, position};
+ghost use Rattle.std.specs.Prelude.{◌≡◌, ◌⊎◌, [], Some, IfNone, IfOk, IfSome, OnErr, OnOk, bytes_eq};
+ghost use Rattle.std.specs.Prelude.{position, remove};
 ghost use Rattle.fusemap_core.specs.MapText.{map_in};
+ghost use Rattle.map_shelf.specs.Recent.{with_first};
 
 use crate::kept_map::KeptMap;
+use crate::recent::{bring_first, put_first};
 use fusemap_core::{FuseMap, MapFault, read_map};
 use std::alloc::{AllocError, Global};
 use std::marker::Model;
 use text_core::Text;
 
-/// The most maps that are kept.
-pub(crate) const KEPT_LIMIT: usize = 16;
-
-/// The fuse maps of the last 16 texts that were asked for, each with its whole text. Clauses see
-/// nothing of what is kept, since no answer depends on it.
+/// The fuse maps of the last 16 texts that were asked for, each with its whole text. Clauses see the
+/// texts, the one that was asked for last first. No answer depends on them.
 #[derive(Drop)]
 pub struct MapShelf {
-    /// The text that was asked for last is the first.
     kept: Vec<KeptMap>,
 }
 
 impl Model for MapShelf {
-    ghost use Rattle.std.specs.Prelude.{◌≤◌, vec_len};
-    ghost use Rattle.map_shelf.specs.declared.shelf.TheConstants.{KEPT_LIMIT};
+    ghost use Rattle.std.specs.Prelude.{List, ℕ};
 
-    ghost Value = { Unit {0} };
+    ghost Value = { List (List ℕ) };
 
-    ghost view = { λ _. tt };
-
-    ghost invariant = { λ s. vec_len s.kept ≤ KEPT_LIMIT };
+    ghost view = { λ s. s.kept.items };
 }
 
 impl MapShelf {
     /// A shelf with no map. This takes no memory.
-    pub fn new(alloc: Global) -> MapShelf {
+    pub fn new(alloc: Global) -> MapShelf
+        ensures { result ≡ [] }
+    {
         MapShelf {
             kept: Vec::new(alloc),
         }
@@ -41,35 +39,32 @@ impl MapShelf {
     /// The fuse map that a text describes, if it describes one. `AllocError` where memory ran out
     /// for the map; where it runs out only for keeping it, the map is the answer all the same.
     pub fn find(&mut self, alloc: Global, text: &Text) -> Result<Option<FuseMap>, AllocError>
-        ensures { IfOk result (λ map. map ≡ map_in text.now) }
+        ensures map { IfOk result (λ map. map ≡ map_in text.now) }
+        ensures again { IfSome (position (bytes_eq text.now) self.old) (λ place.
+            self.new ≡ with_first text.now (remove self.old place)) }
+        ensures kept { IfNone (position (bytes_eq text.now) self.old)
+            ((self.new ≡ with_first text.now self.old) ⊎ (self.new ≡ self.old)) }
     {
-        if let Some(kept) = self.take(text) {
-            let map = kept.map();
-            self.put_first(kept);
+        if let Some(place) = place_of(self.kept.as_slice(), text) {
+            let map = self.kept[place].map();
+            bring_first(&mut self.kept, place);
             return Ok(Some(map?));
         }
         let Some(map) = map_of_text(alloc, text)? else {
             return Ok(None);
         };
-        if let Ok(kept) = KeptMap::copy_of(text, &map) {
-            self.put_first(kept);
-        }
+        let _unkept = self.keep(text, &map);
         Ok(Some(map))
     }
 
-    /// Takes the map of a text out, where it is kept.
-    fn take(&mut self, text: &Text) -> Option<KeptMap>
-        ensures { IfSome result (λ kept. kept ≡ text.now) }
+    /// Keeps the map of a text before all others. Where memory runs out for it, nothing changes.
+    fn keep(&mut self, text: &Text, map: &FuseMap) -> Result<(), AllocError>
+        requires { map_in text.now ≡ Some map.now }
+        ensures ok { OnOk result (self.new ≡ with_first text.now self.old) }
+        ensures err { OnErr result (self.new ≡ self.old) }
     {
-        let place = place_of(self.kept.as_slice(), text)?;
-        Some(self.kept.remove(place))
-    }
-
-    /// Keeps a map before all others, and no more of them than the limit. Where there is no memory
-    /// for it, it isn't kept.
-    fn put_first(&mut self, kept: KeptMap) {
-        self.kept.truncate(KEPT_LIMIT - 1);
-        let _unkept = self.kept.insert(0, kept);
+        let kept = KeptMap::copy_of(text, map)?;
+        put_first(&mut self.kept, kept)
     }
 }
 

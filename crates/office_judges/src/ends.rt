@@ -7,7 +7,7 @@ ghost use Rattle.office_judges.specs.Ending.{change_of_end, may_end, step_of_end
 ghost use Rattle.office_judges.specs.Judging.{IsJudged};
 ghost use Rattle.office_judges.specs.Stepping.{IsAccepted};
 
-use crate::placed_device::find_placed;
+use crate::found_device::{find_device, map_of};
 use crate::plans::no_pending;
 use crate::steps::{accept_step, without_addition};
 use crate::{Accepted, Judgement};
@@ -122,13 +122,14 @@ pub(crate) fn judge_end<K: Keep>(
     ensures { ReadsOnly K.Keep keep.old keep.new result (λ t judgement.
         IsJudged customer.now seat.now t (change_of_end end chip.now) judgement) }
 {
-    let Some(found) = find_placed(keep, customer, chip)? else {
+    let Some(found) = find_device(keep, customer, chip)? else {
         return Ok(Judgement::Refused(Refusal::UnknownDevice));
     };
+    let map = map_of(&found)?;
     if !may_end(end, found.device.state) {
         return Ok(Judgement::Refused(Refusal::WrongState));
     }
-    let step = step_of_end(end, &found.map, &found.device);
+    let step = step_of_end(end, map, &found.device);
     let accepted = accept_end(alloc, keep, customer, seat, &step)?;
     Ok(Judgement::Accepted(accepted))
 }

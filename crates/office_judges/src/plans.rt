@@ -9,7 +9,7 @@ ghost use Rattle.office_tables.specs.Reading.{ReadsOnly};
 ghost use Rattle.office_judges.specs.Judging.{IsJudged};
 
 use crate::Judgement;
-use crate::placed_device::find_placed;
+use crate::found_device::{find_device, map_of};
 use crate::steps::{accept_step, without_addition};
 use fuse_columns::{decode_bits, decode_keys, encode_todo};
 use fuse_image::{Bits, Image, Keys, Pending};
@@ -110,15 +110,16 @@ pub(crate) fn judge_plan<K: Keep>(
     ensures { ReadsOnly K.Keep keep.old keep.new result (λ t judgement.
         IsJudged customer.now seat.now t (Change.PlanDevice plan.now) judgement) }
 {
-    let Some(found) = find_placed(keep, customer, &plan.chip)? else {
+    let Some(found) = find_device(keep, customer, &plan.chip)? else {
         return Ok(Judgement::Refused(Refusal::UnknownDevice));
     };
-    let work = match judge_wishes(&found.map, &found.device, plan.wishes.as_slice()) {
+    let map = map_of(&found)?;
+    let work = match judge_wishes(map, &found.device, plan.wishes.as_slice()) {
         Ok(work) => work,
         Err(refusal) => return Ok(Judgement::Refused(refusal)),
     };
-    let body = plan_body(alloc, &found.map, &work, state_of_pending(&work))?;
-    let step = with_work(&found.map, &found.device, &work);
+    let body = plan_body(alloc, map, &work, state_of_pending(&work))?;
+    let step = with_work(map, &found.device, &work);
     let accepted = accept_step(alloc, keep, customer, seat, &step, body)?;
     Ok(Judgement::Accepted(accepted))
 }

@@ -15,7 +15,7 @@ ghost use Rattle.office_rules.specs.ReadBack.{verdict_of_read_back, with_rest, p
 ghost use Rattle.office_judges.specs.Judging.{IsJudged};
 
 use crate::Judgement;
-use crate::placed_device::find_placed;
+use crate::found_device::{find_device, map_of};
 use crate::plans::{known_of, no_pending, state_of_pending};
 use crate::steps::accept_step;
 use fuse_columns::{decode_todo, encode_bits, encode_keys, encode_todo};
@@ -230,16 +230,17 @@ pub(crate) fn judge_read_back<K: Keep>(
     ensures { ReadsOnly K.Keep keep.old keep.new result (λ t judgement.
         IsJudged customer.now seat.now t (Change.ReadBack read.now) judgement) }
 {
-    let Some(found) = find_placed(keep, customer, &read.chip)? else {
+    let Some(found) = find_device(keep, customer, &read.chip)? else {
         return Ok(Judgement::Refused(Refusal::UnknownDevice));
     };
-    let readback = match judge_words(&found.map, &found.device, &read.blocks) {
+    let map = map_of(&found)?;
+    let readback = match judge_words(map, &found.device, &read.blocks) {
         Ok(readback) => readback,
         Err(refusal) => return Ok(Judgement::Refused(refusal)),
     };
-    let (step, verdict) = read_step(&found.map, &found.device, &readback);
+    let (step, verdict) = read_step(map, &found.device, &readback);
     let (outcome, rest) = (outcome_of(&verdict), rest_of(&verdict));
-    let body = outcome_body(alloc, &found.map, outcome, &rest, step.device.state)?;
+    let body = outcome_body(alloc, map, outcome, &rest, step.device.state)?;
     let accepted = accept_step(alloc, keep, customer, seat, &step, body)?;
     Ok(Judgement::Accepted(accepted))
 }

@@ -1,11 +1,12 @@
 // The maps, found by their numbers and by their texts.
-ghost use Rattle.std.specs.Prelude.{◌≡◌, [], None, find, option_map, IfOk, IfSome, OnErr};
+ghost use Rattle.std.specs.Prelude.{◌≡◌, ◌≤◌, [], None, find, map, option_map, IfOk, IfSome, OnErr};
 ghost use Rattle.std.specs.Option.{option_copied};
-ghost use Rattle.office_tables.specs.Tables.{has_body, has_id, map_cmp, with_row};
+ghost use Rattle.office_tables.specs.Numbers.{largest_number, one_more};
+ghost use Rattle.office_tables.specs.Tables.{greatest, has_body, has_id, map_cmp, with_row};
 ghost use Rattle.office_memory.specs.Unplaced.{without};
 
 use crate::table::Table;
-use office_tables::{MapRow, Unkept};
+use office_tables::{MapRow, Unkept, one_more};
 use std::alloc::Global;
 use std::collections::BTreeMap;
 use std::marker::Model;
@@ -59,6 +60,7 @@ impl MapRows {
     /// refused where a map has the text.
     pub(crate) fn add(&mut self, body: Text) -> Result<u64, Unkept>
         ensures free { IfOk result (λ id. find (has_id id) self.old ≡ None) }
+        ensures id_fits { IfOk result (λ id. id ≤ largest_number) }
         ensures placed { IfOk result (λ id. self.new ≡ with_row map_cmp
             (record { id = id; body = body }) self.old) }
         ensures undone { IfOk result (λ id. without (has_id id) self.new ≡ self.old) }
@@ -81,13 +83,14 @@ impl MapRows {
         }
     }
 
-    /// A number that no map has: one above the greatest.
+    /// A number that no map has: one above the greatest, where a table has room for it.
     fn free_id(&self) -> Option<u64>
-        ensures { IfSome result (λ id. find (has_id id) self.now ≡ None) }
+        ensures exact { result ≡ one_more (greatest (map (λ m. m.id) self.now)) }
+        ensures free { IfSome result (λ id. find (has_id id) self.now ≡ None) }
     {
         match self.rows.last() {
-            None => Some(1),
-            Some(map) => map.id.checked_add(1),
+            None => one_more(0),
+            Some(map) => one_more(map.id),
         }
     }
 

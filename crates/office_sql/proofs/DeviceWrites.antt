@@ -138,7 +138,7 @@ device_added d old new office free adds =
     let id = next_rowid rows in
     let is = device_back id d in
     let it = row_added IsDeviceRow device_cmp device_total device_in_row (device_columns d) rows office.rows.devices (refl, refl, refl)
-    (subst (λ x. AllByRecursion (Apart device_cmp device_total x) (map device_in_row rows)) (sym is) (device_free d rows free.0)) in
+    (subst (λ x. AllByRecursion (Apart device_cmp device_total x) (map device_in_row rows)) (sym is) (device_free d rows free)) in
     let changed = devices_changed old new office adds.schema adds.sound adds.others
     (subst (AreRows IsDeviceRow device_cmp device_in_row) (sym adds.row) it.0)
     (with_row device_cmp d (sort_by device_cmp (map device_in_row rows)))

@@ -195,7 +195,7 @@ module _ (g : OfCustomer Given) (address : option_and_then mac_of_text (option_m
       let beside : mid.trees 19 ≡ old.trees 19 = adds.others.1.1.1.1.1.1.1.1.1.0 (λ e. cc) in
       let others = all-permutation (λ y. is_serial_of g.row.issuer g.row.serial y
       ≡ false) _ _ (IsPermutation-sort_by given_cmp given_total (map given_in_row rows))
-      (all_unmap (λ y. is_serial_of g.row.issuer g.row.serial y ≡ false) (with_given_start (old.trees 19)) _ (none_passes _ _ free.0)) in
+      (all_unmap (λ y. is_serial_of g.row.issuer g.row.serial y ≡ false) (with_given_start (old.trees 19)) _ (none_passes _ _ free)) in
       let apart = all_weaker _ (Apart given_cmp given_total (given_in_row new_row)) (λ y e. given_tied g y ∙ e) (map given_in_row rows) others in
       let more = started_more IsGivenRow given_cmp given_total given_in_row starts_given with_text (λ t u a b. refl) given_ties
       (given_columns g) (given_start_columns g) rows (old.trees 19) office.rows.given office.given_started

@@ -71,7 +71,7 @@ pub link_wrote : (l : OfCustomer Link) (old new : Database) → IsOffice old
     → Wrote (AddLink l) old new
 link_wrote l old new office free adds =
     let rows = old.trees 5 in
-    let it = row_added IsLinkRow link_cmp link_total link_in_row (link_columns l) rows office.rows.links (refl, refl) (free_apart l rows free.0) in
+    let it = row_added IsLinkRow link_cmp link_total link_in_row (link_columns l) rows office.rows.links (refl, refl) (free_apart l rows free) in
     let now = links_changed old new office adds.schema adds.sound adds.others
     (subst (AreRows IsLinkRow link_cmp link_in_row) (sym adds.row) it.0) _ (ap (λ l.
     sort_by link_cmp (map link_in_row l)) adds.row ∙ it.1) in

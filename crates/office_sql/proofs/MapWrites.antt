@@ -2,7 +2,6 @@
 use Rattle.std.proofs.Common.{◌≡◌, ℕ, ℤ, pos, ◌==◌, Bool, not, cond, false, true, List, [], ◌∷◌, codes, map, filter, refl, sym, ap, ◌∙◌, subst}
 use Rattle.std.proofs.Common.{is_eq, nat_cmp, arith}
 use Rattle.std.specs.List.{AllByRecursion}
-use Rattle.std.specs.Prelude.{is_some}
 use Rattle.std.proofs.lemmas.Bool.Decides.{nat_tests}
 use Rattle.sqlite.specs.declared.types.Value.TheVariants.{Null, Int}
 use Rattle.sqlite.specs.Order.{Row, column, value_cmp}
@@ -18,10 +17,10 @@ use Rattle.sqlite_keyed.specs.Lists.{sort_by}
 use Rattle.office_tables.specs.declared.rows.OfCustomer.{OfCustomer}
 use Rattle.office_tables.specs.declared.rows.NewMap.{NewMap}
 use Rattle.office_tables.specs.declared.rows.MapRow.{MapRow}
-use Rattle.office_tables.specs.Tables.{map_cmp, has_id, map_at, link_at, with_map, with_link, IsFree}
+use Rattle.office_tables.specs.Tables.{map_cmp, has_id, link_at, with_map, with_link, IsFree}
 use Rattle.office_tables.specs.declared.rows.Link.{Link}
 use Rattle.office_tables.specs.declared.rows.Write.TheVariants.{AddMap, AddLink}
-use Rattle.office_tables.proofs.Finding.{find_none, some_placed}
+use Rattle.office_tables.proofs.Finding.{find_none}
 use Rattle.office_sql.specs.Schema.{map_table, office_schema}
 use Rattle.office_sql.specs.Values.{number_in_cell}
 use Rattle.office_sql.specs.Rows.{map_in_row, map_columns}
@@ -116,17 +115,10 @@ map_gained m id old new office is adds =
       row = adds;
     }
 
-same : (n : ℕ) → (n == n) ≡ true
-same n = grind (arith, nat_tests)
-
 -- the customer's link to the new map can be added
 pub link_free : (m : OfCustomer NewMap) (id : ℕ) (old mid : Database) → IsFree (AddMap m) (tables_in old.trees) → GainsMap m id old mid
     → IsFree (AddLink (record { customer = m.customer; row = record { digest = m.row.digest; map = id } })) (tables_in mid.trees)
-link_free m id old mid free gains =
-    let row : MapRow = record { id = id; body = m.row.body } in (
-      ap (λ t. link_at m.customer m.row.digest t) gains.made ∙ free.1,
-      ap (λ t. is_some (map_at id t)) gains.made ∙ some_placed (has_id id) map_cmp row (tables_in old.trees).maps (same id),
-    )
+link_free m id old mid free gains = ap (λ t. link_at m.customer m.row.digest t) gains.made ∙ free
 
 pub map_wrote : (m : OfCustomer NewMap) (id : ℕ) (old mid new : Database) → GainsMap m id old mid
     → Wrote (AddLink (record { customer = m.customer; row = record { digest = m.row.digest; map = id } })) mid new → Wrote (AddMap m) old new

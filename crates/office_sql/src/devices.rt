@@ -256,9 +256,7 @@ pub(crate) fn put_device<S: Alter>(
     tx: &mut Transaction<'_, S>,
     device: &DeviceRow,
 ) -> Result<(), Error>
-    requires office { HasOffice (state S.Store tx.old.conn.now) }
-    requires free { IsTrue (state S.Store tx.old.conn.now).is_open
-        → IsFree (TheDevice device.now) (tables_in (state S.Store tx.old.conn.now).now.trees) }
+    requires { HasOffice (state S.Store tx.old.conn.now) }
     ensures same_reference { tx.new.conn.ghost_name ≡ tx.old.conn.ghost_name }
     ensures changes { SqlWrites S.Store tx.old.conn.now tx.new.conn.now result (λ old new _.
         Wrote (TheDevice device.now) old new) }

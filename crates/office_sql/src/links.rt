@@ -96,7 +96,7 @@ pub fn visit_links<S: Alter, K: Sink<LinkRow>>(
     )
 }
 
-/// Adds a customer's link to a map that is there.
+/// Adds a customer's link to a map.
 pub(crate) fn add_link<S: Alter>(tx: &mut Transaction<'_, S>, link: &LinkRow) -> Result<(), Error>
     requires office { HasOffice (state S.Store tx.old.conn.now) }
     requires free { IsTrue (state S.Store tx.old.conn.now).is_open

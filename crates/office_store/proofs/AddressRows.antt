@@ -1,5 +1,5 @@
 -- That no two records have one address, by the texts that a walk shows in their order.
-use Rattle.std.proofs.Common.{◌≡◌, ◌↔◌, ℕ, Bool, true, false, not, cond, List, [], ◌∷◌, Option, Some, None, codes, map, filter, refl, sym, ap, ap₂, subst, ◌∙◌}
+use Rattle.std.proofs.Common.{◌≡◌, ◌↔◌, ℕ, Bool, true, false, cond, List, [], ◌∷◌, Some, None, codes, map, filter, refl, sym, ap, ap₂, subst, ◌∙◌}
 use Rattle.std.proofs.Common.{IsPermutation, Ordering, is_eq, is_ge, is_gt}
 use Rattle.std.specs.Prelude.{bytes_eq, IsSorted}
 use Rattle.std.specs.Ordering.{nat_cmp, on}
@@ -27,12 +27,12 @@ use Rattle.sqlite_keyed.proofs.ListLemmas.{map-map}
 use Rattle.sqlite_sql.specs.declared.ops.BinaryOp.TheVariants.{Compare}
 use Rattle.sqlite_sql.specs.declared.ops.CompareOp.TheVariants.{Ge}
 use Rattle.sqlite_tied.specs.Compute.{everything}
-use Rattle.sqlite_trees.proofs.ListLemmas.{all-filter, all-permutation, ascending-map}
+use Rattle.sqlite_trees.proofs.ListLemmas.{all-permutation, ascending-map}
 use Rattle.sqlite_value.specs.declared.keys.Key.{Key}
 use Rattle.sqlite_value.specs.Keys.{ascending}
 use Rattle.sqlite_value.proofs.OrderLemmas.{value_cmp_total, value_cmp-Text, then-Equal}
 use Rattle.office_sql.specs.Joins.{over}
-use Rattle.office_sql.specs.Scan.{env, passes, passing, scan}
+use Rattle.office_sql.specs.Scan.{env, passes, scan}
 use Rattle.office_sql.specs.Tables.{IsTextIf}
 use Rattle.office_sql.specs.Values.{text_if, text_value}
 use Rattle.office_sql.proofs.Kept.{narrowed}
@@ -41,9 +41,8 @@ use Rattle.office_sql.proofs.Scan.{Scanned, scanned}
 use Rattle.office_sql.proofs.Values.{and_true, texts_cmp}
 use Rattle.office_store.specs.declared.version.Version.{Version}
 use Rattle.office_store.specs.declared.version.Version.TheVariants.{Earliest, Early, First, Second, Third}
-use Rattle.office_store.specs.Addresses.{address_texts, shows_again, HasApartAddresses, HasNoRepeat}
+use Rattle.office_store.specs.Addresses.{address_texts, HasApartAddresses, HasNoRepeat}
 use Rattle.office_store.specs.Versions.{schema_of}
-use Rattle.office_store.proofs.FoundResults.{iff_then}
 
 -- ---- the text
 

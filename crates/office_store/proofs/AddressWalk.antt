@@ -17,7 +17,6 @@ use Rattle.office_sql.proofs.LedgerAsked.{IsReadAs}
 use Rattle.office_store.specs.declared.version.Version.{Version}
 use Rattle.office_store.specs.Addresses.{shows_again, HasApartAddresses, HasNoRepeat, HasWalked}
 use Rattle.office_store.specs.Found.{IsFound}
-use Rattle.office_store.specs.Versions.{schema_of}
 use Rattle.office_store.proofs.AddressRows.{addresses_body, addresses_read, addresses_text, shows_apart}
 use Rattle.office_store.proofs.FoundAsked.{of_a_version}
 use Rattle.office_store.proofs.FoundResults.{iff_then}

@@ -25,7 +25,7 @@ returns-in-Err-clause-right g c = λ up clean. c.find.ensures.right (fuse_map_at
 pub returns-in-Ok-Some-clause-right : goal.returns-in-Ok-Some-clause-right
 returns-in-Ok-Some-clause-right g c = λ up clean.
     let map_of = fuse_map_at (tables_in (state g.S.Store c.args.conn.now).now.trees) in
-    c.keep.ensures map_of (c.find.ensures.right map_of (c.requires.known up)) (sym (c.in-Ok-Some.ensures.answer clean) ∙ c.in-Ok-Some.field-0-is)
+    c.keep.ensures.right map_of (c.find.ensures.right map_of (c.requires.known up)) (sym (c.in-Ok-Some.ensures.answer clean) ∙ c.in-Ok-Some.field-0-is)
 
 pub returns-in-Ok-None-clause-right : goal.returns-in-Ok-None-clause-right
 returns-in-Ok-None-clause-right g c = λ up clean.

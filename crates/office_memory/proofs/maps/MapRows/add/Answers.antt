@@ -16,7 +16,7 @@ invariant_of-self-in-Ok c =
     let body = c.args.body in
     let id = c.in-Some.id in
     let free_text : find (has_body body) rows ≡ None = no_map (find (has_body body) rows) (rw (c.as_str.ensures, ← c.self.view_is) at c.in-None.ensures) in
-    let free_id : find (has_id id) rows ≡ None = rw (← c.self.view_is) at c.in-Some.ensures in
+    let free_id : find (has_id id) rows ≡ None = rw (← c.self.view_is) at c.in-Some.ensures.free in
     let key : string_bytes c.into_string-key.result ≡ body = c.into_string-key.ensures ∙ c.in_ok-copy.ensures in
     let writes : WritesAt c.self.inside.ids c.insert-2.new.self body (Some id) =
     rw key at (btree_map_updates_text (string_bytes c.into_string-key.result) c.self.inside.ids c.insert-2.new.self (Some id) c.in-Ok.ensures.updates) in
@@ -26,7 +26,7 @@ invariant_of-self-in-Ok c =
 pub invariant_of-self-in-Err : goal.invariant_of-self-in-Err
 invariant_of-self-in-Err c =
     let rows = c.self.inside.rows in
-    let free_id : find (has_id c.in-Some.id) rows ≡ None = rw (← c.self.view_is) at c.in-Some.ensures in
+    let free_id : find (has_id c.in-Some.id) rows ≡ None = rw (← c.self.view_is) at c.in-Some.ensures.free in
     rw (
       c.remove.ensures.other_rows,
       without_map c.in-Some.id c.insert.new.self,
@@ -40,7 +40,7 @@ returns-clause-undone c =
     elim c.match-insert.branch [
       | in-Ok w ↦
           rw (w.result-is, w.self-is, c.in_ok-insert.ensures.placed, ← c.self.view_is)
-          (without-placed_map (record { id = c.in-Some.id; body = c.args.body }) c.self.inside.rows (rw (← c.self.view_is) at c.in-Some.ensures))
+          (without-placed_map (record { id = c.in-Some.id; body = c.args.body }) c.self.inside.rows (rw (← c.self.view_is) at c.in-Some.ensures.free))
       | in-Err w ↦ rw w.result-is tt
     ]
 
@@ -50,7 +50,7 @@ returns-clause-err c =
       | in-Ok w ↦ rw w.result-is tt
       | in-Err w ↦
           let rows = c.self.inside.rows in
-          let free_id : find (has_id c.in-Some.id) rows ≡ None = rw (← c.self.view_is) at c.in-Some.ensures in
+          let free_id : find (has_id c.in-Some.id) rows ≡ None = rw (← c.self.view_is) at c.in-Some.ensures.free in
           rw (
             w.result-is,
             w.self-is,
