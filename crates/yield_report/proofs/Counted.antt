@@ -1,15 +1,26 @@
 -- Devices counted in the lines of orders.
-use Rattle.std.proofs.Common.{◌≡◌, ℕ, ◌+◌, Bool, true, false, List, [], ◌∷◌, map, length, refl, sym, ap, ap₂, ◌∙◌, arith}
+use Rattle.std.proofs.Common.{◌≡◌, ℕ, ◌+◌, ◌<◌, Bool, true, false, List, [], ◌∷◌, map, length, get_or, slice_set, Ordering, Less, Equal, Greater}
+use Rattle.std.proofs.Common.{Result, Ok, Err, inl, inr, refl, sym, ap, ap₂, ◌∙◌, subst, arith}
 use Rattle.std.specs.Prelude.{filter, bytes_eq}
+use Rattle.std.specs.List.Sorted.{IsBinarySearchResult, IsSortedBy}
+use Rattle.std.specs.Ordering.{is_eq, is_lt, ordering_reverse}
+use Rattle.std.proofs.lemmas.Bool.{cases_lt}
 use Rattle.std.proofs.lemmas.Bool.Decides.{nat_tests}
+use Rattle.std.proofs.lemmas.Cmp.{nat_list_cmp_total, nat_list_eq_equiv}
+use Rattle.std.proofs.lemmas.List.Sorted.{searchable_from_sorted}
+use Rattle.std.proofs.lemmas.Map.Keys.{Less-from_sorted}
+use Rattle.std.proofs.lemmas.Map.Text.{is_eq-slice_cmp}
+use Rattle.std.proofs.lemmas.Slice.Eq.{bytes_eq-Decides}
+use Rattle.office_tables.specs.Tables.{text_cmp}
 use Rattle.office_tables.specs.declared.rows.Device.{Device}
 use Rattle.office_tables.specs.declared.rows.OfCustomer.{OfCustomer}
 use Rattle.office_tables.specs.Keeping.{Visits}
 use Rattle.yield_report.specs.Counts.{added, devices_of}
-use Rattle.yield_report.specs.Lines.{counted, counts, AreLines, CountsDevice}
+use Rattle.yield_report.specs.Lines.{counted, counts, names_cmp, AreInOrder, AreLines, CountsDevice}
 use Rattle.yield_report.specs.declared.devices.DeviceScan.{DeviceScan}
 use Rattle.yield_report.specs.declared.lines.OrderLine.{OrderLine}
 use Rattle.yield_report.specs.declared.yields.Yield.{Yield}
+use Rattle.yield_report.proofs.InOrder.{map_at, map_none, sorted_map}
 
 -- a number that nothing is added to
 plus_none : (n : ℕ) → n + 0 ≡ n
@@ -82,17 +93,23 @@ pub map_counted_more : (d : Device) (ds : List Device) (lines : List OrderLine) 
 map_counted_more d ds [] = refl
 map_counted_more d ds (line ∷ lines) = ap₂ (λ (l : OrderLine) (ls : List OrderLine). l ∷ ls) (counted_more d ds line) (map_counted_more d ds lines)
 
+-- a line keeps its name
+pub counted_in_order : (ds : List Device) (lines : List OrderLine) → AreInOrder lines → AreInOrder (map (counted ds) lines)
+counted_in_order ds lines ordered = sorted_map names_cmp (counted ds) (λ x y. refl) lines ordered
+
 abbrev devices_in : List (OfCustomer Device) → List Device
 devices_in rows = map (λ o. o.row) rows
 
 -- a walk in which each number had room counts all devices
 pub devices_counted : (old : DeviceScan) (rows : List (OfCustomer Device)) (new : DeviceScan) → Visits CountsDevice old rows new → new.is_over ≡ false
-    → new.lines.items ≡ map (counted (devices_in rows)) old.lines.items
-devices_counted old [] new v room = ap (λ (s : DeviceScan). s.lines.items) v ∙ sym (map_counted_none old.lines.items)
-devices_counted old (row ∷ rows) new (true, mid, taken, later) room =
-    devices_counted mid rows new later room ∙ (ap (map (counted (devices_in rows))) (taken.lines refl)
+    → AreInOrder old.lines.items → new.lines.items ≡ map (counted (devices_in rows)) old.lines.items
+devices_counted old [] new v room ordered = ap (λ (s : DeviceScan). s.lines.items) v ∙ sym (map_counted_none old.lines.items)
+devices_counted old (row ∷ rows) new (true, mid, taken, later) room ordered =
+    let here = taken.lines refl ordered in
+    devices_counted mid rows new later room (subst AreInOrder (sym here) (counted_in_order (row.row ∷ []) old.lines.items ordered))
+    ∙ (ap (map (counted (devices_in rows))) here
     ∙ map_counted_more row.row (devices_in rows) old.lines.items)
-devices_counted old (row ∷ rows) new (false, mid, taken, later) room =
+devices_counted old (row ∷ rows) new (false, mid, taken, later) room ordered =
     let over : new.is_over ≡ true = ap (λ (s : DeviceScan). s.is_over) later ∙ taken.over refl in
     cc
 
@@ -103,3 +120,58 @@ devices_fit old (row ∷ rows) new (true, mid, taken, later) room fit = devices_
 devices_fit old (row ∷ rows) new (false, mid, taken, later) room fit =
     let over : new.is_over ≡ true = ap (λ (s : DeviceScan). s.is_over) later ∙ taken.over refl in
     absurd (cc)
+
+-- a device of another order changes nothing
+counted_other : (d : Device) (line : OrderLine) → bytes_eq line.name d.order ≡ false → counted (d ∷ []) line ≡ line
+counted_other d line other =
+    let none : devices_of line.name (d ∷ []) ≡ [] = rw other refl in
+    ap (λ (ds : List Device). record line { numbers = added line.numbers (counts ds) }) none ∙ counted_none line
+
+-- a name that compares equal is the same, and one that doesn't differs
+equal_name : (a b : List ℕ) → text_cmp a b ≡ Equal → a ≡ b
+equal_name a b equal = (bytes_eq-Decides a b).0 (sym (is_eq-slice_cmp a b) ∙ ap is_eq equal)
+
+other_name : (a b : List ℕ) (o : Ordering) → text_cmp a b ≡ o → is_eq o ≡ false → bytes_eq a b ≡ false
+other_name a b o is other = sym (is_eq-slice_cmp a b) ∙ (ap is_eq is ∙ other)
+
+-- the names of two lines differ
+names_differ : (lines : List OrderLine) → AreInOrder lines → (i k : ℕ) (d : OrderLine) → i < length lines → k < length lines → (k ≡ i → ⊥)
+    → bytes_eq (get_or lines k d).name (get_or lines i d).name ≡ false
+names_differ lines ordered i k d within inside other =
+    elim (cases_lt k i) [
+      | inl less ↦ other_name (get_or lines k d).name (get_or lines i d).name Less (Less-from_sorted names_cmp lines k i d ordered less within) refl
+      | inr most ↦
+          nat_list_eq_equiv.symm (get_or lines k d).name (get_or lines i d).name
+          ∙ other_name (get_or lines i d).name (get_or lines k d).name Less (Less-from_sorted names_cmp lines i k d ordered (omega arith) inside) refl
+    ]
+
+-- the device is of the line that was found, and of no other
+pub counted_at : (d : Device) (lines slice : List OrderLine) (r : Result ℕ ℕ) (i : ℕ) (line : OrderLine) → AreInOrder lines → slice ≡ lines
+    → IsBinarySearchResult (λ (l : OrderLine). text_cmp l.name d.order) slice r → r ≡ Ok i → i < length lines → line ≡ get_or lines i line
+    → slice_set lines i (counted (d ∷ []) line) ≡ map (counted (d ∷ [])) lines
+counted_at d lines slice r i line ordered same found is within read =
+    let here = subst (IsBinarySearchResult (λ (l : OrderLine). text_cmp l.name d.order) lines) is
+    (subst (λ ls. IsBinarySearchResult (λ (l : OrderLine). text_cmp l.name d.order) ls r) same found) in
+    sym (map_at (counted (d ∷ [])) lines i line within read (λ k e inside other.
+    counted_other d (get_or lines k e)
+    (ap (bytes_eq (get_or lines k e).name) (sym (equal_name (get_or lines i e).name d.order (here e)))
+    ∙ names_differ lines ordered i k e within inside other)))
+
+-- names in order can be searched
+searchable : (lines : List OrderLine) → AreInOrder lines → IsSortedBy (λ a b. is_lt (names_cmp a b)) lines
+searchable lines ordered k d least within =
+    ap is_lt (nat_list_cmp_total.antisymm (get_or lines (k + 1) d).name (get_or lines k d).name
+    ∙ ap ordering_reverse (Less-from_sorted names_cmp lines k (k + 1) d ordered (omega arith) within))
+
+-- the device is of none
+pub counted_nowhere : (d : Device) (lines slice : List OrderLine) (r : Result ℕ ℕ) (i : ℕ) → AreInOrder lines → slice ≡ lines
+    → IsBinarySearchResult (λ (l : OrderLine). text_cmp l.name d.order) slice r → r ≡ Err i → lines ≡ map (counted (d ∷ [])) lines
+counted_nowhere d lines slice r i ordered same found is =
+    let point = subst (IsBinarySearchResult (λ (l : OrderLine). text_cmp l.name d.order) lines) is
+    (subst (λ ls. IsBinarySearchResult (λ (l : OrderLine). text_cmp l.name d.order) ls r) same found)
+    (searchable_from_sorted nat_list_cmp_total (λ (l : OrderLine). l.name) lines d.order (searchable lines ordered)) in
+    sym (map_none (counted (d ∷ [])) lines (λ k e within.
+    counted_other d (get_or lines k e) (elim (cases_lt k i) [
+      | inl below ↦ other_name (get_or lines k e).name d.order Less (point.0 k e (omega arith) below) refl
+      | inr past ↦ other_name (get_or lines k e).name d.order Greater (point.1 k e past within) refl
+    ])))

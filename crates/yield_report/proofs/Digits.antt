@@ -3,9 +3,10 @@ use Rattle.std.proofs.Common.{◌≡◌, ◌≢◌, ℕ, zero, suc, ◌+◌, ◌
 use Rattle.std.proofs.Common.{decimal, Some, None, inl, inr, refl, sym, ap, ◌∙◌, arith}
 use Rattle.std.specs.Str.{bytes_eq}
 use Rattle.std.specs.Str.Parse.{digits_value, AllDigits}
-use Rattle.std.specs.List.{list_any, range_with_len}
+use Rattle.std.specs.Prelude.{◌&&◌, nat_le}
+use Rattle.std.specs.List.{list_all, list_any, range_with_len}
 use Rattle.std.proofs.Math.Nat.{pow-le-pow_right}
-use Rattle.std.proofs.lemmas.Bool.{both_ways, cases_lt, or_left, or_right, or_from, false_from_ne_true}
+use Rattle.std.proofs.lemmas.Bool.{and_from, and_parts, both_ways, cases_lt, le-leb, leb-true, or_left, or_right, or_from, false_from_ne_true}
 use Rattle.std.proofs.lemmas.Slice.Eq.{bytes_eq-Decides}
 use Rattle.std.proofs.lemmas.Option.{none-some, same_Some}
 use Rattle.std.proofs.lemmas.Int.Digits.{digits_value-lt, digits_value_more}
@@ -15,7 +16,9 @@ use Rattle.std.proofs.lemmas.Fmt.{decimal_is_IsNumeral}
 use Rattle.std.proofs.lemmas.List.{drop_at, take_at, take_rest}
 use Rattle.text_core.specs.Padding.{zero_padded}
 use Rattle.id_ranges.specs.Range.{Range, IsRange, Has, serial_text_of}
-use Rattle.id_ranges.proofs.Texts.{is_small}
+use Rattle.text_core.specs.Prefix.{is_prefix, prefix_of_text}
+use Rattle.text_core.specs.Serial.{is_serial, is_serial_byte}
+use Rattle.id_ranges.proofs.Texts.{is_small, length-serial_text_of}
 use Rattle.yield_report.specs.Serials.{has_serial}
 
 -- at most nine digits write a small number
@@ -58,6 +61,33 @@ digits_of_text r n serial is = ap (drop (length r.prefix)) is ∙ drop_at r.pref
 
 pub front_of_text : (r : Range) (n : ℕ) (serial : List ℕ) → serial ≡ serial_text_of r n → take (length r.prefix) serial ≡ r.prefix
 front_of_text r n serial is = ap (take (length r.prefix)) is ∙ take_at r.prefix (zero_padded r.width (decimal n)) (length r.prefix) refl
+
+-- a serial number in the two parts of its length and the width
+pub front_is : (r : Range) → IsRange r → (n : ℕ) → Has r n → (serial bytes front : List ℕ) (width count : ℕ) → serial ≡ serial_text_of r n → bytes ≡ serial
+    → r.width ≡ width → count ≡ width → front ≡ take (length bytes - count) bytes → front ≡ r.prefix
+front_is r is n has serial bytes front width count text same wide counts cut =
+    let size = length-serial_text_of r is n has in
+    let at : length bytes - count ≡ length r.prefix = omega (arith, size, ap length text, ap length same, wide, counts) in
+    cut ∙ (ap (λ k. take k bytes) at ∙ (ap (take (length r.prefix)) same ∙ front_of_text r n serial text))
+
+pub back_is : (r : Range) → IsRange r → (n : ℕ) → Has r n → (serial bytes back : List ℕ) (width count : ℕ) → serial ≡ serial_text_of r n → bytes ≡ serial
+    → r.width ≡ width → count ≡ width → back ≡ drop (length bytes - count) bytes → back ≡ drop (length r.prefix) serial
+back_is r is n has serial bytes back width count text same wide counts cut =
+    let size = length-serial_text_of r is n has in
+    let at : length bytes - count ≡ length r.prefix = omega (arith, size, ap length text, ap length same, wide, counts) in
+    cut ∙ (ap (λ k. drop k bytes) at ∙ ap (drop (length r.prefix)) same)
+
+-- the text of a prefix is one
+pub prefix_found : (text prefix : List ℕ) → text ≡ prefix → is_prefix prefix ≡ true → prefix_of_text text ≡ Some prefix
+prefix_found text prefix same is = ap prefix_of_text same ∙ rw is refl
+
+pub prefix_is_serial : (text : List ℕ) → is_prefix text ≡ true → is_serial text ≡ true
+prefix_is_serial text is =
+    let parts = and_parts (nat_le 1 (length text) && nat_le (length text) 32) (list_all is_serial_byte text) is in
+    let lengths = and_parts (nat_le 1 (length text)) (nat_le (length text) 32) parts.0 in
+    let short = leb-true _ _ lengths.1 in
+    let few : length text ≤ 64 = omega (arith, short) in
+    and_from _ _ (and_from _ _ lengths.0 (le-leb _ _ few)) parts.1
 
 -- the number that they write is the serial number's
 pub value_of_text : (r : Range) → IsRange r → (n : ℕ) → Has r n → (serial : List ℕ) → serial ≡ serial_text_of r n → (digits : List ℕ)

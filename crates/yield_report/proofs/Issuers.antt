@@ -1,5 +1,5 @@
 -- One walk for each issuer leaves each line what isn't given in its own.
-use Rattle.std.proofs.Common.{Option, ◌≡◌, ℕ, ◌+◌, ◌<◌, Bool, true, false, not, List, [], ◌∷◌, ◌++◌, map, length, take, get_or, None, Some, inl, inr, refl}
+use Rattle.std.proofs.Common.{Option, ◌≡◌, ℕ, ◌+◌, ◌<◌, Bool, true, false, not, List, [], ◌∷◌, ◌++◌, map, length, take, None, Some, inl, inr, refl}
 use Rattle.std.proofs.Common.{sym, ap, ap₂, ◌∙◌, subst, arith, cond}
 use Rattle.std.specs.Prelude.{◌||◌, bytes_eq, if◌then◌else◌, option_and_then, option_map, slice_get}
 use Rattle.std.specs.List.{list_any, AllByRecursion}
@@ -8,16 +8,18 @@ use Rattle.std.proofs.lemmas.Cmp.{nat_list_eq_equiv}
 use Rattle.std.proofs.lemmas.List.{append_assoc, take-map, take_more}
 use Rattle.std.proofs.lemmas.List.Elements.{filter_agree}
 use Rattle.std.proofs.lemmas.List.Folds.{list_any-append}
-use Rattle.std.proofs.lemmas.Option.{none-some, same_Some, slice_get-map, slice_get_cases, slice_get_read}
+use Rattle.std.proofs.lemmas.Option.{none-some, same_Some, slice_get-map, slice_get_cases}
 use Rattle.std.proofs.lemmas.Slice.Eq.{bytes_eq-Decides}
 use Rattle.id_ranges.specs.NextSerial.{is_unused}
 use Rattle.id_ranges.specs.Range.{IsRange, numbers, serial_text_of}
 use Rattle.office_tables.specs.Tables.{Tables}
 use Rattle.yield_report.specs.Counts.{HasIssued}
 use Rattle.yield_report.specs.Lines.{count_of_range, issued_count, is_met, left_in, left_so_far, less, new_issuer, taken, IsLine}
+use Rattle.yield_report.specs.Places.{AreApart}
 use Rattle.yield_report.specs.Reports.{has_issued_in}
 use Rattle.yield_report.specs.Serials.{serials_of, AreRising}
 use Rattle.yield_report.specs.declared.lines.OrderLine.{OrderLine}
+use Rattle.yield_report.proofs.Apart.{apart_map}
 use Rattle.yield_report.proofs.RisingSerials.{given_is_listed, left_count}
 
 -- as many records are of the line's range as its serial numbers are given
@@ -35,6 +37,16 @@ same_issuer given lines line = elim (is_met lines line) as (λ b. (cond b (left_
   | true ↦ refl
   | false ↦ refl
 ]
+
+same_range : (given : HasIssued) (lines : List OrderLine) (line : OrderLine) → (left_so_far given lines line).range ≡ line.range
+same_range given lines line = elim (is_met lines line) as (λ b. (cond b (left_in given line) line).range ≡ line.range) [
+  | true ↦ refl
+  | false ↦ refl
+]
+
+-- lines stay apart
+pub left_apart : (given : HasIssued) (lines all : List OrderLine) → AreApart all → AreApart (map (left_so_far given lines) all)
+left_apart given lines all apart = apart_map (left_so_far given lines) (same_issuer given lines) (same_range given lines) all apart
 
 -- a line of another issuer is left as it is
 taken_other : (issuer : List ℕ) (serials : List (List ℕ)) (line : OrderLine) → bytes_eq line.issuer issuer ≡ false → taken issuer serials line ≡ line
@@ -137,16 +149,6 @@ met_now : (given : HasIssued) (lines : List OrderLine) (issuer : List ℕ) (fron
 met_now given lines issuer [] = refl
 met_now given lines issuer (line ∷ front) =
     rw (same_issuer given lines line, met_now given lines issuer front) refl
-
--- the issuer of a place that no line before it has
-pub new_issuer_at : (lines : List OrderLine) (place : ℕ) (line : OrderLine) (issuer : List ℕ) → place < length lines → line ≡ get_or lines place line
-    → issuer ≡ line.issuer
-    → (met : Bool) → met ≡ list_any (λ (l : OrderLine). bytes_eq l.issuer issuer) (take place lines)
-    → (if met then None else Some issuer) ≡ new_issuer lines place
-new_issuer_at lines place line issuer within here is met answer =
-    rw (slice_get_read lines (length lines) place line refl within here)
-    (ap (λ (b : Bool). if b then None else Some issuer) (answer ∙ ap (λ i. list_any (λ (l : OrderLine). bytes_eq l.issuer i) (take place lines)) is)
-    ∙ ap (λ i. if is_met (take place lines) line then None else Some i) is)
 
 -- the issuer of a place, by the lines as they are now
 issuer_now : (given : HasIssued) (before : List OrderLine) (place : ℕ) (next : OrderLine) → slice_get before place ≡ Some next

@@ -1,5 +1,5 @@
 -- How many serial numbers of a range are left, where the given ones rise.
-use Rattle.std.proofs.Common.{◌≡◌, ℕ, zero, suc, ◌+◌, ◌<◌, ◌≤◌, Bool, true, false, not, List, [], ◌∷◌, length, Option, Some, Ordering, Less, Equal, Greater}
+use Rattle.std.proofs.Common.{◌≡◌, ℕ, zero, suc, ◌+◌, ◌<◌, ◌≤◌, Bool, true, false, not, List, [], ◌∷◌, length, Option, Some}
 use Rattle.std.proofs.Common.{inl, inr, refl, sym, ap, ◌∙◌, arith, cond}
 use Rattle.std.specs.Prelude.{◌||◌, filter, find, is_some}
 use Rattle.std.specs.List.{list_any, range_with_len}
@@ -16,15 +16,11 @@ use Rattle.office_tables.specs.declared.rows.Given.{Given}
 use Rattle.office_tables.specs.declared.rows.OfCustomer.{OfCustomer}
 use Rattle.office_tables.specs.Tables.{is_serial_of, is_of_issuer, text_cmp}
 use Rattle.yield_report.specs.Serials.{has_serial, serials_in, AreRising}
+use Rattle.yield_report.proofs.InOrder.{lt_is_less}
 
 -- the text isn't one of these
 abbrev is_new : List (List ℕ) → Range → ℕ → Bool
 is_new serials r n = not (list_any (bytes_eq (serial_text_of r n)) serials)
-
-lt_is_less : (o : Ordering) → is_lt o ≡ true → o ≡ Less
-lt_is_less Less h = refl
-lt_is_less Equal h = absurd (cc h)
-lt_is_less Greater h = absurd (cc h)
 
 -- a text differs from a greater one
 differs : (a b : List ℕ) → is_lt (text_cmp a b) ≡ true → bytes_eq a b ≡ false

@@ -5,19 +5,34 @@ use Rattle.office_tables.specs.declared.rows.Given.{Given}
 use Rattle.office_tables.specs.declared.rows.OfCustomer.{OfCustomer}
 use Rattle.office_tables.specs.Keeping.{Visits}
 use Rattle.yield_report.specs.Lines.{count_of_range, less, taken, AreLines, TakesSerial}
+use Rattle.yield_report.specs.Places.{AreApart}
 use Rattle.yield_report.specs.Serials.{has_serial, serials_in, AreRising}
 use Rattle.yield_report.specs.declared.left.GivenScan.{GivenScan}
 use Rattle.yield_report.specs.declared.lines.OrderLine.{OrderLine}
+use Rattle.yield_report.proofs.Apart.{apart_map}
 
 -- nothing is taken
 minus_none : (n : ℕ) → n - 0 ≡ n
 minus_none n = omega arith
 
-less_none : (line : OrderLine) → less 0 line ≡ line
+pub less_none : (line : OrderLine) → less 0 line ≡ line
 less_none line = simp minus_none
 
 less_more : (a b c : ℕ) (line : OrderLine) → a + b ≡ c → less b (less a line) ≡ less c line
 less_more a b c line e = ap (λ n. record line { numbers = record line.numbers { serials_left = n } }) (omega (arith, e))
+
+-- what is taken changes neither a line's issuer nor its range
+pub issuer_taken : (issuer : List ℕ) (serials : List (List ℕ)) (line : OrderLine) → (taken issuer serials line).issuer ≡ line.issuer
+issuer_taken issuer serials line = elim (bytes_eq line.issuer issuer) as (λ b. (cond b (less (count_of_range line serials) line) line).issuer ≡ line.issuer) [
+  | true ↦ refl
+  | false ↦ refl
+]
+
+pub range_taken : (issuer : List ℕ) (serials : List (List ℕ)) (line : OrderLine) → (taken issuer serials line).range ≡ line.range
+range_taken issuer serials line = elim (bytes_eq line.issuer issuer) as (λ b. (cond b (less (count_of_range line serials) line) line).range ≡ line.range) [
+  | true ↦ refl
+  | false ↦ refl
+]
 
 taken_none : (issuer : List ℕ) (line : OrderLine) → taken issuer [] line ≡ line
 taken_none issuer line = elim (bytes_eq line.issuer issuer) as (λ b. cond b (less 0 line) line ≡ line) [
@@ -62,17 +77,22 @@ serials_rise old (row ∷ rows) new (true, mid, takes, later) ordered =
     (takes.rises refl, subst (λ last. AreRising last (serials_in rows)) (takes.last refl) (serials_rise mid rows new later ordered))
 serials_rise old (row ∷ rows) new (false, mid, takes, later) ordered = let e = unordered_since mid new later (takes.unordered refl) ordered in absurd (cc e)
 
--- and took all of them
-pub serials_taken : (old : GivenScan) (rows : List (OfCustomer Given)) (new : GivenScan) → Visits TakesSerial old rows new → new.is_unordered ≡ false
-    → new.lines.items ≡ map (taken old.issuer (serials_in rows)) old.lines.items
-serials_taken old [] new v ordered = ap (λ (s : GivenScan). s.lines.items) v ∙ sym (map_taken_none old.issuer old.lines.items)
-serials_taken old (row ∷ rows) new (true, mid, takes, later) ordered =
-    let rest = rw (takes.issuer refl, takes.lines refl) at (serials_taken mid rows new later ordered) in
-    rest ∙ map_taken_more old.issuer row.row.serial (serials_in rows) old.lines.items
-serials_taken old (row ∷ rows) new (false, mid, takes, later) ordered = let e = unordered_since mid new later (takes.unordered refl) ordered in absurd (cc e)
-
 pub serials_fit : (old : GivenScan) (rows : List (OfCustomer Given)) (new : GivenScan) → Visits TakesSerial old rows new → new.is_unordered ≡ false
     → AreLines old.lines.items → AreLines new.lines.items
 serials_fit old [] new v ordered fit = rw v fit
 serials_fit old (row ∷ rows) new (true, mid, takes, later) ordered fit = serials_fit mid rows new later ordered (takes.are_lines refl fit)
 serials_fit old (row ∷ rows) new (false, mid, takes, later) ordered fit = let e = unordered_since mid new later (takes.unordered refl) ordered in absurd (cc e)
+
+-- and took all of them, of lines that are apart
+pub serials_taken : (old : GivenScan) (rows : List (OfCustomer Given)) (new : GivenScan) → Visits TakesSerial old rows new → new.is_unordered ≡ false
+    → AreLines old.lines.items → AreApart old.lines.items → new.lines.items ≡ map (taken old.issuer (serials_in rows)) old.lines.items
+serials_taken old [] new v ordered are apart = ap (λ (s : GivenScan). s.lines.items) v ∙ sym (map_taken_none old.issuer old.lines.items)
+serials_taken old (row ∷ rows) new (true, mid, takes, later) ordered are apart =
+    let here = takes.lines refl are apart in
+    let stays : AreApart mid.lines.items = subst AreApart (sym here)
+    (apart_map (taken old.issuer (row.row.serial ∷ [])) (issuer_taken old.issuer (row.row.serial ∷ [])) (range_taken old.issuer (row.row.serial ∷ []))
+    old.lines.items apart) in
+    let rest = rw (takes.issuer refl, here) at (serials_taken mid rows new later ordered (takes.are_lines refl are) stays) in
+    rest ∙ map_taken_more old.issuer row.row.serial (serials_in rows) old.lines.items
+serials_taken old (row ∷ rows) new (false, mid, takes, later) ordered are apart =
+    let e = unordered_since mid new later (takes.unordered refl) ordered in absurd (cc e)

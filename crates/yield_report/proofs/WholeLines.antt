@@ -1,8 +1,10 @@
 -- The lines of orders, once all rows were read, and their report.
-use Rattle.std.proofs.Common.{◌≡◌, ℕ, ◌+◌, ◌≤◌, Bool, true, false, List, [], ◌∷◌, ◌++◌, map, length, refl, sym, ap, ap₂, ◌∙◌, arith, cond}
+use Rattle.std.proofs.Common.{◌≡◌, ℕ, ◌+◌, ◌≤◌, Bool, true, false, List, [], ◌∷◌, ◌++◌, map, length, refl, sym, ap, ap₂, ◌∙◌, subst, arith, cond}
 use Rattle.std.specs.Prelude.{filter}
 use Rattle.std.specs.List.{AllByRecursion}
+use Rattle.std.specs.List.Sorted.{IsPermutation, IsSortedByKey}
 use Rattle.std.proofs.lemmas.List.{flat_map_more, map_push}
+use Rattle.std.proofs.lemmas.List.Sorted.{IsPermutation-map, IsPermutation-trans}
 use Rattle.std.proofs.lemmas.List.Elements.{recursion_from_All}
 use Rattle.csv.specs.Writing.{default_writer, row_text}
 use Rattle.std.proofs.lemmas.List.FromFn.{length-range_with_len}
@@ -10,14 +12,16 @@ use Rattle.id_ranges.specs.NextSerial.{is_unused}
 use Rattle.id_ranges.specs.Range.{numbers}
 use Rattle.office_tables.specs.declared.rows.Device.{Device}
 use Rattle.office_tables.specs.declared.rows.Order.{Order}
-use Rattle.office_tables.specs.Tables.{Tables, rows_of}
+use Rattle.office_tables.specs.Tables.{Tables, rows_of, text_cmp}
 use Rattle.yield_report.specs.Counts.{HasIssued, yield_of}
-use Rattle.yield_report.specs.Lines.{counted, first_line, left_in, whole_line, AreLines, IsLine}
+use Rattle.yield_report.specs.Lines.{counted, first_line, left_in, names_cmp, whole_line, AreInOrder, AreLines, IsLine}
 use Rattle.yield_report.specs.Reports.{has_issued_in, IsOrderReport}
 use Rattle.yield_report.specs.Rows.{line_fields, lines_text}
 use Rattle.yield_report.specs.Texts.{numbers_of, order_header, order_line, report_text, AreStorable}
 use Rattle.yield_report.specs.declared.lines.OrderLine.{OrderLine}
 use Rattle.yield_report.proofs.Counted.{same_yield}
+use Rattle.yield_report.proofs.InOrder.{sorted_again, sorted_map}
+use Rattle.yield_report.proofs.Apart.{names_total}
 
 none_plus : (n : ℕ) → 0 + n ≡ n
 none_plus n = omega arith
@@ -77,3 +81,11 @@ pub lines_text_more : (lines : List OrderLine) (line : OrderLine)
 lines_text_more lines line =
     report_more order_header (map line_fields lines) (line_fields line)
     ∙ ap (λ (rows : List (List (List ℕ))). report_text (order_header ∷ rows)) (sym (map_push line_fields lines line))
+
+-- lines that were put in another order, changed without their names, and sorted by them again
+pub sorted_back : (f : OrderLine → OrderLine) → ((x y : OrderLine) → names_cmp (f x) (f y) ≡ names_cmp x y)
+    → (lines moved left back : List OrderLine) → AreInOrder lines → IsPermutation lines moved → left ≡ map f moved → IsPermutation left back
+    → IsSortedByKey (λ (l : OrderLine). l.name) text_cmp back → back ≡ map f lines
+sorted_back f same lines moved left back ordered there is again sorted =
+    sorted_again names_total (map f lines) back (sorted_map names_cmp f same lines ordered)
+    (IsPermutation-trans _ _ _ (IsPermutation-map f lines moved there) (subst (λ (ls : List OrderLine). IsPermutation ls back) is again)) sorted

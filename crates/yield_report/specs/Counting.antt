@@ -1,13 +1,10 @@
 -- How the numbers of a line are counted, up to what the tables have room for.
-use Rattle.std.specs.Prelude.{ℕ, ◌+◌, Option, Some, None, nat_le, nat_lt, if◌then◌else◌, option_map}
+use Rattle.std.specs.Prelude.{ℕ, ◌+◌, Option, Some, None, nat_le, if◌then◌else◌, option_map}
+use Rattle.office_tables.specs.Numbers.{largest_number, one_more}
 use Rattle.office_tables.specs.declared.rows.DeviceState.{DeviceState}
 use Rattle.office_tables.specs.declared.rows.DeviceState.TheVariants.{Registered, AwaitingFirst, AwaitingSecond, Settled, Identified, Shipped, Quarantined}
 use Rattle.office_tables.specs.declared.rows.DeviceState.TheVariants.{Scrapped}
 use Rattle.yield_report.specs.declared.yields.Yield.{Yield}
-
--- one more, where the tables have room for it
-abbrev pub one_more : ℕ → Option ℕ
-one_more n = if nat_lt n 9223372036854775807 then Some (n + 1) else None
 
 -- the numbers with one more device in this state
 abbrev pub with_device_counted : DeviceState → Yield → Option Yield
@@ -22,4 +19,4 @@ with_device_counted Scrapped y = option_map (λ n. record y { scrapped = n }) (o
 
 -- the sum of two numbers, where the tables have room for it
 abbrev pub sum_of : ℕ → ℕ → Option ℕ
-sum_of a b = if nat_le (a + b) 9223372036854775807 then Some (a + b) else None
+sum_of a b = if nat_le (a + b) largest_number then Some (a + b) else None

@@ -2,6 +2,7 @@
 pub mod Counting
 pub mod Counts
 pub mod Lines
+pub mod Places
 pub mod Reports
 pub mod Rows
 pub mod Serials

@@ -1,9 +1,12 @@
 -- The lines of a report while its rows are read: what one row adds to them, and what all rows leave.
-use Rattle.std.specs.Prelude.{◌≡◌, ℕ, ◌-◌, ◌++◌, Bool, true, false, List, [], ◌∷◌, Option, Some, None, bytes_eq, filter, length, map, is_some, not}
+use Rattle.std.specs.Prelude.{◌≡◌, ◌==◌, ℕ, ◌-◌, ◌++◌, Bool, true, false, List, [], ◌∷◌, Option, Some, None, bytes_eq, filter, length, map, is_some, not}
 use Rattle.std.specs.Prelude.{option_and_then, option_map, slice_get, take, if◌then◌else◌}
 use Rattle.std.specs.List.{All, list_any}
+use Rattle.std.specs.List.Sorted.{IsStrictlySortedBy}
+use Rattle.std.specs.declared.cmp.Ordering.{Ordering}
 use Rattle.id_ranges.specs.NextSerial.{is_unused}
 use Rattle.id_ranges.specs.Range.{numbers, IsRange}
+use Rattle.office_tables.specs.Tables.{text_cmp}
 use Rattle.office_tables.specs.declared.rows.OfCustomer.{OfCustomer}
 use Rattle.office_tables.specs.declared.rows.Order.{Order}
 use Rattle.office_tables.specs.declared.rows.Device.{Device}
@@ -13,6 +16,7 @@ use Rattle.office_tables.specs.declared.rows.DeviceState.TheVariants.{Scrapped}
 use Rattle.office_tables.specs.declared.rows.Reason.TheVariants.{Lost, Stray, Key}
 use Rattle.yield_report.specs.Counting.{with_device_counted}
 use Rattle.yield_report.specs.Counts.{HasIssued, added, count_in, devices_of, yield_of, yield_with}
+use Rattle.yield_report.specs.Places.{AreApart}
 use Rattle.yield_report.specs.Serials.{follows, has_serial}
 use Rattle.yield_report.specs.Texts.{AreStorable, numbers_of}
 use Rattle.yield_report.specs.declared.lines.OrderLine.{OrderLine}
@@ -32,12 +36,25 @@ IsLine line = IsRange line.range × AreStorable (numbers_of line.numbers)
 abbrev pub AreLines : List OrderLine → Type 0
 AreLines lines = All IsLine lines
 
--- its line is added; or memory ran out, and the walk ends
+-- by their names
+abbrev pub names_cmp : OrderLine → OrderLine → Ordering
+names_cmp a b = text_cmp a.name b.name
+
+-- each line's name is less than those of all later ones
+abbrev pub AreInOrder : List OrderLine → Type 0
+AreInOrder lines = IsStrictlySortedBy names_cmp lines
+
+-- the name is greater than that of the last line, if there is one
+abbrev pub name_follows : List OrderLine → List ℕ → Bool
+name_follows lines name = follows (option_map (λ line. line.name) (slice_get lines (length lines - 1))) name
+
+-- its line is added; or memory ran out or its name isn't greater than the last one, and the walk ends
 pub record GathersOrder (old : OrderScan) (row : OfCustomer Order) (goes_on : Bool) (new : OrderScan) : Type 0 where
   pub lines : goes_on ≡ true → new.lines.items ≡ old.lines.items ++ first_line row.row ∷ []
   pub are_lines : goes_on ≡ true → AreLines old.lines.items → AreLines new.lines.items
-  pub same : goes_on ≡ true → new.is_full ≡ old.is_full
-  pub full : goes_on ≡ false → new.is_full ≡ true
+  pub in_order : goes_on ≡ true → AreInOrder old.lines.items → AreInOrder new.lines.items
+  pub same : goes_on ≡ true → new.is_stopped ≡ old.is_stopped
+  pub stopped : goes_on ≡ false → new.is_stopped ≡ true
 
 -- how many devices are in each state
 abbrev pub counts : List Device → Yield
@@ -68,7 +85,7 @@ has_no_room d lines = list_any (λ line. not (is_some (with_one d line))) lines
 
 -- the device is counted in each line of its order's name; or a number is too large, and the walk ends
 pub record CountsDevice (old : DeviceScan) (row : OfCustomer Device) (goes_on : Bool) (new : DeviceScan) : Type 0 where
-  pub lines : goes_on ≡ true → new.lines.items ≡ map (counted (row.row ∷ [])) old.lines.items
+  pub lines : goes_on ≡ true → AreInOrder old.lines.items → new.lines.items ≡ map (counted (row.row ∷ [])) old.lines.items
   pub are_lines : goes_on ≡ true → AreLines old.lines.items → AreLines new.lines.items
   pub same : goes_on ≡ true → new.is_over ≡ old.is_over
   pub no_room : goes_on ≡ false → has_no_room row.row old.lines.items ≡ true
@@ -86,12 +103,17 @@ less count line = record line { numbers = record line.numbers { serials_left = l
 abbrev pub taken : List ℕ → List (List ℕ) → OrderLine → OrderLine
 taken issuer serials line = if bytes_eq line.issuer issuer then less (count_of_range line serials) line else line
 
+-- the same, of a line of this width alone
+abbrev pub taken_in : ℕ → List ℕ → List (List ℕ) → OrderLine → OrderLine
+taken_in width issuer serials line = if line.range.width == width then taken issuer serials line else line
+
 -- the serial number is taken from each line of its issuer whose range has it; or it isn't greater than the last one, and the walk ends
 pub record TakesSerial (old : GivenScan) (row : OfCustomer Given) (goes_on : Bool) (new : GivenScan) : Type 0 where
   pub rises : goes_on ≡ true → follows old.last row.row.serial ≡ true
   pub last : goes_on ≡ true → new.last ≡ Some row.row.serial
   pub issuer : goes_on ≡ true → new.issuer ≡ old.issuer
-  pub lines : goes_on ≡ true → new.lines.items ≡ map (taken old.issuer (row.row.serial ∷ [])) old.lines.items
+  pub lines : goes_on ≡ true → AreLines old.lines.items → AreApart old.lines.items
+      → new.lines.items ≡ map (taken old.issuer (row.row.serial ∷ [])) old.lines.items
   pub are_lines : goes_on ≡ true → AreLines old.lines.items → AreLines new.lines.items
   pub same : goes_on ≡ true → new.is_unordered ≡ old.is_unordered
   pub falls : goes_on ≡ false → follows old.last row.row.serial ≡ false

@@ -2,6 +2,7 @@
 use Rattle.std.specs.Prelude.{ℕ, ◌≤◌, List, [], ◌∷◌, codes, decimal, flat_map, length, map}
 use Rattle.std.specs.List.{AllByRecursion}
 use Rattle.csv.specs.Writing.{default_writer, row_text}
+use Rattle.office_tables.specs.Numbers.{largest_number}
 use Rattle.office_tables.specs.declared.rows.Order.{Order}
 use Rattle.office_tables.specs.declared.rows.Device.{Device}
 use Rattle.yield_report.specs.Counts.{HasIssued, total, yield_of}
@@ -43,4 +44,4 @@ customer_line customer given orders devices = customer ∷ map decimal (length o
 
 -- numbers that the tables have room for
 abbrev pub AreStorable : List ℕ → Type 0
-AreStorable ns = AllByRecursion (λ n. n ≤ 9223372036854775807) ns
+AreStorable ns = AllByRecursion (λ n. n ≤ largest_number) ns

@@ -3,7 +3,7 @@ ghost use Rattle.std.specs.Prelude.{◌≡◌, ◌∷◌, [], false, true, is_so
 ghost use Rattle.office_tables.specs.Tables.{rows_of};
 ghost use Rattle.office_tables.specs.Reading.{ReadsOnly};
 ghost use Rattle.yield_report.specs.Lines.{counted, has_no_room, with_one};
-ghost use Rattle.yield_report.specs.Lines.{AreLines, CountsDevice, IsLine};
+ghost use Rattle.yield_report.specs.Lines.{AreInOrder, AreLines, CountsDevice, IsLine};
 
 use crate::lines::OrderLine;
 use crate::yields::with_device_counted;
@@ -47,20 +47,18 @@ fn count_in_line(line: &mut OrderLine, device: &Device) -> bool
     true
 }
 
-/// Counts a device in each line of its order's name. `false` where the tables have no room for a
-/// number.
+/// Counts a device in the line of its order, which is found by halving: the lines are in the order of
+/// their names. `false` where the tables have no room for its number.
 fn count_device(lines: &mut Vec<OrderLine>, device: &Device) -> bool
     ensures no_room { result ≡ false → has_no_room device.now lines.old.items ≡ true }
-    ensures lines { result ≡ true
+    ensures lines { result ≡ true → AreInOrder lines.old.items
         → lines.new.items ≡ map (counted (device.now ∷ [])) lines.old.items }
     ensures are_lines { result ≡ true → AreLines lines.old.items → AreLines lines.new.items }
 {
-    for i in 0..lines.len() {
-        if !count_in_line(&mut lines[i], device) {
-            return false;
-        }
+    match lines.binary_search_by_key(&device.order, |line| line.name) {
+        Ok(i) => count_in_line(&mut lines[i], device),
+        Err(_) => true,
     }
-    true
 }
 
 /// The lines of a customer's orders, with all devices of the customer.
@@ -70,7 +68,8 @@ pub(crate) fn count_devices<K: Keep>(
     lines: Vec<OrderLine>,
 ) -> Result<Vec<OrderLine>, Unkept>
     ensures { ReadsOnly K.Keep keep.old keep.new result (λ t all.
-        (all.items ≡ map (counted (rows_of customer.now t.devices)) lines.items)
+        (AreInOrder lines.items
+        → all.items ≡ map (counted (rows_of customer.now t.devices)) lines.items)
         × (AreLines lines.items → AreLines all.items)) }
 {
     let mut scan = DeviceScan {

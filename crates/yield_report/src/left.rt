@@ -1,13 +1,14 @@
 // The serial numbers that are left of each order.
-ghost use Rattle.std.specs.Prelude.{◌≡◌, ◌∷◌, [], bytes_eq, map, None};
-ghost use Rattle.std.specs.List.{list_any};
+ghost use Rattle.std.specs.Prelude.{◌≡◌, ◌≤◌, ◌∷◌, [], map, None};
 ghost use Rattle.office_tables.specs.Reading.{ReadsOnly};
-ghost use Rattle.yield_report.specs.Lines.{left_in, new_issuer, taken};
-ghost use Rattle.yield_report.specs.Lines.{AreLines, IsLine, TakesSerial};
+ghost use Rattle.yield_report.specs.Lines.{left_in, new_issuer, taken, taken_in};
+ghost use Rattle.yield_report.specs.Lines.{AreInOrder, AreLines, IsLine, TakesSerial};
+ghost use Rattle.yield_report.specs.Places.{AreApart};
 ghost use Rattle.yield_report.specs.Reports.{has_issued_in};
 ghost use Rattle.yield_report.specs.Serials.{follows, serials_of, AreRising};
 
 use crate::lines::OrderLine;
+use crate::places::{begun, by_names, by_serials, place_in};
 use crate::serials::has_serial;
 use office_tables::{GivenRow, Keep, Sink, Unkept};
 use text_core::{Name, Serial};
@@ -47,23 +48,45 @@ fn follows(last: &Option<Serial>, serial: &Serial) -> bool
     }
 }
 
-/// Takes a serial number of an issuer from a line, where it is one of the line's order.
-fn take_from_line(line: &mut OrderLine, issuer: &Name, serial: &Serial)
-    ensures line { line.new ≡ taken issuer.now (serial.now ∷ []) line.old }
+/// Takes a serial number of an issuer from a line of a width, where it is one of the line's order.
+fn take_from_line(line: &mut OrderLine, issuer: &Name, serial: &Serial, width: u8)
+    ensures line { line.new ≡ taken_in width issuer.now (serial.now ∷ []) line.old }
     ensures is_line { IsLine line.old → IsLine line.new }
 {
+    if line.range.width() != width {
+        return;
+    }
     if line.issuer == *issuer && has_serial(&line.range, serial) {
         line.numbers.serials_left = line.numbers.serials_left.saturating_sub(1);
     }
 }
 
-/// Takes a serial number of an issuer from each line whose order has it.
-fn take_serial(lines: &mut Vec<OrderLine>, issuer: &Name, serial: &Serial)
-    ensures lines { lines.new.items ≡ map (taken issuer.now (serial.now ∷ [])) lines.old.items }
+/// Takes a serial number of an issuer from the line of a width whose order has it. No line but the
+/// last that begins at its place or before it can have it.
+fn take_in_width(lines: &mut Vec<OrderLine>, issuer: &Name, serial: &Serial, width: u8)
+    requires { width ≤ 9 }
+    ensures lines { AreLines lines.old.items → AreApart lines.old.items
+        → lines.new.items ≡ map (taken_in width issuer.now (serial.now ∷ [])) lines.old.items }
     ensures are_lines { AreLines lines.old.items → AreLines lines.new.items }
 {
-    for i in 0..lines.len() {
-        take_from_line(&mut lines[i], issuer, serial);
+    let Some(place) = place_in(issuer, serial, width) else {
+        return;
+    };
+    let begun = begun(lines.as_slice(), &place);
+    if begun > 0 {
+        take_from_line(&mut lines[begun - 1], issuer, serial, width);
+    }
+}
+
+/// Takes a serial number of an issuer from each line whose order has it: of each width there is one
+/// at most.
+fn take_serial(lines: &mut Vec<OrderLine>, issuer: &Name, serial: &Serial)
+    ensures lines { AreLines lines.old.items → AreApart lines.old.items
+        → lines.new.items ≡ map (taken issuer.now (serial.now ∷ [])) lines.old.items }
+    ensures are_lines { AreLines lines.old.items → AreLines lines.new.items }
+{
+    for width in 1..10 {
+        take_in_width(lines, issuer, serial, width);
     }
 }
 
@@ -76,7 +99,8 @@ fn take_of_issuer<K: Keep>(
 ) -> Result<Vec<OrderLine>, Unkept>
     ensures { ReadsOnly K.Keep keep.old keep.new result (λ t left.
         AreRising None (serials_of issuer.now t)
-        × (left.items ≡ map (taken issuer.now (serials_of issuer.now t)) lines.items)
+        × (AreLines lines.items → AreApart lines.items
+        → left.items ≡ map (taken issuer.now (serials_of issuer.now t)) lines.items)
         × (AreLines lines.items → AreLines left.items)) }
 {
     let mut scan = GivenScan {
@@ -92,22 +116,16 @@ fn take_of_issuer<K: Keep>(
     Ok(scan.lines)
 }
 
-/// Whether one of the lines is of an issuer.
-fn has_issuer(lines: &[OrderLine], issuer: &Name) -> bool
-    ensures { result ≡ list_any (λ l. bytes_eq l.issuer issuer.now) lines.now }
-{
-    lines.iter().any(|line| line.issuer == *issuer)
-}
-
-/// The issuer of the line at a place, if there is one and no line before it has its issuer.
+/// The issuer of the line at a place, if there is one and no line before it has its issuer: the lines
+/// of an issuer stand one after the other.
 fn new_issuer(lines: &[OrderLine], place: usize) -> Option<Name>
-    ensures { result ≡ new_issuer lines.now place }
+    ensures { AreApart lines.now → result ≡ new_issuer lines.now place }
 {
     if place >= lines.len() {
         return None;
     }
     let issuer = lines[place].issuer;
-    if has_issuer(&lines[..place], &issuer) {
+    if place > 0 && lines[place - 1].issuer == issuer {
         return None;
     }
     Some(issuer)
@@ -116,12 +134,10 @@ fn new_issuer(lines: &[OrderLine], place: usize) -> Option<Name>
 /// The lines without the serial numbers that are given, by one walk over the records of each
 /// issuer.
 /// `Err` also where the records of an issuer aren't in the order of their serial numbers.
-pub(crate) fn take_given<K: Keep>(
-    keep: &mut K,
-    lines: Vec<OrderLine>,
-) -> Result<Vec<OrderLine>, Unkept>
+fn take_of_issuers<K: Keep>(keep: &mut K, lines: Vec<OrderLine>) -> Result<Vec<OrderLine>, Unkept>
     requires { K.is_honest keep.old → K.is_open keep.old }
-    ensures { ReadsOnly K.Keep keep.old keep.new result (λ t left. AreLines lines.items
+    ensures { ReadsOnly K.Keep keep.old keep.new result (λ t left.
+        AreLines lines.items → AreApart lines.items
         → (left.items ≡ map (left_in (has_issued_in t)) lines.items) × AreLines left.items) }
 {
     let mut left = lines;
@@ -132,4 +148,22 @@ pub(crate) fn take_given<K: Keep>(
         left = take_of_issuer(keep, &issuer, left)?;
     }
     Ok(left)
+}
+
+/// The lines without the serial numbers that are given. They stand in the order of their serial
+/// numbers meanwhile.
+/// `Err` also where the records of an issuer aren't in the order of their serial numbers, or two
+/// orders of an issuer have a serial number in common.
+pub(crate) fn take_given<K: Keep>(
+    keep: &mut K,
+    lines: Vec<OrderLine>,
+) -> Result<Vec<OrderLine>, Unkept>
+    requires { K.is_honest keep.old → K.is_open keep.old }
+    ensures { ReadsOnly K.Keep keep.old keep.new result (λ t left.
+        AreLines lines.items → AreInOrder lines.items
+        → (left.items ≡ map (left_in (has_issued_in t)) lines.items) × AreLines left.items) }
+{
+    let apart = by_serials(lines)?;
+    let left = take_of_issuers(keep, apart)?;
+    Ok(by_names(left))
 }

@@ -7,6 +7,7 @@ mod left;
 mod lines;
 mod names;
 mod orders;
+mod places;
 mod rows;
 mod serials;
 mod sites;

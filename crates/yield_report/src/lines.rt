@@ -2,7 +2,8 @@
 ghost use Rattle.std.specs.Prelude.{◌≡◌, map};
 ghost use Rattle.office_tables.specs.Tables.{rows_of};
 ghost use Rattle.office_tables.specs.Reading.{ReadsOnly};
-ghost use Rattle.yield_report.specs.Lines.{first_line, AreLines, GathersOrder, IsLine};
+ghost use Rattle.yield_report.specs.Lines.{first_line, name_follows};
+ghost use Rattle.yield_report.specs.Lines.{AreInOrder, AreLines, GathersOrder, IsLine};
 
 use crate::yields::Yield;
 use id_ranges::SerialRange;
@@ -23,19 +24,30 @@ pub(crate) struct OrderLine {
 #[derive(Drop)]
 struct OrderScan {
     lines: Vec<OrderLine>,
-    /// There was no memory for a line.
-    is_full: bool,
+    /// There was no memory for a line, or an order came whose name isn't greater than the one before.
+    is_stopped: bool,
 }
 
 impl Sink<OrderRow> for OrderScan {
     ghost takes = { GathersOrder };
 
     fn take(&mut self, row: &OrderRow) -> bool {
-        if self.lines.push(first_line(&row.row)).is_err() {
-            self.is_full = true;
+        let line = first_line(&row.row);
+        if !follows(self.lines.as_slice(), &line.name) || self.lines.push(line).is_err() {
+            self.is_stopped = true;
             return false;
         }
         true
+    }
+}
+
+/// Whether a name is greater than that of the last line, if there is one.
+fn follows(lines: &[OrderLine], name: &Name) -> bool
+    ensures { result ≡ name_follows lines.now name.now }
+{
+    match lines.last() {
+        Some(last) => last.name < *name,
+        None => true,
     }
 }
 
@@ -64,20 +76,22 @@ fn first_line(order: &Order) -> OrderLine
 }
 
 /// A line for each of a customer's orders, in the order of their names.
+/// `Err` also where the orders don't come in that order, or one comes twice.
 pub(crate) fn order_lines<K: Keep>(
     alloc: Global,
     keep: &mut K,
     customer: &Name,
 ) -> Result<Vec<OrderLine>, Unkept>
     ensures { ReadsOnly K.Keep keep.old keep.new result (λ t lines.
-        (lines.items ≡ map first_line (rows_of customer.now t.orders)) × AreLines lines.items) }
+        (lines.items ≡ map first_line (rows_of customer.now t.orders))
+        × AreLines lines.items × AreInOrder lines.items) }
 {
     let mut scan = OrderScan {
         lines: Vec::new(alloc),
-        is_full: false,
+        is_stopped: false,
     };
     keep.visit_orders(customer, &mut scan)?;
-    if scan.is_full {
+    if scan.is_stopped {
         return Err(Unkept);
     }
     Ok(scan.lines)

@@ -8,7 +8,7 @@ use id_ranges::SerialRange;
 use text_core::Serial;
 
 /// The number that at most nine digits write.
-fn number_of(digits: &[u8]) -> u64
+pub(crate) fn number_of(digits: &[u8]) -> u64
     requires { length digits.now ≤ 9 }
     ensures { AllDigits 10 digits.now → result ≡ digits_value 10 digits.now }
 {

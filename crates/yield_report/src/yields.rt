@@ -1,13 +1,10 @@
 // The numbers of a line of a report.
 ghost use Rattle.std.specs.Prelude.{◌≡◌, ◌↔◌, IfSome, IsSome};
-ghost use Rattle.yield_report.specs.Counting.{one_more, sum_of, with_device_counted};
+ghost use Rattle.yield_report.specs.Counting.{sum_of, with_device_counted};
 ghost use Rattle.yield_report.specs.Counts.{added};
 ghost use Rattle.yield_report.specs.Texts.{numbers_of, AreStorable};
 
-use office_tables::DeviceState;
-
-/// The largest number that the tables have room for.
-pub(crate) const LARGEST_NUMBER: u64 = 9223372036854775807;
+use office_tables::{DeviceState, LARGEST_NUMBER, one_more};
 
 /// The numbers of a line of a report: those of one order, or the sums over a customer's orders. In
 /// a report none is past 9223372036854775807.
@@ -31,17 +28,6 @@ pub struct Yield {
     pub scrapped: u64,
     /// How many of the serial numbers aren't given in their issuer, whoever gave the others.
     pub serials_left: u64,
-}
-
-/// One more, where the tables have room for it.
-fn one_more(count: u64) -> Option<u64>
-    ensures { result ≡ one_more count }
-{
-    if count < LARGEST_NUMBER {
-        Some(count + 1)
-    } else {
-        None
-    }
 }
 
 /// The numbers with one more device in a state. `None` where the tables have no room for its

@@ -1,76 +1,22 @@
 -- Why `left::take_given` meets its contract, where that has to be said.
-use Rattle.std.proofs.Common.{◌<◌, ◌∙◌, arith, rules, sym, length, ap, List, map, None, Some, ◌≡◌}
-use Rattle.std.proofs.lemmas.List.{take_all}
-use Rattle.std.proofs.lemmas.List.Elements.{recursion_from_All}
-use Rattle.office_tables.proofs.Reading.{reads_more}
-use Rattle.yield_report.specs.Lines.{left_so_far, new_issuer, IsLine}
+use Rattle.std.proofs.Common.{refl}
+use Rattle.std.proofs.lemmas.List.Sorted.{All-permutation}
+use Rattle.yield_report.specs.Lines.{left_in, IsLine}
 use Rattle.yield_report.specs.Reports.{has_issued_in}
-use Rattle.yield_report.specs.declared.lines.OrderLine.{OrderLine}
-use Rattle.yield_report.proofs.Issuers.{map_all_met, map_no_step, place_met, place_taken, said_of}
+use Rattle.yield_report.proofs.WholeLines.{sorted_back}
 use Rattle.yield_report.proofs.left.take_given.Goals as goal
 
-pub loop-place-init : goal.loop-place-init
-loop-place-init g c = record {
-  read_only = search rules;
-  stays_open = c.requires;
-  taken = λ is are. sym (map_no_step (has_issued_in (g.K.Keep.tables c.args.keep.now)) c.args.lines.items);
-  are_lines = λ is are. are;
-  end = search rules;
-}
-
-pub loop-place-preserved-in_default : goal.loop-place-preserved-in_default
-loop-place-preserved-in_default g c =
-    let inv = c.loop-place.invariant in
-    let lines = c.loop-place.left.items in
-    let place = c.loop-place.place in
-    let none : new_issuer lines place ≡ None =
-    said_of lines c.as_slice.result.now place c.new_issuer.result None c.as_slice.ensures.value c.new_issuer.ensures c.in_default.is in
-    let within : c.loop-place.place < length c.args.lines.items = omega (arith, c.loop-place-test.true, inv.end) in
-    record {
-      read_only = inv.read_only;
-      stays_open = inv.stays_open;
-      taken =
-          λ is are. place_met (has_issued_in (g.K.Keep.tables c.args.keep.now)) c.args.lines.items c.loop-place.left.items c.loop-place.place within
-          (inv.taken is are)
-          none;
-      are_lines = inv.are_lines;
-      end = inv.end;
-    }
-
-pub loop-place-preserved : goal.loop-place-preserved
-loop-place-preserved g c =
-    let inv = c.loop-place.invariant in
-    let lines = c.loop-place.left.items in
-    let place = c.loop-place.place in
-    let some : new_issuer lines place ≡ Some c.in-Some.issuer =
-    said_of lines c.as_slice.result.now place c.new_issuer.result (Some c.in-Some.issuer) c.as_slice.ensures.value c.new_issuer.ensures c.in-Some.is in
-    let within : c.loop-place.place < length c.args.lines.items = omega (arith, c.loop-place-test.true, inv.end) in
-    record {
-      read_only = reads_more inv.read_only c.take_of_issuer.ensures.read_only;
-      stays_open = c.in_ok-left.ensures.stays_open;
-      taken = λ is are.
-          let was = c.take_of_issuer.ensures.read_only.was_open is in
-          let same = inv.read_only.same was in
-          let answer = c.in_ok-left.ensures.answer is in
-          place_taken (g.K.Keep.tables c.args.keep.now) c.args.lines.items c.loop-place.left.items c.in_ok-left.left.items c.loop-place.place c.in-Some.issuer
-          within
-          (recursion_from_All IsLine c.args.lines.items are) (inv.taken was are)
-          some
-          (rw same at answer.0) (rw same at answer.1);
-      are_lines = λ is are. (c.in_ok-left.ensures.answer is).2 (inv.are_lines (c.take_of_issuer.ensures.read_only.was_open is) are);
-      end = inv.end;
-    }
-
 pub returns : goal.returns
-returns g c =
-    let inv = c.loop-place.invariant in
-    record {
-      read_only = inv.read_only;
-      stays_open = search rules;
-      answer = λ is are.
-          let given = has_issued_in (g.K.Keep.tables c.args.keep.now) in
-          let all = take_all c.loop-place.place c.args.lines.items (omega (arith, c.loop-place-test.false, inv.end)) in (
-            inv.taken is are ∙ (ap (λ (ls : List OrderLine). map (left_so_far given ls) c.args.lines.items) all ∙ map_all_met given c.args.lines.items),
-            inv.are_lines is are,
-          );
-    }
+returns g c = record {
+  read_only = c.take_of_issuers.ensures.read_only;
+  stays_open = c.in_ok-left.ensures.stays_open;
+  answer = λ is are ordered.
+      let given = has_issued_in (g.K.Keep.tables c.args.keep.now) in
+      let there = c.in_ok-apart.ensures.moved in
+      let moved = All-permutation IsLine c.args.lines.items c.in_ok-apart.apart.items there are in
+      let left = c.in_ok-left.ensures.answer is moved (c.in_ok-apart.ensures.apart are) in (
+        sorted_back (left_in given) (λ x y. refl) c.args.lines.items c.in_ok-apart.apart.items c.in_ok-left.left.items _ ordered there left.0
+            c.by_names.ensures.moved c.by_names.ensures.sorted,
+        All-permutation IsLine c.in_ok-left.left.items _ c.by_names.ensures.moved left.1,
+      );
+}

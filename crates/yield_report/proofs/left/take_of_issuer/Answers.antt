@@ -9,5 +9,5 @@ returns g c = record {
   stays_open = search rules;
   answer = λ is.
       let visits = c.in_ok-visit_given.ensures.answer is in
-      (serials_rise _ _ _ visits c.if-scan.false, serials_taken _ _ _ visits c.if-scan.false, serials_fit _ _ _ visits c.if-scan.false);
+      (serials_rise _ _ _ visits c.if-scan.false, λ are apart. serials_taken _ _ _ visits c.if-scan.false are apart, serials_fit _ _ _ visits c.if-scan.false);
 }

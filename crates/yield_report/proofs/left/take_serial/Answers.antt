@@ -1,24 +1,36 @@
 -- Why `left::take_serial` meets its contract, where that has to be said.
-use Rattle.std.proofs.Common.{◌<◌, ◌∷◌, [], ◌∙◌, ap, sym, subst, arith, length, slice_set}
-use Rattle.std.proofs.lemmas.List.{length-set}
-use Rattle.std.proofs.lemmas.List.Edits.{map_over_more}
-use Rattle.std.proofs.lemmas.List.Elements.{All-get_or, All-set}
-use Rattle.yield_report.specs.Lines.{taken, IsLine}
+use Rattle.std.proofs.Common.{◌∷◌, [], ◌∙◌, ap, subst, sym, arith, map}
+use Rattle.yield_report.specs.Lines.{taken_in}
+use Rattle.yield_report.specs.Places.{AreApart}
+use Rattle.yield_report.proofs.Widths.{below_apart, first_width, last_width, map_below_more}
 use Rattle.yield_report.proofs.left.take_serial.Goals as goal
 
-pub loop-i-preserved : goal.loop-i-preserved
-loop-i-preserved c =
-    let inv = c.loop-i.invariant in
-    let i = c.loop-i.i in
-    let items = c.loop-i.lines.items in
-    let within : i < length items = omega (arith, c.loop-i-test.true, inv.end, inv.same) in
+pub loop-width-init : goal.loop-width-init
+loop-width-init c = record {
+  lines = λ are apart. first_width c.args.issuer.now c.args.serial.now c.args.lines.now.items are;
+  are_lines = λ are. are;
+}
+
+pub loop-width-preserved : goal.loop-width-preserved
+loop-width-preserved c =
+    let inv = c.loop-width.invariant in
+    let width = c.loop-width.width in
+    let issuer = c.args.issuer.now in
+    let serial = c.args.serial.now in
+    let before = c.args.lines.now.items in
     record {
-      lines = ap (slice_set items i) c.take_from_line.ensures.line
-          ∙ map_over_more (taken c.args.issuer.now (c.args.serial.now ∷ [])) c.args.lines.now.items items i c.index_mut.result.now
-          (omega (arith, within, inv.same)) inv.lines c.index_mut.ensures.value;
-      are_lines = λ fit. All-set IsLine items i _
-          (c.take_from_line.ensures.is_line (subst IsLine (sym c.index_mut.ensures.value)
-          (All-get_or IsLine items i c.index_mut.result.now within (inv.are_lines fit)))) (inv.are_lines fit);
-      end = inv.end;
-      same = length-set items i c.take_from_line.new.line ∙ inv.same;
+      lines = λ are apart.
+          c.take_in_width.ensures.lines (inv.are_lines are) (subst AreApart (sym (inv.lines are apart)) (below_apart width issuer serial before apart))
+          ∙ (ap (map (taken_in width issuer (serial ∷ []))) (inv.lines are apart) ∙ map_below_more width issuer serial before);
+      are_lines = λ are. c.take_in_width.ensures.are_lines (inv.are_lines are);
+    }
+
+pub returns : goal.returns
+returns c =
+    let inv = c.loop-width.invariant in
+    record {
+      lines = λ are apart.
+          inv.lines are apart
+          ∙ last_width c.loop-width.width (omega (arith, c.loop-width-test.false)) c.args.issuer.now c.args.serial.now c.args.lines.now.items are;
+      are_lines = λ are. inv.are_lines are;
     }

@@ -1,15 +1,15 @@
 -- What the loop of `left::take_serial` keeps.
-use Rattle.std.proofs.Common.{◌≡◌, ◌∷◌, [], ◌++◌, map, take, drop, length}
-use Rattle.yield_report.specs.Lines.{taken, AreLines}
+use Rattle.std.proofs.Common.{◌≡◌, map}
+use Rattle.yield_report.specs.Lines.{AreLines}
+use Rattle.yield_report.specs.Places.{AreApart}
+use Rattle.yield_report.proofs.Widths.{taken_below}
 use Rattle.yield_report.proofs.left.take_serial.Given as goal
 
--- the serial number is taken from the lines so far
-abbrev pub invariant-loop-i : goal.invariant-loop-i
-invariant-loop-i l =
+-- the serial number is taken from the lines of the widths so far
+abbrev pub invariant-loop-width : goal.invariant-loop-width
+invariant-loop-width l =
     let before = l.fn.lines.items in
     record {
-      lines : l.lines.items ≡ map (taken l.issuer (l.serial ∷ [])) (take l.i before) ++ drop l.i before;
+      lines : AreLines before → AreApart before → l.lines.items ≡ map (taken_below l.width l.issuer l.serial) before;
       are_lines : AreLines before → AreLines l.lines.items;
-      end : l.i-end ≡ length before;
-      same : length l.lines.items ≡ length before;
     }

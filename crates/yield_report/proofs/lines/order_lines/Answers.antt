@@ -2,7 +2,7 @@
 use Rattle.std.proofs.Common.{rules}
 use Rattle.std.proofs.lemmas.List.Elements.{All-nil}
 use Rattle.yield_report.specs.Lines.{IsLine}
-use Rattle.yield_report.proofs.Gathered.{lines_fit, lines_gathered}
+use Rattle.yield_report.proofs.Gathered.{lines_fit, lines_gathered, lines_in_order, none_in_order}
 use Rattle.yield_report.proofs.lines.order_lines.Goals as goal
 
 pub returns : goal.returns
@@ -13,5 +13,6 @@ returns g c = record {
       let visits = c.in_ok-visit_orders.ensures.answer is in (
         rw c.new.ensures.items at (lines_gathered _ _ _ visits c.if-scan.false),
         lines_fit _ _ _ visits c.if-scan.false (rw c.new.ensures.items (All-nil IsLine)),
+        lines_in_order _ _ _ visits c.if-scan.false (rw c.new.ensures.items none_in_order),
       );
 }

@@ -1,10 +1,11 @@
 -- Why `orders::whole_lines` meets its contract, where that has to be said.
-use Rattle.std.proofs.Common.{◌∙◌, ap, map}
+use Rattle.std.proofs.Common.{◌∙◌, ap, map, subst, sym}
 use Rattle.std.proofs.lemmas.Result.{IfOk-weaker}
 use Rattle.office_tables.proofs.Reading.{reads_more}
 use Rattle.office_tables.specs.Tables.{rows_of}
-use Rattle.yield_report.specs.Lines.{counted, left_in}
+use Rattle.yield_report.specs.Lines.{counted, left_in, AreInOrder}
 use Rattle.yield_report.specs.Reports.{has_issued_in}
+use Rattle.yield_report.proofs.Counted.{counted_in_order}
 use Rattle.yield_report.proofs.WholeLines.{lines_whole}
 use Rattle.yield_report.proofs.orders.whole_lines.Goals as goal
 
@@ -22,8 +23,10 @@ returns g c = record {
       let orders = c.in_ok-orders.ensures.answer was_open in
       let devices = rw same_before at (c.in_ok-counted.ensures.answer stands) in
       IfOk-weaker c.take_given.result _ _ (λ lines answer.
-      let left = rw same at (answer (devices.1 orders.1)) in (
-        left.0 ∙ (ap (map (left_in (has_issued_in t))) (devices.0 ∙ ap (map (counted (rows_of customer t.devices))) orders.0)
+      let counts = devices.0 orders.2 in
+      let ordered = subst AreInOrder (sym counts) (counted_in_order (rows_of customer t.devices) c.in_ok-orders.orders.items orders.2) in
+      let left = rw same at (answer (devices.1 orders.1) ordered) in (
+        left.0 ∙ (ap (map (left_in (has_issued_in t))) (counts ∙ ap (map (counted (rows_of customer t.devices))) orders.0)
             ∙ lines_whole (has_issued_in t) (rows_of customer t.devices) (rows_of customer t.orders)),
         left.1,
       )) (c.take_given.ensures.answer is);
