@@ -1,9 +1,12 @@
-//! The sample fuse map, read whole.
+//! The sample fuse map, read whole and copied, and shelves of maps.
 
 ghost use Rattle.std.specs.Prelude.{IfSome};
 ghost use Rattle.fusemap_core.specs.Map.{IsFieldOf};
 
 use fusemap_core::{FieldId, FuseMap, MapFault, Pos, read_map};
+use map_shelf::NumberShelf;
+use std::alloc::Global;
+use std::fmt::Write;
 use std::test::Fail;
 use test_texts::samples::MAP;
 use text_core::Name;
@@ -118,15 +121,49 @@ fn is_governed(map: &FuseMap, row: &(Place, Place, bool)) -> bool {
 #[test]
 fn shows_the_sample(rt: HostRuntime) -> Result<(), Fail> {
     let map = read_map(rt.alloc(), MAP)?;
-    for row in FIELDS {
-        assert!(rt; is_field(&map, row), "{}", row.0);
+    for map in [&map, &map.copy()?] {
+        assert!(rt; is_sample(map));
+        for row in FIELDS {
+            assert!(rt; is_field(map, row), "{}", row.0);
+        }
+        for row in PLACES {
+            assert!(rt; lies_in(map, pos_of(row.0), row.1), "{}", row.1);
+        }
+        for row in GOVERNED {
+            assert!(rt; is_governed(map, row), "{} {}", row.0.1, row.1.1);
+        }
     }
-    for row in PLACES {
-        assert!(rt; lies_in(&map, pos_of(row.0), row.1), "{}", row.1);
+    Ok(())
+}
+
+/// How many maps a shelf keeps.
+const KEPT: u64 = 16;
+
+/// Keeps the sample under the numbers from 1 on, one more than a shelf keeps: which of them are found
+/// then, each with a space behind it.
+fn found_behind_others(alloc: Global) -> Result<String, Fail> {
+    let map = read_map(alloc, MAP)?;
+    let mut shelf = NumberShelf::new(alloc);
+    for number in 1..KEPT + 2 {
+        shelf.keep(number, &map);
     }
-    for row in GOVERNED {
-        assert!(rt; is_governed(&map, row), "{} {}", row.0.1, row.1.1);
+    let mut found = String::new(alloc);
+    for number in 1..KEPT + 2 {
+        if shelf.find(number).is_some_and(|map| is_sample(&map)) {
+            write!(found, "{number} ")?;
+        }
     }
+    Ok(found)
+}
+
+/// The last sixteen are found, and the one before them isn't. Of a shelf by texts no call says what it
+/// keeps: it finds each map all the same.
+#[test]
+fn a_shelf_keeps_sixteen_maps(rt: HostRuntime) -> Result<(), Fail> {
+    assert_eq!(rt;
+        found_behind_others(rt.alloc())?.as_str(),
+        "2 3 4 5 6 7 8 9 10 11 12 13 14 15 16 17 "
+    );
     Ok(())
 }
 

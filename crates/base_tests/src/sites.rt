@@ -4,6 +4,8 @@
 use crate::changes::{changed, numbered, padded};
 use site_core::{Caller, Site, SiteFault, read_site, read_site_text};
 use std::alloc::Global;
+use std::test::Fail;
+use test_texts::full_site::full_site;
 use test_texts::samples::{SITE, SITE_WITH_A_CUSTOMER, SITE_WITH_A_POOL};
 use text_core::Digest;
 
@@ -241,10 +243,29 @@ fn fault_of_crowd(alloc: Global, row: &CrowdRow) -> Option<u8> {
     Some(fault_number(alloc, text.as_str()))
 }
 
+/// The customer that is one too many behind a full site.
+const ONE_MORE: &str = "[[customer]]\nname = \"d\"\nissuer = []\n";
+
+/// Whether the last seat of a site in which each customer has all that it may have is the sample's
+/// `a1`, and the number of the fault of the same site with one customer more.
+fn ends_of_full_site(alloc: Global) -> Result<(bool, u8), Fail> {
+    let mut text = full_site(alloc)?;
+    let site = read_site(alloc, text.as_str())?;
+    let is_known = is_seats(&site, b"abc", "acme", "a1");
+    text.push_str(ONE_MORE)?;
+    Ok((is_known, fault_number(alloc, text.as_str())))
+}
+
 /// The fault of a text with spaces behind it.
 fn fault_of_length(alloc: Global, start: &str, length: usize) -> Option<u8> {
     let text = padded(alloc, start, "", length)?;
     Some(fault_number(alloc, text.as_str()))
+}
+
+#[test]
+fn a_site_may_be_full(rt: HostRuntime) -> Result<(), Fail> {
+    assert!(rt; ends_of_full_site(rt.alloc())? == (true, 6));
+    Ok(())
 }
 
 #[test]

@@ -6,6 +6,7 @@ use test_exchanges::keepers::{Fresh, KeeperCase, over_each, over_memory};
 use test_exchanges::lists::first_difference_in_list;
 use test_texts::conversations::devices::{ACME, BOLT};
 use test_texts::conversations::{Exchange, exchanges};
+use test_texts::numbered::numbered;
 use test_texts::samples::SITE;
 
 /// The orders in which the requests of two seats can come, of each conversation alone and of both.
@@ -74,20 +75,15 @@ b1 POST /v1/order {"nr":1,"name":"o1","issuer":"bolt-ca","prefix":"A1","width":1
 /// The conversation in which acme makes as many orders as a customer may have, each of a name and of
 /// serial numbers of its own, and is refused one more.
 fn orders_to_the_limit(alloc: Global) -> Result<String, AllocError> {
-    let mut conversation = String::new(alloc);
-    for number in 1..ORDER_LIMIT + 1 {
-        let number = format!(in alloc; "{number}")?;
-        let order = NUMBERED.replace(alloc, "#", number.as_str())?;
-        conversation.push_str(order.as_str())?;
-    }
+    let mut conversation = numbered(alloc, NUMBERED, "#", 1, ORDER_LIMIT + 1)?;
     conversation.push_str(ONE_MORE)?;
     Ok(conversation)
 }
 
-/// Holds a conversation by a list over a keeper without rows: what differs first.
-fn first_in_list<K: Fresh>(alloc: Global, conversation: &str) -> Result<String, Fail> {
+/// Holds a conversation in both ways: what differs first.
+fn first_in_conversation<K: Fresh>(alloc: Global, conversation: &str) -> Result<String, Fail> {
     let exchanges = exchanges(alloc, conversation)?;
-    first_difference_in_list(alloc, &mut K::fresh(alloc)?, SITE, exchanges.as_slice())
+    first_of_both_ways::<K>(alloc, exchanges.as_slice())
 }
 
 /// Bolt's first order, over a keeper without rows and then over another behind all of acme's orders.
@@ -95,13 +91,13 @@ struct BesideOrders;
 
 impl KeeperCase for BesideOrders {
     fn first_difference<K: Fresh>(&self, alloc: Global) -> Result<String, Fail> {
-        let found = first_in_list::<K>(alloc, FIRST_OF_BOLT)?;
+        let found = first_in_conversation::<K>(alloc, FIRST_OF_BOLT)?;
         if !found.is_empty() {
             return Ok(found);
         }
         let mut conversation = orders_to_the_limit(alloc)?;
         conversation.push_str(FIRST_OF_BOLT)?;
-        first_in_list::<K>(alloc, conversation.as_str())
+        first_in_conversation::<K>(alloc, conversation.as_str())
     }
 }
 
@@ -137,8 +133,7 @@ struct SharedMap;
 
 impl KeeperCase for SharedMap {
     fn first_difference<K: Fresh>(&self, alloc: Global) -> Result<String, Fail> {
-        let exchanges = exchanges(alloc, SHARED_MAP)?;
-        first_of_both_ways::<K>(alloc, exchanges.as_slice())
+        first_in_conversation::<K>(alloc, SHARED_MAP)
     }
 }
 

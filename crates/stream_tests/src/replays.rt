@@ -6,6 +6,7 @@ use station_jobs::{Job, StoreName};
 use std::alloc::Global;
 use std::fs;
 use std::test::Fail;
+use test_texts::full_site::full_site;
 use test_texts::samples::{SITE, SITE_WITH_A_CUSTOMER};
 use text_core::Text;
 
@@ -14,6 +15,9 @@ const STORED_SITE: &str = "stored_site.toml";
 
 /// The name of the file with the text of one that grew from it.
 const GROWN_SITE: &str = "stored_grown.toml";
+
+/// The name of the file with the text of a site in which each customer has all that it may have.
+const FULL_SITE: &str = "stored_full.toml";
 
 /// The texts of the files of these runs, by their names: three sites and one that is none, and a text
 /// that is no database.
@@ -90,6 +94,13 @@ const RUNS: &[(&str, Option<&str>, &str, &str)] = &[
         GROWN_SITE,
         Some("own.db"),
         "$ORDER$SHOWN",
+        "$ORDERED$ORDERED",
+    ),
+    (FULL_SITE, Some("full.db"), "$ORDER", "$ORDERED"),
+    (
+        FULL_SITE,
+        Some("full.db"),
+        "$SHOWN$ORDER",
         "$ORDERED$ORDERED",
     ),
     (
@@ -179,6 +190,7 @@ fn make_files_of_runs(rt: &HostRuntime) -> Result<(), Fail> {
     for file in FILES_OF_RUNS {
         fs::write(rt, file.0, file.1)?;
     }
+    fs::write(rt, FULL_SITE, full_site(rt.alloc())?.as_str())?;
     make_folder(rt, "stored_folder")
 }
 

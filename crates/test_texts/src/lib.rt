@@ -5,6 +5,8 @@
 pub mod conversations;
 pub mod earlier;
 pub mod early;
+pub mod full_site;
+pub mod numbered;
 pub mod samples;
 pub mod schema_one;
 pub mod schema_two;

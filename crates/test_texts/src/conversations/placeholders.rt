@@ -9,6 +9,7 @@
 //! - `$FF` in a request: the byte 255, which is in no text;
 //! - `<0.6=00000040 3.7=80000000>`: the blocks of a read-back, zeros but for these words, each after its
 //!   block and its place in it.
+use crate::numbered::numbered;
 use crate::samples::MAP;
 use std::alloc::{AllocError, Global};
 use std::test::Fail;
@@ -75,25 +76,11 @@ fn with_repeated(alloc: Global, text: &str) -> Result<String, Fail> {
     for part in rest.split("$TIMES~") {
         let (count, repeated, after) = two_parts(part).ok_or("no end of what is repeated")?;
         let count: u64 = count.parse().map_err(|_| "no number of times")?;
-        push_numbered(alloc, &mut filled, repeated, count)?;
+        let times = numbered(alloc, repeated, "#", 100, count.saturating_add(100))?;
+        filled.push_str(times.as_str())?;
         filled.push_str(after)?;
     }
     Ok(filled)
-}
-
-/// Puts a text behind another so often, each time with its number.
-fn push_numbered(
-    alloc: Global,
-    filled: &mut String,
-    repeated: &str,
-    count: u64,
-) -> Result<(), AllocError> {
-    for number in 100..count.saturating_add(100) {
-        let number = format!(in alloc; "{number}")?;
-        let text = repeated.replace(alloc, "#", number.as_str())?;
-        filled.push_str(text.as_str())?;
-    }
-    Ok(())
 }
 
 /// The text with the blocks of a read-back in place of their placeholder.
