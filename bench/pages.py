@@ -1,11 +1,13 @@
 """The commands of a page of docs, run in one bash after another, and their replies beside the page's, for walk and grow.
 
 A page's commands stand in blocks of ```console, each behind `$ `, its further lines behind `> `, and its reply below it.
-They run in a new folder in which `crates`, `clients` and `maps` are those of the repository and `station` is the program.
+They run in a new folder in which `crates`, `clients`, `deploy` and `maps` are those of the repository and `station` is the
+program.
 """
 
 import os
 import re
+import shutil
 import signal
 import subprocess
 import tempfile
@@ -59,6 +61,7 @@ class Shell:
         self.folder = tempfile.TemporaryDirectory()
         for name in FOLDERS:
             os.symlink(ROOT / name, f"{self.folder.name}/{name}")
+        self.deploy()
         os.mkdir(f"{self.folder.name}/bin")
         os.symlink(program, f"{self.folder.name}/bin/station")
         path = f"{self.folder.name}/bin:{os.environ['PATH']}"
@@ -74,6 +77,15 @@ class Shell:
         )
         self.limit = threading.Timer(seconds, self.stop)
         self.limit.start()
+
+    def deploy(self):
+        """Puts the files of `deploy` there, with the ports of this run."""
+        os.mkdir(f"{self.folder.name}/deploy")
+        for path in sorted((ROOT / "deploy").iterdir()):
+            text = at_ports(path.read_text(encoding="utf-8"), PORT, self.port)
+            copy = Path(self.folder.name, "deploy", path.name)
+            copy.write_text(text, encoding="utf-8")
+            shutil.copymode(path, copy)
 
     def reply(self, lines):
         """What a command writes. One that ends with `&` writes one line more than its own end."""

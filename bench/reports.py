@@ -5,8 +5,11 @@
     reports.py --program P --devices 1000 --keeper file  fewer devices, and one keeper (or `memory`)
     reports.py --program P --keep books.db               keeps a copy of the file that it makes
     reports.py --program P --db books.db                 makes no file, and measures over a copy of this one
+    reports.py --program P --orders 4096                 one customer with so many orders
 
-The site has ten customers with ten orders each. The devices take turns among the customers and their orders.
+The site has ten customers with ten orders each, or with `--orders` one customer with as many orders as are said: as
+many as a customer may have shows whether a report's time grows with the orders as well as with the rows. The devices
+take turns among the customers and their orders.
 Nine of ten have an identity, some of them are shipped or scrapped, and the others stand in each of the other
 states. A twentieth of the numbers is given by imports, which give numbers beside those of the orders too. All
 this is made by requests, for each keeper anew. The reports are the site's and one customer's. Each is asked for
@@ -42,10 +45,6 @@ from life import DIGEST, Seat
 from store import goal, line_of, send, tell
 from streams import Failed, Program, status_of
 
-CUSTOMERS = [f"c{number}" for number in range(1, 11)]
-ORDERS = 10
-PLACES = range(ORDERS * len(CUSTOMERS))
-SHOWN = "c7"
 TIMES = 3
 MANAGER = "manager"
 TOUCHED = re.compile(r"^Referenced:\s*([0-9]+) kB$", re.MULTILINE)
@@ -85,6 +84,18 @@ COUNT_GIVEN = """SELECT customer, name, quantity, (
 FROM orders{} ORDER BY customer, name"""
 
 
+class Shape(NamedTuple):
+    """A site's customers, how many orders each has, and the customer whose report is asked for."""
+
+    customers: list
+    orders: int
+    shown: str
+
+    def reports(self):
+        """The requests of the site's report and of one customer's."""
+        return {"site": get(MANAGER, "/v1/site/report"), self.shown: get(self.shown, "/v1/report")}
+
+
 class Counted(NamedTuple):
     """The peer's best seconds for a report, by the plain statement and by a scan, and its text."""
 
@@ -111,13 +122,18 @@ def token_of(name):
     return f"token-{name}"
 
 
-def site_text():
+def shape_of(orders):
+    """Ten customers with ten orders each, or one customer with so many."""
+    return Shape(["c1"], orders, "c1") if orders else Shape([f"c{number}" for number in range(1, 11)], 10, "c7")
+
+
+def site_text(shape):
     """The site file."""
-    digests = {name: hashlib.sha256(token_of(name).encode()).hexdigest() for name in [*CUSTOMERS, MANAGER]}
+    digests = {name: hashlib.sha256(token_of(name).encode()).hexdigest() for name in [*shape.customers, MANAGER]}
     customers = [
         f'[[customer]]\nname = "{name}"\nissuer = ["{name}-ca0", "{name}-ca1"]\n'
         f'[[customer.seat]]\nname = "seat-{name}"\ntoken = "{digests[name]}"\n'
-        for name in CUSTOMERS
+        for name in shape.customers
     ]
     return "".join(customers) + f'[manager]\ntoken = "{digests[MANAGER]}"\n'
 
@@ -125,9 +141,6 @@ def site_text():
 def get(name, target):
     """A request that shows something to a customer's seat, or to the manager."""
     return f"GET {target} HTTP/1.1\r\nAuthorization: Bearer {token_of(name)}\r\n\r\n".encode()
-
-
-REPORTS = {"site": get(MANAGER, "/v1/site/report"), SHOWN: get(SHOWN, "/v1/report")}
 
 
 class Office(Seat):
@@ -179,29 +192,31 @@ class Order:
         return self.seat.ask("/v1/import", issuer=self.issuer, csv="serial,key_sha256\n" + "".join(rows))
 
 
-def parts_of(devices):
-    """The requests that make the books, in parts of a thousand devices."""
-    draw, quantity, seats = random.Random(1), devices // len(PLACES), [Office(name) for name in CUSTOMERS]
+def parts_of(shape, devices):
+    """The requests that make the books, in parts of a thousand devices. The last turn may leave out some orders."""
+    draw, seats = random.Random(1), [Office(name) for name in shape.customers]
+    places = shape.orders * len(seats)
+    quantity = -(-devices // places)
     names, weights = list(FATES), [weight for weight, _ in FATES.values()]
     orders = []
-    for place in PLACES:
-        number, order = place % len(CUSTOMERS), place // len(CUSTOMERS)
-        orders.append(Order(seats[number], CUSTOMERS[number], order, draw.choices(names, weights, k=quantity)))
+    for place in range(places):
+        number, order = place % len(seats), place // len(seats)
+        orders.append(Order(seats[number], shape.customers[number], order, draw.choices(names, weights, k=quantity)))
     yield [seat.ask("/v1/map", text=MAP) for seat in seats] + [order.asked() for order in orders]
     yield [order.imported() for order in orders]
-    for first in range(0, quantity, 10):
-        yield [
-            asked
-            for turn in range(first, min(first + 10, quantity))
-            for place, order in enumerate(orders)
-            for asked in order.seat.life(turn * len(orders) + place + 1, order.name, order.fates[turn])
-        ]
+    for first in range(0, devices, 1000):
+        part = []
+        for number in range(first, first + 1000):
+            turn, place = divmod(number, places)
+            order = orders[place]
+            part += order.seat.life(number + 1, order.name, order.fates[turn])
+        yield part
 
 
-def build(program, devices, where):
+def build(program, shape, devices, where):
     """Has the program make the books, and tells what that took."""
     took = count = 0
-    for number, asked in enumerate(parts_of(devices)):
+    for number, asked in enumerate(parts_of(shape, devices)):
         took, count = took + send(program, asked)[0], count + len(asked)
         if number % 10 == 1:
             tell(f"{count} requests of {devices} devices {where}, {took:.0f} s")
@@ -228,15 +243,15 @@ def text_of(head, columns, lines):
     return "".join(",".join(row) + "\n" for row in rows)
 
 
-def site_report(counts):
+def site_report(customers, counts):
     """The site's report, of the numbers of all orders."""
-    totals = {name: Counter() for name in sorted(CUSTOMERS)}
+    totals = {name: Counter() for name in sorted(customers)}
     for (customer, _), numbers in counts.items():
         totals[customer].update(numbers, orders=1)
     return text_of("customer", ["orders", *COLUMNS], totals.items())
 
 
-def peer_report(path, customer, how=""):
+def peer_report(path, shape, customer, how=""):
     """The seconds that SQLite takes for a report over the file, opened anew, and the report."""
     start = time.perf_counter()
     base = sqlite3.connect(f"file:{path}?mode=ro", uri=True)
@@ -244,17 +259,17 @@ def peer_report(path, customer, how=""):
     if customer:
         text = text_of("order", COLUMNS, [(order, numbers) for (_, order), numbers in counts.items()])
     else:
-        text = site_report(counts)
+        text = site_report(shape.customers, counts)
     base.close()
     return time.perf_counter() - start, text
 
 
-def run_peer(path):
+def run_peer(path, shape):
     """What it takes for each report, all of whose columns have to be used."""
     peers = {}
-    for report in REPORTS:
+    for report in shape.reports():
         customer = None if report == "site" else report
-        runs = [[peer_report(path, customer, how) for _ in range(TIMES)] for how in ("", " NOT INDEXED")]
+        runs = [[peer_report(path, shape, customer, how) for _ in range(TIMES)] for how in ("", " NOT INDEXED")]
         peers[report] = Counted(min(runs[0])[0], min(runs[1])[0], runs[0][0][1])
     for column, *numbers in zip(*(line.split(",") for line in peers["site"].text.splitlines())):
         if set(numbers) == {"0"}:
@@ -290,22 +305,23 @@ def measure_report(program, asked):
     return Found(min(times), program.peak() - before, before, touched_by(program), text.decode())
 
 
-def over_memory(command, seconds, devices):
+def over_memory(command, seconds, shape, devices):
     """The reports of the keeper in memory, one customer's first."""
+    reports = shape.reports()
     with Program(command, seconds) as program:
-        build(program, devices, "in memory")
-        found = {report: measure_report(program, REPORTS[report]) for report in reversed(REPORTS)}
+        build(program, shape, devices, "in memory")
+        found = {report: measure_report(program, reports[report]) for report in reversed(reports)}
         program.end()
     return found
 
 
-def over_file(command, seconds):
+def over_file(command, seconds, shape):
     """The reports over the file, each of a new start."""
     found = {}
-    for report, asked in REPORTS.items():
+    for report, asked in shape.reports().items():
         start = time.perf_counter()
         with Program(command, seconds) as program:
-            program.write(get(SHOWN, "/v1/order?name=o1"), 65536)
+            program.write(get(shape.shown, "/v1/order?name=o1"), 65536)
             program.replies.check_next()
             tell(f"started over the file, {time.perf_counter() - start:.1f} s, peak {program.peak()} KiB")
             found[report] = measure_report(program, asked)
@@ -313,21 +329,21 @@ def over_file(command, seconds):
     return found
 
 
-def make_file(command, seconds, devices, path, keep):
+def make_file(command, seconds, shape, devices, path, keep):
     """Makes the file by requests, and a copy of it to keep."""
     with Program(command, seconds) as program:
-        build(program, devices, "in a file")
+        build(program, shape, devices, "in a file")
         program.end()
     if keep:
         shutil.copyfile(path, keep)
 
 
-def devices_in(path):
-    """How many devices a file has."""
+def rows_in(path):
+    """How many devices, records of serial numbers and orders a file has."""
     base = sqlite3.connect(f"file:{path}?mode=ro", uri=True)
-    count = base.execute("SELECT count(*) FROM device").fetchone()[0]
+    counts = [base.execute(f"SELECT count(*) FROM {table}").fetchone()[0] for table in ("device", "given", "orders")]
     base.close()
-    return count
+    return counts
 
 
 # What is printed.
@@ -359,22 +375,22 @@ def print_goals(found, peers):
 
 def measure_in(folder, args):
     """Measures over a file in this folder, and prints the table and the goals."""
-    site, path = os.path.join(folder, "site.toml"), os.path.join(folder, "books.db")
+    site, path, shape = os.path.join(folder, "site.toml"), os.path.join(folder, "books.db"), shape_of(args.orders)
     with open(site, "w", encoding="utf-8") as file:
-        file.write(site_text())
+        file.write(site_text(shape))
     memory = [os.path.abspath(args.program), "replay", "--site", site]
     if args.db:
         shutil.copyfile(args.db, path)
     else:
-        make_file([*memory, "--db", path], args.seconds, args.devices, path, args.keep)
-    found = {"file": over_file([*memory, "--db", path], args.seconds)} if args.keeper != "memory" else {}
-    peers, devices = run_peer(path), devices_in(path)
+        make_file([*memory, "--db", path], args.seconds, shape, args.devices, path, args.keep)
+    found = {"file": over_file([*memory, "--db", path], args.seconds, shape)} if args.keeper != "memory" else {}
+    peers, (devices, records, orders) = run_peer(path, shape), rows_in(path)
     if args.keeper != "file":
-        found["memory"] = over_memory(memory, args.seconds, devices)
-    print(f"{devices} devices, SQLite {sqlite3.sqlite_version}")
+        found["memory"] = over_memory(memory, args.seconds, shape, devices)
+    print(f"{devices} devices, {records} records, {orders} orders, SQLite {sqlite3.sqlite_version}")
     print(line_of(HEADS))
     for keeper, reports in found.items():
-        for report in REPORTS:
+        for report in peers:
             print(line_of(cells_of(keeper, report, reports[report], peers[report])), flush=True)
             test_same(f"the report {report}, {keeper},", reports[report].text, peers[report].text)
     print_goals(found, peers)
@@ -390,6 +406,7 @@ def main():
     parser = argparse.ArgumentParser(description="The yield reports over many devices.")
     parser.add_argument("--program", required=True, help="the built program")
     parser.add_argument("--devices", type=int, default=100000, help="how many devices, in thousands")
+    parser.add_argument("--orders", type=int, default=0, help="one customer with so many orders, 4096 at most")
     parser.add_argument("--keeper", choices=["file", "memory"], help="only over this one")
     parser.add_argument("--keep", help="where to keep a copy of the file that is made")
     parser.add_argument("--db", help="the file that was kept, which is then not made")
@@ -398,6 +415,8 @@ def main():
     args = parser.parse_args()
     if args.devices < 1000 or args.devices % 1000:
         parser.error("--devices is a multiple of 1000")
+    if not 0 <= args.orders <= 4096:
+        parser.error("--orders is 4096 at most")
     return status_of(measure, args)
 
 

@@ -133,7 +133,7 @@ STATEMENTS = {
 # The statements of each request, in their order. The map's row is read and the places of orders are counted
 # once a start, at the first registration. An identity asks by address where its order has addresses.
 FIRST = ["map", "places"]
-STEP = ["seat", "device", "link", "order", "last entry", "put device", "add entry", "put seat"]
+STEP = ["seat", "device", "link", "last entry", "put device", "add entry", "put seat"]
 REQUESTS = {
     "device": ["seat", "link", "order", "device", "last entry", "add device", "add entry", "put seat"],
     "plan": STEP,

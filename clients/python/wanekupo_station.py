@@ -11,7 +11,6 @@ standard library alone.
 
 from __future__ import annotations
 
-import argparse
 import csv
 import hashlib
 import http.client
@@ -20,9 +19,7 @@ import json
 import os
 import re
 import selectors
-import shlex
 import subprocess
-import sys
 import time
 from dataclasses import dataclass, fields
 from pathlib import Path
@@ -41,8 +38,9 @@ Blocks = list[list[str]]
 LONGEST_BODY = 65_536
 FAR = 2**53 - 1
 
-# Answers that say nothing of the request: it is sent again. The pauses between, in seconds, double.
-RETRIED = (502, 503, 504)
+# The status of a reply that says that nothing was done, for now: the request is sent again, as for no reply. The pauses
+# between, in seconds, double.
+UNKEPT = 503
 FIRST_PAUSE, LONGEST_PAUSE = 0.1, 10.0
 
 # How many seconds an unused connection is kept: of one that went without a word, as with the machine behind it, a
@@ -68,8 +66,22 @@ class Refused(StationError):
 
     def __init__(self, status: int, body: Mapping[str, Any]):
         self.status, self.no, self.name = status, body["no"], body["error"]
+        self.body = dict(body)
         self.more = {name: value for name, value in body.items() if name not in ("no", "error")}
         super().__init__(" ".join([f"{self.no} {self.name}", *(f"{name} {self.more[name]}" for name in self.more)]))
+
+
+class OutOfStep(Refused):
+    """A refusal as 11 or 12: the numbers of the seat aren't those of its state file. Somebody else asks with its token,
+    two stations share it, or the store was restored. `path` and `number` were asked, `expected` is the server's. A
+    request that was sent before is still under way, as it may be done; another one wasn't done, and is forgotten.
+
+    Each request is refused so until `resynchronize`, which a person calls who knows why (docs/CLIENT.md)."""
+
+    def __init__(self, refused: Refused, path: str, number: int):
+        super().__init__(refused.status, refused.body)
+        # What was accepted with another request is the last that was accepted.
+        self.path, self.number, self.expected = path, number, refused.more.get("expected", number + 1)
 
 
 class NoReply(StationError):
@@ -77,7 +89,8 @@ class NoReply(StationError):
 
 
 class NotTheServer(StationError):
-    """A reply that isn't one of the server's, such as a proxy's page. A POST is still under way."""
+    """A proxy's page, or what else isn't one of the server's replies, until the station's patience ended. A POST is
+    still under way."""
 
 
 class UnderWay(StationError):
@@ -330,23 +343,42 @@ class Espefuse:
             subprocess.run([*self.tool, *words], check=True, stdout=subprocess.DEVNULL)
 
 
-def answer_of(status: int, kind: str, data: bytes) -> Any:
-    """The members of an accepted reply, or a report's text; a refusal is raised."""
-    if status == 200 and kind == "text/csv":
-        return data.decode("ascii")
+def synced_folder(folder: Path) -> None:
+    """Syncs a folder, so that a name that was made or replaced in it stays."""
+    if os.name == "posix":
+        opened = os.open(folder, os.O_RDONLY)
+        try:
+            os.fsync(opened)
+        finally:
+            os.close(opened)
+
+
+def body_of(status: int, kind: str, data: bytes) -> Any:
+    """The members of a reply, or a report's text. What isn't one of the server's, as a proxy's page, is raised."""
     try:
+        if status == 200 and kind == "text/csv":
+            return data.decode("ascii")
         body = json.loads(data) if kind == "application/json" else None
     except ValueError:
         body = None
-    if isinstance(body, dict) and status == 200:
-        return body
-    if isinstance(body, dict) and isinstance(body.get("no"), int) and isinstance(body.get("error"), str):
-        raise Refused(status, body)
+    if isinstance(body, dict):
+        is_refusal = isinstance(body.get("no"), int) and isinstance(body.get("error"), str)
+        if status == 200 or is_refusal:
+            return body
     raise NotTheServer(f"status {status}, {kind}: {data[:60]!r}")
 
 
+def accepted(status: int, body: Any) -> Any:
+    """The body of an accepted reply; a refusal is raised."""
+    if status != 200:
+        raise Refused(status, body)
+    return body
+
+
 class Station:
-    """A seat: one process and one request at a time. `patience` is how many seconds it asks for a reply.
+    """A seat: one process and one request at a time. `file` is its state file, without which it only shows, `patience`
+    how many seconds it asks for a reply, `context` an `ssl.SSLContext` for https, `journal` a
+    `wanekupo_journal.Journal`, the station's own log.
 
     Its connection is kept between requests, and made anew where the other side has closed it."""
 
@@ -354,10 +386,11 @@ class Station:
         self,
         url: str,
         token: str,
-        file: str | os.PathLike[str],
+        file: Optional[str | os.PathLike[str]],
         patience: float = 120,
         timeout: float = 90,
         context: Any = None,
+        journal: Any = None,
     ):
         parts = urlsplit(url)
         self._connect: Callable[[], http.client.HTTPConnection]
@@ -369,9 +402,9 @@ class Station:
         self._used = 0.0
         self._path = parts.path.rstrip("/")
         self._fields = {"Authorization": f"Bearer {token}"}
-        self._patience = patience
-        self._file = Path(file)
-        self._lock = self._locked()
+        self._patience, self._journal = patience, journal
+        self._file = None if file is None else Path(file)
+        self._lock = self._locked() if self._file else None
         try:
             self._state = self._read(hashlib.sha256(token.encode()).hexdigest())
         except BadStateFile:
@@ -387,7 +420,8 @@ class Station:
     def close(self) -> None:
         """Closes the connection, and lets another process have the state file."""
         self._hang_up()
-        self._lock.close()
+        if self._lock:
+            self._lock.close()
 
     # The state file.
 
@@ -404,6 +438,8 @@ class Station:
     def _read(self, token: str) -> dict[str, Any]:
         """The state. Without a file the number isn't known, and is asked for."""
         try:
+            if not self._file:
+                raise FileNotFoundError
             state = json.loads(self._file.read_bytes())
             if state["token"] != token:
                 raise BadStateFile(f"{self._file} is another seat's")
@@ -415,18 +451,15 @@ class Station:
 
     def _keep(self, **changes: Any) -> None:
         """Changes the state, in the file first: whole or not at all, whenever the power fails."""
+        if not self._file:
+            raise BadStateFile("without a state file nothing is sent that changes anything")
         state, new = {**self._state, **changes}, f"{self._file}.new"
         with open(os.open(new, os.O_WRONLY | os.O_CREAT | os.O_TRUNC, 0o600), "w", encoding="ascii") as out:
             json.dump(state, out)
             out.flush()
             os.fsync(out.fileno())
         os.replace(new, self._file)
-        if os.name == "posix":
-            folder = os.open(self._file.parent, os.O_RDONLY)
-            try:
-                os.fsync(folder)
-            finally:
-                os.close(folder)
+        synced_folder(self._file.parent)
         self._state = state
 
     # Requests.
@@ -463,31 +496,35 @@ class Station:
         self._used = time.monotonic()
         return reply.status, reply.headers.get_content_type(), data
 
-    def _asked(self, method: str, target: str, body: Optional[bytes] = None) -> tuple[int, str, bytes, bool]:
-        """A reply, asked for until it comes, and whether it was asked for more than once."""
+    def _asked(self, method: str, target: str, body: Optional[bytes] = None) -> tuple[int, Any, bool]:
+        """The status and body of a reply of the server's, and whether it was asked for more than once. It is asked for
+        until it comes: no reply, a page of another and 503 say nothing of what became of the request."""
         end, pause, again = time.monotonic() + self._patience, FIRST_PAUSE, False
         while True:
             is_kept = self._is_kept()
             try:
-                reply = self._once(method, target, body)
-                if reply[0] not in RETRIED:
-                    return (*reply, again)
-                fault = f"status {reply[0]}"
+                status, kind, data = self._once(method, target, body)
+                told = body_of(status, kind, data)
+                if status != UNKEPT:
+                    return status, told, again
+                fault: StationError = NoReply(f"{method} {target}: status {status}")
+            except NotTheServer as page:
+                fault = page
             except (OSError, http.client.HTTPException) as error:
                 if is_kept and isinstance(error, ConnectionError):
                     again = True  # closed while the request was on its way: another connection, at once
                     continue
-                fault = repr(error)
+                fault = NoReply(f"{method} {target}: {error!r}")
             if time.monotonic() + pause > end:
-                raise NoReply(f"{method} {target}: {fault}")
+                raise fault
             time.sleep(pause)
             pause, again = min(2 * pause, LONGEST_PAUSE), True
 
     def get(self, path: str, **parameters: str) -> Any:
         """What is shown: a reply's members, or a report's text."""
         query = "&".join(f"{name}={quote(text, safe='')}" for name, text in parameters.items())
-        status, kind, data, _ = self._asked("GET", f"{path}?{query}" if query else path)
-        return answer_of(status, kind, data)
+        status, body, _ = self._asked("GET", f"{path}?{query}" if query else path)
+        return accepted(status, body)
 
     def post(self, path: str, members: Mapping[str, Any]) -> dict[str, Any]:
         """Has a request done, once, and gives its reply. The same request goes on where it is under way."""
@@ -508,18 +545,22 @@ class Station:
     def _complete(self, is_repeat: bool) -> dict[str, Any]:
         """Sends the request under way until its reply is there, and keeps that."""
         asked = self._state["under_way"]
-        status, kind, data, again = self._asked("POST", asked["path"], asked["body"].encode("ascii"))
+        if self._journal:
+            self._journal.asked(asked["path"], asked["body"])
+        status, body, again = self._asked("POST", asked["path"], asked["body"].encode("ascii"))
         is_repeat = is_repeat or again
         try:
-            reply = answer_of(status, kind, data)
+            reply = accepted(status, body)
         except Refused as refused:
-            if refused.no == WRONG_NUMBER and not is_repeat:
-                self._keep(next=refused.more["expected"], under_way=None)
-                self._begin(asked["path"], _members_of(asked))
-                return self._complete(is_repeat=True)
+            if self._journal and (refused.no > OTHER_BODY or not is_repeat):
+                self._journal.answered(self._state["next"], status, refused.body)
             if refused.no > OTHER_BODY or not is_repeat:
                 self._keep(under_way=None)
+            if refused.no in (WRONG_NUMBER, OTHER_BODY):
+                raise OutOfStep(refused, asked["path"], self._state["next"]) from None
             raise
+        if self._journal:
+            self._journal.answered(self._state["next"], status, reply)
         self._keep(next=self._state["next"] + 1, under_way=None, last={**asked, "reply": reply})
         return reply
 
@@ -534,17 +575,24 @@ class Station:
         """The number that the server expects of the seat. Nothing is changed."""
         body = json.dumps({"nr": FAR, "chip": 12 * "0"}).encode("ascii")
         try:
-            answer_of(*self._asked("POST", "/v1/ship", body)[:3])
+            accepted(*self._asked("POST", "/v1/ship", body)[:2])
         except Refused as refused:
             if refused.no == WRONG_NUMBER:
                 return refused.more["expected"]
             raise
         raise NotTheServer(f"number {FAR} was accepted")
 
+    def own_number(self) -> Optional[int]:
+        """The number of the request under way, or of the next one; None without a state file."""
+        return self._state["next"]
+
     def resynchronize(self) -> None:
-        """Forgets the request under way, and goes on with the number that is expected: after a restore of the store,
-        or where a repeat was refused as 11 or 12. Whether that request was done, its device says."""
-        self._keep(next=self.expected_number(), under_way=None)
+        """Forgets the request under way, and goes on with the number that is expected: after a restore of the store, or
+        where a person knows why the seat was out of step. Whether that request was done, its device says."""
+        number = self.expected_number()
+        if self._journal:
+            self._journal.resynchronized(number)
+        self._keep(next=number, under_way=None)
 
     # Commands.
 
@@ -651,153 +699,9 @@ def _members_of(asked: Mapping[str, str]) -> dict[str, Any]:
     return members
 
 
-# The command line.
-
-
-def _key_file(word: str) -> tuple[str, KeyFile]:
-    field, path = _pair(word)
-    path, _, name = path.partition(":")
-    return field, KeyFile(path, name or field)
-
-
-def _pair(word: str) -> tuple[str, str]:
-    field, found, text = word.partition("=")
-    if not found:
-        raise argparse.ArgumentTypeError(f"{word} has no =")
-    return field, text
-
-
-def _text_of(file: str) -> str:
-    return sys.stdin.read() if file == "-" else Path(file).read_text(encoding="utf-8")
-
-
-def _order(station: Station, args: argparse.Namespace) -> None:
-    range_of = (args.prefix, args.width, args.first, args.quantity)
-    station.make_order(args.name, args.issuer, *range_of, args.macs, args.not_before)
-
-
-def _register(station: Station, args: argparse.Namespace) -> None:
-    blocks = blocks_of(_text_of(args.dump))
-    station.register(chip_of(blocks), args.order, args.map, blocks)
-
-
-def _plan(station: Station, args: argparse.Namespace) -> None:
-    wishes = [bit(field, int(index)) for field, index in args.bit]
-    wishes += [value(field, digits) for field, digits in args.value]
-    wishes += [key(field, file.digest()) for field, file in args.key]
-    station.plan(args.chip, [*wishes, *map(wlock, args.wlock), *map(rlock, args.rlock)])
-
-
-def _burn(station: Station, args: argparse.Namespace) -> str:
-    device = station.device(args.chip)
-    work = device.batch2 if device.state == "awaiting2" else device.batch1
-    return "".join(f"{args.tool} {shlex.join(words)}\n" for words in commands(work, dict(args.key)))
-
-
-def _settle(station: Station, args: argparse.Namespace) -> Any:
-    station.settle(args.chip, Espefuse(shlex.split(args.tool), dict(args.key)))
-    return station.get("/v1/device", chip=args.chip)
-
-
-def _import(station: Station, args: argparse.Namespace) -> None:
-    station.post("/v1/import", {"issuer": args.issuer, "csv": _text_of(args.file)})
-
-
-def _finish(station: Station, _: argparse.Namespace) -> Any:
-    done = station.finish()
-    return {"path": done.path, "reply": done.reply} if done else {}
-
-
-def _number(station: Station, args: argparse.Namespace) -> Any:
-    if args.resynchronize:
-        station.resynchronize()
-    return {"expected": station.expected_number()}
-
-
-# Each command with its words, what it does, and what is said of it. One that answers nothing has its reply printed.
-COMMANDS: list[tuple[str, str, Callable[..., Any], str]] = [
-    ("order", "name issuer prefix", _order, "make an order"),
-    ("map", "file", lambda it, args: it.import_map(_text_of(args.file)) and None, "import a map"),
-    ("register", "order map dump", _register, "register a chip, by the file of a dump, or - for standard input"),
-    ("plan", "chip", _plan, "plan a chip"),
-    ("burn", "chip", _burn, "print espefuse's commands for the batch that a chip awaits"),
-    (
-        "readback",
-        "chip dump",
-        lambda it, args: it.read_back(args.chip, blocks_of(_text_of(args.dump))) and None,
-        "send what a chip shows, by the file of a dump, or - for standard input",
-    ),
-    ("settle", "chip", _settle, "burn and read back what a chip awaits"),
-    (
-        "identity",
-        "chip public_key",
-        lambda it, args: it.identify(args.chip, bytes.fromhex(args.public_key)) and None,
-        "give a device its identity, by its public key's hexadecimal digits",
-    ),
-    ("ship", "chip", lambda it, args: it.ship(args.chip) and None, "ship a device"),
-    ("scrap", "chip", lambda it, args: it.scrap(args.chip) and None, "scrap a device"),
-    ("import", "issuer file", _import, "import serial numbers"),
-    ("show-order", "name", lambda it, args: it.get("/v1/order", name=args.name), "show an order"),
-    ("device", "chip", lambda it, args: it.get("/v1/device", chip=args.chip), "show a device"),
-    ("ledger", "chip", lambda it, args: it.get("/v1/ledger", chip=args.chip), "show a device's ledger"),
-    ("report", "", lambda it, _: it.get("/v1/report"), "show the customer's report"),
-    ("site-report", "", lambda it, _: it.get("/v1/site/report"), "show the site's report, with the manager's token"),
-    ("finish", "", _finish, "send what is under way again, and show the last request's reply"),
-    ("number", "", _number, "show the number that the server expects of the seat"),
-]
-
-
-def _parser() -> argparse.ArgumentParser:
-    parser = argparse.ArgumentParser(prog="wanekupo_station", description="A seat's requests, each done once.")
-    parser.add_argument("--url", default="http://127.0.0.1:8080", help="where the server is")
-    parser.add_argument("--token", required=True, metavar="FILE", help="a file with the seat's token")
-    parser.add_argument("--state", required=True, metavar="FILE", help="the seat's state file")
-    parser.add_argument("--patience", type=float, default=120, help="how many seconds a reply is asked for")
-    subparsers = parser.add_subparsers(dest="command", required=True)
-    made = {}
-    for name, words, run, said in COMMANDS:
-        made[name] = subparsers.add_parser(name, help=said, description=said)
-        made[name].set_defaults(run=run)
-        for word in words.split():
-            made[name].add_argument(word)
-    for name in ("width", "first", "quantity"):
-        made["order"].add_argument(f"--{name}", type=int, required=True)
-    made["order"].add_argument("--macs", type=int, default=0, help="addresses for each serial number")
-    made["order"].add_argument("--not-before", help="as 20260101000000Z, where the server knows it")
-    for kind, form in (("bit", "FIELD=INDEX"), ("value", "FIELD=DIGITS")):
-        made["plan"].add_argument(f"--{kind}", action="append", default=[], type=_pair, metavar=form)
-    for kind in ("wlock", "rlock"):
-        made["plan"].add_argument(f"--{kind}", action="append", default=[], metavar="FIELD")
-    for name in ("plan", "burn", "settle"):
-        said = "a key's file, and what espefuse burns it as, where that isn't FIELD"
-        form = "FIELD=FILE[:NAME]"
-        made[name].add_argument("--key", action="append", default=[], type=_key_file, metavar=form, help=said)
-    for name in ("burn", "settle"):
-        made[name].add_argument("--tool", default="espefuse.py", help="espefuse's command, with its port")
-    made["number"].add_argument("--resynchronize", action="store_true", help="forget what is under way, and go on")
-    return parser
-
-
-def main(words: Optional[Sequence[str]] = None) -> int:
-    """Status 0 for a reply, which is printed, 1 for a refusal, 2 for what can't be sent, 3 where no reply came, 4 where
-    the device is quarantined."""
-    args = _parser().parse_args(words)
-    try:
-        token = Path(args.token).read_text(encoding="ascii").strip()
-        with Station(args.url, token, args.state, args.patience) as station:
-            reply = args.run(station, args)
-            if reply is None:
-                reply = station.finish().reply  # type: ignore[union-attr]
-    except Refused as refused:
-        print(f"refused: {refused}", file=sys.stderr)
-        return 1
-    except (StationError, ValueError, OSError, subprocess.CalledProcessError) as error:
-        print(f"{type(error).__name__}: {error}", file=sys.stderr)
-        return 3 if isinstance(error, (NoReply, NotTheServer)) else 2
-    is_text = isinstance(reply, str)
-    print(reply if is_text else json.dumps(reply, sort_keys=True, separators=(",", ":")), end="" if is_text else "\n")
-    return 4 if not is_text and reply.get("state") == "quarantined" else 0
-
-
 if __name__ == "__main__":
+    import sys
+
+    from wanekupo_commands import main
+
     sys.exit(main())

@@ -8,7 +8,9 @@ import json
 import os
 import re
 import select
+import shutil
 import socket
+import ssl
 import subprocess
 import sys
 import tempfile
@@ -22,6 +24,7 @@ from simulated_chip import SimulatedChip
 ROOT = Path(__file__).resolve().parents[3]
 sys.path.insert(0, str(ROOT / "clients" / "python"))
 
+from wanekupo_journal import Journal  # noqa: E402
 from wanekupo_station import KeyFile, Station, bit, blocks_of, chip_of, commands, key, rlock, wlock  # noqa: E402
 
 PROGRAM = os.environ.get("STATION_PROGRAM", str(ROOT / "crates" / "station" / "out" / "station"))
@@ -66,6 +69,23 @@ class Program:
         self.process.wait()
         self.process.stdout.close()
 
+    def copied(self, folder):
+        """The program is killed, its store copied into a new folder, and started again."""
+        self.kill()
+        folder.mkdir()
+        for file in self.db.parent.glob("books.db*"):
+            shutil.copy(file, folder)
+        self.start()
+
+    def restored(self, folder):
+        """The program is killed, and started over a copy of the store in a folder."""
+        self.kill()
+        for file in self.db.parent.glob("books.db*"):
+            file.unlink()
+        for file in folder.glob("books.db*"):
+            shutil.copy(file, self.db.parent)
+        self.start()
+
     @property
     def url(self):
         return f"http://{HOST}:{self.port}"
@@ -76,7 +96,7 @@ class Proxy:
 
     | lost request | the request isn't passed on, and gets no reply |
     | cut request  | its first half is passed on, and it gets no reply |
-    | 502          | it isn't passed on, and gets a page of the proxy's |
+    | 502, 401     | it isn't passed on, and gets a page of the proxy's |
     | lost reply   | it is done, and gets no reply |
     | cut reply    | it is done, and gets the first half of the reply |
     | cut head     | it is done, and gets the first bytes of the head |
@@ -85,7 +105,7 @@ class Proxy:
     | kill         | the program is killed some milliseconds after it has the request, and started again |
     """
 
-    FAULTS = ["lost request", "cut request", "502", "lost reply", "cut reply", "cut head", "504", "late", "kill"]
+    FAULTS = ["lost request", "cut request", "502", "401", "lost reply", "cut reply", "cut head", "504", "late", "kill"]
     LATE = 0.5
     SOONEST, LATEST = 0.0, 0.04
 
@@ -113,7 +133,7 @@ class Proxy:
         self.seen.append((fault, request))
         page = b"HTTP/1.1 %s Bad\r\nContent-Type: text/html\r\nContent-Length: 6\r\nConnection: close\r\n\r\n<html>"
         reply = b""
-        if fault not in ("lost request", "502"):
+        if fault not in ("lost request", "502", "401"):
             with socket.create_connection((HOST, self.program.port)) as server:
                 server.sendall(request[: len(request) // 2] if fault == "cut request" else request)
                 server.shutdown(socket.SHUT_WR)
@@ -122,7 +142,7 @@ class Proxy:
                     return
                 while some := server.recv(65536):
                     reply += some
-        if fault in ("502", "504"):
+        if fault in ("502", "401", "504"):
             reply = page % fault.encode()
         elif fault in ("lost request", "cut request", "lost reply"):
             reply = b""
@@ -143,6 +163,30 @@ class Proxy:
 
     def close(self):
         self.listener.close()
+
+
+class TlsProxy(Proxy):
+    """Speaks TLS, with a certificate that is signed by a CA of its own, `ca.pem` in a folder."""
+
+    def __init__(self, program, folder):
+        key = "-newkey ec -pkeyopt ec_paramgen_curve:prime256v1 -nodes".split()
+        signed = "-days 2 -extfile names -out server.pem"
+        made = {"stdout": subprocess.DEVNULL, "stderr": subprocess.DEVNULL, "cwd": folder, "check": True}
+        (folder / "names").write_text(f"subjectAltName=IP:{HOST}\n", encoding="ascii")
+        for words in (
+            ["req", "-x509", *key, *"-keyout ca.key -out ca.pem -days 2 -subj /CN=plant".split()],
+            ["req", *key, *"-keyout server.key -out server.csr -subj /CN=station".split()],
+            [*"x509 -req -in server.csr -CA ca.pem -CAkey ca.key -CAcreateserial".split(), *signed.split()],
+        ):
+            subprocess.run(["openssl", *words], **made)
+        self.context = ssl.SSLContext(ssl.PROTOCOL_TLS_SERVER)
+        self.context.load_cert_chain(folder / "server.pem", folder / "server.key")
+        super().__init__(program)
+        self.url = self.url.replace("http:", "https:")
+
+    def pass_on(self, client):
+        with self.context.wrap_socket(client, server_side=True) as client:
+            super().pass_on(client)
 
 
 class KeptProxy(Proxy):
@@ -241,6 +285,11 @@ class StationCase(unittest.TestCase):
         self.addCleanup(lambda: self.program.kill())
         (self.folder / "flash.key").write_bytes(FLASH_KEY)
         self.keys = {"BLOCK1": KeyFile(str(self.folder / "flash.key"), "flash_encryption")}
+
+    def journal(self, file="a1.journal"):
+        journal = Journal(self.folder / file)
+        self.addCleanup(journal.close)
+        return journal
 
     def station(self, url=None, token="abc", file="a1.json", **options):
         station = Station(url or self.program.url, token, self.folder / file, **options)

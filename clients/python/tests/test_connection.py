@@ -10,7 +10,7 @@ from support import DIGEST, MAP, ORDER, KeptProxy, StationCase, life
 from test_station import LIFE, rows, steps
 
 import wanekupo_station as client
-from wanekupo_station import Imported, NoReply, Refused, UnderWay
+from wanekupo_station import Imported, NoReply, OutOfStep, UnderWay
 
 
 class Connections(StationCase):
@@ -55,15 +55,18 @@ class Connections(StationCase):
             proxy.close()
 
     def test_one_that_was_closed_before_the_request(self):
-        """It is seen before anything is sent: the request is sent once, and so goes on with the number expected."""
+        """It is seen before anything is sent: the request is sent once, and where it is refused it wasn't done."""
         station, proxy = self.kept()
         proxy.faults = ["closed"]
         station.order("o1")
         self.number_goes_on()
         self.assertTrue(proxy.ended.acquire(timeout=10))
+        with self.assertRaises(OutOfStep):
+            station.import_serials("acme-ca", rows("Z1"))
+        station.resynchronize()
         self.assertEqual(station.import_serials("acme-ca", rows("Z1")), Imported(1, 0))
         sent = [request.partition(b"\r\n\r\n")[2][:8] for _, request in proxy.seen[3:]]
-        self.assertEqual((sent, proxy.connections), ([b'{"nr":2,', b'{"nr":4,'], 2))
+        self.assertEqual((sent, proxy.connections), ([b'{"nr":2,', b'{"nr": 9', b'{"nr":4,'], 2))
 
     def test_one_that_is_closed_while_a_request_is_on_its_way(self):
         """The same bytes are sent again at once, and done once."""
@@ -94,9 +97,9 @@ class Connections(StationCase):
         for expected, fault in ((4, "unread"), (6, "dropped")):
             self.number_goes_on()
             proxy.faults = [fault]
-            with self.assertRaises(Refused) as found:
+            with self.assertRaises(OutOfStep) as found:
                 station.import_serials("acme-ca", rows("Z1"))
-            self.assertEqual((found.exception.no, found.exception.more), (11, {"expected": expected}), fault)
+            self.assertEqual((found.exception.no, found.exception.expected), (11, expected), fault)
             with self.assertRaises(UnderWay):
                 station.import_map(MAP)
             station.resynchronize()

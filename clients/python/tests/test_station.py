@@ -14,6 +14,7 @@ import json
 import os
 import re
 import shlex
+import shutil
 import signal
 import subprocess
 import sys
@@ -24,9 +25,11 @@ from pathlib import Path
 from unittest import mock
 
 from simulated_chip import SimulatedChip
-from support import DIGEST, FLASH_DIGEST, MAC, MAP, ORDER, PUBLIC_KEY, WISHES, Held, Proxy, StationCase, life
+from support import DIGEST, FLASH_DIGEST, MAC, MAP, ORDER, PUBLIC_KEY, WISHES, Held, Proxy, StationCase, TlsProxy, life
 
+import wanekupo_commands
 import wanekupo_station as client
+from wanekupo_journal import Journal, issued, requests_of
 from wanekupo_station import (
     BadStateFile,
     Device,
@@ -37,6 +40,7 @@ from wanekupo_station import (
     NoReply,
     NotTheServer,
     Order,
+    OutOfStep,
     Plan,
     Refused,
     UnderWay,
@@ -345,7 +349,8 @@ class Once(StationCase):
 
     @unittest.skipUnless(hasattr(os, "fork"), "needs fork")
     def test_the_station_is_killed_at_every_step(self):
-        """Before each call that the outside sees: of the state file, of a connection, of the chip. Then it goes on."""
+        """Before each call that the outside sees: of the state file, of the journal, of a connection, of the chip. Then
+        it goes on. The journal has each request once, with its reply."""
         with self.station() as station:
             station.make_order(**{**ORDER, "quantity": 200, "macs": 0, "first": 1})
             station.import_map(MAP)
@@ -362,6 +367,10 @@ class Once(StationCase):
         self.assertEqual(serials, [f"A{place:03}" for place in range(1, len(macs) + 1)])
         counts = self.station().report()["o1"]
         self.assertEqual((counts["shipped"], counts["serials_left"]), (len(macs), 200 - len(macs)))
+        asked = requests_of(self.folder / "a1.journal")
+        self.assertEqual([it.members["nr"] for it in asked], list(range(3, 3 + 6 * len(macs))))
+        self.assertTrue(all(it.is_done() for it in asked))
+        self.assertEqual([it["serial"] for it in issued(asked)], serials)
 
     def lives(self, mac, step):
         """Brings a chip to its shipment in another process, which is killed at a step; its status, or the signal."""
@@ -374,7 +383,8 @@ class Once(StationCase):
                     SimulatedChip(bytes.fromhex(mac), file)
                 chip_io = Held(SimulatedChip.at(file), self.keys)
                 killed_at(step)
-                with client.Station(self.program.url, "abc", self.folder / "a1.json") as station:
+                journal = Journal(self.folder / "a1.journal")
+                with client.Station(self.program.url, "abc", self.folder / "a1.json", journal=journal) as station:
                     life(station, chip_io, bytes.fromhex(mac))
                 status = 0
             finally:
@@ -382,13 +392,35 @@ class Once(StationCase):
         status = os.waitpid(child, 0)[1]
         return os.WTERMSIG(status) if os.WIFSIGNALED(status) else os.WEXITSTATUS(status)
 
-    def test_a_number_that_another_had(self):
-        """A request that was never sent goes on with the number that is expected; one that may be done doesn't."""
+    def out_of_step(self, call, no, number, expected):
+        """A call stops, and says what was asked and what is expected."""
+        with self.assertRaises(OutOfStep) as found:
+            call()
+        stop = found.exception
+        self.assertEqual((stop.no, stop.number, stop.expected), (no, number, expected))
+
+    def test_a_seat_that_another_uses(self):
+        """After one foreign request, after two, and in a repeat: the station stops, each time, until it is told."""
         station, other = self.station(), self.station(file="other.json")
         station.make_order(**ORDER)
-        other.import_map(MAP)
-        other.import_serials("acme-ca", [])
-        self.assertEqual(station.import_serials("acme-ca", rows("Z1")), Imported(1, 0))
+        for count, no in ((1, 12), (2, 11)):
+            before = 2 + 3 * (count - 1)
+            other.resynchronize()
+            for _ in range(count):
+                other.import_map(MAP)
+            for _ in range(2):
+                self.out_of_step(lambda: station.import_serials("acme-ca", rows("Z1")), no, before, before + count)
+            station.resynchronize()
+            self.assertEqual(station.import_serials("acme-ca", rows(f"Y{count}")), Imported(1, 0))
+            other.resynchronize()
+            other.import_map(MAP)
+            station.resynchronize()
+        self.assertEqual(station.import_serials("acme-ca", rows("Y1 Y2 Z1")), Imported(1, 2))
+
+    def test_a_repeat_of_a_seat_that_another_uses(self):
+        """It may be done, so it is under way until the station is told."""
+        station, other = self.station(), self.station(file="other.json")
+        station.make_order(**ORDER)
         proxy = self.proxy(["lost request"] * 9)
         station.close()
         station = self.station(proxy.url, patience=0)
@@ -397,19 +429,16 @@ class Once(StationCase):
         proxy.faults.clear()
         with self.assertRaises(UnderWay):
             station.import_map(MAP)
-        other.resynchronize()
         other.import_map(MAP)
         for repeat in (station.finish, lambda: station.import_serials("acme-ca", rows("Z2"))):
-            with self.assertRaises(Refused) as found:
-                repeat()
-            self.assertEqual((found.exception.no, found.exception.name), (12, "other_body"))
+            self.out_of_step(repeat, 12, 2, 3)
         other.import_map(MAP)
-        with self.assertRaises(Refused) as found:
-            station.finish()
-        self.assertEqual((found.exception.no, found.exception.more), (11, {"expected": 7}))
+        self.out_of_step(station.finish, 11, 2, 4)
+        with self.assertRaises(UnderWay):
+            station.import_map(MAP)
         station.resynchronize()
         self.assertEqual(station.import_serials("acme-ca", rows("Z2")), Imported(1, 0))
-        self.assertEqual(station.expected_number(), 8)
+        self.assertEqual(station.expected_number(), 5)
 
     def test_a_repeat_that_is_refused_was_never_done(self):
         """A request whose first sending was lost is judged at its second, and takes no number where it is refused."""
@@ -526,14 +555,25 @@ class Peers(unittest.TestCase):
 class Words(StationCase):
     """The command line."""
 
-    def ran(self, *words):
+    def ran(self, *words, url=None):
         token, state = self.folder / "a1.token", self.folder / "a1.json"
         token.write_text("abc\n", encoding="ascii")
-        common = ["--url", self.program.url, "--token", str(token), "--state", str(state)]
+        common = ["--url", url or self.program.url, "--token", str(token), "--state", str(state)]
         out, err = io.StringIO(), io.StringIO()
         with contextlib.redirect_stdout(out), contextlib.redirect_stderr(err):
-            status = client.main([*common, *words])
+            status = wanekupo_commands.main([*common, *words])
         return status, out.getvalue(), err.getvalue()
+
+    @unittest.skipUnless(shutil.which("openssl"), "there is no openssl, which makes the certificates")
+    def test_a_ca_of_the_plant(self):
+        proxy = TlsProxy(self.program, self.folder)
+        self.addCleanup(proxy.close)
+        words = ["--patience", "0", "number"]
+        status, out, err = self.ran(*words, url=proxy.url)
+        self.assertEqual((status, out), (3, ""))
+        self.assertIn("CERTIFICATE_VERIFY_FAILED", err)
+        told = (0, '{"expected":1,"own":null}\n', "")
+        self.assertEqual(self.ran("--ca", str(self.folder / "ca.pem"), *words, url=proxy.url), told)
 
     def test_statuses(self):
         order = ["order", "o1", "acme-ca", "A", "--width", "3", "--first", "998", "--quantity", "2"]
@@ -544,7 +584,16 @@ class Words(StationCase):
         (self.folder / "map").write_text(MAP, encoding="utf-8")
         self.assertEqual(self.ran("map", str(self.folder / "map"))[1], f'{{"map":"{DIGEST}"}}\n')
         self.assertEqual(self.ran("finish")[1], f'{{"path":"/v1/map","reply":{{"map":"{DIGEST}"}}}}\n')
-        self.assertEqual(self.ran("number")[1], '{"expected":3}\n')
+        self.assertEqual(self.ran("number")[1], '{"expected":3,"own":3}\n')
+        with client.Station(self.program.url, "abc", self.folder / "other.json") as other:
+            other.import_map(MAP)
+        status, out, err = self.ran("ship", MAC)
+        self.assertEqual((status, out), (5, ""))
+        told = "stopped: /v1/ship with number 3, the server expects 4: 12 other_body"
+        self.assertEqual(err.splitlines()[0], told)
+        self.assertEqual(self.ran("number")[1], '{"expected":4,"own":3}\n')
+        self.assertEqual(self.ran("number", "--resynchronize")[1], '{"expected":4,"own":4}\n')
+        self.assertEqual(self.ran("ship", MAC)[::2], (1, "refused: 15 unknown_device\n"))
         self.program.kill()
         self.assertEqual(self.ran("--patience", "0", "report")[0], 3)
         self.program.start()

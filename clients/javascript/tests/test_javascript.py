@@ -1,0 +1,283 @@
+"""The client in JavaScript against the program, over the proxies and the simulated chip of clients/python's tests."""
+
+from __future__ import annotations
+
+import contextlib
+import json
+import os
+import re
+import shlex
+import shutil
+import signal
+import subprocess
+import sys
+import unittest
+from pathlib import Path
+
+HERE = Path(__file__).resolve().parent
+PYTHON = HERE.parents[1] / "python"
+sys.path[:0] = [str(PYTHON), str(PYTHON / "tests")]
+
+from simulated_chip import SimulatedChip  # noqa: E402
+from support import DIGEST, FLASH_KEY, MAC, MAP, ORDER, PUBLIC_KEY, KeptProxy, Proxy, StationCase  # noqa: E402
+from test_station import LIFE, rows, steps  # noqa: E402
+
+from wanekupo_journal import issued, request_digest, requests_of  # noqa: E402
+from wanekupo_station import NoReply, Station, blocks_of  # noqa: E402
+
+README = HERE.parent / "README.md"
+NODE = shutil.which("node")
+VERSION = subprocess.run([NODE, "--version"], capture_output=True, text=True).stdout if NODE else "v0"
+SIMULATED = [sys.executable, str(PYTHON / "tests" / "simulated_chip.py"), "--path-efuse-file"]
+
+
+class Ended(Exception):
+    """The driver was killed."""
+
+
+class Thrown(Exception):
+    """What the client threw: `name`, and `no`, `number` and `expected` where it has them."""
+
+    def __init__(self, told):
+        super().__init__(told["message"])
+        self.name, self.no = told["name"], told.get("no")
+        self.number, self.expected = told.get("number"), told.get("expected")
+
+
+class Driven:
+    """A seat of the client in a process of its own."""
+
+    def __init__(self, kill_at=None):
+        variables = {**os.environ, **({"KILL_AT": str(kill_at)} if kill_at else {})}
+        pipes = {"stdin": subprocess.PIPE, "stdout": subprocess.PIPE, "text": True}
+        self.process = subprocess.Popen([NODE, str(HERE / "driver.mjs")], env=variables, **pipes)
+
+    def say(self, words):
+        try:
+            self.process.stdin.write(json.dumps(words) + "\n")
+            self.process.stdin.flush()
+        except BrokenPipeError:
+            pass
+        line = self.process.stdout.readline()
+        if not line:
+            raise Ended
+        told = json.loads(line)
+        if "told" not in told:
+            raise Thrown(told)
+        return told["told"]
+
+    def ask(self, *words):
+        return self.say(list(words))
+
+    def close(self):
+        """Its status, or the signal that ended it."""
+        with contextlib.suppress(BrokenPipeError):
+            self.process.stdin.close()
+        self.process.wait()
+        self.process.stdout.close()
+        return self.process.returncode
+
+
+@unittest.skipUnless(int(re.match(r"v(\d+)", VERSION)[1]) >= 18, "there is no Node 18 or later")
+class JavaScript(StationCase):
+    def driven(self, url=None, kill_at=None, **options):
+        driven = Driven(kill_at)
+        self.addCleanup(driven.close)
+        common = {"url": url or self.program.url, "token": "abc", "file": str(self.folder / "a1.json")}
+        driven.say({**common, **options})
+        return driven
+
+    def begun(self, quantity):
+        """An order of so many devices without addresses, and the map, made by the client in Python."""
+        with self.station() as station:
+            station.make_order(**{**ORDER, "quantity": quantity, "macs": 0, "first": 1})
+            station.import_map(MAP)
+
+    def life_of(self, mac, public_key):
+        """What the driver's life is told of a chip in a file."""
+        file = self.folder / mac
+        if not file.exists():
+            file.write_text(json.dumps(blocks_of(SimulatedChip(bytes.fromhex(mac)).dump())), encoding="ascii")
+        words = {"order": "o1", "map": DIGEST, "publicKey": public_key.hex(), "file": str(self.folder / "flash.key")}
+        return {"held": str(file), **words}
+
+    def thrown(self, call, *words):
+        with self.assertRaises(Thrown) as found:
+            call(*words)
+        return found.exception
+
+    def test_javascript_life_in_the_readme(self):
+        """The script as it stands, where `espefuse.py` is the simulated chip; run again it changes nothing."""
+        self.station(file="other.json").make_order(**ORDER)
+        text = re.search(r"^```javascript\n(.*?)^```$", README.read_text(encoding="utf-8"), re.MULTILINE | re.DOTALL)[1]
+        (self.folder / "life.mjs").write_text(text.replace("http://127.0.0.1:8080", self.program.url), encoding="utf-8")
+        shutil.copy(HERE.parent / "wanekupo_station.mjs", self.folder)
+        (self.folder / "esp32.toml").write_text(MAP, encoding="utf-8")
+        (self.folder / "public.key").write_bytes(PUBLIC_KEY)
+        SimulatedChip(bytes.fromhex(MAC), self.folder / "chip")
+        words = [*SIMULATED, "chip"]
+        (self.folder / "espefuse.py").write_text(f'#!/bin/sh\nexec {shlex.join(words)} "$@"\n', encoding="ascii")
+        (self.folder / "espefuse.py").chmod(0o700)
+        paths = {**os.environ, "PATH": f"{self.folder}:{os.environ['PATH']}"}
+        for says in ("serial: 'A998'", ""):
+            done = subprocess.run([NODE, "life.mjs"], cwd=self.folder, env=paths, capture_output=True, text=True)
+            self.assertEqual((done.returncode, done.stderr), (0, ""))
+            self.assertIn(says, done.stdout)
+            self.assertEqual(steps(self.ledger()), LIFE)
+        self.assertEqual(done.stdout, "")
+
+    def test_javascript_each_fault_at_each_request(self):
+        self.begun(len(Proxy.FAULTS))
+        for place, fault in enumerate(Proxy.FAULTS, 1):
+            proxy, mac = self.proxy([fault, None] * 100), f"240ac40000{place:02x}"
+            driven = self.driven(proxy.url, timeout=Proxy.LATE / 2 if fault == "late" else 60)
+            device = driven.ask("life", self.life_of(mac, bytes([place])))
+            self.assertEqual((device["state"], device["serial"]), ("shipped", f"A{place:03}"), fault)
+            self.assertEqual(steps(self.ledger(mac)), LIFE, fault)
+            self.assertGreaterEqual([it for it, _ in proxy.seen].count(fault), 12)
+            self.assertEqual(driven.close(), 0)
+            proxy.close()
+
+    def test_javascript_each_end_of_a_kept_connection(self):
+        """The station has no patience, and goes on at once."""
+        self.begun(2 * len(KeptProxy.FAULTS))
+        cases = [(fault, before) for fault in KeptProxy.FAULTS for before in ([], [None])]
+        for place, (fault, before) in enumerate(cases, 1):
+            proxy, mac = self.proxy([None, *before, *[fault, None] * 100], KeptProxy), f"240ac40000{place:02x}"
+            driven = self.driven(proxy.url, patience=0)
+            device = driven.ask("life", self.life_of(mac, bytes([place])))
+            self.assertEqual((device["state"], device["serial"]), ("shipped", f"A{place:03}"), fault)
+            self.assertEqual(steps(self.ledger(mac)), LIFE, fault)
+            self.assertGreaterEqual([it for it, _ in proxy.seen].count(fault), 5, fault)
+            self.assertEqual(driven.close(), 0)
+            proxy.close()
+
+    def test_javascript_station_is_killed(self):
+        """Before every eleventh call that the outside sees, of its files and of a connection; then it goes on."""
+        self.begun(100)
+        journal, macs, is_killed = self.folder / "a1.journal", [], True
+        while is_killed:
+            mac = f"240ac40000{len(macs) + 1:02x}"
+            for kill_at in (1 + 11 * len(macs), None):
+                try:
+                    driven = self.driven(kill_at=kill_at, journal=str(journal))
+                    driven.ask("life", self.life_of(mac, bytes.fromhex(mac)))
+                    self.assertEqual(driven.close(), 0)
+                    is_killed = kill_at is None
+                    break
+                except Ended:
+                    pass
+            macs.append(mac)
+        self.assertGreater(len(macs), 5)
+        self.assertTrue(all(steps(self.ledger(mac)) == LIFE for mac in macs))
+        serials = [f"A{place:03}" for place in range(1, len(macs) + 1)]
+        asked = requests_of(journal)
+        self.assertEqual([it["serial"] for it in issued(asked)], serials)
+        self.assertEqual([it.members["nr"] for it in asked], list(range(3, 3 + 6 * len(macs))))
+        self.assertTrue(all(it.is_done() for it in asked))
+
+    def test_javascript_journal(self):
+        """It is as that of clients/python, which knows each request by its digest, and shows no key."""
+        self.begun(2)
+        journal = self.folder / "a1.journal"
+        driven = self.driven(journal=str(journal))
+        driven.ask("importMap", MAP + "# \u00b5\n")
+        driven.ask("life", self.life_of(MAC, PUBLIC_KEY))
+        lines = [json.loads(line) for line in journal.read_text(encoding="ascii").splitlines()]
+        told = [line for line in lines if "asked" in line]
+        for line in told:
+            self.assertEqual(request_digest(line["path"], line["asked"]), line["digest"])
+        words = [FLASH_KEY[::-1][place : place + 4][::-1].hex() for place in range(0, 32, 4)]
+        self.assertFalse([word for word in words if word in journal.read_text(encoding="ascii")])
+        self.assertEqual(journal.stat().st_mode & 0o777, 0o600)
+        driven.close()
+        journal.write_bytes(journal.read_bytes() + b'{"at":"2026-')
+        driven = self.driven(journal=str(journal))
+        driven.ask("resynchronize")
+        self.assertEqual([it.members["nr"] for it in requests_of(journal)], list(range(3, 10)))
+
+    def test_javascript_state_file_is_the_same(self):
+        """What one client has under way the other finishes."""
+        proxy = self.proxy([None, "lost reply"])
+        driven = self.driven(proxy.url, patience=0)
+        self.assertEqual(self.thrown(driven.ask, "importMap", MAP).name, "NoReply")
+        driven.close()
+        self.assertEqual((self.folder / "a1.json").stat().st_mode & 0o777, 0o600)
+        with self.station(proxy.url, patience=0) as station:
+            self.assertEqual(station.finish().reply, {"map": DIGEST})
+            proxy.faults = ["lost request"]
+            with self.assertRaises(NoReply):
+                station.import_map(MAP)
+        driven = self.driven()
+        self.assertEqual(driven.ask("finish"), {"path": "/v1/map", "members": {"text": MAP}, "reply": {"map": DIGEST}})
+        self.assertEqual(driven.ask("ownNumber"), 3)
+
+    def test_javascript_seat_that_another_uses(self):
+        """After one foreign request, after two, and in a repeat: the station stops, each time, until it is told."""
+        proxy = self.proxy()
+        driven = self.driven(proxy.url, patience=0)
+        driven.ask("makeOrder", ORDER)
+        for count, no in ((1, 12), (2, 11)):
+            number = driven.ask("ownNumber")
+            self.foreign(count)
+            for _ in range(2):
+                stop = self.thrown(driven.ask, "importSerials", "acme-ca", rows("Z1"))
+                self.assertEqual((stop.name, stop.no), ("OutOfStep", no))
+                self.assertEqual((stop.number, stop.expected), (number, number + count))
+            driven.ask("resynchronize")
+            self.assertEqual(driven.ask("importSerials", "acme-ca", rows(f"Y{count}")), {"added": 1, "present": 0})
+        proxy.faults = ["lost request"]
+        self.assertEqual(self.thrown(driven.ask, "importSerials", "acme-ca", rows("Z1")).name, "NoReply")
+        self.foreign(1)
+        self.assertEqual(self.thrown(driven.ask, "finish").no, 12)
+        self.assertEqual(self.thrown(driven.ask, "importMap", MAP).name, "UnderWay")
+        driven.ask("resynchronize")
+        self.assertEqual(driven.ask("importSerials", "acme-ca", rows("Y1 Y2 Z1")), {"added": 1, "present": 2})
+
+    def foreign(self, count):
+        """Somebody else has requests of the seat done."""
+        with Station(self.program.url, "abc", self.folder / "other.json") as other:
+            other.resynchronize()
+            for _ in range(count):
+                other.import_map(MAP)
+
+    def test_javascript_refusals(self):
+        driven = self.driven()
+        driven.ask("makeOrder", ORDER)
+        blocks = blocks_of(SimulatedChip(bytes.fromhex(MAC)).dump())
+        cases = [(16, "makeOrder", ORDER), (13, "register", MAC, "o1", DIGEST, blocks)]
+        cases += [(15, "ship", MAC), (15, "device", MAC)]
+        for no, *words in cases:
+            refused = self.thrown(driven.ask, *words)
+            self.assertEqual((refused.name, refused.no), ("Refused", no))
+        self.assertIsNone(driven.ask("findDevice", MAC))
+        self.assertEqual((driven.ask("expectedNumber"), driven.ask("ownNumber")), (2, 2))
+        others = blocks_of(SimulatedChip(bytes.fromhex("240ac4000002")).dump())
+        self.assertEqual(self.thrown(driven.ask, "register", MAC, "o1", DIGEST, others).name, "RangeError")
+        self.assertEqual(driven.ask("report").splitlines()[1:], ["o1,2,0,0,0,0,0,0,0,2"])
+
+    def test_javascript_state_file_in_use(self):
+        driven = self.driven()
+        driven.ask("importMap", MAP)
+        self.assertEqual(self.thrown(self.driven).name, "BadStateFile")
+        driven.process.kill()
+        driven.close()
+        self.assertEqual(self.driven().ask("ownNumber"), 2)
+        (self.folder / "bad.json").write_text("{", encoding="ascii")
+        self.assertEqual(self.thrown(lambda: self.driven(file=str(self.folder / "bad.json"))).name, "BadStateFile")
+        self.assertEqual(self.thrown(lambda: self.driven(token="hello")).name, "BadStateFile")
+
+    def test_javascript_page_of_a_proxy(self):
+        """It is as no reply: sent again, and under way."""
+        proxy = self.proxy()
+        driven = self.driven(proxy.url, patience=0)
+        driven.ask("expectedNumber")
+        proxy.faults = [None, "401", "504"]
+        for _ in range(2):
+            self.assertEqual(self.thrown(driven.ask, "importMap", MAP).name, "NotTheServer")
+        self.assertEqual(driven.ask("finish")["reply"], {"map": DIGEST})
+        self.assertEqual(driven.ask("expectedNumber"), 2)
+
+
+if __name__ == "__main__":
+    unittest.main()

@@ -1,0 +1,251 @@
+"""The command line of `wanekupo_station`: one command a request, and those of the journal and of the yield."""
+
+from __future__ import annotations
+
+import argparse
+import contextlib
+import json
+import shlex
+import ssl
+import subprocess
+import sys
+from pathlib import Path
+from typing import Any, Callable, Optional, Sequence
+
+from wanekupo_journal import Journal, issued, merged, restore
+from wanekupo_station import (
+    Espefuse,
+    KeyFile,
+    NoReply,
+    NotTheServer,
+    OutOfStep,
+    Refused,
+    Station,
+    StationError,
+    bit,
+    blocks_of,
+    chip_of,
+    commands,
+    key,
+    rlock,
+    value,
+    wlock,
+)
+from wanekupo_yield import as_csv, as_svg, as_text, between, moment_of, seconds_of, watch
+
+
+def _key_file(word: str) -> tuple[str, KeyFile]:
+    field, path = _pair(word)
+    path, _, name = path.partition(":")
+    return field, KeyFile(path, name or field)
+
+
+def _pair(word: str) -> tuple[str, str]:
+    field, found, text = word.partition("=")
+    if not found:
+        raise argparse.ArgumentTypeError(f"{word} has no =")
+    return field, text
+
+
+def _text_of(file: str) -> str:
+    return sys.stdin.read() if file == "-" else Path(file).read_text(encoding="utf-8")
+
+
+def _station(args: argparse.Namespace, file: Optional[str], patience: float, **options: Any) -> Station:
+    token = Path(args.token).read_text(encoding="ascii").strip()
+    context = ssl.create_default_context(cafile=args.ca) if args.ca else None
+    return Station(args.url, token, file, patience, context=context, **options)
+
+
+def _order(station: Station, args: argparse.Namespace) -> None:
+    range_of = (args.prefix, args.width, args.first, args.quantity)
+    station.make_order(args.name, args.issuer, *range_of, args.macs, args.not_before)
+
+
+def _register(station: Station, args: argparse.Namespace) -> None:
+    blocks = blocks_of(_text_of(args.dump))
+    station.register(chip_of(blocks), args.order, args.map, blocks)
+
+
+def _plan(station: Station, args: argparse.Namespace) -> None:
+    wishes = [bit(field, int(index)) for field, index in args.bit]
+    wishes += [value(field, digits) for field, digits in args.value]
+    wishes += [key(field, file.digest()) for field, file in args.key]
+    station.plan(args.chip, [*wishes, *map(wlock, args.wlock), *map(rlock, args.rlock)])
+
+
+def _burn(station: Station, args: argparse.Namespace) -> str:
+    device = station.device(args.chip)
+    work = device.batch2 if device.state == "awaiting2" else device.batch1
+    return "".join(f"{args.tool} {shlex.join(words)}\n" for words in commands(work, dict(args.key)))
+
+
+def _settle(station: Station, args: argparse.Namespace) -> Any:
+    station.settle(args.chip, Espefuse(shlex.split(args.tool), dict(args.key)))
+    return station.get("/v1/device", chip=args.chip)
+
+
+def _import(station: Station, args: argparse.Namespace) -> None:
+    station.post("/v1/import", {"issuer": args.issuer, "csv": _text_of(args.file)})
+
+
+def _finish(station: Station, _: argparse.Namespace) -> Any:
+    done = station.finish()
+    return {"path": done.path, "reply": done.reply} if done else {}
+
+
+def _number(station: Station, args: argparse.Namespace) -> Any:
+    if args.resynchronize:
+        station.resynchronize()
+    return {"expected": station.expected_number(), "own": station.own_number()}
+
+
+def _restore(station: Station, args: argparse.Namespace) -> Any:
+    return restore(station, args.journals)
+
+
+def _issued(args: argparse.Namespace) -> str:
+    names = ("chip", "issuer", "serial", "key_sha256", "mac")
+    rows = [names, *([it[name] or "" for name in names] for it in issued(merged(args.journals)))]
+    return "".join(",".join(row) + "\n" for row in rows)
+
+
+def _watch(args: argparse.Namespace) -> str:
+    path = "/v1/site/report" if args.site else "/v1/report"
+    with _station(args, file=None, patience=min(args.patience, 10), timeout=10) as station:
+        with contextlib.suppress(KeyboardInterrupt):
+            watch(lambda: station.get(path), args.file, seconds_of(args.every), args.times, args.customer)
+    return ""
+
+
+def _yield(args: argparse.Namespace) -> str:
+    shift = between(args.file, moment_of(getattr(args, "from")), moment_of(args.to))
+    for file, text in ((args.csv, as_csv), (args.svg, as_svg)):
+        if file:
+            Path(file).write_text(text(shift), encoding="utf-8")
+    return as_text(shift)
+
+
+# Each command with its words, what it does, and what is said of it. One that answers nothing has its reply printed.
+COMMANDS: list[tuple[str, str, Callable[..., Any], str]] = [
+    ("order", "name issuer prefix", _order, "make an order"),
+    ("map", "file", lambda it, args: it.import_map(_text_of(args.file)) and None, "import a map"),
+    ("register", "order map dump", _register, "register a chip, by the file of a dump, or - for standard input"),
+    ("plan", "chip", _plan, "plan a chip"),
+    ("burn", "chip", _burn, "print espefuse's commands for the batch that a chip awaits"),
+    (
+        "readback",
+        "chip dump",
+        lambda it, args: it.read_back(args.chip, blocks_of(_text_of(args.dump))) and None,
+        "send what a chip shows, by the file of a dump, or - for standard input",
+    ),
+    ("settle", "chip", _settle, "burn and read back what a chip awaits"),
+    (
+        "identity",
+        "chip public_key",
+        lambda it, args: it.identify(args.chip, bytes.fromhex(args.public_key)) and None,
+        "give a device its identity, by its public key's hexadecimal digits",
+    ),
+    ("ship", "chip", lambda it, args: it.ship(args.chip) and None, "ship a device"),
+    ("scrap", "chip", lambda it, args: it.scrap(args.chip) and None, "scrap a device"),
+    ("import", "issuer file", _import, "import serial numbers"),
+    ("show-order", "name", lambda it, args: it.get("/v1/order", name=args.name), "show an order"),
+    ("device", "chip", lambda it, args: it.get("/v1/device", chip=args.chip), "show a device"),
+    ("ledger", "chip", lambda it, args: it.get("/v1/ledger", chip=args.chip), "show a device's ledger"),
+    ("report", "", lambda it, _: it.get("/v1/report"), "show the customer's report"),
+    ("site-report", "", lambda it, _: it.get("/v1/site/report"), "show the site's report, with the manager's token"),
+    ("finish", "", _finish, "send what is under way again, and show the last request's reply"),
+    ("number", "", _number, "show the number that the server expects of the seat, and the station's own"),
+    ("restore", "", _restore, "bring what journals say into a restored store"),
+]
+
+# Commands that have no state file.
+STATELESS: list[tuple[str, Callable[..., Any], str]] = [
+    ("issued", _issued, "show the identities of journals"),
+    ("watch", _watch, "add the report to a file of each day, with its time, every so often"),
+    ("yield", _yield, "show what was done between two moments, by the files of watch"),
+]
+
+
+def _parser() -> argparse.ArgumentParser:
+    parser = argparse.ArgumentParser(prog="wanekupo_station", description="A seat's requests, each done once.")
+    parser.add_argument("--url", default="http://127.0.0.1:8080", help="where the server is")
+    parser.add_argument("--token", metavar="FILE", help="a file with the seat's token")
+    parser.add_argument("--state", metavar="FILE", help="the seat's state file")
+    parser.add_argument("--journal", metavar="FILE", help="the station's own log, which restore reads")
+    parser.add_argument("--ca", metavar="FILE", help="the certificates to trust, in place of the system's")
+    parser.add_argument("--patience", type=float, default=120, help="how many seconds a reply is asked for")
+    subparsers = parser.add_subparsers(dest="command", required=True)
+    made = {}
+    for name, words, run, said in COMMANDS:
+        made[name] = subparsers.add_parser(name, help=said, description=said)
+        made[name].set_defaults(run=run)
+        for word in words.split():
+            made[name].add_argument(word)
+    for name, run, said in STATELESS:
+        made[name] = subparsers.add_parser(name, help=said, description=said)
+        made[name].set_defaults(run_stateless=run)
+    for name in ("restore", "issued"):
+        made[name].add_argument("journals", nargs="+", metavar="journal")
+    for name in ("watch", "yield"):
+        made[name].add_argument("file", help="FILE.csv is FILE-2026-11-27.csv of that day, in UTC")
+    made["watch"].add_argument("--every", default="15m", help="as 30s, 15m or 1h")
+    made["watch"].add_argument("--times", type=int, default=0, help="how many reports, without end where it is 0")
+    made["watch"].add_argument("--customer", default="", help="the seat's customer, for the column of that name")
+    made["watch"].add_argument("--site", action="store_true", help="the site's report, with the manager's token")
+    made["yield"].add_argument("--from", required=True, metavar="TIME", help="as 2026-11-27T06:00, or with a Z")
+    made["yield"].add_argument("--to", required=True, metavar="TIME")
+    made["yield"].add_argument("--csv", metavar="FILE", help="write it as comma-separated values too")
+    made["yield"].add_argument("--svg", metavar="FILE", help="draw it")
+    for name in ("width", "first", "quantity"):
+        made["order"].add_argument(f"--{name}", type=int, required=True)
+    made["order"].add_argument("--macs", type=int, default=0, help="addresses for each serial number")
+    made["order"].add_argument("--not-before", help="as 20260101000000Z, where the server knows it")
+    for kind, form in (("bit", "FIELD=INDEX"), ("value", "FIELD=DIGITS")):
+        made["plan"].add_argument(f"--{kind}", action="append", default=[], type=_pair, metavar=form)
+    for kind in ("wlock", "rlock"):
+        made["plan"].add_argument(f"--{kind}", action="append", default=[], metavar="FIELD")
+    for name in ("plan", "burn", "settle"):
+        said = "a key's file, and what espefuse burns it as, where that isn't FIELD"
+        form = "FIELD=FILE[:NAME]"
+        made[name].add_argument("--key", action="append", default=[], type=_key_file, metavar=form, help=said)
+    for name in ("burn", "settle"):
+        made[name].add_argument("--tool", default="espefuse.py", help="espefuse's command, with its port")
+    made["number"].add_argument("--resynchronize", action="store_true", help="forget what is under way, and go on")
+    return parser
+
+
+def _answered(args: argparse.Namespace) -> Any:
+    """A seat's command: its answer, or the reply to its request."""
+    with contextlib.ExitStack() as stack:
+        journal = stack.enter_context(contextlib.closing(Journal(args.journal))) if args.journal else None
+        station = stack.enter_context(_station(args, args.state, args.patience, journal=journal))
+        answer = args.run(station, args)
+        return station.finish().reply if answer is None else answer  # type: ignore[union-attr]
+
+
+def main(words: Optional[Sequence[str]] = None) -> int:
+    """Status 0 for a reply, which is printed, 1 for a refusal, 2 for what can't be sent, 3 where no reply came, 4 where
+    the device is quarantined, 5 where the numbers of the seat aren't this station's."""
+    parser = _parser()
+    args = parser.parse_args(words)
+    is_stateless = "run_stateless" in args
+    needed = {"issued": (), "yield": (), "watch": ("token",)}.get(args.command, ("token", "state"))
+    if not all(getattr(args, name) for name in needed):
+        parser.error(" and ".join(f"--{name}" for name in needed) + " must be given")
+    try:
+        reply = args.run_stateless(args) if is_stateless else _answered(args)
+    except OutOfStep as stop:
+        asked = f"{stop.path} with number {stop.number}, the server expects {stop.expected}"
+        print(f"stopped: {asked}: {stop}", file=sys.stderr)
+        print("look why (docs/CLIENT.md, A station that stops), then: number --resynchronize", file=sys.stderr)
+        return 5
+    except Refused as refused:
+        print(f"refused: {refused}", file=sys.stderr)
+        return 1
+    except (StationError, ValueError, OSError, subprocess.CalledProcessError) as error:
+        print(f"{type(error).__name__}: {error}", file=sys.stderr)
+        return 3 if isinstance(error, (NoReply, NotTheServer)) else 2
+    is_text = isinstance(reply, str)
+    print(reply if is_text else json.dumps(reply, sort_keys=True, separators=(",", ":")), end="" if is_text else "\n")
+    return 4 if not is_text and reply.get("state") == "quarantined" else 0
