@@ -89,7 +89,11 @@ impl<'a, R: Clock, S: Drop, L: OpenListener<Stream = S>> Line<'a, R, L, S> {
             since,
             opened: self.opened,
             another_waits,
-            another_since: if another_waits { self.waits_since(now) } else { now },
+            another_since: if another_waits {
+                self.waits_since(now)
+            } else {
+                now
+            },
         };
         Some(turn_of(&self.bounds, &wait, now))
     }
