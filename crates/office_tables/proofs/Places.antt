@@ -12,7 +12,8 @@ use Rattle.std.specs.Ordering.{is_eq, match_ordering, ordering_then}
 use Rattle.std.proofs.lemmas.Slice.Eq.{bytes_eq-Decides}
 use Rattle.office_tables.specs.declared.rows.OfCustomer.{OfCustomer}
 use Rattle.office_tables.specs.declared.rows.Device.{Device}
-use Rattle.office_tables.specs.OrderPlaces.{is_given_up, places_taken, takes_place}
+use Rattle.office_tables.specs.OrderPlaces.{places_taken, takes_place}
+use Rattle.office_tables.specs.States.{state_row}
 use Rattle.office_tables.specs.PlaceCounting.{place_of_device, text_pair_cmp}
 use Rattle.office_tables.specs.Tables.{device_cmp, is_device, is_of, rows_of, with_row, text_cmp, IsInOrder}
 use Rattle.office_tables.proofs.Placing.{all_map}
@@ -65,7 +66,7 @@ pub at_order : (d : OfCustomer Device) (customer order : List ℕ) → is_at (te
 at_order d customer order = at_key d.customer d.row.order customer order
 
 -- no place is taken by one that is given up
-pub given_up_takes_none : (customer order : List ℕ) (d : OfCustomer Device) → is_given_up d.row.state ≡ true → place_of_device customer order d ≡ 0
+pub given_up_takes_none : (customer order : List ℕ) (d : OfCustomer Device) → (state_row d.row.state).is_given_up ≡ true → place_of_device customer order d ≡ 0
 given_up_takes_none customer order d gone =
     rw gone (elim (is_of customer d) as (λ is. ◌≡◌ {A = ℕ} (cond (is && (bytes_eq order d.row.order && false)) 1 0) 0) [
       | true ↦ elim (bytes_eq order d.row.order) as (λ is. ◌≡◌ {A = ℕ} (cond (is && false) 1 0) 0) [ true ↦ refl | false ↦ refl ]
@@ -73,7 +74,7 @@ given_up_takes_none customer order d gone =
     ])
 
 -- one that isn't given up takes one of its order
-pub takes_its_place : (d : OfCustomer Device) → is_given_up d.row.state ≡ false → place_of_device d.customer d.row.order d ≡ 1
+pub takes_its_place : (d : OfCustomer Device) → (state_row d.row.state).is_given_up ≡ false → place_of_device d.customer d.row.order d ≡ 1
 takes_its_place d stays = rw (stays, (bytes_eq-Decides d.customer d.customer).1 refl, (bytes_eq-Decides d.row.order d.row.order).1 refl) refl
 
 none_if : (of at up : Bool) → (of && at) ≡ false → ◌≡◌ {A = ℕ} (cond (of && (at && up)) 1 0) 0
@@ -85,7 +86,7 @@ none_if false at up is = refl
 pub takes_no_other : (d : OfCustomer Device) (customer order : List ℕ)
     → (is_of customer d && bytes_eq order d.row.order) ≡ false
     → place_of_device customer order d ≡ 0
-takes_no_other d customer order other = none_if (is_of customer d) (bytes_eq order d.row.order) (not (is_given_up d.row.state)) other
+takes_no_other d customer order other = none_if (is_of customer d) (bytes_eq order d.row.order) (not ((state_row d.row.state).is_given_up)) other
 
 -- how many devices take a place of a customer's order
 abbrev pub places : List ℕ → List ℕ → List (OfCustomer Device) → ℕ
