@@ -12,7 +12,7 @@ use Rattle.fuse_image.specs.Keys.{KeyTable}
 use Rattle.fuse_image.specs.Places.{Positions}
 use Rattle.fuse_image.specs.Words.{words_of_set}
 use Rattle.fuse_image.specs.declared.pending.Pending.{Pending}
-use Rattle.office_tables.specs.Quarantine.{reason_of}
+use Rattle.office_tables.specs.States.{state_row}
 use Rattle.office_tables.specs.declared.rows.Device.{Device}
 use Rattle.office_tables.specs.declared.rows.DeviceState.{DeviceState}
 use Rattle.office_tables.specs.declared.rows.NewEntry.{NewEntry}
@@ -80,7 +80,7 @@ in_device fields burnt pending d =
     or_from _ _ (in_bits burnt.burnt)
     (or_from _ _ (in_keys fields burnt.keys)
     (or_from _ _ (or_from _ _ (in_work fields pending.first pending.keys) (or_from _ _ (in_work fields pending.second table.empty) refl))
-    (or_from _ _ (in_reason (reason_of d.state)) (or_from _ _ (in_text d.serial) refl))))
+    (or_from _ _ (in_reason (state_row d.state).reason) (or_from _ _ (in_text d.serial) refl))))
 
 in_entry : (fields : List Field) (added : Image) (e : NewEntry) → has_float (entry_data fields added e) ≡ false
 in_entry fields added e = or_from _ _ (in_bits added.burnt) (or_from _ _ (in_keys fields added.keys) refl)

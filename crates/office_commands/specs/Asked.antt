@@ -4,8 +4,10 @@ use Rattle.std.specs.List.{AllByRecursion}
 use Rattle.fuse_plan.specs.declared.wish.Want.{Want}
 use Rattle.fuse_plan.specs.declared.wish.Want.TheVariants.{Bit, Value, Key, WriteLock, ReadLock}
 use Rattle.office_commands.specs.NewOrders.{IsNewOrder}
+use Rattle.office_commands.specs.declared.command.Action.{Action}
+use Rattle.office_commands.specs.declared.command.Action.TheVariants.{Plan, ReadBack, Ship, Scrap}
 use Rattle.office_commands.specs.declared.command.Change.{Change}
-use Rattle.office_commands.specs.declared.command.Change.TheVariants.{MakeOrder, ImportMap, RegisterDevice, PlanDevice, ReadBack, Identify, Ship, Scrap, Import}
+use Rattle.office_commands.specs.declared.command.Change.TheVariants.{MakeOrder, ImportMap, RegisterDevice, Act, Identify, Import}
 use Rattle.office_commands.specs.declared.command.Command.{Command}
 use Rattle.office_commands.specs.declared.command.Command.TheVariants.{Change as Changing, Show}
 use Rattle.office_commands.specs.declared.command.Request.{Request}
@@ -18,15 +20,18 @@ HasDigest (Key digest) = length digest ≡ 32
 HasDigest WriteLock = Unit {0}
 HasDigest ReadLock = Unit {0}
 
+abbrev pub IsAction : Action → Type 0
+IsAction (Plan wishes) = AllByRecursion (λ w. HasDigest w.want) wishes
+IsAction (ReadBack blocks) = Unit {0}
+IsAction Ship = Unit {0}
+IsAction Scrap = Unit {0}
+
 abbrev pub IsChange : Change → Type 0
 IsChange (MakeOrder o) = IsNewOrder o
 IsChange (ImportMap text) = Unit {0}
 IsChange (RegisterDevice d) = Unit {0}
-IsChange (PlanDevice p) = AllByRecursion (λ w. HasDigest w.want) p.wishes
-IsChange (ReadBack r) = Unit {0}
+IsChange (Act chip action) = IsAction action
 IsChange (Identify i) = Unit {0}
-IsChange (Ship chip) = Unit {0}
-IsChange (Scrap chip) = Unit {0}
 IsChange (Import i) = Unit {0}
 
 abbrev pub IsCommand : Command → Type 0

@@ -4,8 +4,8 @@ use Rattle.serde_json.specs.Data.{Data, string, object}
 use Rattle.serde_json.specs.Written.{compact_text}
 use Rattle.hex.specs.Hex.{encode_lower}
 use Rattle.id_ranges.specs.Idevid.{Idevid}
+use Rattle.office_tables.specs.States.{state_row}
 use Rattle.office_tables.specs.declared.rows.DeviceState.{DeviceState}
-use Rattle.office_tables.specs.Texts.{state_text}
 use Rattle.office_commands.specs.Replies.{mac_data, members_of, text_data, whole_data}
 
 -- the record of a device's identity (IEEE 802.1AR), its members in byte order
@@ -25,7 +25,7 @@ identity_body chip i = compact_text (identity_data chip i)
 
 -- where a device stands
 abbrev pub state_data : List ℕ → DeviceState → Data
-state_data chip state = object (members_of ((codes "chip", string chip) ∷ (codes "state", string (state_text state)) ∷ []))
+state_data chip state = object (members_of ((codes "chip", string chip) ∷ (codes "state", string (state_row state).text) ∷ []))
 
 -- the text of that
 unfoldable pub state_body : List ℕ → DeviceState → List ℕ

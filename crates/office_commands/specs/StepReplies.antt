@@ -7,9 +7,10 @@ use Rattle.fusemap_core.specs.declared.field.Field.{Field}
 use Rattle.fusemap_core.specs.Map.{Map}
 use Rattle.fuse_image.specs.declared.image.Image.{Image}
 use Rattle.fuse_image.specs.declared.pending.Pending.{Pending}
+use Rattle.office_tables.specs.States.{state_row}
 use Rattle.office_tables.specs.declared.rows.DeviceState.{DeviceState}
 use Rattle.office_tables.specs.declared.rows.Outcome.{Outcome}
-use Rattle.office_tables.specs.Texts.{outcome_text, state_text}
+use Rattle.office_tables.specs.Texts.{outcome_text}
 use Rattle.office_commands.specs.DeviceReplies.{batch_data}
 use Rattle.office_commands.specs.Replies.{members_of}
 
@@ -18,7 +19,7 @@ abbrev pub plan_data : List Field → Pending → DeviceState → Data
 plan_data fields work state = object (members_of (
     (codes "batch1", batch_data fields work.first work.keys) ∷
     (codes "batch2", batch_data fields work.second map.empty) ∷
-    (codes "state", string (state_text state)) ∷ []))
+    (codes "state", string (state_row state).text) ∷ []))
 
 unfoldable pub plan_body : Map → Pending → DeviceState → List ℕ
 plan_body m work state = compact_text (plan_data m.fields work state)
@@ -28,7 +29,7 @@ abbrev pub outcome_data : List Field → Outcome → Image → DeviceState → D
 outcome_data fields outcome rest state = object (members_of (
     (codes "outcome", string (outcome_text outcome)) ∷
     (codes "rest", batch_data fields rest.burnt rest.keys) ∷
-    (codes "state", string (state_text state)) ∷ []))
+    (codes "state", string (state_row state).text) ∷ []))
 
 unfoldable pub outcome_body : Map → Outcome → Image → DeviceState → List ℕ
 outcome_body m outcome rest state = compact_text (outcome_data m.fields outcome rest state)

@@ -2,8 +2,24 @@
 ghost use Rattle.office_commands.specs.Asked.{IsAsked};
 ghost use Rattle.office_commands.specs.Wholes.{IsRequestNumber};
 
-use crate::{AskedOrder, NewDevice, NewIdentity, NewImport, NewPlan, NewReadBack, RequestNumber};
+use crate::{AskedOrder, NewDevice, NewIdentity, NewImport, RequestNumber, Wishes};
+use fuse_image::BlockWords;
 use text_core::{Chip, Digest, Name, Text};
+
+/// What a device goes through on its way through the line, but for its registration and its
+/// identity.
+#[derive(Drop)]
+pub enum Action {
+    /// What is to be burnt of it is planned.
+    Plan(Wishes),
+    /// What it shows is compared with what was to be burnt: the words of all blocks as the station
+    /// read them.
+    ReadBack(BlockWords),
+    /// It is shipped.
+    Ship,
+    /// It is scrapped.
+    Scrap,
+}
 
 /// A command that writes.
 #[derive(Drop)]
@@ -14,16 +30,10 @@ pub enum Change {
     ImportMap(Text),
     /// Registers a device.
     RegisterDevice(NewDevice),
-    /// Plans what is to be burnt of a device.
-    PlanDevice(NewPlan),
-    /// Compares what a device shows with what was to be burnt.
-    ReadBack(NewReadBack),
+    /// Takes a device a step on, by its chip.
+    Act(Chip, Action),
     /// Gives a device its serial number.
     Identify(NewIdentity),
-    /// Ships a device, by its chip.
-    Ship(Chip),
-    /// Scraps a device, by its chip.
-    Scrap(Chip),
     /// Gives serial numbers that were handed out elsewhere.
     Import(NewImport),
 }
@@ -68,7 +78,7 @@ impl Request {
             Command::Change(Change::MakeOrder(order)) => {
                 let _order = order.order();
             }
-            Command::Change(Change::PlanDevice(plan)) => plan.digests(),
+            Command::Change(Change::Act(_, Action::Plan(wishes))) => wishes.assert_digests(),
             _ => {}
         }
     }

@@ -22,7 +22,7 @@ pub struct StateRow {
 /// The row of a state in which a device takes a place of its order.
 fn row(text: &'static str, pending: Batches, column: usize) -> StateRow
     ensures { result ≡ record {
-      text = text;
+      text = text.entry;
       reason = None;
       is_given_up = false;
       pending = pending;

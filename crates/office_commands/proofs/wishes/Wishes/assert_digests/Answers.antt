@@ -1,4 +1,4 @@
--- Why `new_plan::NewPlan::digests` meets its contract, where that has to be said.
+-- Why `wishes::Wishes::assert_digests` meets its contract, where that has to be said.
 use Rattle.std.proofs.Common.{◌≡◌, ◌+◌, ◌++◌, List, [], ◌∷◌, arith, subst, take}
 use Rattle.std.specs.Prelude.{suc}
 use Rattle.std.specs.List.{AllByRecursion}
@@ -6,7 +6,7 @@ use Rattle.std.proofs.Math.Seq.{take-suc}
 use Rattle.std.proofs.lemmas.List.{take_all}
 use Rattle.fuse_plan.specs.declared.wish.Wish.{Wish}
 use Rattle.office_commands.specs.Asked.{HasDigest}
-use Rattle.office_commands.proofs.new_plan.NewPlan.digests.Goals as goal
+use Rattle.office_commands.proofs.wishes.Wishes.assert_digests.Goals as goal
 
 -- what holds of some and of one more holds of all
 all_with : (P : Wish → Type 0) (xs : List Wish) (x : Wish) → AllByRecursion P xs → P x → AllByRecursion P (xs ++ x ∷ [])
@@ -19,7 +19,7 @@ loop-wish-preserved c =
     let wishes = c.as_slice-wishes.result.now in
     let next : i + 1 ≡ suc i = omega arith in
     rw (next, take-suc wishes i c.wish-item.result c.loop-wish-test.true, ← c.wish-item.is)
-    (all_with (λ w. HasDigest w.want) (take i wishes) c.wish-item.result c.loop-wish.invariant c.known_digest.ensures)
+    (all_with (λ w. HasDigest w.want) (take i wishes) c.wish-item.result c.loop-wish.invariant c.assert_digest.ensures)
 
 pub returns : goal.returns
 returns c =
