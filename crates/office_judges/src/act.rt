@@ -28,7 +28,7 @@ pub struct Acted {
 }
 
 /// Whether an action goes on from this state.
-fn goes_on(action: &Action, state: DeviceState) -> bool
+fn goes_on_from(action: &Action, state: DeviceState) -> bool
     ensures { result ≡ is_one_of (rule_of action.now).from state }
 {
     match (action, state) {
@@ -59,7 +59,8 @@ fn go_on(
     }
 }
 
-/// What an action makes of a device, or the lowest refusal of it. It fails where there is no memory.
+/// What an action makes of a device, or the lowest refusal of it. It fails where there is no
+/// memory.
 fn act(
     alloc: Global,
     map: &FuseMap,
@@ -68,7 +69,7 @@ fn act(
 ) -> Result<Result<Acted, Refusal>, AllocError>
     ensures { IfOk result (λ acted. IsActed action.now map.now device.now acted) }
 {
-    if goes_on(action, device.state) {
+    if goes_on_from(action, device.state) {
         go_on(alloc, map, device, action)
     } else {
         Ok(Err(Refusal::WrongState))

@@ -1,7 +1,9 @@
 // Read-backs of devices.
 ghost use Rattle.std.specs.Prelude.{◌≡◌, IfOk};
 ghost use Rattle.fuse_plan.specs.Pending as pending;
-ghost use Rattle.office_rules.specs.ReadBack.{next_batch, outcome_for, outcome_of, pending_after, reads_redacted, reason_for, state_after, verdict_of_read_back, with_rest};
+ghost use Rattle.office_rules.specs.ReadBack.{next_batch, outcome_for, outcome_of, pending_after};
+ghost use Rattle.office_rules.specs.ReadBack.{reads_redacted, reason_for, state_after};
+ghost use Rattle.office_rules.specs.ReadBack.{verdict_of_read_back, with_rest};
 ghost use Rattle.office_judges.specs.Acting.{IsActedOn};
 
 use crate::act::Acted;
@@ -137,15 +139,16 @@ fn read_step(map: &FuseMap, device: &Device, readback: &ReadBack) -> (DeviceStep
     (step, verdict)
 }
 
-/// What a read-back makes of a device, with the body that tells its verdict, or the refusal of words
-/// that don't fit the map.
+/// What a read-back makes of a device, with the body that tells its verdict, or the refusal of
+/// words that don't fit the map.
 pub(crate) fn read_back(
     alloc: Global,
     map: &FuseMap,
     device: &Device,
     words: &BlockWords,
 ) -> Result<Result<Acted, Refusal>, AllocError>
-    ensures { IfOk result (λ acted. IsActedOn (Action.ReadBack words.now) map.now device.now acted) }
+    ensures { IfOk result (λ acted.
+        IsActedOn (Action.ReadBack words.now) map.now device.now acted) }
 {
     if !fits(map, words) {
         return Ok(Err(Refusal::BadReadback));

@@ -1,5 +1,5 @@
 -- Why `act::judge_action` meets its contract, where that has to be said.
-use Rattle.std.proofs.Common.{◌∙◌, Err, Ok, sym, rules}
+use Rattle.std.proofs.Common.{Err, Ok, rules}
 use Rattle.office_rules.specs.Actions.{rule_of}
 use Rattle.office_judges.specs.Acting.{IsActed}
 use Rattle.office_judges.specs.Stepping.{IsAccepted}
@@ -20,7 +20,7 @@ returns-in-Err g c = record {
       let found : IsFound s t chip d m =
       found_with s t chip c.in-Some.found m (rw c.in-Some.is at (c.in_ok-found.ensures.answer is)) c.in_ok-map.ensures in
       let refused : IsActed action m d (Err c.in-Err.refusal) = rw c.in-Err.is at c.in_ok-acted.ensures in
-      action_refused s c.args.seat.now t action chip d m found c.in-Err.refusal refused;
+      action_refused s c.args.seat.now t chip d m found action c.in-Err.refusal refused;
 }
 
 pub returns : goal.returns
@@ -43,5 +43,5 @@ returns g c = record {
       let accepted : IsAccepted s seat t does.0 does.1 c.in_ok-accepted.accepted =
       rw (c.find_device.ensures.read_only.same before, acted.1, acted.2)
       at (c.in_ok-accepted.ensures.answer is) in
-      action_judged s seat t action chip d m found c.in_ok-accepted.accepted acted.0 accepted;
+      action_judged s seat t chip d m found action c.in_ok-accepted.accepted acted.0 accepted;
 }
