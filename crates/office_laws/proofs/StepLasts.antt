@@ -77,22 +77,22 @@ module _ {owners : Ownership} {t : Tables} (sound : IsSound owners t) (apart : P
       import_kept sound s section seat n e mid is puts
 
   module _ (r : Request) (mine : owners.seat seat ≡ Some s.name) (t2 : Tables) where
-    -- the puts of a response
-    abbrev Keeps : Option Response → Type 0
-    Keeps made = (p : Response) → made ≡ Some p → MakesPuts s p.puts t t2 → Lasts owners t t2
+    -- the puts of a response keep the tables sound, and forget nothing
+    abbrev AreKept : Option Response → Type 0
+    AreKept made = (p : Response) → made ≡ Some p → MakesPuts s p.puts t t2 → Lasts owners t t2
 
     puts_of_response : {made p : Response} → made ≡ p → MakesPuts s p.puts t t2 → MakesPuts s made.puts t t2
     puts_of_response is puts = subst (λ (x : Response). MakesPuts s x.puts t t2) (sym is) puts
 
     pub step_lasts : (reply : Answer) → IsAsked r → Step s seat t r reply t2 → Lasts owners t t2
     step_lasts reply asked (puts, is, made) =
-        of_command s seat v r Keeps
+        of_command s seat v r AreKept
         (λ other p is puts. lasts_named (puts_of_response (some_is is) puts) (lasts_itself sound))
         (λ c its _ free p is puts. accepted c (subst IsCommand its asked) free p is puts)
         (record { reply = reply; puts = puts }) is made
       where
         accepted : (c : Changing) → IsChange c → first_that_holds (refusals s v c) ≡ None
-            → Keeps (option_map (accept seat r) (effect s seat v c))
+            → AreKept (option_map (accept seat r) (effect s seat v c))
         accepted c asked free p is puts =
             let o = mapped (effect s seat v c) (accept seat r) p is in
             let row : SeatState = kept_of seat r o.0.body in
