@@ -29,7 +29,7 @@ use Rattle.office_rules.proofs.Ties.{same_text}
 use Rattle.office_laws.specs.Sound.{IsSound}
 use Rattle.office_laws.specs.SoundRecords.{IsIssuedBelow, SerialIsOfIdentified, IsRecordOf}
 use Rattle.office_laws.proofs.CursorLaws.{cursor_grows, cursor_sound}
-use Rattle.office_laws.proofs.Ends.{identity_keeps}
+use Rattle.office_laws.proofs.Ends.{identifies_unnumbered, identity_keeps}
 use Rattle.office_laws.proofs.GivenLaws.{given_found, given_grows, given_sound}
 use Rattle.office_laws.proofs.Growing.{grows_itself}
 use Rattle.office_laws.proofs.Identifying.{identity_found, identity_free, next_least, numbered_effect}
@@ -151,7 +151,7 @@ module _ {owners : Ownership} {t : Tables} (sound : IsSound owners t) (s : Secti
 
     keeps : Keeps m old.row step
     keeps = identity_keeps m (found_is_map (map_text s.name old.row.map t) m known) old.row next.1
-        may (unnumbered_where (is_one_of identified_from) refl refl refl old (find_holds SerialIsOfIdentified (is_device s.name n.chip) t.devices old
+        may (unnumbered_where (is_one_of identified_from) identifies_unnumbered old (find_holds SerialIsOfIdentified (is_device s.name n.chip) t.devices old
         sound.devices.numbered there).0 may)
 
     pub numbered_kept : (mid : Tables)
