@@ -77,16 +77,10 @@ text_back (Some t) = refl
 
 -- the texts of a state are those of no other
 pub state_read_back : (s : DeviceState) → state_of_texts (state_row s).text (option_map reason_text (state_row s).reason) ≡ Some s
-state_read_back Registered = refl
-state_read_back AwaitingFirst = refl
-state_read_back AwaitingSecond = refl
-state_read_back Settled = refl
-state_read_back Identified = refl
-state_read_back Shipped = refl
 state_read_back (Quarantined reason.Lost) = refl
 state_read_back (Quarantined reason.Stray) = refl
 state_read_back (Quarantined reason.Key) = refl
-state_read_back Scrapped = refl
+state_read_back _ = refl
 
 state_back : (s : DeviceState) → state_in (state_row s).text (text_if (text_value (option_map reason_text (state_row s).reason))) ≡ s
 state_back s = ap (state_in (state_row s).text) (text_back (option_map reason_text (state_row s).reason)) ∙ ap (λ found. unwrap_or found Scrapped) (state_read_back s)
