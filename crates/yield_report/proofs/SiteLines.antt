@@ -1,37 +1,19 @@
 -- The sums of lines, and the lines of a site's report.
-use Rattle.std.proofs.Common.{◌≡◌, ℕ, ◌+◌, ◌<◌, ◌≤◌, List, [], ◌∷◌, ◌++◌, length, take, drop, get_or, map, subst, refl, sym, ap, ap₂, ◌∙◌, arith}
+use Rattle.std.proofs.Common.{◌≡◌, ℕ, ◌+◌, ◌<◌, ◌≤◌, List, [], ◌∷◌, ◌++◌, length, take, get_or, map, subst, refl, sym, ap, ap₂, ◌∙◌}
 use Rattle.std.specs.List.{All}
-use Rattle.std.proofs.lemmas.List.{append-nil, length-map, map-append, map_more, take-append-drop}
+use Rattle.std.proofs.lemmas.List.{length-map, map_more}
 use Rattle.std.proofs.lemmas.List.Elements.{recursion_from_All, All-more}
 use Rattle.csv.specs.Writing.{default_writer, row_text}
 use Rattle.site_core.specs.Section.{SiteValue}
 use Rattle.office_tables.specs.Tables.{Tables, rows_of}
-use Rattle.yield_report.specs.Counts.{Yield, added, total}
+use Rattle.yield_report.specs.Counts.{Yield, total}
 use Rattle.yield_report.specs.Lines.{whole_line}
 use Rattle.yield_report.specs.Reports.{customer_line_in, customers_in_order, has_issued_in, IsSiteReport}
 use Rattle.yield_report.specs.Rows.{named_numbers, numbers_in, with_report_row, AreWhole, FitsCustomer}
 use Rattle.yield_report.specs.Texts.{customer_total, report_text, site_header, AreStorable}
 use Rattle.yield_report.specs.declared.lines.OrderLine.{OrderLine}
-use Rattle.yield_report.proofs.Added.{first_sum_fits, total_with}
 use Rattle.yield_report.proofs.InOrder.{map_both}
 use Rattle.yield_report.proofs.WholeLines.{report_more}
-
--- the sum with the line at a place
-pub next_sum : (lines : List OrderLine) (i : ℕ) (line : OrderLine) (sums : Yield) → i < length lines → line ≡ get_or lines i line
-    → sums ≡ total (numbers_in (take i lines))
-    → added sums line.numbers ≡ total (numbers_in (take (i + 1) lines))
-next_sum lines i line sums within here is =
-    let so_far : List Yield = numbers_in (take i lines) in
-    let more : numbers_in (take (i + 1) lines) ≡ so_far ++ line.numbers ∷ [] =
-    map_more (λ l. l.numbers) lines i line within ∙ ap (λ (l : OrderLine). so_far ++ l.numbers ∷ []) (sym here) in
-    ap (λ (y : Yield). added y line.numbers) (is ∙ ap total (sym (append-nil so_far))) ∙ (sym (total_with so_far line.numbers []) ∙ ap total (sym more))
-
--- where the tables have room for the sum of all lines they have for that of the lines up to a place
-pub front_fits : (lines : List OrderLine) (i : ℕ) → AreStorable (total (numbers_in lines)) → AreStorable (total (numbers_in (take i lines)))
-front_fits lines i fit =
-    let all : numbers_in lines ≡ numbers_in (take i lines) ++ numbers_in (drop i lines) =
-    ap numbers_in (sym (take-append-drop i lines)) ∙ map-append (λ l. l.numbers) (take i lines) (drop i lines) in
-    first_sum_fits (numbers_in (take i lines)) (numbers_in (drop i lines)) (subst (λ ys. AreStorable (total ys)) all fit)
 
 -- the line of a customer, and that the tables have room for its numbers
 pub customer_is : (customer : List ℕ) (t : Tables) (lines : List OrderLine) (sums : Yield) (count : ℕ) (before after : List ℕ)

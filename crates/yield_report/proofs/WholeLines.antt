@@ -22,7 +22,7 @@ use Rattle.yield_report.specs.Counts.{HasIssued, Yield, columns, count_in, devic
 use Rattle.yield_report.specs.Lines.{counted, first_line, left_in, names_cmp, whole_line, AreInOrder, AreLines, IsLine}
 use Rattle.yield_report.specs.Reports.{has_issued_in, IsOrderReport}
 use Rattle.yield_report.specs.Rows.{line_fields, lines_text}
-use Rattle.yield_report.specs.Texts.{order_header, order_line, report_text, AreStorable}
+use Rattle.yield_report.specs.Texts.{order_header, report_text, AreStorable}
 use Rattle.yield_report.specs.declared.lines.OrderLine.{OrderLine}
 use Rattle.yield_report.proofs.InOrder.{map_both, sorted_again, sorted_map}
 use Rattle.yield_report.proofs.Apart.{names_total}

@@ -1,5 +1,5 @@
 -- What a yield report counts, by what was looked up: the orders and the devices of a customer, and whether a serial number of an issuer is given.
-use Rattle.std.specs.Prelude.{ℕ, ◌+◌, ◌==◌, Bool, List, [], ◌∷◌, ◌++◌, length, filter, map, replicate, bytes_eq}
+use Rattle.std.specs.Prelude.{ℕ, ◌==◌, Bool, List, [], ◌∷◌, ◌++◌, length, filter, map, bytes_eq, slice_index, sum_by}
 use Rattle.std.specs.List.{range_with_len}
 use Rattle.id_ranges.specs.Range.{numbers}
 use Rattle.id_ranges.specs.NextSerial.{is_unused}
@@ -39,16 +39,10 @@ yield_with o left devices = o.range.quantity ∷ (map (count_in devices) columns
 abbrev pub yield_of : HasIssued → List Device → Order → Yield
 yield_of given devices o = yield_with o (serials_left given o) (devices_of o.name devices)
 
-abbrev pub no_yield : Yield
-no_yield = replicate 9 0
+-- the sum of the numbers at a place
+abbrev pub sum_at : List Yield → ℕ → ℕ
+sum_at ys place = sum_by (λ y. slice_index y place) ys
 
--- the sum of two, number by number
-abbrev pub added : Yield → Yield → Yield
-added [] ys = []
-added (x ∷ xs) [] = x ∷ xs
-added (x ∷ xs) (y ∷ ys) = (x + y) ∷ added xs ys
-
--- and of all
+-- the sums at each place
 abbrev pub total : List Yield → Yield
-total [] = no_yield
-total (y ∷ ys) = added (total ys) y
+total ys = map (sum_at ys) (range_with_len 0 9)
