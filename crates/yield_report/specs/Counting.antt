@@ -3,7 +3,7 @@ use Rattle.std.specs.Prelude.{ℕ, ◌+◌, ◌-◌, Option, option_map, slice_i
 use Rattle.office_tables.specs.Numbers.{one_more}
 use Rattle.office_tables.specs.States.{state_row}
 use Rattle.office_tables.specs.declared.rows.DeviceState.{DeviceState}
-use Rattle.yield_report.specs.Counts.{Yield}
+use Rattle.yield_report.specs.Counts.{Yield, column_count}
 
 -- where the devices in a state are counted among the numbers: behind the quantity
 abbrev pub state_place : DeviceState → ℕ
@@ -11,7 +11,7 @@ state_place state = 1 + (state_row state).column
 
 -- and where the serial numbers that are left stand
 abbrev pub left_place : ℕ
-left_place = 8
+left_place = column_count + 1
 
 -- the numbers with one more device in this state
 abbrev pub with_device : DeviceState → Yield → Yield

@@ -1,7 +1,7 @@
 // The report of a site.
 ghost use Rattle.std.specs.Prelude.{◌≡◌, ◌↔◌, ◌<◌, ⊤, IfSome, IsSome};
 ghost use Rattle.office_tables.specs.Reading.{ReadsOnly};
-ghost use Rattle.yield_report.specs.Counts.{sum_at, total};
+ghost use Rattle.yield_report.specs.Counts.{number_count, sum_at, total};
 ghost use Rattle.yield_report.specs.Reports.{customer_line_in, IsSiteReport};
 ghost use Rattle.yield_report.specs.Rows.{numbers_in, with_report_row, FitsCustomer};
 ghost use Rattle.yield_report.specs.Texts.{storable, AreStorable};
@@ -10,7 +10,7 @@ use crate::lines::OrderLine;
 use crate::names::customer_names;
 use crate::orders::whole_lines;
 use crate::rows::{append_customer, append_site_header};
-use crate::yields::Yield;
+use crate::yields::{NUMBERS, Yield};
 use office_tables::{Keep, LARGEST_NUMBER, Unkept};
 use site_core::Site;
 use std::alloc::Global;
@@ -18,7 +18,7 @@ use text_core::Name;
 
 /// The sum of the numbers of all lines at a place. `None` where the tables have no room for it.
 fn sum_at(lines: &[OrderLine], place: usize) -> Option<u64>
-    requires { place < 9 }
+    requires { place < number_count }
     ensures { result ≡ storable (sum_at (numbers_in lines.now) place) }
 {
     let mut sum: u64 = 0;
@@ -37,8 +37,8 @@ fn total(lines: &[OrderLine]) -> Option<Yield>
     ensures sums { IfSome result (λ sums. sums ≡ total (numbers_in lines.now)) }
     ensures fits { IsSome result ↔ AreStorable (total (numbers_in lines.now)) }
 {
-    let mut sums = [0; 9];
-    for place in 0..9 {
+    let mut sums = [0; NUMBERS];
+    for place in 0..NUMBERS {
         sums[place] = sum_at(lines, place)?;
     }
     Some(sums)

@@ -4,18 +4,24 @@ ghost use Rattle.yield_report.specs.Counting.{left_place, state_place, with_devi
 
 use office_tables::{DeviceState, one_more};
 
-/// The numbers of a line of a report, in the order of their names: those of one order, or the sums
-/// over a customer's orders. In a report none is past 9223372036854775807.
-pub(crate) type Yield = [u64; 9];
+/// How many columns of states a report has.
+const COLUMNS: usize = 7;
 
-/// Where the quantity stands among the numbers.
+/// Where the quantity stands among the numbers of a line.
 pub(crate) const QUANTITY: usize = 0;
 
-/// Where the serial numbers that are left stand among them.
-pub(crate) const SERIALS_LEFT: usize = 8;
+/// Where the serial numbers that are left stand: behind the columns of states.
+pub(crate) const SERIALS_LEFT: usize = COLUMNS + 1;
+
+/// How many numbers a line has.
+pub(crate) const NUMBERS: usize = COLUMNS + 2;
+
+/// The numbers of a line of a report, in the order of their names: those of one order, or the sums
+/// over a customer's orders. In a report none is past 9223372036854775807.
+pub(crate) type Yield = [u64; NUMBERS];
 
 /// The names of the numbers, in their order.
-pub(crate) const NAMES: [&str; 9] = [
+pub(crate) const NAMES: [&str; NUMBERS] = [
     // how many serial numbers there are, which are as many as the devices that were ordered
     "quantity",
     // how many devices are registered and not planned yet

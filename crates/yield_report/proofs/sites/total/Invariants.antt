@@ -1,13 +1,14 @@
 -- What the loop of `sites::total` keeps.
 use Rattle.std.proofs.Common.{◌≡◌, ℕ, ◌<◌, ◌≤◌, get_or, length}
-use Rattle.yield_report.specs.Counts.{sum_at}
+use Rattle.office_tables.specs.Numbers.{largest_number}
+use Rattle.yield_report.specs.Counts.{number_count, sum_at}
 use Rattle.yield_report.specs.Rows.{numbers_in}
 use Rattle.yield_report.proofs.sites.total.Given as goal
 
 -- the places so far have their sums, and the tables have room for them
 abbrev pub invariant-loop-place : goal.invariant-loop-place
 invariant-loop-place l = record {
-  long : length l.sums ≡ 9;
+  long : length l.sums ≡ number_count;
   sums : (k : ℕ) → k < l.place → get_or l.sums k 0 ≡ sum_at (numbers_in l.lines) k;
-  fit : (k : ℕ) → k < l.place → sum_at (numbers_in l.lines) k ≤ 9223372036854775807;
+  fit : (k : ℕ) → k < l.place → sum_at (numbers_in l.lines) k ≤ largest_number;
 }
