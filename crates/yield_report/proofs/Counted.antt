@@ -20,7 +20,7 @@ use Rattle.yield_report.specs.Counts.{Yield, devices_of}
 use Rattle.yield_report.specs.Lines.{counted, names_cmp, AreInOrder, AreLines, CountsDevice}
 use Rattle.yield_report.specs.declared.devices.DeviceScan.{DeviceScan}
 use Rattle.yield_report.specs.declared.lines.OrderLine.{OrderLine}
-use Rattle.yield_report.proofs.InOrder.{map_at, map_both, map_none, sorted_map}
+use Rattle.yield_report.proofs.InOrder.{kept_on_walk, map_at, map_both, map_none, sorted_map}
 
 -- one device, and the rest of them
 counted_more : (d : Device) (ds : List Device) (line : OrderLine) → counted ds (counted (d ∷ []) line) ≡ counted (d ∷ ds) line
@@ -55,11 +55,7 @@ devices_counted old (row ∷ rows) new (false, mid, taken, later) room ordered =
 
 pub devices_fit : (old : DeviceScan) (rows : List (OfCustomer Device)) (new : DeviceScan) → Visits CountsDevice old rows new → new.is_over ≡ false
     → AreLines old.lines.items → AreLines new.lines.items
-devices_fit old [] new v room fit = rw v fit
-devices_fit old (row ∷ rows) new (true, mid, taken, later) room fit = devices_fit mid rows new later room (taken.are_lines refl fit)
-devices_fit old (row ∷ rows) new (false, mid, taken, later) room fit =
-    let over : new.is_over ≡ true = ap (λ (s : DeviceScan). s.is_over) later ∙ taken.over refl in
-    absurd (cc)
+devices_fit = kept_on_walk CountsDevice (λ s. AreLines s.lines.items) (λ s. s.is_over) (λ s r t taken. taken.are_lines refl) (λ s r t taken. taken.over refl)
 
 -- a device of another order changes nothing
 counted_other : (d : Device) (line : OrderLine) → bytes_eq line.name d.order ≡ false → counted (d ∷ []) line ≡ line

@@ -16,7 +16,7 @@ use Rattle.yield_report.specs.Serials.{follows}
 use Rattle.yield_report.specs.declared.lines.OrderScan.{OrderScan}
 use Rattle.yield_report.specs.declared.lines.OrderLine.{OrderLine}
 use Rattle.yield_report.proofs.Apart.{names_total}
-use Rattle.yield_report.proofs.InOrder.{lt_is_less}
+use Rattle.yield_report.proofs.InOrder.{kept_on_walk, lt_is_less}
 
 abbrev lines_in : List (OfCustomer Order) → List OrderLine
 lines_in rows = map first_line (map (λ o. o.row) rows)
@@ -34,11 +34,7 @@ lines_gathered old (row ∷ rows) new (false, mid, taken, later) room =
 
 pub lines_fit : (old : OrderScan) (rows : List (OfCustomer Order)) (new : OrderScan) → Visits GathersOrder old rows new → new.is_stopped ≡ false
     → AreLines old.lines.items → AreLines new.lines.items
-lines_fit old [] new v room fit = rw v fit
-lines_fit old (row ∷ rows) new (true, mid, taken, later) room fit = lines_fit mid rows new later room (taken.are_lines refl fit)
-lines_fit old (row ∷ rows) new (false, mid, taken, later) room fit =
-    let stopped : new.is_stopped ≡ true = ap (λ (s : OrderScan). s.is_stopped) later ∙ taken.stopped refl in
-    absurd (cc)
+lines_fit = kept_on_walk GathersOrder (λ s. AreLines s.lines.items) (λ s. s.is_stopped) (λ s r t taken. taken.are_lines refl) (λ s r t taken. taken.stopped refl)
 
 -- a line whose name follows those of the others
 pub pushed_in_order : (lines pushed : List OrderLine) (line : OrderLine) → pushed ≡ lines ++ line ∷ [] → name_follows lines line.name ≡ true
@@ -67,8 +63,4 @@ none_in_order = tt
 
 pub lines_in_order : (old : OrderScan) (rows : List (OfCustomer Order)) (new : OrderScan) → Visits GathersOrder old rows new → new.is_stopped ≡ false
     → AreInOrder old.lines.items → AreInOrder new.lines.items
-lines_in_order old [] new v room ordered = rw v ordered
-lines_in_order old (row ∷ rows) new (true, mid, taken, later) room ordered = lines_in_order mid rows new later room (taken.in_order refl ordered)
-lines_in_order old (row ∷ rows) new (false, mid, taken, later) room ordered =
-    let stopped : new.is_stopped ≡ true = ap (λ (s : OrderScan). s.is_stopped) later ∙ taken.stopped refl in
-    absurd (cc)
+lines_in_order = kept_on_walk GathersOrder (λ s. AreInOrder s.lines.items) (λ s. s.is_stopped) (λ s r t taken. taken.in_order refl) (λ s r t taken. taken.stopped refl)

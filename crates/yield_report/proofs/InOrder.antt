@@ -1,22 +1,36 @@
 -- Lists in order, and lists of which a function changes one element.
-use Rattle.std.proofs.Common.{◌≡◌, ◌⊎◌, ℕ, zero, suc, ◌+◌, ◌<◌, true, false, List, [], ◌∷◌, map, length, get_or, slice_set, Ordering, Less, Equal, Greater}
+use Rattle.std.proofs.Common.{◌≡◌, ◌⊎◌, ℕ, zero, suc, ◌+◌, ◌<◌, Bool, true, false, cond, List, [], ◌∷◌, map, length, get_or, slice_set, Ordering, Less, Equal, Greater}
 use Rattle.std.proofs.Common.{inl, inr, refl, sym, ap, ap₂, ◌∙◌, subst, arith}
 use Rattle.std.specs.Cmp.{IsTotalOrder}
 use Rattle.std.specs.List.{AllByRecursion, Contains}
 use Rattle.std.specs.List.Sorted.{IsPermutation, IsSortedBy, IsStrictlySortedBy}
 use Rattle.std.specs.Ordering.{eq_by_cmp, is_eq, is_gt, is_lt, ordering_reverse}
-use Rattle.std.proofs.lemmas.Bool.{cases_Bool, cases_eq}
+use Rattle.std.proofs.lemmas.Bool.{both_ways, cases_Bool, cases_eq}
 use Rattle.std.proofs.lemmas.Cmp.{tied_itself, upto}
 use Rattle.std.proofs.lemmas.List.{get_or-map, get_or-set_other, get_or-set_same, get_or_read, length-map, length-set, same_lists}
 use Rattle.std.proofs.lemmas.List.Elements.{All-contains, All-from_recursion}
 use Rattle.std.proofs.lemmas.List.Sorted.{Contains-permutation, IsPermutation-sym}
 use Rattle.std.proofs.lemmas.Map.Keys.{apart_from_distinct, sorted_from_all_adjacent, sorted_head, sorted_tail}
 use Rattle.std.proofs.lemmas.Map.Keys.{IsDistinct-IsPermutation, IsDistinct-from_sorted}
+use Rattle.office_tables.specs.Keeping.{Visits}
 
 -- one function after another, element by element
 pub map_both : {X Y Z : Type 0} (f : Y → Z) (g : X → Y) (h : X → Z) → ((x : X) → f (g x) ≡ h x) → (xs : List X) → map f (map g xs) ≡ map h xs
 map_both f g h same [] = refl
 map_both f g h same (x ∷ xs) = λ i. same x i ∷ map_both f g h same xs i
+
+-- what one of two has as the other
+pub either : {X Y : Type 0} (f : X → Y) (b : Bool) (x y : X) → f x ≡ f y → f (cond b x y) ≡ f y
+either f true x y same = same
+either f false x y same = refl
+
+-- what each step of a walk keeps holds at its end, if it wasn't broken off
+pub kept_on_walk : {S R : Type 0} (step : S → R → Bool → S → Type 0) (P : S → Type 0) (is_over : S → Bool)
+    → ((s : S) (r : R) (t : S) → step s r true t → P s → P t) → ((s : S) (r : R) (t : S) → step s r false t → is_over t ≡ true)
+    → (s : S) (rows : List R) (t : S) → Visits step s rows t → is_over t ≡ false → P s → P t
+kept_on_walk step P is_over keeps ends s [] t v on p = rw v p
+kept_on_walk step P is_over keeps ends s (r ∷ rows) t (true, mid, taken, later) on p = kept_on_walk step P is_over keeps ends mid rows t later on (keeps s r mid taken p)
+kept_on_walk step P is_over keeps ends s (r ∷ rows) t (false, mid, taken, later) on p = absurd (both_ways (is_over t) on (ap is_over later ∙ ends s r mid taken))
 
 -- a function that changes the element at i alone
 pub map_at : {X : Type 0} (f : X → X) (xs : List X) (i : ℕ) (x : X) → i < length xs → x ≡ get_or xs i x

@@ -20,6 +20,7 @@ use Rattle.yield_report.specs.Reports.{has_issued_in}
 use Rattle.yield_report.specs.Serials.{serials_of, AreRising}
 use Rattle.yield_report.specs.declared.lines.OrderLine.{OrderLine}
 use Rattle.yield_report.proofs.Apart.{apart_map}
+use Rattle.yield_report.proofs.InOrder.{either}
 use Rattle.yield_report.proofs.RisingSerials.{given_is_listed, left_count}
 
 -- as many records are of the line's range as its serial numbers are given
@@ -33,16 +34,10 @@ counted_is_given t line is rising =
 
 -- the issuer of a line that was taken from is as it was
 same_issuer : (given : HasIssued) (lines : List OrderLine) (line : OrderLine) → (left_so_far given lines line).issuer ≡ line.issuer
-same_issuer given lines line = elim (is_met lines line) as (λ b. (cond b (left_in given line) line).issuer ≡ line.issuer) [
-  | true ↦ refl
-  | false ↦ refl
-]
+same_issuer given lines line = either (λ l. l.issuer) (is_met lines line) (left_in given line) line refl
 
 same_range : (given : HasIssued) (lines : List OrderLine) (line : OrderLine) → (left_so_far given lines line).range ≡ line.range
-same_range given lines line = elim (is_met lines line) as (λ b. (cond b (left_in given line) line).range ≡ line.range) [
-  | true ↦ refl
-  | false ↦ refl
-]
+same_range given lines line = either (λ l. l.range) (is_met lines line) (left_in given line) line refl
 
 -- lines stay apart
 pub left_apart : (given : HasIssued) (lines all : List OrderLine) → AreApart all → AreApart (map (left_so_far given lines) all)
@@ -119,16 +114,6 @@ map_first_step t lines next [] are new rising = refl
 map_first_step t lines next (line ∷ all) are new rising =
     ap₂ (λ (l : OrderLine) (ls : List OrderLine). l ∷ ls) (first_step t lines next line are.0.0 new rising) (map_first_step t lines next all are.1 new rising)
 
-map_other_step : (given : HasIssued) (lines : List OrderLine) (next : OrderLine) (all : List OrderLine) → is_met lines next ≡ true
-    → map (left_so_far given lines) all ≡ map (left_so_far given (lines ++ next ∷ [])) all
-map_other_step given lines next [] met = refl
-map_other_step given lines next (line ∷ all) met =
-    ap₂ (λ (l : OrderLine) (ls : List OrderLine). l ∷ ls) (other_step given lines next line met) (map_other_step given lines next all met)
-
-pub map_no_step : (given : HasIssued) (all : List OrderLine) → map (left_so_far given []) all ≡ all
-map_no_step given [] = refl
-map_no_step given (line ∷ all) = ap (λ (ls : List OrderLine). line ∷ ls) (map_no_step given all)
-
 -- once each line was met all is taken
 all_met : (given : HasIssued) (front rest : List OrderLine) → map (left_so_far given (front ++ rest)) rest ≡ map (left_in given) rest
 all_met given front [] = refl
@@ -194,7 +179,7 @@ place_met given before lines place within is none =
           let now = sym (ap (λ (ls : List OrderLine). new_issuer ls place) is ∙ issuer_now given before place next here.2) ∙ none in
           let more : take (place + 1) before ≡ take place before ++ next ∷ [] =
           take_more before place next within ∙ ap (λ (l : OrderLine). take place before ++ l ∷ []) here.3 in
-          is ∙ rw more (map_other_step given (take place before) next before (met_issuer (is_met (take place before) next) next.issuer now))
+          is ∙ rw more (λ i. map (λ l. other_step given (take place before) next l (met_issuer (is_met (take place before) next) next.issuer now) i) before)
       | inr past ↦ absurd (omega (arith, within, past.0))
     ]
 

@@ -1,5 +1,4 @@
 -- The lemmas of this crate.
-pub mod Added
 pub mod Apart
 pub mod Counted
 pub mod Digits

@@ -84,10 +84,6 @@ all_new : (first count : ℕ) → length (filter (λ (n : ℕ). true) (range_wit
 all_new first zero = refl
 all_new first (suc count) = ap suc (all_new (first + 1) count)
 
-any_same : {A : Type 0} (p q : A → Bool) → ((x : A) → p x ≡ q x) → (xs : List A) → list_any p xs ≡ list_any q xs
-any_same p q same [] = refl
-any_same p q same (x ∷ xs) = rw (same x, any_same p q same xs) refl
-
 -- of the records whose serial numbers rise, as many are of the range as serial numbers of it are given
 pub left_count : (r : Range) → IsRange r → (last : Option (List ℕ)) (serials : List (List ℕ)) → AreRising last serials
     → length (filter (is_new serials r) (numbers r)) + length (filter (has_serial r) serials) ≡ r.quantity
@@ -106,7 +102,7 @@ left_count r is last (s ∷ ss) rising =
     let one = (bytes_eq-Decides (serial_text_of r n) s).0 passes in
     rw one (rises_apart s ss rising.1)) in
     let tested : has_serial r s ≡ list_any q (numbers r) =
-    any_same (λ n. bytes_eq s (serial_text_of r n)) q (λ n. nat_list_eq_equiv.symm s (serial_text_of r n)) (numbers r) in
+    (λ i. list_any (λ n. nat_list_eq_equiv.symm s (serial_text_of r n) i) (numbers r)) in
     elim (has_serial r s) as (λ b. has_serial r s ≡ b → length (filter (is_new (s ∷ ss) r) (numbers r)) + length
     (cond b (s ∷ filter (has_serial r) ss) (filter (has_serial r) ss)) ≡ r.quantity) [
       | true ↦ λ e. let t = rw (sym tested ∙ e) at step in omega (arith, t, rest)

@@ -1,6 +1,7 @@
 -- The serial numbers of an issuer's records, taken from the lines of orders.
 use Rattle.std.proofs.Common.{◌≡◌, ℕ, zero, suc, ◌+◌, ◌-◌, Bool, true, false, List, [], ◌∷◌, map, length, slice_set, refl, sym, ap, ◌∙◌, subst, arith, cond}
 use Rattle.std.specs.Prelude.{filter, bytes_eq, slice_index}
+use Rattle.std.proofs.lemmas.Bool.Decides.{nat_tests}
 use Rattle.std.proofs.lemmas.List.{map-id, set-get_or}
 use Rattle.office_tables.specs.declared.rows.Given.{Given}
 use Rattle.office_tables.specs.declared.rows.OfCustomer.{OfCustomer}
@@ -13,7 +14,7 @@ use Rattle.yield_report.specs.Serials.{has_serial, serials_in, AreRising}
 use Rattle.yield_report.specs.declared.left.GivenScan.{GivenScan}
 use Rattle.yield_report.specs.declared.lines.OrderLine.{OrderLine}
 use Rattle.yield_report.proofs.Apart.{apart_map}
-use Rattle.yield_report.proofs.InOrder.{map_both}
+use Rattle.yield_report.proofs.InOrder.{either, kept_on_walk, map_both}
 
 -- nothing is taken
 pub less_none : (line : OrderLine) → less 0 line ≡ line
@@ -32,28 +33,16 @@ less_more a b c line e = λ i. record line { numbers = less_at left_place a b c 
 
 -- what is taken changes neither a line's issuer nor its range
 pub issuer_taken : (issuer : List ℕ) (serials : List (List ℕ)) (line : OrderLine) → (taken issuer serials line).issuer ≡ line.issuer
-issuer_taken issuer serials line = elim (bytes_eq line.issuer issuer) as (λ b. (cond b (less (count_of_range line serials) line) line).issuer ≡ line.issuer) [
-  | true ↦ refl
-  | false ↦ refl
-]
+issuer_taken issuer serials line = either (λ l. l.issuer) (bytes_eq line.issuer issuer) (less (count_of_range line serials) line) line refl
 
 pub range_taken : (issuer : List ℕ) (serials : List (List ℕ)) (line : OrderLine) → (taken issuer serials line).range ≡ line.range
-range_taken issuer serials line = elim (bytes_eq line.issuer issuer) as (λ b. (cond b (less (count_of_range line serials) line) line).range ≡ line.range) [
-  | true ↦ refl
-  | false ↦ refl
-]
+range_taken issuer serials line = either (λ l. l.range) (bytes_eq line.issuer issuer) (less (count_of_range line serials) line) line refl
 
 taken_none : (issuer : List ℕ) (line : OrderLine) → taken issuer [] line ≡ line
-taken_none issuer line = elim (bytes_eq line.issuer issuer) as (λ b. cond b (less 0 line) line ≡ line) [
-  | true ↦ less_none line
-  | false ↦ refl
-]
+taken_none issuer line = either (λ l. l) (bytes_eq line.issuer issuer) (less 0 line) line (less_none line)
 
 one_and_rest : {A : Type 0} (p : A → Bool) (x : A) (xs : List A) → length (filter p (x ∷ [])) + length (filter p xs) ≡ length (filter p (x ∷ xs))
-one_and_rest p x xs = elim (p x) as (λ b. length (cond b (x ∷ []) []) + length (filter p xs) ≡ length (cond b (x ∷ filter p xs) (filter p xs))) [
-  | true ↦ omega arith
-  | false ↦ omega arith
-]
+one_and_rest p x xs = grind (arith, nat_tests)
 
 taken_more : (issuer s : List ℕ) (ss : List (List ℕ)) (line : OrderLine) → taken issuer ss (taken issuer (s ∷ []) line) ≡ taken issuer (s ∷ ss) line
 taken_more issuer s ss line =
@@ -78,9 +67,7 @@ serials_rise old (row ∷ rows) new (false, mid, takes, later) ordered = let e =
 
 pub serials_fit : (old : GivenScan) (rows : List (OfCustomer Given)) (new : GivenScan) → Visits TakesSerial old rows new → new.is_unordered ≡ false
     → AreLines old.lines.items → AreLines new.lines.items
-serials_fit old [] new v ordered fit = rw v fit
-serials_fit old (row ∷ rows) new (true, mid, takes, later) ordered fit = serials_fit mid rows new later ordered (takes.are_lines refl fit)
-serials_fit old (row ∷ rows) new (false, mid, takes, later) ordered fit = let e = unordered_since mid new later (takes.unordered refl) ordered in absurd (cc e)
+serials_fit = kept_on_walk TakesSerial (λ s. AreLines s.lines.items) (λ s. s.is_unordered) (λ s r t takes. takes.are_lines refl) (λ s r t takes. takes.unordered refl)
 
 -- and took all of them, of lines that are apart
 pub serials_taken : (old : GivenScan) (rows : List (OfCustomer Given)) (new : GivenScan) → Visits TakesSerial old rows new → new.is_unordered ≡ false

@@ -1,5 +1,5 @@
 -- The lines of orders, once all rows were read, and their report.
-use Rattle.std.proofs.Common.{◌≡◌, ℕ, ◌+◌, ◌-◌, ◌≤◌, Bool, true, false, List, [], ◌∷◌, ◌++◌, map, length, length-append, refl, sym, ap, ◌∙◌, subst, arith, cond}
+use Rattle.std.proofs.Common.{◌≡◌, ℕ, ◌+◌, ◌-◌, Bool, true, false, List, [], ◌∷◌, ◌++◌, map, length, length-append, refl, sym, ap, ◌∙◌, subst, arith, cond}
 use Rattle.std.specs.Prelude.{◌==◌, filter, fold, if◌then◌else◌}
 use Rattle.std.specs.List.{AllByRecursion}
 use Rattle.std.specs.List.Sorted.{IsPermutation, IsSortedByKey}
@@ -8,6 +8,7 @@ use Rattle.std.proofs.lemmas.List.Sorted.{IsPermutation-map, IsPermutation-trans
 use Rattle.std.proofs.lemmas.List.Elements.{filter-append, recursion_from_All}
 use Rattle.csv.specs.Writing.{default_writer, row_text}
 use Rattle.std.proofs.lemmas.List.FromFn.{length-range_with_len}
+use Rattle.std.proofs.lemmas.List.Sums.{count_by-le-length, length-filter}
 use Rattle.id_ranges.specs.NextSerial.{is_unused}
 use Rattle.id_ranges.specs.Range.{numbers}
 use Rattle.office_tables.specs.declared.rows.Device.{Device}
@@ -22,7 +23,7 @@ use Rattle.yield_report.specs.Counts.{HasIssued, Yield, columns, count_in, devic
 use Rattle.yield_report.specs.Lines.{counted, first_line, left_in, names_cmp, whole_line, AreInOrder, AreLines, IsLine}
 use Rattle.yield_report.specs.Reports.{has_issued_in, IsOrderReport}
 use Rattle.yield_report.specs.Rows.{line_fields, lines_text}
-use Rattle.yield_report.specs.Texts.{order_header, order_line, report_text, AreStorable}
+use Rattle.yield_report.specs.Texts.{order_header, report_text, AreStorable}
 use Rattle.yield_report.specs.declared.lines.OrderLine.{OrderLine}
 use Rattle.yield_report.proofs.InOrder.{map_both, sorted_again, sorted_map}
 use Rattle.yield_report.proofs.Apart.{names_total}
@@ -59,22 +60,14 @@ with_all o left before (d ∷ devices) =
     ∙ sym (λ i. o.range.quantity ∷ (map (λ column. pushed_in before d column i) columns ++ left ∷ [])))
     ∙ (with_all o left (before ++ d ∷ []) devices ∙ ap (yield_with o left) (append_assoc before (d ∷ []) devices))
 
-filter_short : {A : Type 0} (p : A → Bool) (xs : List A) → length (filter p xs) ≤ length xs
-filter_short p [] = omega arith
-filter_short p (x ∷ xs) =
-    let rest = filter_short p xs in
-    elim (p x) as (λ b. length (cond b (x ∷ filter p xs) (filter p xs)) ≤ length (x ∷ xs)) [
-      | true ↦ omega (arith, rest)
-      | false ↦ omega (arith, rest)
-    ]
-
 -- the line of one order
 line_whole : (given : HasIssued) (devices : List Device) (o : Order) → left_in given (counted devices (first_line o)) ≡ whole_line given devices o
 line_whole given devices o =
     let own : List Device = devices_of o.name devices in
     let unused : ℕ = serials_left given o in
-    let few : o.range.quantity - (o.range.quantity - unused) ≡ unused = let short =
-    filter_short (is_unused (given o.issuer) o.range) (numbers o.range) in omega (arith, short, length-range_with_len o.range.first o.range.quantity) in
+    let few : o.range.quantity - (o.range.quantity - unused) ≡ unused =
+    let test = is_unused (given o.issuer) o.range in
+    omega (arith, length-filter test (numbers o.range), count_by-le-length test (numbers o.range), length-range_with_len o.range.first o.range.quantity) in
     ap (λ y. record { name = o.name; issuer = o.issuer; range = o.range; numbers = y })
     (ap (with_less (o.range.quantity - unused)) (with_all o o.range.quantity [] own) ∙ ap (λ n. yield_with o n own) few)
 

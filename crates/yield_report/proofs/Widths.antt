@@ -15,7 +15,7 @@ use Rattle.yield_report.specs.Serials.{has_serial}
 use Rattle.yield_report.specs.declared.lines.OrderLine.{OrderLine}
 use Rattle.yield_report.specs.declared.places.Place.{Place}
 use Rattle.yield_report.proofs.Digits.{has_none}
-use Rattle.yield_report.proofs.InOrder.{map_at, map_none}
+use Rattle.yield_report.proofs.InOrder.{either, map_at, map_none}
 use Rattle.yield_report.proofs.Apart.{apart_map, last_begun}
 use Rattle.yield_report.proofs.Taken.{issuer_taken, less_none, range_taken}
 
@@ -71,7 +71,7 @@ one_has width issuer serial lines i line within read only =
     (λ k d inside other. not_taken width issuer serial (get_or lines k d) (λ n has. other (only k d inside n has))))
 
 -- one width more
-below_more : (width : ℕ) (issuer serial : List ℕ) (line : OrderLine)
+pub below_more : (width : ℕ) (issuer serial : List ℕ) (line : OrderLine)
     → taken_in width issuer (serial ∷ []) (taken_below width issuer serial line) ≡ taken_below (width + 1) issuer serial line
 below_more width issuer serial line =
     let done = taken issuer (serial ∷ []) line in
@@ -95,12 +95,6 @@ below_more width issuer serial line =
                 rw (now, after, here) refl
           ]
     ]
-
-pub map_below_more : (width : ℕ) (issuer serial : List ℕ) (lines : List OrderLine)
-    → map (taken_in width issuer (serial ∷ [])) (map (taken_below width issuer serial) lines) ≡ map (taken_below (width + 1) issuer serial) lines
-map_below_more width issuer serial [] = refl
-map_below_more width issuer serial (line ∷ lines) =
-    ap₂ (λ (l : OrderLine) (ls : List OrderLine). l ∷ ls) (below_more width issuer serial line) (map_below_more width issuer serial lines)
 
 -- no width is below 1
 below_least : (issuer serial : List ℕ) (lines : List OrderLine) → AllByRecursion IsLine lines → lines ≡ map (taken_below 1 issuer serial) lines
@@ -128,14 +122,8 @@ last_width width high issuer serial lines are = below_largest width high issuer 
 pub below_apart : (width : ℕ) (issuer serial : List ℕ) (lines : List OrderLine) → AreApart lines → AreApart (map (taken_below width issuer serial) lines)
 below_apart width issuer serial lines apart =
     apart_map (taken_below width issuer serial)
-    (λ l. elim (nat_lt l.range.width width) as (λ b. (if b then taken issuer (serial ∷ []) l else l).issuer ≡ l.issuer) [
-      | true ↦ issuer_taken issuer (serial ∷ []) l
-      | false ↦ refl
-    ])
-    (λ l. elim (nat_lt l.range.width width) as (λ b. (if b then taken issuer (serial ∷ []) l else l).range ≡ l.range) [
-      | true ↦ range_taken issuer (serial ∷ []) l
-      | false ↦ refl
-    ]) lines apart
+    (λ l. either (λ m. m.issuer) (nat_lt l.range.width width) (taken issuer (serial ∷ []) l) l (issuer_taken issuer (serial ∷ []) l))
+    (λ l. either (λ m. m.range) (nat_lt l.range.width width) (taken issuer (serial ∷ []) l) l (range_taken issuer (serial ∷ []) l)) lines apart
 
 -- the line that has the serial number is the last of those that begin at its place or before it
 pub has_last : (width : ℕ) (issuer serial : List ℕ) (lines slice : List OrderLine) (end : ℕ) (place : Place) (found : Option Place) → slice ≡ lines

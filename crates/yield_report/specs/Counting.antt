@@ -1,9 +1,9 @@
 -- How the numbers of a line are counted, up to what the tables have room for.
-use Rattle.std.specs.Prelude.{ℕ, ◌+◌, ◌-◌, Option, Some, None, nat_le, if◌then◌else◌, option_map, slice_index, slice_set}
-use Rattle.office_tables.specs.Numbers.{largest_number, one_more}
+use Rattle.std.specs.Prelude.{ℕ, ◌+◌, ◌-◌, Option, option_map, slice_index, slice_set}
+use Rattle.office_tables.specs.Numbers.{one_more}
 use Rattle.office_tables.specs.States.{state_row}
 use Rattle.office_tables.specs.declared.rows.DeviceState.{DeviceState}
-use Rattle.yield_report.specs.Counts.{Yield}
+use Rattle.yield_report.specs.Counts.{Yield, column_count}
 
 -- where the devices in a state are counted among the numbers: behind the quantity
 abbrev pub state_place : DeviceState → ℕ
@@ -11,7 +11,7 @@ state_place state = 1 + (state_row state).column
 
 -- and where the serial numbers that are left stand
 abbrev pub left_place : ℕ
-left_place = 8
+left_place = column_count + 1
 
 -- the numbers with one more device in this state
 abbrev pub with_device : DeviceState → Yield → Yield
@@ -24,7 +24,3 @@ with_device_counted state y = option_map (slice_set y (state_place state)) (one_
 -- the numbers with so many serial numbers less
 abbrev pub with_less : ℕ → Yield → Yield
 with_less count y = slice_set y left_place (slice_index y left_place - count)
-
--- the sum of two numbers, where the tables have room for it
-abbrev pub sum_of : ℕ → ℕ → Option ℕ
-sum_of a b = if nat_le (a + b) largest_number then Some (a + b) else None

@@ -1,5 +1,5 @@
 -- What a yield report counts, by what was looked up: the orders and the devices of a customer, and whether a serial number of an issuer is given.
-use Rattle.std.specs.Prelude.{ℕ, ◌+◌, ◌==◌, Bool, List, [], ◌∷◌, ◌++◌, length, filter, map, replicate, bytes_eq}
+use Rattle.std.specs.Prelude.{ℕ, ◌+◌, ◌==◌, Bool, List, [], ◌∷◌, ◌++◌, length, filter, map, bytes_eq, slice_index, sum_by}
 use Rattle.std.specs.List.{range_with_len}
 use Rattle.id_ranges.specs.Range.{numbers}
 use Rattle.id_ranges.specs.NextSerial.{is_unused}
@@ -23,9 +23,13 @@ devices_of order devices = filter (λ d. bytes_eq order d.order) devices
 abbrev pub count_in : List Device → ℕ → ℕ
 count_in devices column = length (filter (λ d. (state_row d.state).column == column) devices)
 
+-- how many columns of states there are
+abbrev pub column_count : ℕ
+column_count = 7
+
 -- the columns of states
 abbrev pub columns : List ℕ
-columns = range_with_len 0 7
+columns = range_with_len 0 column_count
 
 -- how many of an order's serial numbers aren't given in its issuer, whoever gave the others
 abbrev pub serials_left : HasIssued → Order → ℕ
@@ -39,16 +43,14 @@ yield_with o left devices = o.range.quantity ∷ (map (count_in devices) columns
 abbrev pub yield_of : HasIssued → List Device → Order → Yield
 yield_of given devices o = yield_with o (serials_left given o) (devices_of o.name devices)
 
-abbrev pub no_yield : Yield
-no_yield = replicate 9 0
+-- how many numbers a line has: the quantity, one a column, and how many are left
+abbrev pub number_count : ℕ
+number_count = column_count + 2
 
--- the sum of two, number by number
-abbrev pub added : Yield → Yield → Yield
-added [] ys = []
-added (x ∷ xs) [] = x ∷ xs
-added (x ∷ xs) (y ∷ ys) = (x + y) ∷ added xs ys
+-- the sum of the numbers at a place
+abbrev pub sum_at : List Yield → ℕ → ℕ
+sum_at ys place = sum_by (λ y. slice_index y place) ys
 
--- and of all
+-- the sums at each place
 abbrev pub total : List Yield → Yield
-total [] = no_yield
-total (y ∷ ys) = added (total ys) y
+total ys = map (sum_at ys) (range_with_len 0 number_count)

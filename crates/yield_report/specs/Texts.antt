@@ -1,5 +1,5 @@
 -- The texts of reports: lines of fields with commas between them (RFC 4180), each with a line feed behind it.
-use Rattle.std.specs.Prelude.{ℕ, ◌≤◌, List, [], ◌∷◌, codes, decimal, flat_map, length, map}
+use Rattle.std.specs.Prelude.{ℕ, ◌≤◌, List, [], ◌∷◌, codes, decimal, flat_map, length, map, Option, Some, None, nat_le, if◌then◌else◌}
 use Rattle.std.specs.List.{AllByRecursion}
 use Rattle.csv.specs.Writing.{default_writer, row_text}
 use Rattle.office_tables.specs.Numbers.{largest_number}
@@ -36,6 +36,10 @@ customer_total given orders devices = total (map (yield_of given devices) orders
 
 abbrev pub customer_line : List ℕ → HasIssued → List Order → List Device → List (List ℕ)
 customer_line customer given orders devices = customer ∷ map decimal (length orders ∷ customer_total given orders devices)
+
+-- a number, where the tables have room for it
+abbrev pub storable : ℕ → Option ℕ
+storable n = if nat_le n largest_number then Some n else None
 
 -- numbers that the tables have room for
 abbrev pub AreStorable : List ℕ → Type 0

@@ -5,7 +5,7 @@ ghost use Rattle.office_tables.specs.Reading.{ReadsOnly};
 ghost use Rattle.yield_report.specs.Lines.{first_line, name_follows};
 ghost use Rattle.yield_report.specs.Lines.{AreInOrder, AreLines, GathersOrder, IsLine};
 
-use crate::yields::{QUANTITY, SERIALS_LEFT, Yield, no_yield};
+use crate::yields::{NUMBERS, QUANTITY, SERIALS_LEFT, Yield};
 use id_ranges::SerialRange;
 use office_tables::{Keep, Order, OrderRow, Sink, Unkept};
 use std::alloc::Global;
@@ -57,7 +57,7 @@ fn first_line(order: &Order) -> OrderLine
     ensures is_line { IsLine result }
 {
     let quantity = order.range.quantity();
-    let mut numbers = no_yield();
+    let mut numbers = [0; NUMBERS];
     numbers[QUANTITY] = quantity;
     numbers[SERIALS_LEFT] = quantity;
     OrderLine {

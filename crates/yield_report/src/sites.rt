@@ -1,32 +1,45 @@
 // The report of a site.
-ghost use Rattle.std.specs.Prelude.{◌≡◌, ◌↔◌, ⊤, IfSome, IsSome};
+ghost use Rattle.std.specs.Prelude.{◌≡◌, ◌↔◌, ◌<◌, ⊤, IfSome, IsSome};
 ghost use Rattle.office_tables.specs.Reading.{ReadsOnly};
-ghost use Rattle.yield_report.specs.Counts.{total};
+ghost use Rattle.yield_report.specs.Counts.{number_count, sum_at, total};
 ghost use Rattle.yield_report.specs.Reports.{customer_line_in, IsSiteReport};
 ghost use Rattle.yield_report.specs.Rows.{numbers_in, with_report_row, FitsCustomer};
-ghost use Rattle.yield_report.specs.Texts.{AreStorable};
+ghost use Rattle.yield_report.specs.Texts.{storable, AreStorable};
 
 use crate::lines::OrderLine;
 use crate::names::customer_names;
 use crate::orders::whole_lines;
 use crate::rows::{append_customer, append_site_header};
-use crate::yields::{Yield, added, no_yield};
+use crate::yields::{NUMBERS, Yield};
 use office_tables::{Keep, LARGEST_NUMBER, Unkept};
 use site_core::Site;
 use std::alloc::Global;
 use text_core::Name;
+
+/// The sum of the numbers of all lines at a place. `None` where the tables have no room for it.
+fn sum_at(lines: &[OrderLine], place: usize) -> Option<u64>
+    requires { place < number_count }
+    ensures { result ≡ storable (sum_at (numbers_in lines.now) place) }
+{
+    let mut sum: u64 = 0;
+    for line in lines {
+        sum = sum.saturating_add(line.numbers[place]);
+    }
+    if sum <= LARGEST_NUMBER {
+        Some(sum)
+    } else {
+        None
+    }
+}
 
 /// The sums of the numbers of all lines. `None` where the tables have no room for one of them.
 fn total(lines: &[OrderLine]) -> Option<Yield>
     ensures sums { IfSome result (λ sums. sums ≡ total (numbers_in lines.now)) }
     ensures fits { IsSome result ↔ AreStorable (total (numbers_in lines.now)) }
 {
-    let mut sums = no_yield();
-    for line in lines {
-        let Some(more) = added(&sums, &line.numbers) else {
-            return None;
-        };
-        sums = more;
+    let mut sums = [0; NUMBERS];
+    for place in 0..NUMBERS {
+        sums[place] = sum_at(lines, place)?;
     }
     Some(sums)
 }

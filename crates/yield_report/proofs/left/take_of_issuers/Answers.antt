@@ -1,20 +1,20 @@
 -- Why `left::take_of_issuers` meets its contract, where that has to be said.
 use Rattle.std.proofs.Common.{◌<◌, ◌∙◌, arith, rules, subst, sym, length, ap, take, List, map, None, Some, ◌≡◌}
-use Rattle.std.proofs.lemmas.List.{take_all}
+use Rattle.std.proofs.lemmas.List.{map-id, take_all}
 use Rattle.std.proofs.lemmas.List.Elements.{recursion_from_All}
 use Rattle.office_tables.proofs.Reading.{reads_more}
 use Rattle.yield_report.specs.Lines.{left_so_far, new_issuer, IsLine}
 use Rattle.yield_report.specs.Places.{AreApart}
 use Rattle.yield_report.specs.Reports.{has_issued_in}
 use Rattle.yield_report.specs.declared.lines.OrderLine.{OrderLine}
-use Rattle.yield_report.proofs.Issuers.{left_apart, map_all_met, map_no_step, place_met, place_taken, said_of}
+use Rattle.yield_report.proofs.Issuers.{left_apart, map_all_met, place_met, place_taken, said_of}
 use Rattle.yield_report.proofs.left.take_of_issuers.Goals as goal
 
 pub loop-place-init : goal.loop-place-init
 loop-place-init g c = record {
   read_only = search rules;
   stays_open = c.requires;
-  taken = λ is are apart. sym (map_no_step (has_issued_in (g.K.Keep.tables c.args.keep.now)) c.args.lines.items);
+  taken = λ is are apart. sym (map-id c.args.lines.items);
   are_lines = λ is are. are;
   end = search rules;
 }

@@ -2,7 +2,8 @@
 use Rattle.std.proofs.Common.{◌∷◌, [], ◌∙◌, ap, subst, sym, arith, map}
 use Rattle.yield_report.specs.Lines.{taken_in}
 use Rattle.yield_report.specs.Places.{AreApart}
-use Rattle.yield_report.proofs.Widths.{below_apart, first_width, last_width, map_below_more}
+use Rattle.yield_report.proofs.InOrder.{map_both}
+use Rattle.yield_report.proofs.Widths.{below_apart, below_more, first_width, last_width, taken_below}
 use Rattle.yield_report.proofs.left.take_serial.Goals as goal
 
 pub loop-width-init : goal.loop-width-init
@@ -21,7 +22,7 @@ loop-width-preserved c =
     record {
       lines = λ are apart.
           c.take_in_width.ensures.lines (inv.are_lines are) (subst AreApart (sym (inv.lines are apart)) (below_apart width issuer serial before apart))
-          ∙ (ap (map (taken_in width issuer (serial ∷ []))) (inv.lines are apart) ∙ map_below_more width issuer serial before);
+          ∙ (ap (map (taken_in width issuer (serial ∷ []))) (inv.lines are apart) ∙ map_both (taken_in width issuer (serial ∷ [])) (taken_below width issuer serial) _ (below_more width issuer serial) before);
       are_lines = λ are. c.take_in_width.ensures.are_lines (inv.are_lines are);
     }
 

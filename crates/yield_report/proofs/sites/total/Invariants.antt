@@ -1,12 +1,14 @@
 -- What the loop of `sites::total` keeps.
-use Rattle.std.proofs.Common.{◌≡◌, map, take}
-use Rattle.yield_report.specs.Counts.{total}
-use Rattle.yield_report.specs.Texts.{AreStorable}
+use Rattle.std.proofs.Common.{◌≡◌, ℕ, ◌<◌, ◌≤◌, get_or, length}
+use Rattle.office_tables.specs.Numbers.{largest_number}
+use Rattle.yield_report.specs.Counts.{number_count, sum_at}
+use Rattle.yield_report.specs.Rows.{numbers_in}
 use Rattle.yield_report.proofs.sites.total.Given as goal
 
--- the sums so far are those of the lines so far
-abbrev pub invariant-loop-line : goal.invariant-loop-line
-invariant-loop-line l = record {
-  sums : l.sums ≡ total (map (λ line. line.numbers) (take l.line-index l.lines));
-  fit : AreStorable l.sums;
+-- the places so far have their sums, and the tables have room for them
+abbrev pub invariant-loop-place : goal.invariant-loop-place
+invariant-loop-place l = record {
+  long : length l.sums ≡ number_count;
+  sums : (k : ℕ) → k < l.place → get_or l.sums k 0 ≡ sum_at (numbers_in l.lines) k;
+  fit : (k : ℕ) → k < l.place → sum_at (numbers_in l.lines) k ≤ largest_number;
 }
