@@ -1,26 +1,19 @@
 // Plans of devices.
-ghost use Rattle.std.specs.Prelude.{◌≡◌};
-ghost use Rattle.text_core.specs.Options.{first_that_holds};
-ghost use Rattle.fuse_columns.specs.TodoColumns.{todo_column};
+ghost use Rattle.std.specs.Prelude.{◌≡◌, IfOk};
 ghost use Rattle.fuse_image.specs.Pending.{no_pending};
-ghost use Rattle.office_rules.specs.UnlessRefused.{unless_refused};
-ghost use Rattle.office_rules.specs.Plan.{known_of, may_be_planned, plan_refusals, state_of_pending, without_addition, pending_of_wishes};
-ghost use Rattle.office_tables.specs.Reading.{ReadsOnly};
-ghost use Rattle.office_judges.specs.Judging.{IsJudged};
+ghost use Rattle.office_rules.specs.Plan.{known_of, state_of_pending, step_of_plan};
+ghost use Rattle.office_judges.specs.Acting.{IsActedOn};
 
-use crate::Judgement;
-use crate::found_device::{find_device, map_of};
-use crate::steps::{accept_step, without_addition};
+use crate::act::Acted;
+use crate::steps::without_addition;
 use fuse_columns::{decode_bits, decode_keys, encode_todo};
 use fuse_image::{Bits, Image, Keys, Pending};
-use fuse_plan::{Wish, plan};
+use fuse_plan::plan;
 use fusemap_core::FuseMap;
-use office_commands::{Change, NewPlan, Refusal, plan_body};
+use office_commands::{Action, Refusal, Wishes, plan_body};
 use office_rules::DeviceStep;
-use office_tables::{Device, DeviceState, Event, Keep, Unkept};
-use site_core::Customer;
-use std::alloc::Global;
-use text_core::Name;
+use office_tables::{Device, DeviceState, Event};
+use std::alloc::{AllocError, Global};
 
 /// What is known to be burnt of a device.
 pub(crate) fn known_of(map: &FuseMap, device: &Device) -> Image
@@ -29,16 +22,6 @@ pub(crate) fn known_of(map: &FuseMap, device: &Device) -> Image
     Image {
         burnt: decode_bits(map, &device.bits),
         keys: decode_keys(map, &device.keys),
-    }
-}
-
-/// Whether a device in this state may be planned: one that is registered or settled may.
-fn may_be_planned(state: DeviceState) -> bool
-    ensures { result ≡ may_be_planned state }
-{
-    match state {
-        DeviceState::Registered | DeviceState::Settled => true,
-        _ => false,
     }
 }
 
@@ -68,11 +51,8 @@ pub(crate) fn no_pending() -> Pending
 }
 
 /// The step that gives a device its work.
-fn with_work(map: &FuseMap, device: &Device, work: &Pending) -> DeviceStep
-    ensures { result ≡ without_addition Event.Planned map.now (record device.now {
-      state = state_of_pending work.now;
-      todo = todo_column map.now work.now;
-    }) }
+fn step_of_plan(map: &FuseMap, device: &Device, work: &Pending) -> DeviceStep
+    ensures { result ≡ step_of_plan work.now map.now device.now }
 {
     let device = Device {
         state: state_of_pending(work),
@@ -82,44 +62,21 @@ fn with_work(map: &FuseMap, device: &Device, work: &Pending) -> DeviceStep
     without_addition(map, Event::Planned, device)
 }
 
-/// The work of some wishes, or the lowest refusal of them.
-fn judge_wishes(map: &FuseMap, device: &Device, wishes: &[Wish]) -> Result<Pending, Refusal>
-    ensures { result
-        ≡ unless_refused (first_that_holds (plan_refusals wishes.now map.now device.now))
-        (pending_of_wishes wishes.now map.now device.now) }
-{
-    if !may_be_planned(device.state) {
-        return Err(Refusal::WrongState);
-    }
-    match plan(map, &known_of(map, device), wishes) {
-        Ok(work) => Ok(work),
-        Err(fault) => Err(Refusal::BadPlan(fault)),
-    }
-}
-
-/// What a plan of a device comes to: the lowest refusal that holds, or the device with its work, an
-/// entry of its ledger and the body that shows the work. It reads only. An `Err` is want of memory or
-/// a failing store.
-pub(crate) fn judge_plan<K: Keep>(
+/// The plan of what is to be burnt of a device, with the body that shows it, or the lowest refusal
+/// of its wishes.
+pub(crate) fn plan_device(
     alloc: Global,
-    keep: &mut K,
-    customer: &Customer,
-    seat: &Name,
-    plan: &NewPlan,
-) -> Result<Judgement, Unkept>
-    ensures { ReadsOnly K.Keep keep.old keep.new result (λ t judgement.
-        IsJudged customer.now seat.now t (Change.PlanDevice plan.now) judgement) }
+    map: &FuseMap,
+    device: &Device,
+    wishes: &Wishes,
+) -> Result<Result<Acted, Refusal>, AllocError>
+    ensures { IfOk result (λ acted. IsActedOn (Action.Plan wishes.now) map.now device.now acted) }
 {
-    let Some(found) = find_device(keep, customer, &plan.chip)? else {
-        return Ok(Judgement::Refused(Refusal::UnknownDevice));
-    };
-    let map = map_of(&found)?;
-    let work = match judge_wishes(map, &found.device, plan.wishes.as_slice()) {
+    let work = match plan(map, &known_of(map, device), wishes.as_slice()) {
         Ok(work) => work,
-        Err(refusal) => return Ok(Judgement::Refused(refusal)),
+        Err(fault) => return Ok(Err(Refusal::BadPlan(fault))),
     };
     let body = plan_body(alloc, map, &work, state_of_pending(&work))?;
-    let step = with_work(map, &found.device, &work);
-    let accepted = accept_step(alloc, keep, customer, seat, &step, body)?;
-    Ok(Judgement::Accepted(accepted))
+    let step = step_of_plan(map, device, &work);
+    Ok(Ok(Acted { step, body }))
 }

@@ -4,7 +4,6 @@ use Rattle.std.specs.Prelude.{◌&&◌, bytes_eq, filter, is_some, nat_lt, not, 
 use Rattle.std.specs.List.{AllByRecursion}
 use Rattle.std.proofs.lemmas.Bool.{and_parts}
 use Rattle.std.proofs.lemmas.Bool.Decides.{nat_tests}
-use Rattle.text_core.specs.Options.{first_that_holds}
 use Rattle.http_replies.specs.Replies.{Answer, code_of, is_unavailable}
 use Rattle.id_ranges.specs.Idevid.{Idevid}
 use Rattle.site_core.specs.Ownership.{Ownership}
@@ -15,20 +14,18 @@ use Rattle.office_tables.specs.declared.rows.SeatState.{SeatState}
 use Rattle.office_tables.specs.Tables.{Tables, given_at, is_serial_of}
 use Rattle.office_commands.specs.IdentityReplies.{identity_body}
 use Rattle.office_commands.specs.Replies.{acceptance, refusal}
-use Rattle.office_commands.specs.declared.command.Change.{Change as Changing}
-use Rattle.office_commands.specs.declared.command.Change.TheVariants.{MakeOrder, ImportMap, RegisterDevice, PlanDevice, ReadBack, Identify, Ship, Scrap, Import}
+use Rattle.office_commands.specs.declared.command.Change.TheVariants.{Identify}
 use Rattle.office_commands.specs.declared.command.Command.{Command}
-use Rattle.office_commands.specs.declared.command.Command.TheVariants.{Change, Show}
+use Rattle.office_commands.specs.declared.command.Command.TheVariants.{Change}
 use Rattle.office_commands.specs.declared.new_identity.NewIdentity.{NewIdentity}
 use Rattle.office_commands.specs.declared.refusal.Refusal.{Refusal}
-use Rattle.office_commands.specs.declared.refusal.Refusal.TheVariants.{OtherBody, Unkept, WrongNumber}
+use Rattle.office_commands.specs.declared.refusal.Refusal.TheVariants.{Unkept}
 use Rattle.office_rules.specs.Effect.{Put}
 use Rattle.office_rules.specs.Identity.{row_of}
-use Rattle.office_rules.specs.Machine.{Response, decide, effect, refusals, reply_only, respond_by_retry}
+use Rattle.office_rules.specs.Machine.{Response, reply_only}
 use Rattle.office_rules.specs.OfficeMachine.{Step, asks_identity, office_sight, retry_at}
 use Rattle.office_rules.specs.Retry.{retry_of}
-use Rattle.office_rules.specs.declared.retry.Retry.{Retry}
-use Rattle.office_rules.specs.declared.retry.Retry.TheVariants.{Repeats, Differs, Next, Skips}
+use Rattle.office_rules.specs.declared.retry.Retry.TheVariants.{Repeats}
 use Rattle.office_rules.proofs.Ties.{same_text}
 use Rattle.office_laws.specs.Fresh.{BlocksDisjoint, IsFreshRecord, addresses_of}
 use Rattle.office_laws.specs.Grows.{Grows}
@@ -47,6 +44,7 @@ use Rattle.office_laws.proofs.Acting.{accepts, last_at, last_is, unaccepted}
 use Rattle.office_laws.proofs.Grown.{sound_grown}
 use Rattle.office_laws.proofs.OwnRetries.{Accepts, not_success, retry_repeats}
 use Rattle.office_laws.proofs.Passing.{Serves as IsServed}
+use Rattle.office_laws.proofs.Responses.{of_change}
 use Rattle.office_laws.proofs.RunLaws.{run_grows, run_sound, serves_grown}
 
 -- a number comes after a seat's last one
@@ -86,67 +84,35 @@ module _ {site : Ownership} (t mid : Tables) (sound : IsSound site t) (later : I
   is_refused reason (puts, is) =
       refused_is_not reply reason (sym (ap (λ (p : Response). p.reply) (some_is is))) accepted
 
-  of_lowest : (number : ℕ) (digest : List ℕ) (i : NewIdentity)
-      → retry_at seat (asks_identity number digest i) t ≡ Next
-      → Step s seat t (asks_identity number digest i) reply mid
-      → (found : Option Refusal) → first_that_holds (refusals s (office_sight s seat t) (Identify i)) ≡ found
-      → Responds (decide seat (asks_identity number digest i) found
-      (effect s seat (office_sight s seat t) (Identify i)))
-      → Shows s i t reply mid
-  of_lowest number digest i next step None free responds =
-      step_anew sound s seat number digest i reply mid later step next free
-  of_lowest number digest i next step (Some reason) is responds = is_refused reason responds
-
-  of_retry : (number : ℕ) (digest : List ℕ) (i : NewIdentity)
+  of_identity : (number : ℕ) (digest : List ℕ) (i : NewIdentity)
       → is_after seat (view s.name t) number ≡ true
-      → Step s seat t (asks_identity number digest i) reply mid
-      → (retry : Retry)
-      → retry_at seat (asks_identity number digest i) t ≡ retry
-      → Responds (respond_by_retry s seat (office_sight s seat t) (asks_identity number digest i)
-      (Identify i) retry)
-      → Shows s i t reply mid
-  of_retry number digest i past step (Repeats body) is responds =
-      let own : retry_of (seat_named seat (view s.name t)) number digest ≡ Repeats body =
-      ap (λ (found : Option SeatState). retry_of found number digest)
-      (sym (seat_own sound s.name seat mine)) ∙ is in
-      let kept = retry_repeats (seat_named seat (view s.name t)) number digest body own in
-      let last : last_at seat (view s.name t) ≡ number = ap last_number_of_seat kept.1 ∙ kept.2 in
-      absurd (grind (arith, nat_tests, last, past))
-  of_retry number digest i past step Differs is responds = is_refused OtherBody responds
-  of_retry number digest i past step (Skips expected) is responds =
-      is_refused (WrongNumber expected) responds
-  of_retry number digest i past step Next is responds =
-      of_lowest number digest i is step
-      (first_that_holds (refusals s (office_sight s seat t) (Identify i))) refl responds
-
-  of_change : (number : ℕ) (digest : List ℕ) (change : Changing) (i : NewIdentity)
-      → identity_of_command (Change change) ≡ Some i
-      → is_after seat (view s.name t) number ≡ true
-      → Step s seat t (record { number = number; digest = digest; command = Change change }) reply
-      mid
-      → Shows s i t reply mid
-  of_change number digest (MakeOrder o) i is past step = cc
-  of_change number digest (ImportMap text) i is past step = cc
-  of_change number digest (RegisterDevice d) i is past step = cc
-  of_change number digest (PlanDevice p) i is past step = cc
-  of_change number digest (ReadBack r) i is past step = cc
-  of_change number digest (Identify j) i is past step =
-      let same : j ≡ i = cc in
-      subst (λ (i : NewIdentity). Shows s i t reply mid) same
-      (of_retry number digest j past step (retry_at seat (asks_identity number digest j) t) refl
-      (step.0, step.1))
-  of_change number digest (Ship chip) i is past step = cc
-  of_change number digest (Scrap chip) i is past step = cc
-  of_change number digest (Import x) i is past step = cc
+      → Step s seat t (asks_identity number digest i) reply mid → Shows s i t reply mid
+  of_identity number digest i past step =
+      of_change s seat (office_sight s seat t) (asks_identity number digest i)
+      (λ made. Responds made → Shows s i t reply mid) (Identify i) (λ body is _. repeats body is)
+      (λ reason _ responds. is_refused reason responds)
+      (λ next free _. step_anew sound s seat number digest i reply mid later step next free)
+      (step.0, step.1)
+    where
+      repeats : {A : Type 0} (body : List ℕ)
+          → retry_at seat (asks_identity number digest i) t ≡ Repeats body → A
+      repeats body is =
+          let own : retry_of (seat_named seat (view s.name t)) number digest ≡ Repeats body =
+          ap (λ (found : Option SeatState). retry_of found number digest)
+          (sym (seat_own sound s.name seat mine)) ∙ is in
+          let kept = retry_repeats (seat_named seat (view s.name t)) number digest body own in
+          let last : last_at seat (view s.name t) ≡ number = ap last_number_of_seat kept.1 ∙ kept.2 in
+          absurd (grind (arith, nat_tests, last, past))
 
   of_command : (number : ℕ) (digest : List ℕ) (command : Command) (i : NewIdentity)
       → identity_of_command command ≡ Some i
       → is_after seat (view s.name t) number ≡ true
       → Step s seat t (record { number = number; digest = digest; command = command }) reply mid
       → Shows s i t reply mid
-  of_command number digest (Show asked) i is past step = cc
-  of_command number digest (Change change) i is past step =
-      of_change number digest change i is past step
+  of_command number digest (Change (Identify j)) i is past step =
+      let same : j ≡ i = cc in
+      subst (λ (i : NewIdentity). Shows s i t reply mid) same (of_identity number digest j past step)
+  of_command number digest _ i is past step = cc
 
 -- an accepted identity that is no repeat shows a record that is new
 module _ {site : Ownership} (t mid : Tables) (sound : IsSound site t) (later : IsSound site mid)

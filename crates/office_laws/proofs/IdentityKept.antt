@@ -17,9 +17,11 @@ use Rattle.office_tables.specs.declared.rows.Order.{Order}
 use Rattle.office_tables.specs.declared.rows.OfCustomer.{OfCustomer}
 use Rattle.office_tables.specs.Tables.{IsAddressFree, Tables, device_at, device_cmp, given_at, given_by_key, given_cmp, is_device, is_serial_of}
 use Rattle.office_tables.specs.Tables.{is_order, order_at, with_row, with_cursor, with_given}
+use Rattle.office_tables.specs.States.{is_one_of}
 use Rattle.office_commands.specs.declared.new_identity.NewIdentity.{NewIdentity}
+use Rattle.office_rules.specs.Actions.{identified_from}
 use Rattle.office_rules.specs.Effect.{Effect}
-use Rattle.office_rules.specs.Identity.{step_of_identity, identity_effect, identity_refusals, idevid_of_order, may_be_identified, row_of}
+use Rattle.office_rules.specs.Identity.{step_of_identity, identity_effect, identity_refusals, idevid_of_order, row_of}
 use Rattle.office_rules.specs.OfficeMachine.{MakesPuts, is_taken, its, map_named, map_text, next_of, office_sight}
 use Rattle.office_rules.specs.declared.device_step.DeviceStep.{DeviceStep}
 use Rattle.office_rules.proofs.Refusing.{none_from_test}
@@ -27,13 +29,14 @@ use Rattle.office_rules.proofs.Ties.{same_text}
 use Rattle.office_laws.specs.Sound.{IsSound}
 use Rattle.office_laws.specs.SoundRecords.{IsIssuedBelow, SerialIsOfIdentified, IsRecordOf}
 use Rattle.office_laws.proofs.CursorLaws.{cursor_grows, cursor_sound}
-use Rattle.office_laws.proofs.Ends.{identity_keeps, unnumbered_settled}
+use Rattle.office_laws.proofs.Ends.{identity_keeps}
 use Rattle.office_laws.proofs.GivenLaws.{given_found, given_grows, given_sound}
 use Rattle.office_laws.proofs.Growing.{grows_itself}
 use Rattle.office_laws.proofs.Identifying.{identity_found, identity_free, next_least, numbered_effect}
 use Rattle.office_laws.proofs.Keeping.{Keeps}
 use Rattle.office_laws.proofs.Lasting.{Lasts, lasts_named}
 use Rattle.office_laws.proofs.Placed.{found_replaced}
+use Rattle.office_laws.proofs.Planning.{unnumbered_where}
 use Rattle.office_laws.proofs.Readings.{find_holds, order_below, order_issuer}
 use Rattle.office_laws.proofs.RecordRows.{each_tied, own_device}
 use Rattle.office_laws.proofs.Registrations.{found_is_map}
@@ -47,7 +50,7 @@ module _ {owners : Ownership} {t : Tables} (sound : IsSound owners t) (s : Secti
       (known : map_named s.name old.row.map t ≡ Some m)
       (in_order : order_at s.name old.row.order t ≡ Some o)
       (is_next : next_of t o.row ≡ Some next) (unbound : given_by_key o.row.issuer n.key t ≡ None)
-      (may : may_be_identified old.row.state ≡ true) where
+      (may : is_one_of identified_from old.row.state ≡ true) where
     abbrev i : Idevid
     i = idevid_of_order o.row next n.key
 
@@ -148,7 +151,7 @@ module _ {owners : Ownership} {t : Tables} (sound : IsSound owners t) (s : Secti
 
     keeps : Keeps m old.row step
     keeps = identity_keeps m (found_is_map (map_text s.name old.row.map t) m known) old.row next.1
-        may (unnumbered_settled old (find_holds SerialIsOfIdentified (is_device s.name n.chip) t.devices old
+        may (unnumbered_where (is_one_of identified_from) refl refl refl old (find_holds SerialIsOfIdentified (is_device s.name n.chip) t.devices old
         sound.devices.numbered there).0 may)
 
     pub numbered_kept : (mid : Tables)

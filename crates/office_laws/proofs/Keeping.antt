@@ -6,10 +6,10 @@ use Rattle.fuse_image.specs.Image.{IsImageWithin}
 use Rattle.office_tables.specs.declared.rows.Device.{Device}
 use Rattle.office_tables.specs.declared.rows.Entry.{Entry}
 use Rattle.office_tables.specs.declared.rows.OfCustomer.{OfCustomer}
+use Rattle.office_tables.specs.States.{state_row}
 use Rattle.office_rules.specs.Plan.{known_of}
 use Rattle.office_rules.specs.declared.device_step.DeviceStep.{DeviceStep}
 use Rattle.office_laws.specs.SoundDevices.{FitsFuseMap}
-use Rattle.office_laws.specs.SoundRecords.{is_identified}
 
 -- chip, order, map, the serial number that it has and what is known to be burnt; and what its map
 -- asks of the device and its ledger holds of it with the step's entry
@@ -19,6 +19,6 @@ pub record Keeps (m : Map) (d : Device) (step : DeviceStep) : Type 0 where
   pub map : step.device.map ≡ d.map
   pub serial : (serial : List ℕ) → d.serial ≡ Some serial → step.device.serial ≡ Some serial
   pub burnt : IsImageWithin (known_of m d) (known_of m step.device)
-  pub numbered : is_some step.device.serial ≡ true → is_identified step.device.state ≡ true
+  pub numbered : is_some step.device.serial ≡ true → (state_row step.device.state).may_have_serial ≡ true
   pub kept : (es : List (OfCustomer Entry)) (e : OfCustomer Entry) → e.row.bits ≡ step.bits
       → e.row.keys ≡ step.keys → FitsFuseMap m d es → FitsFuseMap m step.device (es ++ e ∷ [])

@@ -1,5 +1,6 @@
 -- The lemmas of this crate.
 pub mod Acting
+mod Actions
 mod Additions
 mod Addresses
 mod Appended
@@ -42,6 +43,7 @@ pub mod RecordAddresses
 mod RecordRows
 mod RegistrationKept
 mod Registrations
+mod Responses
 pub mod RunLaws
 pub mod RunsAlone
 pub mod Seats

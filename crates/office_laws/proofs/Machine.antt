@@ -11,30 +11,23 @@ use Rattle.site_core.specs.Ownership.{IsSection, Ownership}
 use Rattle.import_rows.specs.declared.rows.ImportRow.{ImportRow}
 use Rattle.office_tables.specs.Tables.{Tables}
 use Rattle.office_commands.specs.declared.command.Change.{Change as Changing}
-use Rattle.office_commands.specs.declared.command.Change.TheVariants.{MakeOrder, ImportMap, RegisterDevice, PlanDevice, ReadBack, Identify, Ship, Scrap, Import}
-use Rattle.office_commands.specs.declared.command.Command.{Command}
-use Rattle.office_commands.specs.declared.command.Command.TheVariants.{Change, Show}
+use Rattle.office_commands.specs.declared.command.Change.TheVariants.{MakeOrder, ImportMap, RegisterDevice, Act, Identify, Import}
 use Rattle.office_commands.specs.declared.command.Request.{Request}
-use Rattle.office_commands.specs.declared.refusal.Refusal.{Refusal}
 use Rattle.office_commands.specs.declared.refusal.Refusal.TheVariants.{BadMap}
+use Rattle.office_rules.specs.Actions.{rule_of}
 use Rattle.office_rules.specs.Effect.{StepRule, Effect, Put, map_put, record_put, step_effect}
-use Rattle.office_rules.specs.Ends.{scraps, ships}
 use Rattle.office_rules.specs.Import.{merged_rows, row_of_import}
-use Rattle.office_rules.specs.Machine.{Response, decide, effect, refusals, respond_by_retry, respond_to, response}
+use Rattle.office_rules.specs.Machine.{Response, accept, effect, refusals, response}
 use Rattle.office_rules.specs.Map.{map_fault, text_refusals}
 use Rattle.office_rules.specs.OfficeMachine.{Step, office_sight}
-use Rattle.office_rules.specs.Plan.{plans}
-use Rattle.office_rules.specs.ReadBack.{reads}
-use Rattle.office_rules.specs.Retry.{retry_of}
 use Rattle.office_rules.specs.Sight.{IssuedIn, Sight, map_in_sight, refused_for}
-use Rattle.office_rules.specs.declared.retry.Retry.{Retry}
-use Rattle.office_rules.specs.declared.retry.Retry.TheVariants.{Repeats, Differs, Next, Skips}
 use Rattle.office_laws.specs.SoloMachine.{after_response, solo_step}
 use Rattle.office_laws.specs.Sound.{IsSound}
 use Rattle.office_laws.specs.View.{view}
 use Rattle.office_laws.proofs.Identifying.{identity_found}
-use Rattle.office_laws.proofs.Looking.{gave, issuer_found, rows_taken, some_is}
+use Rattle.office_laws.proofs.Looking.{gave, issuer_found, mapped, rows_taken, some_is}
 use Rattle.office_laws.proofs.Readings.{issuer_owner, order_issuer}
+use Rattle.office_laws.proofs.Responses.{of_command}
 use Rattle.office_laws.proofs.Seen.{seen_own}
 use Rattle.office_laws.proofs.Tidy.{IsDue, puts_act, sound_is_tidy}
 use Rattle.office_laws.proofs.Unread.{all_with}
@@ -81,44 +74,24 @@ module _ {owners : Ownership} {t : Tables} (sound : IsSound owners t) (s : Secti
   outcome_due (ImportMap text) o free e =
       these e (text_due text (v.text _) (map_fault text) refl free)
   outcome_due (RegisterDevice n) o free e = these (gave (map_in_sight v n.map) _ o e).2 (tt, tt)
-  outcome_due (PlanDevice p) o free e = steps_due (plans p.wishes) p.chip o e
-  outcome_due (ReadBack r) o free e = steps_due (reads r.blocks) r.chip o e
+  outcome_due (Act chip action) o free e = steps_due (rule_of action).does chip o e
   outcome_due (Identify n) o free e =
       let f = identity_found s seat t n o e in
       subst (λ (x : Effect). AreDue x.puts) f.is
       (tt, (order_issuer sound s.name f.old.row.order f.order f.in_order, tt))
-  outcome_due (Ship chip) o free e = steps_due ships chip o e
-  outcome_due (Scrap chip) o free e = steps_due scraps chip o e
   outcome_due (Import n) o free e =
       let i = gave (option_and_then result_ok (merged_rows v n)) _ o e in
       let taken = rows_taken v n i.0 i.1 in
       these i.2 (rows_due n.issuer (issuer_mine n.issuer taken.1 taken.2) i.0.added)
 
   module _ (r : Request) where
-    none_due : {made p : Response} → Some made ≡ Some p → made.puts ≡ [] → AreDue p.puts
-    none_due {made} {p} e none =
-        subst (λ (x : Response). AreDue x.puts) (some_is e) (subst AreDue (sym none) tt)
-
-    judged_due : (c : Changing) (p : Response) (found : Option Refusal)
-        → first_that_holds (refusals s v c) ≡ found → (made : Option Effect) → effect s seat v c ≡ made
-        → decide seat r found made ≡ Some p → AreDue p.puts
-    judged_due c p (Some reason) free made is e = none_due e refl
-    judged_due c p None free None is e = cc
-    judged_due c p None free (Some o) is e =
-        subst (λ (x : Response). AreDue x.puts) (some_is e)
-        (all_with (IsDue owners s.name) o.puts _ (outcome_due c o free is) mine)
-
-    retried_due : (c : Changing) (p : Response) (retry : Retry)
-        → respond_by_retry s seat v r c retry ≡ Some p → AreDue p.puts
-    retried_due c p (Repeats body) e = none_due e refl
-    retried_due c p Differs e = none_due e refl
-    retried_due c p (Skips expected) e = none_due e refl
-    retried_due c p Next e = judged_due c p (first_that_holds (refusals s v c)) refl (effect s seat v c) refl e
-
-    served_due : (command : Command) (p : Response) → respond_to s seat v r command ≡ Some p
-        → AreDue p.puts
-    served_due (Show asked) p e = none_due e refl
-    served_due (Change c) p e = retried_due c p (retry_of v.seat r.number r.digest) e
+    served_due : (p : Response) → response s seat v r ≡ Some p → AreDue p.puts
+    served_due = of_command s seat v r (λ made. (p : Response) → made ≡ Some p → AreDue p.puts)
+        (λ reply p e. subst (λ (x : Response). AreDue x.puts) (some_is e) tt)
+        (λ c _ _ free p e.
+        let o = mapped (effect s seat v c) (accept seat r) p e in
+        subst (λ (x : Response). AreDue x.puts) o.2
+        (all_with (IsDue owners s.name) o.0.puts _ (outcome_due c o.0 free o.1) mine))
 
     -- a step is the own machine's on the customer's view, and none on another's
     pub step_own : (reply : Answer) (t2 : Tables) → Step s seat t r reply t2
@@ -127,7 +100,7 @@ module _ {owners : Ownership} {t : Tables} (sound : IsSound owners t) (s : Secti
     step_own reply t2 (puts, is, change) =
         let acts =
         puts_act s section (sound_is_tidy sound) puts
-        (served_due r.command (record { reply = reply; puts = puts }) is) t2 change in (
+        (served_due (record { reply = reply; puts = puts }) is) t2 change in (
           (λ i. option_map (after_response (view s.name t))
               (response s seat (sym (seen_own sound s section seat mine) i) r))
               ∙ (ap (option_map (after_response (view s.name t))) is

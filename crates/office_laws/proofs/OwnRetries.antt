@@ -6,7 +6,6 @@ use Rattle.std.specs.List.{AllByRecursion}
 use Rattle.std.proofs.lemmas.Bool.{eqb-true}
 use Rattle.std.proofs.lemmas.Cmp.{nat_list_cmp_total, tied_itself}
 use Rattle.sha2.specs.Sha256.{sha256}
-use Rattle.text_core.specs.Options.{first_that_holds}
 use Rattle.http_replies.specs.Replies.{Answer, code_of}
 use Rattle.import_rows.specs.declared.rows.ImportRow.{ImportRow}
 use Rattle.site_core.specs.Section.{Section}
@@ -14,32 +13,26 @@ use Rattle.office_tables.specs.declared.rows.SeatState.{SeatState}
 use Rattle.office_tables.specs.Tables.{with_row}
 use Rattle.office_tables.proofs.Finding.{other_placed}
 use Rattle.office_commands.specs.declared.command.Change.{Change as Changing}
-use Rattle.office_commands.specs.declared.command.Change.TheVariants.{MakeOrder, ImportMap, RegisterDevice, PlanDevice, ReadBack, Identify, Ship, Scrap, Import}
+use Rattle.office_commands.specs.declared.command.Change.TheVariants.{MakeOrder, ImportMap, RegisterDevice, Act, Identify, Import}
 use Rattle.office_commands.specs.declared.command.Command.{Command}
 use Rattle.office_commands.specs.declared.command.Command.TheVariants.{Change, Show}
 use Rattle.office_commands.specs.declared.command.Request.{Request}
 use Rattle.office_commands.specs.declared.refusal.Refusal.{Refusal}
-use Rattle.office_commands.specs.declared.refusal.Refusal.TheVariants.{UnknownToken, UnknownPath, WrongCaller, BadJson, BadMember, WrongNumber}
-use Rattle.office_commands.specs.declared.refusal.Refusal.TheVariants.{OtherBody, UnknownMap, UnknownOrder, UnknownDevice, Exists, WrongState}
-use Rattle.office_commands.specs.declared.refusal.Refusal.TheVariants.{QuantityReached, BadPlan, BadMap, BadSerial, NumberTooWide, Exhausted}
-use Rattle.office_commands.specs.declared.refusal.Refusal.TheVariants.{NoMacRoom, RangeOverlap, KeyBound, CodingScheme, ForeignIssuer}
-use Rattle.office_commands.specs.declared.refusal.Refusal.TheVariants.{ImportConflict, MapDigestTaken, Limit, BadReadback, BadNotBefore, Unkept}
+use Rattle.office_commands.specs.declared.refusal.Refusal.TheVariants.{Unkept}
 use Rattle.office_commands.specs.Refusals.{refusal_status}
 use Rattle.office_commands.specs.Replies.{acceptance, refusal}
+use Rattle.office_rules.specs.Actions.{rule_of}
 use Rattle.office_rules.specs.Effect.{StepRule, Effect, Put, map_put, record_put, seat_put, step_effect}
-use Rattle.office_rules.specs.Ends.{scraps, ships}
 use Rattle.office_rules.specs.Import.{merged_rows, row_of_import}
-use Rattle.office_rules.specs.Machine.{Response, decide, effect, refusals, respond_by_retry, respond_to}
-use Rattle.office_rules.specs.Plan.{plans}
-use Rattle.office_rules.specs.ReadBack.{reads}
+use Rattle.office_rules.specs.Machine.{Response, accept, effect, reply_only, respond_to}
 use Rattle.office_rules.specs.Retry.{kept_of, retry_of}
 use Rattle.office_rules.specs.Sight.{Sight, map_in_sight}
-use Rattle.office_rules.specs.declared.retry.Retry.{Retry}
 use Rattle.office_rules.specs.declared.retry.Retry.TheVariants.{Repeats, Differs, Next, Skips}
 use Rattle.office_rules.proofs.Ties.{same_place, same_text, text_itself}
 use Rattle.office_laws.specs.SoloMachine.{SoloState, after_response, or_unkept, seat_named, solo_sight, with_put, with_puts}
 use Rattle.office_laws.proofs.OwnPlaces.{solo_seat_cmp}
 use Rattle.office_laws.proofs.Placed.{found_replaced}
+use Rattle.office_laws.proofs.Responses.{of_change}
 use Rattle.office_laws.specs.Exchanges.{Call, Exchange, Wanted, asks, reports, refused}
 use Rattle.office_laws.specs.Alone.{alone, alone_on}
 use Rattle.office_laws.specs.Gifts.{last_number_of_seat}
@@ -47,35 +40,8 @@ use Rattle.office_laws.specs.Once.{is_accepted, is_change, number_of_wanted, wri
 
 -- no refusal is answered 200
 pub not_success : (reason : Refusal) → (code_of (refusal_status reason) == 200) ≡ false
-not_success UnknownToken = refl
-not_success UnknownPath = refl
-not_success WrongCaller = refl
-not_success BadJson = refl
-not_success BadMember = refl
-not_success (WrongNumber expected) = refl
-not_success OtherBody = refl
-not_success UnknownMap = refl
-not_success UnknownOrder = refl
-not_success UnknownDevice = refl
-not_success Exists = refl
-not_success WrongState = refl
-not_success QuantityReached = refl
-not_success (BadPlan fault) = refl
-not_success (BadMap fault) = refl
-not_success BadSerial = refl
-not_success NumberTooWide = refl
-not_success Exhausted = refl
-not_success NoMacRoom = refl
-not_success RangeOverlap = refl
-not_success KeyBound = refl
-not_success CodingScheme = refl
-not_success ForeignIssuer = refl
-not_success (ImportConflict serial) = refl
-not_success MapDigestTaken = refl
-not_success Limit = refl
-not_success BadReadback = refl
-not_success BadNotBefore = refl
 not_success Unkept = refl
+not_success _ = refl
 
 -- a put of another row leaves the seats
 abbrev LeavesSeats : Put → Type 0
@@ -111,14 +77,11 @@ module _ (c : Section) (seat : List ℕ) (v : Sight) where
   effect_leaves (ImportMap text) = map_leaves text (is_some (v.text (sha256 text)))
   effect_leaves (RegisterDevice n) =
       after_some (map_in_sight v n.map) _ (λ m. (λ _. refl, tt))
-  effect_leaves (PlanDevice n) = step_leaves (plans n.wishes) n.chip
-  effect_leaves (ReadBack n) = step_leaves (reads n.blocks) n.chip
+  effect_leaves (Act chip action) = step_leaves (rule_of action).does chip
   effect_leaves (Identify n) =
       after_some (v.device n.chip) _ (λ d. after_some (map_in_sight v d.map) _ (λ m.
       after_some (v.order d.order) _ (λ o. after_some o.next _ (λ next.
       (λ _. refl, (λ _. refl, tt))))))
-  effect_leaves (Ship chip) = step_leaves ships chip
-  effect_leaves (Scrap chip) = step_leaves scraps chip
   effect_leaves (Import n) =
       after_some (option_and_then result_ok (merged_rows v n)) _ (λ i. records_leave n.issuer i.added)
 
@@ -133,56 +96,42 @@ seats_after (p ∷ ps) row s leave =
 pub retry_repeats : (found : Option SeatState) (n : ℕ) (digest body : List ℕ)
     → retry_of found n digest ≡ Repeats body
     → (r : SeatState) × (found ≡ Some r) × (r.last ≡ n) × (r.reply ≡ body)
-retry_repeats None n digest body =
-    elim (n == 1) as (λ b. (if b then Next else Skips 1) ≡ Repeats body → (r : SeatState)
-    × (None ≡ Some r) × (r.last ≡ n) × (r.reply ≡ body)) [
-      | true ↦ λ e. cc
-      | false ↦ λ e. cc
-    ]
-retry_repeats (Some s) n digest body =
-    elim (n == s.last) as
-    (λ b. (n == s.last) ≡ b
-    → (if b then (if bytes_eq digest s.digest then Repeats s.reply else Differs) else
-    (if n == s.last + 1 then Next else Skips (s.last + 1))) ≡ Repeats body
-    → (r : SeatState) × (Some s ≡ Some r) × (r.last ≡ n) × (r.reply ≡ body)) [
-      | true ↦ λ same. elim (bytes_eq digest s.digest) as
-          (λ b. (if b then Repeats s.reply else Differs) ≡ Repeats body → (r : SeatState)
-          × (Some s ≡ Some r) × (r.last ≡ n) × (r.reply ≡ body)) [
-            | true ↦ λ e. (s, refl, sym (eqb-true n s.last same), (cc))
-            | false ↦ λ e. cc
-          ]
-      | false ↦ λ _. elim (n == s.last + 1) as
-          (λ b. (if b then Next else Skips (s.last + 1)) ≡ Repeats body → (r : SeatState)
-          × (Some s ≡ Some r) × (r.last ≡ n) × (r.reply ≡ body)) [
-            | true ↦ λ e. cc
-            | false ↦ λ e. cc
-          ]
-    ] refl
+retry_repeats None n digest body e = by (n == 1) e
+  where
+    by : (first : Bool) → (if first then Next else Skips 1) ≡ Repeats body → (r : SeatState)
+        × (None ≡ Some r) × (r.last ≡ n) × (r.reply ≡ body)
+    by true e = cc
+    by false e = cc
+retry_repeats (Some s) n digest body e =
+    by (n == s.last) (bytes_eq digest s.digest) (n == s.last + 1) refl e
+  where
+    by : (last same next : Bool) → (n == s.last) ≡ last
+        → (if last then (if same then Repeats s.reply else Differs) else
+        (if next then Next else Skips (s.last + 1))) ≡ Repeats body
+        → (r : SeatState) × (Some s ≡ Some r) × (r.last ≡ n) × (r.reply ≡ body)
+    by true true next is e = (s, refl, sym (eqb-true n s.last is), (cc))
+    by true false next is e = cc
+    by false same true is e = cc
+    by false same false is e = cc
 
 -- what is next has the number after it
 retry_next : (found : Option SeatState) (n : ℕ) (digest : List ℕ) → retry_of found n digest ≡ Next
     → n ≡ last_number_of_seat found + 1
-retry_next None n digest =
-    elim (n == 1) as (λ b. (n == 1) ≡ b → (if b then Next else Skips 1) ≡ Next → n ≡ 1) [
-      | true ↦ λ same _. eqb-true n 1 same
-      | false ↦ λ _ e. cc
-    ] refl
-retry_next (Some s) n digest =
-    elim (n == s.last) as
-    (λ b. (if b then (if bytes_eq digest s.digest then Repeats s.reply else Differs) else
-    (if n == s.last + 1 then Next else Skips (s.last + 1))) ≡ Next → n ≡ s.last + 1) [
-      | true ↦ elim (bytes_eq digest s.digest) as
-          (λ b. (if b then Repeats s.reply else Differs) ≡ Next → n ≡ s.last + 1) [
-            | true ↦ λ e. cc
-            | false ↦ λ e. cc
-          ]
-      | false ↦ elim (n == s.last + 1) as
-          (λ b. (n == s.last + 1) ≡ b → (if b then Next else Skips (s.last + 1)) ≡ Next → n
-          ≡ s.last + 1) [
-            | true ↦ λ same _. eqb-true n (s.last + 1) same
-            | false ↦ λ _ e. cc
-          ] refl
-    ]
+retry_next None n digest e = by (n == 1) refl e
+  where
+    by : (first : Bool) → (n == 1) ≡ first → (if first then Next else Skips 1) ≡ Next → n ≡ 1
+    by true is e = eqb-true n 1 is
+    by false is e = cc
+retry_next (Some s) n digest e =
+    by (n == s.last) (bytes_eq digest s.digest) (n == s.last + 1) refl e
+  where
+    by : (last same next : Bool) → (n == s.last + 1) ≡ next
+        → (if last then (if same then Repeats s.reply else Differs) else
+        (if next then Next else Skips (s.last + 1))) ≡ Next → n ≡ s.last + 1
+    by false same true is e = eqb-true n (s.last + 1) is
+    by false same false is e = cc
+    by true true next is e = cc
+    by true false next is e = cc
 
 -- what an accepted command does: the seat's row has its number and its reply. It is the last one
 -- again, and nothing changes, or the next one; and each other seat's row stays
@@ -244,16 +193,33 @@ module _ (c : Section) (seat : List ℕ) (s mid : SoloState) (reply : Answer) wh
   Performed made =
       ◌≡◌ {A = Answer × SoloState} (reply, mid) (or_unkept s (option_map (after_response s) made))
 
-  judged : (r : Request) → r.number ≡ last_number_of_seat (seat_named seat s) + 1 → (found : Option Refusal)
-      → (made : Option Effect) → LeaveSeats c seat v made → Performed (decide seat r found made)
+  abbrev Does : Request → Option Response → Type 0
+  Does r made = Performed made
       → MatchBool (code_of reply.status == 200) (Accepts seat r.number reply s mid) (mid ≡ s)
-  judged r next (Some reason) made leave e =
-      at_refused reply reason _ _ (ap (λ (p : Answer × SoloState). p.0) e)
+
+  repeated : (r : Request) (body : List ℕ)
+      → retry_of (seat_named seat s) r.number r.digest ≡ Repeats body
+      → Does r (Some (reply_only (acceptance body)))
+  repeated r body is e =
+      let kept = retry_repeats (seat_named seat s) r.number r.digest body is in
+      let same : mid ≡ s = ap (λ (p : Answer × SoloState). p.1) e in
+      at_accepted reply body _ _ (ap (λ (p : Answer × SoloState). p.0) e) (record {
+        row = kept.0;
+        there = ap (seat_named seat) same ∙ kept.1;
+        last = kept.2;
+        shown = ap (λ (p : Answer × SoloState). p.0) e ∙ ap acceptance (sym kept.3);
+        before = inl (sym kept.2 ∙ ap last_number_of_seat (sym kept.1), same);
+        others = λ other _. ap (seat_named other) same;
+      })
+
+  denied : (r : Request) (reason : Refusal) → Does r (Some (reply_only (refusal reason)))
+  denied r reason e = at_refused reply reason _ _ (ap (λ (p : Answer × SoloState). p.0) e)
       (ap (λ (p : Answer × SoloState). p.1) e)
-  judged r next None None leave e =
-      at_refused reply Unkept _ _ (ap (λ (p : Answer × SoloState). p.0) e)
-      (ap (λ (p : Answer × SoloState). p.1) e)
-  judged r next None (Some made) leave e =
+
+  accepted : (r : Request) → r.number ≡ last_number_of_seat (seat_named seat s) + 1
+      → (made : Option Effect) → LeaveSeats c seat v made → Does r (option_map (accept seat r) made)
+  accepted r next None leave e = denied r Unkept e
+  accepted r next (Some made) leave e =
       let row : SeatState = kept_of seat r made.body in
       let seats : mid.seats ≡ with_row solo_seat_cmp row s.seats =
       ap (λ (p : Answer × SoloState). p.1.seats) e ∙ seats_after made.puts row s leave in
@@ -267,37 +233,14 @@ module _ (c : Section) (seat : List ℕ) (s mid : SoloState) (reply : Answer) wh
             ∙ row_other row other differs s.seats;
       })
 
-  by_retry : (r : Request) (change : Changing) (retry : Retry)
-      → retry_of (seat_named seat s) r.number r.digest ≡ retry
-      → Performed (respond_by_retry c seat v r change retry)
-      → MatchBool (code_of reply.status == 200) (Accepts seat r.number reply s mid) (mid ≡ s)
-  by_retry r change (Repeats body) is e =
-      let kept = retry_repeats (seat_named seat s) r.number r.digest body is in
-      let same : mid ≡ s = ap (λ (p : Answer × SoloState). p.1) e in
-      at_accepted reply body _ _ (ap (λ (p : Answer × SoloState). p.0) e) (record {
-        row = kept.0;
-        there = ap (seat_named seat) same ∙ kept.1;
-        last = kept.2;
-        shown = ap (λ (p : Answer × SoloState). p.0) e ∙ ap acceptance (sym kept.3);
-        before = inl (sym kept.2 ∙ ap last_number_of_seat (sym kept.1), same);
-        others = λ other _. ap (seat_named other) same;
-      })
-  by_retry r change Differs is e =
-      at_refused reply OtherBody _ _ (ap (λ (p : Answer × SoloState). p.0) e)
-      (ap (λ (p : Answer × SoloState). p.1) e)
-  by_retry r change (Skips expected) is e =
-      at_refused reply (WrongNumber expected) _ _ (ap (λ (p : Answer × SoloState). p.0) e)
-      (ap (λ (p : Answer × SoloState). p.1) e)
-  by_retry r change Next is e =
-      judged r (retry_next (seat_named seat s) r.number r.digest is)
-      (first_that_holds (refusals c v change)) (effect c seat v change) (effect_leaves c seat v change) e
-
   on_command : (r : Request) (command : Command) → Performed (respond_to c seat v r command)
       → MatchBool (is_change command && code_of reply.status == 200)
       (Accepts seat r.number reply s mid) (mid ≡ s)
   on_command r (Show asked) e = ap (λ (p : Answer × SoloState). p.1) e
   on_command r (Change change) e =
-      by_retry r change (retry_of (seat_named seat s) r.number r.digest) refl e
+      of_change c seat v r (Does r) change (repeated r) (λ reason _. denied r reason)
+      (λ is _. accepted r (retry_next (seat_named seat s) r.number r.digest is)
+      (effect c seat v change) (effect_leaves c seat v change)) e
 
 on_wanted : (c : Call) (s mid : SoloState) (reply : Answer) (w : Wanted)
     → ◌≡◌ {A = Answer × SoloState} (reply, mid) (alone_on c s w)

@@ -3,7 +3,7 @@ use Rattle.std.proofs.Common.{◌≡◌, ◌+◌, ◌∙◌, ◌++◌, ℕ, List
 use Rattle.std.specs.Prelude.{bytes_eq, option_and_then, option_map}
 use Rattle.std.proofs.lemmas.Bool.{and_parts}
 use Rattle.text_core.specs.Options.{first_that_holds}
-use Rattle.fusemap_core.specs.Map.{IsMap, Map}
+use Rattle.fusemap_core.specs.Map.{Map}
 use Rattle.site_core.specs.Ownership.{IsSection, Ownership}
 use Rattle.site_core.specs.Section.{Section}
 use Rattle.office_tables.specs.declared.rows.Device.{Device}
@@ -11,9 +11,12 @@ use Rattle.office_tables.specs.declared.rows.Entry.{Entry}
 use Rattle.office_tables.specs.declared.rows.NewEntry.{NewEntry}
 use Rattle.office_tables.specs.declared.rows.OfCustomer.{OfCustomer}
 use Rattle.office_tables.specs.Tables.{Tables, device_at, entry_under, entry_with, is_device, last_number, with_device, with_new_entry}
-use Rattle.office_rules.specs.Effect.{StepRule, Effect, entry_of, step_effect, step_put}
+use Rattle.office_commands.specs.Asked.{IsAction}
+use Rattle.office_commands.specs.declared.command.Action.{Action}
+use Rattle.office_rules.specs.Actions.{action_refusals, rule_of}
+use Rattle.office_rules.specs.Effect.{Effect, entry_of, step_effect, step_put}
 use Rattle.office_rules.specs.OfficeMachine.{MakesPut, MakesPuts, its, map_named, map_text, office_sight}
-use Rattle.office_rules.specs.Sight.{Refusals, Sight, device_in_sight, map_in_sight, step_refusals}
+use Rattle.office_rules.specs.Sight.{Sight, device_in_sight, map_in_sight, step_refusals}
 use Rattle.office_rules.specs.declared.device_step.DeviceStep.{DeviceStep}
 use Rattle.office_rules.proofs.Sights.{entry_same, map_same}
 use Rattle.office_rules.proofs.Ties.{same_text}
@@ -21,6 +24,7 @@ use Rattle.office_laws.specs.Grows.{DeviceStays}
 use Rattle.office_laws.specs.Sound.{IsSound}
 use Rattle.office_laws.specs.SoundDevices.{FitsFuseMap, IsReferred}
 use Rattle.office_laws.specs.SoundRecords.{SerialIsOfIdentified}
+use Rattle.office_laws.proofs.Actions.{action_keeps}
 use Rattle.office_laws.proofs.DeviceLaws.{next_ledger, step_sound}
 use Rattle.office_laws.proofs.Growing.{device_grows, stays_known}
 use Rattle.office_laws.proofs.Lasting.{Lasts, lasts_named}
@@ -96,18 +100,18 @@ module _ {owners : Ownership} {t : Tables} (sound : IsSound owners t) (s : Secti
             same by_map) (entry_made s seat t step) id;
       }
 
-  -- a command that makes a step of a device, where nothing refuses it
-  pub steps_kept : (does : StepRule) (against : Map → Device → Refusals) (chip : List ℕ)
-      (e : Effect) (mid : Tables) → first_that_holds (step_refusals against (device_in_sight v chip)) ≡ None
-      → step_effect seat v does chip ≡ Some e
-      → ((old : OfCustomer Device) (m : Map) → SerialIsOfIdentified old → IsMap m
-      → first_that_holds (against m old.row) ≡ None → Keeps m old.row (does m old.row).0)
-      → MakesPuts s e.puts t mid → Lasts owners t mid
-  steps_kept does against chip e mid free is keeps puts =
-      by (device_at s.name chip t) refl is
+  -- an action of a device, where nothing refuses it
+  pub action_kept : (chip : List ℕ) (a : Action) (e : Effect) (mid : Tables) → IsAction a
+      → first_that_holds (step_refusals (action_refusals a) (device_in_sight v chip)) ≡ None
+      → step_effect seat v (rule_of a).does chip ≡ Some e → MakesPuts s e.puts t mid
+      → Lasts owners t mid
+  action_kept chip a e mid asked free is puts = by (device_at s.name chip t) refl is
     where
       made : Device → Map → Effect
-      made d m = record { body = (does m d).1; puts = step_put seat v (does m d).0 ∷ [] }
+      made d m = record {
+        body = ((rule_of a).does m d).1;
+        puts = step_put seat v ((rule_of a).does m d).0 ∷ [];
+      }
 
       by : (found : Option (OfCustomer Device)) → device_at s.name chip t ≡ found
           → option_and_then (λ d. option_and_then (λ m. Some (made d m)) (map_in_sight v d.map))
@@ -117,15 +121,15 @@ module _ {owners : Ownership} {t : Tables} (sound : IsSound owners t) (s : Secti
           let m = gave (map_in_sight v old.row.map) _ e is in
           let known : map_named s.name old.row.map t ≡ Some m.0 =
           map_same s seat t old.row.map ∙ m.1 in
-          let refused : first_that_holds (against m.0 old.row) ≡ None =
-          subst (λ found. first_that_holds (step_refusals against found) ≡ None)
+          let refused : first_that_holds (action_refusals a m.0 old.row) ≡ None =
+          subst (λ found. first_that_holds (step_refusals (action_refusals a) found) ≡ None)
           (device_seen s t seat chip old m.0 there known) free in
           let numbered = find_holds SerialIsOfIdentified (is_device s.name chip) t.devices old
           sound.devices.numbered there in
-          let keep = keeps old m.0 numbered.0
-          (found_is_map (map_text s.name old.row.map t) m.0 known) refused in
-          let step : DeviceStep = (does m.0 old.row).0 in
+          let keeps = action_keeps m.0 (found_is_map (map_text s.name old.row.map t) m.0 known) old
+          numbered.0 a asked refused in
+          let step : DeviceStep = ((rule_of a).does m.0 old.row).0 in
           let puts = puts_of s t mid m.2 puts in
           let change = step_made s seat t step puts.0 puts.1 in
           lasts_named (puts.2 ∙ change.2)
-          (step_kept chip old m.0 step change.0 there known keep change.1)
+          (step_kept chip old m.0 step change.0 there known keeps change.1)

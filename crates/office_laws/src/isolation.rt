@@ -10,7 +10,6 @@ ghost use Rattle.fusemap_core.specs.Map.{Map};
 ghost use Rattle.fuse_image.specs.Redaction.{redacted};
 ghost use Rattle.office_commands.specs.Asked.{IsAsked};
 ghost use Rattle.office_commands.specs.declared.new_device.NewDevice.{NewDevice};
-ghost use Rattle.office_commands.specs.declared.new_plan.NewReadBack.{NewReadBack};
 ghost use Rattle.office_rules.specs.OfficeMachine.{Step, asks_identity, map_named, reads_back, registers};
 ghost use Rattle.office_rules.specs.Registration.{words_fit_map};
 ghost use Rattle.office_commands.specs.declared.command.Request.{Request};
@@ -78,10 +77,10 @@ pub fn only_the_redaction_is_kept()
         → Step s seat t (registers number digest d) reply t2
         → Step s seat t (registers number digest (record d { blocks = blocks })) reply t2 }
     ensures readback { (s : Section) (seat : List ℕ) (t : Tables) (d : OfCustomer Device) (m : Map)
-        (number : ℕ) (digest : List ℕ) (r : NewReadBack) (blocks : List (List ℕ)) (reply : Answer)
+        (number : ℕ) (digest chip : List ℕ) (blocks others : List (List ℕ)) (reply : Answer)
         (t2 : Tables)
-        → device_at s.name r.chip t ≡ Some d → map_named s.name d.row.map t ≡ Some m
-        → words_fit_map m r.blocks ≡ words_fit_map m blocks → redacted m r.blocks ≡ redacted m blocks
-        → Step s seat t (reads_back number digest r) reply t2
-        → Step s seat t (reads_back number digest (record r { blocks = blocks })) reply t2 }
+        → device_at s.name chip t ≡ Some d → map_named s.name d.row.map t ≡ Some m
+        → words_fit_map m blocks ≡ words_fit_map m others → redacted m blocks ≡ redacted m others
+        → Step s seat t (reads_back number digest chip blocks) reply t2
+        → Step s seat t (reads_back number digest chip others) reply t2 }
 {}

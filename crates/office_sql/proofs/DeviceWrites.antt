@@ -21,6 +21,7 @@ use Rattle.sqlite_rules.specs.Edit.{next_rowid}
 use Rattle.sqlite_tied.specs.Compute.{everything}
 use Rattle.sqlite_keyed.specs.Lists.{sort_by}
 use Rattle.sqlite_trees.proofs.ListLemmas.{all_weaker}
+use Rattle.office_tables.specs.States.{state_row}
 use Rattle.office_tables.specs.declared.rows.OfCustomer.{OfCustomer}
 use Rattle.office_tables.specs.declared.rows.Device.{Device}
 use Rattle.office_tables.specs.declared.rows.DeviceState.{DeviceState}
@@ -28,8 +29,7 @@ use Rattle.office_tables.specs.declared.rows.DeviceState.TheVariants.{Registered
 use Rattle.office_tables.specs.declared.rows.DeviceState.TheVariants.{Quarantined, Scrapped}
 use Rattle.office_tables.specs.declared.rows.Reason.TheVariants as reason
 use Rattle.office_tables.specs.declared.rows.Write.TheVariants.{AddDevice, PutDevice}
-use Rattle.office_tables.specs.Quarantine.{reason_of}
-use Rattle.office_tables.specs.Texts.{state_text, reason_text, state_of_texts}
+use Rattle.office_tables.specs.Texts.{reason_text, state_of_texts}
 use Rattle.office_tables.specs.Tables.{device_cmp, is_device, with_row, IsFree}
 use Rattle.office_sql.specs.Change.{SqlAdds, Wrote}
 use Rattle.office_sql.specs.Rows.{device_in_row, device_columns}
@@ -76,7 +76,7 @@ text_back None = refl
 text_back (Some t) = refl
 
 -- the texts of a state are those of no other
-pub state_read_back : (s : DeviceState) → state_of_texts (state_text s) (option_map reason_text (reason_of s)) ≡ Some s
+pub state_read_back : (s : DeviceState) → state_of_texts (state_row s).text (option_map reason_text (state_row s).reason) ≡ Some s
 state_read_back Registered = refl
 state_read_back AwaitingFirst = refl
 state_read_back AwaitingSecond = refl
@@ -88,8 +88,8 @@ state_read_back (Quarantined reason.Stray) = refl
 state_read_back (Quarantined reason.Key) = refl
 state_read_back Scrapped = refl
 
-state_back : (s : DeviceState) → state_in (state_text s) (text_if (text_value (option_map reason_text (reason_of s)))) ≡ s
-state_back s = ap (state_in (state_text s)) (text_back (option_map reason_text (reason_of s))) ∙ ap (λ found. unwrap_or found Scrapped) (state_read_back s)
+state_back : (s : DeviceState) → state_in (state_row s).text (text_if (text_value (option_map reason_text (state_row s).reason))) ≡ s
+state_back s = ap (state_in (state_row s).text) (text_back (option_map reason_text (state_row s).reason)) ∙ ap (λ found. unwrap_or found Scrapped) (state_read_back s)
 
 pub device_back : (id : ℤ) (d : OfCustomer Device) → device_in_row (Int id ∷ device_columns d) ≡ d
 device_back id d = ap₂ (λ s t. record d { row = record d.row { state = s; serial = t } }) (state_back d.row.state) (text_back d.row.serial)
@@ -104,7 +104,7 @@ cast_words : (v : Value) → v ≡ Words (bytes v) → cast TextKind v ≡ v
 cast_words v e = ap (cast TextKind) e ∙ sym e
 
 pub add_casts : (d : OfCustomer Device) → cast_row device_table (eval_all add_terms (device_columns d ∷ [])) ≡ Null ∷ device_columns d
-add_casts d = rw (cast_null, cast_text (option_map reason_text (reason_of d.row.state)), cast_text d.row.serial) refl
+add_casts d = rw (cast_null, cast_text (option_map reason_text (state_row d.row.state).reason), cast_text d.row.serial) refl
 
 -- ---- keys
 
@@ -148,7 +148,7 @@ device_added d old new office free adds =
 -- the columns of the row that takes the place of another
 abbrev put_columns : OfCustomer Device → Row → Row
 put_columns d r = column r 1 ∷ column r 2 ∷ Words d.row.order ∷ Bytes d.row.map
-    ∷ Words (state_text d.row.state) ∷ text_value (option_map reason_text (reason_of d.row.state))
+    ∷ Words (state_row d.row.state).text ∷ text_value (option_map reason_text (state_row d.row.state).reason)
     ∷ Bytes d.row.bits ∷ Bytes d.row.keys ∷ Bytes d.row.todo ∷ text_value d.row.serial ∷ []
 
 -- devices of one key tie
@@ -170,7 +170,7 @@ put_set d = record {
         cast_words (column r 1) typed.0,
         cast_words (column r 2)
             typed.1,
-        cast_text (option_map reason_text (reason_of d.row.state)),
+        cast_text (option_map reason_text (state_row d.row.state).reason),
         cast_text d.row.serial,
       )
       refl;

@@ -3,6 +3,7 @@ use Rattle.std.specs.Prelude.{ℕ, Bool, ◌&&◌, List, [], ◌∷◌, find, Op
 use Rattle.std.specs.Str.{bytes_eq}
 use Rattle.sqlite.specs.declared.types.Value.TheVariants.{Null, Text as Words, Blob as Bytes}
 use Rattle.sqlite.specs.Order.{Row, column, bytes}
+use Rattle.office_tables.specs.States.{state_row}
 use Rattle.office_tables.specs.declared.rows.OfCustomer.{OfCustomer}
 use Rattle.office_tables.specs.declared.rows.SeatState.{SeatState}
 use Rattle.office_tables.specs.declared.rows.Order.{Order}
@@ -13,8 +14,7 @@ use Rattle.office_tables.specs.declared.rows.NewMap.{NewMap}
 use Rattle.office_tables.specs.declared.rows.Device.{Device}
 use Rattle.office_tables.specs.declared.rows.Entry.{Entry}
 use Rattle.office_tables.specs.declared.rows.NewEntry.{NewEntry}
-use Rattle.office_tables.specs.Quarantine.{reason_of}
-use Rattle.office_tables.specs.Texts.{state_text, reason_text, event_text, note_text}
+use Rattle.office_tables.specs.Texts.{reason_text, event_text, note_text}
 use Rattle.office_sql.specs.Values.{number_in_cell, text_if, mac_if, state_in, event_in, text_value, mac_value, whole_value}
 
 -- the beginning of validity that the first row for this order or record has in its third column; none where there is no row
@@ -109,8 +109,8 @@ device_in_row r = record {
 }
 
 abbrev pub device_columns : OfCustomer Device → Row
-device_columns d = Words d.customer ∷ Words d.row.chip ∷ Words d.row.order ∷ Bytes d.row.map ∷ Words (state_text d.row.state)
-    ∷ text_value (option_map reason_text (reason_of d.row.state)) ∷ Bytes d.row.bits ∷ Bytes d.row.keys ∷ Bytes d.row.todo ∷ text_value d.row.serial ∷ []
+device_columns d = Words d.customer ∷ Words d.row.chip ∷ Words d.row.order ∷ Bytes d.row.map ∷ Words (state_row d.row.state).text
+    ∷ text_value (option_map reason_text (state_row d.row.state).reason) ∷ Bytes d.row.bits ∷ Bytes d.row.keys ∷ Bytes d.row.todo ∷ text_value d.row.serial ∷ []
 
 -- given: issuer, serial, customer, key, chip, mac, not_after. Its beginning of validity stands in another table
 abbrev pub given_in_row : Row → OfCustomer Given

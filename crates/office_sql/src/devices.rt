@@ -4,8 +4,8 @@ ghost use Rattle.sqlite.specs.declared.types.Value.TheVariants.{Null};
 ghost use Rattle.sqlite.specs.Held.{state};
 ghost use Rattle.sqlite.specs.Order.{column, bytes};
 ghost use Rattle.sqlite.specs.Values.{bound};
+ghost use Rattle.office_tables.specs.States.{state_row};
 ghost use Rattle.office_tables.specs.declared.rows.Write.TheVariants.{AddDevice as TheNewDevice, PutDevice as TheDevice};
-ghost use Rattle.office_tables.specs.Quarantine.{reason_of};
 ghost use Rattle.office_tables.specs.Keeping.{Visits};
 ghost use Rattle.office_tables.specs.Tables.{is_of, is_device, device_at, IsFree};
 ghost use Rattle.office_tables.specs.Texts.{reason_text};
@@ -174,7 +174,7 @@ pub fn order_states<S: Alter>(
 }
 
 fn reason_text_of(state: DeviceState) -> Option<&'static str>
-    ensures { option_map (λ t. t.now) result ≡ option_map reason_text (reason_of state) }
+    ensures { option_map (λ t. t.now) result ≡ option_map reason_text (state_row state).reason }
 {
     match state.reason() {
         Some(reason) => Some(reason.text()),

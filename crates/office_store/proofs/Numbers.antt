@@ -7,9 +7,10 @@ use Rattle.std.specs.Cmp.Lexicographic.{texts_ties}
 use Rattle.std.proofs.lemmas.List.{length-append, take_more}
 use Rattle.std.proofs.lemmas.List.Elements.{filter-append}
 use Rattle.std.proofs.lemmas.Slice.Eq.{bytes_eq-Decides}
+use Rattle.office_tables.specs.States.{state_row}
 use Rattle.office_tables.specs.declared.rows.OfCustomer.{OfCustomer}
 use Rattle.office_tables.specs.declared.rows.Device.{Device}
-use Rattle.office_tables.specs.OrderPlaces.{is_given_up, places_taken, takes_place}
+use Rattle.office_tables.specs.OrderPlaces.{places_taken, takes_place}
 use Rattle.office_tables.specs.PlaceCounting.{place_of_device}
 use Rattle.office_tables.specs.Tables.{is_of, rows_of, text_cmp}
 use Rattle.office_tables.proofs.Places.{same_both_ways, takes_no_other}
@@ -35,23 +36,23 @@ number_set order number p n writes o =
 
 -- one more device is counted
 pub one_counted : (one : OrderState) (p n : OrderPlaces) (more : ℕ)
-    → more ≡ number_at one.order p + 1 → is_given_up one.state ≡ false
+    → more ≡ number_at one.order p + 1 → (state_row one.state).is_given_up ≡ false
     → ((o : List ℕ) → number_at o n ≡ cond (bytes_eq o one.order) more (number_at o p))
     → (o : List ℕ) → number_at o n ≡ number_at o p + cond (takes o one) 1 0
 one_counted one p n more is stays sets o =
     sets o ∙ elim (bytes_eq o one.order) as (λ b. bytes_eq o one.order ≡ b
     → cond b more (number_at o p)
-    ≡ number_at o p + cond (b && not (is_given_up one.state)) 1 0) [
+    ≡ number_at o p + cond (b && not (state_row one.state).is_given_up) 1 0) [
       | true ↦ λ at. rw (stays, (bytes_eq-Decides o one.order).0 at) is
       | false ↦ λ _. omega arith
     ] refl
 
 -- one that is given up takes no place
-pub none_counted : (one : OrderState) (p : OrderPlaces) → is_given_up one.state ≡ true → (o : List ℕ) → number_at o p ≡ number_at o p + cond (takes o one) 1 0
+pub none_counted : (one : OrderState) (p : OrderPlaces) → (state_row one.state).is_given_up ≡ true → (o : List ℕ) → number_at o p ≡ number_at o p + cond (takes o one) 1 0
 none_counted one p gone o =
     elim (bytes_eq o one.order) as (λ b. number_at o p
     ≡ number_at o p + cond (b
-    && not (is_given_up one.state)) 1 0) [ true ↦ rw gone (omega arith) | false ↦ omega arith ]
+    && not (state_row one.state).is_given_up) 1 0) [ true ↦ rw gone (omega arith) | false ↦ omega arith ]
 
 -- how many elements pass, of one more
 pub passing_more : {X : Type 0} (p : X → Bool) (xs : List X) (i : ℕ) (x : X) → i < length xs

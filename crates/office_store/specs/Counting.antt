@@ -1,9 +1,10 @@
 -- The numbers of places that a keeper keeps, and when they are right.
 use Rattle.std.specs.Prelude.{◌≡◌, ℕ, List, Bool, false, Option, Some, ◌&&◌, bytes_eq, not, option_map, unwrap_or}
 use Rattle.std.specs.BTreeMap.{get}
+use Rattle.office_tables.specs.States.{state_row}
 use Rattle.office_tables.specs.declared.rows.OfCustomer.{OfCustomer}
 use Rattle.office_tables.specs.declared.rows.Device.{Device}
-use Rattle.office_tables.specs.OrderPlaces.{is_given_up, places_taken}
+use Rattle.office_tables.specs.OrderPlaces.{places_taken}
 use Rattle.office_tables.specs.Tables.{rows_of, text_cmp}
 use Rattle.office_sql.specs.declared.devices.OrderState.{OrderState}
 use Rattle.office_store.specs.declared.places.OrderPlaces.{OrderPlaces}
@@ -19,7 +20,7 @@ count_if_counted customer order p = option_map (number_at order) (get text_cmp p
 
 -- a device in this state takes a place of the order
 abbrev pub takes : List ℕ → OrderState → Bool
-takes order s = bytes_eq order s.order && not (is_given_up s.state)
+takes order s = bytes_eq order s.order && not (state_row s.state).is_given_up
 
 -- each number that is kept is what a count gives for its customer and order
 abbrev pub AreCounts : (List ℕ → List ℕ → ℕ) → PlaceCounts → Type 0

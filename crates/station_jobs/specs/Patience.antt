@@ -6,8 +6,8 @@ use Rattle.std.specs.declared.time.Instant.{Instant}
 use Rattle.station_jobs.specs.declared.patience.Awaited.{Awaited}
 use Rattle.station_jobs.specs.declared.patience.Awaited.TheVariants.{FirstByte, NextRequest, RestOfRequest}
 use Rattle.station_jobs.specs.declared.patience.Bounds.{Bounds}
-use Rattle.station_jobs.specs.declared.patience.Turn.{Turn}
-use Rattle.station_jobs.specs.declared.patience.Turn.TheVariants.{Look, End}
+use Rattle.station_jobs.specs.declared.patience.NextRead.{NextRead}
+use Rattle.station_jobs.specs.declared.patience.NextRead.TheVariants.{Look, End}
 use Rattle.station_jobs.specs.declared.patience.Wait.{Wait}
 
 -- how many nanoseconds lie between two moments
@@ -43,7 +43,7 @@ MayLook bounds wait now = (wait.awaited ≢ RestOfRequest) × ¬ IsOutOfTime bou
 
 -- what is done for a client next: it is waited for while its time isn't over; then what it has sent
 -- is read, or nothing more
-abbrev pub IsTurn : Bounds → Wait → Instant → Turn → Type 0
-IsTurn bounds wait now Turn.Wait = ¬ IsOver bounds wait now
-IsTurn bounds wait now Look = IsOver bounds wait now × MayLook bounds wait now
-IsTurn bounds wait now End = IsOver bounds wait now × ¬ MayLook bounds wait now
+abbrev pub IsNextRead : Bounds → Wait → Instant → NextRead → Type 0
+IsNextRead bounds wait now NextRead.Wait = ¬ IsOver bounds wait now
+IsNextRead bounds wait now Look = IsOver bounds wait now × MayLook bounds wait now
+IsNextRead bounds wait now End = IsOver bounds wait now × ¬ MayLook bounds wait now

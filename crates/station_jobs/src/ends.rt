@@ -4,7 +4,7 @@ ghost use Rattle.std.specs.Prelude.{◌≡◌, ◌⊎◌, ◌≤◌, length, IfS
 ghost use Rattle.http_frames.specs.Transfers.{MovesAtMost};
 
 use crate::arrivals::Arrivals;
-use crate::patience::{Awaited, Bounds, Turn, Wait, is_untaken, turn_of};
+use crate::patience::{Awaited, Bounds, NextRead, Wait, is_untaken, next_read};
 use http_frames::buffer::ROOM;
 use station_api::{Drain, Source, Transfer};
 use std::cell::{Cell, RefCell};
@@ -81,7 +81,7 @@ impl<'a, R: Clock, S: Drop, L: OpenListener<Stream = S>> Line<'a, R, L, S> {
     }
 
     /// What is done for the client next, if the clock tells the time.
-    fn turn(&self, awaited: Awaited, since: Instant) -> Option<Turn> {
+    fn next_read(&self, awaited: Awaited, since: Instant) -> Option<NextRead> {
         let another_waits = self.arrivals.one_waits();
         let now = self.now()?;
         let wait = Wait {
@@ -95,7 +95,7 @@ impl<'a, R: Clock, S: Drop, L: OpenListener<Stream = S>> Line<'a, R, L, S> {
                 now
             },
         };
-        Some(turn_of(&self.bounds, &wait, now))
+        Some(next_read(&self.bounds, &wait, now))
     }
 
     /// Counts a wait of the client for what it is sent, which began at a moment.
@@ -134,17 +134,17 @@ impl<'a, R: Clock, S: Read + OpenStream + Drop, L: OpenListener<Stream = S>> Lin
         }
     }
 
-    /// Reads once, as the client's turn is. `Interrupted` where it is waited for on.
-    fn read_in_turn(&self, turn: Turn, room: &mut [u8]) -> Transfer
+    /// Reads once, as is done for the client next. `Interrupted` where it is waited for on.
+    fn read_as(&self, next: NextRead, room: &mut [u8]) -> Transfer
         ensures { MovesAtMost result (length room.new) }
     {
-        match turn {
-            Turn::Wait => self.read_once(room),
-            Turn::Look => match self.read_at_once(room) {
+        match next {
+            NextRead::Wait => self.read_once(room),
+            NextRead::Look => match self.read_at_once(room) {
                 Transfer::Interrupted => Transfer::Failed,
                 done => done,
             },
-            Turn::End => Transfer::Failed,
+            NextRead::End => Transfer::Failed,
         }
     }
 
@@ -154,8 +154,8 @@ impl<'a, R: Clock, S: Read + OpenStream + Drop, L: OpenListener<Stream = S>> Lin
         ensures { IfSome result (λ count. count ≤ length room.new) }
     {
         for _wait in 0..u64::MAX {
-            let turn = self.turn(awaited, since)?;
-            match self.read_in_turn(turn, room) {
+            let next = self.next_read(awaited, since)?;
+            match self.read_as(next, room) {
                 Transfer::Moved(count) => return Some(count),
                 Transfer::Interrupted => {}
                 Transfer::Failed => return None,

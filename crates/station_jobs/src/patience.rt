@@ -1,7 +1,7 @@
 //! How long a connection may wait for its client, while others wait for it.
 ghost use Rattle.std.specs.Prelude.{◌≡◌, ◌↔◌, ◌*◌, ◌≤◌, IsTrue};
 ghost use Rattle.std.specs.Duration.{as_nanos};
-ghost use Rattle.station_jobs.specs.Patience.{GivesWay, IsOver, IsOutOfTime, IsTooLong, IsTurn, MayLook};
+ghost use Rattle.station_jobs.specs.Patience.{GivesWay, IsOver, IsOutOfTime, IsTooLong, IsNextRead, MayLook};
 
 use std::time::{Duration, Instant};
 
@@ -155,7 +155,7 @@ fn may_look(bounds: &Bounds, wait: &Wait, now: Instant) -> bool
 
 /// What is done for a client next.
 #[derive(Clone, Copy)]
-pub enum Turn {
+pub enum NextRead {
     /// It is waited for.
     Wait,
     /// What it has sent already is read, and where there is nothing the connection ends.
@@ -165,16 +165,16 @@ pub enum Turn {
 }
 
 /// What is done for a client next, at this moment.
-pub fn turn_of(bounds: &Bounds, wait: &Wait, now: Instant) -> Turn
-    ensures { IsTurn bounds.now wait.now now result }
+pub fn next_read(bounds: &Bounds, wait: &Wait, now: Instant) -> NextRead
+    ensures { IsNextRead bounds.now wait.now now result }
 {
     if !is_over(bounds, wait, now) {
-        return Turn::Wait;
+        return NextRead::Wait;
     }
     if may_look(bounds, wait, now) {
-        Turn::Look
+        NextRead::Look
     } else {
-        Turn::End
+        NextRead::End
     }
 }
 

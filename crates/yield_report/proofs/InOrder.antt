@@ -13,6 +13,11 @@ use Rattle.std.proofs.lemmas.List.Sorted.{Contains-permutation, IsPermutation-sy
 use Rattle.std.proofs.lemmas.Map.Keys.{apart_from_distinct, sorted_from_all_adjacent, sorted_head, sorted_tail}
 use Rattle.std.proofs.lemmas.Map.Keys.{IsDistinct-IsPermutation, IsDistinct-from_sorted}
 
+-- one function after another, element by element
+pub map_both : {X Y Z : Type 0} (f : Y → Z) (g : X → Y) (h : X → Z) → ((x : X) → f (g x) ≡ h x) → (xs : List X) → map f (map g xs) ≡ map h xs
+map_both f g h same [] = refl
+map_both f g h same (x ∷ xs) = λ i. same x i ∷ map_both f g h same xs i
+
 -- a function that changes the element at i alone
 pub map_at : {X : Type 0} (f : X → X) (xs : List X) (i : ℕ) (x : X) → i < length xs → x ≡ get_or xs i x
     → ((k : ℕ) (d : X) → k < length xs → (k ≡ i → ⊥) → f (get_or xs k d) ≡ get_or xs k d) → map f xs ≡ slice_set xs i (f x)

@@ -1,4 +1,5 @@
 -- The lemmas of this crate.
+pub mod Added
 pub mod Apart
 pub mod Counted
 pub mod Digits

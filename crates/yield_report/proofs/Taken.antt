@@ -1,25 +1,34 @@
 -- The serial numbers of an issuer's records, taken from the lines of orders.
-use Rattle.std.proofs.Common.{◌≡◌, ℕ, ◌+◌, ◌-◌, Bool, true, false, List, [], ◌∷◌, map, length, refl, sym, ap, ap₂, ◌∙◌, subst, arith, cond}
-use Rattle.std.specs.Prelude.{filter, bytes_eq}
+use Rattle.std.proofs.Common.{◌≡◌, ℕ, zero, suc, ◌+◌, ◌-◌, Bool, true, false, List, [], ◌∷◌, map, length, slice_set, refl, sym, ap, ◌∙◌, subst, arith, cond}
+use Rattle.std.specs.Prelude.{filter, bytes_eq, slice_index}
+use Rattle.std.proofs.lemmas.List.{map-id, set-get_or}
 use Rattle.office_tables.specs.declared.rows.Given.{Given}
 use Rattle.office_tables.specs.declared.rows.OfCustomer.{OfCustomer}
 use Rattle.office_tables.specs.Keeping.{Visits}
+use Rattle.yield_report.specs.Counting.{left_place, with_less}
+use Rattle.yield_report.specs.Counts.{Yield}
 use Rattle.yield_report.specs.Lines.{count_of_range, less, taken, AreLines, TakesSerial}
 use Rattle.yield_report.specs.Places.{AreApart}
 use Rattle.yield_report.specs.Serials.{has_serial, serials_in, AreRising}
 use Rattle.yield_report.specs.declared.left.GivenScan.{GivenScan}
 use Rattle.yield_report.specs.declared.lines.OrderLine.{OrderLine}
 use Rattle.yield_report.proofs.Apart.{apart_map}
+use Rattle.yield_report.proofs.InOrder.{map_both}
 
 -- nothing is taken
-minus_none : (n : ℕ) → n - 0 ≡ n
-minus_none n = omega arith
-
 pub less_none : (line : OrderLine) → less 0 line ≡ line
-less_none line = simp minus_none
+less_none line =
+    let same : with_less 0 line.numbers ≡ line.numbers = ap (slice_set line.numbers left_place) (omega arith) ∙ set-get_or line.numbers left_place 0 in
+    λ i. record line { numbers = same i }
+
+less_at : (place a b c : ℕ) (y : Yield) → a + b ≡ c
+    → (let less_a = slice_set y place (slice_index y place - a) in slice_set less_a place (slice_index less_a place - b)) ≡ slice_set y place (slice_index y place - c)
+less_at place a b c [] e = refl
+less_at zero a b c (n ∷ y) e = ap (λ m. m ∷ y) (omega (arith, e))
+less_at (suc place) a b c (n ∷ y) e = ap (λ ns. n ∷ ns) (less_at place a b c y e)
 
 less_more : (a b c : ℕ) (line : OrderLine) → a + b ≡ c → less b (less a line) ≡ less c line
-less_more a b c line e = ap (λ n. record line { numbers = record line.numbers { serials_left = n } }) (omega (arith, e))
+less_more a b c line e = λ i. record line { numbers = less_at left_place a b c line.numbers e i }
 
 -- what is taken changes neither a line's issuer nor its range
 pub issuer_taken : (issuer : List ℕ) (serials : List (List ℕ)) (line : OrderLine) → (taken issuer serials line).issuer ≡ line.issuer
@@ -56,16 +65,6 @@ taken_more issuer s ss line =
       | false ↦ λ e. rw e refl
     ] refl
 
-map_taken_none : (issuer : List ℕ) (lines : List OrderLine) → map (taken issuer []) lines ≡ lines
-map_taken_none issuer [] = refl
-map_taken_none issuer (line ∷ lines) = ap₂ (λ (l : OrderLine) (ls : List OrderLine). l ∷ ls) (taken_none issuer line) (map_taken_none issuer lines)
-
-map_taken_more : (issuer s : List ℕ) (ss : List (List ℕ)) (lines : List OrderLine)
-    → map (taken issuer ss) (map (taken issuer (s ∷ [])) lines) ≡ map (taken issuer (s ∷ ss)) lines
-map_taken_more issuer s ss [] = refl
-map_taken_more issuer s ss (line ∷ lines) =
-    ap₂ (λ (l : OrderLine) (ls : List OrderLine). l ∷ ls) (taken_more issuer s ss line) (map_taken_more issuer s ss lines)
-
 unordered_since : (mid new : GivenScan) → new ≡ mid → mid.is_unordered ≡ true → new.is_unordered ≡ false → true ≡ false
 unordered_since mid new same one other = sym one ∙ (sym (ap (λ (s : GivenScan). s.is_unordered) same) ∙ other)
 
@@ -86,13 +85,13 @@ serials_fit old (row ∷ rows) new (false, mid, takes, later) ordered fit = let 
 -- and took all of them, of lines that are apart
 pub serials_taken : (old : GivenScan) (rows : List (OfCustomer Given)) (new : GivenScan) → Visits TakesSerial old rows new → new.is_unordered ≡ false
     → AreLines old.lines.items → AreApart old.lines.items → new.lines.items ≡ map (taken old.issuer (serials_in rows)) old.lines.items
-serials_taken old [] new v ordered are apart = ap (λ (s : GivenScan). s.lines.items) v ∙ sym (map_taken_none old.issuer old.lines.items)
+serials_taken old [] new v ordered are apart = ap (λ (s : GivenScan). s.lines.items) v ∙ sym ((λ i. map (λ l. taken_none old.issuer l i) old.lines.items) ∙ map-id old.lines.items)
 serials_taken old (row ∷ rows) new (true, mid, takes, later) ordered are apart =
     let here = takes.lines refl are apart in
     let stays : AreApart mid.lines.items = subst AreApart (sym here)
     (apart_map (taken old.issuer (row.row.serial ∷ [])) (issuer_taken old.issuer (row.row.serial ∷ [])) (range_taken old.issuer (row.row.serial ∷ []))
     old.lines.items apart) in
     let rest = rw (takes.issuer refl, here) at (serials_taken mid rows new later ordered (takes.are_lines refl are) stays) in
-    rest ∙ map_taken_more old.issuer row.row.serial (serials_in rows) old.lines.items
+    rest ∙ map_both (taken old.issuer (serials_in rows)) (taken old.issuer (row.row.serial ∷ [])) _ (taken_more old.issuer row.row.serial (serials_in rows)) old.lines.items
 serials_taken old (row ∷ rows) new (false, mid, takes, later) ordered are apart =
     let e = unordered_since mid new later (takes.unordered refl) ordered in absurd (cc e)

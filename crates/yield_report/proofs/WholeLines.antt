@@ -1,30 +1,63 @@
 -- The lines of orders, once all rows were read, and their report.
-use Rattle.std.proofs.Common.{◌≡◌, ℕ, ◌+◌, ◌≤◌, Bool, true, false, List, [], ◌∷◌, ◌++◌, map, length, refl, sym, ap, ap₂, ◌∙◌, subst, arith, cond}
-use Rattle.std.specs.Prelude.{filter}
+use Rattle.std.proofs.Common.{◌≡◌, ℕ, ◌+◌, ◌-◌, ◌≤◌, Bool, true, false, List, [], ◌∷◌, ◌++◌, map, length, length-append, refl, sym, ap, ◌∙◌, subst, arith, cond}
+use Rattle.std.specs.Prelude.{◌==◌, filter, fold, if◌then◌else◌}
 use Rattle.std.specs.List.{AllByRecursion}
 use Rattle.std.specs.List.Sorted.{IsPermutation, IsSortedByKey}
-use Rattle.std.proofs.lemmas.List.{flat_map_more, map_push}
+use Rattle.std.proofs.lemmas.List.{append-nil, append_assoc, flat_map_more, map_push}
 use Rattle.std.proofs.lemmas.List.Sorted.{IsPermutation-map, IsPermutation-trans}
-use Rattle.std.proofs.lemmas.List.Elements.{recursion_from_All}
+use Rattle.std.proofs.lemmas.List.Elements.{filter-append, recursion_from_All}
 use Rattle.csv.specs.Writing.{default_writer, row_text}
 use Rattle.std.proofs.lemmas.List.FromFn.{length-range_with_len}
 use Rattle.id_ranges.specs.NextSerial.{is_unused}
 use Rattle.id_ranges.specs.Range.{numbers}
 use Rattle.office_tables.specs.declared.rows.Device.{Device}
+use Rattle.office_tables.specs.declared.rows.DeviceState.{DeviceState}
+use Rattle.office_tables.specs.declared.rows.DeviceState.TheVariants.{Registered, AwaitingFirst, AwaitingSecond, Settled, Identified, Shipped, Quarantined}
+use Rattle.office_tables.specs.declared.rows.DeviceState.TheVariants.{Scrapped}
 use Rattle.office_tables.specs.declared.rows.Order.{Order}
+use Rattle.office_tables.specs.States.{state_row}
 use Rattle.office_tables.specs.Tables.{Tables, rows_of, text_cmp}
-use Rattle.yield_report.specs.Counts.{HasIssued, yield_of}
+use Rattle.yield_report.specs.Counting.{with_device, with_less}
+use Rattle.yield_report.specs.Counts.{HasIssued, Yield, columns, count_in, devices_of, serials_left, yield_of, yield_with}
 use Rattle.yield_report.specs.Lines.{counted, first_line, left_in, names_cmp, whole_line, AreInOrder, AreLines, IsLine}
 use Rattle.yield_report.specs.Reports.{has_issued_in, IsOrderReport}
 use Rattle.yield_report.specs.Rows.{line_fields, lines_text}
-use Rattle.yield_report.specs.Texts.{numbers_of, order_header, order_line, report_text, AreStorable}
+use Rattle.yield_report.specs.Texts.{order_header, order_line, report_text, AreStorable}
 use Rattle.yield_report.specs.declared.lines.OrderLine.{OrderLine}
-use Rattle.yield_report.proofs.Counted.{same_yield}
-use Rattle.yield_report.proofs.InOrder.{sorted_again, sorted_map}
+use Rattle.yield_report.proofs.InOrder.{map_both, sorted_again, sorted_map}
 use Rattle.yield_report.proofs.Apart.{names_total}
 
-none_plus : (n : ℕ) → 0 + n ≡ n
-none_plus n = omega arith
+-- the numbers of an order with one device more
+pushed_in : (devices : List Device) (d : Device) (column : ℕ)
+    → count_in (devices ++ d ∷ []) column ≡ (if (state_row d.state).column == column then count_in devices column + 1 else count_in devices column)
+pushed_in devices d column =
+    let test : Device → Bool = λ e. (state_row e.state).column == column in
+    let all = ap length (filter-append test devices (d ∷ [])) in
+    all ∙ elim (test d) as (λ b. length (filter test devices ++ cond b (d ∷ []) []) ≡ (if b then length (filter test devices) + 1 else length (filter test devices))) [
+      | true ↦ length-append (filter test devices) (d ∷ [])
+      | false ↦ ap length (append-nil (filter test devices))
+    ]
+
+with_state : (quantity left : ℕ) (f : ℕ → ℕ) (s : DeviceState) → with_device s (quantity ∷ (map f columns ++ left ∷ []))
+    ≡ quantity ∷ (map (λ column. if (state_row s).column == column then f column + 1 else f column) columns ++ left ∷ [])
+with_state quantity left f Registered = refl
+with_state quantity left f AwaitingFirst = refl
+with_state quantity left f AwaitingSecond = refl
+with_state quantity left f Settled = refl
+with_state quantity left f Identified = refl
+with_state quantity left f Shipped = refl
+with_state quantity left f (Quarantined why) = refl
+with_state quantity left f Scrapped = refl
+
+-- and with all
+with_all : (o : Order) (left : ℕ) (before devices : List Device)
+    → fold (λ y d. with_device d.state y) (yield_with o left before) devices ≡ yield_with o left (before ++ devices)
+with_all o left before [] = ap (yield_with o left) (sym (append-nil before))
+with_all o left before (d ∷ devices) =
+    let more : Yield → Yield = λ y. fold (λ z e. with_device e.state z) y devices in
+    ap more (with_state o.range.quantity left (count_in before) d.state
+    ∙ sym (λ i. o.range.quantity ∷ (map (λ column. pushed_in before d column i) columns ++ left ∷ [])))
+    ∙ (with_all o left (before ++ d ∷ []) devices ∙ ap (yield_with o left) (append_assoc before (d ∷ []) devices))
 
 filter_short : {A : Type 0} (p : A → Bool) (xs : List A) → length (filter p xs) ≤ length xs
 filter_short p [] = omega arith
@@ -38,25 +71,20 @@ filter_short p (x ∷ xs) =
 -- the line of one order
 line_whole : (given : HasIssued) (devices : List Device) (o : Order) → left_in given (counted devices (first_line o)) ≡ whole_line given devices o
 line_whole given devices o =
-    let unused : ℕ = length (filter (is_unused (given o.issuer) o.range) (numbers o.range)) in
-    let few : unused ≤ o.range.quantity = let short =
+    let own : List Device = devices_of o.name devices in
+    let unused : ℕ = serials_left given o in
+    let few : o.range.quantity - (o.range.quantity - unused) ≡ unused = let short =
     filter_short (is_unused (given o.issuer) o.range) (numbers o.range) in omega (arith, short, length-range_with_len o.range.first o.range.quantity) in
     ap (λ y. record { name = o.name; issuer = o.issuer; range = o.range; numbers = y })
-    (same_yield (left_in given (counted devices (first_line o))).numbers (yield_of given devices o)
-    (omega arith) (none_plus _) (none_plus _) (none_plus _) (none_plus _) (none_plus _) (none_plus _) (none_plus _) (omega (arith, few)))
+    (ap (with_less (o.range.quantity - unused)) (with_all o o.range.quantity [] own) ∙ ap (λ n. yield_with o n own) few)
 
 pub lines_whole : (given : HasIssued) (devices : List Device) (orders : List Order)
     → map (left_in given) (map (counted devices) (map first_line orders)) ≡ map (whole_line given devices) orders
-lines_whole given devices [] = refl
-lines_whole given devices (o ∷ os) = ap₂ (λ (l : OrderLine) (ls : List OrderLine). l ∷ ls) (line_whole given devices o) (lines_whole given devices os)
-
-fields_of_lines : (given : HasIssued) (devices : List Device) (orders : List Order)
-    → map line_fields (map (whole_line given devices) orders) ≡ map (order_line given devices) orders
-fields_of_lines given devices [] = refl
-fields_of_lines given devices (o ∷ os) = ap (λ (ls : List (List (List ℕ))). order_line given devices o ∷ ls) (fields_of_lines given devices os)
+lines_whole given devices orders =
+    ap (map (left_in given)) (map_both (counted devices) first_line _ (λ o. refl) orders) ∙ map_both (left_in given) _ _ (line_whole given devices) orders
 
 numbers_fit : (given : HasIssued) (devices : List Device) (orders : List Order) → AllByRecursion IsLine (map (whole_line given devices) orders)
-    → AllByRecursion (λ o. AreStorable (numbers_of (yield_of given devices o))) orders
+    → AllByRecursion (λ o. AreStorable (yield_of given devices o)) orders
 numbers_fit given devices [] are = tt
 numbers_fit given devices (o ∷ os) are = (are.0.1, numbers_fit given devices os are.1)
 
@@ -67,7 +95,7 @@ pub report_of_lines : (customer : List ℕ) (t : Tables) (lines : List OrderLine
 report_of_lines customer t lines text is are answer =
     let given = has_issued_in t in
     let devices = rows_of customer t.devices in (
-      answer ∙ (ap lines_text is ∙ ap (λ rows. report_text (order_header ∷ rows)) (fields_of_lines given devices (rows_of customer t.orders))),
+      answer ∙ (ap lines_text is ∙ ap (λ rows. report_text (order_header ∷ rows)) (map_both line_fields (whole_line given devices) _ (λ o. refl) (rows_of customer t.orders))),
       numbers_fit given devices (rows_of customer t.orders) (recursion_from_All IsLine _ (rw is at are)),
     )
 

@@ -1,5 +1,5 @@
 -- The lines of a report while its rows are read: what one row adds to them, and what all rows leave.
-use Rattle.std.specs.Prelude.{◌≡◌, ◌==◌, ℕ, ◌-◌, ◌++◌, Bool, true, false, List, [], ◌∷◌, Option, Some, None, bytes_eq, filter, length, map, is_some, not}
+use Rattle.std.specs.Prelude.{◌≡◌, ◌==◌, ℕ, ◌-◌, ◌++◌, Bool, true, false, List, [], ◌∷◌, Option, Some, None, bytes_eq, filter, fold, length, map, is_some, not}
 use Rattle.std.specs.Prelude.{option_and_then, option_map, slice_get, take, if◌then◌else◌}
 use Rattle.std.specs.List.{All, list_any}
 use Rattle.std.specs.List.Sorted.{IsStrictlySortedBy}
@@ -11,19 +11,15 @@ use Rattle.office_tables.specs.declared.rows.OfCustomer.{OfCustomer}
 use Rattle.office_tables.specs.declared.rows.Order.{Order}
 use Rattle.office_tables.specs.declared.rows.Device.{Device}
 use Rattle.office_tables.specs.declared.rows.Given.{Given}
-use Rattle.office_tables.specs.declared.rows.DeviceState.TheVariants.{Registered, AwaitingFirst, AwaitingSecond, Settled, Identified, Shipped, Quarantined}
-use Rattle.office_tables.specs.declared.rows.DeviceState.TheVariants.{Scrapped}
-use Rattle.office_tables.specs.declared.rows.Reason.TheVariants.{Lost, Stray, Key}
-use Rattle.yield_report.specs.Counting.{with_device_counted}
-use Rattle.yield_report.specs.Counts.{HasIssued, added, count_in, devices_of, yield_of, yield_with}
+use Rattle.yield_report.specs.Counting.{with_device, with_device_counted, with_less}
+use Rattle.yield_report.specs.Counts.{HasIssued, devices_of, yield_of, yield_with}
 use Rattle.yield_report.specs.Places.{AreApart}
 use Rattle.yield_report.specs.Serials.{follows, has_serial}
-use Rattle.yield_report.specs.Texts.{AreStorable, numbers_of}
+use Rattle.yield_report.specs.Texts.{AreStorable}
 use Rattle.yield_report.specs.declared.lines.OrderLine.{OrderLine}
 use Rattle.yield_report.specs.declared.lines.OrderScan.{OrderScan}
 use Rattle.yield_report.specs.declared.devices.DeviceScan.{DeviceScan}
 use Rattle.yield_report.specs.declared.left.GivenScan.{GivenScan}
-use Rattle.yield_report.specs.declared.yields.Yield.{Yield}
 
 -- the line of an order of which no device and no given serial number was met
 abbrev pub first_line : Order → OrderLine
@@ -31,7 +27,7 @@ first_line o = record { name = o.name; issuer = o.issuer; range = o.range; numbe
 
 -- the range of a line is one, and the tables have room for its numbers
 abbrev pub IsLine : OrderLine → Type 0
-IsLine line = IsRange line.range × AreStorable (numbers_of line.numbers)
+IsLine line = IsRange line.range × AreStorable line.numbers
 
 abbrev pub AreLines : List OrderLine → Type 0
 AreLines lines = All IsLine lines
@@ -56,23 +52,9 @@ pub record GathersOrder (old : OrderScan) (row : OfCustomer Order) (goes_on : Bo
   pub same : goes_on ≡ true → new.is_stopped ≡ old.is_stopped
   pub stopped : goes_on ≡ false → new.is_stopped ≡ true
 
--- how many devices are in each state
-abbrev pub counts : List Device → Yield
-counts devices = record {
-  quantity = 0;
-  registered = count_in (Registered ∷ []) devices;
-  planned = count_in (AwaitingFirst ∷ AwaitingSecond ∷ []) devices;
-  settled = count_in (Settled ∷ []) devices;
-  identified = count_in (Identified ∷ []) devices;
-  shipped = count_in (Shipped ∷ []) devices;
-  quarantined = count_in (Quarantined Lost ∷ Quarantined Stray ∷ Quarantined Key ∷ []) devices;
-  scrapped = count_in (Scrapped ∷ []) devices;
-  serials_left = 0;
-}
-
 -- the line with those of these devices that are of its order
 abbrev pub counted : List Device → OrderLine → OrderLine
-counted devices line = record line { numbers = added line.numbers (counts (devices_of line.name devices)) }
+counted devices line = record line { numbers = fold (λ y d. with_device d.state y) line.numbers (devices_of line.name devices) }
 
 -- the line with the device where it is of the line's order; none where the tables have no room for its number
 abbrev pub with_one : Device → OrderLine → Option OrderLine
@@ -97,7 +79,7 @@ count_of_range line serials = length (filter (has_serial line.range) serials)
 
 -- the line with so many serial numbers less
 abbrev pub less : ℕ → OrderLine → OrderLine
-less count line = record line { numbers = record line.numbers { serials_left = line.numbers.serials_left - count } }
+less count line = record line { numbers = with_less count line.numbers }
 
 -- the line once these serial numbers of an issuer are given
 abbrev pub taken : List ℕ → List (List ℕ) → OrderLine → OrderLine

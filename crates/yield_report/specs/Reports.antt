@@ -4,7 +4,7 @@ use Rattle.std.specs.List.{AllByRecursion}
 use Rattle.site_core.specs.Section.{SiteValue}
 use Rattle.office_tables.specs.Tables.{Tables, given_at, rows_of, with_row, text_cmp}
 use Rattle.yield_report.specs.Counts.{HasIssued, yield_of}
-use Rattle.yield_report.specs.Texts.{AreStorable, customer_line, customer_total, numbers_of, order_report_text, report_text, site_header}
+use Rattle.yield_report.specs.Texts.{AreStorable, customer_line, customer_total, order_report_text, report_text, site_header}
 
 -- whether a serial number is given, by any customer
 abbrev pub has_issued_in : Tables → HasIssued
@@ -18,7 +18,7 @@ order_report_in customer t = order_report_text (has_issued_in t) (rows_of custom
 abbrev pub IsOrderReport : List ℕ → Tables → List ℕ → Type 0
 IsOrderReport customer t text =
     (text ≡ order_report_in customer t)
-    × AllByRecursion (λ o. AreStorable (numbers_of (yield_of (has_issued_in t) (rows_of customer t.devices) o))) (rows_of customer t.orders)
+    × AllByRecursion (λ o. AreStorable (yield_of (has_issued_in t) (rows_of customer t.devices) o)) (rows_of customer t.orders)
 
 -- names in the order of their bytes
 abbrev pub in_order : List (List ℕ) → List (List ℕ)
@@ -41,5 +41,5 @@ abbrev pub IsSiteReport : SiteValue → Tables → List ℕ → Type 0
 IsSiteReport site t text =
     (text ≡ site_report_in site t)
     × AllByRecursion (λ customer. AreStorable (length (rows_of customer t.orders)
-    ∷ numbers_of (customer_total (has_issued_in t) (rows_of customer t.orders) (rows_of customer t.devices))))
+    ∷ customer_total (has_issued_in t) (rows_of customer t.orders) (rows_of customer t.devices)))
     (customers_in_order site)

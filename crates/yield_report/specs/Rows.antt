@@ -1,23 +1,16 @@
 -- Rows of a report, as the program makes them.
-use Rattle.std.specs.Prelude.{◌≡◌, ℕ, ◌++◌, List, [], ◌∷◌, decimal, length, map, string_bytes}
+use Rattle.std.specs.Prelude.{◌≡◌, ℕ, ◌++◌, List, [], ◌∷◌, decimal, length, map}
 use Rattle.csv.specs.Writing.{default_writer, row_text}
 use Rattle.office_tables.specs.Tables.{Tables, rows_of}
 use Rattle.yield_report.specs.Lines.{whole_line, AreLines}
 use Rattle.yield_report.specs.Reports.{has_issued_in}
-use Rattle.yield_report.specs.Texts.{customer_total, numbers_of, order_header, report_text, AreStorable}
+use Rattle.yield_report.specs.Texts.{customer_total, order_header, report_text, AreStorable}
 use Rattle.yield_report.specs.declared.lines.OrderLine.{OrderLine}
-use Rattle.yield_report.specs.declared.rows.NumberTexts.{NumberTexts}
-use Rattle.yield_report.specs.declared.yields.Yield.{Yield}
+use Rattle.yield_report.specs.Counts.{Yield}
 
 -- a text with one row more
 abbrev pub with_report_row : List ℕ → List (List ℕ) → List ℕ
 with_report_row text fields = text ++ row_text default_writer fields
-
--- the texts of numbers, in their order
-abbrev pub texts_in : NumberTexts → List (List ℕ)
-texts_in t =
-    string_bytes t.quantity ∷ string_bytes t.registered ∷ string_bytes t.planned ∷ string_bytes t.settled ∷ string_bytes t.identified
-    ∷ string_bytes t.shipped ∷ string_bytes t.quarantined ∷ string_bytes t.scrapped ∷ string_bytes t.serials_left ∷ []
 
 -- a name and the numbers of its line
 abbrev pub named_numbers : List ℕ → List ℕ → List (List ℕ)
@@ -25,7 +18,7 @@ named_numbers name numbers = name ∷ map decimal numbers
 
 -- the fields of an order's line
 abbrev pub line_fields : OrderLine → List (List ℕ)
-line_fields line = named_numbers line.name (numbers_of line.numbers)
+line_fields line = named_numbers line.name line.numbers
 
 -- the report of these lines
 abbrev pub lines_text : List OrderLine → List ℕ
@@ -43,4 +36,4 @@ AreWhole customer t lines =
 -- the tables have room for the numbers of a customer's line
 abbrev pub FitsCustomer : Tables → List ℕ → Type 0
 FitsCustomer t customer =
-    AreStorable (length (rows_of customer t.orders) ∷ numbers_of (customer_total (has_issued_in t) (rows_of customer t.orders) (rows_of customer t.devices)))
+    AreStorable (length (rows_of customer t.orders) ∷ customer_total (has_issued_in t) (rows_of customer t.orders) (rows_of customer t.devices))

@@ -5,18 +5,13 @@ use Rattle.csv.specs.Writing.{default_writer, row_text}
 use Rattle.office_tables.specs.Numbers.{largest_number}
 use Rattle.office_tables.specs.declared.rows.Order.{Order}
 use Rattle.office_tables.specs.declared.rows.Device.{Device}
-use Rattle.yield_report.specs.Counts.{HasIssued, total, yield_of}
-use Rattle.yield_report.specs.declared.yields.Yield.{Yield}
+use Rattle.yield_report.specs.Counts.{HasIssued, Yield, total, yield_of}
 
 -- the names of the numbers, in their order
 abbrev pub number_names : List (List ℕ)
 number_names =
     codes "quantity" ∷ codes "registered" ∷ codes "planned" ∷ codes "settled" ∷ codes "identified" ∷ codes "shipped" ∷ codes "quarantined" ∷ codes "scrapped"
     ∷ codes "serials_left" ∷ []
-
-abbrev pub numbers_of : Yield → List ℕ
-numbers_of y =
-    y.quantity ∷ y.registered ∷ y.planned ∷ y.settled ∷ y.identified ∷ y.shipped ∷ y.quarantined ∷ y.scrapped ∷ y.serials_left ∷ []
 
 -- a text of these lines
 abbrev pub report_text : List (List (List ℕ)) → List ℕ
@@ -27,7 +22,7 @@ abbrev pub order_header : List (List ℕ)
 order_header = codes "order" ∷ number_names
 
 abbrev pub order_line : HasIssued → List Device → Order → List (List ℕ)
-order_line given devices o = o.name ∷ map decimal (numbers_of (yield_of given devices o))
+order_line given devices o = o.name ∷ map decimal (yield_of given devices o)
 
 abbrev pub order_report_text : HasIssued → List Order → List Device → List ℕ
 order_report_text given orders devices = report_text (order_header ∷ map (order_line given devices) orders)
@@ -40,7 +35,7 @@ abbrev pub customer_total : HasIssued → List Order → List Device → Yield
 customer_total given orders devices = total (map (yield_of given devices) orders)
 
 abbrev pub customer_line : List ℕ → HasIssued → List Order → List Device → List (List ℕ)
-customer_line customer given orders devices = customer ∷ map decimal (length orders ∷ numbers_of (customer_total given orders devices))
+customer_line customer given orders devices = customer ∷ map decimal (length orders ∷ customer_total given orders devices)
 
 -- numbers that the tables have room for
 abbrev pub AreStorable : List ℕ → Type 0

@@ -10,6 +10,7 @@ ghost use Rattle.yield_report.specs.Serials.{follows, serials_of, AreRising};
 use crate::lines::OrderLine;
 use crate::places::{begun, by_names, by_serials, place_in};
 use crate::serials::has_serial;
+use crate::yields::SERIALS_LEFT;
 use office_tables::{GivenRow, Keep, Sink, Unkept};
 use text_core::{Name, Serial};
 
@@ -57,7 +58,7 @@ fn take_from_line(line: &mut OrderLine, issuer: &Name, serial: &Serial, width: u
         return;
     }
     if line.issuer == *issuer && has_serial(&line.range, serial) {
-        line.numbers.serials_left = line.numbers.serials_left.saturating_sub(1);
+        line.numbers[SERIALS_LEFT] = line.numbers[SERIALS_LEFT].saturating_sub(1);
     }
 }
 

@@ -16,4 +16,3 @@ mod yields;
 pub use orders::order_report;
 pub use serials::has_serial;
 pub use sites::site_report;
-pub use yields::Yield;

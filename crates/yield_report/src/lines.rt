@@ -5,7 +5,7 @@ ghost use Rattle.office_tables.specs.Reading.{ReadsOnly};
 ghost use Rattle.yield_report.specs.Lines.{first_line, name_follows};
 ghost use Rattle.yield_report.specs.Lines.{AreInOrder, AreLines, GathersOrder, IsLine};
 
-use crate::yields::Yield;
+use crate::yields::{QUANTITY, SERIALS_LEFT, Yield, no_yield};
 use id_ranges::SerialRange;
 use office_tables::{Keep, Order, OrderRow, Sink, Unkept};
 use std::alloc::Global;
@@ -57,21 +57,14 @@ fn first_line(order: &Order) -> OrderLine
     ensures is_line { IsLine result }
 {
     let quantity = order.range.quantity();
+    let mut numbers = no_yield();
+    numbers[QUANTITY] = quantity;
+    numbers[SERIALS_LEFT] = quantity;
     OrderLine {
         name: order.name,
         issuer: order.issuer,
         range: order.range,
-        numbers: Yield {
-            quantity,
-            registered: 0,
-            planned: 0,
-            settled: 0,
-            identified: 0,
-            shipped: 0,
-            quarantined: 0,
-            scrapped: 0,
-            serials_left: quantity,
-        },
+        numbers,
     }
 }
 

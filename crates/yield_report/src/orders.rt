@@ -7,7 +7,7 @@ ghost use Rattle.yield_report.specs.Rows.{lines_text, AreWhole};
 use crate::devices::count_devices;
 use crate::left::take_given;
 use crate::lines::{OrderLine, order_lines};
-use crate::rows::{append_order, append_order_header};
+use crate::rows::{append_named, append_order_header};
 use office_tables::{Keep, Unkept};
 use std::alloc::{AllocError, Global};
 use text_core::Name;
@@ -33,7 +33,7 @@ fn order_text(alloc: Global, lines: &[OrderLine]) -> Result<Vec<u8>, AllocError>
     let mut text = Vec::new(alloc);
     append_order_header(alloc, &mut text)?;
     for line in lines {
-        append_order(alloc, &mut text, &line.name, &line.numbers)?;
+        append_named(alloc, &mut text, &line.name, &line.numbers)?;
     }
     Ok(text)
 }

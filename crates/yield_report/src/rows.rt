@@ -1,10 +1,10 @@
 // The text of a report: rows of comma-separated fields (RFC 4180), each with a line feed behind it.
-ghost use Rattle.std.specs.Prelude.{◌≡◌, ◌∷◌, IfOk, OnOk, decimal, map};
+ghost use Rattle.std.specs.Prelude.{◌≡◌, ◌∷◌, ◌++◌, IfOk, OnOk, decimal, map, string_bytes};
 ghost use Rattle.csv.specs.Writing.{default_writer, row_text};
-ghost use Rattle.yield_report.specs.Rows.{named_numbers, texts_in, with_report_row};
-ghost use Rattle.yield_report.specs.Texts.{numbers_of, order_header, site_header};
+ghost use Rattle.yield_report.specs.Rows.{named_numbers, with_report_row};
+ghost use Rattle.yield_report.specs.Texts.{number_names, order_header, site_header};
 
-use crate::yields::Yield;
+use crate::yields::{NAMES, Yield};
 use csv::WriterBuilder;
 use std::alloc::{AllocError, Global};
 use text_core::Name;
@@ -33,100 +33,60 @@ fn append_row(alloc: Global, text: &mut Vec<u8>, fields: &[&[u8]]) -> Result<(),
     text.extend_from_slice(row.as_slice())
 }
 
-/// The numbers of a line in decimal.
-#[derive(Drop)]
-struct NumberTexts {
-    quantity: String,
-    registered: String,
-    planned: String,
-    settled: String,
-    identified: String,
-    shipped: String,
-    quarantined: String,
-    scrapped: String,
-    serials_left: String,
-}
-
-/// The numbers of a line in decimal.
-fn number_texts(alloc: Global, numbers: &Yield) -> Result<NumberTexts, AllocError>
-    ensures { IfOk result (λ texts. texts_in texts ≡ map decimal (numbers_of numbers.now)) }
+/// Appends a header: names of its own, and those of the numbers.
+fn append_header(alloc: Global, text: &mut Vec<u8>, front: &[&[u8]]) -> Result<(), AllocError>
+    ensures { OnOk result (text.new.items
+        ≡ with_report_row text.old.items (map (λ f. f.now) front.now ++ number_names)) }
 {
-    Ok(NumberTexts {
-        quantity: numbers.quantity.to_string(alloc)?,
-        registered: numbers.registered.to_string(alloc)?,
-        planned: numbers.planned.to_string(alloc)?,
-        settled: numbers.settled.to_string(alloc)?,
-        identified: numbers.identified.to_string(alloc)?,
-        shipped: numbers.shipped.to_string(alloc)?,
-        quarantined: numbers.quarantined.to_string(alloc)?,
-        scrapped: numbers.scrapped.to_string(alloc)?,
-        serials_left: numbers.serials_left.to_string(alloc)?,
-    })
+    let mut fields = Vec::from_slice(alloc, front)?;
+    for name in NAMES {
+        fields.push(name.as_bytes())?;
+    }
+    append_row(alloc, text, fields.as_slice())
 }
 
 /// Appends the header of a customer's report.
 pub(crate) fn append_order_header(alloc: Global, text: &mut Vec<u8>) -> Result<(), AllocError>
     ensures { OnOk result (text.new.items ≡ with_report_row text.old.items order_header) }
 {
-    let header = [
-        "order".as_bytes(),
-        "quantity".as_bytes(),
-        "registered".as_bytes(),
-        "planned".as_bytes(),
-        "settled".as_bytes(),
-        "identified".as_bytes(),
-        "shipped".as_bytes(),
-        "quarantined".as_bytes(),
-        "scrapped".as_bytes(),
-        "serials_left".as_bytes(),
-    ];
-    append_row(alloc, text, &header)
-}
-
-/// Appends the line of an order.
-pub(crate) fn append_order(
-    alloc: Global,
-    text: &mut Vec<u8>,
-    order: &Name,
-    numbers: &Yield,
-) -> Result<(), AllocError>
-    ensures { OnOk result (text.new.items
-        ≡ with_report_row text.old.items (named_numbers order.now (numbers_of numbers.now))) }
-{
-    let texts = number_texts(alloc, numbers)?;
-    let fields = [
-        order.as_str().as_bytes(),
-        texts.quantity.as_bytes(),
-        texts.registered.as_bytes(),
-        texts.planned.as_bytes(),
-        texts.settled.as_bytes(),
-        texts.identified.as_bytes(),
-        texts.shipped.as_bytes(),
-        texts.quarantined.as_bytes(),
-        texts.scrapped.as_bytes(),
-        texts.serials_left.as_bytes(),
-    ];
-    append_row(alloc, text, &fields)
+    append_header(alloc, text, &["order".as_bytes()])
 }
 
 /// Appends the header of a site's report.
 pub(crate) fn append_site_header(alloc: Global, text: &mut Vec<u8>) -> Result<(), AllocError>
     ensures { OnOk result (text.new.items ≡ with_report_row text.old.items site_header) }
 {
-    let header = [
-        "customer".as_bytes(),
-        "orders".as_bytes(),
-        "quantity".as_bytes(),
-        "registered".as_bytes(),
-        "planned".as_bytes(),
-        "settled".as_bytes(),
-        "identified".as_bytes(),
-        "shipped".as_bytes(),
-        "quarantined".as_bytes(),
-        "scrapped".as_bytes(),
-        "serials_left".as_bytes(),
-    ];
-    append_row(alloc, text, &header)
+    append_header(alloc, text, &["customer".as_bytes(), "orders".as_bytes()])
+}
+
+/// Numbers in decimal.
+fn number_texts(alloc: Global, numbers: &[u64]) -> Result<Vec<String>, AllocError>
+    ensures { IfOk result (λ texts. map string_bytes texts.items ≡ map decimal numbers.now) }
+{
+    let mut texts = Vec::with_capacity(alloc, numbers.len())?;
+    for number in numbers {
+        texts.push(number.to_string(alloc)?)?;
+    }
+    Ok(texts)
+}
+
+/// Appends a line: a name, and numbers in decimal.
+pub(crate) fn append_named(
+    alloc: Global,
+    text: &mut Vec<u8>,
+    name: &Name,
+    numbers: &[u64],
+) -> Result<(), AllocError>
+    ensures { OnOk result (text.new.items
+        ≡ with_report_row text.old.items (named_numbers name.now numbers.now)) }
+{
+    let texts = number_texts(alloc, numbers)?;
+    let mut fields = Vec::with_capacity(alloc, texts.len() + 1)?;
+    fields.push(name.as_str().as_bytes())?;
+    for number in &texts {
+        fields.push(number.as_bytes())?;
+    }
+    append_row(alloc, text, fields.as_slice())
 }
 
 /// Appends the line of a customer: how many orders it has, and the sums of their numbers.
@@ -138,22 +98,9 @@ pub(crate) fn append_customer(
     sums: &Yield,
 ) -> Result<(), AllocError>
     ensures { OnOk result (text.new.items
-        ≡ with_report_row text.old.items (named_numbers customer.now (orders ∷ numbers_of sums.now))) }
+        ≡ with_report_row text.old.items (named_numbers customer.now (orders ∷ sums.now))) }
 {
-    let count = orders.to_string(alloc)?;
-    let texts = number_texts(alloc, sums)?;
-    let fields = [
-        customer.as_str().as_bytes(),
-        count.as_bytes(),
-        texts.quantity.as_bytes(),
-        texts.registered.as_bytes(),
-        texts.planned.as_bytes(),
-        texts.settled.as_bytes(),
-        texts.identified.as_bytes(),
-        texts.shipped.as_bytes(),
-        texts.quarantined.as_bytes(),
-        texts.scrapped.as_bytes(),
-        texts.serials_left.as_bytes(),
-    ];
-    append_row(alloc, text, &fields)
+    let mut numbers = Vec::from_slice(alloc, &[orders])?;
+    numbers.extend_from_slice(sums)?;
+    append_named(alloc, text, customer, numbers.as_slice())
 }

@@ -1,42 +1,25 @@
 // The report of a site.
 ghost use Rattle.std.specs.Prelude.{◌≡◌, ◌↔◌, ⊤, IfSome, IsSome};
 ghost use Rattle.office_tables.specs.Reading.{ReadsOnly};
-ghost use Rattle.yield_report.specs.Counts.{no_yield, total};
+ghost use Rattle.yield_report.specs.Counts.{total};
 ghost use Rattle.yield_report.specs.Reports.{customer_line_in, IsSiteReport};
 ghost use Rattle.yield_report.specs.Rows.{numbers_in, with_report_row, FitsCustomer};
-ghost use Rattle.yield_report.specs.Texts.{numbers_of, AreStorable};
+ghost use Rattle.yield_report.specs.Texts.{AreStorable};
 
 use crate::lines::OrderLine;
 use crate::names::customer_names;
 use crate::orders::whole_lines;
 use crate::rows::{append_customer, append_site_header};
-use crate::yields::{Yield, added};
+use crate::yields::{Yield, added, no_yield};
 use office_tables::{Keep, LARGEST_NUMBER, Unkept};
 use site_core::Site;
 use std::alloc::Global;
 use text_core::Name;
 
-/// Numbers of which nothing was counted.
-fn no_yield() -> Yield
-    ensures { result ≡ no_yield }
-{
-    Yield {
-        quantity: 0,
-        registered: 0,
-        planned: 0,
-        settled: 0,
-        identified: 0,
-        shipped: 0,
-        quarantined: 0,
-        scrapped: 0,
-        serials_left: 0,
-    }
-}
-
 /// The sums of the numbers of all lines. `None` where the tables have no room for one of them.
 fn total(lines: &[OrderLine]) -> Option<Yield>
     ensures sums { IfSome result (λ sums. sums ≡ total (numbers_in lines.now)) }
-    ensures fits { IsSome result ↔ AreStorable (numbers_of (total (numbers_in lines.now))) }
+    ensures fits { IsSome result ↔ AreStorable (total (numbers_in lines.now)) }
 {
     let mut sums = no_yield();
     for line in lines {

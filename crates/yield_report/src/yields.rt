@@ -1,33 +1,57 @@
 // The numbers of a line of a report.
-ghost use Rattle.std.specs.Prelude.{◌≡◌, ◌↔◌, IfSome, IsSome};
-ghost use Rattle.yield_report.specs.Counting.{sum_of, with_device_counted};
-ghost use Rattle.yield_report.specs.Counts.{added};
-ghost use Rattle.yield_report.specs.Texts.{numbers_of, AreStorable};
+ghost use Rattle.std.specs.Prelude.{◌≡◌, ◌↔◌, ◌<◌, IfSome, IsSome};
+ghost use Rattle.yield_report.specs.Counting.{left_place, state_place, sum_of, with_device_counted};
+ghost use Rattle.yield_report.specs.Counts.{added, no_yield};
+ghost use Rattle.yield_report.specs.Texts.{AreStorable};
 
 use office_tables::{DeviceState, LARGEST_NUMBER, one_more};
 
-/// The numbers of a line of a report: those of one order, or the sums over a customer's orders. In
-/// a report none is past 9223372036854775807.
-#[derive(Clone, Copy, Drop)]
-pub struct Yield {
-    /// How many serial numbers there are, which are as many as the devices that were ordered.
-    pub quantity: u64,
-    /// How many devices are registered and not planned yet.
-    pub registered: u64,
-    /// How many devices await either batch of their plan.
-    pub planned: u64,
-    /// How many devices have nothing pending and no serial number yet.
-    pub settled: u64,
-    /// How many devices have a serial number and aren't shipped yet.
-    pub identified: u64,
-    /// How many devices are shipped.
-    pub shipped: u64,
-    /// How many devices are quarantined, for whatever reason.
-    pub quarantined: u64,
-    /// How many devices are scrapped.
-    pub scrapped: u64,
-    /// How many of the serial numbers aren't given in their issuer, whoever gave the others.
-    pub serials_left: u64,
+/// The numbers of a line of a report, in the order of their names: those of one order, or the sums
+/// over a customer's orders. In a report none is past 9223372036854775807.
+pub(crate) type Yield = [u64; 9];
+
+/// Where the quantity stands among the numbers.
+pub(crate) const QUANTITY: usize = 0;
+
+/// Where the serial numbers that are left stand among them.
+pub(crate) const SERIALS_LEFT: usize = 8;
+
+/// The names of the numbers, in their order.
+pub(crate) const NAMES: [&str; 9] = [
+    // how many serial numbers there are, which are as many as the devices that were ordered
+    "quantity",
+    // how many devices are registered and not planned yet
+    "registered",
+    // how many devices await either batch of their plan
+    "planned",
+    // how many devices have nothing pending and no serial number yet
+    "settled",
+    // how many devices have a serial number and aren't shipped yet
+    "identified",
+    // how many devices are shipped
+    "shipped",
+    // how many devices are quarantined, for whatever reason
+    "quarantined",
+    // how many devices are scrapped
+    "scrapped",
+    // how many of the serial numbers aren't given in their issuer, whoever gave the others
+    "serials_left",
+];
+
+/// Numbers of which nothing was counted.
+pub(crate) fn no_yield() -> Yield
+    ensures { result ≡ no_yield }
+{
+    [0; 9]
+}
+
+/// Where the devices in a state are counted among the numbers: the columns of states stand behind
+/// the quantity.
+fn state_place(state: DeviceState) -> usize
+    ensures place { result ≡ state_place state }
+    ensures bound { result < left_place }
+{
+    1 + state.row().column
 }
 
 /// The numbers with one more device in a state. `None` where the tables have no room for its
@@ -35,18 +59,9 @@ pub struct Yield {
 pub(crate) fn with_device_counted(numbers: &Yield, state: DeviceState) -> Option<Yield>
     ensures { result ≡ with_device_counted state numbers.now }
 {
+    let place = state_place(state);
     let mut counted = *numbers;
-    match state {
-        DeviceState::Registered => counted.registered = one_more(numbers.registered)?,
-        DeviceState::AwaitingFirst | DeviceState::AwaitingSecond => {
-            counted.planned = one_more(numbers.planned)?;
-        }
-        DeviceState::Settled => counted.settled = one_more(numbers.settled)?,
-        DeviceState::Identified => counted.identified = one_more(numbers.identified)?,
-        DeviceState::Shipped => counted.shipped = one_more(numbers.shipped)?,
-        DeviceState::Quarantined(_) => counted.quarantined = one_more(numbers.quarantined)?,
-        DeviceState::Scrapped => counted.scrapped = one_more(numbers.scrapped)?,
-    }
+    counted[place] = one_more(numbers[place])?;
     Some(counted)
 }
 
@@ -64,17 +79,11 @@ fn sum_of(one: u64, other: u64) -> Option<u64>
 /// them.
 pub(crate) fn added(one: &Yield, other: &Yield) -> Option<Yield>
     ensures sums { IfSome result (λ sums. sums ≡ added one.now other.now) }
-    ensures fits { IsSome result ↔ AreStorable (numbers_of (added one.now other.now)) }
+    ensures fits { IsSome result ↔ AreStorable (added one.now other.now) }
 {
-    Some(Yield {
-        quantity: sum_of(one.quantity, other.quantity)?,
-        registered: sum_of(one.registered, other.registered)?,
-        planned: sum_of(one.planned, other.planned)?,
-        settled: sum_of(one.settled, other.settled)?,
-        identified: sum_of(one.identified, other.identified)?,
-        shipped: sum_of(one.shipped, other.shipped)?,
-        quarantined: sum_of(one.quarantined, other.quarantined)?,
-        scrapped: sum_of(one.scrapped, other.scrapped)?,
-        serials_left: sum_of(one.serials_left, other.serials_left)?,
-    })
+    let mut sums = *one;
+    for i in 0..9 {
+        sums[i] = sum_of(one[i], other[i])?;
+    }
+    Some(sums)
 }

@@ -1,4 +1,5 @@
 -- Why `refusals::lowest_number_is_answered` meets its contract, where that has to be said.
+use Rattle.std.proofs.Common.{arith}
 use Rattle.office_rules.specs.Machine.{refusals}
 use Rattle.office_laws.proofs.Lowest.{above, lowest_of_ascending, refusals_ascend}
 use Rattle.office_laws.proofs.refusals.lowest_number_is_answered.Goals as goal
@@ -7,4 +8,4 @@ pub returns-clause-lowest : goal.returns-clause-lowest
 returns-clause-lowest c = λ s v command r e. lowest_of_ascending 12 (refusals s v command) r (refusals_ascend s v command) e
 
 pub returns-clause-after_retry : goal.returns-clause-after_retry
-returns-clause-after_retry c = λ s v command. above 12 (refusals s v command) (refusals_ascend s v command)
+returns-clause-after_retry c = λ s v command. above 12 12 (refusals s v command) (omega arith) (refusals_ascend s v command)

@@ -14,6 +14,6 @@ loop-line-preserved c =
     let line : OrderLine = c.line-item.result in
     let more : take (i + 1) lines ≡ take i lines ++ line ∷ [] =
     take_more lines i line c.loop-line-test.true ∙ ap (λ (l : OrderLine). take i lines ++ l ∷ []) (sym c.line-item.is) in
-    c.in_ok-append_order.ensures
+    c.in_ok-append_named.ensures
     ∙ (ap (λ (text : List ℕ). text ++ row_text default_writer (line_fields line)) c.loop-line.invariant
     ∙ (lines_text_more (take i lines) line ∙ ap lines_text (sym more)))

@@ -6,7 +6,7 @@ use Rattle.office_tables.proofs.Reading.{reads_more}
 use Rattle.yield_report.specs.Reports.{customer_line_in}
 use Rattle.yield_report.specs.Rows.{FitsCustomer}
 use Rattle.yield_report.specs.Texts.{report_text, site_header}
-use Rattle.yield_report.proofs.SiteLines.{fit_more, site_is, site_more}
+use Rattle.yield_report.proofs.SiteLines.{fit_more, line_then, site_is, site_more}
 use Rattle.yield_report.proofs.sites.site_report.Goals as goal
 
 pub loop-customer-preserved : goal.loop-customer-preserved
@@ -22,12 +22,12 @@ loop-customer-preserved g c =
       text = λ is.
           let was = c.append_line.ensures.read_only.was_open is in
           let same = inv.read_only.same was in
-          let answer = rw same at (c.in_ok-append_line.ensures.answer is) in
+          let answer = line_then t _ customer c.loop-customer.text.items _ same (c.in_ok-append_line.ensures.answer is) in
           site_more t names i customer c.loop-customer.text.items _ c.loop-customer-test.true c.customer-item.is (inv.text was) answer.0;
       fit = λ is.
           let was = c.append_line.ensures.read_only.was_open is in
           let same = inv.read_only.same was in
-          let answer = rw same at (c.in_ok-append_line.ensures.answer is) in
+          let answer = line_then t _ customer c.loop-customer.text.items _ same (c.in_ok-append_line.ensures.answer is) in
           fit_more t names i customer c.loop-customer-test.true c.customer-item.is (inv.fit was) answer.1;
     }
 

@@ -1,7 +1,6 @@
 -- Why `sites::total` meets its contract, where that has to be said.
 use Rattle.std.proofs.Common.{◌∙◌, ◌+◌, rules, subst, sym}
-use Rattle.yield_report.specs.Texts.{numbers_of, AreStorable}
-use Rattle.yield_report.specs.declared.yields.Yield.{Yield}
+use Rattle.yield_report.specs.Texts.{AreStorable}
 use Rattle.yield_report.proofs.SiteLines.{front_fits, next_sum}
 use Rattle.yield_report.proofs.sites.total.Goals as goal
 
@@ -12,7 +11,7 @@ loop-line-preserved c =
       sums =
           made ∙ next_sum c.args.lines.now c.loop-line.line-index c.line-item.result c.loop-line.sums c.loop-line-test.true c.line-item.is
           c.loop-line.invariant.sums;
-      fit = subst (λ (y : Yield). AreStorable (numbers_of y)) (sym made) (c.in-Some.ensures.fits.0 (search rules));
+      fit = subst AreStorable (sym made) (c.in-Some.ensures.fits.0 (search rules));
     }
 
 pub returns-in_default-clause-fits : goal.returns-in_default-clause-fits
@@ -21,6 +20,6 @@ returns-in_default-clause-fits c =
     next_sum c.args.lines.now c.loop-line.line-index c.line-item.result c.loop-line.sums c.loop-line-test.true c.line-item.is c.loop-line.invariant.sums
     in (
       λ none. absurd (search (rules, none)),
-      λ fit. c.in_default.ensures.fits.1 (subst (λ (y : Yield). AreStorable (numbers_of y)) (sym next)
+      λ fit. c.in_default.ensures.fits.1 (subst AreStorable (sym next)
           (front_fits c.args.lines.now (c.loop-line.line-index + 1) fit)),
     )

@@ -1,0 +1,103 @@
+// What a device goes through: each action of a device with its fuse map, and what it comes to.
+ghost use Rattle.std.specs.Prelude.{◌≡◌, IfOk};
+ghost use Rattle.office_tables.specs.Reading.{ReadsOnly};
+ghost use Rattle.office_tables.specs.States.{is_one_of};
+ghost use Rattle.office_rules.specs.Actions.{rule_of};
+ghost use Rattle.office_judges.specs.Acting.{IsActed, IsActedOn};
+ghost use Rattle.office_judges.specs.Judging.{IsJudged};
+
+use crate::Judgement;
+use crate::ends::{scrap, ship};
+use crate::found_device::{find_device, map_of};
+use crate::plans::plan_device;
+use crate::readbacks::read_back;
+use crate::steps::accept_step;
+use fusemap_core::FuseMap;
+use office_commands::{Action, Change, Refusal};
+use office_rules::DeviceStep;
+use office_tables::{Device, DeviceState, Keep, Unkept};
+use site_core::Customer;
+use std::alloc::{AllocError, Global};
+use text_core::{Chip, Name};
+
+/// What an action makes of a device, and the body that answers it.
+#[derive(Drop)]
+pub struct Acted {
+    pub step: DeviceStep,
+    pub body: String,
+}
+
+/// Whether an action goes on from this state.
+fn goes_on_from(action: &Action, state: DeviceState) -> bool
+    ensures { result ≡ is_one_of (rule_of action.now).from state }
+{
+    match (action, state) {
+        (Action::Plan(_), DeviceState::Registered | DeviceState::Settled) => true,
+        (Action::ReadBack(_), DeviceState::AwaitingFirst | DeviceState::AwaitingSecond) => true,
+        (Action::Ship, DeviceState::Identified) => true,
+        (Action::Scrap, DeviceState::Shipped | DeviceState::Scrapped) => false,
+        (Action::Scrap, _) => true,
+        _ => false,
+    }
+}
+
+/// What an action makes of a device that is in a state from which it goes on, or the lowest refusal
+/// of it. It fails where there is no memory.
+fn go_on(
+    alloc: Global,
+    map: &FuseMap,
+    device: &Device,
+    action: &Action,
+) -> Result<Result<Acted, Refusal>, AllocError>
+    ensures { IfOk result (λ acted. IsActedOn action.now map.now device.now acted) }
+{
+    match action {
+        Action::Plan(wishes) => plan_device(alloc, map, device, wishes),
+        Action::ReadBack(blocks) => read_back(alloc, map, device, blocks),
+        Action::Ship => ship(alloc, map, device),
+        Action::Scrap => scrap(alloc, map, device),
+    }
+}
+
+/// What an action makes of a device, or the lowest refusal of it. It fails where there is no
+/// memory.
+fn act(
+    alloc: Global,
+    map: &FuseMap,
+    device: &Device,
+    action: &Action,
+) -> Result<Result<Acted, Refusal>, AllocError>
+    ensures { IfOk result (λ acted. IsActed action.now map.now device.now acted) }
+{
+    if goes_on_from(action, device.state) {
+        go_on(alloc, map, device, action)
+    } else {
+        Ok(Err(Refusal::WrongState))
+    }
+}
+
+/// What an action of a device comes to: the lowest refusal that holds, or the device as the action
+/// leaves it, an entry of its ledger and the body that answers. It reads only. An `Err` is want of
+/// memory or a failing store.
+pub(crate) fn judge_action<K: Keep>(
+    alloc: Global,
+    keep: &mut K,
+    customer: &Customer,
+    seat: &Name,
+    chip: &Chip,
+    action: &Action,
+) -> Result<Judgement, Unkept>
+    ensures { ReadsOnly K.Keep keep.old keep.new result (λ t judgement.
+        IsJudged customer.now seat.now t (Change.Act chip.now action.now) judgement) }
+{
+    let Some(found) = find_device(keep, customer, chip)? else {
+        return Ok(Judgement::Refused(Refusal::UnknownDevice));
+    };
+    let map = map_of(&found)?;
+    let Acted { step, body } = match act(alloc, map, &found.device, action)? {
+        Ok(acted) => acted,
+        Err(refusal) => return Ok(Judgement::Refused(refusal)),
+    };
+    let accepted = accept_step(alloc, keep, customer, seat, &step, body)?;
+    Ok(Judgement::Accepted(accepted))
+}
