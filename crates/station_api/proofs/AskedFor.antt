@@ -22,24 +22,25 @@ use Rattle.fuse_plan.specs.Numbers.{number_of_text}
 use Rattle.fuse_plan.specs.declared.wish.Want.{Want}
 use Rattle.fuse_plan.specs.declared.wish.Want.TheVariants as want
 use Rattle.fuse_plan.specs.declared.wish.Wish.{Wish}
-use Rattle.office_commands.specs.Asked.{HasDigest, IsAsked}
+use Rattle.office_commands.specs.Asked.{HasDigest, IsAction, IsAsked}
 use Rattle.office_commands.specs.Refusals.{refusal_status}
 use Rattle.office_commands.specs.NewOrders.{IsNewOrder}
 use Rattle.office_commands.specs.Wholes.{largest_whole}
+use Rattle.office_commands.specs.declared.command.Action.{Action}
+use Rattle.office_commands.specs.declared.command.Action.TheVariants.{Plan, ReadBack, Scrap, Ship}
 use Rattle.office_commands.specs.declared.command.Request.{Request}
 use Rattle.office_commands.specs.declared.command.Show.{Show}
-use Rattle.office_commands.specs.declared.new_plan.NewPlan.{NewPlan}
 use Rattle.office_commands.specs.declared.refusal.Refusal.{Refusal}
 use Rattle.office_commands.specs.declared.refusal.Refusal.TheVariants.{BadJson, BadMember}
-use Rattle.station_api.specs.Devices.{new_device_of, register_device_of}
-use Rattle.station_api.specs.Ends.{scrap_of, ship_of}
+use Rattle.station_api.specs.Acts.{act_members, act_of}
+use Rattle.station_api.specs.Devices.{blocks_member, new_device_of, register_device_of, with_block_digests}
 use Rattle.station_api.specs.Identities.{identify_of, new_identity_of}
 use Rattle.station_api.specs.Imports.{import_of, new_import_of}
 use Rattle.station_api.specs.Maps.{import_map_of}
 use Rattle.station_api.specs.Numbers.{number_member}
 use Rattle.station_api.specs.Orders.{make_order_of, new_order_of}
-use Rattle.station_api.specs.Plans.{kind_of_wish, named_plan, new_plan_of, plan_device_of, want_of, wish_in, wishes_in, wishes_of}
-use Rattle.station_api.specs.ReadBacks.{new_read_back_of, read_back_of}
+use Rattle.station_api.specs.Plans.{kind_of_wish, named_plan, plan_device_of, want_of, wish_in, wishes_in, wishes_of}
+use Rattle.station_api.specs.ReadBacks.{read_back_of}
 use Rattle.station_api.specs.Requests.{Kind as CallerKind, parse_request, parse_on_route, body_read, of_manager, of_seat, request_of, route_of, show_of, shows}
 use Rattle.station_api.specs.declared.parse.Parsed.{Parsed}
 use Rattle.station_api.specs.declared.parse.Parsed.TheVariants.{Office, Report, SiteReport}
@@ -164,33 +165,29 @@ all_within (d
     later w is_within None all = tt
     later w is_within (Some ws) all = (is_within, all)
 
--- a plan of such wishes
-abbrev IsPlanWithin : NewPlan → Type 0
-IsPlanWithin p = AllByRecursion IsWishWithin p.wishes
+-- a request that takes a device a step on is within its ranges where its action is
+act_within : (path : List ℕ) (members : Data) (action : Action) (d : Data) → IsAction action → IfSome (act_of path members action d) IsAsked
+unfolding act_of
+act_within path members action d is = each_gives IsAsked (number_member d) _ (λ number _. each_gives IsAsked (chip_member (codes "chip") d) _ (λ chip _. is))
 
--- a plan that was read is one
-plan_within : (d : Data) → IfSome (new_plan_of d) IsPlanWithin
-unfolding new_plan_of
-plan_within d = each_gives IsPlanWithin (chip_member (codes "chip") d) _ (λ chip _. each_gives IsPlanWithin (wishes_of d) _ (λ wishes is. let all = each_gives (AllByRecursion IsWishWithin) (wishes_in d) (all_of wish_in) (λ ds _. all_within ds) in rw is at all))
-
--- and so is the request for it
+-- and so is the one for a plan
 plan_device_within : (d : Data) → IfSome (plan_device_of d) IsAsked
 unfolding plan_device_of
-plan_device_within d = each_gives IsAsked (number_member d) _ (λ number _.
-    each_gives IsAsked (new_plan_of d) _ (λ plan is.
-    each_gives IsAsked (named_plan d) _ (λ members _. let all = plan_within d in rw is at all)))
+plan_device_within d = each_gives IsAsked (wishes_of d) _ (λ wishes is.
+    each_gives IsAsked (named_plan d) _ (λ members _. act_within (codes "/v1/plan") members (Plan wishes) d
+    (let all = each_gives (AllByRecursion IsWishWithin) (wishes_in d) (all_of wish_in) (λ ds _. all_within ds) in rw is at all)))
 
 -- the others have nothing that could be out of its range
-request_within : (command : Posted) (d : Data) → IfSome (request_of command d) IsAsked
-unfolding import_map_of register_device_of read_back_of identify_of ship_of scrap_of import_of
+request_within : (posted : Posted) (d : Data) → IfSome (request_of posted d) IsAsked
+unfolding import_map_of register_device_of read_back_of identify_of import_of
 request_within posted.Order d = make_order_within d
 request_within posted.Map d = each_gives IsAsked (number_member d) _ (λ number _. each_gives IsAsked (text_member (codes "text") d) _ (λ text _. tt))
 request_within posted.Device d = each_gives IsAsked (number_member d) _ (λ number _. each_gives IsAsked (new_device_of d) _ (λ device _. tt))
 request_within posted.Plan d = plan_device_within d
-request_within posted.ReadBack d = each_gives IsAsked (number_member d) _ (λ number _. each_gives IsAsked (new_read_back_of d) _ (λ read _. tt))
+request_within posted.ReadBack d = each_gives IsAsked (blocks_member (codes "blocks") d) _ (λ blocks _. act_within (codes "/v1/readback") (with_block_digests act_members d blocks) (ReadBack blocks) d tt)
 request_within posted.Identity d = each_gives IsAsked (number_member d) _ (λ number _. each_gives IsAsked (new_identity_of d) _ (λ identity _. tt))
-request_within posted.Ship d = each_gives IsAsked (number_member d) _ (λ number _. each_gives IsAsked (chip_member (codes "chip") d) _ (λ chip _. tt))
-request_within posted.Scrap d = each_gives IsAsked (number_member d) _ (λ number _. each_gives IsAsked (chip_member (codes "chip") d) _ (λ chip _. tt))
+request_within posted.Ship d = act_within (codes "/v1/ship") _ Ship d tt
+request_within posted.Scrap d = act_within (codes "/v1/scrap") _ Scrap d tt
 request_within posted.Import d = each_gives IsAsked (number_member d) _ (λ number _. each_gives IsAsked (new_import_of d) _ (λ import _. tt))
 
 -- what such a caller may ask for, within its ranges; and no refusal of what was asked is a 503
@@ -210,14 +207,14 @@ found_within None is_within = refl
 found_within (Some request) is_within = is_within
 
 -- so is what was read of a body
-body_within : (command : Posted) (body : List ℕ) → IsWithin of_seat (result_map Office (body_read command body))
-body_within command body = by (json_of body)
+body_within : (posted : Posted) (body : List ℕ) → IsWithin of_seat (result_map Office (body_read posted body))
+body_within posted body = by (json_of body)
   where
     by : (read : Option Data)
         → IsWithin of_seat (result_map Office (result_and_then (λ members.
-        ok_or (request_of command members) BadMember) (ok_or read BadJson)))
+        ok_or (request_of posted members) BadMember) (ok_or read BadJson)))
     by None = refl
-    by (Some members) = found_within (request_of command members) (request_within command members)
+    by (Some members) = found_within (request_of posted members) (request_within posted members)
 
 -- and what was read of a query
 shown_within : (found : Option Show) → IsWithin of_seat (result_map Office (ok_or (option_map shows found) BadMember))
@@ -228,10 +225,10 @@ shown_within (Some show) = tt
 route_within : (route : Option Route) (kind : CallerKind) (query body : List ℕ) → IsWithin kind (parse_on_route route kind query body)
 route_within None of_seat query body = refl
 route_within None of_manager query body = refl
-route_within (Some (Posts command)) of_seat query body = body_within command body
-route_within (Some (Posts command)) of_manager query body = refl
-route_within (Some (Shows command)) of_seat query body = shown_within (show_of command query)
-route_within (Some (Shows command)) of_manager query body = refl
+route_within (Some (Posts posted)) of_seat query body = body_within posted body
+route_within (Some (Posts posted)) of_manager query body = refl
+route_within (Some (Shows shown)) of_seat query body = shown_within (show_of shown query)
+route_within (Some (Shows shown)) of_manager query body = refl
 route_within (Some Reports) of_seat query body = tt
 route_within (Some Reports) of_manager query body = refl
 route_within (Some ReportsSite) of_seat query body = refl

@@ -4,10 +4,10 @@ pub mod Maps
 pub mod Numbers
 pub mod Devices
 pub mod Orders
+pub mod Acts
 pub mod Plans
 pub mod ReadBacks
 pub mod Identities
-pub mod Ends
 pub mod Imports
 pub mod Requests
 pub mod HttpAnswers

@@ -1,0 +1,12 @@
+-- Why `act::act_request` meets its contract, where that has to be said.
+use Rattle.std.proofs.Common.{sym}
+use Rattle.std.specs.Prelude.{codes}
+use Rattle.serde_json.specs.View.{view}
+use Rattle.station_api.proofs.Members.{chip_member_lacks, whole_member_lacks}
+use Rattle.station_api.proofs.act.act_request.Goals as goal
+
+pub request_digest-requires : goal.request_digest-requires
+request_digest-requires c =
+    let d = view c.args.value.now in
+    c.requires (chip_member_lacks (codes "chip") d _ (sym c.in-Some-chip_member.ensures))
+    (whole_member_lacks (codes "nr") 1 9007199254740991 d _ (sym c.in-Some.ensures.value))
