@@ -25,7 +25,6 @@ use Rattle.office_tables.specs.States.{state_row}
 use Rattle.office_tables.specs.declared.rows.OfCustomer.{OfCustomer}
 use Rattle.office_tables.specs.declared.rows.Device.{Device}
 use Rattle.office_tables.specs.declared.rows.DeviceState.{DeviceState}
-use Rattle.office_tables.specs.declared.rows.DeviceState.TheVariants.{Registered, AwaitingFirst, AwaitingSecond, Settled, Identified, Shipped}
 use Rattle.office_tables.specs.declared.rows.DeviceState.TheVariants.{Quarantined, Scrapped}
 use Rattle.office_tables.specs.declared.rows.Reason.TheVariants as reason
 use Rattle.office_tables.specs.declared.rows.Write.TheVariants.{AddDevice, PutDevice}
