@@ -33,7 +33,8 @@ pushed_in : (devices : List Device) (d : Device) (column : ℕ)
 pushed_in devices d column =
     let test : Device → Bool = λ e. (state_row e.state).column == column in
     let all = ap length (filter-append test devices (d ∷ [])) in
-    all ∙ elim (test d) as (λ b. length (filter test devices ++ cond b (d ∷ []) []) ≡ (if b then length (filter test devices) + 1 else length (filter test devices))) [
+    let before = length (filter test devices) in
+    all ∙ elim (test d) as (λ b. length (filter test devices ++ cond b (d ∷ []) []) ≡ (if b then before + 1 else before)) [
       | true ↦ length-append (filter test devices) (d ∷ [])
       | false ↦ ap length (append-nil (filter test devices))
     ]
