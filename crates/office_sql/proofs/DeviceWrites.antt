@@ -25,7 +25,6 @@ use Rattle.office_tables.specs.States.{state_row}
 use Rattle.office_tables.specs.declared.rows.OfCustomer.{OfCustomer}
 use Rattle.office_tables.specs.declared.rows.Device.{Device}
 use Rattle.office_tables.specs.declared.rows.DeviceState.{DeviceState}
-use Rattle.office_tables.specs.declared.rows.DeviceState.TheVariants.{Registered, AwaitingFirst, AwaitingSecond, Settled, Identified, Shipped}
 use Rattle.office_tables.specs.declared.rows.DeviceState.TheVariants.{Quarantined, Scrapped}
 use Rattle.office_tables.specs.declared.rows.Reason.TheVariants as reason
 use Rattle.office_tables.specs.declared.rows.Write.TheVariants.{AddDevice, PutDevice}
@@ -83,7 +82,9 @@ state_read_back (Quarantined reason.Key) = refl
 state_read_back _ = refl
 
 state_back : (s : DeviceState) → state_in (state_row s).text (text_if (text_value (option_map reason_text (state_row s).reason))) ≡ s
-state_back s = ap (state_in (state_row s).text) (text_back (option_map reason_text (state_row s).reason)) ∙ ap (λ found. unwrap_or found Scrapped) (state_read_back s)
+state_back s =
+    ap (state_in (state_row s).text) (text_back (option_map reason_text (state_row s).reason))
+    ∙ ap (λ found. unwrap_or found Scrapped) (state_read_back s)
 
 pub device_back : (id : ℤ) (d : OfCustomer Device) → device_in_row (Int id ∷ device_columns d) ≡ d
 device_back id d = ap₂ (λ s t. record d { row = record d.row { state = s; serial = t } }) (state_back d.row.state) (text_back d.row.serial)

@@ -48,7 +48,8 @@ one_counted one p n more is stays sets o =
     ] refl
 
 -- one that is given up takes no place
-pub none_counted : (one : OrderState) (p : OrderPlaces) → (state_row one.state).is_given_up ≡ true → (o : List ℕ) → number_at o p ≡ number_at o p + cond (takes o one) 1 0
+pub none_counted : (one : OrderState) (p : OrderPlaces) → (state_row one.state).is_given_up ≡ true
+    → (o : List ℕ) → number_at o p ≡ number_at o p + cond (takes o one) 1 0
 none_counted one p gone o =
     elim (bytes_eq o one.order) as (λ b. number_at o p
     ≡ number_at o p + cond (b

@@ -34,7 +34,9 @@ lines_gathered old (row ∷ rows) new (false, mid, taken, later) room =
 
 pub lines_fit : (old : OrderScan) (rows : List (OfCustomer Order)) (new : OrderScan) → Visits GathersOrder old rows new → new.is_stopped ≡ false
     → AreLines old.lines.items → AreLines new.lines.items
-lines_fit = kept_on_walk GathersOrder (λ s. AreLines s.lines.items) (λ s. s.is_stopped) (λ s r t taken. taken.are_lines refl) (λ s r t taken. taken.stopped refl)
+lines_fit =
+    kept_on_walk GathersOrder (λ s. AreLines s.lines.items) (λ s. s.is_stopped) (λ s r t taken. taken.are_lines refl)
+    (λ s r t taken. taken.stopped refl)
 
 -- a line whose name follows those of the others
 pub pushed_in_order : (lines pushed : List OrderLine) (line : OrderLine) → pushed ≡ lines ++ line ∷ [] → name_follows lines line.name ≡ true
@@ -63,4 +65,6 @@ none_in_order = tt
 
 pub lines_in_order : (old : OrderScan) (rows : List (OfCustomer Order)) (new : OrderScan) → Visits GathersOrder old rows new → new.is_stopped ≡ false
     → AreInOrder old.lines.items → AreInOrder new.lines.items
-lines_in_order = kept_on_walk GathersOrder (λ s. AreInOrder s.lines.items) (λ s. s.is_stopped) (λ s r t taken. taken.in_order refl) (λ s r t taken. taken.stopped refl)
+lines_in_order =
+    kept_on_walk GathersOrder (λ s. AreInOrder s.lines.items) (λ s. s.is_stopped) (λ s r t taken. taken.in_order refl)
+    (λ s r t taken. taken.stopped refl)

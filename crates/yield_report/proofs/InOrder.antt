@@ -1,5 +1,6 @@
 -- Lists in order, and lists of which a function changes one element.
-use Rattle.std.proofs.Common.{◌≡◌, ◌⊎◌, ℕ, zero, suc, ◌+◌, ◌<◌, Bool, true, false, cond, List, [], ◌∷◌, map, length, get_or, slice_set, Ordering, Less, Equal, Greater}
+use Rattle.std.proofs.Common.{◌≡◌, ◌⊎◌, ℕ, zero, suc, ◌+◌, ◌<◌, Bool, true, false, cond, List, [], ◌∷◌, map, length}
+use Rattle.std.proofs.Common.{get_or, slice_set, Ordering, Less, Equal, Greater}
 use Rattle.std.proofs.Common.{inl, inr, refl, sym, ap, ap₂, ◌∙◌, subst, arith}
 use Rattle.std.specs.Cmp.{IsTotalOrder}
 use Rattle.std.specs.List.{AllByRecursion, Contains}
@@ -29,8 +30,10 @@ pub kept_on_walk : {S R : Type 0} (step : S → R → Bool → S → Type 0) (P 
     → ((s : S) (r : R) (t : S) → step s r true t → P s → P t) → ((s : S) (r : R) (t : S) → step s r false t → is_over t ≡ true)
     → (s : S) (rows : List R) (t : S) → Visits step s rows t → is_over t ≡ false → P s → P t
 kept_on_walk step P is_over keeps ends s [] t v on p = rw v p
-kept_on_walk step P is_over keeps ends s (r ∷ rows) t (true, mid, taken, later) on p = kept_on_walk step P is_over keeps ends mid rows t later on (keeps s r mid taken p)
-kept_on_walk step P is_over keeps ends s (r ∷ rows) t (false, mid, taken, later) on p = absurd (both_ways (is_over t) on (ap is_over later ∙ ends s r mid taken))
+kept_on_walk step P is_over keeps ends s (r ∷ rows) t (true, mid, taken, later) on p =
+    kept_on_walk step P is_over keeps ends mid rows t later on (keeps s r mid taken p)
+kept_on_walk step P is_over keeps ends s (r ∷ rows) t (false, mid, taken, later) on p =
+    absurd (both_ways (is_over t) on (ap is_over later ∙ ends s r mid taken))
 
 -- a function that changes the element at i alone
 pub map_at : {X : Type 0} (f : X → X) (xs : List X) (i : ℕ) (x : X) → i < length xs → x ≡ get_or xs i x

@@ -23,8 +23,9 @@ customer_is customer t lines sums count before after is summed counted low fit t
     let given = has_issued_in t in
     let orders = rows_of customer t.orders in
     let devices = rows_of customer t.devices in
+    let whole = map_both (λ (l : OrderLine). l.numbers) (whole_line given devices) _ (λ o. refl) orders in
     let all : sums ≡ customer_total given orders devices =
-    summed ∙ (ap (λ (ls : List OrderLine). total (numbers_in ls)) is.0 ∙ ap total (map_both (λ (l : OrderLine). l.numbers) (whole_line given devices) _ (λ o. refl) orders)) in
+    summed ∙ (ap (λ (ls : List OrderLine). total (numbers_in ls)) is.0 ∙ ap total whole) in
     let number : count ≡ length orders = counted ∙ (ap length is.0 ∙ length-map orders (whole_line given devices)) in
     let both : AreStorable (count ∷ sums) = (low, fit) in
     (text ∙ ap₂ (λ (n : ℕ) (y : Yield). with_report_row before (named_numbers customer (n ∷ y))) number all, rw (number, all) at both)
@@ -40,7 +41,8 @@ pub site_more : (t u : Tables) (names : List (List ℕ)) (i : ℕ) (customer bef
 site_more t u names i customer before after within here was same answer =
     let line = subst (λ v. (after ≡ with_report_row before (customer_line_in v customer)) × FitsCustomer v customer) same answer in
     let rows = map (customer_line_in t) (take i names) in
-    let more : take (i + 1) names ≡ take i names ++ customer ∷ [] = take_more names i customer within ∙ ap (λ (c : List ℕ). take i names ++ c ∷ []) (sym here) in
+    let more : take (i + 1) names ≡ take i names ++ customer ∷ [] =
+    take_more names i customer within ∙ ap (λ (c : List ℕ). take i names ++ c ∷ []) (sym here) in
     subst (λ ns. IsReported t ns after) (sym more) (
       line.0 ∙ (ap (λ text. with_report_row text (customer_line_in t customer)) was.0 ∙ (report_more site_header rows (customer_line_in t customer)
           ∙ ap (λ (rs : List (List (List ℕ))). report_text (site_header ∷ rs)) (sym (map_push (customer_line_in t) (take i names) customer)))),

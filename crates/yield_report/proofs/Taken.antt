@@ -23,7 +23,8 @@ less_none line =
     λ i. record line { numbers = same i }
 
 less_at : (place a b c : ℕ) (y : Yield) → a + b ≡ c
-    → (let less_a = slice_set y place (slice_index y place - a) in slice_set less_a place (slice_index less_a place - b)) ≡ slice_set y place (slice_index y place - c)
+    → (let less_a = slice_set y place (slice_index y place - a) in slice_set less_a place (slice_index less_a place - b))
+    ≡ slice_set y place (slice_index y place - c)
 less_at place a b c [] e = refl
 less_at zero a b c (n ∷ y) e = ap (λ m. m ∷ y) (omega (arith, e))
 less_at (suc place) a b c (n ∷ y) e = ap (λ ns. n ∷ ns) (less_at place a b c y e)
@@ -67,18 +68,23 @@ serials_rise old (row ∷ rows) new (false, mid, takes, later) ordered = let e =
 
 pub serials_fit : (old : GivenScan) (rows : List (OfCustomer Given)) (new : GivenScan) → Visits TakesSerial old rows new → new.is_unordered ≡ false
     → AreLines old.lines.items → AreLines new.lines.items
-serials_fit = kept_on_walk TakesSerial (λ s. AreLines s.lines.items) (λ s. s.is_unordered) (λ s r t takes. takes.are_lines refl) (λ s r t takes. takes.unordered refl)
+serials_fit =
+    kept_on_walk TakesSerial (λ s. AreLines s.lines.items) (λ s. s.is_unordered) (λ s r t takes. takes.are_lines refl)
+    (λ s r t takes. takes.unordered refl)
 
 -- and took all of them, of lines that are apart
 pub serials_taken : (old : GivenScan) (rows : List (OfCustomer Given)) (new : GivenScan) → Visits TakesSerial old rows new → new.is_unordered ≡ false
     → AreLines old.lines.items → AreApart old.lines.items → new.lines.items ≡ map (taken old.issuer (serials_in rows)) old.lines.items
-serials_taken old [] new v ordered are apart = ap (λ (s : GivenScan). s.lines.items) v ∙ sym ((λ i. map (λ l. taken_none old.issuer l i) old.lines.items) ∙ map-id old.lines.items)
+serials_taken old [] new v ordered are apart =
+    let none = (λ i. map (λ l. taken_none old.issuer l i) old.lines.items) ∙ map-id old.lines.items in
+    ap (λ (s : GivenScan). s.lines.items) v ∙ sym none
 serials_taken old (row ∷ rows) new (true, mid, takes, later) ordered are apart =
     let here = takes.lines refl are apart in
     let stays : AreApart mid.lines.items = subst AreApart (sym here)
     (apart_map (taken old.issuer (row.row.serial ∷ [])) (issuer_taken old.issuer (row.row.serial ∷ [])) (range_taken old.issuer (row.row.serial ∷ []))
     old.lines.items apart) in
     let rest = rw (takes.issuer refl, here) at (serials_taken mid rows new later ordered (takes.are_lines refl are) stays) in
-    rest ∙ map_both (taken old.issuer (serials_in rows)) (taken old.issuer (row.row.serial ∷ [])) _ (taken_more old.issuer row.row.serial (serials_in rows)) old.lines.items
+    rest ∙ map_both (taken old.issuer (serials_in rows)) (taken old.issuer (row.row.serial ∷ [])) _
+    (taken_more old.issuer row.row.serial (serials_in rows)) old.lines.items
 serials_taken old (row ∷ rows) new (false, mid, takes, later) ordered are apart =
     let e = unordered_since mid new later (takes.unordered refl) ordered in absurd (cc e)

@@ -13,8 +13,7 @@ use Rattle.id_ranges.specs.NextSerial.{is_unused}
 use Rattle.id_ranges.specs.Range.{numbers}
 use Rattle.office_tables.specs.declared.rows.Device.{Device}
 use Rattle.office_tables.specs.declared.rows.DeviceState.{DeviceState}
-use Rattle.office_tables.specs.declared.rows.DeviceState.TheVariants.{Registered, AwaitingFirst, AwaitingSecond, Settled, Identified, Shipped, Quarantined}
-use Rattle.office_tables.specs.declared.rows.DeviceState.TheVariants.{Scrapped}
+use Rattle.office_tables.specs.declared.rows.DeviceState.TheVariants.{Registered}
 use Rattle.office_tables.specs.declared.rows.Order.{Order}
 use Rattle.office_tables.specs.States.{state_row}
 use Rattle.office_tables.specs.Tables.{Tables, rows_of, text_cmp}
@@ -34,7 +33,8 @@ pushed_in : (devices : List Device) (d : Device) (column : ℕ)
 pushed_in devices d column =
     let test : Device → Bool = λ e. (state_row e.state).column == column in
     let all = ap length (filter-append test devices (d ∷ [])) in
-    all ∙ elim (test d) as (λ b. length (filter test devices ++ cond b (d ∷ []) []) ≡ (if b then length (filter test devices) + 1 else length (filter test devices))) [
+    let before = length (filter test devices) in
+    all ∙ elim (test d) as (λ b. length (filter test devices ++ cond b (d ∷ []) []) ≡ (if b then before + 1 else before)) [
       | true ↦ length-append (filter test devices) (d ∷ [])
       | false ↦ ap length (append-nil (filter test devices))
     ]
@@ -42,13 +42,7 @@ pushed_in devices d column =
 with_state : (quantity left : ℕ) (f : ℕ → ℕ) (s : DeviceState) → with_device s (quantity ∷ (map f columns ++ left ∷ []))
     ≡ quantity ∷ (map (λ column. if (state_row s).column == column then f column + 1 else f column) columns ++ left ∷ [])
 with_state quantity left f Registered = refl
-with_state quantity left f AwaitingFirst = refl
-with_state quantity left f AwaitingSecond = refl
-with_state quantity left f Settled = refl
-with_state quantity left f Identified = refl
-with_state quantity left f Shipped = refl
-with_state quantity left f (Quarantined why) = refl
-with_state quantity left f Scrapped = refl
+with_state quantity left f _ = refl
 
 -- and with all
 with_all : (o : Order) (left : ℕ) (before devices : List Device)
@@ -87,8 +81,9 @@ pub report_of_lines : (customer : List ℕ) (t : Tables) (lines : List OrderLine
     → IsOrderReport customer t text
 report_of_lines customer t lines text is are answer =
     let given = has_issued_in t in
-    let devices = rows_of customer t.devices in (
-      answer ∙ (ap lines_text is ∙ ap (λ rows. report_text (order_header ∷ rows)) (map_both line_fields (whole_line given devices) _ (λ o. refl) (rows_of customer t.orders))),
+    let devices = rows_of customer t.devices in
+    let fields = map_both line_fields (whole_line given devices) _ (λ o. refl) (rows_of customer t.orders) in (
+      answer ∙ (ap lines_text is ∙ ap (λ rows. report_text (order_header ∷ rows)) fields),
       numbers_fit given devices (rows_of customer t.orders) (recursion_from_All IsLine _ (rw is at are)),
     )
 

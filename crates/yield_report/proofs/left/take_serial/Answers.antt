@@ -21,8 +21,10 @@ loop-width-preserved c =
     let before = c.args.lines.now.items in
     record {
       lines = λ are apart.
-          c.take_in_width.ensures.lines (inv.are_lines are) (subst AreApart (sym (inv.lines are apart)) (below_apart width issuer serial before apart))
-          ∙ (ap (map (taken_in width issuer (serial ∷ []))) (inv.lines are apart) ∙ map_both (taken_in width issuer (serial ∷ [])) (taken_below width issuer serial) _ (below_more width issuer serial) before);
+          let still = subst AreApart (sym (inv.lines are apart)) (below_apart width issuer serial before apart) in
+          let both = map_both (taken_in width issuer (serial ∷ [])) (taken_below width issuer serial) _ (below_more width issuer serial) before in
+          c.take_in_width.ensures.lines (inv.are_lines are) still
+          ∙ (ap (map (taken_in width issuer (serial ∷ []))) (inv.lines are apart) ∙ both);
       are_lines = λ are. c.take_in_width.ensures.are_lines (inv.are_lines are);
     }
 
