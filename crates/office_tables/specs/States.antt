@@ -21,78 +21,22 @@ pub record StateRow : Type 0 where
   pub column : ℕ
 
 abbrev pub state_row : DeviceState → StateRow
-state_row Registered = record {
-  number = 0;
-  text = codes "registered";
-  reason = None;
-  is_given_up = false;
-  may_have_serial = false;
-  pending = Neither;
-  column = 0;
-}
-state_row AwaitingFirst = record {
-  number = 1;
-  text = codes "awaiting1";
-  reason = None;
-  is_given_up = false;
-  may_have_serial = false;
-  pending = Both;
-  column = 1;
-}
-state_row AwaitingSecond = record {
-  number = 2;
-  text = codes "awaiting2";
-  reason = None;
-  is_given_up = false;
-  may_have_serial = false;
-  pending = Second;
-  column = 1;
-}
-state_row Settled = record {
-  number = 3;
-  text = codes "settled";
-  reason = None;
-  is_given_up = false;
-  may_have_serial = false;
-  pending = Neither;
-  column = 2;
-}
-state_row Identified = record {
-  number = 4;
-  text = codes "identified";
-  reason = None;
-  is_given_up = false;
-  may_have_serial = true;
-  pending = Neither;
-  column = 3;
-}
-state_row Shipped = record {
-  number = 5;
-  text = codes "shipped";
-  reason = None;
-  is_given_up = false;
-  may_have_serial = true;
-  pending = Neither;
-  column = 4;
-}
-state_row (Quarantined why) = record {
-  number = 6;
-  text = codes "quarantined";
-  reason = Some why;
-  is_given_up = true;
-  may_have_serial = false;
-  pending = Neither;
-  column = 5;
-}
-state_row Scrapped = record {
-  number = 7;
-  text = codes "scrapped";
-  reason = None;
-  is_given_up = true;
-  may_have_serial = true;
-  pending = Neither;
-  column = 6;
-}
+state_row Registered =
+    record { number = 0; text = codes "registered"; reason = None; is_given_up = false; may_have_serial = false; pending = Neither; column = 0 }
+state_row AwaitingFirst =
+    record { number = 1; text = codes "awaiting1"; reason = None; is_given_up = false; may_have_serial = false; pending = Both; column = 1 }
+state_row AwaitingSecond =
+    record { number = 2; text = codes "awaiting2"; reason = None; is_given_up = false; may_have_serial = false; pending = Second; column = 1 }
+state_row Settled =
+    record { number = 3; text = codes "settled"; reason = None; is_given_up = false; may_have_serial = false; pending = Neither; column = 2 }
+state_row Identified =
+    record { number = 4; text = codes "identified"; reason = None; is_given_up = false; may_have_serial = true; pending = Neither; column = 3 }
+state_row Shipped =
+    record { number = 5; text = codes "shipped"; reason = None; is_given_up = false; may_have_serial = true; pending = Neither; column = 4 }
+state_row (Quarantined why) =
+    record { number = 6; text = codes "quarantined"; reason = Some why; is_given_up = true; may_have_serial = false; pending = Neither; column = 5 }
+state_row Scrapped =
+    record { number = 7; text = codes "scrapped"; reason = None; is_given_up = true; may_have_serial = true; pending = Neither; column = 6 }
 
 -- the state is one of these, whatever the reason of a quarantine
 abbrev pub is_one_of : List DeviceState → DeviceState → Bool
