@@ -93,8 +93,8 @@ async function told(call) {
   try {
     return { told: (await call()) ?? null };
   } catch (error) {
-    const { name, no, number, expected, status, message } = error;
-    return { name, no, number, expected, status, message };
+    const { name, code, no, number, expected, status, message } = error;
+    return { name, code, no, number, expected, status, message };
   }
 }
 
