@@ -421,8 +421,8 @@ def _in_turn(call: Callable[..., Any]) -> Callable[..., Any]:
 
 class Station:
     """A seat: one process and one request at a time. `file` is its state file, without which it only shows, `patience`
-    how many seconds it asks for a reply, `timeout` how many it waits for a whole one, `context` an `ssl.SSLContext` for https, `journal` a
-    `wanekupo_journal.Journal`, the station's own log.
+    how many seconds it asks for a reply, `timeout` how many it waits for a whole one, `context` an `ssl.SSLContext` for
+    https, `journal` a `wanekupo_journal.Journal`, the station's own log.
 
     Its connection is kept between requests, and made anew where the other side has closed it."""
 

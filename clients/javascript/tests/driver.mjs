@@ -31,8 +31,8 @@ function killedAt(step) {
 }
 
 /**
- * A chip in a file that has the blocks it shows, which takes the words of espefuse in its own time; BLOCK1 may be locked
- * for reading.
+ * A chip in a file that has the blocks it shows, which takes the words of espefuse in its own time; BLOCK1 may be
+ * locked for reading.
  */
 class Held {
   constructor(file, files) {

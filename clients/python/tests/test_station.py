@@ -18,9 +18,9 @@ import signal
 import subprocess
 import sys
 import tempfile
-import threading
 import time
 import unittest
+from concurrent.futures import ThreadPoolExecutor
 from pathlib import Path
 from unittest import mock
 
@@ -119,8 +119,8 @@ class Commands(StationCase):
         self.assertEqual(done.reply, {"chip": MAC, "state": "shipped"})
 
     def test_the_life_in_the_readme(self):
-        """The script as it stands, where `espefuse.py` is the simulated chip; run again it changes nothing. Of a chip that
-        is lost it says so."""
+        """The script as it stands, where `espefuse.py` is the simulated chip; run again it changes nothing. Of a chip
+        that is lost it says so."""
         self.station(file="other.json").make_order(**ORDER)
         text = re.search(r"^```python\n(.*?)^```$", README.read_text(encoding="utf-8"), re.MULTILINE | re.DOTALL)[1]
         (self.folder / "life.py").write_text(text.replace("http://127.0.0.1:8080", self.program.url), encoding="utf-8")
@@ -459,6 +459,15 @@ class Once(StationCase):
         self.assertEqual(station.import_serials("acme-ca", rows("Z2")), Imported(1, 0))
         self.assertEqual(station.expected_number(), 5)
 
+    def test_calls_of_several_threads(self):
+        """They wait for each other; a seat without a state file asks for its number once."""
+        station, names = self.station(), ("o1", "o2", "o3", "o4")
+        orders = [{**ORDER, "name": name, "first": 2 * place, "macs": 0} for place, name in enumerate(names)]
+        with ThreadPoolExecutor(len(orders)) as pool:
+            made = list(pool.map(lambda order: station.make_order(**order), orders))
+        self.assertEqual([order.next for order in made], ["A000", "A002", "A004", "A006"])
+        self.assertEqual(station.expected_number(), 5)
+
     def test_a_repeat_that_is_refused_was_never_done(self):
         """A request whose first sending was lost is judged at its second, and takes no number where it is refused."""
         station = self.station(self.proxy(["lost request"]).url)
@@ -474,6 +483,10 @@ class Once(StationCase):
         station.import_map(MAP)
         with self.assertRaises(BadStateFile):
             self.station()
+        if os.name == "posix":
+            (self.folder / "link.json").symlink_to("a1.json")
+            with self.assertRaises(BadStateFile):
+                self.station(file="link.json")
         station.close()
         if os.name == "posix":
             self.assertEqual((self.folder / "a1.json").stat().st_mode & 0o777, 0o600)
