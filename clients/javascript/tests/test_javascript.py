@@ -288,8 +288,8 @@ class JavaScript(StationCase):
         half = journal.read_bytes() + b'{"at":"2026-'  # as while a line is written
         journal.write_bytes(half)
         other = {"token": "hello", "file": str(self.folder / "other.json")}
-        for options in ({}, {"file": str(link)}, other):
-            self.assertEqual(self.thrown(lambda: self.driven(journal=str(journal), **options)).name, "BadStateFile")
+        for options in ({"journal": str(journal)}, {"file": str(link)}, {"journal": str(journal), **other}):
+            self.assertEqual(self.thrown(lambda: self.driven(**options)).name, "BadStateFile")
         with self.assertRaises(BadStateFile):
             self.station()
         self.assertEqual(journal.read_bytes(), half)
