@@ -7,7 +7,7 @@
  * file of clients/python.
  *
  * `Espefuse` reads and burns a chip by espefuse.py; `commands` are the words of it that burn a batch. Node 18 or later,
- * no package.
+ * no package; the program `flock`, which each Linux has.
  */
 
 import { spawnSync } from "node:child_process";
@@ -15,9 +15,8 @@ import { createHash } from "node:crypto";
 import fs from "node:fs";
 import http from "node:http";
 import https from "node:https";
-import net from "node:net";
 import path from "node:path";
-import { setImmediate, setTimeout } from "node:timers/promises";
+import { setImmediate, setTimeout as pausedFor } from "node:timers/promises";
 import { isDeepStrictEqual } from "node:util";
 
 // The longest body that the server reads, and a number that no seat comes to.
@@ -43,13 +42,31 @@ const WRONG_NUMBER = 11;
 const OTHER_BODY = 12;
 const UNKNOWN_DEVICE = 15;
 
+// What is sent as a token, and so can be: visible ASCII.
+const TOKEN = /^[\x21-\x7e]+$/;
+
+// The members of an accepted reply, by the request's path. A chip and a name are those that were asked for.
+const REPLIES = {
+  "/v1/order": ["name", "next"],
+  "/v1/map": ["map"],
+  "/v1/device": ["chip", "state"],
+  "/v1/plan": ["batch1", "batch2", "state"],
+  "/v1/readback": ["outcome", "rest", "state"],
+  "/v1/identity": ["chip", "serial"],
+  "/v1/ship": ["chip", "state"],
+  "/v1/scrap": ["chip", "state"],
+  "/v1/import": ["added", "present"],
+  "/v1/ledger": ["chip", "entries"],
+};
+const ECHOED = ["chip", "name"];
+
 // The keys that espefuse burns with the bytes of their file in reverse order.
 const REVERSED = ["flash_encryption", "secure_boot_v1"];
 
 const DUMPED = /^BLOCK(\d+) .*\[\d+ *\] read_regs:((?: [0-9a-f]{8})+) *$/gm;
 
-// More than a line of a journal has.
-const LONGEST_LINE = 1 << 17;
+// More than a line of a journal has: a body of two bytes a letter has six there.
+const LONGEST_LINE = 1 << 18;
 
 /** What a station can't do by itself. */
 export class StationError extends Error {
@@ -90,7 +107,7 @@ export class NotTheServer extends StationError {}
 /** Another request is under way: `finish` it first. */
 export class UnderWay extends StationError {}
 
-/** The state file is in use, another seat's, or damaged. */
+/** The state file or the journal is in use, another seat's, or damaged. */
 export class BadStateFile extends StationError {}
 
 /** The SHA-256 of bytes, or of a text's. */
@@ -247,24 +264,33 @@ function replaceFile(file, text) {
   syncFolder(path.dirname(file));
 }
 
-/** Whether a process listens on a socket's path. */
-function isListenedOn(socket) {
-  return new Promise((resolve) => {
-    const asked = net.connect(socket);
-    asked.once("connect", () => resolve(true)).once("error", () => resolve(false));
-    asked.once("connect", () => asked.destroy());
-  });
+/** A file's own name, whatever links lead to it: two names of one file have one lock. */
+function ownName(file) {
+  const link = fs.lstatSync(file, { throwIfNoEntry: false });
+  return link ? fs.realpathSync(file) : path.join(fs.realpathSync(path.dirname(file)), path.basename(file));
 }
 
-/** Listens on a socket's path, as the only process: one that ended has left the path, and nobody behind it. */
-async function lockedBy(socket) {
-  for (;;) {
-    const server = net.createServer((asked) => asked.destroy()).unref();
-    const error = await new Promise((resolve) => server.once("error", resolve).listen(socket, () => resolve(null)));
-    if (!error) return server;
-    if (error.code !== "EADDRINUSE") throw error;
-    if (await isListenedOn(socket)) throw new BadStateFile(`${socket}: another process has the state file`);
-    fs.rmSync(socket, { force: true });
+/**
+ * Locks an opened file for this process, as clients/python does: by flock(2), whose lock ends with the process, however
+ * that ends. Node doesn't have the call. The program of that name makes it for the file that is opened here, and the
+ * lock stays with that.
+ */
+function locked(opened, file) {
+  if (process.platform === "win32") return;
+  const { error, status } = spawnSync("flock", ["-n", "3"], { stdio: ["ignore", "ignore", "inherit", opened] });
+  if (error) throw new BadStateFile(`${file} can't be locked by the program flock: ${error.message}`);
+  if (status !== 0) throw new BadStateFile(`another process has ${file}`);
+}
+
+/** A file that is opened and locked for this process alone; what it is the lock of is told where another has it. */
+function lockedFile(file, flags, what = file) {
+  const opened = fs.openSync(file, flags, 0o600);
+  try {
+    locked(opened, what);
+    return opened;
+  } catch (error) {
+    fs.closeSync(opened);
+    throw error;
   }
 }
 
@@ -281,27 +307,41 @@ function redacted(members) {
   return "blocks" in members ? { ...members, blocks: members.blocks.map(blockDigest) } : members;
 }
 
-/** JSON in ASCII, as clients/python has it. */
+/** JSON in ASCII, as the files of clients/python have it. */
 function asciiJson(data) {
   const escape = (unit) => `\\u${unit.charCodeAt(0).toString(16).padStart(4, "0")}`;
   return JSON.stringify(data).replace(/[\u0080-\uffff]/g, escape);
 }
 
+/** Takes away a last line that a crash cut: it says of no request that was sent, and of no reply that was kept. */
+function cutToLines(opened, file) {
+  const { size } = fs.fstatSync(opened);
+  const start = Math.max(0, size - LONGEST_LINE);
+  const tail = Buffer.alloc(size - start);
+  const count = fs.readSync(opened, tail, 0, tail.length, start);
+  const end = start + tail.subarray(0, count).lastIndexOf("\n") + 1;
+  if (start && end === start) throw new BadStateFile(`${file} is no journal`);
+  if (end < size) fs.ftruncateSync(opened, end);
+}
+
 /**
  * The station's own log, in the form that clients/python has and restores by: what is asked is synced before it is
- * sent, and its answer before the next request. A last line that a crash cut is taken away.
+ * sent, and its answer before the next request. One process has it.
  */
-export class Journal {
+class Journal {
   #out;
 
   constructor(file) {
-    this.#out = fs.openSync(file, fs.constants.O_RDWR | fs.constants.O_CREAT | fs.constants.O_APPEND, 0o600);
-    const start = Math.max(0, fs.fstatSync(this.#out).size - LONGEST_LINE);
-    const tail = Buffer.alloc(LONGEST_LINE);
-    const count = fs.readSync(this.#out, tail, 0, LONGEST_LINE, start);
-    fs.ftruncateSync(this.#out, start + tail.subarray(0, count).lastIndexOf("\n") + 1);
-    fs.fsyncSync(this.#out);
-    syncFolder(path.dirname(file));
+    const { O_RDWR, O_CREAT, O_APPEND } = fs.constants;
+    this.#out = lockedFile(file, O_RDWR | O_CREAT | O_APPEND);
+    try {
+      cutToLines(this.#out, file);
+      fs.fsyncSync(this.#out);
+      syncFolder(path.dirname(file));
+    } catch (error) {
+      this.close();
+      throw error;
+    }
   }
 
   /** What is about to be sent. */
@@ -324,28 +364,45 @@ export class Journal {
     fs.closeSync(this.#out);
   }
 
+  /** Adds a line, or nothing of it: behind a part, as of a full disk, the next line would be lost too. */
   #add(line) {
     const at = `${new Date().toISOString().slice(0, 19)}Z`;
-    fs.writeFileSync(this.#out, `${asciiJson(ordered({ ...line, at }))}\n`);
-    fs.fsyncSync(this.#out);
+    const { size } = fs.fstatSync(this.#out);
+    try {
+      fs.writeFileSync(this.#out, `${asciiJson(ordered({ ...line, at }))}\n`);
+      fs.fsyncSync(this.#out);
+    } catch (error) {
+      fs.ftruncateSync(this.#out, size);
+      throw error;
+    }
   }
 }
 
 // Replies.
 
-/** The members of a reply, or a report's text. What isn't one of the server's, as a proxy's page, is thrown. */
-function bodyOf(status, kind, data) {
-  if (status === 200 && kind === "text/csv") return data.toString("latin1");
-  let body = null;
+/** What is JSON of an object, or null. */
+function objectOf(kind, data) {
   try {
-    if (kind === "application/json") body = JSON.parse(data.toString("utf8"));
+    const body = kind === "application/json" ? JSON.parse(data.toString("utf8")) : null;
+    return body !== null && typeof body === "object" && !Array.isArray(body) ? body : null;
   } catch {
-    // a page with another's type
+    return null; // a page with another's type
   }
-  const isObject = body !== null && typeof body === "object" && !Array.isArray(body);
-  const isRefusal = isObject && Number.isInteger(body.no) && typeof body.error === "string";
-  if (isRefusal || (isObject && status === 200)) return body;
-  throw new NotTheServer(`status ${status}, ${kind}: ${data.subarray(0, 60)}`);
+}
+
+/** Whether an object can be the reply to a request. */
+function isReplyTo({ path: asked, members }, body) {
+  const isThere = (name) => name in body && (!ECHOED.includes(name) || body[name] === members[name]);
+  return !asked.endsWith("/report") && (REPLIES[asked] ?? []).every(isThere);
+}
+
+/** The members of a reply, or a report's text. What isn't one of the server's, as a proxy's page, is thrown. */
+function bodyOf(status, kind, data, asked) {
+  if (status === 200 && kind === "text/csv" && asked.path.endsWith("/report")) return data.toString("latin1");
+  const body = objectOf(kind, data);
+  const isRefusal = status !== 200 && Number.isInteger(body?.no) && typeof body.error === "string";
+  if (isRefusal || (body && status === 200 && isReplyTo(asked, body))) return body;
+  throw new NotTheServer(`${asked.method} ${asked.target}: status ${status}, ${kind}: ${data.subarray(0, 60)}`);
 }
 
 /** The body of an accepted reply; a refusal is thrown. */
@@ -354,7 +411,7 @@ function accepted(status, body) {
   return body;
 }
 
-/** A reply whose bytes are as many as it says. */
+/** A reply whose bytes are as many as it says. The server says it in each: a whole one that doesn't is another's. */
 function wholeReply(response) {
   return new Promise((resolve, reject) => {
     const parts = [];
@@ -363,12 +420,19 @@ function wholeReply(response) {
     response.on("aborted", () => reject(new Error("the reply was cut")));
     response.on("end", () => {
       const data = Buffer.concat(parts);
-      const isWhole = response.complete && response.headers["content-length"] === String(data.length);
-      const kind = (response.headers["content-type"] ?? "").split(";")[0].trim().toLowerCase();
-      if (isWhole) resolve({ status: response.statusCode, kind, data });
-      else reject(new Error("the reply was cut"));
+      const { "content-length": length, "content-type": type = "" } = response.headers;
+      const kind = type.split(";")[0].trim().toLowerCase();
+      const status = response.statusCode;
+      if (!response.complete) reject(new Error("the reply was cut"));
+      else if (length === String(data.length)) resolve({ status, kind, data });
+      else reject(new NotTheServer(`status ${status}, ${kind}, without a length: ${data.subarray(0, 60)}`));
     });
   });
+}
+
+/** Whether an error is the caller's or the certificate's: asked again it would be the same. */
+function isForGood(error) {
+  return error instanceof TypeError || error instanceof RangeError || error.isUntrusted === true;
 }
 
 /** The members of a kept request, without its number. */
@@ -378,8 +442,8 @@ function membersOf(asked) {
 }
 
 /**
- * A seat: one process and one request at a time. Its connection is kept between requests, and made anew where the other
- * side has closed it.
+ * A seat: one process and one request at a time, so that its calls wait for each other. Its connection is kept between
+ * requests, and made anew where the other side has closed it.
  */
 export class Station {
   #agent;
@@ -387,7 +451,9 @@ export class Station {
   #client;
   #file;
   #headers;
+  #isClosed = false;
   #journal;
+  #last = Promise.resolve();
   #lock;
   #patience;
   #state;
@@ -395,13 +461,13 @@ export class Station {
   #used = 0;
 
   /** A seat by its state file. `Station.open` is for everybody else. */
-  constructor(lock, state, { url, token, file, patience = 120, timeout = 90, ca, journal }) {
+  constructor(lock, state, { url, token, file, patience = 120, timeout = 90, ca }) {
     const base = new URL(url);
+    if (!["http:", "https:"].includes(base.protocol)) throw new RangeError(`${url}: neither http nor https`);
     this.#client = base.protocol === "https:" ? https : http;
     this.#agent = new this.#client.Agent({ keepAlive: true, maxSockets: 1, ca });
     this.#base = base;
     this.#headers = { Authorization: `Bearer ${token}` };
-    this.#journal = journal;
     this.#file = file;
     this.#patience = patience;
     this.#timeout = timeout;
@@ -411,22 +477,47 @@ export class Station {
 
   /**
    * Opens a seat. `file` is its state file, `patience` how many seconds it asks for a reply, `timeout` how many it
-   * waits for one, `ca` the certificates to trust, `journal` a `Journal`.
+   * waits for a whole one, `ca` the certificates to trust, `journal` the file of the station's own log.
    */
-  static async open(options) {
-    const lock = await lockedBy(`${options.file}.lock.sock`);
+  static async open({ journal, ...options }) {
+    const { token } = options;
+    if (typeof token !== "string" || !TOKEN.test(token)) {
+      throw new RangeError("a token is visible ASCII, without a space or a line end");
+    }
+    const file = ownName(options.file);
+    const lock = lockedFile(`${file}.lock`, "a", file);
     try {
-      return new Station(lock, Station.#read(options.file, sha256(options.token)), options);
+      const station = new Station(lock, Station.#read(file, sha256(token)), { ...options, file });
+      // Behind the lock: a second process, started by mistake, leaves it as it is.
+      if (journal !== undefined) station.#journal = new Journal(journal);
+      return station;
     } catch (error) {
-      lock.close();
+      fs.closeSync(lock);
       throw error;
     }
   }
 
-  /** Closes the connection, and lets another process have the state file. */
+  /** Closes the connection, and lets another process have the files. What is under way stays so. */
   close() {
+    if (this.#isClosed) return;
+    this.#isClosed = true;
     this.#agent.destroy();
-    this.#lock.close();
+    this.#journal?.close();
+    fs.closeSync(this.#lock);
+  }
+
+  #checkOpen() {
+    if (this.#isClosed) throw new StationError("the station is closed");
+  }
+
+  /** Has a call made behind those that were made before. */
+  #inTurn(call) {
+    const done = this.#last.then(() => {
+      this.#checkOpen();
+      return call();
+    });
+    this.#last = done.catch(() => {});
+    return done;
   }
 
   // The state file.
@@ -455,80 +546,117 @@ export class Station {
 
   // Requests.
 
-  /** What one sending gets: a whole reply, or an error, which tells whether the connection was a kept one. */
-  async #once(method, target, body) {
+  /** Where a request goes. */
+  #options({ method, target, body }) {
+    const { hostname, port, pathname } = this.#base;
+    const headers = body === undefined ? this.#headers : { ...this.#headers, "Content-Length": body.length };
+    const where = { port, path: pathname.replace(/\/+$/, "") + target, method, headers, agent: this.#agent };
+    return { ...where, hostname: hostname.replace(/^\[|\]$/g, "") }; // an IPv6 address stands in brackets
+  }
+
+  /** What one sending gets: a whole reply, or an error, which tells whether its connection was a kept one. */
+  async #once(asked) {
     if (Date.now() - this.#used > 1000 * LONGEST_IDLE) this.#agent.destroy();
     await setImmediate(); // the end of a kept connection is seen first
-    const headers = body === undefined ? this.#headers : { ...this.#headers, "Content-Length": body.length };
-    const { hostname, port, pathname } = this.#base;
-    const where = { hostname, port, path: pathname.replace(/\/+$/, "") + target };
-    const reply = await new Promise((resolve, reject) => {
-      const options = { ...where, method, headers, agent: this.#agent, timeout: 1000 * this.#timeout };
-      const request = this.#client.request(options, (response) => wholeReply(response).then(resolve, reject));
-      request.on("timeout", () => request.destroy(new Error("no reply in time")));
-      request.on("error", (error) => reject(Object.assign(error, { isKept: request.reusedSocket })));
-      request.end(body);
-    });
-    this.#used = Date.now();
-    return reply;
+    let end;
+    try {
+      const reply = await new Promise((resolve, reject) => {
+        const replied = (response) => wholeReply(response).then(resolve, reject);
+        const request = this.#client.request(this.#options(asked), replied);
+        request.on("error", (error) => {
+          const isUntrusted = request.socket?.authorizationError === (error.code ?? error.message);
+          reject(Object.assign(error, { isKept: request.reusedSocket, isUntrusted }));
+        });
+        const late = () => {
+          reject(new Error("no reply in time"));
+          request.destroy();
+        };
+        end = setTimeout(late, 1000 * this.#timeout); // also where some bytes of it come, again and again
+        request.end(asked.body);
+      });
+      this.#used = Date.now();
+      return reply;
+    } finally {
+      clearTimeout(end);
+    }
+  }
+
+  /** A reply of the server's, or the fault in its place, which says nothing of what became of the request. */
+  async #tried(asked, onAgain) {
+    const what = `${asked.method} ${asked.target}`;
+    try {
+      const { status, kind, data } = await this.#sent(asked, onAgain);
+      const body = bodyOf(status, kind, data, asked);
+      return status === UNKEPT ? { fault: new NoReply(`${what}: status ${status}`) } : { status, body };
+    } catch (error) {
+      if (isForGood(error)) throw error;
+      return { fault: error instanceof NotTheServer ? error : new NoReply(`${what}: ${error.message || error.code}`) };
+    }
   }
 
   /**
    * The status and body of a reply of the server's, and whether it was asked for more than once. It is asked for until
    * it comes: no reply, a page of another and 503 say nothing of what became of the request.
    */
-  async #asked(method, target, body) {
+  async #asked(asked) {
     const end = Date.now() + 1000 * this.#patience;
     let again = false;
     for (let pause = FIRST_PAUSE; ; pause = Math.min(2 * pause, LONGEST_PAUSE)) {
-      let fault;
-      try {
-        const { status, kind, data } = await this.#sent(method, target, body, () => (again = true));
-        const told = bodyOf(status, kind, data);
-        if (status !== UNKEPT) return { status, body: told, again };
-        fault = new NoReply(`${method} ${target}: status ${status}`);
-      } catch (error) {
-        fault = error instanceof NotTheServer ? error : new NoReply(`${method} ${target}: ${error.message}`);
-      }
+      const { fault, ...told } = await this.#tried(asked, () => (again = true));
+      this.#checkOpen();
+      if (!fault) return { ...told, again };
       if (Date.now() + 1000 * pause > end) throw fault;
-      await setTimeout(1000 * pause);
+      await pausedFor(1000 * pause);
+      this.#checkOpen();
       again = true;
     }
   }
 
   /** Sends a request; where its kept connection is closed meanwhile, once more at once, over another one. */
-  async #sent(method, target, body, onAgain) {
+  async #sent(asked, onAgain) {
     try {
-      return await this.#once(method, target, body);
+      return await this.#once(asked);
     } catch (error) {
       if (!error.isKept || !CLOSED.includes(error.code)) throw error;
       onAgain();
       this.#agent.destroy();
-      return this.#once(method, target, body);
+      return this.#once(asked);
     }
+  }
+
+  /** Has a POST's text sent, in UTF-8. */
+  #posted(target, text) {
+    const asked = { method: "POST", target, path: target, body: Buffer.from(text), members: JSON.parse(text) };
+    return this.#asked(asked);
   }
 
   /** What is shown: a reply's members, or a report's text. */
-  async get(target, parameters = {}) {
+  get(target, parameters = {}) {
     const query = Object.entries(parameters).map(([name, text]) => `${name}=${encodeURIComponent(text)}`);
-    const { status, body } = await this.#asked("GET", query.length ? `${target}?${query.join("&")}` : target);
-    return accepted(status, body);
+    const asked = { method: "GET", path: target, target: [target, ...query].join("?"), members: parameters };
+    return this.#inTurn(async () => {
+      const { status, body } = await this.#asked(asked);
+      return accepted(status, body);
+    });
   }
 
   /** Has a request done, once, and gives its reply. The same request goes on where it is under way. */
-  async post(target, members) {
-    const asked = this.#state.under_way;
-    if (!asked) await this.#begin(target, members);
-    else if (asked.path !== target || !isDeepStrictEqual(membersOf(asked), JSON.parse(JSON.stringify(members)))) {
-      throw new UnderWay(`${asked.path} ${asked.body.slice(0, 80)}`);
-    }
-    return this.#complete(Boolean(asked));
+  post(target, members) {
+    return this.#inTurn(async () => {
+      const asked = this.#state.under_way;
+      if (!asked) await this.#begin(target, members);
+      else if (asked.path !== target || !isDeepStrictEqual(membersOf(asked), JSON.parse(JSON.stringify(members)))) {
+        throw new UnderWay(`${asked.path} ${asked.body.slice(0, 80)}`);
+      }
+      return this.#complete(Boolean(asked));
+    });
   }
 
   async #begin(target, members) {
-    const number = this.#state.next ?? (await this.expectedNumber());
-    const body = asciiJson({ nr: number, ...members });
-    if (body.length > LONGEST_BODY) throw new RangeError(`${body.length} bytes: the server reads ${LONGEST_BODY}`);
+    const number = this.#state.next ?? (await this.#expected());
+    const body = JSON.stringify({ nr: number, ...members });
+    const length = Buffer.byteLength(body);
+    if (length > LONGEST_BODY) throw new RangeError(`${length} bytes: the server reads ${LONGEST_BODY}`);
     this.#keep({ next: number, under_way: { path: target, body } });
   }
 
@@ -537,7 +665,7 @@ export class Station {
     const asked = this.#state.under_way;
     const number = this.#state.next;
     this.#journal?.asked(asked.path, asked.body);
-    const { status, body, again } = await this.#asked("POST", asked.path, asked.body);
+    const { status, body, again } = await this.#posted(asked.path, asked.body);
     if (status !== 200) this.#refuse(asked, new Refused(status, body), wasSent || again);
     this.#journal?.answered(number, status, body);
     this.#keep({ next: number + 1, under_way: null, last: { ...asked, reply: body } });
@@ -555,15 +683,21 @@ export class Station {
   }
 
   /** Sends what is under way again, as it was, and gives the last request that was accepted, or null. */
-  async finish() {
-    if (this.#state.under_way) await this.#complete(true);
-    const { last } = this.#state;
-    return last && { path: last.path, members: membersOf(last), reply: last.reply };
+  finish() {
+    return this.#inTurn(async () => {
+      if (this.#state.under_way) await this.#complete(true);
+      const { last } = this.#state;
+      return last && { path: last.path, members: membersOf(last), reply: last.reply };
+    });
   }
 
   /** The number that the server expects of the seat. Nothing is changed. */
-  async expectedNumber() {
-    const { status, body } = await this.#asked("POST", "/v1/ship", asciiJson({ nr: FAR, chip: "0".repeat(12) }));
+  expectedNumber() {
+    return this.#inTurn(() => this.#expected());
+  }
+
+  async #expected() {
+    const { status, body } = await this.#posted("/v1/ship", JSON.stringify({ nr: FAR, chip: "0".repeat(12) }));
     if (body.no === WRONG_NUMBER) return body.expected;
     accepted(status, body);
     throw new NotTheServer(`number ${FAR} was accepted`);
@@ -578,10 +712,12 @@ export class Station {
    * Forgets the request under way, and goes on with the number that is expected: after a restore of the store, or where
    * a person knows why the seat was out of step. Whether that request was done, its device says.
    */
-  async resynchronize() {
-    const number = await this.expectedNumber();
-    this.#journal?.resynchronized(number);
-    this.#keep({ next: number, under_way: null });
+  resynchronize() {
+    return this.#inTurn(async () => {
+      const number = await this.#expected();
+      this.#journal?.resynchronized(number);
+      this.#keep({ next: number, under_way: null });
+    });
   }
 
   // Commands, whose replies are those of docs/FORMATS.md.
@@ -608,8 +744,9 @@ export class Station {
     return this.post("/v1/readback", { chip, blocks: checked(chip, blocks) });
   }
 
-  /** `publicKey` is bytes. The record is to be kept before the next request. */
-  identify(chip, publicKey) {
+  /** `publicKey` is bytes, and never their digits. The record is to be kept before the next request. */
+  async identify(chip, publicKey) {
+    if (!(publicKey instanceof Uint8Array)) throw new TypeError("a public key is bytes, as in a Buffer, and no text");
     return this.post("/v1/identity", { chip, public_key: Buffer.from(publicKey).toString("hex") });
   }
 
@@ -626,6 +763,7 @@ export class Station {
     return this.post("/v1/import", { issuer, csv: ["serial,key_sha256", ...rows.map(String), ""].join("\n") });
   }
 
+  /** An order, which is refused as 14 where there is none. */
   order(name) {
     return this.get("/v1/order", { name });
   }
@@ -659,17 +797,20 @@ export class Station {
    *
    * A batch is burnt before it is read back, also where it may be burnt already, and until the chip shows all of it: a
    * read-back of a half burnt key would quarantine the device for good. Another chip isn't burnt.
+   *
+   * `chipIo` is an `Espefuse` or what else has `read()`, which gives what the chip shows, and `burn({ bits, keys })`,
+   * each at once or as a promise.
    */
   async settle(chip, chipIo, tries = 3) {
     for (;;) {
       const device = await this.device(chip);
       if (!["awaiting1", "awaiting2"].includes(device.state)) return device;
       const work = device.state === "awaiting1" ? device.pending.batch1 : device.pending.batch2;
-      checked(chip, chipIo.read());
+      checked(chip, await chipIo.read());
       let blocks;
       for (let count = 0; count < tries && !(blocks && shows(blocks, work)); count += 1) {
-        chipIo.burn(work);
-        blocks = chipIo.read();
+        await chipIo.burn(work);
+        blocks = await chipIo.read();
       }
       if ((await this.readBack(chip, blocks)).outcome === "short") return this.device(chip);
     }

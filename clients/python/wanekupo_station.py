@@ -11,7 +11,9 @@ standard library alone.
 
 from __future__ import annotations
 
+import contextlib
 import csv
+import functools
 import hashlib
 import http.client
 import io
@@ -19,7 +21,10 @@ import json
 import os
 import re
 import selectors
+import socket
+import ssl
 import subprocess
+import threading
 import time
 from dataclasses import dataclass, fields
 from pathlib import Path
@@ -50,6 +55,24 @@ LONGEST_IDLE = 30.0
 # Refusals: a number that isn't the next, and one that was accepted with another request. Up to these, a refusal says
 # nothing of what became of the same request when it was sent before.
 WRONG_NUMBER, OTHER_BODY, UNKNOWN_DEVICE = 11, 12, 15
+
+# What is sent as a token, and so can be: visible ASCII.
+TOKEN = re.compile(r"[\x21-\x7e]+")
+
+# The members of an accepted reply, by the request's path. A chip and a name are those that were asked for.
+REPLIES = {
+    "/v1/order": ("name", "next"),
+    "/v1/map": ("map",),
+    "/v1/device": ("chip", "state"),
+    "/v1/plan": ("batch1", "batch2", "state"),
+    "/v1/readback": ("outcome", "rest", "state"),
+    "/v1/identity": ("chip", "serial"),
+    "/v1/ship": ("chip", "state"),
+    "/v1/scrap": ("chip", "state"),
+    "/v1/import": ("added", "present"),
+    "/v1/ledger": ("chip", "entries"),
+}
+ECHOED = ("chip", "name")
 
 # The keys that espefuse burns with the bytes of their file in reverse order.
 REVERSED = ("flash_encryption", "secure_boot_v1")
@@ -353,17 +376,27 @@ def synced_folder(folder: Path) -> None:
             os.close(opened)
 
 
-def body_of(status: int, kind: str, data: bytes) -> Any:
-    """The members of a reply, or a report's text. What isn't one of the server's, as a proxy's page, is raised."""
+def _is_reply_to(path: str, members: Mapping[str, Any], body: Any) -> bool:
+    """Whether what came at 200 can be the reply to a request."""
+    if path.endswith("/report"):
+        return isinstance(body, str)
+    names = REPLIES.get(path, ())
+    is_there = isinstance(body, dict) and all(name in body for name in names)
+    return is_there and all(body[name] == members.get(name) for name in names if name in ECHOED)
+
+
+def body_of(status: int, kind: str, data: bytes, path: str, members: Mapping[str, Any]) -> Any:
+    """The members of a reply, or a report's text. What isn't one of the server's to this request, as a proxy's page,
+    is raised."""
     try:
-        if status == 200 and kind == "text/csv":
-            return data.decode("ascii")
-        body = json.loads(data) if kind == "application/json" else None
+        body = data.decode("ascii") if kind == "text/csv" else None
+        body = json.loads(data) if kind == "application/json" else body
     except ValueError:
         body = None
-    if isinstance(body, dict):
-        is_refusal = isinstance(body.get("no"), int) and isinstance(body.get("error"), str)
-        if status == 200 or is_refusal:
+    if status == 200 and _is_reply_to(path, members, body):
+        return body
+    if status != 200 and isinstance(body, dict):
+        if isinstance(body.get("no"), int) and isinstance(body.get("error"), str):
             return body
     raise NotTheServer(f"status {status}, {kind}: {data[:60]!r}")
 
@@ -375,10 +408,21 @@ def accepted(status: int, body: Any) -> Any:
     return body
 
 
+def _in_turn(call: Callable[..., Any]) -> Callable[..., Any]:
+    """A call of a station that waits for those of other threads."""
+
+    @functools.wraps(call)
+    def alone(station: Station, *words: Any, **named: Any) -> Any:
+        with station._turn:
+            return call(station, *words, **named)
+
+    return alone
+
+
 class Station:
     """A seat: one process and one request at a time. `file` is its state file, without which it only shows, `patience`
-    how many seconds it asks for a reply, `context` an `ssl.SSLContext` for https, `journal` a
-    `wanekupo_journal.Journal`, the station's own log.
+    how many seconds it asks for a reply, `timeout` how many it waits for a whole one, `context` an `ssl.SSLContext` for
+    https, `journal` a `wanekupo_journal.Journal`, the station's own log.
 
     Its connection is kept between requests, and made anew where the other side has closed it."""
 
@@ -392,7 +436,11 @@ class Station:
         context: Any = None,
         journal: Any = None,
     ):
+        if not TOKEN.fullmatch(token):
+            raise ValueError("a token is visible ASCII, without a space or a line end")
         parts = urlsplit(url)
+        if parts.scheme not in ("http", "https"):
+            raise ValueError(f"{url}: neither http nor https")
         self._connect: Callable[[], http.client.HTTPConnection]
         if parts.scheme == "https":
             self._connect = lambda: http.client.HTTPSConnection(parts.netloc, timeout=timeout, context=context)
@@ -402,8 +450,9 @@ class Station:
         self._used = 0.0
         self._path = parts.path.rstrip("/")
         self._fields = {"Authorization": f"Bearer {token}"}
-        self._patience, self._journal = patience, journal
-        self._file = None if file is None else Path(file)
+        self._patience, self._timeout, self._journal = patience, timeout, journal
+        self._turn = threading.RLock()
+        self._file = None if file is None else Path(os.path.realpath(file))  # two names of one file have one lock
         self._lock = self._locked() if self._file else None
         try:
             self._state = self._read(hashlib.sha256(token.encode()).hexdigest())
@@ -481,35 +530,69 @@ class Station:
         self._hang_up()
         return False
 
+    @contextlib.contextmanager
+    def _in_time(self, connection: http.client.HTTPConnection) -> Iterator[None]:
+        """Ends an exchange that isn't over in time, also where some bytes of the reply come again and again."""
+        if not connection.sock:
+            connection.connect()
+        opened, is_late = connection.sock, threading.Event()
+
+        def end() -> None:
+            is_late.set()
+            with contextlib.suppress(OSError):  # it is over by itself
+                socket.socket.shutdown(opened, socket.SHUT_RDWR)  # without a word to TLS, whose state is the reader's
+
+        timer = threading.Timer(self._timeout, end)
+        timer.daemon = True
+        timer.start()
+        try:
+            yield
+        except (OSError, http.client.HTTPException):
+            if not is_late.is_set():
+                raise
+        finally:
+            timer.cancel()
+        if is_late.is_set():
+            raise TimeoutError("no reply in time")
+
     def _once(self, method: str, target: str, body: Optional[bytes]) -> tuple[int, str, bytes]:
         """What one sending gets: a whole reply, or an error, behind which the connection is closed."""
         try:
             self._connection = connection = self._connection or self._connect()
-            connection.request(method, self._path + target, body, self._fields)
-            reply = connection.getresponse()
-            data = reply.read()
+            with self._in_time(connection):
+                connection.request(method, self._path + target, body, self._fields)
+                reply = connection.getresponse()
+                data = reply.read()
+            kind = reply.headers.get_content_type()
+            if reply.chunked:  # which the server's never are
+                raise NotTheServer(f"status {reply.status}, {kind}, without a length: {data[:60]!r}")
             if reply.headers.get("Content-Length") != str(len(data)):
                 raise http.client.IncompleteRead(data)
         except BaseException:
             self._hang_up()
             raise
         self._used = time.monotonic()
-        return reply.status, reply.headers.get_content_type(), data
+        return reply.status, kind, data
 
-    def _asked(self, method: str, target: str, body: Optional[bytes] = None) -> tuple[int, Any, bool]:
+    def _asked(
+        self, method: str, path: str, members: Mapping[str, Any], target: str, body: Optional[bytes] = None
+    ) -> tuple[int, Any, bool]:
         """The status and body of a reply of the server's, and whether it was asked for more than once. It is asked for
-        until it comes: no reply, a page of another and 503 say nothing of what became of the request."""
+        until it comes: no reply, a page of another and 503 say nothing of what became of the request. A certificate
+        that isn't trusted is the same when it is asked again."""
         end, pause, again = time.monotonic() + self._patience, FIRST_PAUSE, False
         while True:
             is_kept = self._is_kept()
             try:
                 status, kind, data = self._once(method, target, body)
-                told = body_of(status, kind, data)
+                told = body_of(status, kind, data, path, members)
                 if status != UNKEPT:
                     return status, told, again
                 fault: StationError = NoReply(f"{method} {target}: status {status}")
             except NotTheServer as page:
                 fault = page
+            except ssl.SSLCertVerificationError:
+                raise
             except (OSError, http.client.HTTPException) as error:
                 if is_kept and isinstance(error, ConnectionError):
                     again = True  # closed while the request was on its way: another connection, at once
@@ -520,12 +603,18 @@ class Station:
             time.sleep(pause)
             pause, again = min(2 * pause, LONGEST_PAUSE), True
 
+    def _posted(self, path: str, text: str) -> tuple[int, Any, bool]:
+        """Has a POST's text sent, in UTF-8."""
+        return self._asked("POST", path, json.loads(text), path, text.encode())
+
+    @_in_turn
     def get(self, path: str, **parameters: str) -> Any:
         """What is shown: a reply's members, or a report's text."""
         query = "&".join(f"{name}={quote(text, safe='')}" for name, text in parameters.items())
-        status, body, _ = self._asked("GET", f"{path}?{query}" if query else path)
+        status, body, _ = self._asked("GET", path, parameters, f"{path}?{query}" if query else path)
         return accepted(status, body)
 
+    @_in_turn
     def post(self, path: str, members: Mapping[str, Any]) -> dict[str, Any]:
         """Has a request done, once, and gives its reply. The same request goes on where it is under way."""
         under_way = self._state["under_way"]
@@ -537,9 +626,10 @@ class Station:
 
     def _begin(self, path: str, members: Mapping[str, Any]) -> None:
         number = self._state["next"] or self.expected_number()
-        body = json.dumps({"nr": number, **members}, separators=(",", ":"))
-        if len(body) > LONGEST_BODY:
-            raise ValueError(f"a body of {len(body)} bytes: the server reads {LONGEST_BODY}")
+        body = json.dumps({"nr": number, **members}, separators=(",", ":"), ensure_ascii=False)
+        length = len(body.encode())
+        if length > LONGEST_BODY:
+            raise ValueError(f"a body of {length} bytes: the server reads {LONGEST_BODY}")
         self._keep(next=number, under_way={"path": path, "body": body})
 
     def _complete(self, is_repeat: bool) -> dict[str, Any]:
@@ -547,7 +637,7 @@ class Station:
         asked = self._state["under_way"]
         if self._journal:
             self._journal.asked(asked["path"], asked["body"])
-        status, body, again = self._asked("POST", asked["path"], asked["body"].encode("ascii"))
+        status, body, again = self._posted(asked["path"], asked["body"])
         is_repeat = is_repeat or again
         try:
             reply = accepted(status, body)
@@ -564,6 +654,7 @@ class Station:
         self._keep(next=self._state["next"] + 1, under_way=None, last={**asked, "reply": reply})
         return reply
 
+    @_in_turn
     def finish(self) -> Optional[Done]:
         """Sends what is under way again, as it was, and gives the last request that was accepted, if there is one."""
         if self._state["under_way"]:
@@ -571,11 +662,11 @@ class Station:
         last = self._state["last"]
         return Done(last["path"], _members_of(last), last["reply"]) if last else None
 
+    @_in_turn
     def expected_number(self) -> int:
         """The number that the server expects of the seat. Nothing is changed."""
-        body = json.dumps({"nr": FAR, "chip": 12 * "0"}).encode("ascii")
         try:
-            accepted(*self._asked("POST", "/v1/ship", body)[:2])
+            accepted(*self._posted("/v1/ship", json.dumps({"nr": FAR, "chip": 12 * "0"}))[:2])
         except Refused as refused:
             if refused.no == WRONG_NUMBER:
                 return refused.more["expected"]
@@ -586,6 +677,7 @@ class Station:
         """The number of the request under way, or of the next one; None without a state file."""
         return self._state["next"]
 
+    @_in_turn
     def resynchronize(self) -> None:
         """Forgets the request under way, and goes on with the number that is expected: after a restore of the store, or
         where a person knows why the seat was out of step. Whether that request was done, its device says."""
@@ -643,6 +735,7 @@ class Station:
         return _made(Imported, self.post("/v1/import", {"issuer": issuer, "csv": "\n".join(lines)}))
 
     def order(self, name: str) -> Order:
+        """An order, which is refused as 14 where there is none."""
         return _made(Order, self.get("/v1/order", name=name))
 
     def device(self, chip: str) -> Device:

@@ -8,10 +8,11 @@ import { createInterface } from "node:readline";
 import fs from "node:fs";
 import http from "node:http";
 import { syncBuiltinESMExports } from "node:module";
+import { setTimeout as pausedFor } from "node:timers/promises";
 
 import * as client from "../wanekupo_station.mjs";
 
-const { Journal, Station, chipOf, keyDigest } = client;
+const { Station, chipOf, keyDigest } = client;
 
 /** Kills this process before the call with this number of those that the outside sees. */
 function killedAt(step) {
@@ -29,19 +30,24 @@ function killedAt(step) {
   syncBuiltinESMExports();
 }
 
-/** A chip in a file that has the blocks it shows, which takes the words of espefuse; BLOCK1 may be locked for reading. */
+/**
+ * A chip in a file that has the blocks it shows, which takes the words of espefuse in its own time; BLOCK1 may be
+ * locked for reading.
+ */
 class Held {
   constructor(file, files) {
     Object.assign(this, { file, files });
   }
 
-  read() {
+  async read() {
+    await pausedFor(1);
     const blocks = JSON.parse(fs.readFileSync(this.file, "utf8"));
     const isHidden = (Number.parseInt(blocks[0][0], 16) >>> 16) & 1;
     return blocks.map((block, place) => (isHidden && place === 1 ? block.map(() => "00000000") : block));
   }
 
-  burn(work) {
+  async burn(work) {
+    await pausedFor(1);
     const blocks = JSON.parse(fs.readFileSync(this.file, "utf8"));
     for (const [name, ...words] of client.commands(work, this.files)) {
       if (name === "burn_bit") burnBits(blocks[Number(words[0].at(-1))], words.slice(1).map(Number));
@@ -70,9 +76,9 @@ async function life(station, { held, file, order, map, publicKey }) {
   const flash = { path: file, burntAs: "flash_encryption" };
   const chipIo = new Held(held, { BLOCK1: flash });
   await station.finish();
-  const chip = chipOf(chipIo.read());
+  const chip = chipOf(await chipIo.read());
   const found = await station.findDevice(chip);
-  const device = found ?? (await station.register(chip, order, map, chipIo.read()));
+  const device = found ?? (await station.register(chip, order, map, await chipIo.read()));
   const locks = [client.wlock("BLOCK1"), client.rlock("BLOCK1")];
   const wishes = [client.bit("JTAG_DISABLE", 0), client.key("BLOCK1", keyDigest(flash)), ...locks];
   if (device.state === "registered") await station.plan(chip, wishes);
@@ -87,13 +93,14 @@ async function told(call) {
   try {
     return { told: (await call()) ?? null };
   } catch (error) {
-    const { name, no, number, expected, status, message } = error;
-    return { name, no, number, expected, status, message };
+    const { name, code, no, number, expected, status, message } = error;
+    return { name, code, no, number, expected, status, message };
   }
 }
 
-/** A chip's life, the station's own number, a function of the module, or a call of the station. */
+/** A chip's life, calls side by side, the station's own number, a function of the module, or a call of the station. */
 function called(station, [name, ...words]) {
+  if (name === "together") return Promise.all(words.map((call) => told(() => called(station, call))));
   if (name === "life") return life(station, words[0]);
   if (name === "ownNumber") return station.ownNumber;
   return name in client ? client[name](...words) : station[name](...words);
@@ -105,8 +112,7 @@ for await (const line of createInterface({ input: process.stdin })) {
   const asked = JSON.parse(line);
   const answer = await told(async () => {
     if (station) return called(station, asked);
-    const { journal, ...options } = asked;
-    station = await Station.open({ ...options, journal: journal && new Journal(journal) });
+    station = await Station.open(asked);
     return null;
   });
   process.stdout.write(`${JSON.stringify(answer)}\n`);

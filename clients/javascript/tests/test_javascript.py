@@ -3,14 +3,15 @@
 from __future__ import annotations
 
 import contextlib
+import hashlib
 import json
 import os
 import re
-import shlex
+import resource
 import shutil
-import signal
 import subprocess
 import sys
+import time
 import unittest
 from pathlib import Path
 
@@ -19,16 +20,30 @@ PYTHON = HERE.parents[1] / "python"
 sys.path[:0] = [str(PYTHON), str(PYTHON / "tests")]
 
 from simulated_chip import SimulatedChip  # noqa: E402
-from support import DIGEST, FLASH_KEY, MAC, MAP, ORDER, PUBLIC_KEY, KeptProxy, Proxy, StationCase  # noqa: E402
+from support import (  # noqa: E402
+    CHUNKED,
+    DIGEST,
+    DRIPPING,
+    FLASH_KEY,
+    LETTERS,
+    MAC,
+    MAP,
+    ORDER,
+    OTHERS,
+    PUBLIC_KEY,
+    KeptProxy,
+    Proxy,
+    StationCase,
+    TlsProxy,
+)
 from test_station import LIFE, rows, steps  # noqa: E402
 
 from wanekupo_journal import issued, request_digest, requests_of  # noqa: E402
-from wanekupo_station import NoReply, Station, blocks_of  # noqa: E402
+from wanekupo_station import BadStateFile, NoReply, Station, blocks_of  # noqa: E402
 
 README = HERE.parent / "README.md"
 NODE = shutil.which("node")
 VERSION = subprocess.run([NODE, "--version"], capture_output=True, text=True).stdout if NODE else "v0"
-SIMULATED = [sys.executable, str(PYTHON / "tests" / "simulated_chip.py"), "--path-efuse-file"]
 
 
 class Ended(Exception):
@@ -36,11 +51,11 @@ class Ended(Exception):
 
 
 class Thrown(Exception):
-    """What the client threw: `name`, and `no`, `number` and `expected` where it has them."""
+    """What the client threw: `name`, and `code`, `no`, `number` and `expected` where it has them."""
 
     def __init__(self, told):
         super().__init__(told["message"])
-        self.name, self.no = told["name"], told.get("no")
+        self.name, self.code, self.no = told["name"], told.get("code"), told.get("no")
         self.number, self.expected = told.get("number"), told.get("expected")
 
 
@@ -53,11 +68,15 @@ class Driven:
         self.process = subprocess.Popen([NODE, str(HERE / "driver.mjs")], env=variables, **pipes)
 
     def say(self, words):
-        try:
+        self.tell(words)
+        return self.hear()
+
+    def tell(self, words):
+        with contextlib.suppress(BrokenPipeError):
             self.process.stdin.write(json.dumps(words) + "\n")
             self.process.stdin.flush()
-        except BrokenPipeError:
-            pass
+
+    def hear(self):
         line = self.process.stdout.readline()
         if not line:
             raise Ended
@@ -83,9 +102,11 @@ class JavaScript(StationCase):
     def driven(self, url=None, kill_at=None, **options):
         driven = Driven(kill_at)
         self.addCleanup(driven.close)
-        common = {"url": url or self.program.url, "token": "abc", "file": str(self.folder / "a1.json")}
-        driven.say({**common, **options})
+        driven.say(self.options(**({"url": url} if url else {}), **options))
         return driven
+
+    def options(self, **options):
+        return {"url": self.program.url, "token": "abc", "file": str(self.folder / "a1.json"), **options}
 
     def begun(self, quantity):
         """An order of so many devices without addresses, and the map, made by the client in Python."""
@@ -107,7 +128,8 @@ class JavaScript(StationCase):
         return found.exception
 
     def test_javascript_life_in_the_readme(self):
-        """The script as it stands, where `espefuse.py` is the simulated chip; run again it changes nothing."""
+        """The script as it stands, where `espefuse.py` is the simulated chip; run again it changes nothing. Of a chip
+        that is lost it says so."""
         self.station(file="other.json").make_order(**ORDER)
         text = re.search(r"^```javascript\n(.*?)^```$", README.read_text(encoding="utf-8"), re.MULTILINE | re.DOTALL)[1]
         (self.folder / "life.mjs").write_text(text.replace("http://127.0.0.1:8080", self.program.url), encoding="utf-8")
@@ -115,16 +137,17 @@ class JavaScript(StationCase):
         (self.folder / "esp32.toml").write_text(MAP, encoding="utf-8")
         (self.folder / "public.key").write_bytes(PUBLIC_KEY)
         SimulatedChip(bytes.fromhex(MAC), self.folder / "chip")
-        words = [*SIMULATED, "chip"]
-        (self.folder / "espefuse.py").write_text(f'#!/bin/sh\nexec {shlex.join(words)} "$@"\n', encoding="ascii")
-        (self.folder / "espefuse.py").chmod(0o700)
-        paths = {**os.environ, "PATH": f"{self.folder}:{os.environ['PATH']}"}
+        run = {"cwd": self.folder, "env": self.espefuse(), "capture_output": True, "text": True}
         for says in ("serial: 'A998'", ""):
-            done = subprocess.run([NODE, "life.mjs"], cwd=self.folder, env=paths, capture_output=True, text=True)
+            done = subprocess.run([NODE, "life.mjs"], **run)
             self.assertEqual((done.returncode, done.stderr), (0, ""))
             self.assertIn(says, done.stdout)
             self.assertEqual(steps(self.ledger()), LIFE)
         self.assertEqual(done.stdout, "")
+        SimulatedChip(bytes.fromhex("240ac4000002"), self.folder / "chip")
+        self.espefuse(instead="burn_bit BLOCK0 197")
+        done = subprocess.run([NODE, "life.mjs"], **run)
+        self.assertEqual((done.returncode, done.stderr), (1, "240ac4000002 isn't shipped: quarantined stray\n"))
 
     def test_javascript_each_fault_at_each_request(self):
         self.begun(len(Proxy.FAULTS))
@@ -257,15 +280,105 @@ class JavaScript(StationCase):
         self.assertEqual(driven.ask("report").splitlines()[1:], ["o1,2,0,0,0,0,0,0,0,2"])
 
     def test_javascript_state_file_in_use(self):
-        driven = self.driven()
+        """Another process leaves the files as they are, by whichever name it has them."""
+        journal, link = self.folder / "a1.journal", self.folder / "link.json"
+        driven = self.driven(journal=str(journal))
         driven.ask("importMap", MAP)
-        self.assertEqual(self.thrown(self.driven).name, "BadStateFile")
+        link.symlink_to("a1.json")
+        half = journal.read_bytes() + b'{"at":"2026-'  # as while a line is written
+        journal.write_bytes(half)
+        other = {"token": "hello", "file": str(self.folder / "other.json")}
+        for options in ({"journal": str(journal)}, {"file": str(link)}, {"journal": str(journal), **other}):
+            self.assertEqual(self.thrown(lambda: self.driven(**options)).name, "BadStateFile")
+        with self.assertRaises(BadStateFile):
+            self.station()
+        self.assertEqual(journal.read_bytes(), half)
         driven.process.kill()
         driven.close()
-        self.assertEqual(self.driven().ask("ownNumber"), 2)
-        (self.folder / "bad.json").write_text("{", encoding="ascii")
-        self.assertEqual(self.thrown(lambda: self.driven(file=str(self.folder / "bad.json"))).name, "BadStateFile")
-        self.assertEqual(self.thrown(lambda: self.driven(token="hello")).name, "BadStateFile")
+        with self.station(), self.assertRaises(Thrown):
+            self.driven()
+        self.assertEqual(self.driven(journal=str(journal)).ask("ownNumber"), 2)
+        self.assertEqual(half.removeprefix(journal.read_bytes()), b'{"at":"2026-')
+
+    def test_javascript_several_start_at_once(self):
+        """One of them has the seat, each time, over what one left that was killed; the file's name is a long one."""
+        folder = self.folder / ("x" * 120)
+        folder.mkdir()
+        for _ in range(4):
+            started = [Driven() for _ in range(4)]
+            for driven in started:
+                self.addCleanup(driven.close)
+                driven.tell(self.options(file=str(folder / "a1.json")))
+            has = [driven for driven in started if self.is_open(driven)]
+            self.assertEqual(len(has), 1)
+            has[0].process.kill()
+            has[0].process.wait()
+
+    def is_open(self, driven):
+        try:
+            driven.hear()
+            return True
+        except Thrown as thrown:
+            self.assertEqual(thrown.name, "BadStateFile")
+            return False
+
+    def test_javascript_bad_files(self):
+        file, firmware = self.folder / "bad.json", self.folder / "firmware"
+        file.write_text("{", encoding="ascii")
+        firmware.write_bytes(bytes(300_000))
+        for options in ({"file": str(file)}, {"journal": str(firmware)}):
+            self.assertEqual(self.thrown(lambda: self.driven(**options)).name, "BadStateFile")
+        self.assertEqual(firmware.stat().st_size, 300_000)
+        self.assertEqual(self.thrown(lambda: self.driven(file=str(self.folder / "none" / "a1.json"))).code, "ENOENT")
+
+    def test_javascript_calls_side_by_side(self):
+        """They are done one behind another, in their order; a seat without a state file asks for its number once."""
+        calls = [["makeOrder", ORDER], ["importMap", MAP], ["order", "o1"], ["finish"], ["importMap", MAP]]
+        order, told, shown, done, again = self.driven().ask("together", *calls)
+        self.assertEqual((order["told"]["next"], shown["told"]["next"], told), ("A998", "A998", {"told": DIGEST}))
+        self.assertEqual((done["told"]["reply"], again), ({"map": DIGEST}, {"told": DIGEST}))
+        self.assertEqual(self.seat()[0], 3)
+
+    @unittest.skipUnless(shutil.which("openssl"), "there is no openssl, which makes the certificates")
+    def test_javascript_what_can_never_be_sent(self):
+        """A caller's mistake and a certificate that isn't trusted are told at once."""
+        for options in ({"token": "hello\n"}, {"token": "hell\u00f6"}, {"token": ""}, {"url": "htps://127.0.0.1"}):
+            thrown = self.thrown(lambda: self.driven(patience=600, **options))
+            self.assertEqual((thrown.name, "hell" in str(thrown)), ("RangeError", False))
+        proxy = TlsProxy(self.program, self.folder)
+        self.addCleanup(proxy.close)
+        driven = self.driven(proxy.url, patience=600)
+        self.assertEqual(self.thrown(driven.ask, "expectedNumber").code, "UNABLE_TO_VERIFY_LEAF_SIGNATURE")
+        self.assertEqual(self.thrown(driven.ask, "get", "/v1/\u0416").code, "ERR_UNESCAPED_CHARACTERS")
+        self.assertEqual(self.thrown(driven.ask, "identify", MAC, PUBLIC_KEY.hex()).name, "TypeError")
+        driven.close()
+        driven = self.driven(proxy.url, patience=0, ca=(self.folder / "ca.pem").read_text(encoding="ascii"))
+        self.assertEqual(driven.ask("expectedNumber"), 1)
+
+    def test_javascript_letters_of_several_bytes(self):
+        """The longest map comes whole, also in a repeat, which the journal knows as the server does."""
+        proxy, journal = self.proxy([None, "lost reply"]), self.folder / "a1.journal"
+        driven = self.driven(proxy.url, patience=0, journal=str(journal))
+        self.assertEqual(self.thrown(driven.ask, "importMap", LETTERS).name, "NoReply")
+        driven.close()
+        with self.station() as station:  # the other client goes on with it
+            self.assertEqual(station.finish().reply, {"map": hashlib.sha256(LETTERS.encode()).hexdigest()})
+        (line,) = [json.loads(line) for line in journal.read_text(encoding="ascii").splitlines()]
+        self.assertEqual((1, line["digest"]), self.seat())
+        driven = self.driven()
+        self.assertEqual(driven.ask("importMap", LETTERS), hashlib.sha256(LETTERS.encode()).hexdigest())
+        self.assertEqual(self.thrown(driven.ask, "importMap", "\u0416" * 32_768).name, "RangeError")
+
+    def test_javascript_full_disk(self):
+        """A line of which a part was written is taken back, and isn't before the next one."""
+        journal = self.folder / "a1.journal"
+        driven = self.driven(journal=str(journal))
+        for _ in range(3):
+            driven.ask("importMap", MAP)
+        for room, code in ((journal.stat().st_size + 20, "EFBIG"), (resource.RLIM_INFINITY, None)):
+            resource.prlimit(driven.process.pid, resource.RLIMIT_FSIZE, (room, resource.RLIM_INFINITY))
+            self.assertEqual(self.thrown(driven.ask, "ship", MAC).code, code)
+        self.assertEqual([it.status for it in requests_of(journal)], [200, 200, 200, 404])
 
     def test_javascript_page_of_a_proxy(self):
         """It is as no reply: sent again, and under way."""
@@ -277,6 +390,35 @@ class JavaScript(StationCase):
             self.assertEqual(self.thrown(driven.ask, "importMap", MAP).name, "NotTheServer")
         self.assertEqual(driven.ask("finish")["reply"], {"map": DIGEST})
         self.assertEqual(driven.ask("expectedNumber"), 2)
+
+    def test_javascript_reply_of_another_server(self):
+        """It doesn't end a request, whose reply names what was asked."""
+        with self.station() as station:
+            station.import_map(MAP)
+        json_of, other = "application/json", b'{"chip":"240ac4000002","serial":"A1","state":"shipped"}'
+        for url in map(self.canned, (200, 200, 200), (json_of, json_of, "text/csv"), (OTHERS, other, b"chip")):
+            driven = self.driven(url, patience=0)
+            for words in (["ship", MAC], ["finish"], ["device", MAC]):
+                self.assertEqual(self.thrown(driven.ask, *words).name, "NotTheServer")
+            driven.close()
+        for url in (self.canned(200, json_of, OTHERS), self.canned(CHUNKED)):
+            driven = self.driven(url, patience=0)
+            self.assertEqual(self.thrown(driven.ask, "report").name, "NotTheServer")
+            driven.close()
+        self.assertEqual(self.thrown(self.driven().ask, "finish").no, 15)
+
+    def test_javascript_reply_that_comes_byte_by_byte(self):
+        """However many come, it is waited for as long as for one of which none comes."""
+        driven, start = self.driven(self.canned(DRIPPING, 0.05), timeout=1, patience=0), time.monotonic()
+        self.assertIn("no reply in time", str(self.thrown(driven.ask, "report")))
+        self.assertLess(time.monotonic() - start, 30)
+
+    def test_javascript_address_of_ipv6(self):
+        try:
+            url = self.canned(200, "text/csv", b"order\n", host="::1")
+        except OSError:
+            self.skipTest("there is no ::1")
+        self.assertEqual(self.driven(url, patience=0).ask("report"), "order\n")
 
 
 if __name__ == "__main__":

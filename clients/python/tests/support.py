@@ -2,14 +2,17 @@
 
 from __future__ import annotations
 
+import contextlib
 import hashlib
 import http.client
 import json
 import os
 import re
 import select
+import shlex
 import shutil
 import socket
+import sqlite3
 import ssl
 import subprocess
 import sys
@@ -28,6 +31,7 @@ from wanekupo_journal import Journal  # noqa: E402
 from wanekupo_station import KeyFile, Station, bit, blocks_of, chip_of, commands, key, rlock, wlock  # noqa: E402
 
 PROGRAM = os.environ.get("STATION_PROGRAM", str(ROOT / "crates" / "station" / "out" / "station"))
+SIMULATED = ROOT / "clients" / "python" / "tests" / "simulated_chip.py"
 SITE = ROOT / "crates" / "station" / "data" / "site.toml"
 MAP = (ROOT / "maps" / "esp32.toml").read_text(encoding="utf-8")
 DIGEST = hashlib.sha256(MAP.encode()).hexdigest()
@@ -38,6 +42,12 @@ FLASH_KEY = bytes(range(32))
 FLASH_DIGEST = hashlib.sha256(FLASH_KEY[::-1]).hexdigest()
 PUBLIC_KEY = bytes.fromhex("302a300506032b6570032100d75a980182b10ab7d54bfed3c964073a0ee172f3daa62325af021a68f707511a")
 ORDER = {"name": "o1", "issuer": "acme-ca", "prefix": "A", "width": 3, "first": 998, "quantity": 2, "macs": 1}
+# What the site's server isn't, and a reply that comes byte by byte and never ends.
+OTHERS = b'{"status":"ok"}'
+CHUNKED = b"HTTP/1.1 502 Bad\r\nContent-Type: text/html\r\nTransfer-Encoding: chunked\r\n\r\n6\r\n<html>\r\n0\r\n\r\n"
+DRIPPING = b"HTTP/1.1 200 OK\r\nContent-Type: text/csv\r\nContent-Length: 9999\r\n\r\n" + 9999 * b"x"
+# A map of 32,768 bytes, the most that the server takes, of which most are letters of two bytes.
+LETTERS = MAP + "# " + "\u0416" * ((32_768 - len(MAP.encode()) - 2) // 2)
 WISHES = [bit("JTAG_DISABLE", 0), key("BLOCK1", FLASH_DIGEST), wlock("BLOCK1"), rlock("BLOCK1")]
 
 
@@ -228,6 +238,37 @@ class KeptProxy(Proxy):
             return b"".join(iter(lambda: server.recv(65536), b""))
 
 
+class Canned:
+    """Answers each request with the same bytes; with a pause before each of them where one is given."""
+
+    def __init__(self, reply, pause=0, host=HOST):
+        self.reply, self.pause, is_six = reply, pause, ":" in host
+        self.listener = socket.create_server((host, 0), family=socket.AF_INET6 if is_six else socket.AF_INET)
+        self.url = f"http://{f'[{host}]' if is_six else host}:{self.listener.getsockname()[1]}"
+        threading.Thread(target=self.serve, daemon=True).start()
+
+    @classmethod
+    def page(cls, status, kind, body, **options):
+        head = f"HTTP/1.1 {status} Canned\r\nContent-Type: {kind}\r\nContent-Length: {len(body)}\r\n\r\n"
+        return cls(head.encode() + body, **options)
+
+    def serve(self):
+        while True:
+            try:
+                client = self.listener.accept()[0]
+            except OSError:
+                return
+            with client, contextlib.suppress(OSError):
+                whole(client)
+                parts = [self.reply[place : place + 1] for place in range(len(self.reply))]
+                for part in parts if self.pause else [self.reply]:
+                    time.sleep(self.pause)
+                    client.sendall(part)
+
+    def close(self):
+        self.listener.close()
+
+
 def whole(client):
     """A request, as far as its Content-Length says."""
     data = b""
@@ -300,6 +341,29 @@ class StationCase(unittest.TestCase):
         proxy = kind(self.program, faults)
         self.addCleanup(proxy.close)
         return proxy
+
+    def canned(self, *words, **options):
+        """The URL of what isn't the program, and answers each request with a page, or with bytes and a pause."""
+        canned = Canned.page(*words, **options) if len(words) == 3 else Canned(*words, **options)
+        self.addCleanup(canned.close)
+        return canned.url
+
+    def espefuse(self, instead=None):
+        """An `espefuse.py` in the folder, which is the simulated chip in the file `chip`; where `instead` is given, it
+        burns that in place of the bits that it is told. What finds it is given."""
+        words = shlex.join([sys.executable, str(SIMULATED), "--path-efuse-file", "chip"])
+        other = f'case "$*" in *burn_bit*) exec {words} {instead};; esac\n' if instead else ""
+        (self.folder / "espefuse.py").write_text(f'#!/bin/sh\n{other}exec {words} "$@"\n', encoding="ascii")
+        (self.folder / "espefuse.py").chmod(0o700)
+        return {**os.environ, "PATH": f"{self.folder}:{os.environ['PATH']}"}
+
+    def seat(self):
+        """What the store has of the seat: the number and the digest of its last request."""
+        self.program.kill()
+        with contextlib.closing(sqlite3.connect(self.program.db)) as store:
+            found = store.execute("SELECT last, lower(hex(digest)) FROM seat WHERE name = 'a1'").fetchone()
+        self.program.start()
+        return found
 
     def chip(self, mac=MAC, file=None):
         return Held(SimulatedChip(bytes.fromhex(mac), file), self.keys)

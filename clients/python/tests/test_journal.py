@@ -3,15 +3,15 @@
 from __future__ import annotations
 
 import contextlib
+import errno
 import hashlib
 import io
 import json
 import os
-import sqlite3
 import unittest
 from unittest import mock
 
-from support import DIGEST, FLASH_KEY, MAC, MAP, ORDER, PUBLIC_KEY, WISHES, StationCase, life
+from support import DIGEST, FLASH_KEY, LETTERS, MAC, MAP, ORDER, PUBLIC_KEY, WISHES, StationCase, life
 from test_station import rows
 
 import wanekupo_commands
@@ -26,14 +26,6 @@ KEY_SHA256 = "06e3fd8fda29bb60ab59557de61edb0aecdb231134be30e75b455f8e1b792fa9"
 
 
 class Lines(StationCase):
-    def seat(self):
-        """What the store has of the seat: the number and the digest of its last request."""
-        self.program.kill()
-        with contextlib.closing(sqlite3.connect(self.program.db)) as store:
-            found = store.execute("SELECT last, lower(hex(digest)) FROM seat WHERE name = 'a1'").fetchone()
-        self.program.start()
-        return found
-
     def test_a_life(self):
         """Each request is known as the server knows it, has its reply, and shows no key."""
         journal = self.journal()
@@ -82,6 +74,34 @@ class Lines(StationCase):
         self.assertEqual(seen, [["/v1/map"], ["/v1/map", "answer", "/v1/import"]])
         self.assertEqual(len(synced[0].splitlines()), 4)
 
+    def test_letters_of_several_bytes(self):
+        """The longest map comes whole, also in a repeat, which the journal knows as the server does."""
+        proxy = self.proxy([None, "lost reply"])
+        station = self.station(proxy.url, patience=0, journal=self.journal())
+        with self.assertRaises(NoReply):
+            station.import_map(LETTERS)
+        self.assertEqual(station.finish().reply, {"map": hashlib.sha256(LETTERS.encode()).hexdigest()})
+        (asked,) = self.asked_of()
+        self.assertEqual((1, request_digest(asked.path, asked.members)), self.seat())
+        with self.assertRaises(ValueError):
+            station.import_map("\u0416" * 32_768)
+        self.assertEqual(station.own_number(), 2)
+
+    def test_a_full_disk(self):
+        """A line of which a part was written is taken back, and isn't before the next one."""
+        station, write = self.station(journal=self.journal()), os.write
+        station.import_map(MAP)
+
+        def full(opened, data):
+            if len(data) < 20:
+                raise OSError(errno.ENOSPC, "full")
+            return write(opened, data[:20])
+
+        with mock.patch.object(os, "write", full), self.assertRaises(OSError):
+            station.import_serials("acme-ca", rows("Z1"))
+        station.finish()
+        self.assertEqual([(it.path, it.status) for it in self.asked_of()], [("/v1/map", 200), ("/v1/import", 200)])
+
     def test_the_digest_of_a_request(self):
         self.assertEqual(request_digest("/v1/ship", {"nr": 8, "chip": MAC}), SHIPPED)
 
@@ -123,6 +143,10 @@ class Lines(StationCase):
             self.assertEqual(len(requests_of(self.folder / "cut")), 1)
             Journal(self.folder / "cut").close()
             self.assertEqual((self.folder / "cut").read_bytes(), kept)
+        (self.folder / "firmware").write_bytes(bytes(300_000))
+        with self.assertRaises(BadJournal):
+            Journal(self.folder / "firmware")
+        self.assertEqual((self.folder / "firmware").stat().st_size, 300_000)
         for bad in (b"{}\n" + whole, whole.partition(b"\n")[2], b"x\n" + whole):
             (self.folder / "bad").write_bytes(bad)
             with self.assertRaises(BadJournal):

@@ -8,7 +8,6 @@ from __future__ import annotations
 import contextlib
 import hashlib
 import http.client
-import http.server
 import io
 import json
 import os
@@ -19,13 +18,31 @@ import signal
 import subprocess
 import sys
 import tempfile
-import threading
+import time
 import unittest
+from concurrent.futures import ThreadPoolExecutor
 from pathlib import Path
 from unittest import mock
 
 from simulated_chip import SimulatedChip
-from support import DIGEST, FLASH_DIGEST, MAC, MAP, ORDER, PUBLIC_KEY, WISHES, Held, Proxy, StationCase, TlsProxy, life
+from support import (
+    CHUNKED,
+    DIGEST,
+    DRIPPING,
+    FLASH_DIGEST,
+    MAC,
+    MAP,
+    ORDER,
+    OTHERS,
+    PUBLIC_KEY,
+    WISHES,
+    Canned,
+    Held,
+    Proxy,
+    StationCase,
+    TlsProxy,
+    life,
+)
 
 import wanekupo_commands
 import wanekupo_station as client
@@ -102,24 +119,26 @@ class Commands(StationCase):
         self.assertEqual(done.reply, {"chip": MAC, "state": "shipped"})
 
     def test_the_life_in_the_readme(self):
-        """The script as it stands, where `espefuse.py` is the simulated chip; run again it changes nothing."""
+        """The script as it stands, where `espefuse.py` is the simulated chip; run again it changes nothing. Of a chip
+        that is lost it says so."""
         self.station(file="other.json").make_order(**ORDER)
         text = re.search(r"^```python\n(.*?)^```$", README.read_text(encoding="utf-8"), re.MULTILINE | re.DOTALL)[1]
         (self.folder / "life.py").write_text(text.replace("http://127.0.0.1:8080", self.program.url), encoding="utf-8")
         (self.folder / "esp32.toml").write_text(MAP, encoding="utf-8")
         (self.folder / "public.key").write_bytes(PUBLIC_KEY)
         SimulatedChip(bytes.fromhex(MAC), self.folder / "chip")
-        words = [sys.executable, str(HERE / "simulated_chip.py"), "--path-efuse-file", "chip"]
-        (self.folder / "espefuse.py").write_text(f'#!/bin/sh\nexec {shlex.join(words)} "$@"\n', encoding="ascii")
-        (self.folder / "espefuse.py").chmod(0o700)
-        paths = {**os.environ, "PATH": f"{self.folder}:{os.environ['PATH']}", "PYTHONPATH": str(HERE.parent)}
+        paths = {**self.espefuse(), "PYTHONPATH": str(HERE.parent)}
+        words = [sys.executable, "-B", "life.py"]
         for says in ("serial='A998'", ""):
-            words = [sys.executable, "-B", "life.py"]
             done = subprocess.run(words, cwd=self.folder, env=paths, capture_output=True, text=True)
             self.assertEqual((done.returncode, done.stderr), (0, ""))
             self.assertIn(says, done.stdout)
             self.assertEqual(steps(self.ledger()), LIFE)
         self.assertEqual(done.stdout, "")
+        SimulatedChip(bytes.fromhex("240ac4000002"), self.folder / "chip")
+        self.espefuse(instead="burn_bit BLOCK0 197")
+        done = subprocess.run(words, cwd=self.folder, env=paths, capture_output=True, text=True)
+        self.assertEqual((done.returncode, done.stderr), (1, "240ac4000002 isn't shipped: quarantined stray\n"))
 
     @unittest.skipUnless(os.environ.get("ESPEFUSE"), "the words of a real espefuse.py aren't in ESPEFUSE")
     def test_a_life_over_espefuse_itself(self):
@@ -440,6 +459,15 @@ class Once(StationCase):
         self.assertEqual(station.import_serials("acme-ca", rows("Z2")), Imported(1, 0))
         self.assertEqual(station.expected_number(), 5)
 
+    def test_calls_of_several_threads(self):
+        """They wait for each other; a seat without a state file asks for its number once."""
+        station, names = self.station(), ("o1", "o2", "o3", "o4")
+        orders = [{**ORDER, "name": name, "first": 2 * place, "macs": 0} for place, name in enumerate(names)]
+        with ThreadPoolExecutor(len(orders)) as pool:
+            made = list(pool.map(lambda order: station.make_order(**order), orders))
+        self.assertEqual([order.next for order in made], ["A000", "A002", "A004", "A006"])
+        self.assertEqual(station.expected_number(), 5)
+
     def test_a_repeat_that_is_refused_was_never_done(self):
         """A request whose first sending was lost is judged at its second, and takes no number where it is refused."""
         station = self.station(self.proxy(["lost request"]).url)
@@ -455,6 +483,10 @@ class Once(StationCase):
         station.import_map(MAP)
         with self.assertRaises(BadStateFile):
             self.station()
+        if os.name == "posix":
+            (self.folder / "link.json").symlink_to("a1.json")
+            with self.assertRaises(BadStateFile):
+                self.station(file="link.json")
         station.close()
         if os.name == "posix":
             self.assertEqual((self.folder / "a1.json").stat().st_mode & 0o777, 0o600)
@@ -490,29 +522,13 @@ def killed_at(step):
 class Peers(unittest.TestCase):
     """Servers that aren't the program: what a later one may send, and what isn't one."""
 
-    def serve(self, status, kind, body):
-        class Canned(http.server.BaseHTTPRequestHandler):
-            def do_GET(self):
-                self.rfile.read(int(self.headers.get("Content-Length", 0)))
-                self.send_response(status)
-                self.send_header("Content-Type", kind)
-                self.send_header("Content-Length", str(len(body)))
-                self.end_headers()
-                self.wfile.write(body)
-
-            do_POST = do_GET
-
-            def log_message(self, *_):
-                pass
-
-        server = http.server.HTTPServer(("127.0.0.1", 0), Canned)
-        threading.Thread(target=server.serve_forever, daemon=True).start()
-        self.addCleanup(server.server_close)
-        self.addCleanup(server.shutdown)
+    def serve(self, *words, **options):
+        """A station whose server answers each request with a page, or with bytes and a pause."""
+        canned = Canned.page(*words) if len(words) == 3 else Canned(*words)
+        self.addCleanup(canned.close)
         folder = tempfile.TemporaryDirectory()
         self.addCleanup(folder.cleanup)
-        url = f"http://127.0.0.1:{server.server_address[1]}"
-        station = client.Station(url, "abc", f"{folder.name}/a1.json", patience=0)
+        station = client.Station(canned.url, "abc", f"{folder.name}/a1.json", patience=0, **options)
         self.addCleanup(station.close)
         return station
 
@@ -532,16 +548,41 @@ class Peers(unittest.TestCase):
             (200, "text/html", b"<html>"),
             (200, "application/json", b"[]"),
             (400, "application/json", b"{}"),
+            (200, "application/json", OTHERS),
+            (200, "application/json", b'{"name":"o2","next":null}'),
+            (200, "text/csv", b"name,next"),
         ):
             with self.assertRaises(NotTheServer):
                 self.serve(status, kind, body).order("o1")
+        with self.assertRaises(NotTheServer):
+            self.serve(200, "application/json", OTHERS).report()
+        with self.assertRaises(NotTheServer):
+            self.serve(CHUNKED).report()
         with self.assertRaises(NoReply):
             self.serve(503, "application/json", b'{"error":"unkept","no":50}').order("o1")
+
+    def test_a_reply_that_comes_byte_by_byte(self):
+        """However many come, it is waited for as long as for one of which none comes."""
+        start = time.monotonic()
+        with self.assertRaises(NoReply) as found:
+            self.serve(DRIPPING, 0.05, timeout=1).report()
+        self.assertIn("no reply in time", str(found.exception))
+        self.assertLess(time.monotonic() - start, 30)
+
+    def test_what_can_never_be_sent(self):
+        """A caller's mistake is told at once, and no message has the token."""
+        for token in ("hello\n", "", "hell\u00f6", "a b"):
+            with self.assertRaises(ValueError) as found:
+                client.Station("http://127.0.0.1:1", token, None)
+            self.assertNotIn("hell", str(found.exception))
+        with self.assertRaises(ValueError):
+            client.Station("htps://127.0.0.1", "abc", None)
 
     def test_a_post_stays_under_way_where_no_reply_says_what_became_of_it(self):
         for status, kind, body in (
             (403, "text/html", b"<html>"),
             (503, "application/json", b'{"error":"unkept","no":50}'),
+            (200, "application/json", OTHERS),
         ):
             station = self.serve(status, kind, body)
             with mock.patch.object(station, "expected_number", return_value=1):
@@ -568,9 +609,9 @@ class Words(StationCase):
     def test_a_ca_of_the_plant(self):
         proxy = TlsProxy(self.program, self.folder)
         self.addCleanup(proxy.close)
-        words = ["--patience", "0", "number"]
+        words = ["--patience", "600", "number"]
         status, out, err = self.ran(*words, url=proxy.url)
-        self.assertEqual((status, out), (3, ""))
+        self.assertEqual((status, out), (2, ""))
         self.assertIn("CERTIFICATE_VERIFY_FAILED", err)
         told = (0, '{"expected":1,"own":null}\n', "")
         self.assertEqual(self.ran("--ca", str(self.folder / "ca.pem"), *words, url=proxy.url), told)
