@@ -119,7 +119,7 @@ def _tested_file(path: Path, lines: Sequence[str], head: str, customer: Optional
     """Whether a file may have a report with these columns, of this customer."""
     if lines[0] != head:
         raise ValueError(f"{path} has other columns")
-    other = lines[-1].split(",")[2] if len(lines) > 1 else customer
+    other = next((line.split(",")[2] for line in reversed(lines[1:]) if line.count(",") > 2), customer)
     if customer is not None and other != customer:
         told = f"has reports with the customer {other!r}, and this one has {customer!r}"
         raise NotOneWatch(f"{path} {told}: give each watch a file of its own")
@@ -338,9 +338,10 @@ def given_up(
     journals: Iterable[str | os.PathLike[str]], start: Optional[datetime] = None, end: Optional[datetime] = None
 ) -> tuple[list[list[str]], list[str]]:
     """The chips that were lost or scrapped, each once, by the stations' logs: when the reply that said so first was
-    written down, the log, the chip, its order where a log has its registration, and why. And what got no reply."""
+    written down, the log, the chip, its order where a log has its registration, and why. And what got no reply, of
+    chips of which nothing is known since."""
     tested_period(start, end)
-    orders, found, unanswered = {}, [], []
+    orders, found, unanswered = {}, [], {}
     for journal in map(str, journals):
         for asked, answer in _answers(journal):
             path, chip = asked["path"], asked["asked"].get("chip", "")
@@ -348,15 +349,17 @@ def given_up(
             if path == "/v1/device" and reply:
                 orders[chip] = asked["asked"]["order"]
             elif not answer and path in ("/v1/readback", "/v1/scrap"):
-                unanswered.append((asked["at"], chip, f"{asked['at']} {journal}: no reply to {path} of {chip}"))
-            elif answer and reply.get("state") in ("quarantined", "scrapped"):
+                unanswered[chip] = (asked["at"], f"{asked['at']} {journal}: no reply to {path} of {chip}")
+            elif reply:
+                unanswered.pop(chip, None)
+            if answer and reply.get("state") in ("quarantined", "scrapped"):
                 found.append((answer["at"], journal, chip, reply.get("outcome", "scrapped")))
     firsts: dict[str, tuple[str, str, str, str]] = {}
     for one in sorted(found, key=lambda it: (it[0], it[3] == "scrapped")):
         firsts.setdefault(one[2], one)
     lines = [[at, journal, chip, orders.get(chip, ""), why] for at, journal, chip, why in firsts.values()]
     first, last = text_of(start) if start else "", text_of(end) if end else "~"
-    told = [text for at, chip, text in unanswered if chip not in firsts and first <= at < last]
+    told = [text for chip, (at, text) in unanswered.items() if chip not in firsts and first <= at < last]
     return [line for line in lines if first <= line[0] < last], told
 
 

@@ -313,6 +313,17 @@ class Lost(StationCase):
         self.assertEqual((lines, len(told)), ([], 1))
         self.assertIn(f"no reply to /v1/readback of {self.STRAY}", told[0])
 
+    def test_no_reply_and_gone_on(self):
+        """A read-back that never got its reply is told, until a later reply tells of its chip."""
+        asked = [{"path": "/v1/readback", "asked": {"chip": "c1", "nr": 1}}, {"resynchronized": 1}]
+        asked += [{"path": "/v1/readback", "asked": {"chip": "c1", "nr": 2}}]
+        answer = {"nr": 2, "status": 200, "reply": {"outcome": "match", "state": "settled"}}
+        for lines, count in ((asked[:1], 1), (asked, 1), ([*asked, answer], 0)):
+            text = "".join(json.dumps({"at": DAY + "06:00:00Z", **line}) + "\n" for line in lines)
+            self.files[1].write_text(text, encoding="ascii")
+            lines, told = given_up(self.files[1:])
+            self.assertEqual((lines, len(told)), ([], count))
+
     def test_times_and_orders(self):
         """A reply's time counts; a chip that was given up before isn't scrapped anew; without a log with its
         registration its order isn't known."""
