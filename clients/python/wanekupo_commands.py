@@ -31,7 +31,19 @@ from wanekupo_station import (
     value,
     wlock,
 )
-from wanekupo_yield import as_csv, as_svg, as_text, between, moment_of, seconds_of, watch
+from wanekupo_yield import (
+    NoReports,
+    as_csv,
+    as_svg,
+    as_text,
+    between,
+    given_up,
+    lost_csv,
+    lost_text,
+    moment_of,
+    seconds_of,
+    watch,
+)
 
 
 def _key_file(word: str) -> tuple[str, KeyFile]:
@@ -45,6 +57,18 @@ def _pair(word: str) -> tuple[str, str]:
     if not found:
         raise argparse.ArgumentTypeError(f"{word} has no =")
     return field, text
+
+
+def _told(parse: Callable[[str], Any]) -> Callable[[str], Any]:
+    """The same for a word of the command line, whose error is told as it stands."""
+
+    def told(word: str) -> Any:
+        try:
+            return parse(word)
+        except ValueError as error:
+            raise argparse.ArgumentTypeError(str(error)) from error
+
+    return told
 
 
 def _text_of(file: str) -> str:
@@ -111,19 +135,32 @@ def _issued(args: argparse.Namespace) -> str:
 
 
 def _watch(args: argparse.Namespace) -> str:
-    path = "/v1/site/report" if args.site else "/v1/report"
+    path, failed = "/v1/site/report" if args.site else "/v1/report", 0
     with _station(args, file=None, patience=min(args.patience, 10), timeout=10) as station:
         with contextlib.suppress(KeyboardInterrupt):
-            watch(lambda: station.get(path), args.file, seconds_of(args.every), args.times, args.customer)
+            failed = watch(lambda: station.get(path), args.file, args.every, args.times, args.customer)
+    if failed:
+        raise NoReports(f"{failed} of {args.times} failed")
     return ""
 
 
 def _yield(args: argparse.Namespace) -> str:
-    shift = between(args.file, moment_of(getattr(args, "from")), moment_of(args.to))
+    shift = between(args.file, getattr(args, "from"), args.to)
+    for told in shift.warnings:
+        print(f"warning: {told}", file=sys.stderr)
     for file, text in ((args.csv, as_csv), (args.svg, as_svg)):
         if file:
             Path(file).write_text(text(shift), encoding="utf-8")
     return as_text(shift)
+
+
+def _lost(args: argparse.Namespace) -> str:
+    lines, unanswered = given_up(args.journals, getattr(args, "from"), args.to)
+    for told in unanswered:
+        print(f"warning: {told}", file=sys.stderr)
+    if args.csv:
+        Path(args.csv).write_text(lost_csv(lines), encoding="utf-8")
+    return lost_text(lines)
 
 
 # Each command with its words, what it does, and what is said of it. One that answers nothing has its reply printed.
@@ -164,7 +201,25 @@ STATELESS: list[tuple[str, Callable[..., Any], str]] = [
     ("issued", _issued, "show the identities of journals"),
     ("watch", _watch, "add the report to a file of each day, with its time, every so often"),
     ("yield", _yield, "show what was done between two moments, by the files of watch"),
+    ("lost", _lost, "show which chips were lost or scrapped, when and why, by the stations' journals"),
 ]
+
+# What is said of some beside.
+MORE = {
+    "watch": """. The station's --url and --token stand before the word watch. The report is asked for at once, and at
+        each round time from then on (with 15m at each quarter of an hour). One that isn't had in ten seconds is told on
+        standard error, and leaves a gap. A file is one watch's; a watch that is started again adds to it. With --times,
+        the status is 2 where a report failed.""",
+    "yield": """: the last reports at or before them, subtracted. The first line says which reports these are; read it.
+        begun: how many were registered. given_up: how many were quarantined, or scrapped without that. yield: 100 times
+        shipped / (shipped + given_up), each counted when it happened, so that more may be shipped than begun.""",
+    "lost": """, each chip once, by the clocks of the stations. The order is known where a journal has the chip's
+        registration. A read-back without a reply is told on standard error.""",
+}
+
+
+# What must be given with some, in place of the seat's token and its state file.
+NEEDED = {"issued": (), "yield": (), "lost": (), "watch": ("token",), "site-report": ("token",)}
 
 
 def _parser() -> argparse.ArgumentParser:
@@ -182,21 +237,7 @@ def _parser() -> argparse.ArgumentParser:
         made[name].set_defaults(run=run)
         for word in words.split():
             made[name].add_argument(word)
-    for name, run, said in STATELESS:
-        made[name] = subparsers.add_parser(name, help=said, description=said)
-        made[name].set_defaults(run_stateless=run)
-    for name in ("restore", "issued"):
-        made[name].add_argument("journals", nargs="+", metavar="journal")
-    for name in ("watch", "yield"):
-        made[name].add_argument("file", help="FILE.csv is FILE-2026-11-27.csv of that day, in UTC")
-    made["watch"].add_argument("--every", default="15m", help="as 30s, 15m or 1h")
-    made["watch"].add_argument("--times", type=int, default=0, help="how many reports, without end where it is 0")
-    made["watch"].add_argument("--customer", default="", help="the seat's customer, for the column of that name")
-    made["watch"].add_argument("--site", action="store_true", help="the site's report, with the manager's token")
-    made["yield"].add_argument("--from", required=True, metavar="TIME", help="as 2026-11-27T06:00, or with a Z")
-    made["yield"].add_argument("--to", required=True, metavar="TIME")
-    made["yield"].add_argument("--csv", metavar="FILE", help="write it as comma-separated values too")
-    made["yield"].add_argument("--svg", metavar="FILE", help="draw it")
+    _add_stateless(subparsers, made)
     for name in ("width", "first", "quantity"):
         made["order"].add_argument(f"--{name}", type=int, required=True)
     made["order"].add_argument("--macs", type=int, default=0, help="addresses for each serial number")
@@ -215,6 +256,26 @@ def _parser() -> argparse.ArgumentParser:
     return parser
 
 
+def _add_stateless(subparsers: Any, made: dict[str, argparse.ArgumentParser]) -> None:
+    for name, run, said in STATELESS:
+        made[name] = subparsers.add_parser(name, help=said, description=said + MORE.get(name, ""))
+        made[name].set_defaults(run_stateless=run)
+    for name in ("restore", "issued", "lost"):
+        made[name].add_argument("journals", nargs="+", metavar="journal")
+    for name in ("watch", "yield"):
+        made[name].add_argument("file", help="FILE.csv is FILE-2026-11-27.csv of that day, in UTC")
+    made["watch"].add_argument("--every", default="15m", type=_told(seconds_of), help="as 30s, 15m or 1h")
+    made["watch"].add_argument("--times", type=int, default=0, help="how many reports, without end where it is 0")
+    made["watch"].add_argument("--customer", default="", help="the seat's customer, for the column of that name")
+    made["watch"].add_argument("--site", action="store_true", help="the site's report, with the manager's token")
+    said = "as 2026-11-27T06:00 by this machine's clock, 2026-11-27T06:00Z or 2026-11-27T06:00+02:00"
+    for name in ("yield", "lost"):
+        for word in ("--from", "--to"):
+            made[name].add_argument(word, required=name == "yield", metavar="TIME", type=_told(moment_of), help=said)
+        made[name].add_argument("--csv", metavar="FILE", help="write it as comma-separated values too")
+    made["yield"].add_argument("--svg", metavar="FILE", help="draw it")
+
+
 def _answered(args: argparse.Namespace) -> Any:
     """A seat's command: its answer, or the reply to its request."""
     with contextlib.ExitStack() as stack:
@@ -230,7 +291,7 @@ def main(words: Optional[Sequence[str]] = None) -> int:
     parser = _parser()
     args = parser.parse_args(words)
     is_stateless = "run_stateless" in args
-    needed = {"issued": (), "yield": (), "watch": ("token",)}.get(args.command, ("token", "state"))
+    needed = NEEDED.get(args.command, ("token", "state"))
     if not all(getattr(args, name) for name in needed):
         parser.error(" and ".join(f"--{name}" for name in needed) + " must be given")
     try:
