@@ -15,7 +15,7 @@ import tempfile
 from dataclasses import dataclass
 from pathlib import Path
 
-from streams import Failed
+from program import Failed
 
 ROOT = Path(__file__).resolve().parent.parent
 DATA = ROOT / "crates" / "station" / "data"

@@ -1,4 +1,4 @@
-"""A server on a port of this machine, and the requests of a seat over HTTP, for kill.py and serving.py."""
+"""A server on a port of this machine, and the requests of a seat over HTTP, for kill, serving, clients, shards and backups."""
 
 import http.client
 import json

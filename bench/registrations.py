@@ -1,0 +1,122 @@
+"""Registrations of devices, with their map and what each chip shows, and what it takes to answer requests of each."""
+
+import hashlib
+import json
+
+from program import times_of
+
+ORDERS = 10
+DEVICES = 10000
+PART = 1000
+
+# Four blocks, the lock fields, and a key field in each of two blocks.
+MAP = """name = "bench"
+wr = "WR_DIS"
+rd = "RD_DIS"
+[[block]]
+words = 7
+[[block]]
+words = 8
+[[block]]
+words = 8
+[[block]]
+words = 8
+[[field]]
+name = "WR_DIS"
+block = 0
+bit = 0
+count = 16
+[[field]]
+name = "RD_DIS"
+block = 0
+bit = 16
+count = 4
+[[field]]
+name = "BLOCK1"
+block = 1
+bit = 0
+count = 256
+write = 7
+read = 0
+key = true
+[[field]]
+name = "BLOCK2"
+block = 2
+bit = 0
+count = 256
+write = 8
+read = 1
+key = true
+"""
+
+
+def request(path, members):
+    """A request of the seat `a1` with these members."""
+    body = json.dumps(members, separators=(",", ":")).encode()
+    head = f"POST {path} HTTP/1.1\r\nAuthorization: Bearer abc\r\nContent-Length: {len(body)}\r\n\r\n"
+    return head.encode() + body
+
+
+def order_request(number):
+    """An order for as many devices as each order gets."""
+    count = DEVICES // ORDERS
+    return request(
+        "/v1/order",
+        {
+            "nr": number,
+            "name": f"o{number}",
+            "issuer": "acme-ca",
+            "prefix": "A",
+            "width": 9,
+            "first": number * count,
+            "quantity": count,
+            "macs": 0,
+        },
+    )
+
+
+def blocks_of(number):
+    """What a chip shows: a few bits of each plain block, and a key of its own in one block."""
+    words = [[0] * 7, [0] * 8, [0] * 8, [0] * 8]
+    words[0][6] = number % 2**16
+    words[1] = [number + 1] * 8
+    words[3][7] = 0x80000000
+    return [[f"{word:08x}" for word in block] for block in words]
+
+
+def key_of(number):
+    """The key that a device gets, as the words of its block."""
+    return [number + 2**16] * 8
+
+
+def device_request(number, digest):
+    """The device with this number: the orders take turns."""
+    return request(
+        "/v1/device",
+        {
+            "nr": ORDERS + 1 + number,
+            "chip": f"{number:012x}",
+            "order": f"o{(number - 1) % ORDERS + 1}",
+            "map": digest,
+            "blocks": blocks_of(number),
+        },
+    )
+
+
+def stream():
+    """The requests before the devices, and those of the devices."""
+    digest = hashlib.sha256(MAP.encode()).hexdigest()
+    before = [order_request(number) for number in range(1, ORDERS + 1)]
+    before.append(request("/v1/map", {"nr": ORDERS + 1, "text": MAP}))
+    return before, [device_request(number, digest) for number in range(1, DEVICES + 1)]
+
+
+def measure(command, seconds, before, devices, kind):
+    """Prints how many devices' requests are answered a second, the peak of memory, the last part's time to the first's."""
+    parts = [[asked for device in devices[at : at + PART] for asked in device] for at in range(0, DEVICES, PART)]
+    times, peak = times_of(command, seconds, before, parts)
+    took, ratio = times[-1] - times[0], (times[-1] - times[-2]) / (times[1] - times[0])
+    print(
+        f"{DEVICES} devices: {DEVICES / took:.0f} {kind} a second, peak {peak} KiB, "
+        f"last {PART} to first {PART}: {ratio:.2f}"
+    )
