@@ -1,23 +1,13 @@
 -- What follows from a query of the office.
-use Rattle.std.proofs.Common.{◌≡◌, ℕ, List, [], false, sym, ap, subst, ◌∙◌, arith, IsTrue, inl, inr, Result, Ok, Err, IfOk, IfErr}
-use Rattle.sqlite.specs.declared.types.Value.TheVariants.{Null}
-use Rattle.sqlite_value.specs.declared.keys.Key.{Key}
-use Rattle.sqlite.specs.Order.{Row}
-use Rattle.sqlite.specs.Schema.{Schema}
-use Rattle.sqlite.specs.Term.{Term}
-use Rattle.sqlite.specs.Query.{Join, IsAnswer}
-use Rattle.sqlite.specs.Program.{overlay}
-use Rattle.sqlite.specs.Command.TheVariants.{Select}
-use Rattle.sqlite.specs.Listing.{understood, reads_listing}
+use Rattle.std.proofs.Common.{◌≡◌, ℕ, List, [], false, sym, ap, subst, ◌∙◌, arith, IsTrue, inl, inr, Result, Ok, Err, IfOk, IfErr, Vec}
+use Rattle.office_sql.proofs.Kit.{Null, Key, Row, Schema, Term, Join, IsAnswer, overlay, Select, reads_listing, State, HasCleanDisk, Survives, ShowsRows}
+use Rattle.office_sql.proofs.Kit.{IsUnchanged, IsRolledBack, FailsToShow, IsPlain, command_of, reads_as, Error}
+use Rattle.sqlite.specs.Listing.{understood}
 use Rattle.sqlite.specs.Clock.{timed}
-use Rattle.sqlite.specs.State.{State, HasCleanDisk, Survives, Shown, ShowsRows, IsUnchanged, IsRolledBack, IsNotRun, FailsToQuery, FailsToShow}
-use Rattle.sqlite.proofs.Callers.{IsPlain, command_of, reads_as}
+use Rattle.sqlite.specs.State.{Shown, IsNotRun, FailsToQuery}
 use Rattle.office_sql.proofs.Bare.{IsBare, bare_understood}
-use Rattle.std.specs.Prelude.{Vec}
 use Rattle.std.specs.declared.alloc.Global.{Global}
-use Rattle.sqlite.specs.declared.error.Error.{Error}
-use Rattle.office_sql.specs.Change.{Rests}
-use Rattle.office_sql.specs.Joins.{over}
+use Rattle.office_sql.specs.Prelude.{Rests, over}
 
 pub was_clean : (old new : State) (P : _) → Survives old new P → HasCleanDisk new → HasCleanDisk old
 was_clean old new P s clean = omega (arith, s.clean)

@@ -1,18 +1,11 @@
 -- A text with no RETURNING commits nothing as a query, whatever the schema is.
 use Rattle.std.proofs.Common.{◌≡◌, ℕ, ◌+◌, List, Bool, true, false, cond, Option, None, Ok, Err, IfOk, sym, ap}
-use Rattle.sqlite.specs.Schema.{Schema}
-use Rattle.sqlite.specs.Order.{Row}
-use Rattle.sqlite_schema.specs.declared.command.Command.{Command}
-use Rattle.sqlite_resolve.specs.declared.compiled.Compiled.{Compiled}
-use Rattle.sqlite_resolve.specs.Compile.{first, returning, compiled, planned, meaning, with_command, timed, command, small}
-use Rattle.sqlite_resolve.specs.Lowering.{Checked, and_then}
-use Rattle.sqlite_resolve.specs.declared.error.CompileError.TheVariants.{NoSuchTable}
-use Rattle.sqlite_schema.specs.declared.command.Returning.{Returning}
-use Rattle.sqlite_syntax.specs.declared.statement.Parsed.{Parsed}
+use Rattle.office_sql.proofs.Kit.{Schema, Row, Command, Compiled, with_command, small, Checked, and_then, NoSuchTable, Returning, Parsed, reads_listing}
+use Rattle.office_sql.proofs.Kit.{if_select, is_select, State, Survives, survives_weaker}
+use Rattle.sqlite_resolve.specs.Compile.{first, returning, compiled, planned, meaning, timed, command}
 use Rattle.office_sql.proofs.Stepping.{same_value}
-use Rattle.sqlite.specs.Listing.{understood, reads_listing, listing_schema, if_select, is_select}
-use Rattle.sqlite.specs.State.{State, Survives, CommitsShowing}
-use Rattle.sqlite.proofs.StateLemmas.{survives_weaker}
+use Rattle.sqlite.specs.Listing.{understood, listing_schema}
+use Rattle.sqlite.specs.State.{CommitsShowing}
 
 abbrev pub IsBare : List ℕ → Type 0
 IsBare text = IfOk (first text) (λ p. (schema : Schema) (base : ℕ) → returning schema base p.statement ≡ Ok None)

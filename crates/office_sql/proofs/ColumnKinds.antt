@@ -1,14 +1,9 @@
 -- What the rule on types says of each column of a row, and what the casts of SQL make of such columns.
-use Rattle.std.proofs.Common.{◌≡◌, ℕ, suc, ◌+◌, cond, true, List, [], ◌∷◌, drop, refl, sym, ap, subst, ◌∙◌, arith, add-one, true≢false, None}
-use Rattle.std.specs.List.{AllByRecursion}
-use Rattle.std.proofs.lemmas.Bool.{and_parts}
-use Rattle.sqlite.specs.declared.types.Value.{Value}
-use Rattle.sqlite.specs.declared.types.Value.TheVariants.{Null, Int, Real, Text as Words, Blob as Bytes}
-use Rattle.sqlite.specs.Order.{Row, column}
-use Rattle.sqlite.specs.Kind.TheVariants.{Integer, Text}
-use Rattle.sqlite.specs.Cast.{cast}
-use Rattle.sqlite_schema.specs.declared.schema.Column.{Column}
-use Rattle.sqlite_schema.specs.Rules.{are_typed, is_of, has_affinity}
+use Rattle.std.proofs.Common.{◌≡◌, ◌+◌, ◌∷◌}
+use Rattle.text_core.proofs.Kit.{ℕ, suc, cond, true, List, [], drop, refl, sym, ap, subst, ◌∙◌, arith, add-one, true≢false, None, AllByRecursion, and_parts}
+use Rattle.office_sql.proofs.Kit.{Value, Null, Int, Real, Row, column, Integer, cast, Column, are_typed, is_of, has_affinity}
+use Rattle.sqlite.specs.declared.types.Value.TheVariants.{Text as Words, Blob as Bytes}
+use Rattle.sqlite.specs.Kind.TheVariants.{Text}
 use Rattle.office_sql.proofs.Stepping.{cast_null, cast_int}
 
 -- the columns of a row from a place on are of these kinds

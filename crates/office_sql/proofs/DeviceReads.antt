@@ -1,28 +1,16 @@
 -- What the texts that read devices mean, and show.
-use Rattle.std.proofs.Common.{◌≡◌, ℕ, ◌<◌, ◌+◌, ◌++◌, take, get_or, ◌&&◌, List, [], ◌∷◌, codes, refl, sym, ap, ap₂, ◌∙◌, map, filter, length, Ordering, Equal}
-use Rattle.std.specs.Ordering.{on, ordering_then}
-use Rattle.std.specs.Cmp.{IsTotalOrder}
-use Rattle.std.proofs.lemmas.List.{take_more, map-append}
-use Rattle.std.proofs.lemmas.Cmp.{on_total, then_total}
-use Rattle.sqlite.specs.declared.types.Value.TheVariants.{Null, Text as Words}
-use Rattle.sqlite.specs.Order.{Row, column}
-use Rattle.sqlite.specs.Term.{Term, col, eval_all}
-use Rattle.sqlite.specs.Query.{key_cmp, output, output_cmp}
+use Rattle.std.proofs.Common.{◌≡◌, ◌<◌, ◌+◌, ◌++◌, get_or, ◌&&◌, ◌∷◌, Ordering}
+use Rattle.text_core.proofs.Kit.{ℕ, take, List, [], codes, refl, sym, ap, ap₂, ◌∙◌, map, filter, length, Equal, on, ordering_then, IsTotalOrder, take_more}
+use Rattle.text_core.proofs.Kit.{map-append, on_total, then_total}
+use Rattle.office_sql.proofs.Kit.{Null, Row, column, Term, col, eval_all, key_cmp, output, output_cmp, Binary, Key, ascending, value_cmp_total, then-Equal}
+use Rattle.office_sql.proofs.Kit.{sort_by}
+use Rattle.sqlite.specs.declared.types.Value.TheVariants.{Text as Words}
 use Rattle.sqlite.specs.Listing.{understood}
-use Rattle.sqlite.specs.Collation.TheVariants.{Binary}
 use Rattle.sqlite_tied.specs.Compute.{everything}
-use Rattle.sqlite_value.specs.declared.keys.Key.{Key}
-use Rattle.sqlite_value.specs.Keys.{ascending}
-use Rattle.sqlite_value.proofs.OrderLemmas.{value_cmp_total, then-Equal}
-use Rattle.sqlite_keyed.specs.Lists.{sort_by}
 use Rattle.sqlite_trees.proofs.ListLemmas.{map-map}
-use Rattle.office_tables.specs.Tables.{device_cmp, is_device, is_of}
+use Rattle.office_tables.specs.Prelude.{device_cmp, is_device, is_of}
 pub use Rattle.office_tables.proofs.Places.{device_total}
-use Rattle.office_sql.specs.Schema.{office_schema}
-use Rattle.office_sql.specs.Rows.{device_in_row}
-use Rattle.office_sql.specs.Scan.{scan, is_parameter, env, passes}
-use Rattle.office_sql.specs.OrderStates.{order_state, order_state_in}
-use Rattle.office_sql.specs.Tables.{AreRows, IsDeviceRow}
+use Rattle.office_sql.specs.Prelude.{devices, office_schema, device_in_row, scan, is_parameter, env, passes, order_state, order_state_in, AreRows, IsDeviceRow}
 use Rattle.office_sql.proofs.Kept.{shows_kept, kept_is}
 use Rattle.office_sql.proofs.Lists.{sorted_kept}
 use Rattle.office_sql.proofs.Reading.{IsRead}
@@ -50,15 +38,15 @@ by_key = (col 1 1, ascending Binary) ∷ (col 1 2, ascending Binary) ∷ []
 abbrev names : List (List ℕ)
 names = codes "customer" ∷ codes "chip" ∷ codes "ord" ∷ codes "map" ∷ codes "state" ∷ codes "reason" ∷ codes "bits" ∷ codes "keys" ∷ codes "todo" ∷ codes "serial" ∷ []
 
-pub one_read : IsRead office_schema one_text 9 (is_parameter 1 0 ∷ is_parameter 2 1 ∷ []) shown by_key
+pub one_read : IsRead office_schema one_text devices (is_parameter 1 0 ∷ is_parameter 2 1 ∷ []) shown by_key
 unfolding understood everything
 one_read = record { names = names; is = refl; plain = (refl, refl); unlisted = refl; bare = λ schema base. refl; there = λ db. refl }
 
-pub own_read : IsRead office_schema own_text 9 (is_parameter 1 0 ∷ []) shown by_key
+pub own_read : IsRead office_schema own_text devices (is_parameter 1 0 ∷ []) shown by_key
 unfolding understood everything
 own_read = record { names = names; is = refl; plain = (refl, refl); unlisted = refl; bare = λ schema base. refl; there = λ db. refl }
 
-pub states_read : IsRead office_schema states_text 9 (is_parameter 1 0 ∷ []) states_shown by_key
+pub states_read : IsRead office_schema states_text devices (is_parameter 1 0 ∷ []) states_shown by_key
 unfolding understood everything
 states_read = record { names = codes "ord" ∷ codes "state" ∷ codes "reason" ∷ []; is = refl; plain = (refl, refl); unlisted = refl; bare = λ schema base. refl; there = λ db. refl }
 

@@ -1,46 +1,24 @@
 -- What the texts that write devices mean, and make of the tables.
-use Rattle.std.proofs.Common.{◌≡◌, inl, inr, ℕ, ℤ, true, ◌&&◌, List, [], ◌∷◌, codes, map, find, Option, Some, None, Ok, refl, sym, ap, ap₂, subst}
-use Rattle.std.proofs.Common.{◌∙◌, arith, Ordering, Less, Equal, Greater, is_eq}
-use Rattle.std.specs.Prelude.{option_map, unwrap_or}
-use Rattle.std.specs.List.{AllByRecursion}
-use Rattle.std.specs.Ordering.{nat_cmp, ordering_then}
-use Rattle.std.specs.Cmp.Lexicographic.{slice_cmp}
-use Rattle.std.proofs.lemmas.Cmp.{tied_itself}
-use Rattle.std.proofs.lemmas.Map.Text.{is_eq-slice_cmp}
-use Rattle.sqlite.specs.declared.types.Value.{Value}
-use Rattle.sqlite.specs.declared.types.Value.TheVariants.{Null, Int, Text as Words, Blob as Bytes}
-use Rattle.sqlite.specs.Order.{Row, column, bytes}
-use Rattle.sqlite.specs.Term.{Term, lit, col, eval_all}
-use Rattle.sqlite.specs.Effect.{Database}
-use Rattle.sqlite.specs.Cast.{cast}
+use Rattle.std.proofs.Common.{◌≡◌, ◌&&◌, ◌∷◌, Ordering}
+use Rattle.text_core.proofs.Kit.{inl, inr, ℕ, ℤ, true, List, [], codes, map, find, Option, Some, None, Ok, refl, sym, ap, ap₂, subst, ◌∙◌, arith, Less, Equal}
+use Rattle.text_core.proofs.Kit.{Greater, is_eq, option_map, unwrap_or, AllByRecursion, nat_cmp, ordering_then, slice_cmp, tied_itself, is_eq-slice_cmp}
+use Rattle.office_sql.proofs.Kit.{Value, Null, Int, Row, column, bytes, Term, lit, col, eval_all, Database, cast, State, Executes, cast_row, next_rowid}
+use Rattle.office_sql.proofs.Kit.{sort_by}
+use Rattle.sqlite.specs.declared.types.Value.TheVariants.{Text as Words, Blob as Bytes}
 use Rattle.sqlite.specs.Kind.TheVariants.{Text as TextKind}
 use Rattle.sqlite.specs.Listing.{understood}
-use Rattle.sqlite.specs.State.{State, Executes}
-use Rattle.sqlite_rules.specs.Cast.{cast_row}
-use Rattle.sqlite_rules.specs.Edit.{next_rowid}
 use Rattle.sqlite_tied.specs.Compute.{everything}
-use Rattle.sqlite_keyed.specs.Lists.{sort_by}
 use Rattle.sqlite_trees.proofs.ListLemmas.{all_weaker}
-use Rattle.office_tables.specs.States.{state_row}
-use Rattle.office_tables.specs.declared.rows.OfCustomer.{OfCustomer}
-use Rattle.office_tables.specs.declared.rows.Device.{Device}
-use Rattle.office_tables.specs.declared.rows.DeviceState.{DeviceState}
-use Rattle.office_tables.specs.declared.rows.DeviceState.TheVariants.{Quarantined, Scrapped}
+use Rattle.office_tables.specs.Prelude.{state_row, reason_text, state_of_texts, device_cmp, is_device, with_row, IsFree}
+use Rattle.office_sql.proofs.Types.{OfCustomer, Device, DeviceState, Quarantined, Scrapped, AddDevice, PutDevice}
 use Rattle.office_tables.specs.declared.rows.Reason.TheVariants as reason
-use Rattle.office_tables.specs.declared.rows.Write.TheVariants.{AddDevice, PutDevice}
-use Rattle.office_tables.specs.Texts.{reason_text, state_of_texts}
-use Rattle.office_tables.specs.Tables.{device_cmp, is_device, with_row, IsFree}
-use Rattle.office_sql.specs.Change.{SqlAdds, Wrote}
-use Rattle.office_sql.specs.Rows.{device_in_row, device_columns}
-use Rattle.office_sql.specs.Schema.{device_table, office_schema}
-use Rattle.office_sql.specs.Scan.{is_parameter}
-use Rattle.office_sql.specs.Tables.{IsOffice, IsDeviceRow, tables_in, AreRows}
-use Rattle.office_sql.specs.Values.{state_in, text_if, text_value}
+use Rattle.office_sql.specs.Prelude.{devices, SqlAdds, Wrote, device_in_row, device_columns, device_table, office_schema, rows_in, is_parameter, IsOffice}
+use Rattle.office_sql.specs.Prelude.{IsDeviceRow, tables_in, AreRows, state_in, text_if, text_value}
 use Rattle.office_sql.proofs.DeviceReads.{device_total, passes_device}
 use Rattle.office_sql.proofs.Finding.{both_true, same_text, texts_tied, unkeyed}
 use Rattle.office_sql.proofs.Inserting.{IsInsert}
 use Rattle.office_sql.proofs.Keyed.{Apart}
-use Rattle.office_sql.proofs.Offices.{devices_changed, told_stays}
+use Rattle.office_sql.proofs.Offices.{both_started, table_changed, told_stays}
 use Rattle.office_sql.proofs.Replacing.{IsUpdate, IsSet, remade, sets}
 use Rattle.office_sql.proofs.Stepping.{cast_null, cast_int}
 use Rattle.office_sql.proofs.TableRows.{row_added}
@@ -51,7 +29,7 @@ add_text = codes "INSERT INTO device (customer, chip, ord, map, state, reason, b
 abbrev pub add_terms : List Term
 add_terms = lit Null ∷ col 0 0 ∷ col 0 1 ∷ col 0 2 ∷ col 0 3 ∷ col 0 4 ∷ col 0 5 ∷ col 0 6 ∷ col 0 7 ∷ col 0 8 ∷ col 0 9 ∷ []
 
-pub add_insert : IsInsert office_schema add_text 5 device_table add_terms 11
+pub add_insert : IsInsert office_schema add_text devices add_terms 11
 unfolding understood everything
 add_insert = record { is = refl; plain = (refl, refl); there = refl; uncounted = refl; unstamped = refl; one = λ params. refl }
 
@@ -64,7 +42,7 @@ put_shown = col 1 0 ∷ col 1 0 ∷ col 1 1 ∷ col 1 2 ∷ col 0 2 ∷ col 0 3 
 abbrev pub put_tests : List Term
 put_tests = is_parameter 1 0 ∷ is_parameter 2 1 ∷ []
 
-pub put_update : IsUpdate put_text 5 device_table put_tests put_shown
+pub put_update : IsUpdate put_text devices put_tests put_shown
 unfolding understood everything
 put_update = record { is = refl; plain = (refl, refl); there = refl; same = λ db. refl }
 
@@ -126,19 +104,24 @@ device_free x rows none = all_weaker _ (Apart device_cmp device_total x) (λ y o
 -- ---- what is written
 
 pub device_added : (d : OfCustomer Device) (old new : Database) → IsOffice old
-    → IsFree (AddDevice d) (tables_in old.trees) → SqlAdds 9 (device_columns d) old new
+    → IsFree (AddDevice d) (tables_in old.trees) → SqlAdds devices (device_columns d) old new
     → Wrote (AddDevice d) old new
 device_added d old new office free adds =
-    let rows = old.trees 9 in
+    let rows = rows_in old.trees devices in
     let id = next_rowid rows in
     let is = device_back id d in
-    let it = row_added IsDeviceRow device_cmp device_total device_in_row (device_columns d) rows office.rows.devices (refl, refl, refl)
+    let it = row_added IsDeviceRow device_cmp device_total device_in_row (device_columns d) rows (office.rows devices) (refl, refl, refl)
     (subst (λ x. AllByRecursion (Apart device_cmp device_total x) (map device_in_row rows)) (sym is) (device_free d rows free)) in
-    let changed = devices_changed old new office adds.schema adds.sound adds.others
-    (subst (AreRows IsDeviceRow device_cmp device_in_row) (sym adds.row) it.0)
-    (with_row device_cmp d (sort_by device_cmp (map device_in_row rows)))
-    (ap (λ l. sort_by device_cmp (map device_in_row l)) adds.row ∙ it.1 ∙ ap (λ x. with_row device_cmp x (sort_by device_cmp (map device_in_row rows))) is) in
-    record { office = changed.0; made = changed.1; rows = adds; told = told_stays 9 old.trees new.trees (λ e. cc) (λ e. cc) adds.others }
+    let changed = table_changed old new office adds.schema adds.sound devices adds.others
+    (subst (AreRows IsDeviceRow device_cmp device_in_row) (sym adds.row) it.0) (both_started old office) in
+    let all = ap (λ l. sort_by device_cmp (map device_in_row l)) adds.row ∙ it.1
+    ∙ ap (λ x. with_row device_cmp x (sort_by device_cmp (map device_in_row rows))) is in
+    record {
+      office = changed.0;
+      made = changed.1 ∙ ap (λ l. record (tables_in old.trees) { devices = l }) all;
+      rows = adds;
+      told = told_stays devices old.trees new.trees (λ e. cc) (λ e. cc) adds.others;
+    }
 
 -- the columns of the row that takes the place of another
 abbrev put_columns : OfCustomer Device → Row → Row
@@ -195,22 +178,22 @@ pub device_put : (d : OfCustomer Device) (old new : State) (count : ℕ) → IsO
     → Wrote (PutDevice d) old.now new.now
 device_put d old new count office ran one =
     elim (sets IsDeviceRow device_cmp device_total device_in_row (is_device d.customer d.row.chip)
-    (device_ties d.customer d.row.chip) put_text 5 device_table put_tests put_shown put_update
+    (device_ties d.customer d.row.chip) put_text devices put_tests put_shown put_update
     (device_columns d) (put_columns d) (put_set d) old new count office.schema
-    office.rows.devices ran) [
+    (office.rows devices) ran) [
       | inl it ↦ absurd (omega (arith, it.counted))
       | inr it ↦ (
-          let changed = devices_changed old.now new.now office it.replaced.schema it.replaced.sound
-          it.replaced.others it.rows
-          (with_row device_cmp d (sort_by device_cmp (map device_in_row (old.now.trees 9))))
-          (it.placed_is ∙ ap (λ x. with_row device_cmp x (sort_by device_cmp (map device_in_row (old.now.trees 9)))) (put_back d it.id it.was it.one.passed)) in
+          let changed = table_changed old.now new.now office it.replaced.schema it.replaced.sound
+          devices it.replaced.others it.rows (both_started old.now office) in
+          let all = sort_by device_cmp (map device_in_row (rows_in old.now.trees devices)) in
+          let placed = it.placed_is ∙ ap (λ x. with_row device_cmp x all) (put_back d it.id it.was it.one.passed) in
           record {
             office = changed.0;
-            made = changed.1;
-            rows = remade IsDeviceRow device_cmp device_in_row (is_device d.customer d.row.chip) 9
+            made = changed.1 ∙ ap (λ l. record (tables_in old.now.trees) { devices = l }) placed;
+            rows = remade IsDeviceRow device_cmp device_in_row (is_device d.customer d.row.chip) devices
                 (put_columns d) (λ _.
                 device_columns d)
                 old.now new.now count it (put_same d it.was it.one.typed it.one.passed);
-            told = told_stays 9 old.now.trees new.now.trees (λ e. cc) (λ e. cc) it.replaced.others;
+            told = told_stays devices old.now.trees new.now.trees (λ e. cc) (λ e. cc) it.replaced.others;
           })
     ]

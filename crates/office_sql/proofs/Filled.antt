@@ -1,23 +1,12 @@
 -- What rows that are made of a table's rows, one of each, are to it.
-use Rattle.std.proofs.Common.{◌≡◌, ℤ, suc, Bool, true, false, cond, List, [], ◌∷◌, ◌++◌, map, filter, find, length, Some, refl, sym, ap, subst, ◌∙◌}
-use Rattle.std.proofs.Common.{Ordering, is_eq, IsPermutation, IsTrue, arith}
-use Rattle.std.specs.Prelude.{is_some}
-use Rattle.std.specs.List.{AllByRecursion}
-use Rattle.std.specs.Cmp.{IsTotalOrder}
-use Rattle.std.proofs.lemmas.Cmp.{tied_itself}
-use Rattle.std.proofs.lemmas.List.Sorted.{length_permutation, IsPermutation-refl, IsPermutation-sym, IsPermutation-trans, IsPermutation-append}
-use Rattle.std.proofs.lemmas.List.Sorted.{IsPermutation-middle}
-use Rattle.sqlite.specs.declared.types.Value.TheVariants.{Null, Int}
-use Rattle.sqlite.specs.Order.{Row}
-use Rattle.sqlite.specs.View.{is_int}
-use Rattle.sqlite.specs.Tree.{IsTable, rowid, put_row}
-use Rattle.sqlite.specs.Edit.{numbered}
-use Rattle.sqlite.specs.Rowids.TheVariants.{Chosen}
-use Rattle.sqlite_rules.specs.Edit.{next_rowid, put_all}
-use Rattle.sqlite_keyed.proofs.ListLemmas.{all_unmap}
-use Rattle.sqlite_trees.proofs.ListLemmas.{all_weaker, all_both, all-permutation, IsPermutation-filter}
-use Rattle.sqlite_trees.proofs.TreeLemmas.{IsTable-put_row, all-put_row}
-use Rattle.office_sql.specs.Tables.{AreRows, AreKeyed, AreStarted, HasOne, IsText}
+use Rattle.std.proofs.Common.{◌≡◌, ◌∷◌, ◌++◌, Ordering}
+use Rattle.text_core.proofs.Kit.{ℤ, suc, Bool, true, false, cond, List, [], map, filter, find, length, Some, refl, sym, ap, subst, ◌∙◌, is_eq, IsPermutation}
+use Rattle.text_core.proofs.Kit.{IsTrue, arith, is_some, AllByRecursion, IsTotalOrder, tied_itself, length_permutation, IsPermutation-refl, IsPermutation-sym}
+use Rattle.text_core.proofs.Kit.{IsPermutation-trans, IsPermutation-append, IsPermutation-middle}
+use Rattle.office_sql.proofs.Kit.{Null, Int, Row, is_int, IsTable, rowid, put_row, numbered, Chosen, next_rowid, put_all, all_unmap, all_both, all-permutation}
+use Rattle.office_sql.proofs.Kit.{IsTable-put_row, all-put_row}
+use Rattle.sqlite_trees.proofs.ListLemmas.{all_weaker, IsPermutation-filter}
+use Rattle.office_sql.specs.Prelude.{AreRows, AreKeyed, AreStarted, HasOne, IsText}
 use Rattle.office_sql.proofs.Keyed.{apart_back}
 use Rattle.office_sql.proofs.TableRows.{put_next}
 

@@ -1,23 +1,10 @@
 -- What is found among rows in order, and rows with one key.
-use Rattle.std.proofs.Common.{◌≡◌, map, ℕ, Bool, true, false, cond, ◌&&◌, List, [], ◌∷◌, filter, find, slice_get, IsPermutation, Some, None, refl}
-use Rattle.std.proofs.Common.{ap, subst, sym, ◌∙◌, Ordering, Less, Equal, Greater, is_eq, true≢false}
-use Rattle.std.specs.List.{AllByRecursion}
-use Rattle.std.specs.Str.{bytes_eq}
-use Rattle.std.specs.Ordering.{nat_cmp}
-use Rattle.std.specs.Cmp.{IsTotalOrder}
-use Rattle.std.specs.Cmp.Lexicographic.{slice_cmp}
-use Rattle.std.proofs.lemmas.Cmp.{nat_list_eq_equiv}
-use Rattle.std.proofs.lemmas.Map.Text.{is_eq-slice_cmp}
-use Rattle.std.proofs.lemmas.Slice.Eq.{bytes_eq-Decides}
-use Rattle.sqlite_keyed.specs.Lists.{sort_by}
-use Rattle.sqlite_keyed.proofs.SortLemmas.{IsPermutation-sort_by}
-use Rattle.sqlite_trees.proofs.ListLemmas.{all-permutation}
-use Rattle.sqlite_trees.proofs.ListLemmas.{filter-map}
-use Rattle.sqlite_keyed.proofs.ListLemmas.{slice_get-filter}
-use Rattle.sqlite_exec.proofs.PartitionLemmas.{sorted_from_ascending}
-use Rattle.std.proofs.lemmas.List.Sorted.{IsPermutation-refl}
-use Rattle.sqlite.specs.Order.{Row}
-use Rattle.office_sql.specs.Tables.{AreKeyed}
+use Rattle.std.proofs.Common.{◌≡◌, ◌&&◌, ◌∷◌, Ordering}
+use Rattle.text_core.proofs.Kit.{map, ℕ, Bool, true, false, cond, List, [], filter, find, slice_get, IsPermutation, Some, None, refl, ap, subst, sym, ◌∙◌, Less}
+use Rattle.text_core.proofs.Kit.{Equal, Greater, is_eq, true≢false, AllByRecursion, bytes_eq, nat_cmp, IsTotalOrder, slice_cmp, nat_list_eq_equiv}
+use Rattle.text_core.proofs.Kit.{is_eq-slice_cmp, bytes_eq-Decides, IsPermutation-refl}
+use Rattle.office_sql.proofs.Kit.{sort_by, IsPermutation-sort_by, all-permutation, filter-map, slice_get-filter, sorted_from_ascending, Row}
+use Rattle.office_sql.specs.Prelude.{AreKeyed}
 use Rattle.office_sql.proofs.Keyed.{all_sorted, kept_in_order}
 
 pub find_none : {A : Type 0} (p : A → Bool) (xs : List A) → find p xs ≡ None → AllByRecursion (λ x. p x ≡ false) xs

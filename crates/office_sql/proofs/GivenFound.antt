@@ -1,15 +1,10 @@
 -- What a sound database says of the addresses of given serial numbers.
 use Rattle.std.proofs.Common.{◌≡◌, ℕ, ◌+◌, true, false, None, List, [], ◌∷◌, codes, drop, refl, sym, true≢false}
 use Rattle.std.proofs.lemmas.Bool.{and_parts}
-use Rattle.sqlite.specs.declared.types.Value.{Value}
-use Rattle.sqlite.specs.declared.types.Value.TheVariants.{Null, Int, Real, Text, Blob}
-use Rattle.sqlite.specs.Order.{Row}
+use Rattle.office_sql.proofs.Kit.{Value, Null, Int, Real, Row, Column, is_of, suits, are_typed}
+use Rattle.sqlite.specs.declared.types.Value.TheVariants.{Text, Blob}
 use Rattle.sqlite_schema.specs.declared.schema.Kind.TheVariants as kind
-use Rattle.sqlite_schema.specs.declared.schema.Column.{Column}
-use Rattle.sqlite_schema.specs.Rules.{is_of, suits, are_typed}
-use Rattle.office_sql.specs.Schema.{column, text, blob, given_table}
-use Rattle.office_sql.specs.Tables.{IsTextIf}
-use Rattle.office_sql.specs.Values.{text_if, text_value}
+use Rattle.office_sql.specs.Prelude.{column, text, blob, given_table, IsTextIf, text_if, text_value}
 
 text_or_null : (v : Value) → is_of kind.Text v ≡ true → v ≡ text_value (text_if v)
 text_or_null Null is = refl

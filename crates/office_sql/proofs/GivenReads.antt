@@ -1,34 +1,17 @@
 -- What the texts that read given serial numbers mean, and show.
-use Rattle.std.proofs.Common.{◌≡◌, ℕ, List, [], ◌∷◌, ◌++◌, codes, refl, sym, ap, ap₂, ◌∙◌, map, filter, ◌&&◌, Bool, Ordering, Equal, is_eq}
-use Rattle.std.specs.Ordering.{on, ordering_then}
-use Rattle.std.specs.List.{list_all}
-use Rattle.std.specs.Cmp.{IsTotalOrder, tied_then}
-use Rattle.std.proofs.lemmas.Cmp.{on_total, then_total, nat_list_cmp_total}
-use Rattle.std.proofs.lemmas.Map.Text.{is_eq-slice_cmp}
+use Rattle.std.proofs.Common.{◌≡◌, ◌∷◌, ◌++◌, ◌&&◌, Ordering}
+use Rattle.text_core.proofs.Kit.{ℕ, List, [], codes, refl, sym, ap, ap₂, ◌∙◌, map, filter, Bool, Equal, is_eq, on, ordering_then, list_all, IsTotalOrder}
+use Rattle.text_core.proofs.Kit.{tied_then, on_total, then_total, nat_list_cmp_total, is_eq-slice_cmp}
 use Rattle.sqlite.specs.declared.types.Value.TheVariants.{Text as Words, Blob as Bytes}
-use Rattle.sqlite.specs.Order.{Row, column}
-use Rattle.sqlite.specs.Term.{Term, col, holds}
-use Rattle.sqlite.specs.Tree.{Trees}
-use Rattle.sqlite.specs.Ops.{binary, is_true}
-use Rattle.sqlite_sql.specs.declared.ops.CompareOp.TheVariants.{Eq}
-use Rattle.sqlite_sql.specs.declared.ops.BinaryOp.TheVariants.{Compare}
-use Rattle.sqlite.specs.Query.{key_cmp, IsAnswer, inner, end}
+use Rattle.office_sql.proofs.Kit.{Row, column, Term, col, holds, Trees, is_true, Eq, Compare, key_cmp, IsAnswer, inner, end, Join, Binary, Key, ascending}
+use Rattle.office_sql.proofs.Kit.{value_cmp_total, then-Equal, sort_by}
+use Rattle.sqlite.specs.Ops.{binary}
 use Rattle.sqlite.specs.Listing.{understood}
-use Rattle.sqlite.specs.Collation.TheVariants.{Binary}
 use Rattle.sqlite_tied.specs.Compute.{everything}
-use Rattle.sqlite_value.specs.declared.keys.Key.{Key}
-use Rattle.sqlite_value.specs.Keys.{ascending}
-use Rattle.sqlite_value.proofs.OrderLemmas.{value_cmp_total, then-Equal}
-use Rattle.sqlite_keyed.specs.Lists.{sort_by}
-use Rattle.office_tables.specs.declared.rows.OfCustomer.{OfCustomer}
-use Rattle.office_tables.specs.declared.rows.Given.{Given}
-use Rattle.office_tables.specs.Tables.{given_cmp, is_serial_of, is_bound, is_of_issuer}
-use Rattle.office_sql.specs.Schema.{office_schema}
-use Rattle.office_sql.specs.Rows.{given_in_row, starts_given, with_given_start, joined_given}
-use Rattle.office_sql.specs.Scan.{is_parameter, passes}
-use Rattle.office_sql.specs.Joins.{over, is_same, passes_join, pair, first_that}
-use Rattle.office_sql.specs.Tables.{AreRows, AreStarted, IsGivenRow, IsStartRow}
-use Rattle.office_sql.specs.Values.{text_if}
+use Rattle.office_sql.proofs.Types.{OfCustomer, Given}
+use Rattle.office_tables.specs.Prelude.{given_cmp, is_serial_of, is_bound, is_of_issuer}
+use Rattle.office_sql.specs.Prelude.{given, given_starts, office_schema, rows_in, tree_of, given_in_row, starts_given, with_given_start, joined_given}
+use Rattle.office_sql.specs.Prelude.{is_parameter, passes, over, is_same, passes_join, pair, first_that, AreRows, AreStarted, IsGivenRow, IsStartRow, text_if}
 use Rattle.office_sql.proofs.Kept.{shows_joined, start_is}
 use Rattle.office_sql.proofs.Reading.{IsJoined}
 use Rattle.office_sql.proofs.Values.{text_is, blob_is, texts_cmp, and_true}
@@ -60,19 +43,23 @@ key_tests = is_parameter 1 0 ∷ is_parameter 4 1 ∷ []
 abbrev pub all_tests : List Term
 all_tests = is_parameter 1 0 ∷ []
 
+-- each row with its start
+abbrev pub with_starts : Join
+with_starts = inner (tree_of given) (inner (tree_of given_starts) end)
+
 -- the columns of the row and of its start that are one key
 abbrev pub on_start : List Term
 on_start = is_same 1 1 ∷ is_same 2 2 ∷ []
 
-pub at_read : IsJoined office_schema at_text (inner 11 (inner 19 end)) (on_start ++ at_tests) shown by_key
+pub at_read : IsJoined office_schema at_text with_starts (on_start ++ at_tests) shown by_key
 unfolding understood everything
 at_read = record { names = names; is = refl; plain = (refl, refl); unlisted = refl; bare = λ schema base. refl }
 
-pub key_read : IsJoined office_schema key_text (inner 11 (inner 19 end)) (on_start ++ key_tests) shown by_key
+pub key_read : IsJoined office_schema key_text with_starts (on_start ++ key_tests) shown by_key
 unfolding understood everything
 key_read = record { names = names; is = refl; plain = (refl, refl); unlisted = refl; bare = λ schema base. refl }
 
-pub all_read : IsJoined office_schema all_text (inner 11 (inner 19 end)) (on_start ++ all_tests) shown by_key
+pub all_read : IsJoined office_schema all_text with_starts (on_start ++ all_tests) shown by_key
 unfolding understood everything
 all_read = record { names = names; is = refl; plain = (refl, refl); unlisted = refl; bare = λ schema base. refl }
 
@@ -128,34 +115,38 @@ pub kept_shown : (p : OfCustomer Given → Bool)
     → (tests : List Term) (params : Row)
     → ((r : Row) → IsGivenRow r → passes tests params r ≡ p (given_in_row r))
     → ((r s : Row) → list_all (holds (pair params r s)) tests ≡ passes tests params r)
-    → (db : Trees) (rows : List Row) → AreRows IsGivenRow given_cmp given_in_row (db 11) → AreStarted starts_given given_in_row (db 11) (db 19)
-    → IsAnswer (over (inner 11 (inner 19 end)) (on_start ++ tests) shown by_key) db params rows
-    → map joined_given rows ≡ filter p (map (with_given_start (db 19)) (sort_by given_cmp (map given_in_row (db 11))))
+    → (db : Trees) (rows : List Row) → AreRows IsGivenRow given_cmp given_in_row (rows_in db given)
+    → AreStarted starts_given given_in_row (rows_in db given) (rows_in db given_starts)
+    → IsAnswer (over with_starts (on_start ++ tests) shown by_key) db params rows
+    → map joined_given rows ≡ filter p (map (with_given_start (rows_in db given_starts)) (sort_by given_cmp (map given_in_row (rows_in db given))))
 kept_shown p same tests params is blind db rows are started a =
     shows_joined IsGivenRow given_cmp given_total given_in_row by_serial by_serial_total ordered p
     tests params is IsStartRow starts_given on_start (fits params) shown by_key joined_given
     with_row same
-    blind (λ r s. refl) (λ a b s t. refl) db 11 19 rows are started.typed started.one a
-    ∙ ap (filter p) (starts (db 19) _)
+    blind (λ r s. refl) (λ a b s t. refl) db (tree_of given) (tree_of given_starts) rows are started.typed started.one a
+    ∙ ap (filter p) (starts (rows_in db given_starts) _)
 
 pub at_shown : (issuer serial : List ℕ) (db : Trees) (rows : List Row)
-    → AreRows IsGivenRow given_cmp given_in_row (db 11)
-    → AreStarted starts_given given_in_row (db 11) (db 19)
-    → IsAnswer (over (inner 11 (inner 19 end)) (on_start ++ at_tests) shown by_key) db (Words issuer ∷ Words serial ∷ []) rows
-    → map joined_given rows ≡ filter (is_serial_of issuer serial) (map (with_given_start (db 19)) (sort_by given_cmp (map given_in_row (db 11))))
+    → AreRows IsGivenRow given_cmp given_in_row (rows_in db given)
+    → AreStarted starts_given given_in_row (rows_in db given) (rows_in db given_starts)
+    → IsAnswer (over with_starts (on_start ++ at_tests) shown by_key) db (Words issuer ∷ Words serial ∷ []) rows
+    → map joined_given rows ≡ filter (is_serial_of issuer serial)
+    (map (with_given_start (rows_in db given_starts)) (sort_by given_cmp (map given_in_row (rows_in db given))))
 at_shown issuer serial = kept_shown (is_serial_of issuer serial) (λ s g.
     refl) at_tests (Words issuer ∷ Words serial ∷ []) (passes_at issuer serial) (λ r s. refl)
 
 pub key_shown : (issuer key : List ℕ) (db : Trees) (rows : List Row)
-    → AreRows IsGivenRow given_cmp given_in_row (db 11)
-    → AreStarted starts_given given_in_row (db 11) (db 19)
-    → IsAnswer (over (inner 11 (inner 19 end)) (on_start ++ key_tests) shown by_key) db (Words issuer ∷ Bytes key ∷ []) rows
-    → map joined_given rows ≡ filter (is_bound issuer key) (map (with_given_start (db 19)) (sort_by given_cmp (map given_in_row (db 11))))
+    → AreRows IsGivenRow given_cmp given_in_row (rows_in db given)
+    → AreStarted starts_given given_in_row (rows_in db given) (rows_in db given_starts)
+    → IsAnswer (over with_starts (on_start ++ key_tests) shown by_key) db (Words issuer ∷ Bytes key ∷ []) rows
+    → map joined_given rows ≡ filter (is_bound issuer key)
+    (map (with_given_start (rows_in db given_starts)) (sort_by given_cmp (map given_in_row (rows_in db given))))
 key_shown issuer key = kept_shown (is_bound issuer key) (λ s g. refl) key_tests (Words issuer ∷ Bytes key ∷ []) (passes_key issuer key) (λ r s. refl)
 
 pub all_shown : (issuer : List ℕ) (db : Trees) (rows : List Row)
-    → AreRows IsGivenRow given_cmp given_in_row (db 11)
-    → AreStarted starts_given given_in_row (db 11) (db 19)
-    → IsAnswer (over (inner 11 (inner 19 end)) (on_start ++ all_tests) shown by_key) db (Words issuer ∷ []) rows
-    → map joined_given rows ≡ filter (is_of_issuer issuer) (map (with_given_start (db 19)) (sort_by given_cmp (map given_in_row (db 11))))
+    → AreRows IsGivenRow given_cmp given_in_row (rows_in db given)
+    → AreStarted starts_given given_in_row (rows_in db given) (rows_in db given_starts)
+    → IsAnswer (over with_starts (on_start ++ all_tests) shown by_key) db (Words issuer ∷ []) rows
+    → map joined_given rows ≡ filter (is_of_issuer issuer)
+    (map (with_given_start (rows_in db given_starts)) (sort_by given_cmp (map given_in_row (rows_in db given))))
 all_shown issuer = kept_shown (is_of_issuer issuer) (λ s g. refl) all_tests (Words issuer ∷ []) (passes_all issuer) (λ r s. refl)

@@ -1,51 +1,29 @@
 -- What the texts that add a given serial number mean, and do.
-use Rattle.std.proofs.Common.{◌≡◌, ℕ, ℤ, ◌&&◌, Bool, true, false, List, [], ◌∷◌, ◌++◌, map, filter, codes, length, arith, Option, Some, None, refl}
-use Rattle.std.proofs.Common.{sym, ap, ap₂, subst, subst₂, ◌∙◌, Equal, true≢false}
-use Rattle.std.specs.Option.{option_map, option_and_then}
-use Rattle.std.specs.Ordering.{ordering_then}
-use Rattle.std.specs.Str.{bytes_eq}
-use Rattle.std.proofs.lemmas.Bool.{eqb-true, eq-eqb}
-use Rattle.std.proofs.lemmas.Slice.Eq.{bytes_eq-Decides}
-use Rattle.sqlite.specs.declared.types.Value.{Value}
-use Rattle.sqlite.specs.declared.types.Value.TheVariants.{Null, Int, Text as Words}
-use Rattle.sqlite.specs.Order.{Row, column, bytes}
-use Rattle.sqlite.specs.Ops.{binary, is_true}
-use Rattle.sqlite.specs.Cast.{cast_row}
-use Rattle.sqlite.specs.Tree.{Trees, put_row}
-use Rattle.sqlite.specs.Query.{IsAnswer, inner, end}
-use Rattle.sqlite.specs.Collation.TheVariants.{Binary}
-use Rattle.sqlite.specs.Term.{Term, lit, col}
-use Rattle.sqlite.specs.Effect.{Database}
+use Rattle.std.proofs.Common.{◌≡◌, ◌&&◌, ◌∷◌, ◌++◌}
+use Rattle.text_core.proofs.Kit.{ℕ, ℤ, Bool, true, false, List, [], map, filter, codes, length, arith, Option, Some, None, refl, sym, ap, ap₂, subst, subst₂}
+use Rattle.text_core.proofs.Kit.{◌∙◌, Equal, true≢false, option_map, option_and_then, ordering_then, bytes_eq, eqb-true, eq-eqb, bytes_eq-Decides}
+use Rattle.office_sql.proofs.Kit.{Value, Null, Int, Row, column, bytes, is_true, cast_row, Trees, put_row, IsAnswer, Binary, Term, lit, col, Database, Eq}
+use Rattle.office_sql.proofs.Kit.{Compare, sort_by, all_unmap, IsPermutation-sort_by, next_rowid, all-permutation}
+use Rattle.sqlite.specs.declared.types.Value.TheVariants.{Text as Words}
+use Rattle.sqlite.specs.Ops.{binary}
 use Rattle.sqlite.specs.Listing.{understood}
-use Rattle.sqlite_sql.specs.declared.ops.CompareOp.TheVariants.{Eq}
-use Rattle.sqlite_sql.specs.declared.ops.BinaryOp.TheVariants.{Compare}
-use Rattle.sqlite_keyed.specs.Lists.{sort_by}
-use Rattle.sqlite_keyed.proofs.ListLemmas.{all_unmap}
-use Rattle.sqlite_keyed.proofs.SortLemmas.{IsPermutation-sort_by}
-use Rattle.sqlite_rules.specs.Edit.{next_rowid}
 use Rattle.sqlite_tied.specs.Compute.{everything}
-use Rattle.sqlite_trees.proofs.ListLemmas.{all_weaker, all-permutation}
-use Rattle.id_ranges.specs.Mac.{mac_text, mac_of_text}
+use Rattle.sqlite_trees.proofs.ListLemmas.{all_weaker}
+use Rattle.id_ranges.specs.Prelude.{mac_text, mac_of_text}
 use Rattle.id_ranges.proofs.MacTexts.{mac_text_only}
-use Rattle.office_tables.specs.declared.rows.OfCustomer.{OfCustomer}
-use Rattle.office_tables.specs.declared.rows.Given.{Given}
-use Rattle.office_tables.specs.declared.rows.Write.TheVariants.{AddGiven}
-use Rattle.office_tables.specs.Tables.{IsFree, IsAddressFree, is_address, has_address, given_cmp, is_serial_of, with_row}
+use Rattle.office_sql.proofs.Types.{OfCustomer, Given, AddGiven}
+use Rattle.office_tables.specs.Prelude.{IsFree, IsAddressFree, is_address, has_address, given_cmp, is_serial_of, with_row}
 use Rattle.office_tables.proofs.Finding.{none_passes}
-use Rattle.office_sql.specs.Change.{SqlAdds, SameBut, Wrote}
-use Rattle.office_sql.specs.Joins.{over}
-use Rattle.office_sql.specs.Rows.{given_in_row, given_columns, starts_given, given_start_columns, with_given_start, joined_given}
-use Rattle.office_sql.specs.Scan.{is_parameter, passes}
-use Rattle.office_sql.specs.Schema.{given_table, given_start_table, office_schema}
-use Rattle.office_sql.specs.Tables.{AreRows, AreStarted, IsGivenRow, IsOffice, tables_in, told_in}
-use Rattle.office_sql.specs.Values.{text_if, text_value, mac_if}
+use Rattle.office_sql.specs.Prelude.{given, given_starts, SqlAdds, SameBut, Wrote, over, given_in_row, given_columns, starts_given, given_start_columns}
+use Rattle.office_sql.specs.Prelude.{with_given_start, joined_given, is_parameter, passes, given_table, given_start_table, office_schema, rows_in, AreRows}
+use Rattle.office_sql.specs.Prelude.{AreStarted, IsGivenRow, IsOffice, tables_in, told_in, text_if, text_value, mac_if}
 use Rattle.office_sql.proofs.Finding.{both_true, texts_alike, same_bytes}
-use Rattle.office_sql.proofs.GivenReads.{shown, by_key, names, on_start, given_total, given_tied, kept_shown}
+use Rattle.office_sql.proofs.GivenReads.{shown, with_starts, by_key, names, on_start, given_total, given_tied, kept_shown}
 use Rattle.office_sql.proofs.Inserting.{IsInsert}
 use Rattle.office_sql.proofs.Kept.{found}
 use Rattle.office_sql.proofs.Keyed.{Apart}
 use Rattle.office_sql.proofs.Missing.{text_cast, text_back}
-use Rattle.office_sql.proofs.Offices.{given_grown, told_stays}
+use Rattle.office_sql.proofs.Offices.{both_changed, told_stays}
 use Rattle.office_sql.proofs.Reading.{IsJoined}
 use Rattle.office_sql.proofs.Stepping.{cast_null}
 use Rattle.office_sql.proofs.StartedRows.{started_more}
@@ -59,7 +37,7 @@ address_text = codes "SELECT given.issuer, given.serial, customer, key, chip, ma
 abbrev pub address_tests : List Term
 address_tests = is_parameter 6 0 ∷ []
 
-pub address_read : IsJoined office_schema address_text (inner 11 (inner 19 end)) (on_start ++ address_tests) shown by_key
+pub address_read : IsJoined office_schema address_text with_starts (on_start ++ address_tests) shown by_key
 unfolding understood everything
 address_read = record { names = names; is = refl; plain = (refl, refl); unlisted = refl; bare = λ schema base. refl }
 
@@ -105,10 +83,11 @@ passes_address : (mac : ℕ) (text : List ℕ) → mac_of_text text ≡ Some mac
 passes_address mac text is r e = and_true _ ∙ mac_is mac text (column r 6) is e.3
 
 pub address_shown : (mac : ℕ) (text : List ℕ) → mac_of_text text ≡ Some mac
-    → (db : Trees) (rows : List Row) → AreRows IsGivenRow given_cmp given_in_row (db 11)
-    → AreStarted starts_given given_in_row (db 11) (db 19)
-    → IsAnswer (over (inner 11 (inner 19 end)) (on_start ++ address_tests) shown by_key) db (Words text ∷ []) rows
-    → map joined_given rows ≡ filter (has_address mac) (map (with_given_start (db 19)) (sort_by given_cmp (map given_in_row (db 11))))
+    → (db : Trees) (rows : List Row) → AreRows IsGivenRow given_cmp given_in_row (rows_in db given)
+    → AreStarted starts_given given_in_row (rows_in db given) (rows_in db given_starts)
+    → IsAnswer (over with_starts (on_start ++ address_tests) shown by_key) db (Words text ∷ []) rows
+    → map joined_given rows ≡ filter (has_address mac)
+    (map (with_given_start (rows_in db given_starts)) (sort_by given_cmp (map given_in_row (rows_in db given))))
 address_shown mac text is = kept_shown (has_address mac) (λ s g. refl) address_tests (Words text ∷ []) (passes_address mac text is) (λ r s. refl)
 
 -- where no row is shown, no record has the address
@@ -128,7 +107,7 @@ add_text = codes "INSERT INTO given (issuer, serial, customer, key, chip, mac, n
 abbrev pub add_terms : List Term
 add_terms = lit Null ∷ col 0 0 ∷ col 0 1 ∷ col 0 2 ∷ col 0 3 ∷ col 0 4 ∷ col 0 5 ∷ col 0 6 ∷ []
 
-pub add_insert : IsInsert office_schema add_text 6 given_table add_terms 8
+pub add_insert : IsInsert office_schema add_text given add_terms 8
 unfolding understood everything
 add_insert = record { is = refl; plain = (refl, refl); there = refl; uncounted = refl; unstamped = refl; one = λ params. refl }
 
@@ -143,7 +122,7 @@ start_text = codes "INSERT INTO given_start (issuer, serial, not_before) VALUES 
 abbrev pub start_terms : List Term
 start_terms = lit Null ∷ col 0 0 ∷ col 0 1 ∷ col 0 2 ∷ []
 
-pub start_insert : IsInsert office_schema start_text 9 given_start_table start_terms 4
+pub start_insert : IsInsert office_schema start_text given_starts start_terms 4
 unfolding understood everything
 start_insert = record { is = refl; plain = (refl, refl); there = refl; uncounted = refl; unstamped = refl; one = λ params. refl }
 
@@ -167,8 +146,8 @@ own_start : (g : OfCustomer Given) (id : ℤ) → starts_given g (Int id ∷ giv
 own_start g id = ap₂ ◌&&◌ (same_bytes g.row.issuer) (same_bytes g.row.serial)
 
 -- a record and its beginning leave what the database tells of itself
-told_after : (old mid new : Trees) → SameBut 11 old mid → SameBut 19 mid new → told_in new ≡ told_in old
-told_after old mid new adds starts = told_stays 19 mid new (λ e. cc) (λ e. cc) starts ∙ told_stays 11 old mid (λ e. cc) (λ e. cc) adds
+told_after : (old mid new : Trees) → SameBut given old mid → SameBut given_starts mid new → told_in new ≡ told_in old
+told_after old mid new adds starts = told_stays given_starts mid new (λ e. cc) (λ e. cc) starts ∙ told_stays given old mid (λ e. cc) (λ e. cc) adds
 
 module _ (g : OfCustomer Given) (address : option_and_then mac_of_text (option_map mac_text g.row.mac) ≡ g.row.mac) where
   given_back : (id own : ℤ) → with_text (text_if (column (Int own ∷ given_start_columns g) 3)) (given_in_row (Int id ∷ given_columns g)) ≡ g
@@ -185,26 +164,32 @@ module _ (g : OfCustomer Given) (address : option_and_then mac_of_text (option_m
 
   -- a record that was added, with its start
   pub given_wrote : (old mid new : Database) → IsOffice old → IsFree (AddGiven g) (tables_in old.trees) → IsAddressFree g.row.mac (tables_in old.trees).given
-      → SqlAdds 11 (given_columns g) old mid → SqlAdds 19 (given_start_columns g) mid new → Wrote (AddGiven g) old new
+      → SqlAdds given (given_columns g) old mid → SqlAdds given_starts (given_start_columns g) mid new → Wrote (AddGiven g) old new
   given_wrote old mid new office free alone adds starts =
-      let rows = old.trees 11 in
+      let rows = rows_in old.trees given in
       let id = next_rowid rows in
       let new_row : Row = Int id ∷ given_columns g in
-      let own = next_rowid (old.trees 19) in
+      let own = next_rowid (rows_in old.trees given_starts) in
       let own_row : Row = Int own ∷ given_start_columns g in
-      let beside : mid.trees 19 ≡ old.trees 19 = adds.others.1.1.1.1.1.1.1.1.1.0 (λ e. cc) in
+      let beside : rows_in mid.trees given_starts ≡ rows_in old.trees given_starts = adds.others given_starts (λ e. cc) in
       let others = all-permutation (λ y. is_serial_of g.row.issuer g.row.serial y
       ≡ false) _ _ (IsPermutation-sort_by given_cmp given_total (map given_in_row rows))
-      (all_unmap (λ y. is_serial_of g.row.issuer g.row.serial y ≡ false) (with_given_start (old.trees 19)) _ (none_passes _ _ free)) in
+      (all_unmap (λ y. is_serial_of g.row.issuer g.row.serial y ≡ false) (with_given_start (rows_in old.trees given_starts)) _ (none_passes _ _ free)) in
       let apart = all_weaker _ (Apart given_cmp given_total (given_in_row new_row)) (λ y e. given_tied g y ∙ e) (map given_in_row rows) others in
       let more = started_more IsGivenRow given_cmp given_total given_in_row starts_given with_text (λ t u a b. refl) given_ties
-      (given_columns g) (given_start_columns g) rows (old.trees 19) office.rows.given office.given_started
+      (given_columns g) (given_start_columns g) rows (rows_in old.trees given_starts) (office.rows given) office.given_started
       (refl, refl, refl, sym (ap text_value (text_back (option_map mac_text g.row.mac)))) (refl, refl) (own_start g own) apart in
-      let after : new.trees 19 ≡ put_row own_row (old.trees 19) = starts.row ∙ ap (λ l. put_row (Int (next_rowid l) ∷ given_start_columns g) l) beside in
-      let it = given_grown old new office starts.schema starts.sound mid.trees adds.others
-      starts.others (subst (AreRows IsGivenRow given_cmp given_in_row) (sym adds.row) more.are)
-      (subst₂ (AreStarted starts_given given_in_row) (sym adds.row) (sym after) more.started) _
-      (ap₂ (λ l k. map (with_given_start k) (sort_by given_cmp (map given_in_row l))) adds.row after
+      let after : rows_in new.trees given_starts ≡ put_row own_row (rows_in old.trees given_starts) =
+      starts.row ∙ ap (λ l. put_row (Int (next_rowid l) ∷ given_start_columns g) l) beside in
+      let it = both_changed old new office starts.schema starts.sound given given_starts mid.trees adds.others
+      starts.others (subst (AreRows IsGivenRow given_cmp given_in_row) (sym adds.row) more.are) tt
+      (office.orders_started, subst₂ (AreStarted starts_given given_in_row) (sym adds.row) (sym after) more.started) in
+      let all = ap₂ (λ l k. map (with_given_start k) (sort_by given_cmp (map given_in_row l))) adds.row after
       ∙ more.placed_is
-      ∙ ap (λ x. with_row given_cmp x (tables_in old.trees).given) (given_back id own)) in
-      record { office = it.0; made = (alone, it.1); rows = (mid, adds, starts); told = told_after old.trees mid.trees new.trees adds.others starts.others }
+      ∙ ap (λ x. with_row given_cmp x (tables_in old.trees).given) (given_back id own) in
+      record {
+        office = it.0;
+        made = (alone, it.1 ∙ ap (λ l. record (tables_in old.trees) { given = l }) all);
+        rows = (mid, adds, starts);
+        told = told_after old.trees mid.trees new.trees adds.others starts.others;
+      }

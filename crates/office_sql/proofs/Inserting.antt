@@ -1,48 +1,25 @@
 -- What an INSERT of one row does, and what a call in a transaction changes.
-use Rattle.std.proofs.Common.{◌≡◌, ℕ, List, [], ◌∷◌, ◌++◌, length, drop, ◌-◌, fold, ℤ, cond, Option, slice_get, append-nil, arith, inl, Bool, true}
-use Rattle.std.proofs.Common.{false, Some, None, Ok, Err, Result, IfOk, refl, sym, ap, subst, ◌∙◌, IsTrue}
-use Rattle.std.specs.Prelude.{◌/◌, MatchBool}
-use Rattle.std.specs.Ordering.{is_lt, int_cmp}
-use Rattle.sqlite.specs.declared.types.Value.TheVariants.{Null, Int}
-use Rattle.sqlite.specs.Order.{Row}
-use Rattle.sqlite.specs.Term.{Term, eval_all}
-use Rattle.sqlite.specs.Source.TheVariants.{Values}
-use Rattle.sqlite.specs.Command.TheVariants.{Insert}
-use Rattle.sqlite.specs.Edit.{edit_of, edited, numbered}
-use Rattle.sqlite.specs.Rowids.TheVariants.{Chosen, Above}
-use Rattle.sqlite.specs.Does.{Tally, Does, AtPlace, OnRows}
-use Rattle.sqlite.specs.Rows.{Task, Counts, CountsIn, Gives, Edited, Written, count_of, higher, rowids_for, sequence}
-use Rattle.sqlite.specs.Schema.{Schema}
-use Rattle.sqlite.specs.Table.{Table}
-use Rattle.sqlite.specs.Tree.{Trees, put_row}
+use Rattle.std.proofs.Common.{◌≡◌, ℕ, List, [], ◌∷◌, ◌++◌, length, drop, ◌-◌, fold, ℤ, cond, Option, slice_get, append-nil, arith, inl, Bool, true, false, Some}
+use Rattle.std.proofs.Common.{None, Ok, Err, Result, IfOk, refl, sym, ap, subst, ◌∙◌, IsTrue, ◌/◌, MatchBool, is_lt, int_cmp}
+use Rattle.office_sql.proofs.Kit.{Null, Row, Term, eval_all, Values, Insert, edit_of, edited, numbered, Chosen, Above, Tally, Does, AtPlace, OnRows, Task}
+use Rattle.office_sql.proofs.Kit.{Counts, CountsIn, Gives, Edited, Written, count_of, higher, rowids_for, sequence, Schema, Table, Trees, Database, IsDatabase}
+use Rattle.office_sql.proofs.Kit.{value_rows, State, mode_of, Executes, ExecutesInside, HasCleanDisk, Survives, IsPlain, command_of, statement_of, runs_as}
+use Rattle.office_sql.proofs.Kit.{one_step, cast_row, no_works, Enforced, Mode, Error, SqliteFailure, TransactionState, Held, state}
 use Rattle.sqlite.specs.Listing.{understood}
-use Rattle.sqlite.specs.Effect.{Database, IsDatabase, value_rows}
-use Rattle.sqlite.specs.State.{State, mode_of, Executes, ExecutesInside, HasCleanDisk, Survives}
-use Rattle.sqlite.proofs.Callers.{IsPlain, command_of, statement_of, runs_as, one_step}
-use Rattle.sqlite_rules.specs.Cast.{cast_row}
-use Rattle.sqlite_rules.specs.Edit.{next_rowid}
-use Rattle.sqlite_rules.proofs.ActionLemmas.{no_works}
-use Rattle.sqlite_schema.specs.declared.schema.Keys.TheVariants.{Enforced}
-use Rattle.sqlite.specs.declared.run.Mode.{Mode}
-use Rattle.office_sql.specs.Schema.{office_schema}
-use Rattle.office_sql.specs.Change.{SqlAdds, SameBut, IsInside}
-use Rattle.sqlite.specs.declared.error.Error.{Error}
-use Rattle.sqlite.specs.declared.error.Error.TheVariants.{SqliteFailure}
-use Rattle.sqlite.specs.declared.error.ErrorCode.TheVariants.{TransactionState}
+use Rattle.office_sql.proofs.Names.{same_but}
+use Rattle.office_sql.specs.Prelude.{OfficeTable, office_schema, rows_in, tree_of, table_of, place_of, SqlAdds, SameBut, IsInside, SqlWrites, HasOffice}
+use Rattle.office_sql.specs.Prelude.{HasOfficeSchema, IsOffice}
 use Rattle.sqlite.specs.Store.{Ghosts}
-use Rattle.sqlite.specs.Held.{Held, state}
-use Rattle.office_sql.specs.Asking.{SqlWrites, HasOffice, HasOfficeSchema}
-use Rattle.office_sql.specs.Tables.{IsOffice}
 use Rattle.office_sql.proofs.Inside.{kept}
 use Rattle.office_sql.proofs.Stepping.{went, same_value}
 
 -- what the text of an INSERT of one row means where the database has this schema
-pub record IsInsert (schema : Schema) (text : List ℕ) (at : ℕ) (table : Table) (terms : List Term) (width : ℕ) : Type 0 where
-  pub is : command_of (understood schema text) ≡ Insert at (Values terms width)
+pub record IsInsert (schema : Schema) (text : List ℕ) (table : OfficeTable) (terms : List Term) (width : ℕ) : Type 0 where
+  pub is : command_of (understood schema text) ≡ Insert (place_of table) (Values terms width)
   pub plain : IsPlain (understood schema text)
-  pub there : slice_get schema.tables at ≡ Some table
-  pub uncounted : table.is_counted ≡ false
-  pub unstamped : table.stamps.terms ≡ []
+  pub there : slice_get schema.tables (place_of table) ≡ Some (table_of table)
+  pub uncounted : (table_of table).is_counted ≡ false
+  pub unstamped : (table_of table).stamps.terms ≡ []
   pub one : (params : Row) → value_rows params width (length terms / width) terms ≡ eval_all terms (params ∷ []) ∷ []
 
 -- a table that isn't counted counts nothing
@@ -58,12 +35,26 @@ enforced = record { keys = Enforced; in_doubt = false; may_wait = false }
 abbrev pub task_on : Option ℕ → Row → Table → Task
 task_on limit params table = record { limit = limit; keys = Enforced; schema = office_schema; table = table; params = params }
 
-module _ (text : List ℕ) (at : ℕ) (table : Table) (terms : List Term) (width : ℕ)
-    (insert : IsInsert office_schema text at table terms width) (params columns : Row)
-    (casts : cast_row table (eval_all terms (params ∷ [])) ≡ Null ∷ columns) where
+module _ (text : List ℕ) (its : OfficeTable) (terms : List Term) (width : ℕ)
+    (insert : IsInsert office_schema text its terms width) (params row : Row)
+    (casts : cast_row (table_of its) (eval_all terms (params ∷ [])) ≡ row) where
+  abbrev pub table : Table
+  table = table_of its
+
+  -- the rows of a table with this one, which has a rowid or gets the next
+  abbrev pub with_it : Trees → List Row
+  with_it db = edited db (record { table = table; gone = []; news = numbered Chosen (rows_in db its) (row ∷ []) })
+
+  -- they are those of the table then, and no other table changes
+  pub record Puts (old new : Database) : Type 0 where
+    pub schema : new.schema ≡ office_schema
+    pub sound : IsDatabase new
+    pub rows : rows_in new.trees its ≡ with_it old.trees
+    pub others : SameBut its old.trees new.trees
+
   puts : (limit : Option ℕ) (old : Database) (out : Tally × Database) → IsDatabase out.1
-      → OnRows (task_on limit params table) enforced None (Insert at (Values terms width)) old.trees
-      (Ok out) → SqlAdds table.tree columns old out.1
+      → OnRows (task_on limit params table) enforced None (Insert (place_of its) (Values terms width)) old.trees
+      (Ok out) → Puts old out.1
   puts limit old out sound does =
       let db = old.trees in
       let done = went does in
@@ -87,28 +78,22 @@ module _ (text : List ℕ) (at : ℕ) (table : Table) (terms : List Term) (width
       Edited office_schema Enforced db
       (edit_of db table [] (cond b (Above (count_of counter.0)) Chosen) 0 given.0)
       (Ok written.0)) insert.uncounted written.1 in
-      let step = one_step office_schema Enforced db written.0 edit (no_works office_schema Enforced 0 table.tree edit.news) made in
-      let row : edited db edit ≡ put_row (Int (next_rowid (db table.tree)) ∷ columns) (db table.tree) =
+      let step = one_step office_schema Enforced db written.0 edit (no_works office_schema Enforced 0 (tree_of its) edit.news) made in
+      let rows : edited db edit ≡ with_it db =
       ap (λ all. edited db (edit_of db table [] Chosen 0 all)) sources
-      ∙ ap (λ r.
-      edited db (record {
-        table = table;
-        gone = [];
-        news = numbered Chosen (db table.tree) (r
-            ∷ []);
-      })) casts in
+      ∙ ap (λ r. edited db (record { table = table; gone = []; news = numbered Chosen (rows_in db its) (r ∷ []) })) casts in
       record {
         schema = ap (λ (d : Database). d.schema) now;
         sound = sound;
-        row = ap (λ (d : Database). d.trees table.tree) now ∙ ap (λ (t : Trees). t table.tree) trees ∙ step.rows ∙ row;
-        others = subst (λ (t : Trees). SameBut table.tree db t) (sym (ap (λ (d : Database). d.trees) now ∙ trees)) step.tables;
+        rows = ap (λ (d : Database). rows_in d.trees its) now ∙ ap (λ (t : Trees). rows_in t its) trees ∙ step.rows ∙ rows;
+        others = subst (λ (t : Trees). SameBut its db t) (sym (ap (λ (d : Database). d.trees) now ∙ trees)) (same_but its db written.0 step.tables);
       }
 
-  -- it adds a row of the columns that the table makes of the values
-  pub adds : (old new : State) (count : ℕ) → old.now.schema ≡ office_schema
-      → Executes text params old new (Ok count) → SqlAdds table.tree columns old.now new.now
-  adds old new count has h =
-      let command = Insert at (Values terms width) in
+  -- it puts the row that the table makes of the values
+  pub puts_row : (old new : State) (count : ℕ) → old.now.schema ≡ office_schema
+      → Executes text params old new (Ok count) → Puts old.now new.now
+  puts_row old new count has h =
+      let command = Insert (place_of its) (Values terms width) in
       let w = runs_as text params old new office_schema has command insert.is insert.plain count h in
       let words = statement_of text (understood office_schema text) in
       let does = subst (λ s.
@@ -120,6 +105,16 @@ module _ (text : List ℕ) (at : ℕ) (table : Table) (terms : List Term) (width
       AtPlace (λ t.
       OnRows (task_on old.step_limit params t) enforced None command old.now.trees)
       o (Ok (w.tally, new.now))) insert.there does)
+
+-- where that has no rowid, it adds a row
+pub adds : (text : List ℕ) (its : OfficeTable) (terms : List Term) (width : ℕ)
+    (insert : IsInsert office_schema text its terms width) (params columns : Row)
+    → cast_row (table_of its) (eval_all terms (params ∷ [])) ≡ Null ∷ columns
+    → (old new : State) (count : ℕ) → old.now.schema ≡ office_schema
+    → Executes text params old new (Ok count) → SqlAdds its columns old.now new.now
+adds text its terms width insert params columns casts old new count has h =
+    let it = puts_row text its terms width insert params (Null ∷ columns) casts old new count has h in
+    record { schema = it.schema; sound = it.sound; row = it.rows; others = it.others }
 
 -- a call in a transaction that has ended changes nothing
 ended_on : {A : Type 0} (X : A → Type 0) (mode : Bool) (r : Result A Error) (e : Error) → (mode ≡ false → r ≡ Err e) → (IsTrue mode → IfOk r X) → IfOk r X
@@ -168,35 +163,35 @@ module _ {S : Type 0} (g : Ghosts S) (text : List ℕ) (params values : Row) (bo
   changes has answer = changed (λ count up ran. answer count up (has up) ran)
 
 -- a call of `execute` with the text of an INSERT, where the schema is the office's, adds a row
-pub inserted : {S : Type 0} (g : Ghosts S) (text : List ℕ) (at : ℕ) (table : Table)
-    (terms : List Term) (width : ℕ) (insert : IsInsert office_schema text at table terms width)
-    (params values columns : Row) → params ≡ values → cast_row table (eval_all terms (values ∷ [])) ≡ Null ∷ columns
+pub inserted : {S : Type 0} (g : Ghosts S) (text : List ℕ) (table : OfficeTable)
+    (terms : List Term) (width : ℕ) (insert : IsInsert office_schema text table terms width)
+    (params values columns : Row) → params ≡ values → cast_row (table_of table) (eval_all terms (values ∷ [])) ≡ Null ∷ columns
     → (old new : Held S) (r : Result ℕ Error) → HasOfficeSchema (state g old)
     → (old.in_transaction ≡ false → (r ≡ Err (SqliteFailure TransactionState)) × (new ≡ old))
     → (HasCleanDisk (state g new) → IsTrue old.in_transaction
     → ExecutesInside 0 text params (state g old) (state g new) r)
-    → Survives (state g old) (state g new) (λ _. ⊥) → SqlWrites g old new r (λ x y _. SqlAdds table.tree columns x y)
-inserted g text at table terms width insert params values columns bound casts old new r has =
+    → Survives (state g old) (state g new) (λ _. ⊥) → SqlWrites g old new r (λ x y _. SqlAdds table columns x y)
+inserted g text table terms width insert params values columns bound casts old new r has =
     changed g text params values bound old new r _ (λ count up ran.
-    adds text at table terms width insert values columns casts (state g old) (state g new) count
+    adds text table terms width insert values columns casts (state g old) (state g new) count
     (has up) ran)
 
 -- a call of `execute` with the text of an INSERT, on the office's tables in a transaction, changes what the row that it adds means
-pub inserts : {S : Type 0} (g : Ghosts S) (text : List ℕ) (at : ℕ) (table : Table)
-    (terms : List Term) (width : ℕ) (insert : IsInsert office_schema text at table terms width)
-    (params values columns : Row) → params ≡ values → cast_row table (eval_all terms (values ∷ [])) ≡ Null ∷ columns
+pub inserts : {S : Type 0} (g : Ghosts S) (text : List ℕ) (table : OfficeTable)
+    (terms : List Term) (width : ℕ) (insert : IsInsert office_schema text table terms width)
+    (params values columns : Row) → params ≡ values → cast_row (table_of table) (eval_all terms (values ∷ [])) ≡ Null ∷ columns
     → (old new : Held S) (r : Result ℕ Error) (Says : Database → Database → ℕ → Type 0) → HasOffice (state g old)
     → ((count : ℕ) → IsTrue (state g old).is_open → IsOffice (state g old).now
-    → SqlAdds table.tree columns (state g old).now (state g new).now
+    → SqlAdds table columns (state g old).now (state g new).now
     → Says (state g old).now (state g new).now count)
     → (old.in_transaction ≡ false → (r ≡ Err (SqliteFailure TransactionState)) × (new ≡ old))
     → (HasCleanDisk (state g new) → IsTrue old.in_transaction
     → ExecutesInside 0 text params (state g old) (state g new) r)
     → Survives (state g old) (state g new) (λ _. ⊥) → SqlWrites g old new r Says
-inserts g text at table terms width insert params values columns bound casts old new r Says has answer =
+inserts g text table terms width insert params values columns bound casts old new r Says has answer =
     changes g text params values bound old new r Says has (λ count up office ran.
     answer count up office
-    (adds text at table terms width insert values columns casts (state g old) (state g new)
+    (adds text table terms width insert values columns casts (state g old) (state g new)
     count office.schema ran))
 
 -- an answer that is made of another's

@@ -1,9 +1,6 @@
 -- What a statement in a transaction keeps.
 use Rattle.std.proofs.Common.{◌≡◌, ℕ, List, refl, sym, subst, inl, inr, Ok, Err, Result, false, IsTrue}
-use Rattle.sqlite.specs.Order.{Row}
-use Rattle.sqlite.specs.declared.error.Error.{Error}
-use Rattle.sqlite.specs.State.{State, ExecutesInside, KeepsCommit, IsUnchanged, IsRolledBack}
-use Rattle.sqlite.specs.Held.{Held, state}
+use Rattle.office_sql.proofs.Kit.{Row, Error, State, ExecutesInside, KeepsCommit, IsUnchanged, IsRolledBack, Held, state}
 use Rattle.sqlite.specs.Store.{Ghosts}
 use Rattle.std.proofs.lemmas.Bool.{cases_Bool}
 

@@ -1,17 +1,10 @@
 -- What a query over a table and one beside it answers, where each row of the first has one row in the second.
-use Rattle.std.proofs.Common.{◌≡◌, List, [], ◌∷◌, ◌++◌, ◌&&◌, map, Bool, true, false, cond, refl, sym, ap, ap₂, ◌∙◌, ℕ, slice_get}
-use Rattle.std.specs.Prelude.{if◌then◌else◌, unwrap_or}
-use Rattle.std.specs.List.{AllByRecursion, filter, flat_map, list_all}
-use Rattle.std.proofs.lemmas.List.Folds.{list_all-append}
-use Rattle.sqlite_keyed.proofs.ListLemmas.{slice_get-filter}
+use Rattle.std.proofs.Common.{◌≡◌, ◌∷◌, ◌++◌, ◌&&◌, if◌then◌else◌}
+use Rattle.text_core.proofs.Kit.{List, [], map, Bool, true, false, cond, refl, sym, ap, ap₂, ◌∙◌, ℕ, slice_get, unwrap_or, AllByRecursion, filter, flat_map}
+use Rattle.text_core.proofs.Kit.{list_all, list_all-append}
+use Rattle.office_sql.proofs.Kit.{slice_get-filter, Key, Row, Trees, Term, Env, holds, inner, end, IsAnswer}
 use Rattle.sqlite_trees.proofs.ListLemmas.{all_weaker}
-use Rattle.sqlite_value.specs.declared.keys.Key.{Key}
-use Rattle.sqlite.specs.Order.{Row}
-use Rattle.sqlite.specs.Tree.{Trees}
-use Rattle.sqlite.specs.Term.{Term, Env, holds}
-use Rattle.sqlite.specs.Query.{inner, end, IsAnswer}
-use Rattle.office_sql.specs.Scan.{passes, passing}
-use Rattle.office_sql.specs.Joins.{over, pair, passes_join, first_that, beside, HasBeside}
+use Rattle.office_sql.specs.Prelude.{passes, passing, over, pair, passes_join, first_that, beside, HasBeside}
 use Rattle.office_sql.proofs.Scan.{Listed, listed, cut}
 
 pub same_each : (f g : Row → List Env) (rows : List Row) → AllByRecursion (λ r. f r ≡ g r) rows → flat_map f rows ≡ flat_map g rows

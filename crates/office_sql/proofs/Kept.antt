@@ -1,25 +1,12 @@
 -- What a query over a table and one beside it shows, as rows in the order of their keys, each with what the row beside it says.
-use Rattle.std.proofs.Common.{◌≡◌, Bool, false, List, [], ◌∷◌, ◌++◌, map, map-id, filter, find, refl, sym, ap, ap₂, ◌∙◌, subst, Ordering, is_gt}
-use Rattle.std.proofs.Common.{IsPermutation, IsSorted, slice_get, Some, None}
-use Rattle.std.specs.Prelude.{unwrap_or, option_and_then}
-use Rattle.std.specs.List.{AllByRecursion, list_all}
-use Rattle.std.specs.Option.{option_map}
-use Rattle.std.specs.Cmp.{IsTotalOrder}
-use Rattle.std.proofs.lemmas.List.Sorted.{IsPermutation-map}
-use Rattle.sqlite.specs.Order.{Row, column}
-use Rattle.sqlite.specs.Tree.{Trees, IsAscending}
-use Rattle.sqlite.specs.Term.{Term, Env, eval_all, holds}
-use Rattle.sqlite.specs.Query.{output, output_cmp, IsAnswer, inner, end}
-use Rattle.sqlite_value.specs.declared.keys.Key.{Key}
-use Rattle.sqlite_keyed.specs.Lists.{sort_by}
-use Rattle.sqlite_exec.proofs.PartitionLemmas.{ascending_from_sorted, sorted_from_ascending}
-use Rattle.sqlite_keyed.proofs.ListLemmas.{slice_get-filter}
-use Rattle.sqlite_trees.proofs.ListLemmas.{all_weaker, all-filter, all-permutation, all_both, filter_same, filter-map, ascending-map, map-map}
-use Rattle.office_sql.specs.Scan.{env, passes, passing}
-use Rattle.office_sql.specs.Joins.{over, pair, passes_join, first_that, beside, HasBeside}
-use Rattle.office_sql.specs.Rows.{start_in_rows}
-use Rattle.office_sql.specs.Tables.{AreRows, HasOne}
-use Rattle.office_sql.specs.Values.{text_if}
+use Rattle.std.proofs.Common.{◌≡◌, ◌∷◌, ◌++◌, Ordering}
+use Rattle.text_core.proofs.Kit.{Bool, false, List, [], map, map-id, filter, find, refl, sym, ap, ap₂, ◌∙◌, subst, is_gt, IsPermutation, IsSorted, slice_get}
+use Rattle.text_core.proofs.Kit.{Some, None, unwrap_or, option_and_then, AllByRecursion, list_all, option_map, IsTotalOrder, IsPermutation-map}
+use Rattle.office_sql.proofs.Kit.{Row, column, Trees, IsAscending, Term, Env, eval_all, holds, output, output_cmp, IsAnswer, inner, end, Key, sort_by}
+use Rattle.office_sql.proofs.Kit.{ascending_from_sorted, sorted_from_ascending, slice_get-filter, all-filter, all-permutation, all_both, filter_same}
+use Rattle.office_sql.proofs.Kit.{filter-map, ascending-map}
+use Rattle.sqlite_trees.proofs.ListLemmas.{all_weaker, map-map}
+use Rattle.office_sql.specs.Prelude.{env, passes, passing, over, pair, passes_join, first_that, beside, HasBeside, start_in_rows, AreRows, HasOne, text_if}
 use Rattle.office_sql.proofs.Keyed.{kept_in_order}
 use Rattle.office_sql.proofs.Lists.{sorted_kept}
 use Rattle.office_sql.proofs.Joined.{joined}

@@ -1,17 +1,12 @@
 -- Rows whose keys differ have one order, whatever order they lie in.
-use Rattle.std.proofs.Common.{◌≡◌, Bool, true, false, cond, List, [], ◌∷◌, filter, refl, sym, ap, ◌∙◌, Ordering, Less, Equal, Greater, is_gt, is_eq}
-use Rattle.std.proofs.Common.{true≢false, IsPermutation, IsSorted}
-use Rattle.std.specs.List.{AllByRecursion}
-use Rattle.std.specs.Cmp.{IsTotalOrder}
-use Rattle.std.specs.Ordering.{ordering_reverse, match_ordering}
-use Rattle.std.proofs.lemmas.List.Sorted.{IsPermutation-sym, IsPermutation-trans}
-use Rattle.sqlite.specs.Tree.{IsAscending}
-use Rattle.sqlite_keyed.specs.Lists.{insert_sorted, sort_by}
-use Rattle.sqlite_keyed.proofs.ListLemmas.{along_permutation, all_weaker, IsPermutation-filter, ascending-filter, ascending_weaker}
-use Rattle.sqlite_keyed.proofs.SortLemmas.{sorted_unique, IsPermutation-sort_by, sorted_is-sort_by}
-use Rattle.sqlite_exec.proofs.PartitionLemmas.{sorted_from_ascending}
-use Rattle.office_tables.specs.Tables.{with_row}
-use Rattle.office_sql.specs.Tables.{AreKeyed}
+use Rattle.std.proofs.Common.{◌≡◌, ◌∷◌, Ordering}
+use Rattle.text_core.proofs.Kit.{Bool, true, false, cond, List, [], filter, refl, sym, ap, ◌∙◌, Less, Equal, Greater, is_gt, is_eq, true≢false, IsPermutation}
+use Rattle.text_core.proofs.Kit.{IsSorted, AllByRecursion, IsTotalOrder, ordering_reverse, match_ordering, IsPermutation-sym, IsPermutation-trans}
+use Rattle.office_sql.proofs.Kit.{IsAscending, insert_sorted, sort_by, along_permutation, ascending_weaker, sorted_unique, IsPermutation-sort_by}
+use Rattle.office_sql.proofs.Kit.{sorted_is-sort_by, sorted_from_ascending}
+use Rattle.sqlite_keyed.proofs.ListLemmas.{all_weaker, IsPermutation-filter, ascending-filter}
+use Rattle.office_tables.specs.Prelude.{with_row}
+use Rattle.office_sql.specs.Prelude.{AreKeyed}
 
 module _ {A : Type 0} (cmp : A → A → Ordering) (total : IsTotalOrder cmp) where
   abbrev pub Apart : A → A → Type 0

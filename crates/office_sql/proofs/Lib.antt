@@ -11,6 +11,7 @@ pub mod Kept
 pub mod Reading
 mod Visiting
 pub mod Values
+pub mod Names
 pub mod Offices
 mod Making
 pub mod Resting
@@ -47,3 +48,5 @@ pub mod StartsFilled
 mod ColumnKinds
 mod OrderWrites
 pub mod Missing
+pub mod Kit
+mod Types

@@ -1,25 +1,12 @@
 -- What the texts that read links mean, and show.
-use Rattle.std.proofs.Common.{◌≡◌, ℕ, ◌&&◌, List, [], ◌∷◌, codes, refl, ap₂, ◌∙◌, map, filter, Ordering}
-use Rattle.std.specs.Ordering.{on, ordering_then}
-use Rattle.std.specs.Cmp.{IsTotalOrder}
-use Rattle.std.proofs.lemmas.Cmp.{on_total, then_total, nat_list_cmp_total}
-use Rattle.sqlite.specs.declared.types.Value.TheVariants.{Null, Text as Words, Blob as Bytes}
-use Rattle.sqlite.specs.Order.{Row, column}
-use Rattle.sqlite.specs.Term.{Term, col}
-use Rattle.sqlite.specs.Query.{key_cmp}
-use Rattle.sqlite_sql.proofs.QueryLemmas.{key_cmp_total}
+use Rattle.std.proofs.Common.{◌≡◌, ◌&&◌, ◌∷◌, Ordering}
+use Rattle.text_core.proofs.Kit.{ℕ, List, [], codes, refl, ap₂, ◌∙◌, map, filter, on, ordering_then, IsTotalOrder, on_total, then_total, nat_list_cmp_total}
+use Rattle.office_sql.proofs.Kit.{Null, Row, column, Term, col, key_cmp, key_cmp_total, Binary, Key, ascending, then-Equal, sort_by}
+use Rattle.sqlite.specs.declared.types.Value.TheVariants.{Text as Words, Blob as Bytes}
 use Rattle.sqlite.specs.Listing.{understood}
-use Rattle.sqlite.specs.Collation.TheVariants.{Binary}
 use Rattle.sqlite_tied.specs.Compute.{everything}
-use Rattle.sqlite_value.specs.declared.keys.Key.{Key}
-use Rattle.sqlite_value.specs.Keys.{ascending}
-use Rattle.sqlite_value.proofs.OrderLemmas.{then-Equal}
-use Rattle.sqlite_keyed.specs.Lists.{sort_by}
-use Rattle.office_tables.specs.Tables.{link_cmp, is_link, is_of}
-use Rattle.office_sql.specs.Schema.{office_schema}
-use Rattle.office_sql.specs.Rows.{link_in_row}
-use Rattle.office_sql.specs.Scan.{is_parameter, passes}
-use Rattle.office_sql.specs.Tables.{AreRows, IsLinkRow}
+use Rattle.office_tables.specs.Prelude.{link_cmp, is_link, is_of}
+use Rattle.office_sql.specs.Prelude.{links, office_schema, link_in_row, is_parameter, passes, AreRows, IsLinkRow}
 use Rattle.office_sql.proofs.Kept.{shows_kept}
 use Rattle.office_sql.proofs.Reading.{IsRead}
 use Rattle.office_sql.proofs.Scan.{Scanned}
@@ -37,11 +24,11 @@ shown = col 1 1 ∷ col 1 2 ∷ col 1 3 ∷ []
 abbrev pub by_key : List (Term × Key)
 by_key = (col 1 1, ascending Binary) ∷ (col 1 2, ascending Binary) ∷ []
 
-pub one_read : IsRead office_schema one_text 5 (is_parameter 1 0 ∷ is_parameter 2 1 ∷ []) shown by_key
+pub one_read : IsRead office_schema one_text links (is_parameter 1 0 ∷ is_parameter 2 1 ∷ []) shown by_key
 unfolding understood everything
 one_read = record { names = codes "customer" ∷ codes "digest" ∷ codes "map" ∷ []; is = refl; plain = (refl, refl); unlisted = refl; bare = λ schema base. refl; there = λ db. refl }
 
-pub own_read : IsRead office_schema own_text 5 (is_parameter 1 0 ∷ []) shown by_key
+pub own_read : IsRead office_schema own_text links (is_parameter 1 0 ∷ []) shown by_key
 unfolding understood everything
 own_read = record { names = codes "customer" ∷ codes "digest" ∷ codes "map" ∷ []; is = refl; plain = (refl, refl); unlisted = refl; bare = λ schema base. refl; there = λ db. refl }
 

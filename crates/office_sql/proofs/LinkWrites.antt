@@ -1,34 +1,20 @@
 -- What the text that adds a link means, and what it does to the tables.
-use Rattle.std.proofs.Common.{◌≡◌, ℕ, pos, ◌&&◌, List, [], ◌∷◌, codes, map, refl, sym, ap, ap₂, ◌∙◌, subst, Ordering, Less, Equal, Greater, is_eq}
-use Rattle.std.proofs.Common.{None, false, nat_cmp}
-use Rattle.std.specs.Prelude.{find}
-use Rattle.std.specs.List.{AllByRecursion}
-use Rattle.std.specs.Ordering.{ordering_then}
-use Rattle.std.specs.Cmp.Lexicographic.{slice_cmp}
-use Rattle.std.proofs.lemmas.Map.Text.{is_eq-slice_cmp}
-use Rattle.sqlite.specs.declared.types.Value.TheVariants.{Null}
-use Rattle.sqlite.specs.Order.{Row}
-use Rattle.sqlite.specs.Term.{Term, lit, col, eval_all}
+use Rattle.std.proofs.Common.{◌≡◌, ◌&&◌, ◌∷◌, Ordering}
+use Rattle.text_core.proofs.Kit.{ℕ, pos, List, [], codes, map, refl, sym, ap, ap₂, ◌∙◌, subst, Less, Equal, Greater, is_eq, None, false, nat_cmp, find}
+use Rattle.text_core.proofs.Kit.{AllByRecursion, ordering_then, slice_cmp, is_eq-slice_cmp}
+use Rattle.office_sql.proofs.Kit.{Null, Row, Term, lit, col, eval_all, Database, cast_row, all-permutation, sort_by, IsPermutation-sort_by}
 use Rattle.sqlite.specs.Listing.{understood}
-use Rattle.sqlite.specs.Effect.{Database}
-use Rattle.sqlite_rules.specs.Cast.{cast_row}
 use Rattle.sqlite_tied.specs.Compute.{everything}
-use Rattle.sqlite_trees.proofs.ListLemmas.{all_weaker, all-permutation}
-use Rattle.sqlite_keyed.specs.Lists.{sort_by}
-use Rattle.sqlite_keyed.proofs.SortLemmas.{IsPermutation-sort_by}
-use Rattle.office_tables.specs.declared.rows.OfCustomer.{OfCustomer}
-use Rattle.office_tables.specs.declared.rows.Link.{Link}
-use Rattle.office_tables.specs.declared.rows.Write.TheVariants.{AddLink}
-use Rattle.office_tables.specs.Tables.{link_cmp, is_link, IsFree}
+use Rattle.sqlite_trees.proofs.ListLemmas.{all_weaker}
+use Rattle.office_sql.proofs.Types.{OfCustomer, Link, AddLink}
+use Rattle.office_tables.specs.Prelude.{link_cmp, is_link, IsFree}
 use Rattle.office_tables.proofs.Finding.{none_passes}
-use Rattle.office_sql.specs.Schema.{link_table, office_schema}
-use Rattle.office_sql.specs.Rows.{link_in_row, link_columns}
-use Rattle.office_sql.specs.Change.{SqlAdds, Wrote}
-use Rattle.office_sql.specs.Tables.{AreRows, IsLinkRow, IsOffice, tables_in}
+use Rattle.office_sql.specs.Prelude.{links, link_table, office_schema, rows_in, link_in_row, link_columns, SqlAdds, Wrote, AreRows, IsLinkRow, IsOffice}
+use Rattle.office_sql.specs.Prelude.{tables_in}
 use Rattle.office_sql.proofs.Inserting.{IsInsert}
 use Rattle.office_sql.proofs.Keyed.{Apart}
 use Rattle.office_sql.proofs.LinkReads.{link_total}
-use Rattle.office_sql.proofs.Offices.{links_changed, told_stays}
+use Rattle.office_sql.proofs.Offices.{both_started, table_changed, told_stays}
 use Rattle.office_sql.proofs.Stepping.{cast_null, cast_int}
 use Rattle.office_sql.proofs.TableRows.{row_added}
 
@@ -38,7 +24,7 @@ add_text = codes "INSERT INTO link (customer, digest, map) VALUES (?1, ?2, ?3)"
 abbrev pub add_terms : List Term
 add_terms = lit Null ∷ col 0 0 ∷ col 0 1 ∷ col 0 2 ∷ []
 
-pub add_insert : IsInsert office_schema add_text 3 link_table add_terms 4
+pub add_insert : IsInsert office_schema add_text links add_terms 4
 unfolding understood everything
 add_insert = record { is = refl; plain = (refl, refl); there = refl; uncounted = refl; unstamped = refl; one = λ params. refl }
 
@@ -67,12 +53,17 @@ free_apart x rows none =
     (none_passes (is_link x.customer x.row.digest) _ none))
 
 pub link_wrote : (l : OfCustomer Link) (old new : Database) → IsOffice old
-    → IsFree (AddLink l) (tables_in old.trees) → SqlAdds 5 (link_columns l) old new
+    → IsFree (AddLink l) (tables_in old.trees) → SqlAdds links (link_columns l) old new
     → Wrote (AddLink l) old new
 link_wrote l old new office free adds =
-    let rows = old.trees 5 in
-    let it = row_added IsLinkRow link_cmp link_total link_in_row (link_columns l) rows office.rows.links (refl, refl) (free_apart l rows free) in
-    let now = links_changed old new office adds.schema adds.sound adds.others
-    (subst (AreRows IsLinkRow link_cmp link_in_row) (sym adds.row) it.0) _ (ap (λ l.
-    sort_by link_cmp (map link_in_row l)) adds.row ∙ it.1) in
-    record { office = now.0; made = now.1; rows = adds; told = told_stays 5 old.trees new.trees (λ e. cc) (λ e. cc) adds.others }
+    let rows = rows_in old.trees links in
+    let it = row_added IsLinkRow link_cmp link_total link_in_row (link_columns l) rows (office.rows links) (refl, refl) (free_apart l rows free) in
+    let now = table_changed old new office adds.schema adds.sound links adds.others
+    (subst (AreRows IsLinkRow link_cmp link_in_row) (sym adds.row) it.0) (both_started old office) in
+    let is = ap (λ l. sort_by link_cmp (map link_in_row l)) adds.row ∙ it.1 in
+    record {
+      office = now.0;
+      made = now.1 ∙ ap (λ l. record (tables_in old.trees) { links = l }) is;
+      rows = adds;
+      told = told_stays links old.trees new.trees (λ e. cc) (λ e. cc) adds.others;
+    }

@@ -1,8 +1,5 @@
 -- Lists that a query answers.
-use Rattle.std.proofs.Common.{◌≡◌, ℕ, ◌<◌, List, [], ◌∷◌, map, length, false, refl, sym, ap, subst, subst₂, ◌∙◌, ◌+◌}
-use Rattle.std.specs.List.{swap}
-use Rattle.std.specs.List.Sorted.{IsPermutation, IsSorted}
-use Rattle.std.specs.Ordering.{is_lt}
+use Rattle.std.proofs.Common.{◌≡◌, ℕ, ◌<◌, List, [], ◌∷◌, map, length, false, refl, sym, ap, subst, subst₂, ◌∙◌, ◌+◌, swap, IsPermutation, IsSorted, is_lt}
 use Rattle.std.specs.declared.cmp.Ordering.{Ordering}
 use Rattle.std.proofs.lemmas.List.Sorted.{IsPermutation-keeps, IsPermutation-refl, IsPermutation-trans, IsPermutation-swap}
 use Rattle.std.proofs.lemmas.List.{map-set, length-map}

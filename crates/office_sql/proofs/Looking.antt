@@ -1,24 +1,12 @@
 -- From what `query_all` promises in a transaction to what the functions of this crate do.
-use Rattle.std.proofs.Common.{◌≡◌, ℕ, List, [], inl, inr, subst, ◌⊎◌, Result, Ok, Err, IfOk, IfErr}
-use Rattle.std.specs.Prelude.{Vec}
-use Rattle.std.specs.declared.alloc.Global.{Global}
-use Rattle.std.proofs.lemmas.Result.{IfOk-weaker}
-use Rattle.sqlite_value.specs.declared.keys.Key.{Key}
-use Rattle.sqlite.specs.Order.{Row}
-use Rattle.sqlite.specs.Term.{Term}
-use Rattle.sqlite.specs.Program.{overlay}
-use Rattle.sqlite.specs.Query.{Join, IsAnswer}
-use Rattle.sqlite.specs.declared.error.Error.{Error}
+use Rattle.std.proofs.Common.{◌≡◌, ◌⊎◌}
+use Rattle.text_core.proofs.Kit.{ℕ, List, [], inl, inr, subst, Result, Ok, Err, IfOk, IfErr, Vec, Global, IfOk-weaker}
+use Rattle.office_sql.proofs.Kit.{Key, Row, Term, overlay, Join, IsAnswer, Error, Held, state, State, HasCleanDisk, Survives, IsUnchanged, IsTooLate}
+use Rattle.office_sql.proofs.Kit.{KeepsCommit}
 use Rattle.sqlite.specs.Store.{Ghosts}
-use Rattle.sqlite.specs.Held.{Held, state}
-use Rattle.sqlite.specs.State.{State, HasCleanDisk, Survives, Shown, IsUnchanged, FailsToQuery, IsTooLate, KeepsCommit}
-use Rattle.office_tables.specs.Tables.{Tables}
-use Rattle.office_sql.specs.Schema.{office_schema}
-use Rattle.office_sql.specs.Asking.{HasOffice}
-use Rattle.office_sql.specs.Change.{Rests}
-use Rattle.office_sql.specs.Joins.{over}
-use Rattle.office_sql.specs.Looking.{Looks, SqlUnchanged}
-use Rattle.office_sql.specs.Tables.{IsOffice, tables_in}
+use Rattle.sqlite.specs.State.{Shown, FailsToQuery}
+use Rattle.office_tables.specs.Prelude.{Tables}
+use Rattle.office_sql.specs.Prelude.{office_schema, HasOffice, Rests, over, Looks, SqlUnchanged, IsOffice, tables_in}
 use Rattle.office_sql.proofs.Asked.{leaves, reads_over, shown_open, shown_rests, failed_rests}
 use Rattle.office_sql.proofs.Reading.{IsJoined}
 

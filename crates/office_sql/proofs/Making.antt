@@ -1,11 +1,9 @@
 -- The steps of a commit.
 use Rattle.std.proofs.Common.{◌≡◌, ℕ, zero, suc, ◌<◌, get_or, take, length, List, [], ◌∷◌, ◌++◌, refl, subst, ◌∙◌, arith}
-use Rattle.sqlite.specs.State.{State}
+use Rattle.office_sql.proofs.Kit.{State, Database}
 use Rattle.office_tables.specs.declared.rows.Write.{Write}
-use Rattle.office_tables.specs.Tables.{Tables, CanWrite, IsFree, Writes, Written}
-use Rattle.sqlite.specs.Effect.{Database}
-use Rattle.office_sql.specs.Change.{HasMade, IsInside, WritesAllRows, WritesRows, Wrote}
-use Rattle.office_sql.specs.Tables.{tables_in}
+use Rattle.office_tables.specs.Prelude.{Tables, CanWrite, IsFree, Writes, Written}
+use Rattle.office_sql.specs.Prelude.{HasMade, IsInside, WritesAllRows, WritesRows, Wrote, tables_in}
 
 -- the write at an index finds its key free
 pub free_at : (ws : List Write) (i : ℕ) (w : Write) (t mid : Tables) → i < length ws

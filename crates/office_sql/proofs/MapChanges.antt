@@ -1,14 +1,8 @@
 -- What calls in a transaction change, where one fails and where one follows another.
 use Rattle.std.proofs.Common.{◌≡◌, ℕ, List, false, ◌∙◌, Ok, Err, Result, IfOk, OnOk, IsErr, IsTrue}
-use Rattle.sqlite.specs.Order.{Row}
-use Rattle.sqlite.specs.declared.error.Error.{Error}
-use Rattle.sqlite.specs.Effect.{Database}
+use Rattle.office_sql.proofs.Kit.{Row, Error, Database, Held, state, HasCleanDisk, KeepsCommit, Survives, ExecutesInside, survives_then}
 use Rattle.sqlite.specs.Store.{Ghosts}
-use Rattle.sqlite.specs.Held.{Held, state}
-use Rattle.sqlite.specs.State.{HasCleanDisk, KeepsCommit, Survives, ExecutesInside}
-use Rattle.sqlite.proofs.StateLemmas.{survives_then}
-use Rattle.office_sql.specs.Change.{IsInside}
-use Rattle.office_sql.specs.Asking.{SqlWrites}
+use Rattle.office_sql.specs.Prelude.{IsInside, SqlWrites}
 use Rattle.office_sql.proofs.Asked.{was_clean}
 use Rattle.office_sql.proofs.Inside.{kept}
 

@@ -1,33 +1,21 @@
 -- The rowid that a connection keeps of the row that an INSERT added.
-use Rattle.std.proofs.Common.{◌≡◌, ℕ, List, [], ◌∷◌, ◌++◌, length, drop, ◌-◌, cond, append-nil, None, Ok, ap, subst, ◌∙◌, unwrap_or}
-use Rattle.std.specs.Prelude.{◌/◌}
-use Rattle.sqlite.specs.declared.types.Value.TheVariants.{Null}
-use Rattle.sqlite.specs.Order.{Row}
-use Rattle.sqlite.specs.Term.{Term, eval_all}
-use Rattle.sqlite.specs.Source.TheVariants.{Values}
-use Rattle.sqlite.specs.Command.TheVariants.{Insert}
-use Rattle.sqlite.specs.Edit.{edit_of, numbered}
-use Rattle.sqlite.specs.Rowids.TheVariants.{Chosen, Above}
-use Rattle.sqlite.specs.Does.{Tally, Does, AtPlace, OnRows}
-use Rattle.sqlite.specs.Rows.{Written, count_of, last_id}
-use Rattle.sqlite.specs.Table.{Table}
+use Rattle.std.proofs.Common.{◌≡◌, ℕ, List, [], ◌∷◌, ◌++◌, length, drop, ◌-◌, cond, append-nil, None, Ok, ap, subst, ◌∙◌, unwrap_or, ◌/◌}
+use Rattle.office_sql.proofs.Kit.{Null, Row, Term, eval_all, Values, Insert, edit_of, numbered, Chosen, Above, Tally, Does, AtPlace, OnRows, Written, count_of}
+use Rattle.office_sql.proofs.Kit.{last_id, Database, value_rows, State, mode_of, Executes, statement_of, runs_as, cast_row, next_rowid}
 use Rattle.sqlite.specs.Listing.{understood}
-use Rattle.sqlite.specs.Effect.{Database, value_rows}
-use Rattle.sqlite.specs.State.{State, mode_of, Executes}
-use Rattle.sqlite.proofs.Callers.{statement_of, runs_as}
-use Rattle.sqlite_rules.specs.Cast.{cast_row}
-use Rattle.sqlite_rules.specs.Edit.{next_rowid}
-use Rattle.office_sql.specs.Schema.{office_schema}
+use Rattle.office_sql.specs.Prelude.{OfficeTable, office_schema, rows_in, table_of, place_of}
 use Rattle.office_sql.proofs.Inserting.{IsInsert}
 use Rattle.office_sql.proofs.Stepping.{went, same_value}
 
 -- it is the one that was next in the table
-pub last_is_next : (text : List ℕ) (at : ℕ) (table : Table) (terms : List Term) (width : ℕ) → IsInsert office_schema text at table terms width
-    → (params columns : Row) → cast_row table (eval_all terms (params ∷ [])) ≡ Null ∷ columns → (old new : State) (count : ℕ) → old.now.schema ≡ office_schema
-    → Executes text params old new (Ok count) → new.last_rowid ≡ next_rowid (old.now.trees table.tree)
-last_is_next text at table terms width insert params columns casts old new count has h =
+pub last_is_next : (text : List ℕ) (its : OfficeTable) (terms : List Term) (width : ℕ) → IsInsert office_schema text its terms width
+    → (params columns : Row) → cast_row (table_of its) (eval_all terms (params ∷ [])) ≡ Null ∷ columns → (old new : State) (count : ℕ)
+    → old.now.schema ≡ office_schema
+    → Executes text params old new (Ok count) → new.last_rowid ≡ next_rowid (rows_in old.now.trees its)
+last_is_next text its terms width insert params columns casts old new count has h =
+    let table = table_of its in
     let db = old.now.trees in
-    let command = Insert at (Values terms width) in
+    let command = Insert (place_of its) (Values terms width) in
     let w = runs_as text params old new office_schema has command insert.is insert.plain count h in
     let words = statement_of text (understood office_schema text) in
     let does = subst (λ s. Does old.step_limit (mode_of old) params (record old.now { schema = s }) words None command (Ok (w.tally, new.now))) has w.changed in
@@ -61,4 +49,4 @@ last_is_next text at table terms width insert params columns casts old new count
     ∙ ap (λ b. unwrap_or (last_id (edit_of db table [] (cond b (Above top) Chosen) 0 given.0).news) old.last_rowid) insert.uncounted
     ∙ ap (λ all. unwrap_or (last_id (edit_of db table [] Chosen 0 all).news) old.last_rowid) sources
     ∙ ap (λ r.
-    unwrap_or (last_id (numbered Chosen (db table.tree) (r ∷ []))) old.last_rowid) casts
+    unwrap_or (last_id (numbered Chosen (rows_in db its) (r ∷ []))) old.last_rowid) casts

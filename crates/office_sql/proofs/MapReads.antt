@@ -1,28 +1,13 @@
 -- What the texts that read maps mean, and show.
-use Rattle.std.proofs.Common.{◌≡◌, ℕ, pos, List, [], ◌∷◌, codes, refl, ◌∙◌, map, filter, Ordering, Option, Some, None}
-use Rattle.std.specs.Ordering.{on}
-use Rattle.std.specs.Cmp.{IsTotalOrder}
-use Rattle.std.proofs.lemmas.Cmp.{on_total, nat_cmp_total}
-use Rattle.sqlite.specs.declared.types.Value.TheVariants.{Int, Text as Words}
-use Rattle.sqlite.specs.Order.{Row, column}
-use Rattle.sqlite.specs.Term.{Term, col}
-use Rattle.sqlite.specs.Query.{key_cmp}
-use Rattle.sqlite_sql.proofs.QueryLemmas.{key_cmp_total}
+use Rattle.std.proofs.Common.{◌≡◌, ◌∷◌, Ordering}
+use Rattle.text_core.proofs.Kit.{ℕ, pos, List, [], codes, refl, ◌∙◌, map, filter, Option, Some, None, on, IsTotalOrder, on_total, nat_cmp_total, option_map}
+use Rattle.office_sql.proofs.Kit.{Int, Row, column, Term, col, key_cmp, key_cmp_total, Binary, Key, ascending, then-Equal, sort_by}
+use Rattle.sqlite.specs.declared.types.Value.TheVariants.{Text as Words}
 use Rattle.sqlite.specs.Listing.{understood}
-use Rattle.sqlite.specs.Collation.TheVariants.{Binary}
 use Rattle.sqlite_tied.specs.Compute.{everything}
-use Rattle.sqlite_value.specs.declared.keys.Key.{Key}
-use Rattle.sqlite_value.specs.Keys.{ascending}
-use Rattle.sqlite_value.proofs.OrderLemmas.{then-Equal}
-use Rattle.sqlite_keyed.specs.Lists.{sort_by}
 use Rattle.office_tables.specs.declared.rows.MapRow.{MapRow}
-use Rattle.office_tables.specs.Tables.{map_cmp, has_id, has_body}
-use Rattle.std.specs.Option.{option_map}
-use Rattle.office_sql.specs.Schema.{office_schema}
-use Rattle.office_sql.specs.Values.{number_in_cell}
-use Rattle.office_sql.specs.Rows.{map_in_row}
-use Rattle.office_sql.specs.Scan.{is_parameter, passes}
-use Rattle.office_sql.specs.Tables.{AreRows, IsMapRow}
+use Rattle.office_tables.specs.Prelude.{map_cmp, has_id, has_body}
+use Rattle.office_sql.specs.Prelude.{maps, office_schema, number_in_cell, map_in_row, is_parameter, passes, AreRows, IsMapRow}
 use Rattle.office_sql.proofs.Kept.{shows_kept}
 use Rattle.office_sql.proofs.Reading.{IsRead}
 use Rattle.office_sql.proofs.Scan.{Scanned}
@@ -41,11 +26,11 @@ shown = col 1 0 ∷ col 1 2 ∷ []
 abbrev pub by_key : List (Term × Key)
 by_key = (col 1 0, ascending Binary) ∷ []
 
-pub one_read : IsRead office_schema one_text 3 (is_parameter 0 0 ∷ []) shown by_key
+pub one_read : IsRead office_schema one_text maps (is_parameter 0 0 ∷ []) shown by_key
 unfolding understood everything
 one_read = record { names = codes "id" ∷ codes "body" ∷ []; is = refl; plain = (refl, refl); unlisted = refl; bare = λ schema base. refl; there = λ db. refl }
 
-pub body_read : IsRead office_schema body_text 3 (is_parameter 2 0 ∷ []) shown by_key
+pub body_read : IsRead office_schema body_text maps (is_parameter 2 0 ∷ []) shown by_key
 unfolding understood everything
 body_read = record { names = codes "id" ∷ codes "body" ∷ []; is = refl; plain = (refl, refl); unlisted = refl; bare = λ schema base. refl; there = λ db. refl }
 

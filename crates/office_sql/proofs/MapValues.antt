@@ -1,16 +1,10 @@
 -- The tests of SQL on columns of whole numbers, and their order.
-use Rattle.std.proofs.Common.{◌≡◌, ℕ, pos, ◌==◌, Bool, true, false, refl, ap, ap₂, ◌∙◌, is_eq, Some, nat_cmp, int_cmp, arith}
-use Rattle.std.proofs.lemmas.Bool.Decides.{nat_tests}
-use Rattle.std.proofs.lemmas.Int.{ints}
-use Rattle.sqlite.specs.declared.types.Value.{Value}
-use Rattle.sqlite.specs.declared.types.Value.TheVariants.{Int}
+use Rattle.std.proofs.Common.{◌≡◌, ◌==◌}
+use Rattle.text_core.proofs.Kit.{ℕ, pos, Bool, true, false, refl, ap, ap₂, ◌∙◌, is_eq, Some, nat_cmp, int_cmp, arith, nat_tests, ints}
+use Rattle.office_sql.proofs.Kit.{Value, Int, is_true, from_truth, Eq, Compare, Binary, value_cmp-Int}
 use Rattle.sqlite.specs.Order.{value_cmp}
-use Rattle.sqlite.specs.Ops.{binary, is_true, from_truth}
-use Rattle.sqlite_sql.specs.declared.ops.CompareOp.TheVariants.{Eq}
-use Rattle.sqlite_sql.specs.declared.ops.BinaryOp.TheVariants.{Compare}
-use Rattle.sqlite.specs.Collation.TheVariants.{Binary}
-use Rattle.sqlite_value.proofs.OrderLemmas.{value_cmp-Int}
-use Rattle.office_sql.specs.Values.{number_in_cell}
+use Rattle.sqlite.specs.Ops.{binary}
+use Rattle.office_sql.specs.Prelude.{number_in_cell}
 
 told : (b : Bool) → is_true (from_truth (Some b)) ≡ b
 told true = refl

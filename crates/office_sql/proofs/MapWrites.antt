@@ -1,37 +1,23 @@
 -- What the text that adds a map means, and what it does to the tables.
-use Rattle.std.proofs.Common.{◌≡◌, ℕ, ℤ, pos, ◌==◌, Bool, not, cond, false, true, List, [], ◌∷◌, codes, map, filter, refl, sym, ap, ◌∙◌, subst}
-use Rattle.std.proofs.Common.{is_eq, nat_cmp, arith}
-use Rattle.std.specs.List.{AllByRecursion}
-use Rattle.std.proofs.lemmas.Bool.Decides.{nat_tests}
-use Rattle.sqlite.specs.declared.types.Value.TheVariants.{Null, Int}
-use Rattle.sqlite.specs.Order.{Row, column, value_cmp}
-use Rattle.sqlite.specs.Tree.{has_rowid, without_rowid}
-use Rattle.sqlite.specs.Term.{Term, lit, col, eval_all}
+use Rattle.std.proofs.Common.{◌≡◌, ◌==◌, ◌∷◌}
+use Rattle.text_core.proofs.Kit.{ℕ, ℤ, pos, Bool, not, cond, false, true, List, [], codes, map, filter, refl, sym, ap, ◌∙◌, subst, is_eq, nat_cmp, arith}
+use Rattle.text_core.proofs.Kit.{AllByRecursion, nat_tests}
+use Rattle.office_sql.proofs.Kit.{Null, Int, Row, column, has_rowid, without_rowid, Term, lit, col, eval_all, Database, cast_row, next_rowid, all-map, all_both}
+use Rattle.office_sql.proofs.Kit.{sort_by}
+use Rattle.sqlite.specs.Order.{value_cmp}
 use Rattle.sqlite.specs.Listing.{understood}
-use Rattle.sqlite.specs.Effect.{Database}
-use Rattle.sqlite_rules.specs.Cast.{cast_row}
-use Rattle.sqlite_rules.specs.Edit.{next_rowid}
 use Rattle.sqlite_tied.specs.Compute.{everything}
-use Rattle.sqlite_trees.proofs.ListLemmas.{all_weaker, all-map, all_both}
-use Rattle.sqlite_keyed.specs.Lists.{sort_by}
-use Rattle.office_tables.specs.declared.rows.OfCustomer.{OfCustomer}
-use Rattle.office_tables.specs.declared.rows.NewMap.{NewMap}
-use Rattle.office_tables.specs.declared.rows.MapRow.{MapRow}
-use Rattle.office_tables.specs.Tables.{map_cmp, has_id, link_at, with_map, with_link, IsFree}
-use Rattle.office_tables.specs.declared.rows.Link.{Link}
-use Rattle.office_tables.specs.declared.rows.Write.TheVariants.{AddMap, AddLink}
+use Rattle.sqlite_trees.proofs.ListLemmas.{all_weaker}
+use Rattle.office_sql.proofs.Types.{OfCustomer, NewMap, MapRow, Link, AddMap, AddLink}
+use Rattle.office_tables.specs.Prelude.{map_cmp, has_id, link_at, with_map, with_link, IsFree}
 use Rattle.office_tables.proofs.Finding.{find_none}
-use Rattle.office_sql.specs.Schema.{map_table, office_schema}
-use Rattle.office_sql.specs.Values.{number_in_cell}
-use Rattle.office_sql.specs.Rows.{map_in_row, map_columns}
-use Rattle.office_sql.specs.Change.{SqlAdds, Wrote}
-use Rattle.office_sql.specs.Maps.{GainsMap}
-use Rattle.office_sql.specs.Tables.{AreRows, IsMapRow, IsOffice, tables_in}
+use Rattle.office_sql.specs.Prelude.{maps, map_table, office_schema, rows_in, number_in_cell, map_in_row, map_columns, SqlAdds, Wrote, GainsMap, AreRows}
+use Rattle.office_sql.specs.Prelude.{IsMapRow, IsOffice, tables_in}
 use Rattle.office_sql.proofs.Inserting.{IsInsert}
 use Rattle.office_sql.proofs.Keyed.{Apart, apart_back, all_sorted}
 use Rattle.office_sql.proofs.MapReads.{map_total}
 use Rattle.office_sql.proofs.MapValues.{wholes_cmp}
-use Rattle.office_sql.proofs.Offices.{maps_changed, told_stays}
+use Rattle.office_sql.proofs.Offices.{both_started, table_changed, told_stays}
 use Rattle.office_sql.proofs.Stepping.{cast_null}
 use Rattle.office_sql.proofs.TableRows.{next_is_free, row_added}
 
@@ -41,7 +27,7 @@ add_text = codes "INSERT INTO map (body, digest) VALUES (?1, ?2)"
 abbrev pub add_terms : List Term
 add_terms = lit Null ∷ lit Null ∷ col 0 0 ∷ col 0 1 ∷ []
 
-pub add_insert : IsInsert office_schema add_text 2 map_table add_terms 4
+pub add_insert : IsInsert office_schema add_text maps add_terms 4
 unfolding understood everything
 add_insert = record { is = refl; plain = (refl, refl); there = refl; uncounted = refl; unstamped = refl; one = λ params. refl }
 
@@ -89,28 +75,28 @@ next_apart id body rows are is =
     rows others are.typed)
 
 pub map_gained : (m : OfCustomer NewMap) (id : ℕ) (old new : Database) → IsOffice old
-    → next_rowid (old.trees 3) ≡ pos id → SqlAdds 3 (Null ∷ map_columns m) old new
+    → next_rowid (rows_in old.trees maps) ≡ pos id → SqlAdds maps (Null ∷ map_columns m) old new
     → GainsMap m id old new
 map_gained m id old new office is adds =
-    let rows = old.trees 3 in
+    let rows = rows_in old.trees maps in
     let row : MapRow = record { id = id; body = m.row.body } in
-    let apart = next_apart id m.row.body rows office.rows.maps is in
+    let apart = next_apart id m.row.body rows (office.rows maps) is in
     let same : map_in_row (Int (next_rowid rows) ∷ Null ∷ map_columns m) ≡ row = ap (λ n. map_in_row (Int n ∷ Null ∷ map_columns m)) is in
     let it = row_added IsMapRow map_cmp map_total map_in_row (Null
-    ∷ map_columns m) rows office.rows.maps (
+    ∷ map_columns m) rows (office.rows maps) (
       ap Int is
           ∙ ap (λ n. Int (pos (number_in_cell (Int n)))) (sym is),
       refl,
     )
     (subst (λ x. AllByRecursion (Apart map_cmp map_total x) (map map_in_row rows)) (sym same) apart) in
-    let now = maps_changed old new office adds.schema adds.sound adds.others
-    (subst (AreRows IsMapRow map_cmp map_in_row) (sym adds.row) it.0) _ (ap (λ l.
-    sort_by map_cmp (map map_in_row l)) adds.row ∙ it.1) in
+    let now = table_changed old new office adds.schema adds.sound maps adds.others
+    (subst (AreRows IsMapRow map_cmp map_in_row) (sym adds.row) it.0) (both_started old office) in
+    let all = ap (λ l. sort_by map_cmp (map map_in_row l)) adds.row ∙ it.1 in
     let none = all_weaker (Apart map_cmp map_total row) (λ y. has_id id y ≡ false) (λ y e. sym (tied id y.id) ∙ e) (map map_in_row rows) apart in
     record {
       office = now.0;
       free = find_none (has_id id) _ (all_sorted map_cmp map_total (λ y. has_id id y ≡ false) (map map_in_row rows) none);
-      made = now.1 ∙ ap (λ x. with_map x (tables_in old.trees)) same;
+      made = now.1 ∙ ap (λ l. record (tables_in old.trees) { maps = l }) all ∙ ap (λ x. with_map x (tables_in old.trees)) same;
       number = is;
       row = adds;
     }
@@ -128,5 +114,5 @@ map_wrote m id old mid new gains wrote =
       office = wrote.office;
       made = (id, gains.free, wrote.made ∙ ap (with_link link) gains.made);
       rows = (mid, id, gains.number, gains.row, wrote.rows);
-      told = wrote.told ∙ told_stays 3 old.trees mid.trees (λ e. cc) (λ e. cc) gains.row.others;
+      told = wrote.told ∙ told_stays maps old.trees mid.trees (λ e. cc) (λ e. cc) gains.row.others;
     }

@@ -1,12 +1,9 @@
 -- A text that may be missing, as a parameter and in a column.
-use Rattle.std.proofs.Common.{◌≡◌, ℕ, true, List, Option, Some, None, refl}
-use Rattle.std.specs.Option.{option_map}
+use Rattle.std.proofs.Common.{◌≡◌, ℕ, true, List, Option, Some, None, refl, option_map}
 use Rattle.sqlite.specs.declared.types.Value.TheVariants.{Text as Words}
 use Rattle.sqlite.specs.Kind.TheVariants.{Text}
-use Rattle.sqlite.specs.Cast.{cast}
-use Rattle.sqlite.specs.Values.{bound_value, or_null}
-use Rattle.sqlite_schema.specs.Rules.{is_of}
-use Rattle.office_sql.specs.Values.{text_if, text_value}
+use Rattle.office_sql.proofs.Kit.{cast, bound_value, or_null, is_of}
+use Rattle.office_sql.specs.Prelude.{text_if, text_value}
 
 pub text_param : {X : Type 0} (f : X → List ℕ) (o : Option X) → bound_value (or_null (λ x. Words (f x)) o) ≡ text_value (option_map f o)
 text_param f None = refl

@@ -1,33 +1,17 @@
 -- What the texts that read orders mean, and show.
-use Rattle.std.proofs.Common.{◌≡◌, ℕ, ◌&&◌, List, [], ◌∷◌, ◌++◌, codes, refl, sym, ap, ap₂, ◌∙◌, map, filter, Ordering, Equal, is_eq}
-use Rattle.std.specs.Ordering.{on, ordering_then}
-use Rattle.std.specs.Cmp.{IsTotalOrder, tied_then}
-use Rattle.std.proofs.lemmas.Cmp.{on_total, then_total, nat_list_cmp_total}
-use Rattle.std.proofs.lemmas.Map.Text.{is_eq-slice_cmp}
+use Rattle.std.proofs.Common.{◌≡◌, ◌&&◌, ◌∷◌, ◌++◌, Ordering}
+use Rattle.text_core.proofs.Kit.{ℕ, List, [], codes, refl, sym, ap, ap₂, ◌∙◌, map, filter, Equal, is_eq, on, ordering_then, IsTotalOrder, tied_then, on_total}
+use Rattle.text_core.proofs.Kit.{then_total, nat_list_cmp_total, is_eq-slice_cmp}
 use Rattle.sqlite.specs.declared.types.Value.TheVariants.{Text as Words}
-use Rattle.sqlite.specs.Order.{Row, column}
-use Rattle.sqlite.specs.Term.{Term, col}
-use Rattle.sqlite.specs.Ops.{binary, is_true}
-use Rattle.sqlite_sql.specs.declared.ops.CompareOp.TheVariants.{Eq}
-use Rattle.sqlite_sql.specs.declared.ops.BinaryOp.TheVariants.{Compare}
-use Rattle.sqlite.specs.Query.{key_cmp, IsAnswer, inner, end}
-use Rattle.sqlite.specs.Tree.{Trees}
+use Rattle.office_sql.proofs.Kit.{Row, column, Term, col, is_true, Eq, Compare, key_cmp, IsAnswer, inner, end, Join, Trees, Binary, Key, ascending}
+use Rattle.office_sql.proofs.Kit.{value_cmp_total, then-Equal, sort_by}
+use Rattle.sqlite.specs.Ops.{binary}
 use Rattle.sqlite.specs.Listing.{understood}
-use Rattle.sqlite.specs.Collation.TheVariants.{Binary}
 use Rattle.sqlite_tied.specs.Compute.{everything}
-use Rattle.sqlite_value.specs.declared.keys.Key.{Key}
-use Rattle.sqlite_value.specs.Keys.{ascending}
-use Rattle.sqlite_value.proofs.OrderLemmas.{value_cmp_total, then-Equal}
-use Rattle.sqlite_keyed.specs.Lists.{sort_by}
-use Rattle.office_tables.specs.declared.rows.OfCustomer.{OfCustomer}
-use Rattle.office_tables.specs.declared.rows.Order.{Order}
-use Rattle.office_tables.specs.Tables.{order_cmp, is_of, is_order}
-use Rattle.office_sql.specs.Schema.{office_schema}
-use Rattle.office_sql.specs.Rows.{order_in_row, starts_order, with_order_start, joined_order}
-use Rattle.office_sql.specs.Scan.{is_parameter, passes}
-use Rattle.office_sql.specs.Joins.{over, is_same, passes_join, first_that}
-use Rattle.office_sql.specs.Tables.{AreRows, AreStarted, IsOrderRow, IsStartRow}
-use Rattle.office_sql.specs.Values.{text_if}
+use Rattle.office_sql.proofs.Types.{OfCustomer, Order}
+use Rattle.office_tables.specs.Prelude.{order_cmp, is_of, is_order}
+use Rattle.office_sql.specs.Prelude.{orders, order_starts, office_schema, rows_in, tree_of, order_in_row, starts_order, with_order_start, joined_order}
+use Rattle.office_sql.specs.Prelude.{is_parameter, passes, over, is_same, passes_join, first_that, AreRows, AreStarted, IsOrderRow, IsStartRow, text_if}
 use Rattle.office_sql.proofs.Kept.{shows_joined, start_is}
 use Rattle.office_sql.proofs.Reading.{IsJoined}
 use Rattle.office_sql.proofs.Values.{text_is, texts_cmp, and_true}
@@ -47,6 +31,10 @@ by_key = (col 1 1, ascending Binary) ∷ (col 1 2, ascending Binary) ∷ []
 abbrev pub names : List (List ℕ)
 names = codes "customer" ∷ codes "name" ∷ codes "issuer" ∷ codes "prefix" ∷ codes "width" ∷ codes "first" ∷ codes "quantity" ∷ codes "macs" ∷ codes "mac" ∷ codes "cursor" ∷ codes "not_before" ∷ []
 
+-- each row with its start
+abbrev pub with_starts : Join
+with_starts = inner (tree_of orders) (inner (tree_of order_starts) end)
+
 -- the columns of the row and of its start that are one key
 abbrev pub on_start : List Term
 on_start = is_same 1 1 ∷ is_same 2 2 ∷ []
@@ -57,11 +45,11 @@ one_tests = is_parameter 1 0 ∷ is_parameter 2 1 ∷ []
 abbrev pub own_tests : List Term
 own_tests = is_parameter 1 0 ∷ []
 
-pub one_read : IsJoined office_schema one_text (inner 7 (inner 17 end)) (on_start ++ one_tests) shown by_key
+pub one_read : IsJoined office_schema one_text with_starts (on_start ++ one_tests) shown by_key
 unfolding understood everything
 one_read = record { names = names; is = refl; plain = (refl, refl); unlisted = refl; bare = λ schema base. refl }
 
-pub own_read : IsJoined office_schema own_text (inner 7 (inner 17 end)) (on_start ++ own_tests) shown by_key
+pub own_read : IsJoined office_schema own_text with_starts (on_start ++ own_tests) shown by_key
 unfolding understood everything
 own_read = record { names = names; is = refl; plain = (refl, refl); unlisted = refl; bare = λ schema base. refl }
 
@@ -107,25 +95,26 @@ starts : (l : List Row) (all : List (OfCustomer Order)) → map (λ o. with_row 
 starts l all = ap (λ (f : OfCustomer Order → OfCustomer Order). map f all) (λ i o. record o { row = record o.row { not_before = start_is starts_order l o i } })
 
 pub one_shown : (c n : List ℕ) (db : Trees) (rows : List Row)
-    → AreRows IsOrderRow order_cmp order_in_row (db 7)
-    → AreStarted starts_order order_in_row (db 7) (db 17)
-    → IsAnswer (over (inner 7 (inner 17 end)) (on_start ++ one_tests) shown by_key) db (Words c ∷ Words n ∷ []) rows
-    → map joined_order rows ≡ filter (is_order c n) (map (with_order_start (db 17)) (sort_by order_cmp (map order_in_row (db 7))))
+    → AreRows IsOrderRow order_cmp order_in_row (rows_in db orders)
+    → AreStarted starts_order order_in_row (rows_in db orders) (rows_in db order_starts)
+    → IsAnswer (over with_starts (on_start ++ one_tests) shown by_key) db (Words c ∷ Words n ∷ []) rows
+    → map joined_order rows ≡ filter (is_order c n)
+    (map (with_order_start (rows_in db order_starts)) (sort_by order_cmp (map order_in_row (rows_in db orders))))
 one_shown c n db rows are started a =
     shows_joined IsOrderRow order_cmp order_total order_in_row by_name by_name_total by_is (is_order c n) one_tests (Words c ∷ Words n ∷ []) (passes_order c n)
     IsStartRow starts_order on_start (fits (Words c ∷ Words n
     ∷ [])) shown by_key joined_order with_row (λ s o. refl) (λ r s. refl) (λ r s.
     refl) (λ a b s t. refl)
-    db 7 17 rows are started.typed started.one a
-    ∙ ap (filter (is_order c n)) (starts (db 17) _)
+    db (tree_of orders) (tree_of order_starts) rows are started.typed started.one a
+    ∙ ap (filter (is_order c n)) (starts (rows_in db order_starts) _)
 
 pub own_shown : (c : List ℕ) (db : Trees) (rows : List Row)
-    → AreRows IsOrderRow order_cmp order_in_row (db 7)
-    → AreStarted starts_order order_in_row (db 7) (db 17)
-    → IsAnswer (over (inner 7 (inner 17 end)) (on_start ++ own_tests) shown by_key) db (Words c ∷ []) rows
-    → map joined_order rows ≡ filter (is_of c) (map (with_order_start (db 17)) (sort_by order_cmp (map order_in_row (db 7))))
+    → AreRows IsOrderRow order_cmp order_in_row (rows_in db orders)
+    → AreStarted starts_order order_in_row (rows_in db orders) (rows_in db order_starts)
+    → IsAnswer (over with_starts (on_start ++ own_tests) shown by_key) db (Words c ∷ []) rows
+    → map joined_order rows ≡ filter (is_of c) (map (with_order_start (rows_in db order_starts)) (sort_by order_cmp (map order_in_row (rows_in db orders))))
 own_shown c db rows are started a =
     shows_joined IsOrderRow order_cmp order_total order_in_row by_name by_name_total by_is (is_of c) own_tests (Words c ∷ []) (passes_customer c)
     IsStartRow starts_order on_start (fits (Words c ∷ [])) shown by_key joined_order with_row (λ s o. refl) (λ r s. refl) (λ r s. refl) (λ a b s t. refl)
-    db 7 17 rows are started.typed started.one a
-    ∙ ap (filter (is_of c)) (starts (db 17) _)
+    db (tree_of orders) (tree_of order_starts) rows are started.typed started.one a
+    ∙ ap (filter (is_of c)) (starts (rows_in db order_starts) _)

@@ -1,42 +1,25 @@
 -- What the texts that write an order mean, and do.
-use Rattle.std.proofs.Common.{◌≡◌, inl, inr, ℕ, ℤ, pos, true, false, ◌&&◌, List, [], ◌∷◌, codes, map, Bool, arith, refl, sym, ap, ap₂, subst, subst₂}
-use Rattle.std.proofs.Common.{◌∙◌, Equal, Option, None, Ok}
-use Rattle.std.specs.Option.{option_map, option_and_then}
-use Rattle.std.specs.Ordering.{ordering_then}
-use Rattle.std.proofs.lemmas.Cmp.{tied_itself, nat_list_cmp_total}
-use Rattle.sqlite.specs.declared.types.Value.TheVariants.{Null, Int, Text as Words}
-use Rattle.sqlite.specs.Order.{Row, column, bytes}
-use Rattle.sqlite.specs.Term.{Term, lit, col}
-use Rattle.sqlite.specs.Cast.{cast_row}
-use Rattle.sqlite.specs.Tree.{put_row}
-use Rattle.sqlite.specs.Effect.{Database}
+use Rattle.std.proofs.Common.{◌≡◌, ◌&&◌, ◌∷◌}
+use Rattle.text_core.proofs.Kit.{inl, inr, ℕ, ℤ, pos, true, false, List, [], codes, map, Bool, arith, refl, sym, ap, ap₂, subst, subst₂, ◌∙◌, Equal, Option}
+use Rattle.text_core.proofs.Kit.{None, Ok, option_map, option_and_then, ordering_then, tied_itself, nat_list_cmp_total}
+use Rattle.office_sql.proofs.Kit.{Null, Int, Row, column, bytes, Term, lit, col, cast_row, put_row, Database, State, Executes, are_typed, next_rowid, sort_by}
+use Rattle.office_sql.proofs.Kit.{all_unmap, IsPermutation-sort_by, all-permutation}
+use Rattle.sqlite.specs.declared.types.Value.TheVariants.{Text as Words}
 use Rattle.sqlite.specs.Listing.{understood}
-use Rattle.sqlite.specs.State.{State, Executes}
-use Rattle.sqlite_schema.specs.Rules.{are_typed}
-use Rattle.sqlite_rules.specs.Edit.{next_rowid}
-use Rattle.sqlite_keyed.specs.Lists.{sort_by}
-use Rattle.sqlite_keyed.proofs.ListLemmas.{all_unmap}
-use Rattle.sqlite_keyed.proofs.SortLemmas.{IsPermutation-sort_by}
-use Rattle.sqlite_trees.proofs.ListLemmas.{all_weaker, all-permutation}
+use Rattle.sqlite_trees.proofs.ListLemmas.{all_weaker}
 use Rattle.sqlite_tied.specs.Compute.{everything}
-use Rattle.id_ranges.specs.Mac.{mac_text, mac_of_text}
-use Rattle.office_tables.specs.declared.rows.OfCustomer.{OfCustomer}
-use Rattle.office_tables.specs.declared.rows.Order.{Order}
-use Rattle.office_tables.specs.declared.rows.Cursor.{Cursor}
-use Rattle.office_tables.specs.declared.rows.Write.TheVariants.{AddOrder, SetCursor}
-use Rattle.office_tables.specs.Tables.{is_order, order_at, order_cmp, with_row, with_cursor_of}
-use Rattle.office_sql.specs.Schema.{orders_table, order_start_table, office_schema}
-use Rattle.office_sql.specs.Scan.{is_parameter}
-use Rattle.office_sql.specs.Values.{text_if, mac_if, mac_value, whole_value}
-use Rattle.office_sql.specs.Rows.{columns_with_cursor, order_in_row, order_columns, starts_order, order_start_columns, with_order_start}
-use Rattle.office_sql.specs.Tables.{AreRows, AreStarted, IsOffice, IsOrderRow, tables_in, told_in}
-use Rattle.office_sql.specs.Change.{SqlAdds, Wrote}
+use Rattle.id_ranges.specs.Prelude.{mac_text, mac_of_text}
+use Rattle.office_sql.proofs.Types.{OfCustomer, Order, Cursor, AddOrder, SetCursor}
+use Rattle.office_tables.specs.Prelude.{is_order, order_at, order_cmp, with_row, with_cursor_of}
+use Rattle.office_sql.specs.Prelude.{orders, order_starts, orders_table, order_start_table, office_schema, rows_in, is_parameter, text_if, mac_if, mac_value}
+use Rattle.office_sql.specs.Prelude.{whole_value, columns_with_cursor, order_in_row, order_columns, starts_order, order_start_columns, with_order_start}
+use Rattle.office_sql.specs.Prelude.{AreRows, AreStarted, IsOffice, IsOrderRow, tables_in, told_in, SqlAdds, Wrote}
 use Rattle.office_sql.proofs.Finding.{find_none, only_found, both_true, texts_tied, texts_alike, same_bytes}
 use Rattle.office_sql.proofs.Inserting.{IsInsert}
 use Rattle.office_sql.proofs.Keyed.{Apart}
 use Rattle.office_sql.proofs.ColumnKinds.{AreOf, are_of, text_stays, number_stays}
 use Rattle.office_sql.proofs.Missing.{text_cast, text_back, text_typed}
-use Rattle.office_sql.proofs.Offices.{orders_changed, orders_grown, told_stays}
+use Rattle.office_sql.proofs.Offices.{both_changed, table_changed, told_stays}
 use Rattle.office_sql.proofs.OrderReads.{order_total, order_tied, passes_order}
 use Rattle.office_sql.proofs.Replacing.{IsUpdate, IsSet, SetsOne, remade, sets}
 use Rattle.office_sql.proofs.Stepping.{cast_null, cast_int}
@@ -50,7 +33,7 @@ add_text = codes "INSERT INTO orders (customer, name, issuer, prefix, width, fir
 abbrev pub add_terms : List Term
 add_terms = lit Null ∷ col 0 0 ∷ col 0 1 ∷ col 0 2 ∷ col 0 3 ∷ col 0 4 ∷ col 0 5 ∷ col 0 6 ∷ col 0 7 ∷ col 0 8 ∷ col 0 9 ∷ []
 
-pub add_insert : IsInsert office_schema add_text 4 orders_table add_terms 11
+pub add_insert : IsInsert office_schema add_text orders add_terms 11
 unfolding understood everything
 add_insert = record { is = refl; plain = (refl, refl); there = refl; uncounted = refl; unstamped = refl; one = λ params. refl }
 
@@ -90,32 +73,33 @@ own_start o id = ap₂ ◌&&◌ (same_bytes o.customer) (same_bytes o.row.name)
 pub order_added : (o : OfCustomer Order) → mac_if (mac_value o.row.mac) ≡ o.row.mac
     → (old mid new : Database) → IsOffice old
     → order_at o.customer o.row.name (tables_in old.trees) ≡ None
-    → SqlAdds 7 (order_columns o) old mid → SqlAdds 17 (order_start_columns o) mid new → Wrote (AddOrder o) old new
+    → SqlAdds orders (order_columns o) old mid → SqlAdds order_starts (order_start_columns o) mid new → Wrote (AddOrder o) old new
 order_added o back old mid new office none adds starts =
-    let rows = old.trees 7 in
+    let rows = rows_in old.trees orders in
     let id = next_rowid rows in
     let new_row : Row = Int id ∷ order_columns o in
     let told : told_in new.trees
-    ≡ told_in old.trees = told_stays 17 mid.trees new.trees (λ e. cc) (λ e. cc) starts.others
-    ∙ told_stays 7 old.trees mid.trees (λ e. cc) (λ e. cc) adds.others in
-    let beside : mid.trees 17 ≡ old.trees 17 = adds.others.1.1.1.1.1.1.1.1.0 (λ e. cc) in
+    ≡ told_in old.trees = told_stays order_starts mid.trees new.trees (λ e. cc) (λ e. cc) starts.others
+    ∙ told_stays orders old.trees mid.trees (λ e. cc) (λ e. cc) adds.others in
+    let beside : rows_in mid.trees order_starts ≡ rows_in old.trees order_starts = adds.others order_starts (λ e. cc) in
     let unkeyed = all-permutation (λ y. is_order o.customer o.row.name y ≡ false) _ _ (IsPermutation-sort_by order_cmp order_total (map order_in_row rows))
-    (all_unmap (λ y. is_order o.customer o.row.name y ≡ false) (with_order_start (old.trees 17)) _ (find_none _ _ none)) in
+    (all_unmap (λ y. is_order o.customer o.row.name y ≡ false) (with_order_start (rows_in old.trees order_starts)) _ (find_none _ _ none)) in
     let apart = all_weaker _ (Apart order_cmp order_total (order_in_row new_row)) (λ y e. order_tied o y ∙ e) (map order_in_row rows) unkeyed in
-    let own_row : Row = Int (next_rowid (old.trees 17)) ∷ order_start_columns o in
+    let own_row : Row = Int (next_rowid (rows_in old.trees order_starts)) ∷ order_start_columns o in
     let more = started_more IsOrderRow order_cmp order_total order_in_row starts_order with_text (λ t u a b. refl) order_ties
-    (order_columns o) (order_start_columns o) rows (old.trees 17) office.rows.orders office.orders_started
-    (refl, refl, rw (text_typed (option_map mac_text o.row.mac)) refl) (refl, refl) (own_start o (next_rowid (old.trees 17))) apart in
-    let after : new.trees 17 ≡ put_row own_row (old.trees 17) = starts.row ∙ ap (λ l. put_row (Int (next_rowid l) ∷ order_start_columns o) l) beside in
+    (order_columns o) (order_start_columns o) rows (rows_in old.trees order_starts) (office.rows orders) office.orders_started
+    (refl, refl, rw (text_typed (option_map mac_text o.row.mac)) refl) (refl, refl) (own_start o (next_rowid (rows_in old.trees order_starts))) apart in
+    let after : rows_in new.trees order_starts ≡ put_row own_row (rows_in old.trees order_starts) =
+    starts.row ∙ ap (λ l. put_row (Int (next_rowid l) ∷ order_start_columns o) l) beside in
     let is : with_text (text_if (column own_row 3)) (order_in_row new_row) ≡ o =
     λ i. record o
     { row = record o.row { mac = back i; not_before = text_back o.row.not_before i } } in
-    let it = orders_grown old new office starts.schema starts.sound mid.trees adds.others
-    starts.others (subst (AreRows IsOrderRow order_cmp order_in_row) (sym adds.row) more.are)
-    (subst₂ (AreStarted starts_order order_in_row) (sym adds.row) (sym after) more.started) _
-    (ap₂ (λ l k. map (with_order_start k) (sort_by order_cmp (map order_in_row l))) adds.row after
-    ∙ more.placed_is ∙ ap (λ x. with_row order_cmp x (tables_in old.trees).orders) is) in
-    record { office = it.0; made = it.1; rows = (mid, adds, starts); told = told }
+    let it = both_changed old new office starts.schema starts.sound orders order_starts mid.trees adds.others
+    starts.others (subst (AreRows IsOrderRow order_cmp order_in_row) (sym adds.row) more.are) tt
+    (subst₂ (AreStarted starts_order order_in_row) (sym adds.row) (sym after) more.started, office.given_started) in
+    let all = ap₂ (λ l k. map (with_order_start k) (sort_by order_cmp (map order_in_row l))) adds.row after
+    ∙ more.placed_is ∙ ap (λ x. with_row order_cmp x (tables_in old.trees).orders) is in
+    record { office = it.0; made = it.1 ∙ ap (λ l. record (tables_in old.trees) { orders = l }) all; rows = (mid, adds, starts); told = told }
 
 -- ---- its beginning of validity
 
@@ -125,7 +109,7 @@ start_text = codes "INSERT INTO order_start (customer, ord, not_before) VALUES (
 abbrev pub start_terms : List Term
 start_terms = lit Null ∷ col 0 0 ∷ col 0 1 ∷ col 0 2 ∷ []
 
-pub start_insert : IsInsert office_schema start_text 8 order_start_table start_terms 4
+pub start_insert : IsInsert office_schema start_text order_starts start_terms 4
 unfolding understood everything
 start_insert = record { is = refl; plain = (refl, refl); there = refl; uncounted = refl; unstamped = refl; one = λ params. refl }
 
@@ -140,7 +124,7 @@ set_text = codes "UPDATE orders SET cursor = ?3 WHERE customer = ?1 AND name = ?
 abbrev pub set_shown : List Term
 set_shown = col 1 0 ∷ col 1 0 ∷ col 1 1 ∷ col 1 2 ∷ col 1 3 ∷ col 1 4 ∷ col 1 5 ∷ col 1 6 ∷ col 1 7 ∷ col 1 8 ∷ col 1 9 ∷ col 0 2 ∷ []
 
-pub set_update : IsUpdate set_text 4 orders_table (is_parameter 1 0 ∷ is_parameter 2 1 ∷ []) set_shown
+pub set_update : IsUpdate set_text orders (is_parameter 1 0 ∷ is_parameter 2 1 ∷ []) set_shown
 unfolding understood everything
 set_update = record { is = refl; plain = (refl, refl); there = refl; same = λ db. refl }
 
@@ -199,29 +183,30 @@ module _ (c : OfCustomer Cursor) where
       → Executes set_text set_values old new (Ok count) → count ≡ 1
       → Wrote (SetCursor c) old.now new.now
   cursor_set old new count office ran one =
-      elim (sets IsOrderRow order_cmp order_total order_in_row is_its ties set_text 4 orders_table
+      elim (sets IsOrderRow order_cmp order_total order_in_row is_its ties set_text orders
       (is_parameter 1 0 ∷ is_parameter 2 1
       ∷ []) set_shown set_update set_values set_columns is_set old new count office.schema
-      office.rows.orders ran)
+      (office.rows orders) ran)
       [ inl none ↦ absurd (omega (arith, none.counted)) | inr one ↦ wrote one ]
     where
-      wrote : SetsOne IsOrderRow order_cmp order_in_row is_its 7 set_columns old.now new.now count → Wrote (SetCursor c) old.now new.now
+      wrote : SetsOne IsOrderRow order_cmp order_in_row is_its orders set_columns old.now new.now count → Wrote (SetCursor c) old.now new.now
       wrote one =
-          let rows = old.now.trees 7 in
-          let starts = old.now.trees 17 in
+          let rows = rows_in old.now.trees orders in
+          let starts = rows_in old.now.trees order_starts in
           let found = find_made is_its (with_order_start starts) (λ o. refl) (sort_by order_cmp (map order_in_row rows))
           ∙ ap (option_map (with_order_start starts))
           (only_found order_cmp order_total order_in_row is_its rows one.was
-          office.rows.orders.keyed one.one.alone) in
+          (office.rows orders).keyed one.one.alone) in
           let started = started_as_was IsOrderRow order_cmp order_total order_in_row starts_order with_text (λ t u a b. refl) order_ties
-          one.id one.was (set_columns one.was) rows starts office.orders_started office.rows.orders.rising one.one.split (λ s. refl) in
-          let it = orders_changed old.now new.now office one.replaced.schema one.replaced.sound one.replaced.others one.rows
-          (subst (λ l. AreStarted starts_order order_in_row l starts) (sym one.replaced.row) started) _
-          (replaced_with_starts IsOrderRow order_cmp order_total order_in_row starts_order with_text (λ t u a b. refl) order_ties starts
-          (order_in_row (Int one.id ∷ set_columns one.was)) (map order_in_row rows) (map order_in_row (new.now.trees 7)) one.placed_is) in
+          one.id one.was (set_columns one.was) rows starts office.orders_started (office.rows orders).rising one.one.split (λ s. refl) in
+          let it = table_changed old.now new.now office one.replaced.schema one.replaced.sound orders one.replaced.others one.rows
+          (subst (λ l. AreStarted starts_order order_in_row l starts) (sym one.replaced.row) started, office.given_started) in
+          let all = replaced_with_starts IsOrderRow order_cmp order_total order_in_row starts_order with_text (λ t u a b. refl) order_ties starts
+          (order_in_row (Int one.id ∷ set_columns one.was)) (map order_in_row rows) (map order_in_row (rows_in new.now.trees orders)) one.placed_is in
           record {
             office = it.0;
-            made = it.1 ∙ sym (ap (λ o. with_cursor_of o c.row.number (tables_in old.now.trees)) found);
-            rows = remade IsOrderRow order_cmp order_in_row is_its 7 set_columns set_columns old.now new.now count one refl;
-            told = told_stays 7 old.now.trees new.now.trees (λ e. cc) (λ e. cc) one.replaced.others;
+            made = it.1 ∙ ap (λ l. record (tables_in old.now.trees) { orders = l }) all
+                ∙ sym (ap (λ o. with_cursor_of o c.row.number (tables_in old.now.trees)) found);
+            rows = remade IsOrderRow order_cmp order_in_row is_its orders set_columns set_columns old.now new.now count one refl;
+            told = told_stays orders old.now.trees new.now.trees (λ e. cc) (λ e. cc) one.replaced.others;
           }

@@ -1,55 +1,24 @@
 -- What an UPDATE of the row with a key does. No reference acts on an update here, so a table that others refer to is as any other.
-use Rattle.std.proofs.Common.{◌≡◌, ◌≢◌, ◌⊎◌, ℕ, ℤ, Bool, true, false, not, cond, List, [], ◌∷◌, map, filter, length, slice_get, Option, Some, None}
-use Rattle.std.proofs.Common.{Ok, refl, sym, ap, Ordering, Less, Equal, is_eq, is_lt, true≢false, subst, ◌∙◌, inl, inr, arith}
-use Rattle.std.specs.List.{AllByRecursion, filter_map, flat_map}
-use Rattle.std.specs.List.Sorted.{IsPermutation}
-use Rattle.std.proofs.lemmas.List.Sorted.{length_permutation}
-use Rattle.sqlite.specs.declared.types.Value.TheVariants.{Null, Int}
-use Rattle.sqlite.specs.Order.{Row}
-use Rattle.sqlite.specs.Term.{Term, eval_all}
-use Rattle.sqlite.specs.Program.{overlay}
-use Rattle.sqlite.specs.Command.TheVariants.{Update}
-use Rattle.sqlite.specs.Edit.{edit_of, edited}
-use Rattle.sqlite.specs.Rowids.TheVariants.{Given}
-use Rattle.sqlite.specs.Does.{Tally, Does, AtPlace, OnRows}
-use Rattle.sqlite.specs.Rows.{Edited, Written}
-use Rattle.sqlite.specs.Table.{Table}
-use Rattle.sqlite.specs.Tree.{Trees, put_row, without_rowid}
+use Rattle.std.proofs.Common.{◌≡◌, ◌≢◌, ◌⊎◌, ◌∷◌, Ordering, ◌==◌}
+use Rattle.text_core.proofs.Kit.{ℕ, ℤ, Bool, true, false, not, cond, List, [], map, filter, length, slice_get, Option, Some, None, Ok, refl, sym, ap, Less}
+use Rattle.text_core.proofs.Kit.{Equal, is_eq, is_lt, true≢false, subst, ◌∙◌, inl, inr, arith, AllByRecursion, filter_map, flat_map, IsPermutation}
+use Rattle.text_core.proofs.Kit.{length_permutation, unwrap_or, IsTotalOrder, cases_eq, tied_itself, IsPermutation-refl, IsPermutation-trans}
+use Rattle.text_core.proofs.Kit.{IsPermutation-cons, IsPermutation-middle}
+use Rattle.office_sql.proofs.Kit.{Null, Int, Row, Term, eval_all, overlay, Update, edit_of, edited, Given, Tally, Does, AtPlace, OnRows, Edited, Written, Table}
+use Rattle.office_sql.proofs.Kit.{Trees, put_row, without_rowid, Database, IsDatabase, State, mode_of, Executes, IsPlain, command_of, statement_of, runs_as}
+use Rattle.office_sql.proofs.Kit.{one_step, one_permutation, Enforced, cast_row, ids_of, works, work_by, pairs, deed_for, taken_by, parent_key, IsTable, rowid}
+use Rattle.office_sql.proofs.Kit.{has_rowid, id_in, Has, all_has, has_filtered, int_is, all-map, filter_all, filter_same, filter-map, later_rowids}
+use Rattle.office_sql.proofs.Kit.{value_cmp_total, Command, sort_by}
 use Rattle.sqlite.specs.Listing.{understood}
-use Rattle.sqlite.specs.Effect.{Database, IsDatabase}
-use Rattle.sqlite.specs.State.{State, mode_of, Executes}
-use Rattle.sqlite.proofs.Callers.{IsPlain, command_of, statement_of, runs_as, one_step, one_permutation}
-use Rattle.sqlite_schema.specs.declared.schema.Keys.TheVariants.{Enforced}
-use Rattle.sqlite_rules.specs.Cast.{cast_row}
-use Rattle.sqlite_rules.specs.Calls.{ids_of}
-use Rattle.sqlite_rules.specs.Action.{works, work_by, pairs, deed_for}
-use Rattle.sqlite_rules.specs.Edit.{taken_by}
-use Rattle.sqlite_schema.specs.Rules.{parent_key}
-use Rattle.std.specs.Prelude.{◌==◌, unwrap_or}
-use Rattle.std.specs.Cmp.{IsTotalOrder}
-use Rattle.std.proofs.lemmas.Bool.{cases_eq}
-use Rattle.std.proofs.lemmas.Cmp.{tied_itself}
-use Rattle.std.proofs.lemmas.List.Sorted.{IsPermutation-refl, IsPermutation-trans, IsPermutation-cons, IsPermutation-middle}
 use Rattle.sqlite.specs.Order.{value_cmp}
-use Rattle.sqlite.specs.Tree.{IsTable, rowid, has_rowid}
-use Rattle.sqlite_rules.specs.Edit.{id_in}
-use Rattle.sqlite_rules.specs.Lists.{Has}
-use Rattle.sqlite_rules.proofs.ListLemmas.{all_has, has_filtered}
-use Rattle.sqlite_rules.proofs.TableLemmas.{int_is}
-use Rattle.sqlite_trees.proofs.ListLemmas.{all_weaker, all-map, filter_all, filter_same, filter-map, ascending-filter}
-use Rattle.sqlite_trees.proofs.TreeLemmas.{later_rowids}
-use Rattle.sqlite_value.proofs.OrderLemmas.{value_cmp_total}
-use Rattle.office_sql.specs.Scan.{passes}
-use Rattle.office_sql.specs.Tables.{AreRows, AreKeyed}
-use Rattle.office_sql.specs.Schema.{office_schema}
-use Rattle.office_sql.specs.Scan.{scan, env, passing}
-use Rattle.office_sql.specs.Change.{Remakes, Replaces, SqlStays, SameBut}
+use Rattle.sqlite_trees.proofs.ListLemmas.{all_weaker, ascending-filter}
+use Rattle.office_sql.proofs.Names.{same_but}
+use Rattle.office_sql.specs.Prelude.{OfficeTable, passes, AreRows, AreKeyed, office_schema, rows_in, tree_of, table_of, place_of, scan, env, passing, Remakes}
+use Rattle.office_sql.specs.Prelude.{Replaces, SqlStays, SameBut}
 use Rattle.office_sql.proofs.Inserting.{enforced, task_on}
-use Rattle.sqlite.specs.Command.{Command}
 use Rattle.office_sql.proofs.Scan.{scanned}
 use Rattle.office_sql.proofs.TableRows.{row_replaced}
-use Rattle.sqlite_keyed.specs.Lists.{sort_by}
-use Rattle.office_tables.specs.Tables.{with_row}
+use Rattle.office_tables.specs.Prelude.{with_row}
 use Rattle.office_sql.proofs.Stepping.{went, same_value}
 
 -- the references of the office act on nothing
@@ -67,15 +36,18 @@ nothing [] e = refl
 nothing (x ∷ xs) e = absurd (omega arith)
 
 -- what the text of an UPDATE means
-pub record IsUpdate (text : List ℕ) (at : ℕ) (table : Table) (tests shown : List Term) : Type 0 where
-  pub is : command_of (understood office_schema text) ≡ Update at (record { lets = []; body = scan table.tree tests shown [] })
+pub record IsUpdate (text : List ℕ) (table : OfficeTable) (tests shown : List Term) : Type 0 where
+  pub is : command_of (understood office_schema text) ≡ Update (place_of table) (record { lets = []; body = scan (tree_of table) tests shown [] })
   pub plain : IsPlain (understood office_schema text)
-  pub there : slice_get office_schema.tables at ≡ Some table
-  pub same : (db : Trees) → overlay db [] table.tree ≡ db table.tree
+  pub there : slice_get office_schema.tables (place_of table) ≡ Some (table_of table)
+  pub same : (db : Trees) → overlay db [] (tree_of table) ≡ rows_in db table
 
-module _ (text : List ℕ) (at : ℕ) (table : Table) (tests shown : List Term) (update : IsUpdate text at table tests shown) (params : Row) where
+module _ (text : List ℕ) (its : OfficeTable) (tests shown : List Term) (update : IsUpdate text its tests shown) (params : Row) where
+  abbrev table : Table
+  table = table_of its
+
   abbrev command : Command
-  command = Update at (record { lets = []; body = scan table.tree tests shown [] })
+  command = Update (place_of its) (record { lets = []; body = scan (tree_of its) tests shown [] })
 
   abbrev news : Trees → List Row → List Row
   news db sources = (edit_of db table (ids_of sources) Given 1 sources).news
@@ -87,12 +59,12 @@ module _ (text : List ℕ) (at : ℕ) (table : Table) (tests shown : List Term) 
   record Updates (sources : List Row) (old new : Database) (tally : Tally) : Type 0 where
     schema : new.schema ≡ office_schema
     sound : IsDatabase new
-    row : new.trees table.tree ≡ rows_after old.trees sources
-    others : SameBut table.tree old.trees new.trees
+    row : rows_in new.trees its ≡ rows_after old.trees sources
+    others : SameBut its old.trees new.trees
     counted : unwrap_or tally.rows 0 ≡ length (news old.trees sources)
 
   puts : (limit : Option ℕ) (old : Database) (out : Tally × Database) → IsDatabase out.1
-      → (kept : List Row) → passing tests params (old.trees table.tree) ≡ kept
+      → (kept : List Row) → passing tests params (rows_in old.trees its) ≡ kept
       → ((l : List Row) → IsPermutation kept l → l ≡ kept)
       → OnRows (task_on limit params table) enforced None command old.trees (Ok out) → Updates (map (λ r. eval_all shown (env params r)) kept) old out.1 out.0
   puts limit old out sound kept passed alone does =
@@ -101,75 +73,69 @@ module _ (text : List ℕ) (at : ℕ) (table : Table) (tests shown : List Term) 
       let end = went (went done.2).2 in
       let given = went done.1 in
       let written = went given.2 in
-      let s = scanned (overlay db []) params table.tree tests shown [] [] given.0 (given.1.answer Null) in
+      let s = scanned (overlay db []) params (tree_of its) tests shown [] [] given.0 (given.1.answer Null) in
       let same : s.kept ≡ kept = alone s.kept (subst (λ k. IsPermutation k s.kept) (ap (passing tests params) (update.same db) ∙ passed) s.same) in
       let sources = map (λ r. eval_all shown (env params r)) kept in
       let rows : given.0 ≡ sources = s.shows ∙ ap (map (λ r. eval_all shown (env params r))) same in
       let edit = edit_of db table (ids_of sources) Given 1 sources in
       let wrote = subst (λ all. Edited office_schema Enforced db (edit_of db table (ids_of all) Given 1 all) (Ok written.0)) rows written.1 in
       let trees : done.0.trees ≡ written.0 = ap (λ (it : Written). it.trees) (same_value written.2) in
-      let step = one_step office_schema Enforced db written.0 edit (calm table.tree (taken_by db edit) edit.news) wrote in
+      let step = one_step office_schema Enforced db written.0 edit (calm (tree_of its) (taken_by db edit) edit.news) wrote in
       let now = ap (λ (p : Tally × Database). p.1) (same_value end.2) in
       record {
         schema = ap (λ (d : Database). d.schema) now;
         sound = sound;
-        row = ap (λ (d : Database). d.trees table.tree) now ∙ ap (λ (t : Trees). t table.tree) trees ∙ step.rows;
-        others = subst (λ (t : Trees). SameBut table.tree db t) (sym (ap (λ (d : Database). d.trees) now ∙ trees)) step.tables;
+        row = ap (λ (d : Database). rows_in d.trees its) now ∙ ap (λ (t : Trees). rows_in t its) trees ∙ step.rows;
+        others = subst (λ (t : Trees). SameBut its db t) (sym (ap (λ (d : Database). d.trees) now ∙ trees)) (same_but its db written.0 step.tables);
         counted = ap (λ (p : Tally × Database). unwrap_or p.0.rows 0) (same_value end.2)
             ∙ ap (λ (it : Written). length it.rows) (same_value written.2)
             ∙ ap (λ all. length (news db all)) rows;
       }
 
-module _ (text : List ℕ) (at : ℕ) (table : Table) (tests shown : List Term)
-    (update : IsUpdate text at table tests shown) (params : Row) (old new : State) (count : ℕ)
+module _ (text : List ℕ) (table : OfficeTable) (tests shown : List Term)
+    (update : IsUpdate text table tests shown) (params : Row) (old new : State) (count : ℕ)
     (has : old.now.schema ≡ office_schema) (ran : Executes text params old new (Ok count)) where
   abbrev after : List Row → List Row
-  after = rows_after text at table tests shown update params old.now.trees
+  after = rows_after text table tests shown update params old.now.trees
 
-  updates : (kept : List Row) → passing tests params (old.now.trees table.tree) ≡ kept → ((l : List Row) → IsPermutation kept l → l ≡ kept)
+  updates : (kept : List Row) → passing tests params (rows_in old.now.trees table) ≡ kept → ((l : List Row) → IsPermutation kept l → l ≡ kept)
       → (tally : Tally)
-      × Updates text at table tests shown update params (map (λ r.
+      × Updates text table tests shown update params (map (λ r.
       eval_all shown (env params r)) kept) old.now new.now tally
       × (count ≡ unwrap_or tally.rows 0)
   updates kept passed alone =
-      let it = command text at table tests shown update params in
+      let it = command text table tests shown update params in
       let w = runs_as text params old new office_schema has it update.is update.plain count ran in
       let words = statement_of text (understood office_schema text) in
       let does = subst (λ s. Does old.step_limit (mode_of old) params (record old.now { schema = s }) words None it (Ok (w.tally, new.now))) has w.changed in (
         w.tally,
-        puts text at table tests shown update params old.step_limit old.now (w.tally, new.now) w.sound kept passed alone
+        puts text table tests shown update params old.step_limit old.now (w.tally, new.now) w.sound kept passed alone
             (subst (λ o. AtPlace (λ t. OnRows (task_on old.step_limit params t) enforced None it old.now.trees) o (Ok (w.tally, new.now))) update.there does),
         w.counted,
       )
 
   -- where one row passes, it is replaced
   pub replaces : (r source columns : Row) (id : ℤ)
-      → passing tests params (old.now.trees table.tree) ≡ r ∷ []
-      → eval_all shown (env params r) ≡ Int id ∷ source → cast_row table source ≡ Int id ∷ columns
-      → Replaces table.tree id columns old.now new.now × (count ≡ 1)
+      → passing tests params (rows_in old.now.trees table) ≡ r ∷ []
+      → eval_all shown (env params r) ≡ Int id ∷ source → cast_row (table_of table) source ≡ Int id ∷ columns
+      → Replaces table id columns old.now new.now × (count ≡ 1)
   replaces r source columns id one evals casts =
       let it = updates (r ∷ []) one (one_permutation r) in
-      let shows : after (eval_all shown (env params r) ∷ []) ≡ put_row (Int id ∷ columns) (without_rowid id (old.now.trees table.tree)) =
-      ap (λ e. after (e ∷ [])) evals ∙ ap (λ c. put_row c (without_rowid id (old.now.trees table.tree))) casts in
+      let shows : after (eval_all shown (env params r) ∷ []) ≡ put_row (Int id ∷ columns) (without_rowid id (rows_in old.now.trees table)) =
+      ap (λ e. after (e ∷ [])) evals ∙ ap (λ c. put_row c (without_rowid id (rows_in old.now.trees table))) casts in
       (record { schema = it.1.schema; sound = it.1.sound; row = it.1.row ∙ shows; others = it.1.others }, it.2 ∙ it.1.counted)
 
   -- where none passes, nothing changes
-  pub stays : passing tests params (old.now.trees table.tree) ≡ [] → SqlStays old.now new.now × (count ≡ 0)
+  pub stays : passing tests params (rows_in old.now.trees table) ≡ [] → SqlStays old.now new.now × (count ≡ 0)
   stays none =
       let it = updates [] none (λ l same. nothing l (length_permutation [] l same)) in (
         record {
           schema = it.1.schema;
           sound = it.1.sound;
-          tables = all_weaker (λ (t : Table). t.tree ≢ table.tree
-              → new.now.trees t.tree ≡ old.now.trees t.tree) (λ t. new.now.trees t.tree
-              ≡ old.now.trees t.tree)
-              (λ t other.
-              elim (cases_eq t.tree table.tree) [
-                | inl e ↦ subst (λ n. new.now.trees n
-                    ≡ old.now.trees n) (sym e) it.1.row
-                | inr ne ↦ other ne
-              ])
-              office_schema.tables it.1.others;
+          tables = λ t. elim (cases_eq (tree_of t) (tree_of table)) [
+            | inl e ↦ subst (λ n. new.now.trees n ≡ old.now.trees n) (sym e) it.1.row
+            | inr ne ↦ it.1.others t (λ e. ne (ap tree_of e))
+          ];
         },
         it.2 ∙ it.1.counted,
       )
@@ -256,33 +222,34 @@ module _ {A : Type 0} (Typed : Row → Type 0) (cmp : A → A
       go (a ∷ b ∷ more) e = absurd (twice rows a b more are e)
 
 -- what an UPDATE of the row with a key leaves: no row has the key, and nothing changed, or the row with the key is replaced
-pub record SetsNone {A : Type 0} (value : Row → A) (p : A → Bool) (tree : ℕ) (old new : Database) (count : ℕ) : Type 0 where
+pub record SetsNone {A : Type 0} (value : Row → A) (p : A → Bool) (table : OfficeTable) (old new : Database) (count : ℕ) : Type 0 where
   pub stays : SqlStays old new
-  pub none : AllByRecursion (λ x. p x ≡ false) (map value (old.trees tree))
+  pub none : AllByRecursion (λ x. p x ≡ false) (map value (rows_in old.trees table))
   pub counted : count ≡ 0
 
 pub record SetsOne {A : Type 0} (Typed : Row → Type 0) (cmp : A → A → Ordering) (value : Row
-    → A) (p : A → Bool) (tree : ℕ) (columns : Row
+    → A) (p : A → Bool) (table : OfficeTable) (columns : Row
     → Row) (old new : Database) (count : ℕ) : Type 0 where
   pub was : Row
   pub id : ℤ
-  pub one : IsTheRow Typed value p (old.trees tree) was id
-  pub replaced : Replaces tree id (columns was) old new
-  pub rows : AreRows Typed cmp value (new.trees tree)
-  pub placed_is : sort_by cmp (map value (new.trees tree)) ≡ with_row cmp (value (Int id ∷ columns was)) (sort_by cmp (map value (old.trees tree)))
+  pub one : IsTheRow Typed value p (rows_in old.trees table) was id
+  pub replaced : Replaces table id (columns was) old new
+  pub rows : AreRows Typed cmp value (rows_in new.trees table)
+  pub placed_is : sort_by cmp (map value (rows_in new.trees table))
+      ≡ with_row cmp (value (Int id ∷ columns was)) (sort_by cmp (map value (rows_in old.trees table)))
   pub counted : count ≡ 1
 
 -- it is remade, where its new columns are those of another rule
 pub remade : {A : Type 0} (Typed : Row → Type 0) (cmp : A → A → Ordering) (value : Row → A) (p : A
-    → Bool) (tree : ℕ) (columns others : Row → Row) (old new : Database) (count : ℕ)
-    → (one : SetsOne Typed cmp value p tree columns old new count) → columns one.was ≡ others one.was → Remakes tree (λ r. p (value r)) others old new
-remade Typed cmp value p tree columns others old new count one same = (
+    → Bool) (table : OfficeTable) (columns others : Row → Row) (old new : Database) (count : ℕ)
+    → (one : SetsOne Typed cmp value p table columns old new count) → columns one.was ≡ others one.was → Remakes table (λ r. p (value r)) others old new
+remade Typed cmp value p table columns others old new count one same = (
   one.was,
   one.id,
   one.one.alone,
   one.one.numbered,
   subst (λ (c : Row).
-      Replaces tree one.id c old new) same one.replaced,
+      Replaces table one.id c old new) same one.replaced,
 )
 
 -- the columns of the new row, made of the old one
@@ -298,22 +265,22 @@ pub record IsSet {A : Type 0} (Typed : Row → Type 0) (cmp : A → A → Orderi
 module _ {A : Type 0} (Typed : Row → Type 0) (cmp : A → A
     → Ordering) (total : IsTotalOrder cmp) (value : Row → A) (p : A → Bool) (ties : (a b : A)
     → p a ≡ true → p b ≡ true → cmp a b ≡ Equal)
-    (text : List ℕ) (at : ℕ) (table : Table) (tests shown : List Term)
-    (update : IsUpdate text at table tests shown) (params : Row) (columns : Row
-    → Row) (set : IsSet Typed cmp value p table tests shown params columns) where
+    (text : List ℕ) (table : OfficeTable) (tests shown : List Term)
+    (update : IsUpdate text table tests shown) (params : Row) (columns : Row
+    → Row) (set : IsSet Typed cmp value p (table_of table) tests shown params columns) where
   pub sets : (old new : State) (count : ℕ) → old.now.schema ≡ office_schema
-      → AreRows Typed cmp value (old.now.trees table.tree) → Executes text params old new (Ok count)
-      → SetsNone value p table.tree old.now new.now count ⊎ SetsOne Typed cmp value p table.tree columns old.now new.now count
-  sets old new count has are ran = elim (one_or_none Typed cmp total value p ties tests params set.tested (old.now.trees table.tree) are) [
+      → AreRows Typed cmp value (rows_in old.now.trees table) → Executes text params old new (Ok count)
+      → SetsNone value p table old.now new.now count ⊎ SetsOne Typed cmp value p table columns old.now new.now count
+  sets old new count has are ran = elim (one_or_none Typed cmp total value p ties tests params set.tested (rows_in old.now.trees table) are) [
     | inl none ↦
-        (let it = stays text at table tests shown update params old new count has ran none.0 in inl
+        (let it = stays text table tests shown update params old new count has ran none.0 in inl
         (record { stays = it.0; none = none.1; counted = it.1 }))
     | inr one ↦ (let r = one.0 in
         let id = one.1 in
         let the = one.3 in
-        let it = replaces text at table tests shown update params old new count has ran r (Int id ∷ columns r) (columns r) id one.2
+        let it = replaces text table tests shown update params old new count has ran r (Int id ∷ columns r) (columns r) id one.2
         (set.evals r ∙ ap (λ v. v ∷ v ∷ columns r) the.numbered) (set.casts id r the.typed) in
-        let made = row_replaced Typed cmp total value id r (columns r) (old.now.trees table.tree)
+        let made = row_replaced Typed cmp total value id r (columns r) (rows_in old.now.trees table)
         are the.split (set.typed id r the.typed) (set.tied id r the.typed the.passed) in
         inr (record {
           was = r;

@@ -1,10 +1,7 @@
 -- What a read leaves of a connection that was ready.
 use Rattle.std.proofs.Common.{◌≡◌, inl, inr, [], sym, ap, subst, ◌∙◌, IsTrue}
-use Rattle.sqlite.specs.Effect.{Database}
-use Rattle.sqlite.specs.State.{State, IsUnchanged}
-use Rattle.office_sql.specs.Change.{IsMade, IsUndone, Rests}
-use Rattle.office_sql.specs.Keeping.{IsReady}
-use Rattle.office_sql.specs.Tables.{IsOffice, tables_in, told_in}
+use Rattle.office_sql.proofs.Kit.{Database, State, IsUnchanged}
+use Rattle.office_sql.specs.Prelude.{IsMade, IsUndone, Rests, IsReady, IsOffice, tables_in, told_in}
 
 pub same_now : (old new : State) → IsReady old → Rests old new → IsTrue new.is_open → new.now ≡ old.now
 same_now old new rest r up = elim (r.now up) [ inl e ↦ e | inr e ↦ e ∙ sym (rest.shows_committed (r.was_open up)) ]

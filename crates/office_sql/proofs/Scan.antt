@@ -1,17 +1,9 @@
 -- What a query answers whose matches are those of some rows, one for each, as of one table.
-use Rattle.std.proofs.Common.{◌≡◌, ℕ, List, [], ◌∷◌, ◌++◌, map, Bool, true, false, cond, refl, ap, subst, ◌∙◌}
-use Rattle.std.specs.Prelude.{IsSorted, if◌then◌else◌}
-use Rattle.std.specs.List.{filter, flat_map}
-use Rattle.std.specs.List.Sorted.{IsPermutation}
+use Rattle.std.proofs.Common.{◌≡◌, ℕ, List, [], ◌∷◌, ◌++◌, map, Bool, true, false, cond, refl, ap, subst, ◌∙◌, IsSorted, if◌then◌else◌, filter, flat_map}
+use Rattle.std.proofs.Common.{IsPermutation}
 use Rattle.sqlite_keyed.proofs.ListLemmas.{map-map}
-use Rattle.sqlite_value.specs.declared.keys.Key.{Key}
-use Rattle.sqlite.specs.Collation.{Collation}
-use Rattle.sqlite.specs.Order.{Row}
-use Rattle.sqlite.specs.Tree.{Trees}
-use Rattle.sqlite.specs.Term.{Term, Env, eval_all}
-use Rattle.sqlite.specs.Query.{Join, inner, end, IsAnswer, Output, output, output_cmp, page, matches}
-use Rattle.office_sql.specs.Joins.{over, over_by}
-use Rattle.office_sql.specs.Scan.{scan, env, passes, passing}
+use Rattle.office_sql.proofs.Kit.{Key, Collation, Row, Trees, Term, Env, eval_all, Join, inner, end, IsAnswer, Output, output, output_cmp, page, matches}
+use Rattle.office_sql.specs.Prelude.{over, over_by, scan, env, passes, passing}
 use Rattle.office_sql.proofs.Lists.{unmapped}
 
 -- the rows that are kept, in the order of the answer, each with its environment

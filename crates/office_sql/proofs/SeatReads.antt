@@ -1,24 +1,12 @@
 -- What the text that reads a seat means, and shows.
-use Rattle.std.proofs.Common.{◌≡◌, ℕ, List, [], ◌∷◌, codes, refl, ◌∙◌, map, filter, Ordering, Equal}
-use Rattle.std.specs.Ordering.{on}
-use Rattle.std.specs.Cmp.{IsTotalOrder}
-use Rattle.std.proofs.lemmas.Cmp.{on_total, then_total, nat_list_cmp_total}
-use Rattle.sqlite.specs.declared.types.Value.TheVariants.{Null, Text as Words}
-use Rattle.sqlite.specs.Order.{Row, column}
-use Rattle.sqlite.specs.Term.{Term, col}
-use Rattle.sqlite.specs.Query.{key_cmp}
+use Rattle.std.proofs.Common.{◌≡◌, ◌∷◌, Ordering}
+use Rattle.text_core.proofs.Kit.{ℕ, List, [], codes, refl, ◌∙◌, map, filter, Equal, on, IsTotalOrder, on_total, then_total, nat_list_cmp_total}
+use Rattle.office_sql.proofs.Kit.{Null, Row, column, Term, col, key_cmp, Binary, Key, ascending, value_cmp_total, then-Equal, sort_by}
+use Rattle.sqlite.specs.declared.types.Value.TheVariants.{Text as Words}
 use Rattle.sqlite.specs.Listing.{understood}
-use Rattle.sqlite.specs.Collation.TheVariants.{Binary}
 use Rattle.sqlite_tied.specs.Compute.{everything}
-use Rattle.sqlite_value.specs.declared.keys.Key.{Key}
-use Rattle.sqlite_value.specs.Keys.{ascending}
-use Rattle.sqlite_value.proofs.OrderLemmas.{value_cmp_total, then-Equal}
-use Rattle.sqlite_keyed.specs.Lists.{sort_by}
-use Rattle.office_tables.specs.Tables.{seat_cmp, is_seat}
-use Rattle.office_sql.specs.Schema.{office_schema}
-use Rattle.office_sql.specs.Rows.{seat_in_row}
-use Rattle.office_sql.specs.Scan.{is_parameter, passes}
-use Rattle.office_sql.specs.Tables.{AreRows, IsSeatRow}
+use Rattle.office_tables.specs.Prelude.{seat_cmp, is_seat}
+use Rattle.office_sql.specs.Prelude.{seats, office_schema, seat_in_row, is_parameter, passes, AreRows, IsSeatRow}
 use Rattle.office_sql.proofs.Kept.{shows_kept}
 use Rattle.office_sql.proofs.Reading.{IsRead}
 use Rattle.office_sql.proofs.Scan.{Scanned}
@@ -33,7 +21,7 @@ shown = col 1 1 ∷ col 1 2 ∷ col 1 3 ∷ col 1 4 ∷ col 1 5 ∷ []
 abbrev pub by_key : List (Term × Key)
 by_key = (col 1 1, ascending Binary) ∷ []
 
-pub one_read : IsRead office_schema one_text 1 (is_parameter 1 0 ∷ []) shown by_key
+pub one_read : IsRead office_schema one_text seats (is_parameter 1 0 ∷ []) shown by_key
 unfolding understood everything
 one_read = record { names = codes "name" ∷ codes "customer" ∷ codes "last" ∷ codes "digest" ∷ codes "reply" ∷ []; is = refl; plain = (refl, refl); unlisted = refl; bare = λ schema base. refl; there = λ db. refl }
 

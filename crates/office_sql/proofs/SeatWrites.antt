@@ -1,37 +1,22 @@
 -- What the texts that write a seat mean, and do.
-use Rattle.std.proofs.Common.{◌≡◌, ◌≢◌, filter, inl, inr, ℕ, pos, ◌==◌, List, [], ◌∷◌, codes, map, refl, sym, ap, subst, ◌∙◌, Ok, None}
-use Rattle.std.specs.Prelude.{MatchBool}
+use Rattle.std.proofs.Common.{◌≡◌, filter, inl, inr, ℕ, pos, ◌==◌, List, [], ◌∷◌, codes, map, refl, sym, ap, subst, ◌∙◌, Ok, None, MatchBool}
 use Rattle.std.proofs.lemmas.Cmp.{tied_itself, nat_list_cmp_total}
 use Rattle.std.proofs.lemmas.Map.Text.{is_eq-slice_cmp}
-use Rattle.sqlite.specs.declared.types.Value.TheVariants.{Null, Int, Text as Words, Blob as Bytes}
-use Rattle.sqlite.specs.Order.{Row, column, bytes}
-use Rattle.sqlite.specs.Term.{Term, lit, col}
-use Rattle.sqlite.specs.Tree.{put_row, without_rowid}
-use Rattle.sqlite.specs.Table.{Table}
-use Rattle.sqlite_rules.specs.Edit.{next_rowid}
+use Rattle.office_sql.proofs.Kit.{Null, Int, Row, column, bytes, Term, lit, col, put_row, without_rowid, next_rowid, cast, cast_row, Database, State, Executes}
+use Rattle.office_sql.proofs.Kit.{sort_by}
+use Rattle.sqlite.specs.declared.types.Value.TheVariants.{Text as Words, Blob as Bytes}
 use Rattle.sqlite.specs.Kind.TheVariants.{Text}
-use Rattle.sqlite.specs.Cast.{cast, cast_row}
-use Rattle.sqlite.specs.Effect.{Database}
 use Rattle.sqlite.specs.Listing.{understood}
-use Rattle.sqlite.specs.State.{State, Executes}
-use Rattle.sqlite_keyed.specs.Lists.{sort_by}
-use Rattle.sqlite_trees.proofs.ListLemmas.{all_both, all_weaker}
+use Rattle.sqlite_trees.proofs.ListLemmas.{all_weaker}
 use Rattle.sqlite_tied.specs.Compute.{everything}
-use Rattle.office_tables.specs.declared.rows.OfCustomer.{OfCustomer}
-use Rattle.office_tables.specs.declared.rows.SeatState.{SeatState}
-use Rattle.office_tables.specs.declared.rows.Write.TheVariants.{PutSeat}
-use Rattle.office_tables.specs.Tables.{Writes, is_seat, seat_at, seat_cmp, with_row}
-use Rattle.office_sql.specs.Schema.{office_schema, seat_table}
-use Rattle.office_sql.specs.Scan.{is_parameter}
-use Rattle.office_sql.specs.Values.{whole_value}
-use Rattle.office_sql.specs.Rows.{seat_in_row, seat_columns}
-use Rattle.office_sql.specs.Tables.{AreRows, IsOffice, IsSeatRow, tables_in}
-use Rattle.office_sql.specs.Change.{SqlAdds, SameBut, SqlStays, WritesRows, Wrote}
-use Rattle.office_sql.specs.Seats.{LacksSeat}
+use Rattle.office_sql.proofs.Types.{OfCustomer, SeatState, PutSeat}
+use Rattle.office_tables.specs.Prelude.{Writes, is_seat, seat_at, seat_cmp, with_row}
+use Rattle.office_sql.specs.Prelude.{seats, office_schema, seat_table, rows_in, is_parameter, whole_value, seat_in_row, seat_columns, AreRows, IsOffice}
+use Rattle.office_sql.specs.Prelude.{IsSeatRow, tables_in, SqlAdds, SameBut, SqlStays, WritesRows, Wrote, LacksSeat}
 use Rattle.office_sql.proofs.Finding.{unkeyed, unfound, same_text, texts_tied}
 use Rattle.office_sql.proofs.Inserting.{IsInsert}
 use Rattle.office_sql.proofs.Keyed.{Apart}
-use Rattle.office_sql.proofs.Offices.{office_stays, seats_changed, told_same, told_stays}
+use Rattle.office_sql.proofs.Offices.{both_started, office_stays, table_changed, told_same, told_stays}
 use Rattle.office_sql.proofs.Replacing.{IsUpdate, IsSet, SetsNone, SetsOne, remade, sets}
 use Rattle.office_sql.proofs.SeatReads.{seat_total, passes_seat}
 use Rattle.office_sql.proofs.Stepping.{cast_null, cast_int}
@@ -43,7 +28,7 @@ add_text = codes "INSERT INTO seat (name, customer, last, digest, reply) VALUES 
 abbrev pub add_terms : List Term
 add_terms = lit Null ∷ col 0 0 ∷ col 0 1 ∷ col 0 2 ∷ col 0 3 ∷ col 0 4 ∷ []
 
-pub add_insert : IsInsert office_schema add_text 1 seat_table add_terms 6
+pub add_insert : IsInsert office_schema add_text seats add_terms 6
 unfolding understood everything
 add_insert = record { is = refl; plain = (refl, refl); there = refl; uncounted = refl; unstamped = refl; one = λ params. refl }
 
@@ -56,7 +41,7 @@ set_text = codes "UPDATE seat SET customer = ?2, last = ?3, digest = ?4, reply =
 abbrev pub set_shown : List Term
 set_shown = col 1 0 ∷ col 1 0 ∷ col 1 1 ∷ col 0 1 ∷ col 0 2 ∷ col 0 3 ∷ col 0 4 ∷ []
 
-pub set_update : IsUpdate set_text 1 seat_table (is_parameter 1 0 ∷ []) set_shown
+pub set_update : IsUpdate set_text seats (is_parameter 1 0 ∷ []) set_shown
 unfolding understood everything
 set_update = record { is = refl; plain = (refl, refl); there = refl; same = λ db. refl }
 
@@ -83,11 +68,11 @@ module _ (s : OfCustomer SeatState) where
       (Wrote (PutSeat s) old.now new.now)
   seat_set old new count office ran =
       elim (sets IsSeatRow seat_cmp seat_total seat_in_row (is_seat s.row.name) (λ a b e f.
-      texts_tied s.row.name a.row.name b.row.name e f) set_text 1 seat_table (is_parameter 1 0
+      texts_tied s.row.name a.row.name b.row.name e f) set_text seats (is_parameter 1 0
       ∷ []) set_shown set_update (seat_columns s) set_columns is_set
-      old new count office.schema office.rows.seats ran) [ inl none ↦ rw none.counted (lacks none) | inr one ↦ rw one.counted (wrote one) ]
+      old new count office.schema (office.rows seats) ran) [ inl none ↦ rw none.counted (lacks none) | inr one ↦ rw one.counted (wrote one) ]
     where
-      lacks : SetsNone seat_in_row (is_seat s.row.name) 1 old.now new.now count → LacksSeat s.row.name old.now new.now
+      lacks : SetsNone seat_in_row (is_seat s.row.name) seats old.now new.now count → LacksSeat s.row.name old.now new.now
       lacks none = let it = office_stays old.now new.now office none.stays.schema none.stays.sound none.stays.tables in
           record {
             office = it.0;
@@ -95,66 +80,66 @@ module _ (s : OfCustomer SeatState) where
             same = it.1;
             lacks = ap (seat_at s.row.name)
                 it.1 ∙ unfound seat_cmp seat_total (is_seat s.row.name)
-                (map seat_in_row (old.now.trees 1)) none.none;
+                (map seat_in_row (rows_in old.now.trees seats)) none.none;
           }
 
-      wrote : SetsOne IsSeatRow seat_cmp seat_in_row (is_seat s.row.name) 1 set_columns old.now new.now count → Wrote (PutSeat s) old.now new.now
+      wrote : SetsOne IsSeatRow seat_cmp seat_in_row (is_seat s.row.name) seats set_columns old.now new.now count → Wrote (PutSeat s) old.now new.now
       wrote one =
           let name : bytes (column one.was 1) ≡ s.row.name = sym (same_text s.row.name (bytes (column one.was 1)) one.one.passed) in
           let is : seat_in_row (Int one.id ∷ set_columns one.was) ≡ s = ap (λ n. record s { row = record s.row { name = n } }) name in
-          let it = seats_changed old.now new.now office one.replaced.schema one.replaced.sound
-          one.replaced.others one.rows _ (one.placed_is
-          ∙ ap (λ x.
-          with_row seat_cmp x (sort_by seat_cmp (map seat_in_row (old.now.trees 1)))) is) in
+          let it = table_changed old.now new.now office one.replaced.schema one.replaced.sound
+          seats one.replaced.others one.rows (both_started old.now office) in
+          let all = sort_by seat_cmp (map seat_in_row (rows_in old.now.trees seats)) in
           let columns : set_columns one.was
           ≡ seat_columns s = ap (λ v. v ∷ Words s.customer ∷ whole_value s.row.last
           ∷ Bytes s.row.digest ∷ Words s.row.reply ∷ []) (one.one.typed ∙ ap Words name) in
           record {
             office = it.0;
-            made = it.1;
-            rows = inr (remade IsSeatRow seat_cmp seat_in_row (is_seat s.row.name) 1 set_columns (λ _. seat_columns s) old.now new.now count one columns);
-            told = told_stays 1 old.now.trees new.now.trees (λ e. cc) (λ e. cc) one.replaced.others;
+            made = it.1 ∙ ap (λ l. record (tables_in old.now.trees) { seats = l }) (one.placed_is ∙ ap (λ x. with_row seat_cmp x all) is);
+            rows = inr (remade IsSeatRow seat_cmp seat_in_row (is_seat s.row.name) seats set_columns (λ _. seat_columns s) old.now new.now count one columns);
+            told = told_stays seats old.now.trees new.now.trees (λ e. cc) (λ e. cc) one.replaced.others;
           }
 
   -- a seat that had no row has one
   pub seat_added : (old new : Database) → IsOffice old
-      → seat_at s.row.name (tables_in old.trees) ≡ None → SqlAdds 1 (seat_columns s) old new
+      → seat_at s.row.name (tables_in old.trees) ≡ None → SqlAdds seats (seat_columns s) old new
       → Wrote (PutSeat s) old new
   seat_added old new office none adds =
-      let rows = old.trees 1 in
+      let rows = rows_in old.trees seats in
       let apart = all_weaker _ (Apart seat_cmp seat_total s) (λ y e.
       is_eq-slice_cmp s.row.name y.row.name
       ∙ e) (map seat_in_row rows)
       (unkeyed seat_cmp seat_total (is_seat s.row.name) (map seat_in_row rows) none) in
-      let made = row_added IsSeatRow seat_cmp seat_total seat_in_row (seat_columns s) rows office.rows.seats refl apart in
-      let it = seats_changed old new office adds.schema adds.sound adds.others
-      (subst (AreRows IsSeatRow seat_cmp seat_in_row) (sym adds.row) made.0) _ (ap (λ l.
-      sort_by seat_cmp (map seat_in_row l)) adds.row ∙ made.1) in
-      record { office = it.0; made = it.1; rows = inl adds; told = told_stays 1 old.trees new.trees (λ e. cc) (λ e. cc) adds.others }
+      let made = row_added IsSeatRow seat_cmp seat_total seat_in_row (seat_columns s) rows (office.rows seats) refl apart in
+      let it = table_changed old new office adds.schema adds.sound seats adds.others
+      (subst (AreRows IsSeatRow seat_cmp seat_in_row) (sym adds.row) made.0) (both_started old office) in
+      let is = ap (λ l. sort_by seat_cmp (map seat_in_row l)) adds.row ∙ made.1 in
+      record {
+        office = it.0;
+        made = it.1 ∙ ap (λ l. record (tables_in old.trees) { seats = l }) is;
+        rows = inl adds;
+        told = told_stays seats old.trees new.trees (λ e. cc) (λ e. cc) adds.others;
+      }
 
-  same_others : (old mid new : Database) → SqlStays old mid → SameBut 1 mid.trees new.trees → SameBut 1 old.trees new.trees
-  same_others old mid new stays others =
-      all_both (λ (t : Table). t.tree ≢ 1
-      → new.trees t.tree ≡ mid.trees t.tree) (λ t. mid.trees t.tree
-      ≡ old.trees t.tree) (λ t. t.tree ≢ 1 → new.trees t.tree ≡ old.trees t.tree)
-      (λ t f e other. f other ∙ e) office_schema.tables others stays.tables
+  same_others : (old mid new : Database) → SqlStays old mid → SameBut seats mid.trees new.trees → SameBut seats old.trees new.trees
+  same_others old mid new stays others table other = others table other ∙ stays.tables table
 
   same_rows : (old mid new : Database) → SqlStays old mid → WritesRows (PutSeat s) mid new → WritesRows (PutSeat s) old new
   same_rows old mid new stays (inl adds) = inl (record {
     schema = adds.schema;
     sound = adds.sound;
-    row = subst (λ rows. new.trees 1 ≡ put_row (Int (next_rowid rows) ∷ seat_columns s) rows) stays.tables.1.0 adds.row;
+    row = subst (λ rows. rows_in new.trees seats ≡ put_row (Int (next_rowid rows) ∷ seat_columns s) rows) (stays.tables seats) adds.row;
     others = same_others old mid new stays adds.others;
   })
   same_rows old mid new stays (inr (r, id, alone, numbered, replaces)) = inr (
     r,
     id,
-    subst (λ rows. filter (λ x. is_seat s.row.name (seat_in_row x)) rows ≡ r ∷ []) stays.tables.1.0 alone,
+    subst (λ rows. filter (λ x. is_seat s.row.name (seat_in_row x)) rows ≡ r ∷ []) (stays.tables seats) alone,
     numbered,
     record {
       schema = replaces.schema;
       sound = replaces.sound;
-      row = subst (λ rows. new.trees 1 ≡ put_row (Int id ∷ seat_columns s) (without_rowid id rows)) stays.tables.1.0 replaces.row;
+      row = subst (λ rows. rows_in new.trees seats ≡ put_row (Int id ∷ seat_columns s) (without_rowid id rows)) (stays.tables seats) replaces.row;
       others = same_others old mid new stays replaces.others;
     },
   )

@@ -1,24 +1,12 @@
 -- A table whose rows each have one start in another: both after a row more with its start, and after a row in place of one with its key.
-use Rattle.std.proofs.Common.{◌≡◌, ℤ, Bool, true, false, cond, List, [], ◌∷◌, ℕ, map, find, Option, Some, refl, sym, ap, ap₂, ◌∙◌, Ordering, Less}
-use Rattle.std.proofs.Common.{Equal, Greater, is_eq, IsPermutation, true≢false}
-use Rattle.std.specs.Prelude.{is_some, option_and_then}
-use Rattle.std.specs.List.{AllByRecursion}
-use Rattle.std.specs.Option.{option_map}
-use Rattle.std.specs.Ordering.{match_ordering}
-use Rattle.std.specs.Cmp.{IsTotalOrder}
-use Rattle.std.proofs.lemmas.List.Sorted.{IsPermutation-sym}
-use Rattle.sqlite.specs.declared.types.Value.TheVariants.{Int}
-use Rattle.sqlite.specs.Order.{Row, column}
-use Rattle.sqlite.specs.Tree.{IsTable, put_row, without_rowid}
-use Rattle.sqlite_rules.specs.Edit.{next_rowid}
-use Rattle.sqlite_keyed.specs.Lists.{sort_by}
-use Rattle.sqlite_keyed.proofs.ListLemmas.{all_unmap}
-use Rattle.sqlite_trees.proofs.ListLemmas.{all_weaker, all-map}
-use Rattle.sqlite_trees.proofs.TreeLemmas.{IsTable-put_row, all-put_row}
-use Rattle.office_tables.specs.Tables.{with_row}
-use Rattle.office_sql.specs.Rows.{start_in_rows}
-use Rattle.office_sql.specs.Tables.{AreRows, AreStarted, IsStartRow}
-use Rattle.office_sql.specs.Values.{text_if}
+use Rattle.std.proofs.Common.{◌≡◌, ◌∷◌, Ordering}
+use Rattle.text_core.proofs.Kit.{ℤ, Bool, true, false, cond, List, [], ℕ, map, find, Option, Some, refl, sym, ap, ap₂, ◌∙◌, Less, Equal, Greater, is_eq}
+use Rattle.text_core.proofs.Kit.{IsPermutation, true≢false, is_some, option_and_then, AllByRecursion, option_map, match_ordering, IsTotalOrder}
+use Rattle.text_core.proofs.Kit.{IsPermutation-sym}
+use Rattle.office_sql.proofs.Kit.{Int, Row, column, IsTable, put_row, without_rowid, next_rowid, sort_by, all_unmap, all-map, IsTable-put_row, all-put_row}
+use Rattle.sqlite_trees.proofs.ListLemmas.{all_weaker}
+use Rattle.office_tables.specs.Prelude.{with_row}
+use Rattle.office_sql.specs.Prelude.{start_in_rows, AreRows, AreStarted, IsStartRow, text_if}
 use Rattle.office_sql.proofs.Finding.{none_found}
 use Rattle.office_sql.proofs.Kept.{map_each}
 use Rattle.office_sql.proofs.Keyed.{Apart, all_sorted}

@@ -1,16 +1,10 @@
 -- A row more with its start, and a row in place of one with the same key: each row has exactly one start still.
-use Rattle.std.proofs.Common.{◌≡◌, List, [], ◌∷◌, filter, find, length, slice_get, Bool, true, false, cond, Some, refl, sym, ap, subst, ◌∙◌}
-use Rattle.std.proofs.Common.{IsPermutation, IsTrue, true≢false, arith}
-use Rattle.std.specs.Prelude.{is_some}
-use Rattle.std.specs.List.{AllByRecursion}
-use Rattle.std.proofs.lemmas.List.Sorted.{length_permutation}
-use Rattle.sqlite.specs.Order.{Row}
-use Rattle.sqlite.specs.View.{is_int}
-use Rattle.sqlite.specs.Tree.{IsTable, rowid}
-use Rattle.sqlite.proofs.Callers.{one_permutation}
-use Rattle.sqlite_keyed.proofs.ListLemmas.{slice_get-filter}
-use Rattle.sqlite_trees.proofs.ListLemmas.{all_weaker, all_both, all-permutation, filter_none, IsPermutation-filter}
-use Rattle.office_sql.specs.Tables.{AreStarted, HasOne, IsText}
+use Rattle.std.proofs.Common.{◌≡◌, ◌∷◌}
+use Rattle.text_core.proofs.Kit.{List, [], filter, find, length, slice_get, Bool, true, false, cond, Some, refl, sym, ap, subst, ◌∙◌, IsPermutation, IsTrue}
+use Rattle.text_core.proofs.Kit.{true≢false, arith, is_some, AllByRecursion, length_permutation}
+use Rattle.office_sql.proofs.Kit.{Row, is_int, IsTable, rowid, one_permutation, slice_get-filter, all_both, all-permutation, filter_none}
+use Rattle.sqlite_trees.proofs.ListLemmas.{all_weaker, IsPermutation-filter}
+use Rattle.office_sql.specs.Prelude.{AreStarted, HasOne, IsText}
 
 -- what is found is found in any order
 found_along : (p : Row → Bool) (xs ys : List Row) → IsPermutation xs ys → is_some (find p xs) ≡ true → is_some (find p ys) ≡ true

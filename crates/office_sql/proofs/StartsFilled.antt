@@ -1,30 +1,15 @@
 -- What is left of the starts by the texts that fill them.
-use Rattle.std.proofs.Common.{◌≡◌, ℕ, ℤ, Bool, true, false, cond, Some, None, find, List, [], ◌∷◌, codes, Ok, refl, sym, ap, subst, append-nil, Ordering}
-use Rattle.std.specs.Prelude.{option_and_then}
-use Rattle.std.specs.List.{AllByRecursion}
-use Rattle.std.specs.Cmp.{IsTotalOrder}
-use Rattle.std.specs.Ordering.{is_eq}
-use Rattle.std.proofs.lemmas.List.Sorted.{IsPermutation-trans}
-use Rattle.sqlite.specs.declared.types.Value.TheVariants.{Null, Int}
-use Rattle.sqlite.specs.Order.{Row, column}
-use Rattle.sqlite.specs.Term.{Term, lit, col, eval_all}
-use Rattle.sqlite.specs.Query.{inner, end}
-use Rattle.sqlite.specs.Collation.{Collation}
-use Rattle.sqlite.specs.Collation.TheVariants.{Binary}
-use Rattle.sqlite.specs.Effect.{Database, IsDatabase}
+use Rattle.std.proofs.Common.{◌≡◌, ◌∷◌, Ordering}
+use Rattle.text_core.proofs.Kit.{ℕ, ℤ, Bool, true, false, cond, Some, None, find, List, [], codes, Ok, refl, sym, ap, subst, append-nil, option_and_then}
+use Rattle.text_core.proofs.Kit.{AllByRecursion, IsTotalOrder, is_eq, IsPermutation-trans}
+use Rattle.office_sql.proofs.Kit.{Null, Int, Row, column, Term, lit, col, eval_all, inner, end, Collation, Binary, Database, IsDatabase, State, Executes}
+use Rattle.office_sql.proofs.Kit.{cast_row, IsPermutation-same}
 use Rattle.sqlite.specs.Listing.{understood}
-use Rattle.sqlite.specs.State.{State, Executes}
-use Rattle.sqlite_rules.specs.Cast.{cast_row}
 use Rattle.sqlite_tied.specs.Compute.{everything}
-use Rattle.sqlite_trees.proofs.ListLemmas.{IsPermutation-same}
-use Rattle.office_tables.specs.Tables.{order_cmp, given_cmp}
-use Rattle.office_sql.specs.Schema.{office_schema, order_start_table, given_start_table}
-use Rattle.office_sql.specs.Scan.{env}
-use Rattle.office_sql.specs.Joins.{over_by}
-use Rattle.office_sql.specs.Change.{SameBut}
-use Rattle.office_sql.specs.Rows.{order_in_row, given_in_row, start_in_rows, starts_order, starts_given}
-use Rattle.office_sql.specs.Values.{text_if}
-use Rattle.office_sql.specs.Tables.{AreRows, AreStarted, IsText, IsOrderRow, IsGivenRow}
+use Rattle.office_tables.specs.Prelude.{order_cmp, given_cmp}
+use Rattle.office_sql.specs.Prelude.{OfficeTable, orders, given, order_starts, given_starts, office_schema, order_start_table, given_start_table, rows_in}
+use Rattle.office_sql.specs.Prelude.{tree_of, env, over_by, SameBut, order_in_row, given_in_row, start_in_rows, starts_order, starts_given, text_if, AreRows}
+use Rattle.office_sql.specs.Prelude.{AreStarted, IsText, IsOrderRow, IsGivenRow}
 use Rattle.office_sql.proofs.Filled.{news_of, numbered_made, grows, started, each_made}
 use Rattle.office_sql.proofs.Filling.{Fills, IsFill, fills}
 use Rattle.office_sql.proofs.OrderReads.{order_total, order_tied}
@@ -32,11 +17,11 @@ use Rattle.office_sql.proofs.GivenReads.{given_total, given_tied}
 use Rattle.office_sql.proofs.Stepping.{cast_null}
 
 -- each row has its start, which says nothing, and no other table changes
-pub record Starts {A : Type 0} (value : Row → A) (is_for : A → Row → Bool) (tree side : ℕ) (old new : Database) : Type 0 where
+pub record Starts {A : Type 0} (value : Row → A) (is_for : A → Row → Bool) (table side : OfficeTable) (old new : Database) : Type 0 where
   pub schema : new.schema ≡ office_schema
   pub sound : IsDatabase new
-  pub started : AreStarted is_for value (old.trees tree) (new.trees side)
-  pub silent : AllByRecursion (λ s. column s 3 ≡ Null) (new.trees side)
+  pub started : AreStarted is_for value (rows_in old.trees table) (rows_in new.trees side)
+  pub silent : AllByRecursion (λ s. column s 3 ≡ Null) (rows_in new.trees side)
   pub others : SameBut side old.trees new.trees
 
 -- starts that say nothing give none
@@ -61,9 +46,9 @@ plainly = Binary ∷ Binary ∷ Binary ∷ Binary ∷ []
 -- where the table of starts is filled with the rows' keys
 filled : {A : Type 0} (Typed : Row → Type 0) (cmp : A → A → Ordering) (total : IsTotalOrder cmp) (value : Row → A) (is_for : A → Row → Bool)
     → ((a : A) (id : ℤ) (r : Row) → Typed r → is_for a (Int id ∷ start_columns r) ≡ is_eq (cmp a (value r))) → ((r : Row) → Typed r → IsText 1 r × IsText 2 r)
-    → (tree side : ℕ) (old new : Database) → AreRows Typed cmp value (old.trees tree)
-    → Fills start_columns tree side old new → Starts value is_for tree side old new
-filled Typed cmp total value is_for tied texts tree side old new are it =
+    → (table side : OfficeTable) (old new : Database) → AreRows Typed cmp value (rows_in old.trees table)
+    → Fills start_columns table side old new → Starts value is_for table side old new
+filled Typed cmp total value is_for tied texts table side old new are it =
     let news = news_of start_columns [] it.kept in
     let grown = grows start_columns it.kept [] tt tt in
     let made = numbered_made start_columns [] it.kept in
@@ -71,9 +56,9 @@ filled Typed cmp total value is_for tied texts tree side old new are it =
     record {
       schema = it.schema;
       sound = it.sound;
-      started = subst (AreStarted is_for value (old.trees tree)) (sym it.rows)
+      started = subst (AreStarted is_for value (rows_in old.trees table)) (sym it.rows)
           (started Typed cmp total value is_for start_columns tied (λ id r e.
-          texts r e) (old.trees tree)
+          texts r e) (rows_in old.trees table)
           it.kept news _ are it.along made grown.rising grown.numbered same);
       silent = subst (AllByRecursion (λ s. column s 3
           ≡ Null)) (sym it.rows) (each_made start_columns (λ s. column s 3
@@ -86,7 +71,7 @@ filled Typed cmp total value is_for tied texts tree side old new are it =
 abbrev pub order_fill_text : List ℕ
 order_fill_text = codes "INSERT INTO order_start (customer, ord, not_before) SELECT customer, name, NULL FROM orders"
 
-order_fill : IsFill order_fill_text 8 order_start_table (over_by plainly (inner 7 end) [] fill_shown [])
+order_fill : IsFill order_fill_text order_starts (over_by plainly (inner (tree_of orders) end) [] fill_shown [])
 unfolding understood everything
 order_fill = record { is = refl; plain = (refl, refl); there = refl; uncounted = refl; unstamped = refl }
 
@@ -94,12 +79,12 @@ order_casts : (r : Row) → IsOrderRow r → cast_row order_start_table (eval_al
 order_casts r e = rw (cast_null, e.0, e.1) refl
 
 pub orders_filled : (old new : State) (count : ℕ) → old.now.schema ≡ office_schema
-    → AreRows IsOrderRow order_cmp order_in_row (old.now.trees 7) → old.now.trees 17 ≡ []
-    → Executes order_fill_text [] old new (Ok count) → Starts order_in_row starts_order 7 17 old.now new.now
+    → AreRows IsOrderRow order_cmp order_in_row (rows_in old.now.trees orders) → rows_in old.now.trees order_starts ≡ []
+    → Executes order_fill_text [] old new (Ok count) → Starts order_in_row starts_order orders order_starts old.now new.now
 orders_filled old new count has are empty ran =
     filled IsOrderRow order_cmp order_total order_in_row starts_order (λ a id r e.
-    sym (order_tied a (order_in_row r))) (λ r e. (e.0, e.1)) 7 17 old.now new.now are
-    (fills order_fill_text 8 order_start_table 7 plainly fill_shown order_fill (λ db.
+    sym (order_tied a (order_in_row r))) (λ r e. (e.0, e.1)) orders order_starts old.now new.now are
+    (fills order_fill_text order_starts orders plainly fill_shown order_fill (λ db.
     refl) [] IsOrderRow start_columns order_casts old new count has empty are.typed ran)
 
 -- ---- the starts of records
@@ -107,7 +92,7 @@ orders_filled old new count has are empty ran =
 abbrev pub given_fill_text : List ℕ
 given_fill_text = codes "INSERT INTO given_start (issuer, serial, not_before) SELECT issuer, serial, NULL FROM given"
 
-given_fill : IsFill given_fill_text 9 given_start_table (over_by plainly (inner 11 end) [] fill_shown [])
+given_fill : IsFill given_fill_text given_starts (over_by plainly (inner (tree_of given) end) [] fill_shown [])
 unfolding understood everything
 given_fill = record { is = refl; plain = (refl, refl); there = refl; uncounted = refl; unstamped = refl }
 
@@ -115,10 +100,10 @@ given_casts : (r : Row) → IsGivenRow r → cast_row given_start_table (eval_al
 given_casts r e = rw (cast_null, e.0, e.1) refl
 
 pub given_filled : (old new : State) (count : ℕ) → old.now.schema ≡ office_schema
-    → AreRows IsGivenRow given_cmp given_in_row (old.now.trees 11) → old.now.trees 19 ≡ []
-    → Executes given_fill_text [] old new (Ok count) → Starts given_in_row starts_given 11 19 old.now new.now
+    → AreRows IsGivenRow given_cmp given_in_row (rows_in old.now.trees given) → rows_in old.now.trees given_starts ≡ []
+    → Executes given_fill_text [] old new (Ok count) → Starts given_in_row starts_given given given_starts old.now new.now
 given_filled old new count has are empty ran =
     filled IsGivenRow given_cmp given_total given_in_row starts_given (λ a id r e.
-    sym (given_tied a (given_in_row r))) (λ r e. (e.0, e.1)) 11 19 old.now new.now are
-    (fills given_fill_text 9 given_start_table 11 plainly fill_shown given_fill (λ db.
+    sym (given_tied a (given_in_row r))) (λ r e. (e.0, e.1)) given given_starts old.now new.now are
+    (fills given_fill_text given_starts given plainly fill_shown given_fill (λ db.
     refl) [] IsGivenRow start_columns given_casts old new count has empty are.typed ran)

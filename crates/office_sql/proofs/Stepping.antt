@@ -1,10 +1,7 @@
 -- Steps through what a statement does.
 use Rattle.std.proofs.Common.{◌≡◌, ◌⊎◌, inl, inr, ℤ, Bool, true, false, cond, Ok, Err, Result, refl}
-use Rattle.sqlite.specs.declared.types.Value.{Value}
-use Rattle.sqlite.specs.declared.types.Value.TheVariants.{Null, Int}
+use Rattle.office_sql.proofs.Kit.{Value, Null, Int, Integer, cast}
 use Rattle.sqlite.specs.Ops.{unary}
-use Rattle.sqlite.specs.Kind.TheVariants.{Integer}
-use Rattle.sqlite.specs.Cast.{cast}
 
 either : (b : Bool) (x : Value) → cond b x x ≡ x
 either true x = refl

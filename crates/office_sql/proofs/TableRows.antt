@@ -1,25 +1,15 @@
 -- What an edit of a table's rows makes of the rows in key order.
-use Rattle.std.proofs.Common.{◌≡◌, ℤ, pos, ◌+ℤ◌, true, false, not, cond, List, [], ◌∷◌, map, fold, refl, sym, ap, ◌∙◌, subst, arith, Ordering, Less}
-use Rattle.std.proofs.Common.{Equal, Greater, is_lt, is_eq, true≢false, IsPermutation, IsTrue}
-use Rattle.std.specs.List.{AllByRecursion}
-use Rattle.std.specs.Ordering.{match_ordering}
-use Rattle.std.specs.Cmp.{IsTotalOrder}
-use Rattle.std.proofs.lemmas.Bool.Decides.{nat_tests}
-use Rattle.std.proofs.lemmas.Int.{ints}
-use Rattle.std.proofs.lemmas.List.Sorted.{IsPermutation-refl, IsPermutation-sym, IsPermutation-trans, IsPermutation-cons, IsPermutation-middle}
-use Rattle.std.proofs.lemmas.List.Sorted.{IsPermutation-map}
-use Rattle.sqlite.specs.declared.types.Value.{Value}
-use Rattle.sqlite.specs.declared.types.Value.TheVariants.{Null, Int, Real, Text, Blob}
-use Rattle.sqlite.specs.Order.{Row, value_cmp}
-use Rattle.sqlite.specs.View.{is_int}
-use Rattle.sqlite.specs.Tree.{IsTable, rowid, has_rowid, put_row, without_rowid}
-use Rattle.sqlite_rules.specs.Edit.{next_rowid, id_in}
-use Rattle.sqlite_trees.proofs.ListLemmas.{all_weaker, all-filter, filter_all, filter-filter, ascending-filter}
-use Rattle.sqlite_trees.proofs.TreeLemmas.{later_rowids, IsTable-put_row, all-put_row}
-use Rattle.sqlite_value.proofs.OrderLemmas.{value_cmp_total, value_cmp-Int}
-use Rattle.sqlite_keyed.specs.Lists.{sort_by}
-use Rattle.office_tables.specs.Tables.{with_row}
-use Rattle.office_sql.specs.Tables.{AreRows}
+use Rattle.std.proofs.Common.{◌≡◌, ◌+ℤ◌, ◌∷◌, Ordering}
+use Rattle.text_core.proofs.Kit.{ℤ, pos, true, false, not, cond, List, [], map, fold, refl, sym, ap, ◌∙◌, subst, arith, Less, Equal, Greater, is_lt, is_eq}
+use Rattle.text_core.proofs.Kit.{true≢false, IsPermutation, IsTrue, AllByRecursion, match_ordering, IsTotalOrder, nat_tests, ints, IsPermutation-refl}
+use Rattle.text_core.proofs.Kit.{IsPermutation-sym, IsPermutation-trans, IsPermutation-cons, IsPermutation-middle, IsPermutation-map}
+use Rattle.office_sql.proofs.Kit.{Value, Null, Int, Real, Row, is_int, IsTable, rowid, has_rowid, put_row, without_rowid, next_rowid, id_in, all-filter}
+use Rattle.office_sql.proofs.Kit.{filter_all, filter-filter, later_rowids, IsTable-put_row, all-put_row, value_cmp_total, value_cmp-Int, sort_by}
+use Rattle.sqlite.specs.declared.types.Value.TheVariants.{Text, Blob}
+use Rattle.sqlite.specs.Order.{value_cmp}
+use Rattle.sqlite_trees.proofs.ListLemmas.{all_weaker, ascending-filter}
+use Rattle.office_tables.specs.Prelude.{with_row}
+use Rattle.office_sql.specs.Prelude.{AreRows}
 use Rattle.office_sql.proofs.Keyed.{Apart, gains, replaces}
 
 -- as `sqlite_exec` proves it of its own writes

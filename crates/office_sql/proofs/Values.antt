@@ -1,18 +1,12 @@
 -- The tests of SQL on columns of one kind, and their order.
-use Rattle.std.proofs.Common.{◌≡◌, ℕ, ℤ, Bool, true, false, ◌&&◌, List, refl, ap, ap₂, ◌∙◌, is_eq, Some}
-use Rattle.std.specs.Str.{bytes_eq}
-use Rattle.std.specs.Ordering.{nat_cmp}
-use Rattle.std.specs.Cmp.Lexicographic.{slice_cmp}
-use Rattle.std.proofs.lemmas.Cmp.{nat_list_eq_equiv, tied_itself}
-use Rattle.std.proofs.lemmas.Map.Text.{is_eq-slice_cmp}
-use Rattle.sqlite.specs.declared.types.Value.{Value}
-use Rattle.sqlite.specs.declared.types.Value.TheVariants.{Null, Int, Text as Words, Blob as Bytes}
-use Rattle.sqlite.specs.Order.{bytes, value_cmp}
-use Rattle.sqlite.specs.Ops.{binary, is_true, from_truth}
-use Rattle.sqlite_sql.specs.declared.ops.CompareOp.TheVariants.{Eq}
-use Rattle.sqlite_sql.specs.declared.ops.BinaryOp.TheVariants.{Compare, Is}
-use Rattle.sqlite.specs.Collation.TheVariants.{Binary}
-use Rattle.sqlite_value.proofs.OrderLemmas.{value_cmp_total, value_cmp-apart, value_cmp-Text, value_cmp-Blob}
+use Rattle.std.proofs.Common.{◌≡◌, ◌&&◌}
+use Rattle.text_core.proofs.Kit.{ℕ, ℤ, Bool, true, false, List, refl, ap, ap₂, ◌∙◌, is_eq, Some, bytes_eq, nat_cmp, slice_cmp, nat_list_eq_equiv, tied_itself}
+use Rattle.text_core.proofs.Kit.{is_eq-slice_cmp}
+use Rattle.office_sql.proofs.Kit.{Value, Null, Int, bytes, is_true, from_truth, Eq, Compare, Is, Binary, value_cmp_total, value_cmp-apart, value_cmp-Text}
+use Rattle.office_sql.proofs.Kit.{value_cmp-Blob}
+use Rattle.sqlite.specs.declared.types.Value.TheVariants.{Text as Words, Blob as Bytes}
+use Rattle.sqlite.specs.Order.{value_cmp}
+use Rattle.sqlite.specs.Ops.{binary}
 
 told : (b : Bool) → is_true (from_truth (Some b)) ≡ b
 told true = refl

@@ -1,36 +1,15 @@
 -- What a sink has taken, a row at a time, are the rows of an answer.
-use Rattle.std.proofs.Common.{◌≡◌, ℕ, ◌++◌, List, [], ◌∷◌, Bool, false, map, Option, Some, None, inl, inr, refl, sym, ap, subst, ◌∙◌, append-nil}
-use Rattle.std.proofs.Common.{Result, Ok, Err, IfOk, OnOk, rules}
-use Rattle.std.specs.Prelude.{IsSome, MatchBool}
-use Rattle.sqlite_value.specs.declared.keys.Key.{Key}
-use Rattle.sqlite_schema.specs.declared.command.Returning.{Returning}
-use Rattle.sqlite_resolve.specs.declared.compiled.Compiled.{Compiled}
-use Rattle.sqlite_resolve.specs.declared.error.CompileError.{CompileError}
-use Rattle.sqlite_schema.specs.declared.schema.Schema.{Schema}
-use Rattle.sqlite.specs.declared.error.Error.{Error}
+use Rattle.std.proofs.Common.{◌≡◌, ℕ, ◌++◌, List, [], ◌∷◌, Bool, false, map, Option, Some, None, inl, inr, refl, sym, ap, subst, ◌∙◌, append-nil, Result, Ok}
+use Rattle.std.proofs.Common.{Err, IfOk, OnOk, rules, IsSome, MatchBool}
+use Rattle.office_sql.proofs.Kit.{Key, Returning, Compiled, CompileError, Schema, Error, Select, Database, Returns, HasGiven, HasBegun, Held, state}
+use Rattle.office_sql.proofs.Kit.{reads_listing, IsSourceOf, Row, overlay, State, HasCleanDisk, Survives, ShowsRows, IsUnchanged, FailsToShow, Term, Trees}
+use Rattle.office_sql.proofs.Kit.{Join, inner, end, IsAnswer, command_of, EndsIn, begins_shown, unchanged_then, survives_weaker}
 use Rattle.sqlite.specs.Clock.{timed}
-use Rattle.sqlite.specs.Command.TheVariants.{Select}
-use Rattle.sqlite.specs.Effect.{Database}
-use Rattle.sqlite.specs.Given.{Returns, HasGiven, HasBegun}
-use Rattle.sqlite.specs.Held.{Held, state}
-use Rattle.sqlite.specs.Listing.{understood, reads_listing, IsSourceOf}
-use Rattle.sqlite.specs.Order.{Row}
-use Rattle.sqlite.specs.Program.{overlay}
-use Rattle.sqlite.specs.State.{State, HasCleanDisk, Survives, Shown, ShowsRows, IsUnchanged, IsNotRun, FailsToQuery, FailsToShow, CommitsShowing}
+use Rattle.sqlite.specs.Listing.{understood}
+use Rattle.sqlite.specs.State.{Shown, IsNotRun, FailsToQuery, CommitsShowing}
 use Rattle.sqlite.specs.Store.{Ghosts}
-use Rattle.sqlite.specs.Term.{Term}
-use Rattle.sqlite.specs.Tree.{Trees}
-use Rattle.sqlite.specs.Query.{Join, inner, end, IsAnswer}
-use Rattle.sqlite.proofs.Callers.{command_of, EndsIn, begins_shown, unchanged_then}
-use Rattle.sqlite.proofs.StateLemmas.{survives_weaker}
-use Rattle.office_tables.specs.Keeping.{Visits}
-use Rattle.office_tables.specs.Tables.{Tables}
-use Rattle.office_sql.specs.Asking.{SqlReads, HasOffice}
-use Rattle.office_sql.specs.Change.{Rests}
-use Rattle.office_sql.specs.Schema.{office_schema}
-use Rattle.office_sql.specs.Joins.{over}
-use Rattle.office_sql.specs.Tables.{IsOffice, tables_in}
-use Rattle.office_sql.specs.Visiting.{HasVisited}
+use Rattle.office_tables.specs.Prelude.{Visits, Tables}
+use Rattle.office_sql.specs.Prelude.{OfficeTable, SqlReads, HasOffice, Rests, office_schema, rows_in, tree_of, over, IsOffice, tables_in, HasVisited}
 use Rattle.office_sql.proofs.Asked.{reads_over, unchanged_rests, undone_rests}
 use Rattle.office_sql.proofs.Bare.{IsBare, bare_understood}
 use Rattle.office_sql.proofs.Reading.{IsJoined, IsRead, joined_of, scanned_of}
@@ -186,13 +165,13 @@ module _ {S : Type 0} (g : Ghosts S) (text : List ℕ) (from : Join) (tests show
           bound it.1)) it.2
       said (Err e) h s = tt
 
-module _ {S : Type 0} (g : Ghosts S) (text : List ℕ) (tree : ℕ) (tests shown : List Term) (order : List (Term × Key))
-    (read : IsRead office_schema text tree tests shown order) (params values : Row) (bound : params ≡ values) (old new : Held S) where
+module _ {S : Type 0} (g : Ghosts S) (text : List ℕ) (table : OfficeTable) (tests shown : List Term) (order : List (Term × Key))
+    (read : IsRead office_schema text table tests shown order) (params values : Row) (bound : params ≡ values) (old new : Held S) where
   -- and of one table
   pub visits : {K R : Type 0} (takes : K → R → Bool → K → Type 0) (reads : Row → R) (r : Result (Unit {0}) Error) (before after : K) (kept : Tables → List R)
       → HasOffice (state g old)
       → ((rows : List Row) → IsOffice (state g old).now
-      → Scanned tests shown order values ((state g old).now.trees tree) rows
+      → Scanned tests shown order values (rows_in (state g old).now.trees table) rows
       → map reads rows ≡ kept (tables_in (state g old).now.trees))
       → (HasCleanDisk (state g new)
       → OnOk r (HasVisited takes reads text params (state g old) (state g new) before after))
@@ -202,7 +181,7 @@ module _ {S : Type 0} (g : Ghosts S) (text : List ℕ) (tree : ℕ) (tests shown
       → Survives (state g old) (state g new) (λ _. ⊥)
       → SqlReads g old new r (λ t _. Visits takes before (kept t) after)
   visits takes reads r before after kept has answer =
-      visits_joined g text (inner tree end) tests shown order
-      (joined_of office_schema text tree tests shown order read) params values bound old new
+      visits_joined g text (inner (tree_of table) end) tests shown order
+      (joined_of office_schema text table tests shown order read) params values bound old new
       takes reads r before after kept has
-      (λ rows office a. answer rows office (scanned_of office_schema text tree tests shown order read (state g old).now.trees values rows a))
+      (λ rows office a. answer rows office (scanned_of office_schema text table tests shown order read (state g old).now.trees values rows a))

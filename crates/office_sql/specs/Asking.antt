@@ -4,7 +4,7 @@ use Rattle.sqlite.specs.Store.{Ghosts}
 use Rattle.sqlite.specs.Held.{Held, state}
 use Rattle.sqlite.specs.Effect.{Database}
 use Rattle.sqlite.specs.State.{State, HasCleanDisk, IsUnchanged, KeepsCommit, Survives}
-use Rattle.office_tables.specs.Tables.{Tables}
+use Rattle.office_tables.specs.Prelude.{Tables}
 use Rattle.office_sql.specs.Change.{IsInside, Rests}
 use Rattle.office_sql.specs.Schema.{office_schema}
 use Rattle.office_sql.specs.Tables.{IsOffice, tables_in}

@@ -1,6 +1,5 @@
 -- What a statement changes, and what a transaction has made.
 use Rattle.std.specs.Prelude.{◌≡◌, ◌≢◌, ◌⊎◌, ◌<◌, length, ℕ, ℤ, pos, Bool, List, [], ◌∷◌, filter, IsTrue}
-use Rattle.std.specs.List.{AllByRecursion}
 use Rattle.sqlite.specs.declared.types.Value.TheVariants.{Int, Null}
 use Rattle.sqlite.specs.Order.{Row}
 use Rattle.sqlite.specs.Tree.{Trees, put_row, rowid, without_rowid}
@@ -12,35 +11,36 @@ use Rattle.sqlite.specs.State.{State}
 use Rattle.sqlite.specs.Effect.{Database, IsDatabase}
 use Rattle.office_tables.specs.declared.rows.Write.{Write}
 use Rattle.office_tables.specs.declared.rows.Write.TheVariants.{PutSeat, AddOrder, SetCursor, AddMap, AddLink, AddDevice, PutDevice, AddGiven, AddEntry}
-use Rattle.office_tables.specs.Tables.{Writes, Written, is_seat, is_order, is_device}
-use Rattle.office_sql.specs.Schema.{office_schema}
+use Rattle.office_tables.specs.Prelude.{Writes, Written, is_seat, is_order, is_device}
+use Rattle.office_sql.specs.OfficeTable.{OfficeTable, seats, maps, links, orders, devices, given, ledger, order_starts, given_starts}
+use Rattle.office_sql.specs.Schema.{office_schema, rows_in}
 use Rattle.office_sql.specs.Rows.{seat_in_row, order_in_row, device_in_row, seat_columns, map_columns, link_columns, order_columns, order_start_columns}
 use Rattle.office_sql.specs.Rows.{columns_with_cursor, device_columns, given_columns, given_start_columns, entry_columns}
 use Rattle.office_sql.specs.Tables.{IsOffice, office_over, tables_in, told_in}
 
 -- no other table changes
-abbrev pub SameBut : ℕ → Trees → Trees → Type 0
-SameBut tree old new = AllByRecursion (λ t. t.tree ≢ tree → new t.tree ≡ old t.tree) office_schema.tables
+abbrev pub SameBut : OfficeTable → Trees → Trees → Type 0
+SameBut changed old new = (table : OfficeTable) → table ≢ changed → rows_in new table ≡ rows_in old table
 
 -- the table has one row more, whose columns are these, and no other table changes
-pub record SqlAdds (tree : ℕ) (columns : Row) (old new : Database) : Type 0 where
+pub record SqlAdds (table : OfficeTable) (columns : Row) (old new : Database) : Type 0 where
   pub schema : new.schema ≡ office_schema
   pub sound : IsDatabase new
-  pub row : new.trees tree ≡ put_row (Int (next_rowid (old.trees tree)) ∷ columns) (old.trees tree)
-  pub others : SameBut tree old.trees new.trees
+  pub row : rows_in new.trees table ≡ put_row (Int (next_rowid (rows_in old.trees table)) ∷ columns) (rows_in old.trees table)
+  pub others : SameBut table old.trees new.trees
 
 -- the row with this rowid has these columns now, and no other table changes
-pub record Replaces (tree : ℕ) (id : ℤ) (columns : Row) (old new : Database) : Type 0 where
+pub record Replaces (table : OfficeTable) (id : ℤ) (columns : Row) (old new : Database) : Type 0 where
   pub schema : new.schema ≡ office_schema
   pub sound : IsDatabase new
-  pub row : new.trees tree ≡ put_row (Int id ∷ columns) (without_rowid id (old.trees tree))
-  pub others : SameBut tree old.trees new.trees
+  pub row : rows_in new.trees table ≡ put_row (Int id ∷ columns) (without_rowid id (rows_in old.trees table))
+  pub others : SameBut table old.trees new.trees
 
 -- no table changes
 pub record SqlStays (old new : Database) : Type 0 where
   pub schema : new.schema ≡ office_schema
   pub sound : IsDatabase new
-  pub tables : AllByRecursion (λ t. new.trees t.tree ≡ old.trees t.tree) office_schema.tables
+  pub tables : (table : OfficeTable) → rows_in new.trees table ≡ rows_in old.trees table
 
 -- the table is made, with no row, and each other table stays
 pub record Makes (schema : Schema) (table : Table) (old new : Database) : Type 0 where
@@ -49,28 +49,28 @@ pub record Makes (schema : Schema) (table : Table) (old new : Database) : Type 0
   pub others : KeepsRows schema.tables old.trees new.trees
 
 -- the one row that passes a test has these columns now, made of those that it had
-abbrev pub Remakes : ℕ → (Row → Bool) → (Row → Row) → Database → Database → Type 0
-Remakes tree test columns old new =
-    (r : Row) × (id : ℤ) × (filter test (old.trees tree) ≡ r ∷ []) × (rowid r ≡ Int id) × Replaces tree id (columns r) old new
+abbrev pub Remakes : OfficeTable → (Row → Bool) → (Row → Row) → Database → Database → Type 0
+Remakes table test columns old new =
+    (r : Row) × (id : ℤ) × (filter test (rows_in old.trees table) ≡ r ∷ []) × (rowid r ≡ Int id) × Replaces table id (columns r) old new
 
 -- what becomes of the rows by a write: their columns, to the byte
 abbrev pub WritesRows : Write → Database → Database → Type 0
 WritesRows (PutSeat s) old new =
-    SqlAdds 1 (seat_columns s) old new ⊎ Remakes 1 (λ r. is_seat s.row.name (seat_in_row r)) (λ _. seat_columns s) old new
+    SqlAdds seats (seat_columns s) old new ⊎ Remakes seats (λ r. is_seat s.row.name (seat_in_row r)) (λ _. seat_columns s) old new
 WritesRows (AddOrder o) old new =
-    (mid : Database) × SqlAdds 7 (order_columns o) old mid × SqlAdds 17 (order_start_columns o) mid new
+    (mid : Database) × SqlAdds orders (order_columns o) old mid × SqlAdds order_starts (order_start_columns o) mid new
 WritesRows (SetCursor c) old new =
-    Remakes 7 (λ r. is_order c.customer c.row.order (order_in_row r)) (columns_with_cursor c.row.number) old new
+    Remakes orders (λ r. is_order c.customer c.row.order (order_in_row r)) (columns_with_cursor c.row.number) old new
 WritesRows (AddMap m) old new =
-    (mid : Database) × (id : ℕ) × (next_rowid (old.trees 3) ≡ pos id) × SqlAdds 3 (Null ∷ map_columns m) old mid
-    × SqlAdds 5 (link_columns (record { customer = m.customer; row = record { digest = m.row.digest; map = id } })) mid new
-WritesRows (AddLink l) old new = SqlAdds 5 (link_columns l) old new
-WritesRows (AddDevice d) old new = SqlAdds 9 (device_columns d) old new
+    (mid : Database) × (id : ℕ) × (next_rowid (rows_in old.trees maps) ≡ pos id) × SqlAdds maps (Null ∷ map_columns m) old mid
+    × SqlAdds links (link_columns (record { customer = m.customer; row = record { digest = m.row.digest; map = id } })) mid new
+WritesRows (AddLink l) old new = SqlAdds links (link_columns l) old new
+WritesRows (AddDevice d) old new = SqlAdds devices (device_columns d) old new
 WritesRows (PutDevice d) old new =
-    Remakes 9 (λ r. is_device d.customer d.row.chip (device_in_row r)) (λ _. device_columns d) old new
+    Remakes devices (λ r. is_device d.customer d.row.chip (device_in_row r)) (λ _. device_columns d) old new
 WritesRows (AddGiven g) old new =
-    (mid : Database) × SqlAdds 11 (given_columns g) old mid × SqlAdds 19 (given_start_columns g) mid new
-WritesRows (AddEntry e) old new = SqlAdds 15 (Null ∷ entry_columns e) old new
+    (mid : Database) × SqlAdds given (given_columns g) old mid × SqlAdds given_starts (given_start_columns g) mid new
+WritesRows (AddEntry e) old new = SqlAdds ledger (Null ∷ entry_columns e) old new
 
 -- by a list of writes, one after another
 abbrev pub WritesAllRows : List Write → Database → Database → Type 0

@@ -33,6 +33,7 @@ is_same there here = op2 (Compare Eq Binary) (col 2 there) (col 1 here)
 abbrev pub over_by : List Collation → Join → List Term → List Term → List (Term × Key) → Query
 over_by collations from tests shown order = record (over from tests shown order) { collations = collations }
 
+-- what terms see: the parameters, a row of the first table, a row of the second
 abbrev pub pair : Row → Row → Row → Env
 pair params r s = params ∷ r ∷ s ∷ []
 

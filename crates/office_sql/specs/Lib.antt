@@ -1,4 +1,5 @@
 -- What the contracts of this crate are made of.
+pub mod OfficeTable
 pub mod Schema
 pub mod Scan
 pub mod Joins
@@ -14,3 +15,4 @@ pub mod Maps
 pub mod Looking
 pub mod Seats
 pub mod Visiting
+pub mod Prelude

@@ -3,7 +3,7 @@ use Rattle.std.specs.Prelude.{◌≡◌, Result, IfOk, OnOk, IsTrue}
 use Rattle.sqlite.specs.Store.{Ghosts}
 use Rattle.sqlite.specs.Held.{Held, state}
 use Rattle.sqlite.specs.State.{State, HasCleanDisk, KeepsCommit, Survives}
-use Rattle.office_tables.specs.Tables.{Tables}
+use Rattle.office_tables.specs.Prelude.{Tables}
 use Rattle.office_sql.specs.Tables.{tables_in}
 
 -- it was open if it is, and shows what it showed

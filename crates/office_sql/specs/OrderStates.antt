@@ -5,6 +5,7 @@ use Rattle.office_tables.specs.declared.rows.Device.{Device}
 use Rattle.office_sql.specs.declared.devices.OrderState.{OrderState}
 use Rattle.office_sql.specs.Values.{state_in, text_if}
 
+-- the name of the order that a device is of, and the device's state
 abbrev pub order_state : OfCustomer Device → OrderState
 order_state d = record { order = d.row.order; state = d.row.state }
 

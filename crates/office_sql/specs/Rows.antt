@@ -1,9 +1,8 @@
 -- What the rows of the tables in SQL stand for, whatever stands in their columns, and the columns of each row. A row's rowid has place 0.
-use Rattle.std.specs.Prelude.{ℕ, Bool, ◌&&◌, List, [], ◌∷◌, find, Option, None, option_and_then, option_map}
-use Rattle.std.specs.Str.{bytes_eq}
+use Rattle.std.specs.Prelude.{ℕ, Bool, ◌&&◌, List, [], ◌∷◌, find, Option, None, option_and_then, option_map, bytes_eq}
 use Rattle.sqlite.specs.declared.types.Value.TheVariants.{Null, Text as Words, Blob as Bytes}
 use Rattle.sqlite.specs.Order.{Row, column, bytes}
-use Rattle.office_tables.specs.States.{state_row}
+use Rattle.office_tables.specs.Prelude.{state_row, reason_text, event_text, note_text}
 use Rattle.office_tables.specs.declared.rows.OfCustomer.{OfCustomer}
 use Rattle.office_tables.specs.declared.rows.SeatState.{SeatState}
 use Rattle.office_tables.specs.declared.rows.Order.{Order}
@@ -14,7 +13,6 @@ use Rattle.office_tables.specs.declared.rows.NewMap.{NewMap}
 use Rattle.office_tables.specs.declared.rows.Device.{Device}
 use Rattle.office_tables.specs.declared.rows.Entry.{Entry}
 use Rattle.office_tables.specs.declared.rows.NewEntry.{NewEntry}
-use Rattle.office_tables.specs.Texts.{reason_text, event_text, note_text}
 use Rattle.office_sql.specs.Values.{number_in_cell, text_if, mac_if, state_in, event_in, text_value, mac_value, whole_value}
 
 -- the beginning of validity that the first row for this order or record has in its third column; none where there is no row

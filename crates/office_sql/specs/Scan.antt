@@ -28,11 +28,14 @@ scan tree tests shown order = record {
 abbrev pub is_parameter : ℕ → ℕ → Term
 is_parameter place param = op2 (Compare Eq Binary) (col 1 place) (col 0 param)
 
+-- what terms see: the parameters, and a row
 abbrev pub env : Row → Row → Env
 env params r = params ∷ r ∷ []
 
+-- the row passes each test
 abbrev pub passes : List Term → Row → Row → Bool
 passes tests params r = list_all (holds (env params r)) tests
 
+-- the rows that pass each test
 abbrev pub passing : List Term → Row → List Row → List Row
 passing tests params rows = filter (passes tests params) rows

@@ -11,10 +11,15 @@ use Rattle.sqlite_schema.specs.declared.schema.Index.{Index}
 use Rattle.sqlite_schema.specs.declared.schema.Reference.{Reference}
 use Rattle.sqlite_schema.specs.declared.schema.Action.TheVariants.{NoAction}
 use Rattle.sqlite_value.specs.Keys.{plain}
+use Rattle.sqlite.specs.Order.{Row}
+use Rattle.sqlite.specs.Tree.{Trees}
+use Rattle.office_sql.specs.OfficeTable.{OfficeTable, meta, seats, maps, links, orders, devices, given, ledger, order_starts, given_starts, texts}
 
+-- a column by its name and its kind, and whether NULL is refused
 abbrev pub column : List ℕ → Kind → Bool → Column
 column name kind required = record { name = name; kind = kind; is_strict = true; not_null = required; default = Null; collation = Binary }
 
+-- a text, bytes or a whole number, by the column's name: none of them may be missing
 abbrev pub text : List ℕ → Column
 text name = column name Text true
 
@@ -24,6 +29,7 @@ blob name = column name Blob true
 abbrev pub whole : List ℕ → Column
 whole name = column name Integer true
 
+-- the columns at these places refer to those of the parent table, by their names
 abbrev pub to : List ℕ → List ℕ → List (List ℕ) → Reference
 to columns parent names = record { columns = columns; parent = parent; parent_columns = names; on_delete = NoAction; on_update = NoAction; is_deferred = false }
 
@@ -44,12 +50,15 @@ table_at tree name columns key primary uniques references = record {
   is_counted = false;
 }
 
+-- the index of a key in this tree: the tree of its table, and the places of the key's columns
 abbrev pub index_at : ℕ → List ℕ → ℕ → List ℕ → Index
 index_at tree name table columns = record { name = name; tree = tree; table = table; columns = columns; order = plain; is_unique = true }
 
+-- what the store tells of itself: one row
 abbrev pub meta_table : Table
 meta_table = table_at 0 (codes "meta") (column (codes "id") Integer false ∷ whole (codes "schema") ∷ blob (codes "site") ∷ []) (Some 0) (0 ∷ []) ([]) ([])
 
+-- the tables of the office's rows, each behind those that it refers to
 abbrev pub seat_table : Table
 seat_table = table_at 1 (codes "seat") (text (codes "name") ∷ text (codes "customer") ∷ whole (codes "last") ∷ blob (codes "digest") ∷ text (codes "reply") ∷ []) None (1 ∷ []) ((1 ∷ []) ∷ []) ([])
 
@@ -82,14 +91,51 @@ given_start_table = table_at 19 (codes "given_start") (text (codes "issuer") ∷
 abbrev pub site_text_table : Table
 site_text_table = table_at 21 (codes "site_text") (column (codes "id") Integer false ∷ text (codes "body") ∷ []) (Some 0) (0 ∷ []) ([]) ([])
 
+-- each table by its name, and the tree of its rows
+abbrev pub table_of : OfficeTable → Table
+table_of meta = meta_table
+table_of seats = seat_table
+table_of maps = map_table
+table_of links = link_table
+table_of orders = orders_table
+table_of devices = device_table
+table_of given = given_table
+table_of ledger = ledger_table
+table_of order_starts = order_start_table
+table_of given_starts = given_start_table
+table_of texts = site_text_table
+
+abbrev pub tree_of : OfficeTable → ℕ
+tree_of table = (table_of table).tree
+
+-- the rows of a table in a database
+abbrev pub rows_in : Trees → OfficeTable → List Row
+rows_in db table = db (tree_of table)
+
+-- its place in the schema
+abbrev pub place_of : OfficeTable → ℕ
+place_of meta = 0
+place_of seats = 1
+place_of maps = 2
+place_of links = 3
+place_of orders = 4
+place_of devices = 5
+place_of given = 6
+place_of ledger = 7
+place_of order_starts = 8
+place_of given_starts = 9
+place_of texts = 10
+
+-- the schema of the office: its tables, and an index for each of their keys that is no rowid
 abbrev pub office_schema : Schema
 office_schema = record {
   tables = meta_table ∷ seat_table ∷ map_table ∷ link_table ∷ orders_table ∷ device_table
       ∷ given_table ∷ ledger_table ∷ order_start_table ∷ given_start_table ∷ site_text_table ∷ [];
-  indexes = index_at 2 (codes "sqlite_autoindex_seat_1") 1 (1 ∷ []) ∷ index_at 4 (codes "sqlite_autoindex_map_1") 3 (2 ∷ []) ∷ index_at 6 (codes "sqlite_autoindex_link_1") 5 (1 ∷ 2 ∷ []) ∷ index_at 8 (codes "sqlite_autoindex_orders_1") 7 (1 ∷ 2 ∷ []) ∷ index_at 10 (codes "sqlite_autoindex_device_1") 9 (1 ∷ 2 ∷ []) ∷ index_at 12 (codes "sqlite_autoindex_given_1") 11 (1 ∷ 2 ∷ []) ∷ index_at 13 (codes "sqlite_autoindex_given_2") 11 (1 ∷ 4 ∷ []) ∷ index_at 14 (codes "sqlite_autoindex_given_3") 11 (6 ∷ 1 ∷ 2 ∷ []) ∷ index_at 16 (codes "sqlite_autoindex_ledger_1") 15 (2 ∷ 3 ∷ 4 ∷ []) ∷ index_at 18 (codes "sqlite_autoindex_order_start_1") 17 (1 ∷ 2 ∷ []) ∷ index_at 20 (codes "sqlite_autoindex_given_start_1") 19 (1 ∷ 2 ∷ []) ∷ [];
+  indexes = index_at 2 (codes "sqlite_autoindex_seat_1") (tree_of seats) (1 ∷ []) ∷ index_at 4 (codes "sqlite_autoindex_map_1") (tree_of maps) (2 ∷ []) ∷ index_at 6 (codes "sqlite_autoindex_link_1") (tree_of links) (1 ∷ 2 ∷ []) ∷ index_at 8 (codes "sqlite_autoindex_orders_1") (tree_of orders) (1 ∷ 2 ∷ []) ∷ index_at 10 (codes "sqlite_autoindex_device_1") (tree_of devices) (1 ∷ 2 ∷ []) ∷ index_at 12 (codes "sqlite_autoindex_given_1") (tree_of given) (1 ∷ 2 ∷ []) ∷ index_at 13 (codes "sqlite_autoindex_given_2") (tree_of given) (1 ∷ 4 ∷ []) ∷ index_at 14 (codes "sqlite_autoindex_given_3") (tree_of given) (6 ∷ 1 ∷ 2 ∷ []) ∷ index_at 16 (codes "sqlite_autoindex_ledger_1") (tree_of ledger) (2 ∷ 3 ∷ 4 ∷ []) ∷ index_at 18 (codes "sqlite_autoindex_order_start_1") (tree_of order_starts) (1 ∷ 2 ∷ []) ∷ index_at 20 (codes "sqlite_autoindex_given_start_1") (tree_of given_starts) (1 ∷ 2 ∷ []) ∷ [];
   views = [];
 }
 
+-- that of a database in which there is nothing yet
 abbrev pub no_schema : Schema
 no_schema = record { tables = []; indexes = []; views = [] }
 

@@ -1,7 +1,7 @@
 -- What the setting of a seat's row finds where there is none.
 use Rattle.std.specs.Prelude.{◌≡◌, ℕ, List, None}
 use Rattle.sqlite.specs.Effect.{Database}
-use Rattle.office_tables.specs.Tables.{seat_at}
+use Rattle.office_tables.specs.Prelude.{seat_at}
 use Rattle.office_sql.specs.Change.{SqlStays}
 use Rattle.office_sql.specs.Tables.{IsOffice, tables_in}
 

@@ -1,5 +1,5 @@
 -- The tables of all customers that a database of the office holds.
-use Rattle.std.specs.Prelude.{◌≡◌, ℕ, pos, Bool, true, false, List, [], ◌∷◌, drop, map, filter, find, is_some, None, IsTrue}
+use Rattle.std.specs.Prelude.{◌≡◌, ⊤, ℕ, pos, Bool, true, false, List, [], ◌∷◌, drop, map, filter, find, is_some, None, IsTrue}
 use Rattle.sqlite_schema.specs.Rules.{are_typed}
 use Rattle.std.specs.List.{AllByRecursion}
 use Rattle.std.specs.Ordering.{is_eq}
@@ -10,23 +10,28 @@ use Rattle.sqlite.specs.Tree.{Trees, IsTable, IsAscending, rowid}
 use Rattle.sqlite.specs.View.{is_int}
 use Rattle.sqlite.specs.Effect.{Database, IsDatabase}
 use Rattle.sqlite_keyed.specs.Lists.{sort_by}
-use Rattle.office_tables.specs.Tables.{Tables, seat_cmp, order_cmp, map_cmp, link_cmp, device_cmp, given_cmp, entry_cmp}
-use Rattle.office_sql.specs.Schema.{office_schema, orders_table}
+use Rattle.office_tables.specs.Prelude.{Tables, seat_cmp, order_cmp, map_cmp, link_cmp, device_cmp, given_cmp, entry_cmp}
+use Rattle.office_sql.specs.OfficeTable.{OfficeTable, meta, seats, maps, links, orders, devices, given, ledger, order_starts, given_starts, texts}
+use Rattle.office_sql.specs.Schema.{office_schema, orders_table, rows_in}
 use Rattle.office_sql.specs.Values.{number_in_cell, text_if, text_value}
 use Rattle.office_sql.specs.Rows.{seat_in_row, map_in_row, link_in_row, order_in_row, device_in_row, given_in_row, entry_in_row, starts_order}
 use Rattle.office_sql.specs.Rows.{starts_given, with_order_start, with_given_start}
 
--- the rows of each tree in the order of their keys; the trees are numbered as their tables and indexes are made
-abbrev pub tables_in : Trees → Tables
-tables_in db = record {
-  seats = sort_by seat_cmp (map seat_in_row (db 1));
-  orders = map (with_order_start (db 17)) (sort_by order_cmp (map order_in_row (db 7)));
-  devices = sort_by device_cmp (map device_in_row (db 9));
-  given = map (with_given_start (db 19)) (sort_by given_cmp (map given_in_row (db 11)));
-  maps = sort_by map_cmp (map map_in_row (db 3));
-  links = sort_by link_cmp (map link_in_row (db 5));
-  ledger = sort_by entry_cmp (map entry_in_row (db 15));
+-- the rows of each table in the order of their keys
+abbrev pub tables_of : (OfficeTable → List Row) → Tables
+tables_of rows = record {
+  seats = sort_by seat_cmp (map seat_in_row (rows seats));
+  orders = map (with_order_start (rows order_starts)) (sort_by order_cmp (map order_in_row (rows orders)));
+  devices = sort_by device_cmp (map device_in_row (rows devices));
+  given = map (with_given_start (rows given_starts)) (sort_by given_cmp (map given_in_row (rows given)));
+  maps = sort_by map_cmp (map map_in_row (rows maps));
+  links = sort_by link_cmp (map link_in_row (rows links));
+  ledger = sort_by entry_cmp (map entry_in_row (rows ledger));
 }
+
+-- the tables of a database
+abbrev pub tables_in : Trees → Tables
+tables_in db = tables_of (rows_in db)
 
 -- what a database tells of itself: the rows of meta, and those of its site's text
 pub record Told : Type 0 where
@@ -35,7 +40,7 @@ pub record Told : Type 0 where
 
 -- what the database tells of itself, which no write changes
 abbrev pub told_in : Trees → Told
-told_in db = record { meta = db 0; texts = db 21 }
+told_in db = record { meta = rows_in db meta; texts = rows_in db texts }
 
 -- a column is a text, bytes, or a number that isn't below zero
 abbrev pub IsText : ℕ → Row → Type 0
@@ -66,7 +71,7 @@ pub record AreRows {A : Type 0} (Typed : Row → Type 0) (cmp : A → A → Orde
 abbrev pub office_over : Trees → Database
 office_over trees = record { schema = office_schema; trees = trees }
 
--- the columns that statements look at
+-- the columns that statements look at: of a seat, of a map, of a link
 abbrev pub IsSeatRow : Row → Type 0
 IsSeatRow r = IsText 1 r
 
@@ -80,12 +85,15 @@ IsLinkRow r = IsText 1 r × IsBlob 2 r
 abbrev pub IsOrderRow : Row → Type 0
 IsOrderRow r = IsText 1 r × IsText 2 r × (are_typed None 0 orders_table.columns (drop 1 r) ≡ true)
 
+-- of a device: customer, chip, order
 abbrev pub IsDeviceRow : Row → Type 0
 IsDeviceRow r = IsText 1 r × IsText 2 r × IsText 3 r
 
+-- of a given serial number: issuer, serial number, key, and the address, which may be missing
 abbrev pub IsGivenRow : Row → Type 0
 IsGivenRow r = IsText 1 r × IsText 2 r × IsBlob 4 r × IsTextIf 6 r
 
+-- of a ledger's entry: id, customer, chip, number
 abbrev pub IsEntryRow : Row → Type 0
 IsEntryRow r = IsWhole 0 r × IsText 2 r × IsText 3 r × IsWhole 4 r
 
@@ -93,15 +101,21 @@ IsEntryRow r = IsWhole 0 r × IsText 2 r × IsText 3 r × IsWhole 4 r
 abbrev pub IsStartRow : Row → Type 0
 IsStartRow r = IsText 1 r × IsText 2 r
 
--- the rows of each table of the office are as its columns and keys have it
-pub record AreOfficeRows (db : Trees) : Type 0 where
-  pub seats : AreRows IsSeatRow seat_cmp seat_in_row (db 1)
-  pub maps : AreRows IsMapRow map_cmp map_in_row (db 3)
-  pub links : AreRows IsLinkRow link_cmp link_in_row (db 5)
-  pub orders : AreRows IsOrderRow order_cmp order_in_row (db 7)
-  pub devices : AreRows IsDeviceRow device_cmp device_in_row (db 9)
-  pub given : AreRows IsGivenRow given_cmp given_in_row (db 11)
-  pub ledger : AreRows IsEntryRow entry_cmp entry_in_row (db 15)
+-- the rows of a table are as its columns and keys have it. What the database tells of itself is no
+-- part of the office, and of the starts more is said below
+abbrev pub AreRowsOf : OfficeTable → List Row → Type 0
+AreRowsOf seats rows = AreRows IsSeatRow seat_cmp seat_in_row rows
+AreRowsOf maps rows = AreRows IsMapRow map_cmp map_in_row rows
+AreRowsOf links rows = AreRows IsLinkRow link_cmp link_in_row rows
+AreRowsOf orders rows = AreRows IsOrderRow order_cmp order_in_row rows
+AreRowsOf devices rows = AreRows IsDeviceRow device_cmp device_in_row rows
+AreRowsOf given rows = AreRows IsGivenRow given_cmp given_in_row rows
+AreRowsOf ledger rows = AreRows IsEntryRow entry_cmp entry_in_row rows
+AreRowsOf _ rows = ⊤
+
+-- and so are those of all tables
+abbrev pub AreOfficeRows : Trees → Type 0
+AreOfficeRows db = (table : OfficeTable) → AreRowsOf table (rows_in db table)
 
 -- exactly one of the rows is for this order or record
 abbrev pub HasOne : {A : Type 0} → (A → Row → Bool) → List Row → A → Type 0
@@ -120,5 +134,5 @@ pub record IsOffice (db : Database) : Type 0 where
   pub schema : db.schema ≡ office_schema
   pub sound : IsDatabase db
   pub rows : AreOfficeRows db.trees
-  pub orders_started : AreStarted starts_order order_in_row (db.trees 7) (db.trees 17)
-  pub given_started : AreStarted starts_given given_in_row (db.trees 11) (db.trees 19)
+  pub orders_started : AreStarted starts_order order_in_row (rows_in db.trees orders) (rows_in db.trees order_starts)
+  pub given_started : AreStarted starts_given given_in_row (rows_in db.trees given) (rows_in db.trees given_starts)

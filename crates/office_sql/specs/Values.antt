@@ -2,12 +2,12 @@
 use Rattle.std.specs.Prelude.{ℕ, pos, List, [], Option, Some, None, option_and_then, option_map, unwrap_or}
 use Rattle.sqlite.specs.declared.types.Value.{Value}
 use Rattle.sqlite.specs.declared.types.Value.TheVariants.{Null, Int, Real, Text as Words, Blob as Bytes}
-use Rattle.id_ranges.specs.Mac.{mac_text, mac_of_text}
+use Rattle.id_ranges.specs.Prelude.{mac_text, mac_of_text}
 use Rattle.office_tables.specs.declared.rows.DeviceState.{DeviceState}
 use Rattle.office_tables.specs.declared.rows.DeviceState.TheVariants.{Scrapped}
 use Rattle.office_tables.specs.declared.rows.Event.{Event}
+use Rattle.office_tables.specs.Prelude.{state_of_texts, event_of_texts}
 use Rattle.office_tables.specs.declared.rows.Event.TheVariants.{Registered}
-use Rattle.office_tables.specs.Texts.{state_of_texts, event_of_texts}
 
 -- a whole number
 abbrev pub number_in_cell : Value → ℕ
@@ -39,8 +39,10 @@ abbrev pub text_value : Option (List ℕ) → Value
 text_value None = Null
 text_value (Some t) = Words t
 
+-- that of an address, if it isn't missing
 abbrev pub mac_value : Option ℕ → Value
 mac_value mac = text_value (option_map mac_text mac)
 
+-- that of a whole number
 abbrev pub whole_value : ℕ → Value
 whole_value n = Int (pos n)

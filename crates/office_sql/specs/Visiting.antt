@@ -2,7 +2,7 @@
 use Rattle.std.specs.Prelude.{◌⊎◌, ℕ, Bool, List, ◌++◌, map}
 use Rattle.sqlite.specs.Order.{Row}
 use Rattle.sqlite.specs.State.{State, Shown, Begins}
-use Rattle.office_tables.specs.Keeping.{Visits}
+use Rattle.office_tables.specs.Prelude.{Visits}
 
 -- the sink took the rows of the answer, or had enough after rows with which an answer begins
 abbrev pub HasVisited : {K R : Type 0} → (K → R → Bool → K → Type 0) → (Row → R) → List ℕ → Row → State → State → K → K → Type 0

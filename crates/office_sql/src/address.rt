@@ -1,7 +1,7 @@
 // Hardware addresses as the texts of a column.
 ghost use Rattle.std.specs.Prelude.{◌≡◌, Some, IfOk, option_and_then, option_map, string_bytes};
 ghost use Rattle.id_ranges.specs.Mac as spec;
-ghost use Rattle.id_ranges.specs.Mac.{mac_of_text};
+ghost use Rattle.id_ranges.specs.Prelude.{mac_of_text};
 
 use id_ranges::Mac;
 use sqlite::Error;

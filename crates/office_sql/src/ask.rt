@@ -1,6 +1,6 @@
 // Whether the store is open.
 ghost use Rattle.std.specs.Prelude.{⊤};
-ghost use Rattle.office_sql.specs.Asking.{SqlReads};
+ghost use Rattle.office_sql.specs.Prelude.{SqlReads};
 
 use sqlite::{Alter, Connection, Error};
 

@@ -4,17 +4,10 @@ ghost use Rattle.sqlite.specs.declared.types.Value.TheVariants.{Null};
 ghost use Rattle.sqlite.specs.Held.{state};
 ghost use Rattle.sqlite.specs.Order.{column, bytes};
 ghost use Rattle.sqlite.specs.Values.{bound};
-ghost use Rattle.office_tables.specs.States.{state_row};
+ghost use Rattle.office_tables.specs.Prelude.{state_row, Visits, is_of, is_device, device_at, IsFree, reason_text};
 ghost use Rattle.office_tables.specs.declared.rows.Write.TheVariants.{AddDevice as TheNewDevice, PutDevice as TheDevice};
-ghost use Rattle.office_tables.specs.Keeping.{Visits};
-ghost use Rattle.office_tables.specs.Tables.{is_of, is_device, device_at, IsFree};
-ghost use Rattle.office_tables.specs.Texts.{reason_text};
-ghost use Rattle.office_sql.specs.Asking.{SqlReads, SqlWrites, HasOffice};
-ghost use Rattle.office_sql.specs.Change.{Wrote};
-ghost use Rattle.office_sql.specs.OrderStates.{order_state, order_state_in};
-ghost use Rattle.office_sql.specs.Rows.{device_in_row, device_columns};
-ghost use Rattle.office_sql.specs.Tables.{tables_in};
-ghost use Rattle.office_sql.specs.Values.{state_in, text_if};
+ghost use Rattle.office_sql.specs.Prelude.{SqlReads, SqlWrites, HasOffice, Wrote, order_state, order_state_in, device_in_row, device_columns, tables_in};
+ghost use Rattle.office_sql.specs.Prelude.{state_in, text_if};
 
 use crate::read::{
     DAMAGED, chip_at, column_at, digest_at, name_at, serial_if_at, text_at, text_if_at,

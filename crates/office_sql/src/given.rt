@@ -1,18 +1,14 @@
 // The table of given serial numbers.
 ghost use Rattle.std.specs.Prelude.{◌≡◌, ℕ, Some, IfOk, IsTrue, map, filter, option_map, option_and_then, slice_get, string_bytes};
 ghost use Rattle.sqlite.specs.Held.{state};
-ghost use Rattle.office_tables.specs.Keeping.{Visits};
-ghost use Rattle.office_tables.specs.Tables.{IsAddressFree, IsFree, is_serial_of, is_bound, is_of_issuer, has_address, given_at, given_by_key};
+ghost use Rattle.office_tables.specs.Prelude.{Visits, IsAddressFree, IsFree, is_serial_of, is_bound, is_of_issuer, has_address, given_at, given_by_key};
 ghost use Rattle.office_tables.specs.declared.rows.Write.TheVariants.{AddGiven as TheGiven};
 ghost use Rattle.id_ranges.specs.Mac as spec;
-ghost use Rattle.id_ranges.specs.Mac.{mac_of_text};
-ghost use Rattle.office_sql.specs.Looking.{Looks};
+ghost use Rattle.id_ranges.specs.Prelude.{mac_of_text};
+ghost use Rattle.office_sql.specs.Prelude.{Looks, text_if, mac_if, joined_given, given_columns, given_start_columns, tables_in, SqlAdds, Wrote, SqlReads};
+ghost use Rattle.office_sql.specs.Prelude.{SqlWrites, HasOffice, HasOfficeSchema};
 ghost use Rattle.sqlite.specs.Order.{column};
-ghost use Rattle.office_sql.specs.Values.{text_if, mac_if};
-ghost use Rattle.office_sql.specs.Rows.{joined_given, given_columns, given_start_columns};
-ghost use Rattle.office_sql.specs.Tables.{tables_in};
-ghost use Rattle.office_sql.specs.Change.{SqlAdds, Wrote};
-ghost use Rattle.office_sql.specs.Asking.{SqlReads, SqlWrites, HasOffice, HasOfficeSchema};
+ghost use Rattle.office_sql.specs.OfficeTable as table;
 
 use crate::address::address_text;
 use crate::read::{
@@ -217,7 +213,7 @@ fn insert_given<S: Alter>(
         ≡ option_map spec.mac_text given.now.row.mac }
     ensures same_reference { tx.new.conn.ghost_name ≡ tx.old.conn.ghost_name }
     ensures changes { SqlWrites S.Store tx.old.conn.now tx.new.conn.now result (λ old new _.
-        SqlAdds 11 (given_columns given.now) old new) }
+        SqlAdds table.given (given_columns given.now) old new) }
 {
     tx.execute(
         "INSERT INTO given (issuer, serial, customer, key, chip, mac, not_after) VALUES (?1, ?2, ?3, ?4, ?5, ?6, ?7)",
@@ -241,7 +237,7 @@ fn insert_given_start<S: Alter>(
     requires { HasOfficeSchema (state S.Store tx.old.conn.now) }
     ensures same_reference { tx.new.conn.ghost_name ≡ tx.old.conn.ghost_name }
     ensures changes { SqlWrites S.Store tx.old.conn.now tx.new.conn.now result (λ old new _.
-        SqlAdds 19 (given_start_columns given.now) old new) }
+        SqlAdds table.given_starts (given_start_columns given.now) old new) }
 {
     tx.execute(
         "INSERT INTO given_start (issuer, serial, not_before) VALUES (?1, ?2, ?3)",

@@ -3,12 +3,8 @@ ghost use Rattle.std.specs.Prelude.{◌≡◌, ◌∷◌, IfOk, IsTrue, map, fil
 ghost use Rattle.sqlite.specs.Held.{state};
 ghost use Rattle.sqlite.specs.declared.types.Value.TheVariants.{Null};
 ghost use Rattle.office_tables.specs.declared.rows.Write.TheVariants.{AddLink as TheLink};
-ghost use Rattle.office_tables.specs.Keeping.{Visits};
-ghost use Rattle.office_tables.specs.Tables.{is_link, is_of, link_at, IsFree};
-ghost use Rattle.office_sql.specs.Rows.{link_in_row};
-ghost use Rattle.office_sql.specs.Tables.{tables_in};
-ghost use Rattle.office_sql.specs.Change.{Wrote};
-ghost use Rattle.office_sql.specs.Asking.{SqlReads, SqlWrites, HasOffice};
+ghost use Rattle.office_tables.specs.Prelude.{Visits, is_link, is_of, link_at, IsFree};
+ghost use Rattle.office_sql.specs.Prelude.{link_in_row, tables_in, Wrote, SqlReads, SqlWrites, HasOffice};
 
 use crate::number::whole;
 use crate::read::{digest_at, name_at, whole_at};

@@ -3,13 +3,8 @@ ghost use Rattle.std.specs.Prelude.{◌≡◌, pos, ◌∷◌, IfOk, IsTrue, map
 ghost use Rattle.sqlite.specs.Held.{state};
 ghost use Rattle.sqlite.specs.Order.{column};
 ghost use Rattle.office_tables.specs.declared.rows.Write.TheVariants.{AddMap as TheMap};
-ghost use Rattle.office_tables.specs.Tables.{has_id, has_body, map_at, map_with, IsFree};
-ghost use Rattle.office_sql.specs.Values.{number_in_cell};
-ghost use Rattle.office_sql.specs.Rows.{map_in_row};
-ghost use Rattle.office_sql.specs.Tables.{tables_in};
-ghost use Rattle.office_sql.specs.Change.{Wrote};
-ghost use Rattle.office_sql.specs.Maps.{GainsMap};
-ghost use Rattle.office_sql.specs.Asking.{SqlReads, SqlWrites, HasOffice};
+ghost use Rattle.office_tables.specs.Prelude.{has_id, has_body, map_at, map_with, IsFree};
+ghost use Rattle.office_sql.specs.Prelude.{number_in_cell, map_in_row, tables_in, Wrote, GainsMap, SqlReads, SqlWrites, HasOffice};
 
 use crate::links::add_link;
 use crate::number::whole;

@@ -3,14 +3,11 @@ ghost use Rattle.std.specs.Prelude.{◌≡◌, pos, IfOk, IsTrue, Some, map, fil
 ghost use Rattle.id_ranges.specs.Mac as spec;
 ghost use Rattle.sqlite.specs.Held.{state};
 ghost use Rattle.sqlite.specs.Order.{column};
-ghost use Rattle.office_tables.specs.Keeping.{Visits};
-ghost use Rattle.office_tables.specs.Tables.{is_of, is_order, order_at, IsFree};
+ghost use Rattle.office_tables.specs.Prelude.{Visits, is_of, is_order, order_at, IsFree};
 ghost use Rattle.office_tables.specs.declared.rows.Write.TheVariants.{AddOrder as TheOrder, SetCursor as TheCursor};
-ghost use Rattle.office_sql.specs.Asking.{SqlReads, SqlWrites, HasOffice, HasOfficeSchema};
-ghost use Rattle.office_sql.specs.Change.{SqlAdds, Wrote};
-ghost use Rattle.office_sql.specs.Tables.{tables_in};
-ghost use Rattle.office_sql.specs.Rows.{joined_order, order_columns, order_start_columns};
-ghost use Rattle.office_sql.specs.Values.{mac_if, number_in_cell, text_if};
+ghost use Rattle.office_sql.specs.Prelude.{SqlReads, SqlWrites, HasOffice, HasOfficeSchema, SqlAdds, Wrote, tables_in, joined_order, order_columns};
+ghost use Rattle.office_sql.specs.Prelude.{order_start_columns, mac_if, number_in_cell, text_if};
+ghost use Rattle.office_sql.specs.OfficeTable as table;
 
 use crate::address::address_text;
 use crate::number::whole;
@@ -160,7 +157,7 @@ fn insert_order<S: Alter>(
         ≡ option_map spec.mac_text order.now.row.mac }
     ensures same_reference { tx.new.conn.ghost_name ≡ tx.old.conn.ghost_name }
     ensures changes { SqlWrites S.Store tx.old.conn.now tx.new.conn.now result (λ old new _.
-        SqlAdds 7 (order_columns order.now) old new) }
+        SqlAdds table.orders (order_columns order.now) old new) }
 {
     let range = order.row.range;
     let prefix = range.prefix();
@@ -192,7 +189,7 @@ fn insert_order_start<S: Alter>(
     requires { HasOfficeSchema (state S.Store tx.old.conn.now) }
     ensures same_reference { tx.new.conn.ghost_name ≡ tx.old.conn.ghost_name }
     ensures changes { SqlWrites S.Store tx.old.conn.now tx.new.conn.now result (λ old new _.
-        SqlAdds 17 (order_start_columns order.now) old new) }
+        SqlAdds table.order_starts (order_start_columns order.now) old new) }
 {
     tx.execute(
         "INSERT INTO order_start (customer, ord, not_before) VALUES (?1, ?2, ?3)",

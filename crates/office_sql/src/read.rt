@@ -2,7 +2,7 @@
 // is the fault of a damaged database.
 ghost use Rattle.std.specs.Prelude.{◌≡◌, IfOk, option_map};
 ghost use Rattle.sqlite.specs.Order.{column, bytes};
-ghost use Rattle.office_sql.specs.Values.{number_in_cell, text_if, mac_if};
+ghost use Rattle.office_sql.specs.Prelude.{number_in_cell, text_if, mac_if};
 
 use id_ranges::{KeyDigest, Mac, NotBefore};
 use sqlite::types::ValueRef;

@@ -2,13 +2,9 @@
 ghost use Rattle.std.specs.Prelude.{◌≡◌, ◌==◌, ◌∷◌, pos, IfOk, IsTrue, MatchBool, None, map, filter, option_map, slice_get};
 ghost use Rattle.sqlite.specs.Held.{state};
 ghost use Rattle.sqlite.specs.declared.types.Value.TheVariants.{Null};
-ghost use Rattle.office_tables.specs.Tables.{is_seat, seat_at};
-ghost use Rattle.office_sql.specs.Rows.{seat_in_row};
-ghost use Rattle.office_sql.specs.Asking.{SqlReads, SqlWrites, HasOffice};
-ghost use Rattle.office_sql.specs.Change.{Wrote};
-ghost use Rattle.office_sql.specs.Seats.{LacksSeat};
-ghost use Rattle.office_sql.specs.Tables.{tables_in};
+ghost use Rattle.office_tables.specs.Prelude.{is_seat, seat_at};
 ghost use Rattle.office_tables.specs.declared.rows.Write.TheVariants.{PutSeat as ThePut};
+ghost use Rattle.office_sql.specs.Prelude.{seat_in_row, SqlReads, SqlWrites, HasOffice, Wrote, LacksSeat, tables_in};
 
 use crate::number::whole;
 use crate::read::{digest_at, name_at, owned_text_at, whole_at};

@@ -2,11 +2,8 @@
 ghost use Rattle.std.specs.Prelude.{◌≡◌, ◌<◌, false, length, IsTrue, OnOk, OnErr};
 ghost use Rattle.sqlite.specs.State.{HasCleanDisk, Survives};
 ghost use Rattle.sqlite.specs.Held.{state};
-ghost use Rattle.office_tables.specs.Tables.{CanWrite, IsFree};
-ghost use Rattle.office_sql.specs.Tables.{tables_in};
-ghost use Rattle.office_sql.specs.Change.{IsMade, IsUndone, LeavesMade, Wrote};
-ghost use Rattle.office_sql.specs.Asking.{SqlWrites, HasOffice};
-ghost use Rattle.office_sql.specs.Keeping.{IsReady};
+ghost use Rattle.office_tables.specs.Prelude.{CanWrite, IsFree};
+ghost use Rattle.office_sql.specs.Prelude.{tables_in, IsMade, IsUndone, LeavesMade, Wrote, SqlWrites, HasOffice, IsReady};
 
 use crate::ask::ask_open;
 use crate::devices::{add_device, put_device};

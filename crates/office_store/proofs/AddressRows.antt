@@ -1,48 +1,27 @@
 -- That no two records have one address, by the texts that a walk shows in their order.
-use Rattle.std.proofs.Common.{◌≡◌, ◌↔◌, ℕ, Bool, true, false, cond, List, [], ◌∷◌, Some, None, codes, map, filter, refl, sym, ap, ap₂, subst, ◌∙◌}
-use Rattle.std.proofs.Common.{IsPermutation, Ordering, is_eq, is_ge, is_gt}
-use Rattle.std.specs.Prelude.{bytes_eq, IsSorted}
-use Rattle.std.specs.Ordering.{nat_cmp, on}
-use Rattle.std.specs.Cmp.{IsTotalOrder}
-use Rattle.std.specs.Cmp.Lexicographic.{slice_cmp}
-use Rattle.std.specs.List.{AllByRecursion, IsDistinct, cons_option, dedup_from, filter_map}
+use Rattle.std.proofs.Common.{◌≡◌, ◌↔◌, ◌∷◌, Ordering}
+use Rattle.text_core.proofs.Kit.{ℕ, Bool, true, false, cond, List, [], Some, None, codes, map, filter, refl, sym, ap, ap₂, subst, ◌∙◌, IsPermutation, is_eq}
+use Rattle.text_core.proofs.Kit.{is_ge, is_gt, bytes_eq, IsSorted, nat_cmp, on, IsTotalOrder, slice_cmp, AllByRecursion, cons_option, dedup_from, filter_map}
+use Rattle.text_core.proofs.Kit.{on_total, then_total, nat_list_cmp_total, nat_list_eq_equiv, IsStrictlySortedBy-dedup, IsPermutation-map, IsPermutation-sym}
+use Rattle.text_core.proofs.Kit.{IsDistinct-from_sorted, IsDistinct-IsPermutation, is_eq-slice_cmp}
+use Rattle.std.specs.List.{IsDistinct}
 use Rattle.std.specs.List.Sorted.{IsStrictlySortedBy}
-use Rattle.std.proofs.lemmas.Cmp.{on_total, then_total, nat_list_cmp_total, nat_list_eq_equiv}
-use Rattle.std.proofs.lemmas.List.Kept.{IsStrictlySortedBy-dedup}
-use Rattle.std.proofs.lemmas.List.Sorted.{IsPermutation-map, IsPermutation-sym}
-use Rattle.std.proofs.lemmas.Map.Keys.{IsDistinct-from_sorted, IsDistinct-IsPermutation}
-use Rattle.std.proofs.lemmas.Map.Text.{is_eq-slice_cmp}
-use Rattle.sqlite.specs.declared.types.Value.{Value}
-use Rattle.sqlite.specs.declared.types.Value.TheVariants.{Null, Int, Real, Text as Words, Blob as Bytes}
-use Rattle.sqlite.specs.Collation.TheVariants.{Binary}
-use Rattle.sqlite.specs.Order.{Row, column, bytes}
-use Rattle.sqlite.specs.Ops.{binary, is_true, from_truth}
-use Rattle.sqlite.specs.Program.{overlay}
-use Rattle.sqlite.specs.Query.{Query, key_cmp, output, output_cmp, end, IsAnswer}
-use Rattle.sqlite.specs.Term.{Term, col, op2, lit}
-use Rattle.sqlite.specs.Tree.{Trees}
+use Rattle.office_sql.proofs.Kit.{Value, Null, Int, Real, Binary, Row, column, bytes, is_true, from_truth, overlay, key_cmp, output, output_cmp, end, IsAnswer}
+use Rattle.office_sql.proofs.Kit.{Term, col, op2, lit, Trees, ascending_from_sorted, sorted_from_ascending, IsSorted-from_map, Compare, Ge, all-permutation}
+use Rattle.office_sql.proofs.Kit.{ascending-map, Key, ascending, value_cmp_total, value_cmp-Text, then-Equal}
+use Rattle.sqlite.specs.declared.types.Value.TheVariants.{Text as Words, Blob as Bytes}
+use Rattle.sqlite.specs.Ops.{binary}
+use Rattle.sqlite.specs.Query.{Query}
 use Rattle.sqlite.specs.Listing.{understood}
-use Rattle.sqlite_exec.proofs.PartitionLemmas.{ascending_from_sorted, sorted_from_ascending, IsSorted-from_map}
 use Rattle.sqlite_keyed.proofs.ListLemmas.{map-map}
-use Rattle.sqlite_sql.specs.declared.ops.BinaryOp.TheVariants.{Compare}
-use Rattle.sqlite_sql.specs.declared.ops.CompareOp.TheVariants.{Ge}
 use Rattle.sqlite_tied.specs.Compute.{everything}
-use Rattle.sqlite_trees.proofs.ListLemmas.{all-permutation, ascending-map}
-use Rattle.sqlite_value.specs.declared.keys.Key.{Key}
-use Rattle.sqlite_value.specs.Keys.{ascending}
-use Rattle.sqlite_value.proofs.OrderLemmas.{value_cmp_total, value_cmp-Text, then-Equal}
-use Rattle.office_sql.specs.Joins.{over}
-use Rattle.office_sql.specs.Scan.{env, passes, scan}
-use Rattle.office_sql.specs.Tables.{IsTextIf}
-use Rattle.office_sql.specs.Values.{text_if, text_value}
+use Rattle.office_sql.specs.Prelude.{rows_in, tree_of, given, over, env, passes, scan, IsTextIf, text_if, text_value}
 use Rattle.office_sql.proofs.Kept.{narrowed}
 use Rattle.office_sql.proofs.LedgerAsked.{IsReadAs}
 use Rattle.office_sql.proofs.Scan.{Scanned, scanned}
 use Rattle.office_sql.proofs.Values.{and_true, texts_cmp}
-use Rattle.office_store.specs.declared.version.Version.{Version}
-use Rattle.office_store.specs.declared.version.Version.TheVariants.{Earliest, Early, First, Second, Third}
-use Rattle.office_store.specs.Addresses.{address_texts, HasApartAddresses, HasNoRepeat}
-use Rattle.office_store.specs.Versions.{schema_of}
+use Rattle.office_store.proofs.Types.{Version, Earliest, Early, First, Second, Third}
+use Rattle.office_store.specs.Prelude.{address_texts, HasApartAddresses, HasNoRepeat, schema_of}
 
 -- ---- the text
 
@@ -57,7 +36,7 @@ abbrev pub by_address : List (Term × Key)
 by_address = (col 1 6, ascending Binary) ∷ []
 
 abbrev pub addresses_body : Query
-addresses_body = scan 11 (is_there ∷ []) (col 1 6 ∷ []) by_address
+addresses_body = scan (tree_of given) (is_there ∷ []) (col 1 6 ∷ []) by_address
 
 pub addresses_read : (version : Version) → IsReadAs (schema_of version) addresses_text addresses_body
 unfolding understood everything
@@ -190,19 +169,19 @@ flips : (x y : List ℕ) → bytes_eq x y ≡ bytes_eq y x
 flips x y = nat_list_eq_equiv.symm x y
 
 -- the rows that are shown have no repeat where the addresses are apart, and only then
-pub shows_apart : (db : Trees) (rows : List Row) → AllByRecursion (IsTextIf 6) (db 11) → IsAnswer addresses_body (overlay db []) [] rows
+pub shows_apart : (db : Trees) (rows : List Row) → AllByRecursion (IsTextIf 6) (rows_in db given) → IsAnswer addresses_body (overlay db []) [] rows
     → HasNoRepeat None rows ↔ HasApartAddresses db
 shows_apart db rows typed a =
-    let s : Scanned (is_there ∷ []) (col 1 6 ∷ []) by_address [] (db 11) rows =
+    let s : Scanned (is_there ∷ []) (col 1 6 ∷ []) by_address [] (rows_in db given) rows =
     scanned (overlay db []) [] 11 (is_there ∷ []) (col 1 6 ∷ []) by_address [] rows a in
     let q = over end [] (col 1 6 ∷ []) by_address in
-    let words = all-permutation IsWords _ s.kept s.same (typed_texts (db 11) typed) in
+    let words = all-permutation IsWords _ s.kept s.same (typed_texts (rows_in db given) typed) in
     let sorted : IsSorted by_text s.kept = IsSorted-from_map (output_cmp q) (λ r. output q (env [] r)) s.kept s.sorted in
     let heads : map head_text rows ≡ map text s.kept = ap (map head_text) s.shows ∙ map-map head_text (λ r. column r 6 ∷ []) s.kept in
     let rises = subst (IsSorted (slice_cmp nat_cmp)) (sym heads) (texts_rise s.kept words sorted) in
     let mixed : IsPermutation (address_texts db) (map head_text rows) =
     subst (IsPermutation (address_texts db)) (sym heads)
-    (subst (λ l. IsPermutation l (map text s.kept)) (sym (shown_texts (db 11) typed)) (IsPermutation-map text _ _ s.same)) in (
+    (subst (λ l. IsPermutation l (map text s.kept)) (sym (shown_texts (rows_in db given) typed)) (IsPermutation-map text _ _ s.same)) in (
       λ none. IsDistinct-IsPermutation bytes_eq flips _ _ (IsPermutation-sym _ _ mixed) (distinct_of rows rises none),
       λ apart. never_repeated rows (IsDistinct-IsPermutation bytes_eq flips _ _ mixed apart),
     )

@@ -2,21 +2,16 @@
 use Rattle.std.proofs.Common.{◌≡◌, ◌↔◌, ◌++◌, ℕ, Bool, true, false, true≢false, List, [], ◌∷◌, Option, Some, None, inl, inr, refl, sym, ap, subst, ◌∙◌}
 use Rattle.std.proofs.Common.{Result, Ok, Err, IfOk, OnOk, IsTrue}
 use Rattle.sqlite.specs.Clock.{timed}
-use Rattle.sqlite.specs.Command.TheVariants.{Select}
-use Rattle.sqlite.specs.Effect.{Database}
+use Rattle.office_sql.proofs.Kit.{Select, Database, Row, overlay, IsAnswer, State, IsUnchanged, Error, Null, command_of, EndsIn, begins_shown, reads_as}
 use Rattle.sqlite.specs.Listing.{understood}
-use Rattle.sqlite.specs.Order.{Row}
-use Rattle.sqlite.specs.Program.{overlay}
-use Rattle.sqlite.specs.Query.{Query, IsAnswer}
-use Rattle.sqlite.specs.State.{State, IsUnchanged, Shown}
-use Rattle.sqlite.specs.declared.error.Error.{Error}
-use Rattle.sqlite.specs.declared.types.Value.TheVariants.{Null}
-use Rattle.sqlite.proofs.Callers.{command_of, EndsIn, begins_shown, reads_as}
+use Rattle.sqlite.specs.Query.{Query}
+use Rattle.sqlite.specs.State.{Shown}
 use Rattle.sqlite_trees.proofs.ListLemmas.{all_weaker}
+use Rattle.office_sql.specs.Prelude.{rows_in}
+use Rattle.office_sql.specs.OfficeTable as table
 use Rattle.office_sql.proofs.LedgerAsked.{IsReadAs}
 use Rattle.office_store.specs.declared.version.Version.{Version}
-use Rattle.office_store.specs.Addresses.{shows_again, HasApartAddresses, HasNoRepeat, HasWalked}
-use Rattle.office_store.specs.Found.{IsFound}
+use Rattle.office_store.specs.Prelude.{shows_again, HasApartAddresses, HasNoRepeat, HasWalked, IsFound}
 use Rattle.office_store.proofs.AddressRows.{addresses_body, addresses_read, addresses_text, shows_apart}
 use Rattle.office_store.proofs.FoundAsked.{of_a_version}
 use Rattle.office_store.proofs.FoundResults.{iff_then}
@@ -84,5 +79,5 @@ walk_tells old new version found (Ok apart) walked same =
     let it = found same.0.was_open in
     let read = of_a_version addresses_text addresses_body addresses_read old.now.schema (version, it.schema) in
     let rows = walked_rows addresses_text addresses_body old new read same apart walked in
-    iff_then rows.2 (shows_apart old.now.trees rows.0 (all_weaker _ _ (λ r e. e.3) (old.now.trees 11) it.rows.given.typed) rows.1)
+    iff_then rows.2 (shows_apart old.now.trees rows.0 (all_weaker _ _ (λ r e. e.3) (rows_in old.now.trees table.given) (it.rows table.given).typed) rows.1)
 walk_tells old new version found (Err e) walked same = tt

@@ -1,21 +1,12 @@
 -- From what the functions over SQL ask to what a keeper answers.
 use Rattle.std.proofs.Common.{◌≡◌, ℕ, List, inl, inr, false, sym, ap, subst, ◌∙◌, Result, Ok, Err, IfOk, OnOk, IsTrue, arith}
 use Rattle.std.specs.Result.{result_ok}
-use Rattle.sqlite.specs.Effect.{Database}
+use Rattle.office_sql.proofs.Kit.{Database, Held, state, Error, State, HasCleanDisk, IsUnchanged}
 use Rattle.sqlite.specs.Store.{Ghosts}
-use Rattle.sqlite.specs.Held.{Held, state}
-use Rattle.sqlite.specs.declared.error.Error.{Error}
-use Rattle.sqlite.specs.State.{State, HasCleanDisk, IsUnchanged}
-use Rattle.office_tables.specs.Tables.{Tables}
-use Rattle.office_tables.specs.Keeping.{LooksUp}
-use Rattle.office_sql.specs.Asking.{SqlReads}
-use Rattle.office_sql.specs.Change.{Rests}
-use Rattle.office_sql.specs.Keeping.{IsReady}
-use Rattle.office_sql.specs.Tables.{IsOffice, tables_in}
-use Rattle.office_store.specs.Kept.{Kept}
-use Rattle.office_store.specs.Remembering.{Agrees, RemembersRight}
+use Rattle.office_tables.specs.Prelude.{Tables, LooksUp}
+use Rattle.office_sql.specs.Prelude.{SqlReads, Rests, IsReady, IsOffice, tables_in}
+use Rattle.office_store.specs.Prelude.{Kept, Agrees, RemembersRight, tables_of, is_open_at, is_honest_at, may_leave_at}
 use Rattle.office_store.specs.declared.remembered.Remembered.{Remembered}
-use Rattle.office_store.specs.Keeping.{tables_of, is_open_at, is_honest_at, may_leave_at}
 
 -- a connection that is ready shows after a read what it showed before
 pub same_now : (old new : State) → IsReady old → Rests old new → IsTrue new.is_open → new.now ≡ old.now

@@ -1,10 +1,8 @@
 -- What is said of a call in a transaction, where more is known of it.
 use Rattle.std.proofs.Common.{Result, Ok, Err, IfOk, OnOk, IsTrue}
-use Rattle.sqlite.specs.Effect.{Database}
-use Rattle.sqlite.specs.Held.{Held, state}
+use Rattle.office_sql.proofs.Kit.{Database, Held, state}
 use Rattle.sqlite.specs.Store.{Ghosts}
-use Rattle.office_sql.specs.Asking.{SqlWrites}
-use Rattle.office_sql.specs.Change.{IsInside}
+use Rattle.office_sql.specs.Prelude.{SqlWrites, IsInside}
 
 -- what follows from what is said is said
 pub says_more : {S A E : Type 0} (g : Ghosts S) (old new : Held S) (r : Result A E) (P Q : Database → Database → A → Type 0)

@@ -1,22 +1,13 @@
 -- What follows from one CREATE TABLE after another.
 use Rattle.std.proofs.Common.{◌≡◌, ℕ, List, [], false, Ok, Result, OnOk, IfOk, subst, ◌∙◌, Err}
 use Rattle.std.specs.List.{AllByRecursion}
-use Rattle.sqlite.specs.Table.{Table}
-use Rattle.sqlite.specs.Schema.{Schema}
-use Rattle.sqlite.specs.Command.TheVariants.{CreateTable}
+use Rattle.office_sql.proofs.Kit.{Table, Schema, CreateTable, created, lacks_sequence, Database, IsDatabase, Held, state, HasCleanDisk, IsPlain, command_of}
+use Rattle.office_sql.proofs.Kit.{statement_of, all-append, all_both}
 use Rattle.sqlite.specs.Compile.{table_defined_by}
-use Rattle.sqlite.specs.Change.{created}
-use Rattle.sqlite.specs.Does.{lacks_sequence}
-use Rattle.sqlite.specs.Effect.{Database, IsDatabase}
 use Rattle.sqlite.specs.Listing.{understood}
 use Rattle.sqlite.specs.Store.{Ghosts}
-use Rattle.sqlite.specs.Held.{Held, state}
-use Rattle.sqlite.specs.State.{HasCleanDisk}
-use Rattle.sqlite.proofs.Callers.{IsPlain, command_of, statement_of}
-use Rattle.sqlite_trees.proofs.ListLemmas.{all-append, all_both}
-use Rattle.office_sql.specs.Asking.{SqlWrites}
-use Rattle.office_sql.specs.Change.{Makes}
-use Rattle.office_store.specs.Meta.{HasRun, HasEmptyTables}
+use Rattle.office_sql.specs.Prelude.{SqlWrites, Makes}
+use Rattle.office_store.specs.Prelude.{HasRun, HasEmptyTables}
 use Rattle.office_store.proofs.Creates.{makes, makes_sound}
 
 -- what the text of a CREATE TABLE means, and the schema after it

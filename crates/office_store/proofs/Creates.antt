@@ -1,16 +1,10 @@
 -- What CREATE TABLE does.
 use Rattle.std.proofs.Common.{◌≡◌, ℕ, List, [], false, None, Ok, sym, ap, subst, ◌∙◌}
-use Rattle.sqlite.specs.Table.{Table}
-use Rattle.sqlite.specs.Schema.{Schema}
-use Rattle.sqlite.specs.Command.TheVariants.{CreateTable}
+use Rattle.office_sql.proofs.Kit.{Table, Schema, CreateTable, created, next_tree, KeepsRows, Tally, lacks_sequence, Database, IsDatabase, State, Writes}
+use Rattle.office_sql.proofs.Kit.{Executes, IsPlain, command_of, statement_of, runs_as}
 use Rattle.sqlite.specs.Compile.{table_defined_by}
-use Rattle.sqlite.specs.Change.{created, next_tree, KeepsRows}
-use Rattle.sqlite.specs.Does.{Tally, lacks_sequence}
-use Rattle.sqlite.specs.Effect.{Database, IsDatabase}
 use Rattle.sqlite.specs.Listing.{understood}
-use Rattle.sqlite.specs.State.{State, Writes, Executes}
-use Rattle.sqlite.proofs.Callers.{IsPlain, command_of, statement_of, runs_as}
-use Rattle.office_sql.specs.Change.{Makes}
+use Rattle.office_sql.specs.Prelude.{Makes}
 use Rattle.office_sql.proofs.Stepping.{went, same_value}
 
 pub makes : (sql : List ℕ) (old new : State) (schema : Schema) (table : Table) (count : ℕ) → old.now.schema ≡ schema

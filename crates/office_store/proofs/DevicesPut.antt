@@ -1,23 +1,12 @@
 -- What a list of writes makes of the devices, and of the places that they take.
-use Rattle.std.proofs.Common.{◌≡◌, ◌+◌, ◌-◌, ◌∙◌, ◌<◌, ℕ, arith, Bool, true, List, [], ◌∷◌, length, Option, Some, None, Ordering, Less, Equal}
-use Rattle.std.proofs.Common.{Greater, refl, sym, ap}
-use Rattle.std.specs.Prelude.{filter_map, find}
-use Rattle.std.specs.List.{cons_option}
-use Rattle.std.specs.Ordering.{is_eq, match_ordering}
-use Rattle.std.proofs.lemmas.Slice.Eq.{bytes_eq-Decides}
-use Rattle.office_tables.specs.declared.rows.OfCustomer.{OfCustomer}
-use Rattle.office_tables.specs.declared.rows.Device.{Device}
-use Rattle.office_tables.specs.declared.rows.Order.{Order}
-use Rattle.office_tables.specs.declared.rows.Write.{Write}
-use Rattle.office_tables.specs.declared.rows.Write.TheVariants.{PutSeat, AddOrder, SetCursor, AddMap, AddLink, AddDevice, PutDevice, AddGiven, AddEntry}
-use Rattle.office_tables.specs.PlaceCounting.{place_of_device}
-use Rattle.office_tables.specs.Tables.{device_cmp, is_device, order_at, with_row, with_cursor_of, IsInOrder, Tables, Writes, Written}
+use Rattle.std.proofs.Common.{◌≡◌, ◌+◌, ◌-◌, ◌∷◌, Ordering}
+use Rattle.text_core.proofs.Kit.{◌∙◌, ℕ, arith, Bool, true, List, [], Option, Some, None, Less, Equal, Greater, refl, sym, ap, filter_map, find}
+use Rattle.text_core.proofs.Kit.{cons_option, is_eq, match_ordering, bytes_eq-Decides}
+use Rattle.office_store.proofs.Types.{OfCustomer, Device, Order, Write, PutSeat, AddOrder, SetCursor, AddMap, AddLink, AddDevice, PutDevice, AddGiven, AddEntry}
+use Rattle.office_store.proofs.Types.{WrittenDevices, Nothing, One, Several, PlaceCounts}
+use Rattle.office_tables.specs.Prelude.{place_of_device, device_cmp, is_device, order_at, with_row, with_cursor_of, IsInOrder, Tables, Writes, Written}
 use Rattle.office_tables.proofs.Places.{device_total, find_device, places, places_put, same_device, taken_by}
-use Rattle.office_store.specs.declared.written.WrittenDevices.{WrittenDevices}
-use Rattle.office_store.specs.declared.written.WrittenDevices.TheVariants.{Nothing, One, Several}
-use Rattle.office_store.specs.Counting.{AreCounts, AreRight}
-use Rattle.office_store.specs.Written.{device_written, ArePut, AreTold}
-use Rattle.office_store.specs.declared.places.PlaceCounts.{PlaceCounts}
+use Rattle.office_store.specs.Prelude.{AreCounts, AreRight, device_written, ArePut, AreTold}
 
 -- a device is put, if there is one
 abbrev put_one : Option (OfCustomer Device) → List (OfCustomer Device) → List (OfCustomer Device)
@@ -100,7 +89,3 @@ device_found d rows =
     sym (find_device d.customer d.row.chip (with_row device_cmp d rows))
     ∙ put_found device_cmp d (ap (λ (test : OfCustomer Device → Bool).
     test d) (same_device d.customer d.row.chip) ∙ itself) rows
-
--- two devices are several
-pub two_found : (a b : OfCustomer Device) (rest all : List (OfCustomer Device)) → all ≡ a ∷ b ∷ rest → 1 < length all
-two_found a b rest all is = rw is (omega arith)

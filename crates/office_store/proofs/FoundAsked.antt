@@ -1,29 +1,17 @@
 -- From what `query_all` promises to what the tests of a found file do.
-use Rattle.std.proofs.Common.{◌≡◌, ◌≢◌, sym, ap, refl, ℕ, List, [], false, subst, inl, inr, ◌∙◌, Result, Ok, Err, IfOk, IfErr, OnOk, IsTrue}
-use Rattle.std.proofs.lemmas.Result.{IfOk-weaker}
-use Rattle.std.specs.Prelude.{Vec}
-use Rattle.std.specs.declared.alloc.Global.{Global}
-use Rattle.sqlite.specs.Order.{Row}
-use Rattle.sqlite.specs.Tree.{Trees}
-use Rattle.sqlite.specs.declared.error.Error.{Error}
+use Rattle.std.proofs.Common.{◌≡◌, ◌≢◌}
+use Rattle.text_core.proofs.Kit.{sym, ap, refl, ℕ, List, [], false, subst, inl, inr, ◌∙◌, Result, Ok, Err, IfOk, IfErr, OnOk, IsTrue, IfOk-weaker, Vec, Global}
+use Rattle.office_sql.proofs.Kit.{Row, Trees, Error, Held, state, State, HasCleanDisk, Survives, IsUnchanged, Database, survives_then, IsAnswer, Schema}
+use Rattle.office_sql.proofs.Kit.{reads_as, Select, overlay, Null}
 use Rattle.sqlite.specs.Store.{Ghosts}
-use Rattle.sqlite.specs.Held.{Held, state}
-use Rattle.sqlite.specs.State.{State, HasCleanDisk, Survives, Shown, IsUnchanged, FailsToQuery, CommitsShowing}
-use Rattle.sqlite.specs.Effect.{Database}
-use Rattle.sqlite.proofs.StateLemmas.{survives_then}
-use Rattle.office_sql.specs.Change.{Rests}
-use Rattle.sqlite.specs.Query.{Query, IsAnswer}
-use Rattle.sqlite.specs.Schema.{Schema}
+use Rattle.sqlite.specs.State.{Shown, FailsToQuery, CommitsShowing}
+use Rattle.office_sql.specs.Prelude.{Rests}
+use Rattle.sqlite.specs.Query.{Query}
 use Rattle.office_store.specs.declared.version.Version.{Version}
-use Rattle.office_store.specs.Found.{IsFound, IsFoundLater, Tests}
-use Rattle.office_store.specs.Versions.{number_of_version, schema_of}
+use Rattle.office_store.specs.Prelude.{IsFound, IsFoundLater, Tests, number_of_version, schema_of}
 use Rattle.office_sql.proofs.Asked.{was_clean, leaves, shown_open, query_rests}
 use Rattle.office_sql.proofs.Bare.{IsBare, bare_commits_nothing}
 use Rattle.office_sql.proofs.LedgerAsked.{IsReadAs}
-use Rattle.sqlite.proofs.Callers.{reads_as}
-use Rattle.sqlite.specs.Command.TheVariants.{Select}
-use Rattle.sqlite.specs.Program.{overlay}
-use Rattle.sqlite.specs.declared.types.Value.TheVariants.{Null}
 
 -- what a text means under the schema of each version
 pub of_a_version : (text : List ℕ) (body : Query) → ((version : Version) → IsReadAs (schema_of version) text body)

@@ -1,32 +1,19 @@
 -- What an open of files finds can be settled: its trees are in the order that their list gives, or there are none.
-use Rattle.std.proofs.Common.{◌≡◌, ℕ, ◌^◌, ◌<◌, List, true, false, refl, inl, inr, sym, ap, subst, arith}
+use Rattle.std.proofs.Common.{[], ◌≡◌, ℕ, List, true, false, refl, inl, inr, sym, ap, subst, arith}
 use Rattle.std.proofs.Math.Logic.{∥∥₁_elim}
-use Rattle.sqlite.specs.Recovery.{Image}
-use Rattle.sqlite.specs.Tree.{Trees}
-use Rattle.sqlite.specs.Effect.{Database}
-use Rattle.sqlite.specs.View.{IsOrdered}
-use Rattle.sqlite.specs.Files.{AreFoundIn, IsEmpty}
-use Rattle.sqlite.specs.Start.{FindsIn}
-use Rattle.sqlite.specs.State.{State, HasCleanDisk, IsLive, Opens}
+use Rattle.office_sql.proofs.Kit.{Image, Trees, Database, IsOrdered, AreFoundIn, IsEmpty, FindsIn, State, HasCleanDisk, IsLive, Opens, Shape, catalog_tree}
+use Rattle.office_sql.proofs.Kit.{IsListed, IsOrdered-prop, IsSound}
 use Rattle.sqlite_pages.specs.PageMap.{PageMap}
 use Rattle.sqlite_pool.specs.File.{version_in as pages_in, in_use}
-use Rattle.sqlite_trees.specs.declared.store.Shape.{Shape}
-use Rattle.sqlite_trees.specs.Objects.{catalog_tree, IsListed}
-use Rattle.sqlite_trees.specs.Props.{IsOrdered-prop}
 use Rattle.sqlite_store.specs.declared.catalog.Wanted.{Wanted}
 use Rattle.sqlite_store.specs.Listing.{all_shapes, all_reals, file_trees, IsOurs}
 use Rattle.sqlite_store.specs.Listed.{catalog_rows, is_listed}
 use Rattle.sqlite_store.proofs.ListingLemmas.{all_ordered}
-use Rattle.sqlite_catalog.specs.Listing.{IsSound}
-use Rattle.office_sql.specs.Schema.{no_schema}
-use Rattle.office_sql.specs.Rows.{order_in_row, given_in_row, starts_order, starts_given}
-use Rattle.office_store.specs.declared.version.Version.{Version}
-use Rattle.office_store.specs.declared.version.Version.TheVariants.{Earliest, Early, First, Second, Third}
-use Rattle.office_store.specs.Versions.{schema_of}
-use Rattle.office_store.specs.Adopting.{CanPrepareTables}
-use Rattle.office_store.specs.Found.{AreAllStarted, AreStartsFound, HasWhole, IsFound}
-use Rattle.office_store.specs.Meta.{HasNothing}
-use Rattle.office_store.specs.Stores.{IsNoStore}
+use Rattle.office_sql.proofs.Names.{tree_low}
+use Rattle.office_sql.specs.Prelude.{OfficeTable, orders, given, order_starts, given_starts, no_schema, rows_in, tree_of, order_in_row, given_in_row}
+use Rattle.office_sql.specs.Prelude.{starts_order, starts_given}
+use Rattle.office_store.proofs.Types.{Version, Earliest, Early, First, Second, Third}
+use Rattle.office_store.specs.Prelude.{schema_of, CanPrepareTables, AreAllStarted, AreStartsFound, HasWhole, IsFound, HasNothing, IsNoStore}
 use Rattle.office_store.proofs.FoundNothing.{no_office_rows, no_starts, nothing_found, has_nothing}
 use Rattle.office_store.proofs.FoundVersion.{over, version_found}
 
@@ -43,30 +30,28 @@ file_order size wanted pages ours = (
 )
 
 -- ---- an empty database
+no_row_in : (db : Trees) → IsEmpty db → (table : OfficeTable) → rows_in db table ≡ []
+no_row_in db none table = none.0 (tree_of table) (omega (arith, tree_low table))
+
 none_started : (db : Trees) → IsEmpty db → AreAllStarted db
 none_started db none = record {
-  orders = no_starts starts_order order_in_row (db 7) (db 17) (none.0 7 (omega arith)) (none.0 17 (omega arith));
-  given = no_starts starts_given given_in_row (db 11) (db 19) (none.0 11 (omega arith)) (none.0 19 (omega arith));
+  orders = no_starts starts_order order_in_row (rows_in db orders) (rows_in db order_starts) (no_row_in db none orders) (no_row_in db none order_starts);
+  given = no_starts starts_given given_in_row (rows_in db given) (rows_in db given_starts) (no_row_in db none given) (no_row_in db none given_starts);
 }
 
 empty_found : (version : Version) (db : Trees) → IsSound (schema_of version) db → IsEmpty db → IsFound version (over version db)
 empty_found version db sound none =
-    let at = λ (t : ℕ) (low : t < 2 ^ 32). none.0 t low in
-    let rows = no_office_rows db (at 1 (omega arith)) (at 3 (omega arith)) (at 5 (omega arith))
-    (at 7 (omega arith)) (at 9 (omega arith)) (at 11 (omega arith)) (at 15 (omega arith)) in
-    record { schema = refl; sound = sound; rows = rows; starts = starts version }
+    record { schema = refl; sound = sound; rows = no_office_rows db (λ table _ _. no_row_in db none table); starts = starts version }
   where
     starts : (version : Version) → AreStartsFound version (over version db)
-    starts Earliest = (none.0 17 (omega arith), none.0 19 (omega arith))
-    starts Early = (none.0 17 (omega arith), none.0 19 (omega arith))
-    starts First = (none.0 17 (omega arith), none.0 19 (omega arith))
+    starts Earliest = (no_row_in db none order_starts, no_row_in db none given_starts)
+    starts Early = (no_row_in db none order_starts, no_row_in db none given_starts)
+    starts First = (no_row_in db none order_starts, no_row_in db none given_starts)
     starts Second = λ _. none_started db none
     starts Third = λ _. none_started db none
 
 empty_nothing : (db : Trees) → IsEmpty db → HasNothing db
-empty_nothing db none =
-    has_nothing db (none.0 0 (omega arith)) (none.0 1 (omega arith)) (none.0 3 (omega arith)) (none.0 5 (omega arith))
-    (none.0 7 (omega arith)) (none.0 9 (omega arith)) (none.0 11 (omega arith)) (none.0 15 (omega arith))
+empty_nothing db none = has_nothing db (no_row_in db none)
 
 -- ---- what the files held
 version_in : (image : Image) (version : Version) (db : Trees) → AreFoundIn image db

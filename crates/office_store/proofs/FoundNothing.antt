@@ -1,63 +1,53 @@
 -- A database without tables has nothing, and of a version with the number 1 no starts.
 use Rattle.std.proofs.Common.{◌≡◌, ℕ, ◌≢◌, ◌==◌, Bool, true, false, true≢false, List, [], map, refl, ap, subst, sym, ◌∙◌, inl, inr, Ordering, arith}
 use Rattle.std.specs.List.{list_any}
-use Rattle.sqlite.specs.Order.{Row}
-use Rattle.sqlite.specs.Tree.{Trees}
-use Rattle.sqlite.specs.View.{IsShaped, IsOrdered}
-use Rattle.sqlite_trees.specs.declared.store.Shape.{Shape}
+use Rattle.office_sql.proofs.Kit.{Row, Trees, IsShaped, IsOrdered, Shape, catalog_tree, version_tree, IsListed, IsSound, named_tree, sort_by, Index, Schema}
+use Rattle.office_sql.proofs.Kit.{Table, Has, some_from}
 use Rattle.sqlite_trees.specs.declared.store.Shape.TheVariants as shape
-use Rattle.sqlite_trees.specs.Objects.{catalog_tree, version_tree, IsListed}
-use Rattle.sqlite_catalog.specs.Listing.{IsSound}
-use Rattle.sqlite_catalog.proofs.LayoutLemmas.{named_tree}
-use Rattle.sqlite_keyed.specs.Lists.{sort_by}
-use Rattle.office_tables.specs.Tables.{no_rows, seat_cmp, order_cmp, map_cmp, link_cmp, device_cmp, given_cmp, entry_cmp}
-use Rattle.office_sql.specs.Schema.{no_schema}
-use Rattle.sqlite_schema.specs.declared.schema.Index.{Index}
-use Rattle.sqlite_schema.specs.declared.schema.Schema.{Schema}
-use Rattle.sqlite_schema.specs.declared.schema.Table.{Table}
-use Rattle.sqlite_rules.specs.Lists.{Has}
-use Rattle.sqlite_rules.proofs.ListLemmas.{some_from}
-use Rattle.office_sql.specs.Rows.{seat_in_row, map_in_row, link_in_row, order_in_row, device_in_row, given_in_row, entry_in_row, with_order_start}
-use Rattle.office_sql.specs.Rows.{with_given_start}
-use Rattle.office_sql.specs.Tables.{AreOfficeRows, AreRows, AreStarted, tables_in}
+use Rattle.office_tables.specs.Prelude.{no_rows, seat_cmp, order_cmp, map_cmp, link_cmp, device_cmp, given_cmp, entry_cmp}
+use Rattle.office_sql.proofs.Names.{tree_low}
+use Rattle.office_sql.specs.Prelude.{OfficeTable, meta, seats, maps, links, orders, devices, given, ledger, order_starts, given_starts, texts, no_schema}
+use Rattle.office_sql.specs.Prelude.{rows_in, tree_of, seat_in_row, map_in_row, link_in_row, order_in_row, device_in_row, given_in_row, entry_in_row}
+use Rattle.office_sql.specs.Prelude.{with_order_start, with_given_start, AreOfficeRows, AreRows, AreStarted, tables_in}
 use Rattle.office_store.specs.declared.version.Version.TheVariants.{Earliest, Early, First}
-use Rattle.office_store.specs.Found.{TellsNoStart}
-use Rattle.office_store.specs.Meta.{meta_in, HasNothing}
-use Rattle.office_store.specs.Versions.{schema_of}
+use Rattle.office_store.specs.Prelude.{TellsNoStart, meta_in, HasNothing, schema_of}
 
 no_row : {A : Type 0} (Typed : Row → Type 0) (cmp : A → A → Ordering) (value : Row → A) (rows : List Row) → rows ≡ [] → AreRows Typed cmp value rows
 no_row Typed cmp value rows none = subst (AreRows Typed cmp value) (sym none) (record { rising = tt; numbered = tt; typed = tt; keyed = tt })
 
--- empty trees have the office's rows
-pub no_office_rows : (db : Trees) → db 1 ≡ [] → db 3 ≡ [] → db 5 ≡ [] → db 7 ≡ [] → db 9 ≡ [] → db 11 ≡ [] → db 15 ≡ [] → AreOfficeRows db
-no_office_rows db seats maps links orders devices given ledger = record {
-  seats = no_row _ _ _ (db 1) seats;
-  maps = no_row _ _ _ (db 3) maps;
-  links = no_row _ _ _ (db 5) links;
-  orders = no_row _ _ _ (db 7) orders;
-  devices = no_row _ _ _ (db 9) devices;
-  given = no_row _ _ _ (db 11) given;
-  ledger = no_row _ _ _ (db 15) ledger;
+-- tables without a row, but for those by which a store tells of itself
+abbrev pub HasNoRow : Trees → Type 0
+HasNoRow db = (table : OfficeTable) → table ≢ meta → table ≢ texts → rows_in db table ≡ []
+
+-- they have the office's rows
+pub no_office_rows : (db : Trees) → HasNoRow db → AreOfficeRows db
+no_office_rows db none meta = tt
+no_office_rows db none seats = no_row _ _ _ _ (none seats (λ e. cc) (λ e. cc))
+no_office_rows db none maps = no_row _ _ _ _ (none maps (λ e. cc) (λ e. cc))
+no_office_rows db none links = no_row _ _ _ _ (none links (λ e. cc) (λ e. cc))
+no_office_rows db none orders = no_row _ _ _ _ (none orders (λ e. cc) (λ e. cc))
+no_office_rows db none devices = no_row _ _ _ _ (none devices (λ e. cc) (λ e. cc))
+no_office_rows db none given = no_row _ _ _ _ (none given (λ e. cc) (λ e. cc))
+no_office_rows db none ledger = no_row _ _ _ _ (none ledger (λ e. cc) (λ e. cc))
+no_office_rows db none order_starts = tt
+no_office_rows db none given_starts = tt
+no_office_rows db none texts = tt
+
+-- and are the tables of an office without a row
+pub no_rows_in : (db : Trees) → HasNoRow db → tables_in db ≡ no_rows
+no_rows_in db none i = record {
+  seats = sort_by seat_cmp (map seat_in_row (none seats (λ e. cc) (λ e. cc) i));
+  orders = map (with_order_start (rows_in db order_starts)) (sort_by order_cmp (map order_in_row (none orders (λ e. cc) (λ e. cc) i)));
+  devices = sort_by device_cmp (map device_in_row (none devices (λ e. cc) (λ e. cc) i));
+  given = map (with_given_start (rows_in db given_starts)) (sort_by given_cmp (map given_in_row (none given (λ e. cc) (λ e. cc) i)));
+  maps = sort_by map_cmp (map map_in_row (none maps (λ e. cc) (λ e. cc) i));
+  links = sort_by link_cmp (map link_in_row (none links (λ e. cc) (λ e. cc) i));
+  ledger = sort_by entry_cmp (map entry_in_row (none ledger (λ e. cc) (λ e. cc) i));
 }
 
--- empty trees are tables without a row
-pub no_rows_in : (db : Trees) → db 1 ≡ [] → db 3 ≡ [] → db 5 ≡ [] → db 7 ≡ [] → db 9 ≡ [] → db 11 ≡ [] → db 15 ≡ [] → tables_in db ≡ no_rows
-no_rows_in db seats maps links orders devices given ledger = λ i. record {
-  seats = sort_by seat_cmp (map seat_in_row (seats i));
-  orders = map (with_order_start (db 17)) (sort_by order_cmp (map order_in_row (orders i)));
-  devices = sort_by device_cmp (map device_in_row (devices i));
-  given = map (with_given_start (db 19)) (sort_by given_cmp (map given_in_row (given i)));
-  maps = sort_by map_cmp (map map_in_row (maps i));
-  links = sort_by link_cmp (map link_in_row (links i));
-  ledger = sort_by entry_cmp (map entry_in_row (ledger i));
-}
-
--- and with no row of meta they have nothing
-pub has_nothing : (db : Trees) → db 0 ≡ [] → db 1 ≡ [] → db 3 ≡ [] → db 5 ≡ [] → db 7 ≡ [] → db 9 ≡ [] → db 11 ≡ [] → db 15 ≡ [] → HasNothing db
-has_nothing db meta seats maps links orders devices given ledger = record {
-  tables = no_rows_in db seats maps links orders devices given ledger;
-  silent = ap (map meta_in) meta;
-}
+-- and where those too have none, there is nothing
+pub has_nothing : (db : Trees) → ((table : OfficeTable) → rows_in db table ≡ []) → HasNothing db
+has_nothing db none = record { tables = no_rows_in db (λ table _ _. none table); silent = ap (map meta_in) (none meta) }
 
 -- trees without rows have no starts that lack
 pub no_starts : {A : Type 0} (is_for : A → Row → Bool) (value : Row → A) (rows starts : List Row)
@@ -99,27 +89,25 @@ module _ (shapes : ℕ → Shape) (reals : ℕ → ℕ) (trees : Trees) (listed 
   -- trees of which none is listed have nothing
   pub nothing_found : IsSound no_schema trees → HasNothing trees
   nothing_found sound =
-      let none : (t : ℕ) → t ≢ catalog_tree → t ≢ version_tree → trees t ≡ [] =
-      λ t other apart.
-      empty_at no_schema shapes reals trees sound listed ordered t other apart refl refl refl in
-      has_nothing trees (none 0 (λ e. cc) (λ e. cc)) (none 1 (λ e. cc) (λ e. cc)) (none 3 (λ e. cc) (λ e. cc)) (none 5 (λ e. cc) (λ e. cc))
-      (none 7 (λ e. cc) (λ e. cc)) (none 9 (λ e. cc) (λ e. cc)) (none 11 (λ e. cc) (λ e. cc)) (none 15 (λ e. cc) (λ e. cc))
+      has_nothing trees (λ table.
+      empty_at no_schema shapes reals trees sound listed ordered (tree_of table)
+      (λ e. omega (arith, tree_low table, e)) (λ e. omega (arith, tree_low table, e)) refl refl refl)
 
   -- and the versions with the number 1 list no starts
   pub earliest_unstarted : IsSound (schema_of Earliest) trees → TellsNoStart trees
   earliest_unstarted sound = (
-    empty_at (schema_of Earliest) shapes reals trees sound listed ordered 17 (λ e. cc) (λ e. cc) refl refl refl,
-    empty_at (schema_of Earliest) shapes reals trees sound listed ordered 19 (λ e. cc) (λ e. cc) refl refl refl,
+    empty_at (schema_of Earliest) shapes reals trees sound listed ordered (tree_of order_starts) (λ e. cc) (λ e. cc) refl refl refl,
+    empty_at (schema_of Earliest) shapes reals trees sound listed ordered (tree_of given_starts) (λ e. cc) (λ e. cc) refl refl refl,
   )
 
   pub early_unstarted : IsSound (schema_of Early) trees → TellsNoStart trees
   early_unstarted sound = (
-    empty_at (schema_of Early) shapes reals trees sound listed ordered 17 (λ e. cc) (λ e. cc) refl refl refl,
-    empty_at (schema_of Early) shapes reals trees sound listed ordered 19 (λ e. cc) (λ e. cc) refl refl refl,
+    empty_at (schema_of Early) shapes reals trees sound listed ordered (tree_of order_starts) (λ e. cc) (λ e. cc) refl refl refl,
+    empty_at (schema_of Early) shapes reals trees sound listed ordered (tree_of given_starts) (λ e. cc) (λ e. cc) refl refl refl,
   )
 
   pub first_unstarted : IsSound (schema_of First) trees → TellsNoStart trees
   first_unstarted sound = (
-    empty_at (schema_of First) shapes reals trees sound listed ordered 17 (λ e. cc) (λ e. cc) refl refl refl,
-    empty_at (schema_of First) shapes reals trees sound listed ordered 19 (λ e. cc) (λ e. cc) refl refl refl,
+    empty_at (schema_of First) shapes reals trees sound listed ordered (tree_of order_starts) (λ e. cc) (λ e. cc) refl refl refl,
+    empty_at (schema_of First) shapes reals trees sound listed ordered (tree_of given_starts) (λ e. cc) (λ e. cc) refl refl refl,
   )

@@ -3,28 +3,17 @@
 -- if no number of a map or of an entry is below zero. One lemma for each table.
 use Rattle.std.proofs.Common.{◌≡◌, ℕ, List, false, [], ◌∷◌, ◌++◌, refl, sym, ap, subst, ◌∙◌, inl, inr, is_eq, Less, IsTrue}
 use Rattle.std.specs.List.{AllByRecursion}
-use Rattle.sqlite.specs.Order.{Row, column, value_cmp}
-use Rattle.sqlite.specs.View.{IsShaped, IsOrdered, is_int}
-use Rattle.sqlite.specs.Tree.{Trees, rowid}
-use Rattle.sqlite_trees.specs.declared.store.Shape.{Shape}
+use Rattle.office_sql.proofs.Kit.{Row, column, IsShaped, IsOrdered, is_int, Trees, rowid, Shape, catalog_tree, IsListed, Index, Schema, Table, Datatype}
+use Rattle.office_sql.proofs.Kit.{NotNull, Unique, clashes, plain, IsSound, table_shape, Has, all_both, ascending-map}
+use Rattle.sqlite.specs.Order.{value_cmp}
 use Rattle.sqlite_trees.specs.declared.store.Shape.TheVariants as shape
-use Rattle.sqlite_trees.specs.Objects.{catalog_tree, IsListed}
-use Rattle.sqlite_schema.specs.declared.schema.Index.{Index}
-use Rattle.sqlite_schema.specs.declared.schema.Schema.{Schema}
-use Rattle.sqlite_schema.specs.declared.schema.Table.{Table}
-use Rattle.sqlite_schema.specs.declared.schema.Constraint.TheVariants.{Datatype, NotNull, Unique}
-use Rattle.sqlite_schema.specs.Rules.{clashes}
-use Rattle.sqlite_value.specs.Keys.{plain}
-use Rattle.sqlite_catalog.specs.Listing.{IsSound}
-use Rattle.sqlite_catalog.proofs.LayoutLemmas.{table_shape}
-use Rattle.sqlite_rules.specs.Lists.{Has}
-use Rattle.sqlite_trees.proofs.ListLemmas.{all_both, all_weaker, ascending-map}
-use Rattle.office_tables.specs.Tables.{seat_cmp, order_cmp, map_cmp, link_cmp, device_cmp, given_cmp, entry_cmp}
-use Rattle.office_sql.specs.Schema.{seat_table, map_table, link_table, orders_table, device_table, given_table, ledger_table}
-use Rattle.office_sql.specs.Rows.{seat_in_row, map_in_row, link_in_row, order_in_row, device_in_row, given_in_row, entry_in_row}
-use Rattle.office_store.specs.Found.{HasWhole, IsNotBelow}
-use Rattle.office_store.specs.Versions.{given_keyed, schema_keyed}
-use Rattle.office_sql.specs.Tables.{AreOfficeRows, AreRows, IsText, IsWhole, IsSeatRow, IsMapRow, IsLinkRow, IsOrderRow, IsDeviceRow, IsGivenRow, IsEntryRow}
+use Rattle.sqlite_trees.proofs.ListLemmas.{all_weaker}
+use Rattle.office_tables.specs.Prelude.{seat_cmp, order_cmp, map_cmp, link_cmp, device_cmp, given_cmp, entry_cmp}
+use Rattle.office_sql.specs.Prelude.{meta, seats, maps, links, orders, devices, given, ledger, order_starts, given_starts, texts, seat_table, map_table}
+use Rattle.office_sql.specs.Prelude.{link_table, orders_table, device_table, given_table, ledger_table, rows_in, seat_in_row, map_in_row, link_in_row}
+use Rattle.office_sql.specs.Prelude.{order_in_row, device_in_row, given_in_row, entry_in_row, AreOfficeRows, AreRows, IsText, IsWhole, IsSeatRow, IsMapRow}
+use Rattle.office_sql.specs.Prelude.{IsLinkRow, IsOrderRow, IsDeviceRow, IsGivenRow, IsEntryRow}
+use Rattle.office_store.specs.Prelude.{HasWhole, IsNotBelow, given_keyed, schema_keyed}
 use Rattle.office_sql.proofs.Kept.{narrowed}
 use Rattle.office_sql.proofs.MapValues.{wholes_cmp}
 use Rattle.office_store.proofs.FoundRows.{both_true, not_true, text_at, blob_at, int_at, text_if_at, whole_of, texts_tie, blobs_tie, wholes_tie}
@@ -53,9 +42,9 @@ module _ (one two three : List ℕ) (keyed : (P : List ℕ → Type 0) → P one
   pub shaped : (t : Table) → Has schema.tables t → IsShaped shape.Table (trees t.tree)
   shaped t h = subst (λ s. IsShaped s (trees t.tree)) (table_shape listed rising.0 sound.lists.listed t h).0 (ordered t.tree)
 
-  seats_found : AreRows IsSeatRow seat_cmp seat_in_row (trees 1)
+  seats_found : AreRows IsSeatRow seat_cmp seat_in_row (rows_in trees seats)
   seats_found =
-      let rows = trees 1 in
+      let rows = rows_in trees seats in
       rows_found (1 ∷ []) IsSeatRow seat_cmp seat_in_row
       (λ a b e f. last_ties _ _ (texts_tie (column a 1) (column b 1) e f))
       rows (shaped seat_table (inr (inl refl)))
@@ -64,9 +53,9 @@ module _ (one two three : List ℕ) (keyed : (P : List ℕ → Type 0) → P one
       rows (sound.obeys.rules Datatype).1.0 (sound.obeys.rules NotNull).1.0)
       (all_weaker _ (λ r. clashes plain (1 ∷ []) rows r ≡ false) (λ r h. not_true _ (both_true _ _ h).0) rows (sound.obeys.rules Unique).1.0)
 
-  links_found : AreRows IsLinkRow link_cmp link_in_row (trees 5)
+  links_found : AreRows IsLinkRow link_cmp link_in_row (rows_in trees links)
   links_found =
-      let rows = trees 5 in
+      let rows = rows_in trees links in
       rows_found (1 ∷ 2 ∷ []) IsLinkRow link_cmp link_in_row
       (λ a b e f. then_ties _ _ _ _ (texts_tie (column a 1) (column b 1) e.0 f.0) (last_ties _ _ (blobs_tie (column a 2) (column b 2) e.1 f.1)))
       rows (shaped link_table (inr (inr (inr (inl refl)))))
@@ -78,9 +67,9 @@ module _ (one two three : List ℕ) (keyed : (P : List ℕ → Type 0) → P one
       rows (sound.obeys.rules Datatype).1.1.1.0 (sound.obeys.rules NotNull).1.1.1.0)
       (all_weaker _ (λ r. clashes plain (1 ∷ 2 ∷ []) rows r ≡ false) (λ r h. not_true _ (both_true _ _ h).0) rows (sound.obeys.rules Unique).1.1.1.0)
 
-  orders_found : AreRows IsOrderRow order_cmp order_in_row (trees 7)
+  orders_found : AreRows IsOrderRow order_cmp order_in_row (rows_in trees orders)
   orders_found =
-      let rows = trees 7 in
+      let rows = rows_in trees orders in
       rows_found (1 ∷ 2 ∷ []) IsOrderRow order_cmp order_in_row
       (λ a b e f. then_ties _ _ _ _ (texts_tie (column a 1) (column b 1) e.0 f.0) (last_ties _ _ (texts_tie (column a 2) (column b 2) e.1 f.1)))
       rows (shaped orders_table (inr (inr (inr (inr (inl refl))))))
@@ -91,9 +80,9 @@ module _ (one two three : List ℕ) (keyed : (P : List ℕ → Type 0) → P one
       )) rows (sound.obeys.rules Datatype).1.1.1.1.0 (sound.obeys.rules NotNull).1.1.1.1.0)
       (all_weaker _ (λ r. clashes plain (1 ∷ 2 ∷ []) rows r ≡ false) (λ r h. not_true _ (both_true _ _ h).0) rows (sound.obeys.rules Unique).1.1.1.1.0)
 
-  devices_found : AreRows IsDeviceRow device_cmp device_in_row (trees 9)
+  devices_found : AreRows IsDeviceRow device_cmp device_in_row (rows_in trees devices)
   devices_found =
-      let rows = trees 9 in
+      let rows = rows_in trees devices in
       rows_found (1 ∷ 2 ∷ []) IsDeviceRow device_cmp device_in_row
       (λ a b e f. then_ties _ _ _ _ (texts_tie (column a 1) (column b 1) e.0 f.0) (last_ties _ _ (texts_tie (column a 2) (column b 2) e.1 f.1)))
       rows (shaped device_table (inr (inr (inr (inr (inr (inl refl)))))))
@@ -104,9 +93,9 @@ module _ (one two three : List ℕ) (keyed : (P : List ℕ → Type 0) → P one
       )) rows (sound.obeys.rules Datatype).1.1.1.1.1.0 (sound.obeys.rules NotNull).1.1.1.1.1.0)
       (all_weaker _ (λ r. clashes plain (1 ∷ 2 ∷ []) rows r ≡ false) (λ r h. not_true _ (both_true _ _ h).0) rows (sound.obeys.rules Unique).1.1.1.1.1.0)
 
-  given_found : AreRows IsGivenRow given_cmp given_in_row (trees 11)
+  given_found : AreRows IsGivenRow given_cmp given_in_row (rows_in trees given)
   given_found =
-      let rows = trees 11 in
+      let rows = rows_in trees given in
       rows_found (1 ∷ 2 ∷ []) IsGivenRow given_cmp given_in_row
       (λ a b e f. then_ties _ _ _ _ (texts_tie (column a 1) (column b 1) e.0 f.0) (last_ties _ _ (texts_tie (column a 2) (column b 2) e.1 f.1)))
       rows (shaped (given_keyed one two three) (inr (inr (inr (inr (inr (inr (inl refl))))))))
@@ -121,9 +110,9 @@ module _ (one two three : List ℕ) (keyed : (P : List ℕ → Type 0) → P one
       rows (sound.obeys.rules Unique).1.1.1.1.1.1.0)
 
   module _ (whole : HasWhole trees) where
-    maps_found : AreRows IsMapRow map_cmp map_in_row (trees 3)
+    maps_found : AreRows IsMapRow map_cmp map_in_row (rows_in trees maps)
     maps_found =
-        let rows = trees 3 in
+        let rows = rows_in trees maps in
         let s = shaped map_table (inr (inr (inl refl))) in
         let ids : AllByRecursion (IsWhole 0) rows = all_both _ (IsNotBelow 0) (IsWhole 0) (λ r i b. whole_of (column r 0) i b) rows s.1 whole.maps in
         let bodies : AllByRecursion (IsText 2) rows =
@@ -138,14 +127,14 @@ module _ (one two three : List ℕ) (keyed : (P : List ℕ → Type 0) → P one
           keyed = ascending-map (λ a b. is_eq (map_cmp a b) ≡ false) map_in_row rows (narrowed IsMapRow _ _ maps_apart rows typed s.0);
         }
 
-    ledger_found : AreRows IsEntryRow entry_cmp entry_in_row (trees 15)
+    ledger_found : AreRows IsEntryRow entry_cmp entry_in_row (rows_in trees ledger)
     ledger_found =
-        let rows = trees 15 in
+        let rows = rows_in trees ledger in
         let s = shaped ledger_table (inr (inr (inr (inr (inr (inr (inr (inl refl)))))))) in
         let datatypes = (sound.obeys.rules Datatype).1.1.1.1.1.1.1.0 in
         let required = (sound.obeys.rules NotNull).1.1.1.1.1.1.1.0 in
         let ids : AllByRecursion (IsWhole 0) rows = all_both _ (IsNotBelow 0) (IsWhole 0) (λ r i b. whole_of (column r 0) i b) rows s.1 whole.entries in
-        let texts : AllByRecursion (λ r. IsText 2 r × IsText 3 r) rows =
+        let words : AllByRecursion (λ r. IsText 2 r × IsText 3 r) rows =
         all_both _ _ (λ r. IsText 2 r × IsText 3 r)
         (λ r d n. (
           text_at schema trees ledger_table r d n 1 (refl, refl, refl)
@@ -160,7 +149,7 @@ module _ (one two three : List ℕ) (keyed : (P : List ℕ → Type 0) → P one
         let numbers : AllByRecursion (IsWhole 4) rows = all_both _ (IsNotBelow 4) (IsWhole 4) (λ r i b. whole_of (column r 4) i b) rows ints whole.numbers in
         let half : AllByRecursion (λ r. IsWhole 0 r × IsText 2 r × IsText 3 r) rows =
         all_both (IsWhole 0) (λ r. IsText 2 r × IsText 3 r) (λ r. IsWhole 0 r × IsText 2 r
-        × IsText 3 r) (λ r i t. (i, t.0, t.1)) rows ids texts in
+        × IsText 3 r) (λ r i t. (i, t.0, t.1)) rows ids words in
         rows_found (2 ∷ 3 ∷ 4 ∷ []) IsEntryRow entry_cmp entry_in_row
         (λ a b e f.
         entry_ties _ _ _ _ _ _ (texts_tie (column a 2) (column b 2) e.1 f.1)
@@ -174,13 +163,14 @@ module _ (one two three : List ℕ) (keyed : (P : List ℕ → Type 0) → P one
 
     -- the rows of a found database
     pub rows_of_office : AreOfficeRows trees
-    rows_of_office = record {
-      seats = seats_found;
-      maps = maps_found;
-      links = links_found;
-      orders =
-          orders_found;
-      devices = devices_found;
-      given = given_found;
-      ledger = ledger_found;
-    }
+    rows_of_office meta = tt
+    rows_of_office seats = seats_found
+    rows_of_office maps = maps_found
+    rows_of_office links = links_found
+    rows_of_office orders = orders_found
+    rows_of_office devices = devices_found
+    rows_of_office given = given_found
+    rows_of_office ledger = ledger_found
+    rows_of_office order_starts = tt
+    rows_of_office given_starts = tt
+    rows_of_office texts = tt

@@ -1,10 +1,6 @@
 -- What follows of an answer from facts about it, and of a list without a length.
 use Rattle.std.proofs.Common.{◌≡◌, ◌↔◌, ℕ, ◌==◌, List, [], ◌∷◌, length, true, true≢false, refl, sym, ap, ◌∙◌, arith, Result, Ok, Err, IfOk}
 
-pub both_of : {A E : Type 0} (r : Result A E) (P Q T : A → Type 0) → ((x : A) → P x → Q x → T x) → IfOk r P → IfOk r Q → IfOk r T
-both_of (Ok x) P Q T f p q = f x p q
-both_of (Err e) P Q T f p q = tt
-
 pub all_three : {A E : Type 0} (r : Result A E) (P Q R T : A → Type 0) → ((x : A) → P x → Q x → R x → T x) → IfOk r P → IfOk r Q → IfOk r R → IfOk r T
 all_three (Ok x) P Q R T f p q r = f x p q r
 all_three (Err e) P Q R T f p q r = tt

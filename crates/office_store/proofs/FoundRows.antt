@@ -1,40 +1,19 @@
 -- What the rules of a schema say of the columns of a row, and of rows whose keys may not agree.
-use Rattle.std.proofs.Common.{◌≡◌, ℕ, zero, suc, ◌+◌, Bool, true, false, not, ◌&&◌, ◌==◌, ◌||◌, cond, List, [], ◌∷◌, drop, Option, refl, sym, ap}
-use Rattle.std.proofs.Common.{subst, ◌∙◌, inl, inr, true≢false, IsTrue, pos, negsuc, is_eq, is_lt, Less, Equal, Greater, Ordering, nat_cmp}
-use Rattle.std.proofs.Common.{arith}
-use Rattle.std.specs.List.{AllByRecursion, list_any}
-use Rattle.std.specs.Ordering.{ordering_reverse, ordering_then}
-use Rattle.std.specs.Cmp.Lexicographic.{slice_cmp}
-use Rattle.std.proofs.lemmas.Bool.{cases_Bool}
-use Rattle.std.proofs.lemmas.Bool.Decides.{nat_tests}
-use Rattle.std.proofs.lemmas.Int.{ints}
-use Rattle.std.proofs.lemmas.Map.Text.{is_eq-slice_cmp}
-use Rattle.sqlite.specs.declared.types.Value.{Value}
-use Rattle.sqlite.specs.declared.types.Value.TheVariants.{Null, Int, Real, Text as Words, Blob as Bytes}
-use Rattle.sqlite.specs.Order.{Row, column, bytes, value_cmp}
-use Rattle.sqlite.specs.Tree.{Trees, rowid}
-use Rattle.sqlite.specs.View.{IsShaped, is_int}
+use Rattle.std.proofs.Common.{◌≡◌, ◌+◌, ◌&&◌, ◌==◌, ◌||◌, ◌∷◌, Ordering}
+use Rattle.text_core.proofs.Kit.{ℕ, zero, suc, Bool, true, false, not, cond, List, [], drop, Option, refl, sym, ap, subst, ◌∙◌, inl, inr, true≢false, IsTrue}
+use Rattle.text_core.proofs.Kit.{pos, negsuc, is_eq, is_lt, Less, Equal, Greater, nat_cmp, arith, AllByRecursion, list_any, ordering_reverse, ordering_then}
+use Rattle.text_core.proofs.Kit.{slice_cmp, cases_Bool, nat_tests, ints, is_eq-slice_cmp}
+use Rattle.office_sql.proofs.Kit.{Value, Null, Int, Real, Row, column, bytes, Trees, rowid, IsShaped, is_int, is_null, Kind, Column, Table, Schema, Datatype}
+use Rattle.office_sql.proofs.Kit.{NotNull, is_key, is_of, are_typed, are_present, passes, agree, differ, equal, clashes, has_affinity, Ne, Binary, plain}
+use Rattle.office_sql.proofs.Kit.{first_key-plain, value_cmp_total, value_cmp-Int, Has, all_has, all_from, some_from, ascending-map}
+use Rattle.sqlite.specs.declared.types.Value.TheVariants.{Text as Words, Blob as Bytes}
+use Rattle.sqlite.specs.Order.{value_cmp}
 use Rattle.sqlite_trees.specs.declared.store.Shape.TheVariants as shape
-use Rattle.sqlite.specs.Ops.{binary, is_null}
-use Rattle.sqlite_schema.specs.declared.schema.Kind.{Kind}
+use Rattle.sqlite.specs.Ops.{binary}
 use Rattle.sqlite_schema.specs.declared.schema.Kind.TheVariants as kind
-use Rattle.sqlite_schema.specs.declared.schema.Column.{Column}
-use Rattle.sqlite_schema.specs.declared.schema.Table.{Table}
-use Rattle.sqlite_schema.specs.declared.schema.Schema.{Schema}
-use Rattle.sqlite_schema.specs.declared.schema.Constraint.TheVariants.{Datatype, NotNull}
-use Rattle.sqlite_schema.specs.Names.{is_key}
-use Rattle.sqlite_schema.specs.Rules.{is_of, are_typed, are_present, passes, agree, differ, equal, clashes, has_affinity}
-use Rattle.sqlite_sql.specs.declared.ops.CompareOp.TheVariants.{Ne}
-use Rattle.sqlite.specs.Collation.TheVariants.{Binary}
-use Rattle.sqlite_value.specs.Keys.{plain, first_key}
-use Rattle.sqlite_value.proofs.KeyLemmas.{first_key-plain}
-use Rattle.sqlite_value.proofs.OrderLemmas.{value_cmp_total, value_cmp-Int}
-use Rattle.sqlite_rules.specs.Lists.{Has}
-use Rattle.sqlite_rules.proofs.ListLemmas.{all_has, all_from, some_from}
-use Rattle.sqlite_trees.proofs.ListLemmas.{ascending-map}
-use Rattle.office_sql.specs.Values.{number_in_cell, text_if, text_value}
-use Rattle.office_store.specs.Found.{is_below}
-use Rattle.office_sql.specs.Tables.{AreRows, IsText, IsBlob, IsTextIf}
+use Rattle.sqlite_value.specs.Keys.{first_key}
+use Rattle.office_sql.specs.Prelude.{number_in_cell, text_if, text_value, AreRows, IsText, IsBlob, IsTextIf}
+use Rattle.office_store.specs.Prelude.{is_below}
 use Rattle.office_sql.proofs.Kept.{narrowed}
 use Rattle.office_sql.proofs.Values.{text_is, blob_is}
 use Rattle.office_sql.proofs.MapValues.{whole_is}

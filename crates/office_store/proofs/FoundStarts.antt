@@ -1,35 +1,23 @@
 -- The starts of a sound database of a schema that begins with the second version's tables, whose trees are in order: each is
 -- one of an order or a record, and where none of these lacks one, each has exactly one.
-use Rattle.std.proofs.Common.{◌≡◌, ℕ, List, [], ◌∷◌, ◌&&◌, ◌||◌, codes, map, filter, find, Bool, true, false, Some, refl, sym, ap, subst, ◌∙◌}
-use Rattle.std.proofs.Common.{inl, inr, Ordering, is_eq, true≢false, slice_get}
-use Rattle.std.specs.Prelude.{is_some}
+use Rattle.std.proofs.Common.{◌≡◌, ℕ, List, [], ◌∷◌, ◌&&◌, ◌||◌, codes, map, filter, find, Bool, true, false, Some, refl, sym, ap, subst, ◌∙◌, inl, inr}
+use Rattle.std.proofs.Common.{Ordering, is_eq, true≢false, slice_get, is_some}
 use Rattle.std.specs.List.{AllByRecursion}
-use Rattle.sqlite.specs.declared.types.Value.TheVariants.{Null, Text as Words}
-use Rattle.sqlite.specs.Order.{Row, column}
-use Rattle.sqlite.specs.Tree.{Trees, IsAscending}
-use Rattle.sqlite.specs.View.{IsOrdered}
-use Rattle.sqlite_trees.specs.declared.store.Shape.{Shape}
-use Rattle.sqlite_trees.specs.Objects.{catalog_tree, IsListed}
-use Rattle.sqlite_catalog.specs.Listing.{IsSound}
-use Rattle.sqlite_schema.specs.declared.schema.Constraint.TheVariants.{ForeignKey, Unique}
-use Rattle.sqlite_schema.specs.declared.schema.Index.{Index}
-use Rattle.sqlite_schema.specs.declared.schema.Reference.{Reference}
-use Rattle.sqlite_schema.specs.declared.schema.Table.{Table}
+use Rattle.office_sql.proofs.Kit.{Null, Row, column, Trees, IsAscending, IsOrdered, Shape, catalog_tree, IsListed, IsSound, ForeignKey, Unique, Index}
+use Rattle.office_sql.proofs.Kit.{Reference, Table, agree, clashes, has_null, is_held, parent_key, plain, Has, has_filtered, slice_get-filter}
+use Rattle.office_sql.proofs.Kit.{ascending_from_map, all_both}
+use Rattle.sqlite.specs.declared.types.Value.TheVariants.{Text as Words}
 use Rattle.sqlite_schema.specs.Names.{same_name}
-use Rattle.sqlite_schema.specs.Rules.{agree, clashes, has_null, is_held, parent_key}
-use Rattle.sqlite_value.specs.Keys.{plain, joined}
-use Rattle.sqlite_rules.specs.Lists.{Has}
-use Rattle.sqlite_rules.proofs.ListLemmas.{has_filtered}
-use Rattle.sqlite_keyed.proofs.ListLemmas.{slice_get-filter, ascending_from_map}
-use Rattle.sqlite_trees.proofs.ListLemmas.{all_weaker, all_both, ascending-filter}
-use Rattle.office_tables.specs.Tables.{order_cmp, given_cmp}
-use Rattle.office_sql.specs.Rows.{order_in_row, given_in_row, starts_order, starts_given}
-use Rattle.office_sql.specs.Schema.{order_start_table, given_start_table, index_at, to}
-use Rattle.office_sql.specs.Tables.{AreKeyed, AreOfficeRows, AreRows, AreStarted, HasOne, IsGivenRow, IsOrderRow, IsStartRow, IsText}
+use Rattle.sqlite_value.specs.Keys.{joined}
+use Rattle.sqlite_trees.proofs.ListLemmas.{all_weaker, ascending-filter}
+use Rattle.office_tables.specs.Prelude.{order_cmp, given_cmp}
+use Rattle.office_sql.specs.Prelude.{orders, given, order_starts, given_starts, order_in_row, given_in_row, starts_order, starts_given, order_start_table}
+use Rattle.office_sql.specs.Prelude.{given_start_table, index_at, to, rows_in, tree_of, AreKeyed, AreOfficeRows, AreRows, AreStarted, HasOne, IsGivenRow}
+use Rattle.office_sql.specs.Prelude.{IsOrderRow, IsStartRow, IsText}
 use Rattle.office_sql.proofs.Values.{and_true}
 use Rattle.office_sql.proofs.OrderReads.{order_tied}
 use Rattle.office_sql.proofs.GivenReads.{given_tied}
-use Rattle.office_store.specs.Found.{AreAllStarted, HasStarts, HaveStarts}
+use Rattle.office_store.specs.Prelude.{AreAllStarted, HasStarts, HaveStarts}
 use Rattle.office_store.proofs.FoundLacks.{started, order_starts_typed, given_starts_typed}
 use Rattle.office_store.proofs.FoundOffice.{shaped}
 use Rattle.office_store.proofs.FoundRows.{both_true, not_true, texts_tie, then_ties, last_ties, rows_found}
@@ -87,11 +75,11 @@ to_orders = to (1 ∷ 2 ∷ []) (codes "orders") (codes "customer" ∷ codes "na
 abbrev to_given : Reference
 to_given = to (1 ∷ 2 ∷ []) (codes "given") (codes "issuer" ∷ codes "serial" ∷ [])
 
-orders_pointed : (more : List Table) → parent_key (started more).tables to_orders ≡ Some (7, 1 ∷ 2 ∷ [], plain)
+orders_pointed : (more : List Table) → parent_key (started more).tables to_orders ≡ Some (tree_of orders, 1 ∷ 2 ∷ [], plain)
 unfolding same_name joined
 orders_pointed more = refl
 
-given_pointed : (more : List Table) → parent_key (started more).tables to_given ≡ Some (11, 1 ∷ 2 ∷ [], plain)
+given_pointed : (more : List Table) → parent_key (started more).tables to_given ≡ Some (tree_of given, 1 ∷ 2 ∷ [], plain)
 unfolding same_name joined
 given_pointed more = refl
 
@@ -99,7 +87,7 @@ given_pointed more = refl
 
 -- the indexes of the starts' keys
 abbrev later_indexes : List Index
-later_indexes = index_at 18 (codes "sqlite_autoindex_order_start_1") 17 (1 ∷ 2 ∷ []) ∷ index_at 20 (codes "sqlite_autoindex_given_start_1") 19 (1 ∷ 2 ∷ []) ∷ []
+later_indexes = index_at 18 (codes "sqlite_autoindex_order_start_1") (tree_of order_starts) (1 ∷ 2 ∷ []) ∷ index_at 20 (codes "sqlite_autoindex_given_start_1") (tree_of given_starts) (1 ∷ 2 ∷ []) ∷ []
 
 -- a row with these two columns
 abbrev key_of : List ℕ → List ℕ → Row
@@ -108,9 +96,9 @@ key_of first second = Null ∷ Words first ∷ Words second ∷ []
 module _ (more : List Table) (shapes : ℕ → Shape) (reals : ℕ → ℕ) (trees : Trees)
     (sound : IsSound (started more) trees) (listed : IsListed (trees catalog_tree) shapes reals) (ordered : IsOrdered shapes trees)
     (rows : AreOfficeRows trees) where
-  order_starts : AreRows IsStartRow order_cmp order_in_row (trees 17)
-  order_starts =
-      let starts = trees 17 in
+  starts_of_orders : AreRows IsStartRow order_cmp order_in_row (rows_in trees order_starts)
+  starts_of_orders =
+      let starts = rows_in trees order_starts in
       rows_found (1 ∷ 2 ∷ []) IsStartRow order_cmp order_in_row
       (λ a b e f. then_ties _ _ _ _ (texts_tie (column a 1) (column b 1) e.0 f.0) (last_ties _ _ (texts_tie (column a 2) (column b 2) e.1 f.1)))
       starts (shaped (1 ∷ 2 ∷ []) (1 ∷ 4 ∷ []) (6 ∷ 1 ∷ 2 ∷ []) (λ P first second. first)
@@ -120,9 +108,9 @@ module _ (more : List Table) (shapes : ℕ → Shape) (reals : ℕ → ℕ) (tre
       ≡ false) (λ r h.
       not_true _ (both_true _ _ h).0) starts (sound.obeys.rules Unique).1.1.1.1.1.1.1.1.0)
 
-  given_starts : AreRows IsStartRow given_cmp given_in_row (trees 19)
-  given_starts =
-      let starts = trees 19 in
+  starts_of_given : AreRows IsStartRow given_cmp given_in_row (rows_in trees given_starts)
+  starts_of_given =
+      let starts = rows_in trees given_starts in
       rows_found (1 ∷ 2 ∷ []) IsStartRow given_cmp given_in_row
       (λ a b e f. then_ties _ _ _ _ (texts_tie (column a 1) (column b 1) e.0 f.0) (last_ties _ _ (texts_tie (column a 2) (column b 2) e.1 f.1)))
       starts (shaped (1 ∷ 2 ∷ []) (1 ∷ 4 ∷ []) (6 ∷ 1 ∷ 2 ∷ []) (λ P first second. first)
@@ -133,27 +121,27 @@ module _ (more : List Table) (shapes : ℕ → Shape) (reals : ℕ → ℕ) (tre
       not_true _ (both_true _ _ h).0) starts (sound.obeys.rules Unique).1.1.1.1.1.1.1.1.1.0)
 
   -- each start is one of an order, or of a record
-  orders_back : AllByRecursion (λ s. is_some (find (λ r. is_its r s) (trees 7)) ≡ true) (trees 17)
-  orders_back = all_both IsStartRow _ (λ s. is_some (find (λ r. is_its r s) (trees 7)) ≡ true)
-      (λ s f h. parented (started more).tables trees 7 to_orders (orders_pointed more)
-      (all_weaker IsOrderRow _ (λ r e. (e.0, e.1)) (trees 7) rows.orders.typed) s f h)
-      (trees 17) (order_starts_typed more trees sound) (sound.obeys.rules ForeignKey).1.1.1.1.1.1.1.1.0
+  orders_back : AllByRecursion (λ s. is_some (find (λ r. is_its r s) (rows_in trees orders)) ≡ true) (rows_in trees order_starts)
+  orders_back = all_both IsStartRow _ (λ s. is_some (find (λ r. is_its r s) (rows_in trees orders)) ≡ true)
+      (λ s f h. parented (started more).tables trees (tree_of orders) to_orders (orders_pointed more)
+      (all_weaker IsOrderRow _ (λ r e. (e.0, e.1)) (rows_in trees orders) (rows orders).typed) s f h)
+      (rows_in trees order_starts) (order_starts_typed more trees sound) (sound.obeys.rules ForeignKey).1.1.1.1.1.1.1.1.0
 
-  given_back : AllByRecursion (λ s. is_some (find (λ r. is_its r s) (trees 11)) ≡ true) (trees 19)
-  given_back = all_both IsStartRow _ (λ s. is_some (find (λ r. is_its r s) (trees 11)) ≡ true)
-      (λ s f h. parented (started more).tables trees 11 to_given (given_pointed more)
-      (all_weaker IsGivenRow _ (λ r e. (e.0, e.1)) (trees 11) rows.given.typed) s f h)
-      (trees 19) (given_starts_typed more trees sound) (sound.obeys.rules ForeignKey).1.1.1.1.1.1.1.1.1.0
+  given_back : AllByRecursion (λ s. is_some (find (λ r. is_its r s) (rows_in trees given)) ≡ true) (rows_in trees given_starts)
+  given_back = all_both IsStartRow _ (λ s. is_some (find (λ r. is_its r s) (rows_in trees given)) ≡ true)
+      (λ s f h. parented (started more).tables trees (tree_of given) to_given (given_pointed more)
+      (all_weaker IsGivenRow _ (λ r e. (e.0, e.1)) (rows_in trees given) (rows given).typed) s f h)
+      (rows_in trees given_starts) (given_starts_typed more trees sound) (sound.obeys.rules ForeignKey).1.1.1.1.1.1.1.1.1.0
 
   -- each has exactly one, where no order and no record lacks its start
   pub all_started : HasStarts trees → AreAllStarted trees
   all_started has = record {
     orders = each_started order_cmp order_in_row starts_order
         (λ a s t e f. order_tied (order_in_row s) (order_in_row t)
-        ∙ its_twice (key_of a.customer a.row.name) s t e f) (trees 7) (trees 17)
-        order_starts has.orders orders_back;
+        ∙ its_twice (key_of a.customer a.row.name) s t e f) (rows_in trees orders) (rows_in trees order_starts)
+        starts_of_orders has.orders orders_back;
     given = each_started given_cmp given_in_row starts_given
         (λ a s t e f. given_tied (given_in_row s) (given_in_row t)
-        ∙ its_twice (key_of a.row.issuer a.row.serial) s t e f) (trees 11) (trees 19)
-        given_starts has.given given_back;
+        ∙ its_twice (key_of a.row.issuer a.row.serial) s t e f) (rows_in trees given) (rows_in trees given_starts)
+        starts_of_given has.given given_back;
   }

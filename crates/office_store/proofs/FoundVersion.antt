@@ -1,16 +1,9 @@
 -- A sound database whose trees are in order is found to be of the version that its schema is, if no number of a map or of an entry is below zero.
 use Rattle.std.proofs.Common.{ℕ, [], ◌∷◌, drop, refl}
-use Rattle.sqlite.specs.Effect.{Database}
-use Rattle.sqlite.specs.Tree.{Trees}
-use Rattle.sqlite.specs.View.{IsOrdered}
-use Rattle.sqlite_trees.specs.declared.store.Shape.{Shape}
-use Rattle.sqlite_trees.specs.Objects.{catalog_tree, IsListed}
-use Rattle.sqlite_catalog.specs.Listing.{IsSound}
-use Rattle.office_sql.specs.Schema.{office_schema, site_text_table}
-use Rattle.office_store.specs.declared.version.Version.{Version}
-use Rattle.office_store.specs.declared.version.Version.TheVariants.{Earliest, Early, First, Second, Third}
-use Rattle.office_store.specs.Found.{HasWhole, IsFound}
-use Rattle.office_store.specs.Versions.{schema_of}
+use Rattle.office_sql.proofs.Kit.{Database, Trees, IsOrdered, Shape, catalog_tree, IsListed, IsSound}
+use Rattle.office_sql.specs.Prelude.{office_schema, site_text_table}
+use Rattle.office_store.proofs.Types.{Version, Earliest, Early, First, Second, Third}
+use Rattle.office_store.specs.Prelude.{HasWhole, IsFound, schema_of}
 use Rattle.office_store.proofs.FoundNothing.{earliest_unstarted, early_unstarted, first_unstarted}
 use Rattle.office_store.proofs.FoundOffice.{rows_of_office}
 use Rattle.office_store.proofs.FoundStarts.{all_started}

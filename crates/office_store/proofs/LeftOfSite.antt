@@ -1,12 +1,9 @@
 -- What a crash leaves of a connection that was settled.
 use Rattle.std.proofs.Common.{◌≡◌, ℕ, List, sym, ap, subst, ◌∙◌, IsTrue}
-use Rattle.sqlite.specs.Effect.{Database}
-use Rattle.sqlite.specs.Held.{Held, state}
+use Rattle.office_sql.proofs.Kit.{Database, Held, state, Trees}
 use Rattle.sqlite.specs.Store.{Ghosts}
-use Rattle.sqlite.specs.Tree.{Trees}
-use Rattle.office_sql.specs.Keeping.{IsReady}
-use Rattle.office_sql.specs.Tables.{IsOffice, office_over}
-use Rattle.office_store.specs.Adopting.{IsOfSite, IsOurs}
+use Rattle.office_sql.specs.Prelude.{IsReady, IsOffice, office_over}
+use Rattle.office_store.specs.Prelude.{IsOfSite, IsOurs}
 
 -- it is a store of the site, since it is what the connection shows
 pub left_of_site : {S : Type 0} (g : Ghosts S) (site : List ℕ) (conn : Held S)

@@ -30,6 +30,11 @@ mod CreateRow
 mod MetaShows
 mod TextShows
 mod Schemas
+mod Counts
+mod FirstTables
+mod StartsMade
+mod Steps
+mod Raising
 mod Upgrades
 mod UpgradeMeta
 mod Refusals
@@ -43,3 +48,4 @@ mod RemakeReads
 mod RemakeRows
 mod RemakePuts
 mod Remakes
+mod Types

@@ -1,11 +1,9 @@
 -- What is asked, made from what was found.
-use Rattle.std.proofs.Common.{◌≡◌, ap, subst, ◌∙◌, Result, Ok, Err, IfOk, IsTrue}
-use Rattle.std.specs.Prelude.{IsOkAnd, ⊤}
+use Rattle.std.proofs.Common.{◌≡◌, ap, subst, ◌∙◌, Result, Ok, Err, IfOk, IsOkAnd}
 use Rattle.sqlite.specs.Store.{Ghosts}
 use Rattle.sqlite.specs.Held.{Held, state}
-use Rattle.office_tables.specs.Tables.{Tables}
-use Rattle.office_sql.specs.Asking.{SqlReads}
-use Rattle.office_sql.specs.Tables.{tables_in}
+use Rattle.office_tables.specs.Prelude.{Tables}
+use Rattle.office_sql.specs.Prelude.{SqlReads, tables_in}
 
 -- an answer that is made from what was found, and may be an error where that was none, is asked too
 pub asks_made : {S A B E F : Type 0} (g : Ghosts S) (old new : Held S) (f : A → B) (found : Tables → A) (r : Result A E) (q : Result B F)
@@ -20,21 +18,6 @@ asks_made g old new f found (Ok a) (Ok b) is it = record {
 }
 asks_made g old new f found (Err e) (Ok b) is it = absurd is
 asks_made g old new f found r (Err e) is it = record { answer = λ _. tt; same = λ _. tt; rests = it.rests; mode = it.mode; crash = it.crash }
-
--- an answer that is known holds of a store that is open
-pub asks_known : {S A E : Type 0} (g : Ghosts S) (old new : Held S) (r : Result (Unit {0}) E)
-    (x : Unit {0}) (a : A) (Says : Tables → A → Type 0) → r ≡ Ok x → SqlReads g old new r (λ _ _. ⊤)
-    → (IsTrue (state g old).is_open → Says (tables_in (state g old).now.trees) a) → SqlReads {E = E} g old new (Ok a) Says
-asks_known g old new (Ok y) x a Says is it known = record {
-  answer = λ clean.
-      known (it.same clean).0.was_open;
-  same =
-      it.same;
-  rests = it.rests;
-  mode = it.mode;
-  crash = it.crash;
-}
-asks_known g old new (Err e) x a Says is it known = absurd (let f = is in cc)
 
 -- what holds of an answer
 pub said : {A E : Type 0} (r : Result A E) (a : A) (P : A → Type 0) → r ≡ Ok a → IfOk r P → P a

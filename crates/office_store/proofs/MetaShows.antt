@@ -1,33 +1,17 @@
 -- What the text that reads the row of meta means, and shows.
-use Rattle.std.proofs.Common.{◌≡◌, ◌≢◌, ◌<◌, ◌≤◌, ℕ, length, get_or, arith, true, Option, Some, None, IfSome, IfNone, List, [], ◌∷◌, codes, map}
-use Rattle.std.proofs.Common.{refl, sym, ap, subst, ◌∙◌, IsPermutation}
-use Rattle.std.proofs.lemmas.List.Sorted.{IsPermutation-map, IsPermutation-sym}
-use Rattle.std.specs.List.{AllByRecursion}
-use Rattle.sqlite.specs.Order.{Row}
-use Rattle.sqlite.specs.Tree.{Trees}
-use Rattle.sqlite.specs.Effect.{Database}
-use Rattle.sqlite_catalog.specs.Listing.{IsSound}
-use Rattle.sqlite_schema.specs.declared.schema.Constraint.TheVariants.{Datatype, NotNull}
-use Rattle.sqlite.specs.Term.{Term, col, eval_all}
-use Rattle.sqlite.specs.Collation.TheVariants.{Binary}
+use Rattle.std.proofs.Common.{◌≡◌, ◌≢◌, ◌<◌, ◌≤◌, get_or, ◌∷◌}
+use Rattle.text_core.proofs.Kit.{ℕ, length, arith, true, Option, Some, None, IfSome, IfNone, List, [], codes, map, refl, sym, ap, subst, ◌∙◌, IsPermutation}
+use Rattle.text_core.proofs.Kit.{IsPermutation-map, IsPermutation-sym, AllByRecursion}
+use Rattle.office_sql.proofs.Kit.{Row, Trees, Database, IsSound, Datatype, NotNull, Term, col, eval_all, Binary, one_permutation, Key, ascending, all_both}
+use Rattle.office_sql.proofs.Kit.{all_of, all-map, all-permutation, filter_all, overlay, IsAnswer}
 use Rattle.sqlite.specs.Listing.{understood}
-use Rattle.sqlite.proofs.Callers.{one_permutation}
 use Rattle.sqlite_tied.specs.Compute.{everything}
-use Rattle.sqlite_value.specs.declared.keys.Key.{Key}
-use Rattle.sqlite_value.specs.Keys.{ascending}
-use Rattle.sqlite_trees.proofs.ListLemmas.{all_both, all_of, all-map, all-permutation, filter_all, map-map}
-use Rattle.office_sql.specs.Scan.{env, passes, scan}
-use Rattle.sqlite.specs.Program.{overlay}
-use Rattle.sqlite.specs.Query.{IsAnswer}
-use Rattle.office_store.specs.declared.version.Version.{Version}
-use Rattle.office_store.specs.declared.version.Version.TheVariants.{Earliest, Early, First, Second, Third}
-use Rattle.office_store.specs.Found.{IsFound}
-use Rattle.office_store.specs.Meta.{meta_in, meta_of, meta_of_version, metas_in, IsMetaOf, ShowMeta, TellNoSite}
-use Rattle.office_store.specs.Versions.{schema_of}
+use Rattle.sqlite_trees.proofs.ListLemmas.{map-map}
+use Rattle.office_sql.specs.OfficeTable as table
+use Rattle.office_sql.specs.Prelude.{env, passes, scan, meta_table, rows_in, tree_of, IsBlob}
+use Rattle.office_store.proofs.Types.{Version, Earliest, Early, First, Second, Third, Meta}
+use Rattle.office_store.specs.Prelude.{IsFound, meta_in, meta_of, meta_of_version, metas_in, IsMetaOf, ShowMeta, TellNoSite, schema_of}
 use Rattle.office_store.proofs.FoundRows.{blob_at}
-use Rattle.office_sql.specs.Schema.{meta_table}
-use Rattle.office_sql.specs.Tables.{IsBlob}
-use Rattle.office_store.specs.declared.meta.Meta.{Meta}
 use Rattle.office_sql.proofs.LedgerAsked.{IsReadAs}
 use Rattle.office_sql.proofs.Scan.{Scanned, scanned}
 
@@ -40,7 +24,7 @@ row_shown = col 1 0 ∷ col 1 2 ∷ col 1 3 ∷ []
 abbrev pub row_order : List (Term × Key)
 row_order = (col 1 0, ascending Binary) ∷ []
 
-pub row_read : (version : Version) → IsReadAs (schema_of version) row_text (scan 0 [] row_shown row_order)
+pub row_read : (version : Version) → IsReadAs (schema_of version) row_text (scan (tree_of table.meta) [] row_shown row_order)
 unfolding understood everything
 row_read Earliest = record { names = codes "id" ∷ codes "schema" ∷ codes "site" ∷ []; is = refl; plain = (refl, refl); unlisted = refl; bare = λ schema base. refl }
 row_read Early = record { names = codes "id" ∷ codes "schema" ∷ codes "site" ∷ []; is = refl; plain = (refl, refl); unlisted = refl; bare = λ schema base. refl }
@@ -57,26 +41,26 @@ shows_metas all rows s =
     subst (IsPermutation (map meta_in all)) (sym read) (IsPermutation-map meta_in _ _ same)
 
 -- each site in meta is a blob
-sites_are_blobs : (version : Version) (db : Trees) → IsSound (schema_of version) db → AllByRecursion (IsBlob 3) (db 0)
+sites_are_blobs : (version : Version) (db : Trees) → IsSound (schema_of version) db → AllByRecursion (IsBlob 3) (rows_in db table.meta)
 sites_are_blobs Earliest db sound =
     all_both _ _ (IsBlob 3) (λ r d n.
-    blob_at (schema_of Earliest) db meta_table r d n 2 (refl, refl, refl) (refl, refl)) (db 0)
+    blob_at (schema_of Earliest) db meta_table r d n 2 (refl, refl, refl) (refl, refl)) (rows_in db table.meta)
     (sound.obeys.rules Datatype).0 (sound.obeys.rules NotNull).0
 sites_are_blobs Early db sound =
     all_both _ _ (IsBlob 3) (λ r d n.
-    blob_at (schema_of Early) db meta_table r d n 2 (refl, refl, refl) (refl, refl)) (db 0)
+    blob_at (schema_of Early) db meta_table r d n 2 (refl, refl, refl) (refl, refl)) (rows_in db table.meta)
     (sound.obeys.rules Datatype).0 (sound.obeys.rules NotNull).0
 sites_are_blobs First db sound =
     all_both _ _ (IsBlob 3) (λ r d n.
-    blob_at (schema_of First) db meta_table r d n 2 (refl, refl, refl) (refl, refl)) (db 0)
+    blob_at (schema_of First) db meta_table r d n 2 (refl, refl, refl) (refl, refl)) (rows_in db table.meta)
     (sound.obeys.rules Datatype).0 (sound.obeys.rules NotNull).0
 sites_are_blobs Second db sound =
     all_both _ _ (IsBlob 3) (λ r d n.
-    blob_at (schema_of Second) db meta_table r d n 2 (refl, refl, refl) (refl, refl)) (db 0)
+    blob_at (schema_of Second) db meta_table r d n 2 (refl, refl, refl) (refl, refl)) (rows_in db table.meta)
     (sound.obeys.rules Datatype).0 (sound.obeys.rules NotNull).0
 sites_are_blobs Third db sound =
     all_both _ _ (IsBlob 3) (λ r d n.
-    blob_at (schema_of Third) db meta_table r d n 2 (refl, refl, refl) (refl, refl)) (db 0)
+    blob_at (schema_of Third) db meta_table r d n 2 (refl, refl, refl) (refl, refl)) (rows_in db table.meta)
     (sound.obeys.rules Datatype).0 (sound.obeys.rules NotNull).0
 
 -- and so is each that is shown
@@ -89,13 +73,14 @@ shows_blobs all rows blobs s =
 
 -- what is read of the text is meta
 pub shows_meta : (version : Version) (db : Database) (rows : List Row) → IsFound version db
-    → IsAnswer (scan 0 [] row_shown row_order) (overlay db.trees []) [] rows
+    → IsAnswer (scan (tree_of table.meta) [] row_shown row_order) (overlay db.trees []) [] rows
     → ShowMeta db.trees rows
 shows_meta version db rows found a =
-    let s : Scanned [] row_shown row_order [] (db.trees 0) rows = scanned (overlay db.trees []) [] 0 [] row_shown row_order [] rows a in
+    let s : Scanned [] row_shown row_order [] (rows_in db.trees table.meta) rows =
+    scanned (overlay db.trees []) [] (tree_of table.meta) [] row_shown row_order [] rows a in
     record {
-      metas = shows_metas (db.trees 0) rows s;
-      blobs = shows_blobs (db.trees 0) rows (sites_are_blobs version db.trees (subst (λ s. IsSound s db.trees) found.schema found.sound)) s;
+      metas = shows_metas (rows_in db.trees table.meta) rows s;
+      blobs = shows_blobs (rows_in db.trees table.meta) rows (sites_are_blobs version db.trees (subst (λ s. IsSound s db.trees) found.schema found.sound)) s;
     }
 
 -- what was read of the rows that are shown was read of meta

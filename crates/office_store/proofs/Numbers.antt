@@ -1,24 +1,12 @@
 -- Numbers of places stay right where one of them is put, where those of a customer are put or taken out, or where a device more or less is counted.
-use Rattle.std.proofs.Common.{◌≡◌, ◌+◌, ◌-◌, ◌∙◌, ◌<◌, ◌++◌, ℕ, suc, arith, true, false, Bool, cond, List, [], ◌∷◌, Option, Some, None, length, take}
-use Rattle.std.proofs.Common.{get_or, refl, sym, ap}
-use Rattle.std.specs.Prelude.{◌&&◌, bytes_eq, filter, map, not, option_map, unwrap_or, IfSome}
-use Rattle.std.specs.BTreeMap.{get, is_at}
-use Rattle.std.specs.Cmp.Lexicographic.{texts_ties}
-use Rattle.std.proofs.lemmas.List.{length-append, take_more}
-use Rattle.std.proofs.lemmas.List.Elements.{filter-append}
-use Rattle.std.proofs.lemmas.Slice.Eq.{bytes_eq-Decides}
-use Rattle.office_tables.specs.States.{state_row}
-use Rattle.office_tables.specs.declared.rows.OfCustomer.{OfCustomer}
-use Rattle.office_tables.specs.declared.rows.Device.{Device}
-use Rattle.office_tables.specs.OrderPlaces.{places_taken, takes_place}
-use Rattle.office_tables.specs.PlaceCounting.{place_of_device}
-use Rattle.office_tables.specs.Tables.{is_of, rows_of, text_cmp}
+use Rattle.std.proofs.Common.{◌≡◌, ◌+◌, ◌-◌, ◌∷◌, ◌&&◌}
+use Rattle.text_core.proofs.Kit.{◌∙◌, ℕ, suc, arith, true, false, cond, List, [], Option, Some, None, length, refl, sym, ap, bytes_eq, filter, map}
+use Rattle.text_core.proofs.Kit.{not, option_map, unwrap_or, IfSome, get, is_at, texts_ties, bytes_eq-Decides}
+use Rattle.office_tables.specs.Prelude.{state_row, places_taken, takes_place, place_of_device, is_of, rows_of, text_cmp}
+use Rattle.office_store.proofs.Types.{OfCustomer, Device, OrderState, OrderPlaces, PlaceCounts}
 use Rattle.office_tables.proofs.Places.{same_both_ways, takes_no_other}
-use Rattle.office_sql.specs.declared.devices.OrderState.{OrderState}
-use Rattle.office_sql.specs.OrderStates.{order_state}
-use Rattle.office_store.specs.Counting.{number_at, takes, AgreeBut, AgreeOff, AreCounts}
-use Rattle.office_store.specs.declared.places.OrderPlaces.{OrderPlaces}
-use Rattle.office_store.specs.declared.places.PlaceCounts.{PlaceCounts}
+use Rattle.office_sql.specs.Prelude.{order_state}
+use Rattle.office_store.specs.Prelude.{number_at, takes, AgreeBut, AgreeOff, AreCounts}
 
 at_text : (a o : List ℕ) → is_at (text_cmp a) o ≡ bytes_eq o a
 at_text a o = sym (texts_ties a o) ∙ same_both_ways a o
@@ -34,19 +22,6 @@ number_set order number p n writes o =
     ∙ elim (bytes_eq o order) as (λ b. unwrap_or (cond b (Some number) (get text_cmp p.numbers o)) 0
     ≡ cond b number (number_at o p)) [ true ↦ refl | false ↦ refl ]
 
--- one more device is counted
-pub one_counted : (one : OrderState) (p n : OrderPlaces) (more : ℕ)
-    → more ≡ number_at one.order p + 1 → (state_row one.state).is_given_up ≡ false
-    → ((o : List ℕ) → number_at o n ≡ cond (bytes_eq o one.order) more (number_at o p))
-    → (o : List ℕ) → number_at o n ≡ number_at o p + cond (takes o one) 1 0
-one_counted one p n more is stays sets o =
-    sets o ∙ elim (bytes_eq o one.order) as (λ b. bytes_eq o one.order ≡ b
-    → cond b more (number_at o p)
-    ≡ number_at o p + cond (b && not (state_row one.state).is_given_up) 1 0) [
-      | true ↦ λ at. rw (stays, (bytes_eq-Decides o one.order).0 at) is
-      | false ↦ λ _. omega arith
-    ] refl
-
 -- one that is given up takes no place
 pub none_counted : (one : OrderState) (p : OrderPlaces) → (state_row one.state).is_given_up ≡ true
     → (o : List ℕ) → number_at o p ≡ number_at o p + cond (takes o one) 1 0
@@ -54,15 +29,6 @@ none_counted one p gone o =
     elim (bytes_eq o one.order) as (λ b. number_at o p
     ≡ number_at o p + cond (b
     && not (state_row one.state).is_given_up) 1 0) [ true ↦ rw gone (omega arith) | false ↦ omega arith ]
-
--- how many elements pass, of one more
-pub passing_more : {X : Type 0} (p : X → Bool) (xs : List X) (i : ℕ) (x : X) → i < length xs
-    → x ≡ get_or xs i x
-    → length (filter p (take (i + 1) xs)) ≡ length (filter p (take i xs)) + cond (p x) 1 0
-passing_more p xs i x within here =
-    let seam : take (i + 1) xs ≡ take i xs ++ x ∷ [] = take_more xs i x within ∙ ap (λ y. take i xs ++ y ∷ []) (sym here) in
-    ap (λ l. length (filter p l)) seam ∙ ap length (filter-append p (take i xs) (x ∷ [])) ∙ length-append (filter p (take i xs)) (filter p (x ∷ []))
-    ∙ ap (λ n. length (filter p (take i xs)) + n) (elim (p x) as (λ b. length (cond b (x ∷ []) []) ≡ cond b 1 0) [ true ↦ refl | false ↦ refl ])
 
 states_taken : (order : List ℕ) (l : List (OfCustomer Device)) → length (filter (takes order) (map order_state l)) ≡ places_taken order (map (λ d. d.row) l)
 states_taken order [] = refl

@@ -1,11 +1,9 @@
 -- What an opening takes.
 use Rattle.std.proofs.Common.{◌≢◌, refl}
 use Rattle.sqlite.specs.Effect.{Database}
-use Rattle.office_sql.specs.Schema.{no_schema}
-use Rattle.office_store.specs.declared.opening.Absent.{Absent}
-use Rattle.office_store.specs.declared.opening.Absent.TheVariants.{Make, Refuse}
-use Rattle.office_store.specs.Opening.{IsTaken, LacksStore}
-use Rattle.office_store.specs.Stores.{IsStore, IsStoreOrNone}
+use Rattle.office_sql.specs.Prelude.{no_schema}
+use Rattle.office_store.proofs.Types.{Absent, Make, Refuse}
+use Rattle.office_store.specs.Prelude.{IsTaken, LacksStore, IsStore, IsStoreOrNone}
 
 -- a database that isn't turned away for lack of a store
 pub taken : (absent : Absent) (db : Database) → IsStoreOrNone db.trees → (db.schema ≢ no_schema → IsStore db.trees)

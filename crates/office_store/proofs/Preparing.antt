@@ -1,41 +1,22 @@
 -- How a connection is settled: its tables are made, upgraded or found, or it is refused.
 use Rattle.std.proofs.Common.{◌≡◌, ◌≢◌, ◌↔◌, inl, inr, ℕ, Bool, false, List, [], map, None, Result, Ok, Err, OnOk, IfErr, IsTrue, refl, sym, ap, subst, ◌∙◌}
 use Rattle.sha2.specs.Sha256.{sha256}
-use Rattle.site_core.specs.Section.{SiteValue}
-use Rattle.site_core.specs.SiteText.{TextOfSite}
-use Rattle.sqlite.specs.Effect.{Database}
-use Rattle.sqlite.specs.Held.{Held, state}
-use Rattle.sqlite.specs.State.{State, HasCleanDisk, IsUnchanged, KeepsCommit, Survives}
+use Rattle.site_core.specs.Prelude.{SiteValue, TextOfSite}
+use Rattle.office_sql.proofs.Kit.{Database, Held, state, State, HasCleanDisk, IsUnchanged, KeepsCommit, Survives, Trees, survives_then, survives_weaker}
+use Rattle.office_sql.proofs.Kit.{sort_by, all_of, all-map, Error}
 use Rattle.sqlite.specs.Store.{Ghosts}
-use Rattle.sqlite.specs.Tree.{Trees}
-use Rattle.sqlite.proofs.StateLemmas.{survives_then, survives_weaker}
-use Rattle.sqlite_keyed.specs.Lists.{sort_by}
-use Rattle.sqlite_trees.proofs.ListLemmas.{all_of, all-map}
-use Rattle.office_tables.specs.Tables.{order_cmp, given_cmp}
-use Rattle.office_sql.specs.Change.{IsUndone}
-use Rattle.office_sql.specs.Rows.{order_in_row, given_in_row, start_in_rows, starts_order, starts_given, with_order_start, with_given_start}
-use Rattle.office_sql.specs.Schema.{no_schema}
-use Rattle.office_sql.specs.Tables.{IsOffice, office_over, tables_in}
-use Rattle.office_store.specs.declared.fault.OpenFault.{OpenFault}
-use Rattle.office_store.specs.declared.fault.OpenFault.TheVariants.{Failed}
-use Rattle.office_store.specs.declared.version.Version.{Version}
-use Rattle.office_store.specs.declared.version.Version.TheVariants.{Earliest, Early, First, Second, Third}
-use Rattle.office_store.specs.Addresses.{HasApartAddresses}
-use Rattle.office_store.specs.Adopting.{AreUnstarted, CanPrepareTables, CanTake, Examines, IsApartAt, IsFoundAt, IsGrowable, IsOtherSchema, IsRefusedFor}
-use Rattle.office_store.specs.Adopting.{IsPreparedFor, LeavesAtMost, PreparesTables, StaysUnstarted, TakesGrowth, TakesOwn}
-use Rattle.office_store.specs.Found.{HasStarts, IsFound, Tests}
-use Rattle.office_store.specs.Growing.{HasGrown, IsGrown}
-use Rattle.office_store.specs.Meta.{HoldsSite, IsBegun, IsCreated, HasMeta}
-use Rattle.office_store.specs.Stores.{HasSchema, IsNoStore, IsStore, IsStoreOrNone}
-use Rattle.office_store.specs.Texts.{HoldsText, IsGrownFrom}
-use Rattle.office_store.specs.Upgrading.{IsUpgrade, IsUpgraded}
-use Rattle.office_store.specs.Versions.{schema_of}
+use Rattle.office_tables.specs.Prelude.{order_cmp, given_cmp, Tables}
+use Rattle.office_sql.specs.Prelude.{orders, given, order_starts, given_starts, IsUndone, order_in_row, given_in_row, start_in_rows, starts_order, starts_given}
+use Rattle.office_sql.specs.Prelude.{with_order_start, with_given_start, no_schema, rows_in, IsOffice, office_over, tables_in}
+use Rattle.office_store.proofs.Types.{OpenFault, Failed, Version, Earliest, Early, First, Second, Third}
+use Rattle.office_store.specs.Prelude.{HasApartAddresses, AreUnstarted, CanPrepareTables, CanTake, Examines, IsApartAt, IsFoundAt, IsGrowable, IsOtherSchema}
+use Rattle.office_store.specs.Prelude.{IsRefusedFor, IsPreparedFor, LeavesAtMost, PreparesTables, StaysUnstarted, TakesGrowth, TakesOwn, HasStarts, IsFound}
+use Rattle.office_store.specs.Prelude.{Tests, HasGrown, IsGrown, HoldsSite, IsBegun, IsCreated, HasMeta, HasSchema, IsNoStore, IsStore, IsStoreOrNone}
+use Rattle.office_store.specs.Prelude.{HoldsText, IsGrownFrom, IsUpgrade, IsUpgraded, schema_of}
 use Rattle.office_sql.proofs.Asked.{was_clean}
 use Rattle.office_store.proofs.AddressKept.{apart_grown, apart_if_none, apart_upgraded}
 use Rattle.office_store.proofs.Telling.{not_silent, not_third, site_once, told_once}
 use Rattle.office_store.proofs.TextShows.{one_text}
-use Rattle.sqlite.specs.declared.error.Error.{Error}
-use Rattle.office_tables.specs.Tables.{Tables}
 
 -- a failure is no fault of a site or of tables, and comes with the schema that was there
 failed : (site : TextOfSite) (s : State) → (IsTrue s.is_open → ¬ IsOtherSchema s.now.schema) → IsRefusedFor site s Failed
@@ -49,18 +30,18 @@ undone_keeps : (old new : State) → IsUndone old new → KeepsCommit old new
 undone_keeps old new undone = record { was_open = undone.was_open; committed = undone.committed }
 
 -- with no starts no beginning of validity is told
-pub unstarted : (db : Trees) → (db 17 ≡ []) × (db 19 ≡ []) → AreUnstarted (tables_in db)
+pub unstarted : (db : Trees) → (rows_in db order_starts ≡ []) × (rows_in db given_starts ≡ []) → AreUnstarted (tables_in db)
 unstarted db none = (
-  all-map (λ o. o.row.not_before ≡ None) (with_order_start (db 17)) (sort_by order_cmp (map order_in_row (db 7)))
-      (all_of (λ o. start_in_rows starts_order (db 17) o
+  all-map (λ o. o.row.not_before ≡ None) (with_order_start (rows_in db order_starts)) (sort_by order_cmp (map order_in_row (rows_in db orders)))
+      (all_of (λ o. start_in_rows starts_order (rows_in db order_starts) o
       ≡ None) (λ o.
       ap (λ l. start_in_rows starts_order l o) none.0)
-      (sort_by order_cmp (map order_in_row (db 7)))),
-  all-map (λ o. o.row.not_before ≡ None) (with_given_start (db 19)) (sort_by given_cmp (map given_in_row (db 11)))
-      (all_of (λ o. start_in_rows starts_given (db 19) o
+      (sort_by order_cmp (map order_in_row (rows_in db orders)))),
+  all-map (λ o. o.row.not_before ≡ None) (with_given_start (rows_in db given_starts)) (sort_by given_cmp (map given_in_row (rows_in db given)))
+      (all_of (λ o. start_in_rows starts_given (rows_in db given_starts) o
       ≡ None) (λ o.
       ap (λ l. start_in_rows starts_given l o) none.1)
-      (sort_by given_cmp (map given_in_row (db 11)))),
+      (sort_by given_cmp (map given_in_row (rows_in db given)))),
 )
 
 -- a refusal, whatever its fault
@@ -231,7 +212,7 @@ module _ {S : Type 0} (g : Ghosts S) (site : TextOfSite) (old new : Held S) (cal
           absurd (not_third version (sha256 site.text) (sha256 older)
           (state g old).now.trees earlier (told (before_upgrade clean)) tells.named);
       own = λ clean version2 other earlier2 is. site_once version2 version other (sha256 site.text) (state g old).now.trees is (told (before_upgrade clean));
-      apart = λ clean. apart_upgraded version site.text (state g old).now.trees (state g new).now earlier (it clean).upgrade (apart (before_upgrade clean));
+      apart = λ clean. apart_upgraded version site.text (state g old).now.trees (state g new).now (it clean).upgrade (apart (before_upgrade clean));
       was = λ clean. inr (earlier_store (before_upgrade clean));
       there = λ clean some. earlier_store (before_upgrade clean);
       kept = λ clean. (it clean).upgrade.tables;

@@ -1,23 +1,12 @@
 -- What rows that are read one at a time leave of the connection, of a text without RETURNING.
-use Rattle.std.proofs.Common.{◌≡◌, ℕ, List, [], Option, Some, None, inl, inr, refl, sym, subst, Result, Ok, Err, rules}
-use Rattle.std.specs.Prelude.{IsSome}
-use Rattle.sqlite_schema.specs.declared.command.Returning.{Returning}
-use Rattle.sqlite_resolve.specs.declared.compiled.Compiled.{Compiled}
-use Rattle.sqlite_resolve.specs.declared.error.CompileError.{CompileError}
-use Rattle.sqlite_schema.specs.declared.schema.Schema.{Schema}
-use Rattle.sqlite.specs.declared.error.Error.{Error}
+use Rattle.std.proofs.Common.{◌≡◌, ℕ, List, [], Option, Some, None, inl, inr, refl, sym, subst, Result, Ok, Err, rules, IsSome}
+use Rattle.office_sql.proofs.Kit.{Returning, Compiled, CompileError, Schema, Error, Database, Returns, HasGiven, HasBegun, Held, state, reads_listing}
+use Rattle.office_sql.proofs.Kit.{IsSourceOf, Row, State, Survives, ShowsRows, IsUnchanged, FailsToShow, Trees, unchanged_then, survives_weaker}
 use Rattle.sqlite.specs.Clock.{timed}
-use Rattle.sqlite.specs.Effect.{Database}
-use Rattle.sqlite.specs.Given.{Returns, HasGiven, HasBegun}
-use Rattle.sqlite.specs.Held.{Held, state}
-use Rattle.sqlite.specs.Listing.{understood, reads_listing, IsSourceOf}
-use Rattle.sqlite.specs.Order.{Row}
-use Rattle.sqlite.specs.State.{State, Survives, Shown, ShowsRows, IsUnchanged, IsNotRun, FailsToQuery, FailsToShow, CommitsShowing}
+use Rattle.sqlite.specs.Listing.{understood}
+use Rattle.sqlite.specs.State.{Shown, IsNotRun, FailsToQuery, CommitsShowing}
 use Rattle.sqlite.specs.Store.{Ghosts}
-use Rattle.sqlite.specs.Tree.{Trees}
-use Rattle.sqlite.proofs.Callers.{unchanged_then}
-use Rattle.sqlite.proofs.StateLemmas.{survives_weaker}
-use Rattle.office_sql.specs.Change.{Rests}
+use Rattle.office_sql.specs.Prelude.{Rests}
 use Rattle.office_sql.proofs.Asked.{unchanged_rests, undone_rests}
 use Rattle.office_sql.proofs.Bare.{IsBare, bare_understood}
 

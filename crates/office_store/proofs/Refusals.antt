@@ -1,30 +1,15 @@
 -- What a test of a found store shows, where it is passed and where it is not.
-use Rattle.std.proofs.Common.{◌≡◌, ◌≢◌, ◌↔◌, inl, inr, ℕ, length, List, Bool, false, true≢false, Option, Some, Result, Ok, Err, OnOk, IfErr}
-use Rattle.std.proofs.Common.{IsErrAnd, IsTrue, refl, sym, ap, subst, ◌∙◌}
-use Rattle.std.specs.Prelude.{Vec}
-use Rattle.std.specs.Str.{IsUtf8}
+use Rattle.std.proofs.Common.{◌≡◌, ◌≢◌, ◌↔◌, inl, inr, ℕ, length, List, Bool, false, true≢false, Option, Some, Result, Ok, Err, OnOk, IfErr, IsErrAnd, IsTrue}
+use Rattle.std.proofs.Common.{refl, sym, ap, subst, ◌∙◌, Vec, IsUtf8}
 use Rattle.std.specs.declared.alloc.Global.{Global}
 use Rattle.sha2.specs.Sha256.{sha256}
-use Rattle.site_core.specs.SiteText.{TextOfSite}
-use Rattle.sqlite.specs.Order.{Row}
-use Rattle.sqlite.specs.Effect.{Database}
-use Rattle.sqlite.specs.Held.{Held, state}
-use Rattle.sqlite.specs.State.{HasCleanDisk, IsUnchanged}
+use Rattle.site_core.specs.Prelude.{TextOfSite}
+use Rattle.office_sql.proofs.Kit.{Row, Database, Held, state, HasCleanDisk, IsUnchanged, Trees, Error, survives_then}
 use Rattle.sqlite.specs.Store.{Ghosts}
-use Rattle.sqlite.specs.Tree.{Trees}
-use Rattle.sqlite.specs.declared.error.Error.{Error}
-use Rattle.sqlite.proofs.StateLemmas.{survives_then}
-use Rattle.office_store.specs.declared.fault.OpenFault.{OpenFault}
-use Rattle.office_store.specs.declared.fault.OpenFault.TheVariants.{OtherSite, OtherTables, Failed}
-use Rattle.office_store.specs.declared.meta.Meta.{Meta}
-use Rattle.office_store.specs.declared.version.Version.{Version}
-use Rattle.office_store.specs.declared.version.Version.TheVariants.{Earliest, Early, First, Second, Third}
-use Rattle.office_store.specs.Adopting.{AreStartsAsked, CanTake, Examines, HasOtherTables, IsFoundAt, IsOfOtherSite, IsOther, IsShownText, TellsOther}
-use Rattle.office_store.specs.Addresses.{HasApartAddresses}
-use Rattle.office_store.specs.Found.{HasStarts, HasWhole, IsFound, Tests}
-use Rattle.office_store.specs.Meta.{meta_of_version, metas_in, IsMetaOf, HasMeta}
-use Rattle.office_store.specs.Texts.{IsGrownFrom, ShowTexts}
-use Rattle.office_store.specs.Versions.{schema_of}
+use Rattle.office_store.proofs.Types.{OpenFault, OtherSite, OtherTables, Failed, Meta, Version, Earliest, Early, First, Second, Third}
+use Rattle.office_store.specs.Prelude.{AreStartsAsked, CanTake, Examines, HasOtherTables, IsFoundAt, IsOfOtherSite, IsOther, IsShownText, TellsOther}
+use Rattle.office_store.specs.Prelude.{HasApartAddresses, HasStarts, HasWhole, IsFound, Tests, meta_of_version, metas_in, IsMetaOf, HasMeta, IsGrownFrom}
+use Rattle.office_store.specs.Prelude.{ShowTexts, schema_of}
 use Rattle.office_sql.proofs.Asked.{was_clean}
 use Rattle.office_store.proofs.FoundAsked.{rests_then, still_found, unchanged_then}
 use Rattle.office_store.proofs.MetaShows.{no_site}

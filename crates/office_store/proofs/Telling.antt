@@ -2,15 +2,9 @@
 use Rattle.std.proofs.Common.{◌≡◌, ◌≢◌, ℕ, List, [], ◌∷◌, Option, Some, None, refl, sym, ap, subst, ◌∙◌}
 use Rattle.sha2.specs.Sha256.{sha256}
 use Rattle.sha2.proofs.Facts256.{length-sha256}
-use Rattle.sqlite.specs.Order.{Row}
-use Rattle.sqlite.specs.Tree.{Trees}
-use Rattle.office_store.specs.declared.meta.Meta.{Meta}
-use Rattle.office_store.specs.declared.version.Version.{Version}
-use Rattle.office_store.specs.declared.version.Version.TheVariants.{Earliest, Early, First, Second, Third}
-use Rattle.office_store.specs.Adopting.{IsShownText}
-use Rattle.office_store.specs.Meta.{metas_in, new_meta, HoldsSite, IsMetaOf, HasMeta}
-use Rattle.office_store.specs.Texts.{ShowTexts}
-use Rattle.office_store.specs.Versions.{number_of_version}
+use Rattle.office_sql.proofs.Kit.{Row, Trees}
+use Rattle.office_store.proofs.Types.{Meta, Version, Earliest, Early, First, Second, Third}
+use Rattle.office_store.specs.Prelude.{IsShownText, metas_in, new_meta, HoldsSite, IsMetaOf, HasMeta, ShowTexts, number_of_version}
 use Rattle.office_store.proofs.TextShows.{shown_text}
 
 schema_in : List Meta → ℕ

@@ -1,26 +1,15 @@
 -- What the text that reads the text of the site means, and shows.
-use Rattle.std.proofs.Common.{◌≡◌, ◌↔◌, ℕ, Bool, true, false, true≢false, IsTrue, List, [], ◌∷◌, codes, map, refl, sym, ap, subst, ◌∙◌, IsPermutation}
-use Rattle.std.specs.Str.{bytes_eq}
+use Rattle.std.proofs.Common.{◌≡◌, ◌↔◌, ℕ, Bool, true, false, true≢false, IsTrue, List, [], ◌∷◌, codes, map, refl, sym, ap, subst, ◌∙◌, IsPermutation, bytes_eq}
 use Rattle.std.proofs.lemmas.Slice.Eq.{bytes_eq-Decides}
 use Rattle.std.proofs.lemmas.List.Sorted.{IsPermutation-map, IsPermutation-sym}
 use Rattle.sqlite.specs.declared.types.Value.TheVariants.{Text as Words}
-use Rattle.sqlite.specs.Order.{Row, column}
-use Rattle.sqlite.specs.Tree.{Trees}
-use Rattle.sqlite.specs.Term.{Term, col}
-use Rattle.sqlite.specs.Collation.TheVariants.{Binary}
+use Rattle.office_sql.proofs.Kit.{Row, column, Trees, Term, col, Binary, overlay, IsAnswer, one_permutation, Key, ascending, all_of, filter_all}
 use Rattle.sqlite.specs.Listing.{understood}
-use Rattle.sqlite.specs.Program.{overlay}
-use Rattle.sqlite.specs.Query.{IsAnswer}
-use Rattle.sqlite.proofs.Callers.{one_permutation}
 use Rattle.sqlite_tied.specs.Compute.{everything}
-use Rattle.sqlite_value.specs.declared.keys.Key.{Key}
-use Rattle.sqlite_value.specs.Keys.{ascending}
-use Rattle.sqlite_trees.proofs.ListLemmas.{all_of, filter_all}
-use Rattle.office_sql.specs.Scan.{passes, scan}
-use Rattle.office_sql.specs.Schema.{office_schema}
+use Rattle.office_sql.specs.Prelude.{texts, passes, scan, office_schema, rows_in, tree_of}
 use Rattle.office_sql.proofs.LedgerAsked.{IsReadAs}
 use Rattle.office_sql.proofs.Scan.{Scanned, scanned}
-use Rattle.office_store.specs.Texts.{HoldsText, IsOnlyText, ShowTexts}
+use Rattle.office_store.specs.Prelude.{HoldsText, IsOnlyText, ShowTexts}
 
 abbrev pub body_text : List ℕ
 body_text = codes "SELECT id, body FROM site_text ORDER BY id"
@@ -31,7 +20,7 @@ body_shown = col 1 0 ∷ col 1 2 ∷ []
 abbrev pub body_order : List (Term × Key)
 body_order = (col 1 0, ascending Binary) ∷ []
 
-pub body_read : IsReadAs office_schema body_text (scan 21 [] body_shown body_order)
+pub body_read : IsReadAs office_schema body_text (scan (tree_of texts) [] body_shown body_order)
 unfolding understood everything
 body_read = record { names = codes "id" ∷ codes "body" ∷ []; is = refl; plain = (refl, refl); unlisted = refl; bare = λ schema base. refl }
 
@@ -47,8 +36,8 @@ shows_rows all rows s =
     subst (IsPermutation (map shown all)) (sym s.shows) (IsPermutation-map shown _ _ same)
 
 -- what is read of the text is what the store has
-pub shows_texts : (db : Trees) (rows : List Row) → IsAnswer (scan 21 [] body_shown body_order) (overlay db []) [] rows → ShowTexts db rows
-shows_texts db rows a = shows_rows (db 21) rows (scanned (overlay db []) [] 21 [] body_shown body_order [] rows a)
+pub shows_texts : (db : Trees) (rows : List Row) → IsAnswer (scan (tree_of texts) [] body_shown body_order) (overlay db []) [] rows → ShowTexts db rows
+shows_texts db rows a = shows_rows (rows_in db texts) rows (scanned (overlay db []) [] (tree_of texts) [] body_shown body_order [] rows a)
 
 -- ---- the text that is held is the one that is shown
 
@@ -64,8 +53,8 @@ one_shown (r ∷ s ∷ all) row is = absurd (let two = is in cc)
 pub shown_text : (text : List ℕ) (db : Trees) (rows : List Row) → ShowTexts db rows → IsOnlyText 1 text rows ↔ HoldsText text db
 shown_text text db rows shows = (
   λ only.
-      let one = subst (IsPermutation (map shown (db 21))) only.1 shows in
-      let it = one_shown (db 21) only.0 (one_permutation only.0 (map shown (db 21)) (IsPermutation-sym _ _ one)) in
+      let one = subst (IsPermutation (map shown (rows_in db texts))) only.1 shows in
+      let it = one_shown (rows_in db texts) only.0 (one_permutation only.0 (map shown (rows_in db texts)) (IsPermutation-sym _ _ one)) in
       (it.0, it.1, record { id = ap (λ r. column r 0) it.2 ∙ only.2.id; body = ap (λ r. column r 1) it.2 ∙ only.2.body }),
   λ held.
       let one = subst (λ l. IsPermutation (map shown l) rows) held.1 shows in

@@ -1,22 +1,13 @@
 -- What the texts that tell of a store anew make of meta and of the site's text, where each has one row.
 use Rattle.std.proofs.Common.{◌≡◌, ◌≢◌, ℕ, pos, negsuc, List, [], ◌∷◌, map, true, Ok, refl, sym, ap, ◌∙◌, is_eq}
 use Rattle.std.proofs.lemmas.Cmp.{tied_itself}
-use Rattle.sqlite.specs.declared.types.Value.{Value}
-use Rattle.sqlite.specs.declared.types.Value.TheVariants.{Null, Int, Real, Text as Words, Blob as Bytes}
-use Rattle.sqlite.specs.Order.{Row, column, bytes, value_cmp}
-use Rattle.sqlite.specs.Tree.{Trees, has_rowid, put_row, rowid, without_rowid}
-use Rattle.sqlite.specs.State.{State, Executes}
-use Rattle.sqlite_value.proofs.OrderLemmas.{value_cmp_total}
-use Rattle.office_sql.specs.Schema.{office_schema}
-use Rattle.office_sql.specs.Values.{number_in_cell}
+use Rattle.office_sql.proofs.Kit.{Value, Null, Int, Real, Row, column, bytes, Trees, has_rowid, put_row, rowid, without_rowid, State, Executes, value_cmp_total}
+use Rattle.sqlite.specs.declared.types.Value.TheVariants.{Text as Words, Blob as Bytes}
+use Rattle.sqlite.specs.Order.{value_cmp}
+use Rattle.office_sql.specs.Prelude.{meta, texts, office_schema, rows_in, number_in_cell}
 use Rattle.office_sql.proofs.Told.{tell_text, told, name_text, named, write_text, written}
-use Rattle.office_store.specs.declared.meta.Meta.{Meta}
-use Rattle.office_store.specs.declared.version.Version.{Version}
-use Rattle.office_store.specs.declared.version.Version.TheVariants.{Third}
-use Rattle.office_store.specs.Growing.{ReplacesName}
-use Rattle.office_store.specs.Meta.{meta_in, meta_of_version, HasMeta}
-use Rattle.office_store.specs.Texts.{HoldsText}
-use Rattle.office_store.specs.Upgrading.{PutsText, TellsItself, TellsThird}
+use Rattle.office_store.proofs.Types.{Meta, Version, Third}
+use Rattle.office_store.specs.Prelude.{ReplacesName, meta_in, meta_of_version, HasMeta, HoldsText, PutsText, TellsItself, TellsThird}
 
 -- the row that is there alone
 abbrev IsAlone : List Row → Meta → Type 0
@@ -50,9 +41,9 @@ site_in (m ∷ _) = m.site
 abbrev IsMetaRow : Version → List ℕ → List Row → Type 0
 IsMetaRow version site rows = (r : Row) × (rows ≡ r ∷ []) × (rowid r ≡ Int (pos 1)) × (meta_in r ≡ meta_of_version version site)
 
-meta_row : (version : Version) (site : List ℕ) (db : Trees) → HasMeta version site db → IsMetaRow version site (db 0)
+meta_row : (version : Version) (site : List ℕ) (db : Trees) → HasMeta version site db → IsMetaRow version site (rows_in db meta)
 meta_row version site db is =
-    let it = alone (db 0) (meta_of_version version site) is in
+    let it = alone (rows_in db meta) (meta_of_version version site) is in
     (it.0, it.1, the_number 1 (λ e. cc) (column it.0 0) (ap (λ (m : Meta). m.id) it.2), it.2)
 
 -- the third version is told of the same site
@@ -63,7 +54,7 @@ tells_third old new count has version itself ran =
     let r = it.0 in
     let made = (told r old new count has it.1 it.2 ran).0 in
     let row : Row = Int (pos 1) ∷ Null ∷ Int (pos 3) ∷ column r 3 ∷ [] in
-    let is : new.now.trees 0 ≡ row ∷ [] = made.row ∙ ap (λ l. put_row row (without_rowid (pos 1) l)) it.1 ∙ replaced r row it.2 in
+    let is : rows_in new.now.trees meta ≡ row ∷ [] = made.row ∙ ap (λ l. put_row row (without_rowid (pos 1) l)) it.1 ∙ replaced r row it.2 in
     record {
       schema = made.schema;
       sound = made.sound;
@@ -83,7 +74,7 @@ names_site site old new count has older itself ran =
     let number : column r 2 ≡ Int (pos 3) = the_number 3 (λ e. cc) (column r 2) (ap (λ (m : Meta). m.schema) it.3) in
     let made = (named r 3 site old new count has it.1 it.2 number ran).0 in
     let row : Row = Int (pos 1) ∷ Null ∷ Int (pos 3) ∷ Bytes site ∷ [] in
-    let is : new.now.trees 0 ≡ row ∷ [] = made.row ∙ ap (λ l. put_row row (without_rowid (pos 1) l)) it.1 ∙ replaced r row it.2 in
+    let is : rows_in new.now.trees meta ≡ row ∷ [] = made.row ∙ ap (λ l. put_row row (without_rowid (pos 1) l)) it.1 ∙ replaced r row it.2 in
     record { schema = made.schema; sound = made.sound; told = ap (map meta_in) is; others = made.others }
 
 -- another text is held
@@ -93,5 +84,5 @@ writes_text text old new count has older it ran =
     let r = it.0 in
     let made = (written r text old new count has it.1 it.2.id ran).0 in
     let row : Row = Int (pos 1) ∷ Null ∷ Words text ∷ [] in
-    let is : new.now.trees 21 ≡ row ∷ [] = made.row ∙ ap (λ l. put_row row (without_rowid (pos 1) l)) it.1 ∙ replaced r row it.2.id in
+    let is : rows_in new.now.trees texts ≡ row ∷ [] = made.row ∙ ap (λ l. put_row row (without_rowid (pos 1) l)) it.1 ∙ replaced r row it.2.id in
     record { schema = made.schema; sound = made.sound; holds = (row, is, record { id = refl; body = refl }); others = made.others }

@@ -1,10 +1,8 @@
 -- How a connection comes to have the tables of the office.
-use Rattle.std.specs.Prelude.{◌≡◌, ◌≢◌, ◌⊎◌, ⊤, false, ℕ, length, List, Option, Some, None, IsTrue, Result, OnOk, IfErr}
+use Rattle.std.specs.Prelude.{◌≡◌, ◌≢◌, ◌⊎◌, ⊤, false, ℕ, length, List, Option, Some, None, IsTrue, Result, OnOk, IfErr, IsUtf8}
 use Rattle.std.specs.List.{AllByRecursion}
-use Rattle.std.specs.Str.{IsUtf8}
 use Rattle.sha2.specs.Sha256.{sha256}
-use Rattle.site_core.specs.Section.{SiteValue}
-use Rattle.site_core.specs.SiteText.{TextOfSite}
+use Rattle.site_core.specs.Prelude.{SiteValue, TextOfSite}
 use Rattle.sqlite.specs.Order.{Row}
 use Rattle.sqlite.specs.Tree.{Trees}
 use Rattle.sqlite.specs.Schema.{Schema}
@@ -12,17 +10,14 @@ use Rattle.sqlite.specs.Effect.{Database}
 use Rattle.sqlite.specs.Store.{Ghosts}
 use Rattle.sqlite.specs.Held.{Held, state}
 use Rattle.sqlite.specs.State.{State, HasCleanDisk, IsUnchanged, KeepsCommit, Survives}
-use Rattle.office_tables.specs.Tables.{Tables}
-use Rattle.office_sql.specs.Change.{Rests}
-use Rattle.office_sql.specs.Keeping.{IsReady}
-use Rattle.office_sql.specs.Schema.{no_schema}
-use Rattle.office_sql.specs.Tables.{IsOffice, office_over, tables_in}
+use Rattle.office_tables.specs.Prelude.{Tables}
+use Rattle.office_sql.specs.Prelude.{Rests, IsReady, no_schema, IsOffice, office_over, tables_in}
 use Rattle.office_store.specs.declared.adopting.Handed.{Handed}
 use Rattle.office_store.specs.declared.adopting.Handed.TheVariants as handed
 use Rattle.office_store.specs.declared.fault.OpenFault.{OpenFault}
 use Rattle.office_store.specs.declared.fault.OpenFault.TheVariants.{OtherSite, OtherTables, Failed}
 use Rattle.office_store.specs.declared.version.Version.{Version}
-use Rattle.office_store.specs.declared.version.Version.TheVariants.{Earliest, Early, First, Second, Third}
+use Rattle.office_store.specs.declared.version.Version.TheVariants.{First, Second, Third}
 use Rattle.office_store.specs.Addresses.{HasApartAddresses}
 use Rattle.office_store.specs.Found.{HasStarts, HasWhole, IsFound}
 use Rattle.office_store.specs.Meta.{metas_in, HoldsSite, IsBegun, HasMeta, TellNoSite, new_meta}
@@ -81,12 +76,10 @@ HoldsOther site db = (text : List ℕ) × HoldsSite text db × ¬ IsGrownFrom te
 
 -- a store of another site, by its version
 abbrev pub IsOther : TextOfSite → Version → Trees → Type 0
-IsOther site Earliest db = TellsOther Earliest (sha256 site.text) db
-IsOther site Early db = TellsOther Early (sha256 site.text) db
-IsOther site First db = TellsOther First (sha256 site.text) db
-IsOther site Second db = TellsOther Second (sha256 site.text) db
 IsOther site Third db = HoldsOther site.site db
+IsOther site version db = TellsOther version (sha256 site.text) db
 
+-- a database that is a store of another site, of any version
 abbrev pub IsOfOtherSite : TextOfSite → Database → Type 0
 IsOfOtherSite site db =
     (version : Version) × (db.schema ≡ schema_of version) × IsOther site version db.trees
@@ -98,11 +91,9 @@ IsOtherSchema schema = (schema ≢ no_schema) × IsOfNoVersion schema
 -- the beginnings of validity are asked for in a store of the second version and this site, and of
 -- the third
 abbrev pub AreStartsAsked : List ℕ → Version → Trees → Type 0
-AreStartsAsked site Earliest db = ⊥
-AreStartsAsked site Early db = ⊥
-AreStartsAsked site First db = ⊥
 AreStartsAsked site Second db = HasMeta Second site db
 AreStartsAsked site Third db = ⊤
+AreStartsAsked site _ db = ⊥
 
 -- and not each is told
 abbrev pub LacksStarts : List ℕ → Version → Trees → Type 0

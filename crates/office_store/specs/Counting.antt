@@ -1,11 +1,9 @@
 -- The numbers of places that a keeper keeps, and when they are right.
 use Rattle.std.specs.Prelude.{◌≡◌, ℕ, List, Bool, false, Option, Some, ◌&&◌, bytes_eq, not, option_map, unwrap_or}
 use Rattle.std.specs.BTreeMap.{get}
-use Rattle.office_tables.specs.States.{state_row}
+use Rattle.office_tables.specs.Prelude.{state_row, places_taken, rows_of, text_cmp}
 use Rattle.office_tables.specs.declared.rows.OfCustomer.{OfCustomer}
 use Rattle.office_tables.specs.declared.rows.Device.{Device}
-use Rattle.office_tables.specs.OrderPlaces.{places_taken}
-use Rattle.office_tables.specs.Tables.{rows_of, text_cmp}
 use Rattle.office_sql.specs.declared.devices.OrderState.{OrderState}
 use Rattle.office_store.specs.declared.places.OrderPlaces.{OrderPlaces}
 use Rattle.office_store.specs.declared.places.PlaceCounts.{PlaceCounts}

@@ -1,12 +1,9 @@
 -- How a store comes to hold the text of a site that grew, in one transaction.
 use Rattle.std.specs.Prelude.{◌≡◌, ◌≢◌, ℕ, List, IsTrue}
-use Rattle.std.specs.List.{AllByRecursion}
 use Rattle.sqlite.specs.Tree.{Trees}
 use Rattle.sqlite.specs.Effect.{Database, IsDatabase}
 use Rattle.sqlite.specs.State.{State}
-use Rattle.office_sql.specs.Change.{SameBut}
-use Rattle.office_sql.specs.Schema.{office_schema}
-use Rattle.office_sql.specs.Tables.{IsOffice, tables_in}
+use Rattle.office_sql.specs.Prelude.{OfficeTable, meta, texts, SameBut, office_schema, rows_in, IsOffice, tables_in}
 use Rattle.office_store.specs.declared.version.Version.TheVariants.{Third}
 use Rattle.office_store.specs.Meta.{HoldsSite, HasMeta}
 
@@ -15,12 +12,12 @@ pub record ReplacesName (site : List ℕ) (old new : Database) : Type 0 where
   pub schema : new.schema ≡ office_schema
   pub sound : IsDatabase new
   pub told : HasMeta Third site new.trees
-  pub others : SameBut 0 old.trees new.trees
+  pub others : SameBut meta old.trees new.trees
 
 -- each row but the text and that of meta stands, and the tables say what they said; the store tells
 -- of the text; and all is as the office has it
 pub record IsGrown (text : List ℕ) (old : Trees) (new : Database) : Type 0 where
-  pub rows : AllByRecursion (λ t. t.tree ≢ 0 → t.tree ≢ 21 → new.trees t.tree ≡ old t.tree) office_schema.tables
+  pub rows : (table : OfficeTable) → table ≢ meta → table ≢ texts → rows_in new.trees table ≡ rows_in old table
   pub tables : tables_in new.trees ≡ tables_in old
   pub tells : HoldsSite text new.trees
   pub office : IsOffice new

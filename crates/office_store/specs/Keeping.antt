@@ -4,8 +4,8 @@ use Rattle.sqlite.specs.Store.{Ghosts}
 use Rattle.sqlite.specs.Tree.{Trees}
 use Rattle.sqlite.specs.State.{HasCleanDisk}
 use Rattle.sqlite.specs.Held.{Held, state}
-use Rattle.office_tables.specs.Tables.{Tables}
-use Rattle.office_sql.specs.Tables.{tables_in}
+use Rattle.office_tables.specs.Prelude.{Tables}
+use Rattle.office_sql.specs.Prelude.{tables_in}
 
 module _ {S : Type 0} (g : Ghosts S) where
   -- the tables that were last committed. At rest a statement sees them too

@@ -8,6 +8,7 @@ pub record Kept (S : Type 0) : Type 0 where
   pub conn : Held S
   pub site : List ℕ
 
+-- how that is coded, by the code of its store
 abbrev pub kept_code : {S : Type 0} → Coded S → Coded (Kept S)
 kept_code {S} store = code_by (Held S
     × List ℕ) (coded× (held_code store) (coded_list coded_ℕ)) (λ k. (k.conn, k.site)) (λ p.

@@ -16,5 +16,7 @@ pub mod Meta
 pub mod Stores
 pub mod Described
 pub mod Opening
+pub mod Steps
 pub mod Upgrading
 pub mod Remaking
+pub mod Prelude

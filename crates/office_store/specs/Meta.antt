@@ -6,22 +6,22 @@ use Rattle.sqlite.specs.Tree.{Trees}
 use Rattle.sqlite.specs.Schema.{Schema}
 use Rattle.sqlite.specs.Effect.{Database}
 use Rattle.sqlite.specs.State.{State, Executes}
-use Rattle.office_tables.specs.Tables.{no_rows}
+use Rattle.office_tables.specs.Prelude.{no_rows}
 use Rattle.office_store.specs.declared.meta.Meta.{Meta}
 use Rattle.office_store.specs.declared.version.Version.{Version}
 use Rattle.office_store.specs.declared.version.Version.TheVariants.{Third}
 use Rattle.sha2.specs.Sha256.{sha256}
 use Rattle.office_store.specs.Texts.{HoldsText}
 use Rattle.office_store.specs.Versions.{first_tables, number_of_version}
-use Rattle.office_sql.specs.Values.{number_in_cell}
-use Rattle.office_sql.specs.Tables.{IsBlob, IsOffice, tables_in}
+use Rattle.office_sql.specs.Prelude.{rows_in, meta, number_in_cell, IsBlob, IsOffice, tables_in}
 
 -- meta: id, schema, site. The id is the rowid
 abbrev pub meta_in : Row → Meta
 meta_in r = record { id = number_in_cell (column r 0); schema = number_in_cell (column r 2); site = bytes (column r 3) }
 
+-- the rows of meta in a database
 abbrev pub metas_in : Trees → List Meta
-metas_in db = map meta_in (db 0)
+metas_in db = map meta_in (rows_in db meta)
 
 -- of a row that shows these columns alone
 abbrev pub meta_of : Row → Meta
@@ -61,7 +61,7 @@ TellNoSite version metas =
 
 -- what was read of them: the one row, or none where they tell no site
 abbrev pub IsMetaOf : List Meta → Option Meta → Type 0
-IsMetaOf metas (Some meta) = metas ≡ meta ∷ []
+IsMetaOf metas (Some row) = metas ≡ row ∷ []
 IsMetaOf metas None = (version : Version) → TellNoSite version metas
 
 -- meta, seat, map and link

@@ -1,6 +1,6 @@
 -- What a store in files shows once it is opened, by what the files held, and why an opening is refused.
 use Rattle.std.specs.Prelude.{◌≡◌, ◌⊎◌, ℕ, false, List, [], ◌++◌, codes, Result, Ok, Err}
-use Rattle.site_core.specs.SiteText.{TextOfSite}
+use Rattle.site_core.specs.Prelude.{TextOfSite}
 use Rattle.sqlite.specs.Recovery.{Image}
 use Rattle.sqlite.specs.Tree.{Trees}
 use Rattle.sqlite.specs.Effect.{Database}
@@ -12,9 +12,8 @@ use Rattle.sqlite.specs.State.{HasCleanDisk, KeepsCommit, Survives}
 use Rattle.sqlite.specs.Store.{Ghosts}
 use Rattle.sqlite_disk.specs.declared.Disk as disk
 use Rattle.sqlite_store.specs.declared.store.FileStore.{FileStore}
-use Rattle.office_tables.specs.Tables.{Tables}
-use Rattle.office_sql.specs.Schema.{no_schema}
-use Rattle.office_sql.specs.Tables.{tables_in}
+use Rattle.office_tables.specs.Prelude.{Tables}
+use Rattle.office_sql.specs.Prelude.{no_schema, tables_in}
 use Rattle.office_store.specs.declared.fault.OpenFault.{OpenFault}
 use Rattle.office_store.specs.declared.fault.OpenFault.TheVariants.{OtherTables, Failed}
 use Rattle.office_store.specs.declared.opening.Absent.{Absent}

@@ -3,13 +3,12 @@ use Rattle.std.specs.Prelude.{◌≡◌, ℕ, List, find, Option, Some, None, op
 use Rattle.sqlite.specs.Store.{Ghosts}
 use Rattle.sqlite.specs.Held.{Held, state}
 use Rattle.sqlite.specs.Tree.{Trees}
-use Rattle.fusemap_core.specs.Map.{Map}
-use Rattle.fusemap_core.specs.MapText.{map_in}
+use Rattle.fusemap_core.specs.Prelude.{Map, map_in}
 use Rattle.map_shelf.specs.Numbers.{AreMapsOfNumbers}
 use Rattle.office_tables.specs.declared.rows.OfCustomer.{OfCustomer}
 use Rattle.office_tables.specs.declared.rows.Device.{Device}
-use Rattle.office_tables.specs.Tables.{is_device, map_at, Tables}
-use Rattle.office_sql.specs.Keeping.{IsReady}
+use Rattle.office_tables.specs.Prelude.{is_device, map_at, Tables}
+use Rattle.office_sql.specs.Prelude.{IsReady}
 use Rattle.office_store.specs.Counting.{AreRight}
 use Rattle.office_store.specs.Adopting.{IsOfSite}
 use Rattle.office_store.specs.Keeping.{is_honest_at, is_open_at, tables_of}

@@ -4,7 +4,7 @@ use Rattle.std.specs.Prelude.{◌⊎◌}
 use Rattle.sqlite.specs.Tree.{Trees}
 use Rattle.sqlite.specs.Effect.{IsDatabase}
 use Rattle.sqlite.specs.Schema.{Schema}
-use Rattle.office_sql.specs.Schema.{no_schema}
+use Rattle.office_sql.specs.Prelude.{no_schema}
 use Rattle.office_store.specs.declared.version.Version.{Version}
 use Rattle.office_store.specs.Meta.{HasNothing}
 use Rattle.office_store.specs.Upgrading.{TellsItself}
@@ -24,8 +24,10 @@ pub record IsStoreOf (version : Version) (db : Trees) : Type 0 where
   pub schema : HasSchema (schema_of version) db
   pub told : TellsItself version db
 
+-- a store of any version
 abbrev pub IsStore : Trees → Type 0
 IsStore db = (version : Version) × IsStoreOf version db
 
+-- a store, or none yet
 abbrev pub IsStoreOrNone : Trees → Type 0
 IsStoreOrNone db = IsNoStore db ⊎ IsStore db

@@ -3,9 +3,8 @@ use Rattle.std.specs.Prelude.{◌≡◌, ℕ, pos, List, [], ◌∷◌, map, Ok,
 use Rattle.sqlite.specs.declared.types.Value.TheVariants.{Int, Text as Words}
 use Rattle.sqlite.specs.Order.{Row, column}
 use Rattle.sqlite.specs.Tree.{Trees}
-use Rattle.site_core.specs.Growth.{IsGrowth}
-use Rattle.site_core.specs.Section.{SiteValue}
-use Rattle.site_core.specs.SiteText.{site_read}
+use Rattle.site_core.specs.Prelude.{IsGrowth, SiteValue, site_read}
+use Rattle.office_sql.specs.Prelude.{rows_in, texts}
 
 -- the row's id is 1, and this column of it is the text
 pub record IsTextAt (place : ℕ) (text : List ℕ) (r : Row) : Type 0 where
@@ -18,11 +17,11 @@ IsOnlyText place text rows = (r : Row) × (rows ≡ r ∷ []) × IsTextAt place 
 
 -- site_text: id, body. The id is the rowid
 abbrev pub HoldsText : List ℕ → Trees → Type 0
-HoldsText text db = IsOnlyText 2 text (db 21)
+HoldsText text db = IsOnlyText 2 text (rows_in db texts)
 
 -- the rows show it, in some order
 abbrev pub ShowTexts : Trees → List Row → Type 0
-ShowTexts db rows = IsPermutation (map (λ r. column r 0 ∷ column r 2 ∷ []) (db 21)) rows
+ShowTexts db rows = IsPermutation (map (λ r. column r 0 ∷ column r 2 ∷ []) (rows_in db texts)) rows
 
 -- the site is a growth of the one that a text is
 abbrev pub IsGrownFrom : List ℕ → SiteValue → Type 0

@@ -1,101 +1,86 @@
--- How a database of an earlier version comes to have the tables of the third, in one transaction.
-use Rattle.std.specs.Prelude.{◌≡◌, ◌≢◌, ℕ, Bool, List, [], IsTrue}
+-- How a database of an earlier version comes to have the tables of the third, in one transaction: what is
+-- made in it step by step, and what the whole of it is.
+use Rattle.std.specs.Prelude.{◌≡◌, ◌≢◌, ◌<◌, ℕ, Bool, List, [], IsTrue}
 use Rattle.std.specs.List.{AllByRecursion}
 use Rattle.sqlite.specs.declared.types.Value.TheVariants.{Null}
 use Rattle.sqlite.specs.Order.{Row, column}
-use Rattle.sqlite.specs.Table.{Table}
 use Rattle.sqlite.specs.Tree.{Trees}
 use Rattle.sqlite.specs.Change.{KeepsRows}
 use Rattle.sqlite.specs.Effect.{Database, IsDatabase}
 use Rattle.sqlite.specs.State.{State}
-use Rattle.office_tables.specs.Tables.{order_cmp, given_cmp}
-use Rattle.office_sql.specs.Change.{SameBut}
-use Rattle.office_sql.specs.Schema.{office_schema}
-use Rattle.office_sql.specs.Rows.{order_in_row, given_in_row, starts_order, starts_given}
-use Rattle.office_sql.specs.Tables.{AreRows, AreStarted, IsGivenRow, IsOffice, IsOrderRow, tables_in}
+use Rattle.office_tables.specs.Prelude.{order_cmp, given_cmp}
+use Rattle.office_sql.specs.Prelude.{OfficeTable, meta, orders, given, order_starts, given_starts, texts, SameBut, office_schema, place_of, rows_in}
+use Rattle.office_sql.specs.Prelude.{order_in_row, given_in_row, starts_order, starts_given, AreRows, AreStarted, IsGivenRow, IsOffice, IsOrderRow, tables_in}
 use Rattle.office_store.specs.declared.version.Version.{Version}
 use Rattle.office_store.specs.declared.version.Version.TheVariants.{First, Second, Third}
 use Rattle.office_store.specs.Found.{HasStarts, IsFound, Sees}
 use Rattle.office_store.specs.Meta.{HasMeta}
 use Rattle.office_store.specs.Texts.{HoldsText}
-use Rattle.office_store.specs.Versions.{number_of_version, schema_of}
-
--- the rows of these tables stand, but for those of one tree
-abbrev pub KeepsAllBut : ℕ → List Table → Trees → Trees → Type 0
-KeepsAllBut tree tables old new =
-    AllByRecursion (λ t. t.tree ≢ tree → new t.tree ≡ old t.tree) tables
+use Rattle.office_store.specs.Versions.{count_of, number_of_version, schema_of, KeepsFirst, KeepsFirstBut}
 
 -- the tables of beginnings of validity are made, with no row, and each other table stays
 pub record GainsStarts (old new : Database) : Type 0 where
   pub schema : new.schema ≡ schema_of Second
-  pub orders : new.trees 17 ≡ []
-  pub given : new.trees 19 ≡ []
+  pub orders : rows_in new.trees order_starts ≡ []
+  pub given : rows_in new.trees given_starts ≡ []
   pub others : KeepsRows (schema_of First).tables old.trees new.trees
 
 -- the table of the site's text is made, with no row, and each other table stays
 pub record GainsText (old new : Database) : Type 0 where
   pub schema : new.schema ≡ office_schema
   pub sound : IsDatabase new
-  pub none : new.trees 21 ≡ []
+  pub none : rows_in new.trees texts ≡ []
   pub others : KeepsRows (schema_of Second).tables old.trees new.trees
 
--- the tables of the first version stand, and the others are made, with no row
-pub record GainsLater (old new : Database) : Type 0 where
-  pub schema : new.schema ≡ office_schema
-  pub sound : IsDatabase new
-  pub orders : new.trees 17 ≡ []
-  pub given : new.trees 19 ≡ []
-  pub texts : new.trees 21 ≡ []
-  pub others : KeepsRows (schema_of First).tables old.trees new.trees
-
--- orders, of none of which a beginning of validity is told
+-- orders in the second version, of none of which a beginning of validity is told
 pub record LacksOrderStarts (db : Database) : Type 0 where
-  pub schema : db.schema ≡ office_schema
-  pub rows : AreRows IsOrderRow order_cmp order_in_row (db.trees 7)
-  pub none : db.trees 17 ≡ []
+  pub schema : db.schema ≡ schema_of Second
+  pub rows : AreRows IsOrderRow order_cmp order_in_row (rows_in db.trees orders)
+  pub none : rows_in db.trees order_starts ≡ []
 
 -- the same of records
 pub record LacksGivenStarts (db : Database) : Type 0 where
-  pub schema : db.schema ≡ office_schema
-  pub rows : AreRows IsGivenRow given_cmp given_in_row (db.trees 11)
-  pub none : db.trees 19 ≡ []
+  pub schema : db.schema ≡ schema_of Second
+  pub rows : AreRows IsGivenRow given_cmp given_in_row (rows_in db.trees given)
+  pub none : rows_in db.trees given_starts ≡ []
 
--- of each row it is told that it has no beginning of validity, and no other table changes
-pub record GainsNone {A : Type 0} (is_for : A → Row → Bool) (value : Row → A) (tree side : ℕ)
+-- of each row it is told that it has no beginning of validity, and no other table of the second version
+-- changes
+pub record GainsNone {A : Type 0} (is_for : A → Row → Bool) (value : Row → A) (table side : OfficeTable)
     (old new : Database) : Type 0 where
-  pub schema : new.schema ≡ office_schema
+  pub schema : new.schema ≡ schema_of Second
   pub sound : IsDatabase new
-  pub started : AreStarted is_for value (old.trees tree) (new.trees side)
-  pub silent : AllByRecursion (λ s. column s 3 ≡ Null) (new.trees side)
-  pub others : SameBut side old.trees new.trees
+  pub started : AreStarted is_for value (rows_in old.trees table) (rows_in new.trees side)
+  pub silent : AllByRecursion (λ s. column s 3 ≡ Null) (rows_in new.trees side)
+  pub others : KeepsFirstBut side (count_of Second) old.trees new.trees
 
 -- of orders, and then of records
 pub record GainsNoStart (old new : Database) : Type 0 where
   pub mid : Database
-  pub orders : GainsNone starts_order order_in_row 7 17 old mid
-  pub given : GainsNone starts_given given_in_row 11 19 mid new
+  pub orders : GainsNone starts_order order_in_row orders order_starts old mid
+  pub given : GainsNone starts_given given_in_row given given_starts mid new
 
 -- what a database of an earlier version lacks is there, but the site's text: each row stands, the
 -- tables say what they said, and all is as the office has it
 pub record IsFilled (version : Version) (old new : Database) : Type 0 where
   pub office : IsOffice new
   pub tables : tables_in new.trees ≡ tables_in old.trees
-  pub rows : KeepsRows (schema_of version).tables old.trees new.trees
-  pub none : new.trees 21 ≡ []
+  pub rows : KeepsFirst (count_of version) old.trees new.trees
+  pub none : rows_in new.trees texts ≡ []
 
 -- the text is held, and no other table changes
 pub record PutsText (text : List ℕ) (old new : Database) : Type 0 where
   pub schema : new.schema ≡ office_schema
   pub sound : IsDatabase new
   pub holds : HoldsText text new.trees
-  pub others : SameBut 21 old.trees new.trees
+  pub others : SameBut texts old.trees new.trees
 
 -- of the same site the third version is told where another was, and no other table changes
 pub record TellsThird (old new : Database) : Type 0 where
   pub schema : new.schema ≡ office_schema
   pub sound : IsDatabase new
   pub told : (version : Version) → (site : List ℕ) → HasMeta version site old.trees → HasMeta Third site new.trees
-  pub others : SameBut 0 old.trees new.trees
+  pub others : SameBut meta old.trees new.trees
 
 -- a store of a version tells of itself, whatever its site
 abbrev pub TellsItself : Version → Trees → Type 0
@@ -104,7 +89,8 @@ TellsItself version db = (site : List ℕ) × HasMeta version site db
 -- each row but that of meta stands, and the tables say what they said; the third version is told of
 -- the same site, of which the text is held; and all is as the office has it
 pub record IsUpgrade (version : Version) (text : List ℕ) (old : Trees) (new : Database) : Type 0 where
-  pub rows : KeepsAllBut 0 (schema_of version).tables old new.trees
+  pub rows : (table : OfficeTable) → place_of table < count_of version → table ≢ meta
+      → rows_in new.trees table ≡ rows_in old table
   pub tables : tables_in new.trees ≡ tables_in old
   pub told : (site : List ℕ) → HasMeta version site old → HasMeta Third site new.trees
   pub holds : HoldsText text new.trees

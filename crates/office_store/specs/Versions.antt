@@ -1,19 +1,47 @@
 -- The schemas that a database of the office may have, and the numbers by which a store tells them.
-use Rattle.std.specs.Prelude.{◌≢◌, ⊤, ℕ, List, [], ◌∷◌, ◌++◌, codes, take, drop}
+use Rattle.std.specs.Prelude.{◌≡◌, ◌≢◌, ◌<◌, ⊤, ℕ, List, [], ◌∷◌, ◌++◌, Option, Some, None, codes, take, drop, if◌then◌else◌, nat_lt}
+use Rattle.sqlite.specs.Order.{Row}
 use Rattle.sqlite.specs.Table.{Table}
 use Rattle.sqlite.specs.Schema.{Schema}
+use Rattle.sqlite.specs.Tree.{Trees}
 use Rattle.sqlite_schema.specs.declared.schema.Index.{Index}
 use Rattle.sqlite_value.specs.Keys.{plain}
-use Rattle.office_sql.specs.Schema.{office_schema, given_table, ledger_table, index_at}
+use Rattle.office_sql.specs.Prelude.{OfficeTable, given, office_schema, given_table, ledger_table, index_at, place_of, rows_in, tree_of}
 use Rattle.office_store.specs.declared.version.Version.{Version}
 use Rattle.office_store.specs.declared.version.Version.TheVariants.{Earliest, Early, First, Second, Third}
 
+-- the number by which a store tells its version: the first three tell the same
 abbrev pub number_of_version : Version → ℕ
-number_of_version Earliest = 1
-number_of_version Early = 1
-number_of_version First = 1
 number_of_version Second = 2
 number_of_version Third = 3
+number_of_version _ = 1
+
+-- the version behind a version, to which a store of it is brought first
+abbrev pub next_version : Version → Option Version
+next_version Earliest = Some First
+next_version Early = Some First
+next_version First = Some Second
+next_version Second = Some Third
+next_version Third = None
+
+-- how many tables a version has: the first of the office's
+abbrev pub count_of : Version → ℕ
+count_of Second = 10
+count_of Third = 11
+count_of _ = 8
+
+-- the rows of the first tables stand
+abbrev pub KeepsFirst : ℕ → Trees → Trees → Type 0
+KeepsFirst count old new = (table : OfficeTable) → place_of table < count → rows_in new table ≡ rows_in old table
+
+-- and where one of them changes, those of the others
+abbrev pub KeepsFirstBut : OfficeTable → ℕ → Trees → Trees → Type 0
+KeepsFirstBut changed count old new =
+    (table : OfficeTable) → place_of table < count → table ≢ changed → rows_in new table ≡ rows_in old table
+
+-- the rows of a table that a version has; another has none
+abbrev pub rows_at : Version → Trees → OfficeTable → List Row
+rows_at version db table = if nat_lt (place_of table) (count_of version) then rows_in db table else []
 
 -- the first tables of the office with their indexes
 abbrev pub first_tables : ℕ → ℕ → Schema
@@ -31,9 +59,9 @@ given_keyed one two three =
 -- and the indexes of its keys
 abbrev pub given_indexes : List ℕ → List ℕ → List ℕ → List Index
 given_indexes one two three =
-    index_at 12 (codes "sqlite_autoindex_given_1") 11 one
-    ∷ index_at 13 (codes "sqlite_autoindex_given_2") 11 two
-    ∷ index_at 14 (codes "sqlite_autoindex_given_3") 11 three ∷ []
+    index_at 12 (codes "sqlite_autoindex_given_1") (tree_of given) one
+    ∷ index_at 13 (codes "sqlite_autoindex_given_2") (tree_of given) two
+    ∷ index_at 14 (codes "sqlite_autoindex_given_3") (tree_of given) three ∷ []
 
 -- the first version's schema with such a `given`
 abbrev pub schema_keyed : List ℕ → List ℕ → List ℕ → Schema

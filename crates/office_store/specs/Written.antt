@@ -4,7 +4,7 @@ use Rattle.office_tables.specs.declared.rows.OfCustomer.{OfCustomer}
 use Rattle.office_tables.specs.declared.rows.Device.{Device}
 use Rattle.office_tables.specs.declared.rows.Write.{Write}
 use Rattle.office_tables.specs.declared.rows.Write.TheVariants.{AddDevice, PutDevice}
-use Rattle.office_tables.specs.Tables.{device_cmp, is_device, with_row}
+use Rattle.office_tables.specs.Prelude.{device_cmp, is_device, with_row}
 use Rattle.office_store.specs.declared.written.WrittenDevices.{WrittenDevices}
 use Rattle.office_store.specs.declared.written.WrittenDevices.TheVariants.{Nothing, One, Several}
 

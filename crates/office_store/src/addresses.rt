@@ -5,9 +5,8 @@ ghost use Rattle.sqlite.specs.Held.{state};
 ghost use Rattle.sqlite.specs.Listing.{understood};
 ghost use Rattle.sqlite.specs.Order.{column, bytes};
 ghost use Rattle.sqlite.specs.State.{HasCleanDisk, IsUnchanged, Survives};
-ghost use Rattle.office_sql.specs.Change.{Rests};
-ghost use Rattle.office_store.specs.Addresses.{shows_again, HasApartAddresses, HasWalked};
-ghost use Rattle.office_store.specs.Found.{IsFound, Sees, Tests};
+ghost use Rattle.office_sql.specs.Prelude.{Rests};
+ghost use Rattle.office_store.specs.Prelude.{shows_again, HasApartAddresses, HasWalked, IsFound, Sees, Tests};
 ghost use Rattle.office_store.specs.declared.version.Version.{Version};
 
 use office_sql::DAMAGED;

@@ -1,25 +1,17 @@
 // How a connection becomes a keeper.
-ghost use Rattle.std.specs.Prelude.{◌≡◌, ◌≢◌, ◌↔◌, ℕ, length, List, Some, IsTrue, IfOk, IfErr, OnOk};
+ghost use Rattle.std.specs.Prelude.{◌≡◌, ◌≢◌, ◌↔◌, ℕ, length, List, Some, IsTrue, IfOk, IfErr, OnOk, IsUtf8};
 ghost use Rattle.sqlite.specs.State.{HasCleanDisk};
 ghost use Rattle.sqlite.specs.Held.{state};
-ghost use Rattle.office_sql.specs.Schema.{no_schema};
-ghost use Rattle.office_sql.specs.Tables.{tables_in};
-ghost use Rattle.office_store.specs.Adopting.{AreStartsAsked, CanPrepareTables, CanTake, Examines, HandedKeeps, HandedLeaves, IsFoundAt, IsGrowable};
-ghost use Rattle.office_store.specs.Adopting.{IsApartAt, IsFoundApart, IsHandedFor, IsOurs, IsShownText, LeavesAtMost, PreparesTables};
-ghost use Rattle.office_store.specs.Adopting.{StaysUnstarted, TakesGrowth, TakesOwn};
-ghost use Rattle.office_store.specs.Addresses.{HasApartAddresses};
-ghost use Rattle.office_store.specs.Found.{HasStarts, IsFound};
-ghost use Rattle.office_store.specs.Meta.{meta_of_version, new_meta, HasMeta};
-ghost use Rattle.office_store.specs.Stores.{IsStoreOrNone};
-ghost use Rattle.office_store.specs.Texts.{HoldsText, IsGrownFrom};
-ghost use Rattle.office_store.specs.Upgrading.{CanUpgrade};
-ghost use Rattle.office_store.specs.Versions.{number_of_version, schema_of};
+ghost use Rattle.office_sql.specs.Prelude.{no_schema, tables_in};
+ghost use Rattle.office_store.specs.Prelude.{AreStartsAsked, CanPrepareTables, CanTake, Examines, HandedKeeps, HandedLeaves, IsFoundAt, IsGrowable, IsApartAt};
+ghost use Rattle.office_store.specs.Prelude.{IsFoundApart, IsHandedFor, IsOurs, IsShownText, LeavesAtMost, PreparesTables, StaysUnstarted, TakesGrowth};
+ghost use Rattle.office_store.specs.Prelude.{TakesOwn, HasApartAddresses, HasStarts, IsFound, meta_of_version, new_meta, HasMeta, IsStoreOrNone, HoldsText};
+ghost use Rattle.office_store.specs.Prelude.{IsGrownFrom, CanUpgrade, number_of_version, schema_of};
 ghost use Rattle.office_store.specs.declared.fault.OpenFault.TheVariants.{OtherSite as TheSite, OtherTables as TheTables};
 ghost use Rattle.office_store.specs.declared.version.Version.TheVariants.{Second, Third};
 ghost use Rattle.office_store.specs.declared.version.Version.{Version as TheVersion};
 ghost use Rattle.sha2.specs.Sha256.{sha256};
-ghost use Rattle.site_core.specs.SiteText.{TextOfSite};
-ghost use Rattle.std.specs.Str.{IsUtf8};
+ghost use Rattle.site_core.specs.Prelude.{TextOfSite};
 
 use crate::addresses::has_apart_addresses;
 use crate::create::make_tables;

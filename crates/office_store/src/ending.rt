@@ -4,10 +4,8 @@ ghost use Rattle.sqlite.specs.Recovery.{Image};
 ghost use Rattle.sqlite.specs.Tree.{Trees};
 ghost use Rattle.sqlite.specs.View.{IsClean};
 ghost use Rattle.sqlite_store.specs.FileStore as files;
-ghost use Rattle.office_tables.specs.Tables.{Tables};
-ghost use Rattle.office_store.specs.Adopting.{IsOfSite};
-ghost use Rattle.office_store.specs.Keeping.{is_honest_at, may_leave_at};
-ghost use Rattle.office_store.specs.Opening.{HasTablesOf};
+ghost use Rattle.office_tables.specs.Prelude.{Tables};
+ghost use Rattle.office_store.specs.Prelude.{IsOfSite, is_honest_at, may_leave_at, HasTablesOf};
 
 use crate::keep::SqlKeep;
 use sqlite::FileStore;

@@ -1,6 +1,6 @@
 // Why a store isn't opened.
 ghost use Rattle.std.specs.Prelude.{◌≡◌};
-ghost use Rattle.office_store.specs.Faults.{open_fault_number};
+ghost use Rattle.office_store.specs.Prelude.{open_fault_number};
 
 use thiserror::Error as Faulty;
 

@@ -2,15 +2,8 @@
 ghost use Rattle.std.specs.Prelude.{◌≡◌, ℕ, List, false, IsTrue, OnOk, OnErr};
 ghost use Rattle.sqlite.specs.State.{HasCleanDisk, Survives};
 ghost use Rattle.sqlite.specs.Held.{state};
-ghost use Rattle.office_sql.specs.Asking.{SqlWrites};
-ghost use Rattle.office_sql.specs.Change.{IsUndone};
-ghost use Rattle.office_sql.specs.Schema.{office_schema};
-ghost use Rattle.office_sql.specs.Tables.{office_over};
-ghost use Rattle.office_store.specs.Found.{Sees};
-ghost use Rattle.office_store.specs.Growing.{CanGrow, HasGrown, IsGrown, ReplacesName};
-ghost use Rattle.office_store.specs.Meta.{HasMeta};
-ghost use Rattle.office_store.specs.Texts.{HoldsText};
-ghost use Rattle.office_store.specs.Upgrading.{PutsText};
+ghost use Rattle.office_sql.specs.Prelude.{SqlWrites, IsUndone, office_schema, office_over};
+ghost use Rattle.office_store.specs.Prelude.{Sees, CanGrow, HasGrown, IsGrown, ReplacesName, HasMeta, HoldsText, PutsText};
 ghost use Rattle.office_store.specs.declared.version.Version.TheVariants.{Third};
 
 use site_core::SiteText;

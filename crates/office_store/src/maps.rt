@@ -2,11 +2,10 @@
 ghost use Rattle.std.specs.Prelude.{◌≡◌, option_and_then, IfOk, IsOkAnd, IsTrue};
 ghost use Rattle.sqlite.specs.State.{HasCleanDisk};
 ghost use Rattle.sqlite.specs.Held.{state};
-ghost use Rattle.fusemap_core.specs.MapText.{map_in};
+ghost use Rattle.fusemap_core.specs.Prelude.{map_in};
 ghost use Rattle.map_shelf.specs.Numbers.{AreMapsOfNumbers};
-ghost use Rattle.office_sql.specs.Asking.{SqlReads, HasOffice};
-ghost use Rattle.office_sql.specs.Tables.{tables_in};
-ghost use Rattle.office_store.specs.Remembering.{fuse_map_at};
+ghost use Rattle.office_sql.specs.Prelude.{SqlReads, HasOffice, tables_in};
+ghost use Rattle.office_store.specs.Prelude.{fuse_map_at};
 
 use fusemap_core::FuseMap;
 use map_shelf::{NumberShelf, map_of_text};

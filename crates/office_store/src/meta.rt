@@ -3,10 +3,8 @@ ghost use Rattle.std.specs.Prelude.{◌≡◌, ◌≢◌, [], ◌∷◌, length,
 ghost use Rattle.std.specs.List.{AllByRecursion};
 ghost use Rattle.sqlite.specs.Held.{state};
 ghost use Rattle.sqlite.specs.Order.{bytes, column};
-ghost use Rattle.office_sql.specs.Tables.{IsBlob};
-ghost use Rattle.office_sql.specs.Values.{number_in_cell};
-ghost use Rattle.office_store.specs.Found.{IsFound, Sees, Tests};
-ghost use Rattle.office_store.specs.Meta.{meta_of, metas_in, IsMetaOf, ShowMeta, TellNoSite};
+ghost use Rattle.office_sql.specs.Prelude.{IsBlob, number_in_cell};
+ghost use Rattle.office_store.specs.Prelude.{IsFound, Sees, Tests, meta_of, metas_in, IsMetaOf, ShowMeta, TellNoSite};
 ghost use Rattle.office_store.specs.declared.version.Version.{Version};
 
 use sqlite::types::ValueRef;

@@ -5,11 +5,9 @@ ghost use Rattle.sqlite.specs.Tree.{Trees};
 ghost use Rattle.sqlite.specs.Held.{state};
 ghost use Rattle.sqlite.specs.State.{HasCleanDisk, Survives};
 ghost use Rattle.sqlite.specs.WalFiles.{image_at};
-ghost use Rattle.office_sql.specs.Tables.{tables_in};
-ghost use Rattle.office_store.specs.Addresses.{HasApartAddresses};
-ghost use Rattle.office_store.specs.Adopting.{CanPrepareTables, IsOurs, IsPreparedFor, StaysUnstarted, TakesGrowth, TakesOwn};
-ghost use Rattle.office_store.specs.Texts.{HoldsText};
-ghost use Rattle.office_store.specs.Opening.{HasTablesOf, IsTaken, IsTakenFrom, IsTurnedAway, LacksStore, NamesNoFile, TellsWhy, FilesHeld};
+ghost use Rattle.office_sql.specs.Prelude.{tables_in};
+ghost use Rattle.office_store.specs.Prelude.{HasApartAddresses, CanPrepareTables, IsOurs, IsPreparedFor, StaysUnstarted, TakesGrowth, TakesOwn, HoldsText};
+ghost use Rattle.office_store.specs.Prelude.{HasTablesOf, IsTaken, IsTakenFrom, IsTurnedAway, LacksStore, NamesNoFile, TellsWhy, FilesHeld};
 ghost use Rattle.office_store.specs.declared.fault.OpenFault.TheVariants.{OtherTables};
 ghost use Rattle.office_store.specs.declared.opening.Absent.TheVariants.{Refuse};
 

@@ -4,13 +4,9 @@ ghost use Rattle.sqlite.specs.State.{HasCleanDisk};
 ghost use Rattle.sqlite.specs.Held.{state};
 ghost use Rattle.office_tables.specs.declared.rows.OfCustomer.{OfCustomer};
 ghost use Rattle.office_tables.specs.declared.rows.Device.{Device};
-ghost use Rattle.office_tables.specs.OrderPlaces.{places_taken};
-ghost use Rattle.office_tables.specs.PlaceCounting.{place_of_device};
-ghost use Rattle.office_tables.specs.Tables.{device_cmp, rows_of, IsInOrder};
-ghost use Rattle.office_sql.specs.Asking.{SqlReads, HasOffice};
-ghost use Rattle.office_sql.specs.Tables.{tables_in};
-ghost use Rattle.office_store.specs.Counting.{count_if_counted, number_at, takes, AgreeBut, AgreeOff, AreCounts, AreRight};
-ghost use Rattle.office_store.specs.Written.{ArePut, IsReplaced};
+ghost use Rattle.office_tables.specs.Prelude.{places_taken, place_of_device, device_cmp, rows_of, IsInOrder};
+ghost use Rattle.office_sql.specs.Prelude.{SqlReads, HasOffice, tables_in};
+ghost use Rattle.office_store.specs.Prelude.{count_if_counted, number_at, takes, AgreeBut, AgreeOff, AreCounts, AreRight, ArePut, IsReplaced};
 
 use crate::written::WrittenDevices;
 use office_sql as sql;

@@ -1,7 +1,6 @@
 // What a keeper remembers of the tables.
-ghost use Rattle.office_tables.specs.Tables.{device_cmp, IsInOrder, Tables};
-ghost use Rattle.office_store.specs.Remembering.{Agrees, StayMapped};
-ghost use Rattle.office_store.specs.Written.{ArePut, IsReplaced};
+ghost use Rattle.office_tables.specs.Prelude.{device_cmp, IsInOrder, Tables};
+ghost use Rattle.office_store.specs.Prelude.{Agrees, StayMapped, ArePut, IsReplaced};
 
 use crate::places::PlaceCounts;
 use crate::written::{DeviceAnswer, WrittenDevices, answer_after};

@@ -1,12 +1,9 @@
 // The table of the site's text.
-ghost use Rattle.std.specs.Prelude.{◌≡◌, ◌≢◌, ◌↔◌, ℕ, pos, List, IfSome, IfNone, IsTrue};
-ghost use Rattle.std.specs.Str.{IsUtf8};
+ghost use Rattle.std.specs.Prelude.{◌≡◌, ◌≢◌, ◌↔◌, ℕ, pos, List, IfSome, IfNone, IsTrue, IsUtf8};
 ghost use Rattle.sqlite.specs.Held.{state};
 ghost use Rattle.sqlite.specs.Order.{column};
 ghost use Rattle.sqlite.specs.declared.types.Value.TheVariants.{Int as TheInt, Text as Words};
-ghost use Rattle.office_store.specs.Found.{IsFound, Sees, Tests};
-ghost use Rattle.office_store.specs.Meta.{metas_in, IsMetaOf};
-ghost use Rattle.office_store.specs.Texts.{HoldsText, IsOnlyText, IsTextAt, ShowTexts};
+ghost use Rattle.office_store.specs.Prelude.{IsFound, Sees, Tests, metas_in, IsMetaOf, HoldsText, IsOnlyText, IsTextAt, ShowTexts};
 ghost use Rattle.office_store.specs.declared.version.Version.TheVariants.{Third};
 
 use crate::meta::{Meta, meta_row};

@@ -1,20 +1,16 @@
-// How a store of an earlier version comes to have the tables of the third.
-ghost use Rattle.std.specs.Prelude.{◌≡◌, false, IsTrue, OnOk, OnErr};
+// How a store of an earlier version comes to have the tables of the third: by a step from each
+// version to the next.
+ghost use Rattle.std.specs.Prelude.{◌≡◌, ◌≢◌, false, IsTrue, OnOk, OnErr};
 ghost use Rattle.sqlite.specs.State.{HasCleanDisk, Survives};
 ghost use Rattle.sqlite.specs.Held.{state};
-ghost use Rattle.office_sql.specs.Asking.{SqlWrites};
-ghost use Rattle.office_sql.specs.Change.{IsUndone};
-ghost use Rattle.office_sql.specs.Rows.{order_in_row, given_in_row, starts_order, starts_given};
-ghost use Rattle.office_sql.specs.Schema.{office_schema};
-ghost use Rattle.office_sql.specs.Tables.{office_over};
-ghost use Rattle.office_store.specs.Found.{HasStarts, IsFound, Sees};
-ghost use Rattle.office_store.specs.Upgrading.{CanUpgrade, GainsNone, GainsNoStart, IsFilled, IsUpgrade, IsUpgraded, LacksGivenStarts};
-ghost use Rattle.office_store.specs.Upgrading.{LacksOrderStarts, TellsItself, TellsThird};
+ghost use Rattle.office_sql.specs.Prelude.{SqlWrites, IsUndone, order_in_row, given_in_row, starts_order, starts_given, orders, given, order_starts};
+ghost use Rattle.office_sql.specs.Prelude.{given_starts, office_schema, office_over};
+ghost use Rattle.office_store.specs.Prelude.{IsAt, IsStep, Sees, CanUpgrade, GainsNone, GainsNoStart, IsFilled, IsUpgrade, IsUpgraded, LacksGivenStarts};
+ghost use Rattle.office_store.specs.Prelude.{LacksOrderStarts, TellsItself, TellsThird, IsEarly};
 ghost use Rattle.office_store.specs.declared.version.Version.{Version as TheVersion};
-ghost use Rattle.office_store.specs.declared.version.Version.TheVariants.{First, Second};
-ghost use Rattle.office_store.specs.Versions.{IsEarly};
+ghost use Rattle.office_store.specs.declared.version.Version.TheVariants.{First, Second, Third};
 
-use crate::create::{add_text, make_later, make_text};
+use crate::create::{add_text, make_starts, make_text};
 use crate::remake::remake_tables;
 use crate::version::Version;
 use sqlite::{Alter, Connection, Error, Transaction};
@@ -24,7 +20,7 @@ fn fill_order_starts<S: Alter>(tx: &mut Transaction<'_, S>) -> Result<(), Error>
     requires { Sees LacksOrderStarts (state S.Store tx.old.conn.now) }
     ensures same_reference { tx.new.conn.ghost_name ≡ tx.old.conn.ghost_name }
     ensures changes { SqlWrites S.Store tx.old.conn.now tx.new.conn.now result
-        (λ old new _. GainsNone starts_order order_in_row 7 17 old new) }
+        (λ old new _. GainsNone starts_order order_in_row orders order_starts old new) }
 {
     tx.execute(
         "INSERT INTO order_start (customer, ord, not_before) SELECT customer, name, NULL FROM orders",
@@ -38,7 +34,7 @@ fn fill_given_starts<S: Alter>(tx: &mut Transaction<'_, S>) -> Result<(), Error>
     requires { Sees LacksGivenStarts (state S.Store tx.old.conn.now) }
     ensures same_reference { tx.new.conn.ghost_name ≡ tx.old.conn.ghost_name }
     ensures changes { SqlWrites S.Store tx.old.conn.now tx.new.conn.now result
-        (λ old new _. GainsNone starts_given given_in_row 11 19 old new) }
+        (λ old new _. GainsNone starts_given given_in_row given given_starts old new) }
 {
     tx.execute(
         "INSERT INTO given_start (issuer, serial, not_before) SELECT issuer, serial, NULL FROM given",
@@ -58,52 +54,66 @@ fn fill_starts<S: Alter>(tx: &mut Transaction<'_, S>) -> Result<(), Error>
     fill_given_starts(tx)
 }
 
-/// Makes what a store of the first version lacks, but the text of its site.
-fn fill_first<S: Alter>(tx: &mut Transaction<'_, S>) -> Result<(), Error>
-    requires { Sees (IsFound First) (state S.Store tx.old.conn.now) }
+/// Makes `given` and the ledger of a store of a version before the first anew.
+fn raise_early<S: Alter>(tx: &mut Transaction<'_, S>, version: Version) -> Result<(), Error>
+    requires early { IsEarly version }
+    requires is { Sees (IsAt version) (state S.Store tx.old.conn.now) }
     ensures same_reference { tx.new.conn.ghost_name ≡ tx.old.conn.ghost_name }
     ensures changes { SqlWrites S.Store tx.old.conn.now tx.new.conn.now result
-        (λ old new _. IsFilled First old new) }
+        (λ old new _. IsStep version old new) }
 {
-    make_later(tx)?;
+    remake_tables(tx)
+}
+
+/// Makes the beginnings of validity, which a store of the first version lacks.
+fn raise_first<S: Alter>(tx: &mut Transaction<'_, S>) -> Result<(), Error>
+    requires { Sees (IsAt First) (state S.Store tx.old.conn.now) }
+    ensures same_reference { tx.new.conn.ghost_name ≡ tx.old.conn.ghost_name }
+    ensures changes { SqlWrites S.Store tx.old.conn.now tx.new.conn.now result
+        (λ old new _. IsStep First old new) }
+{
+    make_starts(tx)?;
     fill_starts(tx)
 }
 
-/// Makes what one of the second version lacks.
-fn fill_second<S: Alter>(tx: &mut Transaction<'_, S>) -> Result<(), Error>
-    requires found { Sees (IsFound Second) (state S.Store tx.old.conn.now) }
-    requires started { Sees (λ db. HasStarts db.trees) (state S.Store tx.old.conn.now) }
+/// Makes the table of the site's text, which one of the second version lacks.
+fn raise_second<S: Alter>(tx: &mut Transaction<'_, S>) -> Result<(), Error>
+    requires { Sees (IsAt Second) (state S.Store tx.old.conn.now) }
     ensures same_reference { tx.new.conn.ghost_name ≡ tx.old.conn.ghost_name }
     ensures changes { SqlWrites S.Store tx.old.conn.now tx.new.conn.now result
-        (λ old new _. IsFilled Second old new) }
+        (λ old new _. IsStep Second old new) }
 {
     make_text(tx)
 }
 
-/// Makes what a store of a version before the first lacks, whose `given` and ledger are made anew.
-fn fill_early<S: Alter>(tx: &mut Transaction<'_, S>, version: Version) -> Result<(), Error>
-    requires early { IsEarly version }
-    requires found { Sees (IsFound version) (state S.Store tx.old.conn.now) }
+/// Makes a store of an earlier version one of the next.
+fn step<S: Alter>(tx: &mut Transaction<'_, S>, version: Version) -> Result<(), Error>
+    requires earlier { version ≢ Third }
+    requires is { Sees (IsAt version) (state S.Store tx.old.conn.now) }
     ensures same_reference { tx.new.conn.ghost_name ≡ tx.old.conn.ghost_name }
     ensures changes { SqlWrites S.Store tx.old.conn.now tx.new.conn.now result
-        (λ old new _. IsFilled version old new) }
+        (λ old new _. IsStep version old new) }
 {
-    remake_tables(tx)?;
-    fill_starts(tx)
+    match version {
+        Version::Earliest | Version::Early => raise_early(tx, version),
+        Version::First => raise_first(tx),
+        _ => raise_second(tx),
+    }
 }
 
-/// Makes what one of an earlier version lacks.
+/// Makes what one of an earlier version lacks, a version after the other.
 fn fill<S: Alter>(tx: &mut Transaction<'_, S>, version: Version) -> Result<(), Error>
     requires { CanUpgrade version (state S.Store tx.old.conn.now) }
     ensures same_reference { tx.new.conn.ghost_name ≡ tx.old.conn.ghost_name }
     ensures changes { SqlWrites S.Store tx.old.conn.now tx.new.conn.now result
         (λ old new _. IsFilled version old new) }
 {
-    match version {
-        Version::Earliest | Version::Early => fill_early(tx, version),
-        Version::First => fill_first(tx),
-        _ => fill_second(tx),
+    let mut at = version;
+    while let Some(next) = at.next() {
+        step(tx, at)?;
+        at = next;
     }
+    Ok(())
 }
 
 /// Tells that the store is of the third version.

@@ -1,6 +1,6 @@
 // The schemas that a database of the office may have.
 ghost use Rattle.std.specs.Prelude.{◌≡◌};
-ghost use Rattle.office_store.specs.Versions.{number_of_version};
+ghost use Rattle.office_store.specs.Prelude.{next_version, number_of_version};
 
 /// A schema that a database of the office may have.
 #[derive(Clone, Copy)]
@@ -27,6 +27,17 @@ impl Version {
             Version::Earliest | Version::Early | Version::First => 1,
             Version::Second => 2,
             Version::Third => 3,
+        }
+    }
+    /// The version behind it, to which a store of it is brought first.
+    pub(crate) fn next(self) -> Option<Version>
+        ensures { result ≡ next_version self }
+    {
+        match self {
+            Version::Earliest | Version::Early => Some(Version::First),
+            Version::First => Some(Version::Second),
+            Version::Second => Some(Version::Third),
+            Version::Third => None,
         }
     }
 }

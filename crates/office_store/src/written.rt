@@ -1,16 +1,12 @@
 // The devices in a list of writes.
-ghost use Rattle.std.specs.Prelude.{◌≡◌, List, filter_map, find, IfOk, IfSome};
-ghost use Rattle.std.specs.Option.{option_copied};
+ghost use Rattle.std.specs.Prelude.{◌≡◌, List, filter_map, find, IfOk, IfSome, option_copied};
 ghost use Rattle.sqlite.specs.Held.{state};
 ghost use Rattle.sqlite.specs.Tree.{Trees};
 ghost use Rattle.office_tables.specs.declared.rows.OfCustomer.{OfCustomer};
 ghost use Rattle.office_tables.specs.declared.rows.Device.{Device};
-ghost use Rattle.office_tables.specs.Keeping.{Reads};
-ghost use Rattle.office_tables.specs.Tables.{is_device};
-ghost use Rattle.office_sql.specs.Keeping.{IsReady};
-ghost use Rattle.office_store.specs.Keeping.{is_honest_at, is_open_at, may_leave_at, tables_of};
-ghost use Rattle.office_store.specs.Remembering.{IsAnswer};
-ghost use Rattle.office_store.specs.Written.{device_written, ArePut, AreTold, IsReplaced};
+ghost use Rattle.office_tables.specs.Prelude.{Reads, is_device};
+ghost use Rattle.office_sql.specs.Prelude.{IsReady};
+ghost use Rattle.office_store.specs.Prelude.{is_honest_at, is_open_at, may_leave_at, tables_of, IsAnswer, device_written, ArePut, AreTold, IsReplaced};
 
 use office_sql as sql;
 use office_tables::{DeviceRow, Write};

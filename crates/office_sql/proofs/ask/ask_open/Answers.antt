@@ -1,6 +1,5 @@
-use Rattle.std.proofs.Common.{[], subst, sym}
-use Rattle.std.specs.Prelude.{⊤}
-use Rattle.office_sql.specs.Asking.{SqlReads}
+use Rattle.text_core.proofs.Kit.{[], subst, sym, ⊤}
+use Rattle.office_sql.specs.Prelude.{SqlReads}
 use Rattle.office_sql.proofs.Asked.{not_run_rests, unchanged_rests}
 use Rattle.office_sql.proofs.ask.ask_open.Goals as goal
 use Rattle.office_sql.proofs.ask.ask_open.Goals.{in-Ok, in-Err}

@@ -1,8 +1,7 @@
 -- What the query of a device shows is that device.
 use Rattle.std.proofs.Common.{refl, [], ◌∷◌}
 use Rattle.sqlite.specs.declared.types.Value.TheVariants.{Text}
-use Rattle.sqlite.specs.Held.{state}
-use Rattle.office_sql.specs.Scan.{is_parameter}
+use Rattle.office_sql.specs.Prelude.{devices, is_parameter}
 use Rattle.office_sql.proofs.Reading.{asked}
 use Rattle.office_sql.proofs.DeviceReads.{one_text, shown, by_key, one_read, one_shown}
 use Rattle.office_sql.proofs.devices.device_rows.Goals as goal
@@ -11,7 +10,7 @@ pub returns : goal.returns
 returns g c =
     let customer = c.args.customer.now in
     let chip = c.args.chip.now in
-    asked g.S.Store one_text 9 (is_parameter 1 0 ∷ is_parameter 2 1 ∷ []) shown by_key one_read _ (Text customer ∷ Text chip ∷ [])
+    asked g.S.Store one_text devices (is_parameter 1 0 ∷ is_parameter 2 1 ∷ []) shown by_key one_read _ (Text customer ∷ Text chip ∷ [])
     (rw (
       c.params-to_sql.ensures,
       c.params-to_sql-2.ensures,
@@ -19,5 +18,5 @@ returns g c =
       c.as_str-2.ensures.same,
     ) refl)
     c.args.conn.now c.query_all.new.self c.query_all.result _ c.requires
-    (λ rows office s. one_shown customer chip ((state g.S.Store c.args.conn.now).now.trees 9) rows.items office.rows.devices s)
+    (λ rows office s. one_shown customer chip _ rows.items (office.rows devices) s)
     c.query_all.ensures.ok c.query_all.ensures.err c.query_all.ensures.mode c.query_all.ensures.survives

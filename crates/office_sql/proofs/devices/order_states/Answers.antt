@@ -1,6 +1,5 @@
 -- The states that are read are those that the query shows.
-use Rattle.std.proofs.Common.{rules, ◌∙◌}
-use Rattle.std.proofs.lemmas.Result.{IfOk-weaker}
+use Rattle.text_core.proofs.Kit.{rules, ◌∙◌, IfOk-weaker}
 use Rattle.office_sql.proofs.Reading.{asks_more}
 use Rattle.office_sql.proofs.devices.order_states.Goals as goal
 

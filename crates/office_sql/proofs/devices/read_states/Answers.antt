@@ -1,6 +1,6 @@
 -- One row more is read.
 use Rattle.std.proofs.Common.{◌∙◌, ◌<◌, length, arith}
-use Rattle.office_sql.specs.OrderStates.{order_state_in}
+use Rattle.office_sql.specs.Prelude.{order_state_in}
 use Rattle.office_sql.proofs.DeviceReads.{one_more}
 use Rattle.office_sql.proofs.devices.read_states.Goals as goal
 

@@ -1,6 +1,6 @@
 -- An update of one row puts the device in its place.
 use Rattle.sqlite.specs.Held.{state}
-use Rattle.office_sql.specs.Rows.{device_columns}
+use Rattle.office_sql.specs.Prelude.{device_columns}
 use Rattle.office_sql.proofs.DeviceWrites.{put_text, device_put}
 use Rattle.office_sql.proofs.Inserting.{changes}
 use Rattle.office_sql.proofs.devices.update_device.Goals as goal

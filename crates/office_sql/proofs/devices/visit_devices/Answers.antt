@@ -1,9 +1,7 @@
 use Rattle.std.proofs.Common.{refl, [], ◌∷◌, filter}
 use Rattle.sqlite.specs.declared.types.Value.TheVariants.{Null, Text}
-use Rattle.sqlite.specs.Held.{state}
-use Rattle.office_tables.specs.Tables.{is_of}
-use Rattle.office_sql.specs.Rows.{device_in_row}
-use Rattle.office_sql.specs.Scan.{is_parameter}
+use Rattle.office_tables.specs.Prelude.{is_of}
+use Rattle.office_sql.specs.Prelude.{devices, device_in_row, is_parameter}
 use Rattle.office_sql.proofs.DeviceReads.{own_text, shown, by_key, own_read, own_shown}
 use Rattle.office_sql.proofs.Visiting.{bare_returns, visits}
 use Rattle.office_sql.proofs.devices.visit_devices.Goals as goal
@@ -14,9 +12,9 @@ visit_rows-requires g c = bare_returns own_text own_read.bare c.args.conn.now.sc
 pub returns : goal.returns
 returns g c =
     let customer = c.args.customer.now in
-    visits g.S.Store own_text 9 (is_parameter 1 0 ∷ []) shown by_key own_read _ (Text customer
+    visits g.S.Store own_text devices (is_parameter 1 0 ∷ []) shown by_key own_read _ (Text customer
     ∷ []) (rw (c.params-to_sql.ensures, c.as_str.ensures.same) refl)
     c.args.conn.now c.visit_rows.new.conn
     g.K.Sink.takes (λ r. device_in_row (Null ∷ r)) c.visit_rows.result c.args.sink.now c.visit_rows.new.sink (λ t. filter (is_of customer) t.devices) c.requires
-    (λ rows office s. own_shown customer ((state g.S.Store c.args.conn.now).now.trees 9) rows office.rows.devices s)
+    (λ rows office s. own_shown customer _ rows (office.rows devices) s)
     c.visit_rows.ensures.visited c.visit_rows.ensures.same c.visit_rows.ensures.rests c.visit_rows.ensures.mode c.visit_rows.ensures.crash

@@ -1,9 +1,8 @@
 use Rattle.std.proofs.Common.{sym, subst}
-use Rattle.sqlite.specs.Held.{state}
-use Rattle.sqlite.proofs.StateLemmas.{clean_if_open}
-use Rattle.office_tables.specs.Tables.{IsFree, IsAddressFree}
+use Rattle.office_sql.proofs.Kit.{state, clean_if_open}
+use Rattle.office_tables.specs.Prelude.{IsFree, IsAddressFree}
 use Rattle.office_tables.specs.declared.rows.Write.TheVariants.{AddGiven}
-use Rattle.office_sql.specs.Tables.{IsOffice, tables_in}
+use Rattle.office_sql.specs.Prelude.{IsOffice, tables_in}
 use Rattle.office_sql.proofs.given.add_given.Goals as goal
 
 pub insert_record-requires-clause-office : goal.insert_record-requires-clause-office

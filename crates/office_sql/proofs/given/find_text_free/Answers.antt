@@ -1,6 +1,5 @@
-use Rattle.std.proofs.Common.{◌≡◌, length, sym, ◌∙◌, vec_len}
-use Rattle.std.proofs.lemmas.Bool.{eqb-true}
-use Rattle.id_ranges.specs.Mac.{mac_of_text}
+use Rattle.std.proofs.Common.{◌≡◌, length, sym, ◌∙◌, vec_len, eqb-true}
+use Rattle.id_ranges.specs.Prelude.{mac_of_text}
 use Rattle.office_sql.proofs.GivenWrites.{none_shown}
 use Rattle.office_sql.proofs.Looking.{looks_more}
 use Rattle.office_sql.proofs.given.find_text_free.Goals as goal

@@ -1,7 +1,6 @@
-use Rattle.std.proofs.Common.{rules, ◌∙◌}
-use Rattle.std.proofs.lemmas.Result.{IfOk-weaker}
-use Rattle.office_tables.specs.Tables.{is_bound}
-use Rattle.office_sql.specs.Rows.{joined_given}
+use Rattle.text_core.proofs.Kit.{rules, ◌∙◌, IfOk-weaker}
+use Rattle.office_tables.specs.Prelude.{is_bound}
+use Rattle.office_sql.specs.Prelude.{joined_given}
 use Rattle.office_sql.proofs.Kept.{found}
 use Rattle.office_sql.proofs.Reading.{asks_more}
 use Rattle.office_sql.proofs.given.given_by_key.Goals as goal

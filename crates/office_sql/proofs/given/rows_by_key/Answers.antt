@@ -1,20 +1,19 @@
 use Rattle.std.proofs.Common.{rules, [], ◌∷◌, ◌++◌}
 use Rattle.sqlite.specs.declared.types.Value.TheVariants.{Text, Blob}
-use Rattle.sqlite.specs.Held.{state}
-use Rattle.sqlite.specs.Program.{overlay}
-use Rattle.sqlite.specs.Query.{inner, end}
+use Rattle.office_sql.proofs.Kit.{state, overlay}
+use Rattle.office_sql.specs.Prelude.{given}
 use Rattle.office_sql.proofs.Reading.{asked_joined}
-use Rattle.office_sql.proofs.GivenReads.{key_text, on_start, key_tests, shown, by_key, key_read, key_shown}
+use Rattle.office_sql.proofs.GivenReads.{key_text, on_start, key_tests, shown, by_key, key_read, key_shown, with_starts}
 use Rattle.office_sql.proofs.given.rows_by_key.Goals as goal
 
 pub returns : goal.returns
 returns g c =
-    asked_joined g.S.Store key_text (inner 11 (inner 19 end)) (on_start
+    asked_joined g.S.Store key_text with_starts (on_start
     ++ key_tests) shown by_key key_read _ (Text c.args.issuer.now ∷ Blob c.args.key.now
     ∷ []) (search rules)
     c.args.conn.now c.query_all.new.self c.query_all.result _ c.requires
     (λ rows office a.
     key_shown c.args.issuer.now c.args.key.now
-    (overlay (state g.S.Store c.args.conn.now).now.trees []) rows.items office.rows.given
+    (overlay (state g.S.Store c.args.conn.now).now.trees []) rows.items (office.rows given)
     office.given_started a)
     c.query_all.ensures.ok c.query_all.ensures.err c.query_all.ensures.mode c.query_all.ensures.survives

@@ -1,8 +1,8 @@
 use Rattle.std.proofs.Common.{rules, ◌∷◌, ◌∙◌}
 use Rattle.std.proofs.lemmas.Result.{IfOk-weaker}
 use Rattle.sqlite.specs.declared.types.Value.TheVariants.{Null}
-use Rattle.office_tables.specs.Tables.{is_link}
-use Rattle.office_sql.specs.Rows.{link_in_row}
+use Rattle.office_tables.specs.Prelude.{is_link}
+use Rattle.office_sql.specs.Prelude.{link_in_row}
 use Rattle.office_sql.proofs.Kept.{found}
 use Rattle.office_sql.proofs.Reading.{asks_more}
 use Rattle.office_sql.proofs.links.link_row.Goals as goal

@@ -1,7 +1,6 @@
 use Rattle.std.proofs.Common.{rules, [], ◌∷◌}
 use Rattle.sqlite.specs.declared.types.Value.TheVariants.{Text, Blob}
-use Rattle.sqlite.specs.Held.{state}
-use Rattle.office_sql.specs.Scan.{is_parameter}
+use Rattle.office_sql.specs.Prelude.{links, is_parameter}
 use Rattle.office_sql.proofs.Reading.{asked}
 use Rattle.office_sql.proofs.LinkReads.{one_text, shown, by_key, one_read, one_shown}
 use Rattle.office_sql.proofs.links.link_rows.Goals as goal
@@ -10,8 +9,8 @@ pub returns : goal.returns
 returns g c =
     let customer = c.args.customer.now in
     let digest = c.args.digest.now in
-    asked g.S.Store one_text 5 (is_parameter 1 0 ∷ is_parameter 2 1
+    asked g.S.Store one_text links (is_parameter 1 0 ∷ is_parameter 2 1
     ∷ []) shown by_key one_read _ (Text customer ∷ Blob digest
     ∷ []) (search rules) c.args.conn.now c.query_all.new.self c.query_all.result _ c.requires
-    (λ rows office s. one_shown customer digest ((state g.S.Store c.args.conn.now).now.trees 5) rows.items office.rows.links s)
+    (λ rows office s. one_shown customer digest _ rows.items (office.rows links) s)
     c.query_all.ensures.ok c.query_all.ensures.err c.query_all.ensures.mode c.query_all.ensures.survives

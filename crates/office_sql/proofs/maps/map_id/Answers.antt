@@ -1,8 +1,6 @@
-use Rattle.std.proofs.Common.{rules, ap, ◌∙◌}
-use Rattle.std.specs.Option.{option_map}
-use Rattle.std.proofs.lemmas.Result.{IfOk-weaker}
+use Rattle.text_core.proofs.Kit.{rules, ap, ◌∙◌, option_map, IfOk-weaker}
 use Rattle.office_tables.specs.declared.rows.MapRow.{MapRow}
-use Rattle.office_tables.specs.Tables.{has_body}
+use Rattle.office_tables.specs.Prelude.{has_body}
 use Rattle.office_sql.proofs.Kept.{found}
 use Rattle.office_sql.proofs.MapReads.{shown_map, id_shown}
 use Rattle.office_sql.proofs.Reading.{asks_more}

@@ -1,6 +1,5 @@
-use Rattle.std.proofs.Common.{rules, ◌∙◌}
-use Rattle.std.proofs.lemmas.Result.{IfOk-weaker}
-use Rattle.office_tables.specs.Tables.{has_id}
+use Rattle.text_core.proofs.Kit.{rules, ◌∙◌, IfOk-weaker}
+use Rattle.office_tables.specs.Prelude.{has_id}
 use Rattle.office_sql.proofs.Kept.{found}
 use Rattle.office_sql.proofs.MapReads.{shown_map}
 use Rattle.office_sql.proofs.Reading.{asks_more}

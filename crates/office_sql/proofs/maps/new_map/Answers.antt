@@ -1,12 +1,7 @@
-use Rattle.std.proofs.Common.{◌≡◌, ◌∷◌, ◌∙◌, sym, rules, ℕ, pos, Ok, w64}
-use Rattle.std.proofs.lemmas.Int.{to_z-of_z}
-use Rattle.std.proofs.lemmas.Result.{IfOk-weaker}
-use Rattle.sqlite.specs.declared.types.Value.TheVariants.{Null}
-use Rattle.sqlite.specs.Effect.{Database}
-use Rattle.sqlite.specs.Held.{state}
-use Rattle.office_sql.specs.Schema.{map_table}
-use Rattle.office_sql.specs.Rows.{map_columns}
-use Rattle.office_sql.specs.Maps.{GainsMap}
+use Rattle.std.proofs.Common.{◌≡◌, ◌∷◌}
+use Rattle.text_core.proofs.Kit.{◌∙◌, sym, rules, ℕ, pos, Ok, w64, to_z-of_z, IfOk-weaker}
+use Rattle.office_sql.proofs.Kit.{Null, Database, state}
+use Rattle.office_sql.specs.Prelude.{maps, map_columns, GainsMap}
 use Rattle.office_sql.proofs.Inserting.{adds, changes}
 use Rattle.office_sql.proofs.MapChanges.{answered, refused}
 use Rattle.office_sql.proofs.MapIds.{last_is_next}
@@ -29,10 +24,10 @@ returns-clause-changes g c =
     answered g.S.Store old new c.in_ok-execute.field-0 c.number_of.result Gains _
     (changes g.S.Store add_text _ (map_columns m) (search rules) old new (Ok c.in_ok-execute.field-0) Gains c.requires
     (λ count up office ran id is.
-    let last = last_is_next add_text 2 map_table add_terms 4 add_insert (map_columns m) (Null
+    let last = last_is_next add_text maps add_terms 4 add_insert (map_columns m) (Null
     ∷ map_columns m) (add_casts m) (state g.S.Store old) (state g.S.Store new)
     count office.schema ran in
-    let row = adds add_text 2 map_table add_terms 4 add_insert (map_columns m) (Null
+    let row = adds add_text maps add_terms 4 add_insert (map_columns m) (Null
     ∷ map_columns m) (add_casts m) (state g.S.Store old) (state g.S.Store new)
     count office.schema ran in
     map_gained m id _ _ office (sym last ∙ is) row)

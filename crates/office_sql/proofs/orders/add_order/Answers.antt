@@ -1,6 +1,5 @@
 use Rattle.sqlite.proofs.StateLemmas.{clean_if_open}
-use Rattle.office_sql.specs.Change.{SqlAdds, Wrote}
-use Rattle.office_sql.specs.Rows.{order_start_columns}
+use Rattle.office_sql.specs.Prelude.{order_starts, SqlAdds, Wrote, order_start_columns}
 use Rattle.office_tables.specs.declared.rows.Write.TheVariants.{AddOrder as TheOrder}
 use Rattle.office_sql.proofs.Inserting.{done}
 use Rattle.office_sql.proofs.MapChanges.{changes_here}
@@ -20,8 +19,8 @@ returns-clause-changes g c =
     let new = c.insert_order_start.new.tx.conn.now in
     changes_here g.S.Store old mid new c.in_ok-insert_order.field-0 _ _ _ (λ x y _. Wrote (TheOrder order) x y) c.in_ok-insert_order.ensures.changes
     (done g.S.Store mid new c.in_ok-insert_order_start.field-0 tt
-    (λ x y _. SqlAdds 17 (order_start_columns order) x y) (λ x y _.
-    SqlAdds 17 (order_start_columns order) x y)
+    (λ x y _. SqlAdds order_starts (order_start_columns order) x y) (λ x y _.
+    SqlAdds order_starts (order_start_columns order) x y)
     c.in_ok-insert_order_start.ensures.changes (λ x y adds. adds))
     (λ _ up adds starts.
     order_added order

@@ -1,11 +1,9 @@
 use Rattle.std.proofs.Common.{rules, [], ◌∷◌, ◌++◌, filter}
 use Rattle.sqlite.specs.declared.types.Value.TheVariants.{Text}
-use Rattle.sqlite.specs.Held.{state}
-use Rattle.sqlite.specs.Program.{overlay}
-use Rattle.sqlite.specs.Query.{inner, end}
-use Rattle.office_tables.specs.Tables.{is_of}
-use Rattle.office_sql.specs.Rows.{joined_order}
-use Rattle.office_sql.proofs.OrderReads.{own_text, on_start, own_tests, shown, by_key, own_read, own_shown}
+use Rattle.office_sql.proofs.Kit.{state, overlay}
+use Rattle.office_tables.specs.Prelude.{is_of}
+use Rattle.office_sql.specs.Prelude.{orders, joined_order}
+use Rattle.office_sql.proofs.OrderReads.{own_text, on_start, own_tests, shown, by_key, own_read, own_shown, with_starts}
 use Rattle.office_sql.proofs.Visiting.{bare_returns, visits_joined}
 use Rattle.office_sql.proofs.orders.visit_orders.Goals as goal
 
@@ -15,9 +13,9 @@ visit_rows-requires g c = bare_returns own_text own_read.bare c.args.conn.now.sc
 pub returns : goal.returns
 returns g c =
     let customer = c.args.customer.now in
-    visits_joined g.S.Store own_text (inner 7 (inner 17 end)) (on_start
+    visits_joined g.S.Store own_text with_starts (on_start
     ++ own_tests) shown by_key own_read _ (Text customer
     ∷ []) (search rules) c.args.conn.now c.visit_rows.new.conn
     g.K.Sink.takes joined_order c.visit_rows.result c.args.sink.now c.visit_rows.new.sink (λ t. filter (is_of customer) t.orders) c.requires
-    (λ rows office a. own_shown customer (overlay (state g.S.Store c.args.conn.now).now.trees []) rows office.rows.orders office.orders_started a)
+    (λ rows office a. own_shown customer (overlay (state g.S.Store c.args.conn.now).now.trees []) rows (office.rows orders) office.orders_started a)
     c.visit_rows.ensures.visited c.visit_rows.ensures.same c.visit_rows.ensures.rests c.visit_rows.ensures.mode c.visit_rows.ensures.crash

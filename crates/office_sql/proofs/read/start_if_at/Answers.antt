@@ -1,7 +1,6 @@
 use Rattle.std.proofs.Common.{◌≡◌, ℕ, List, Some, Ok, true, false, cond, Err, Result, ap, ◌∙◌, rules}
-use Rattle.id_ranges.specs.NotBefore.{is_not_before, not_before_of}
-use Rattle.id_ranges.specs.declared.fault.RangeFault.{RangeFault}
-use Rattle.id_ranges.specs.declared.fault.RangeFault.TheVariants.{BadNotBefore}
+use Rattle.id_ranges.specs.Prelude.{is_not_before, not_before_of}
+use Rattle.office_sql.proofs.Types.{RangeFault, BadNotBefore}
 use Rattle.office_sql.proofs.Stepping.{same_value}
 use Rattle.office_sql.proofs.read.start_if_at.Goals as goal
 

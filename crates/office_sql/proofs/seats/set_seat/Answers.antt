@@ -1,6 +1,6 @@
 use Rattle.std.proofs.Common.{rules}
 use Rattle.sqlite.specs.Held.{state}
-use Rattle.office_sql.specs.Rows.{seat_columns}
+use Rattle.office_sql.specs.Prelude.{seat_columns}
 use Rattle.office_sql.proofs.Inserting.{changes}
 use Rattle.office_sql.proofs.SeatWrites.{set_text, seat_set}
 use Rattle.office_sql.proofs.seats.set_seat.Goals as goal

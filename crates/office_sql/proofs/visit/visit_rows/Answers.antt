@@ -1,10 +1,6 @@
 use Rattle.std.proofs.Common.{rules, arith, true, false, refl, inl, inr, [], ◌∷◌, ◌++◌, ◌∙◌}
-use Rattle.sqlite.specs.Held.{state}
-use Rattle.sqlite.specs.State.{HasCleanDisk}
-use Rattle.sqlite.specs.Values.{bound}
-use Rattle.sqlite.proofs.Callers.{given_begin, unchanged_then}
-use Rattle.sqlite.proofs.StateLemmas.{survives_then}
-use Rattle.office_sql.specs.Visiting.{HasVisited}
+use Rattle.office_sql.proofs.Kit.{state, HasCleanDisk, bound, given_begin, unchanged_then, survives_then}
+use Rattle.office_sql.specs.Prelude.{HasVisited}
 use Rattle.office_sql.proofs.Visiting.{commits_nothing, refused_rests, shown_from, begun, one_more, no_more}
 use Rattle.office_sql.proofs.visit.visit_rows.Goals as goal
 

@@ -1,10 +1,6 @@
 use Rattle.std.proofs.Common.{◌≡◌, ◌++◌, List, map, false}
-use Rattle.sqlite.specs.Order.{Row}
-use Rattle.sqlite.specs.State.{HasCleanDisk, IsUnchanged, Survives}
-use Rattle.sqlite.specs.Held.{state}
-use Rattle.sqlite.specs.Given.{HasGiven}
-use Rattle.sqlite.specs.Values.{bound}
-use Rattle.office_tables.specs.Keeping.{Visits}
+use Rattle.office_sql.proofs.Kit.{Row, HasCleanDisk, IsUnchanged, Survives, state, HasGiven, bound}
+use Rattle.office_tables.specs.Prelude.{Visits}
 use Rattle.office_sql.proofs.visit.visit_rows.Given as goal
 
 -- the query has given rows, and a visit of more rows is one of these and more

@@ -1,10 +1,7 @@
-use Rattle.std.proofs.Common.{◌≡◌, rules, subst, sym, take}
-use Rattle.std.proofs.lemmas.List.{take_more, take_all}
-use Rattle.sqlite.specs.State.{Survives}
-use Rattle.sqlite.specs.Held.{state}
-use Rattle.sqlite.proofs.StateLemmas.{survives_then, clean_if_open}
-use Rattle.office_sql.specs.Change.{HasMade, HasWritten, LeavesMade}
-use Rattle.office_sql.specs.Tables.{IsOffice, office_over, tables_in}
+use Rattle.std.proofs.Common.{◌≡◌, rules, subst, sym, take, take_all}
+use Rattle.std.proofs.lemmas.List.{take_more}
+use Rattle.office_sql.proofs.Kit.{Survives, state, survives_then, clean_if_open}
+use Rattle.office_sql.specs.Prelude.{HasMade, HasWritten, LeavesMade, IsOffice, office_over, tables_in}
 use Rattle.office_sql.proofs.Asked.{was_clean}
 use Rattle.office_sql.proofs.Making.{made_more, free_at}
 use Rattle.office_sql.proofs.write.write_all.Goals as goal

@@ -1,7 +1,6 @@
 use Rattle.std.proofs.Common.{◌≡◌, take}
-use Rattle.sqlite.specs.State.{HasCleanDisk, Survives}
-use Rattle.sqlite.specs.Held.{state}
-use Rattle.office_sql.specs.Change.{HasMade}
+use Rattle.office_sql.proofs.Kit.{HasCleanDisk, Survives, state}
+use Rattle.office_sql.specs.Prelude.{HasMade}
 use Rattle.office_sql.proofs.write.write_all.Given as goal
 
 abbrev pub invariant-loop-write : goal.invariant-loop-write

@@ -1,10 +1,7 @@
 use Rattle.std.proofs.Common.{rules, arith, true, false, refl, sym, inl, inr, [], ◌∷◌, ◌++◌, ◌∙◌, None, subst, append-nil}
-use Rattle.sqlite.specs.Held.{state}
-use Rattle.sqlite.specs.State.{HasCleanDisk}
-use Rattle.sqlite.proofs.Callers.{given_begin, unchanged_then}
-use Rattle.sqlite.proofs.StateLemmas.{survives_then}
+use Rattle.office_sql.proofs.Kit.{state, HasCleanDisk, given_begin, unchanged_then, survives_then}
 use Rattle.office_store.proofs.QueryRows.{commits_nothing, refused_rests, shown_from, begun}
-use Rattle.office_store.specs.Addresses.{HasNoRepeat, HasWalked}
+use Rattle.office_store.specs.Prelude.{HasNoRepeat, HasWalked}
 use Rattle.office_store.proofs.AddressWalk.{one_again, one_more}
 use Rattle.office_store.proofs.addresses.has_no_repeat.Goals as goal
 

@@ -1,8 +1,5 @@
 use Rattle.std.proofs.Common.{◌≡◌, List, [], false}
-use Rattle.sqlite.specs.Order.{Row}
-use Rattle.sqlite.specs.State.{HasCleanDisk, IsUnchanged, Survives}
-use Rattle.sqlite.specs.Held.{state}
-use Rattle.sqlite.specs.Given.{HasGiven}
+use Rattle.office_sql.proofs.Kit.{Row, HasCleanDisk, IsUnchanged, Survives, state, HasGiven}
 use Rattle.office_store.proofs.AddressWalk.{GoesOn}
 use Rattle.office_store.proofs.addresses.has_no_repeat.Given as goal
 

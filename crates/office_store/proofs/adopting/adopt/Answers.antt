@@ -1,11 +1,8 @@
 use Rattle.std.proofs.Common.{rules, subst, sym, IsTrue}
-use Rattle.sqlite.specs.Held.{state}
-use Rattle.sqlite.specs.State.{HasCleanDisk}
-use Rattle.sqlite.proofs.StateLemmas.{clean_if_open}
-use Rattle.office_sql.specs.Keeping.{IsReady}
+use Rattle.office_sql.proofs.Kit.{state, HasCleanDisk, clean_if_open}
+use Rattle.office_sql.specs.Prelude.{IsReady}
 use Rattle.office_sql.proofs.Asked.{was_clean}
-use Rattle.office_store.specs.Meta.{HoldsSite, HasMeta}
-use Rattle.office_store.specs.Stores.{IsStoreOrNone}
+use Rattle.office_store.specs.Prelude.{HoldsSite, HasMeta, IsStoreOrNone}
 use Rattle.office_store.proofs.Answers.{ready_if_open}
 use Rattle.office_store.proofs.LeftOfSite.{left_of_site}
 use Rattle.office_store.proofs.Preparing.{left_anew}

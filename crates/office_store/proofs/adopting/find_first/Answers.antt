@@ -1,12 +1,8 @@
 use Rattle.std.proofs.Common.{◌≡◌, ℕ, sym, ap, ◌∙◌}
-use Rattle.sqlite.specs.Effect.{Database}
-use Rattle.sqlite.proofs.StateLemmas.{clean_if_open}
+use Rattle.office_sql.proofs.Kit.{Database, clean_if_open}
 use Rattle.sha2.specs.Sha256.{sha256}
-use Rattle.office_store.specs.declared.version.Version.{Version}
-use Rattle.office_store.specs.declared.version.Version.TheVariants.{Third}
-use Rattle.office_store.specs.Adopting.{IsFoundApart, PreparesTables}
-use Rattle.office_store.specs.Meta.{HasMeta}
-use Rattle.office_store.specs.Versions.{number_of_version}
+use Rattle.office_store.proofs.Types.{Version, Third}
+use Rattle.office_store.specs.Prelude.{IsFoundApart, PreparesTables, HasMeta, number_of_version}
 use Rattle.office_store.proofs.Refusals.{found_after, is_err, says_of}
 use Rattle.office_store.proofs.Preparing.{refused, prepared_after}
 use Rattle.office_store.proofs.adopting.find_first.Goals as goal

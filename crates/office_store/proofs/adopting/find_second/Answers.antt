@@ -1,15 +1,10 @@
 use Rattle.std.proofs.Common.{Ok}
-use Rattle.sqlite.specs.Effect.{Database}
-use Rattle.sqlite.specs.Held.{Held, state}
-use Rattle.sqlite.specs.State.{HasCleanDisk}
+use Rattle.office_sql.proofs.Kit.{Database, Held, state, HasCleanDisk, clean_if_open}
 use Rattle.sqlite.specs.Store.{Ghosts}
-use Rattle.sqlite.proofs.StateLemmas.{clean_if_open}
 use Rattle.sha2.specs.Sha256.{sha256}
-use Rattle.site_core.specs.SiteText.{TextOfSite}
+use Rattle.site_core.specs.Prelude.{TextOfSite}
 use Rattle.office_store.specs.declared.version.Version.TheVariants.{Second}
-use Rattle.office_store.specs.Adopting.{Examines, IsFoundApart, PreparesTables}
-use Rattle.office_store.specs.Found.{HasStarts}
-use Rattle.office_store.specs.Meta.{HasMeta}
+use Rattle.office_store.specs.Prelude.{Examines, IsFoundApart, PreparesTables, HasStarts, HasMeta}
 use Rattle.office_store.proofs.Refusals.{examines_then, found_after, is_err, says_of}
 use Rattle.office_store.proofs.Preparing.{refused, prepared_after}
 use Rattle.office_store.proofs.adopting.find_second.Goals as goal

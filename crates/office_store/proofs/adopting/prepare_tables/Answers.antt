@@ -1,11 +1,10 @@
 -- A schema of no version is refused, and nothing is done.
 use Rattle.std.proofs.Common.{◌≡◌, ◌≢◌, false, true≢false, Err, inl, refl, sym, subst, ◌∙◌, arith}
-use Rattle.site_core.specs.SiteText.{TextOfSite}
+use Rattle.site_core.specs.Prelude.{TextOfSite}
 use Rattle.sqlite.specs.Held.{Held, state}
 use Rattle.sqlite.specs.Store.{Ghosts}
-use Rattle.office_sql.specs.Schema.{no_schema}
-use Rattle.office_store.specs.Adopting.{PreparesTables}
-use Rattle.office_store.specs.Versions.{IsOfNoVersion}
+use Rattle.office_sql.specs.Prelude.{no_schema}
+use Rattle.office_store.specs.Prelude.{PreparesTables, IsOfNoVersion}
 use Rattle.office_store.specs.declared.fault.OpenFault.TheVariants.{OtherTables}
 use Rattle.office_store.proofs.Preparing.{unprepared}
 use Rattle.office_store.proofs.adopting.prepare_tables.Goals as goal

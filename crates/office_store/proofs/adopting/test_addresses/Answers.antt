@@ -1,6 +1,5 @@
-use Rattle.sqlite.specs.Effect.{Database}
-use Rattle.sqlite.proofs.StateLemmas.{clean_if_open}
-use Rattle.office_store.specs.Addresses.{HasApartAddresses}
+use Rattle.office_sql.proofs.Kit.{Database, clean_if_open}
+use Rattle.office_store.specs.Prelude.{HasApartAddresses}
 use Rattle.office_store.proofs.Refusals.{passed, twice_found, unread}
 use Rattle.office_store.proofs.adopting.test_addresses.Goals as goal
 

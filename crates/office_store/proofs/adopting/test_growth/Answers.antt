@@ -1,11 +1,7 @@
-use Rattle.std.proofs.Common.{◌≡◌, ℕ, List, OnOk, IfErr, refl, subst, subst₂}
-use Rattle.std.specs.Str.{IsUtf8}
-use Rattle.sqlite.specs.Effect.{Database}
-use Rattle.sqlite.proofs.StateLemmas.{clean_if_open}
-use Rattle.office_store.specs.Adopting.{CanTake, IsShownText}
-use Rattle.office_store.specs.Texts.{IsGrownFrom}
-use Rattle.office_store.specs.declared.fault.OpenFault.TheVariants.{OtherSite, OtherTables}
-use Rattle.office_store.specs.declared.version.Version.TheVariants.{Third}
+use Rattle.std.proofs.Common.{◌≡◌, ℕ, List, OnOk, IfErr, refl, subst, subst₂, IsUtf8}
+use Rattle.office_sql.proofs.Kit.{Database, clean_if_open}
+use Rattle.office_store.specs.Prelude.{CanTake, IsShownText, IsGrownFrom}
+use Rattle.office_store.proofs.Types.{OtherSite, OtherTables, Third}
 use Rattle.office_store.proofs.Refusals.{growth_judged, unread}
 use Rattle.office_store.proofs.adopting.test_growth.Goals as goal
 

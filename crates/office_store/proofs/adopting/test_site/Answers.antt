@@ -1,7 +1,6 @@
-use Rattle.sqlite.specs.Effect.{Database}
-use Rattle.sqlite.proofs.StateLemmas.{clean_if_open}
+use Rattle.office_sql.proofs.Kit.{Database, clean_if_open}
 use Rattle.sha2.specs.Sha256.{sha256}
-use Rattle.office_store.specs.Meta.{HasMeta}
+use Rattle.office_store.specs.Prelude.{HasMeta}
 use Rattle.office_store.proofs.Refusals.{judged_as, unread}
 use Rattle.office_store.proofs.adopting.test_site.Goals as goal
 

@@ -1,6 +1,5 @@
-use Rattle.sqlite.specs.Effect.{Database}
-use Rattle.sqlite.proofs.StateLemmas.{clean_if_open}
-use Rattle.office_store.specs.Found.{HasStarts}
+use Rattle.office_sql.proofs.Kit.{Database, clean_if_open}
+use Rattle.office_store.specs.Prelude.{HasStarts}
 use Rattle.office_store.proofs.Refusals.{lack_found, passed, unread}
 use Rattle.office_store.proofs.adopting.test_starts.Goals as goal
 

@@ -1,11 +1,9 @@
 use Rattle.std.proofs.Common.{ℕ, List, IsTrue, subst}
-use Rattle.sqlite.specs.Held.{Held, state}
-use Rattle.sqlite.specs.State.{HasCleanDisk, Survives}
+use Rattle.office_sql.proofs.Kit.{Held, state, HasCleanDisk, Survives, clean_if_open}
 use Rattle.sqlite.specs.Store.{Ghosts}
-use Rattle.sqlite.proofs.StateLemmas.{clean_if_open}
-use Rattle.office_sql.specs.Tables.{office_over}
+use Rattle.office_sql.specs.Prelude.{office_over}
 use Rattle.office_store.specs.declared.version.Version.{Version}
-use Rattle.office_store.specs.Upgrading.{IsUpgrade, IsUpgraded}
+use Rattle.office_store.specs.Prelude.{IsUpgrade, IsUpgraded}
 use Rattle.office_store.proofs.Preparing.{not_upgraded, upgraded}
 use Rattle.office_store.proofs.adopting.upgrade.Goals as goal
 

@@ -1,13 +1,7 @@
 -- What a crash leaves opens again, as the kit's store says, and the keeper says what that is.
-use Rattle.std.proofs.Common.{arith, subst}
-use Rattle.std.proofs.Math.Logic.{∥∥₁_map}
-use Rattle.sqlite.specs.Files.{over_files, HoldsDatabase}
-use Rattle.sqlite.specs.Tree.{Trees}
-use Rattle.sqlite.specs.State.{HasCleanDisk}
-use Rattle.sqlite.specs.Held.{state}
-use Rattle.sqlite.proofs.Theorems.{opens_again}
-use Rattle.office_store.specs.Adopting.{IsOfSite}
-use Rattle.office_store.specs.Keeping.{may_leave_at}
+use Rattle.text_core.proofs.Kit.{arith, subst, ∥∥₁_map}
+use Rattle.office_sql.proofs.Kit.{over_files, HoldsDatabase, Trees, HasCleanDisk, state, opens_again}
+use Rattle.office_store.specs.Prelude.{IsOfSite, may_leave_at}
 use Rattle.office_store.proofs.ending.into_store.Goals as goal
 
 pub returns-clause-was_honest : goal.returns-clause-was_honest

@@ -1,12 +1,9 @@
 use Rattle.std.proofs.Common.{Ok, ◌∙◌, ap, map, subst}
 use Rattle.sqlite.proofs.StateLemmas.{clean_if_open}
 use Rattle.sha2.specs.Sha256.{sha256}
-use Rattle.office_sql.specs.Asking.{SqlWrites}
-use Rattle.office_sql.specs.Tables.{IsOffice}
+use Rattle.office_sql.specs.Prelude.{meta, SqlWrites, IsOffice}
 use Rattle.office_sql.proofs.MapChanges.{changes_then}
-use Rattle.office_store.specs.Growing.{IsGrown, ReplacesName}
-use Rattle.office_store.specs.Meta.{meta_in}
-use Rattle.office_store.specs.Upgrading.{PutsText}
+use Rattle.office_store.specs.Prelude.{IsGrown, ReplacesName, meta_in, PutsText}
 use Rattle.office_store.proofs.Changing.{said_if_open}
 use Rattle.office_store.proofs.Upgrades.{grown}
 use Rattle.office_store.proofs.grow.change_both.Goals as goal
@@ -31,7 +28,7 @@ replace_name-requires-clause-third g c up =
     let clean = clean_if_open (g.S.Store.view store) (g.met.S.Store.shut_if_dirty store) up in
     let puts = c.in_ok-replace_text.ensures.changes in
     let told = c.requires.told (puts.inside clean).was_open in
-    (sha256 told.0, ap (map meta_in) ((puts.answer clean).others.0 (λ e. cc)) ∙ told.1.named)
+    (sha256 told.0, ap (map meta_in) ((puts.answer clean).others meta (λ e. cc)) ∙ told.1.named)
 
 pub returns-clause-changes : goal.returns-clause-changes
 returns-clause-changes g c =

@@ -4,7 +4,7 @@ use Rattle.sqlite.specs.Held.{state}
 use Rattle.office_sql.proofs.Inserting.{changed, done}
 use Rattle.office_sql.proofs.MapChanges.{refused}
 use Rattle.office_sql.proofs.Told.{name_text}
-use Rattle.office_store.specs.Growing.{ReplacesName}
+use Rattle.office_store.specs.Prelude.{ReplacesName}
 use Rattle.office_store.proofs.UpgradeMeta.{names_site}
 use Rattle.office_store.proofs.grow.replace_name.Goals as goal
 

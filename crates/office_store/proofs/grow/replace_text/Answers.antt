@@ -4,7 +4,7 @@ use Rattle.sqlite.specs.Held.{state}
 use Rattle.office_sql.proofs.Inserting.{changed, done}
 use Rattle.office_sql.proofs.MapChanges.{refused}
 use Rattle.office_sql.proofs.Told.{write_text}
-use Rattle.office_store.specs.Upgrading.{PutsText}
+use Rattle.office_store.specs.Prelude.{PutsText}
 use Rattle.office_store.proofs.UpgradeMeta.{writes_text}
 use Rattle.office_store.proofs.grow.replace_text.Goals as goal
 

@@ -1,8 +1,8 @@
 -- What is kept is right before the read and after, and the store that answers is open.
 use Rattle.std.proofs.Common.{sym, ◌∙◌}
 use Rattle.sqlite.specs.Held.{state}
-use Rattle.office_sql.specs.Tables.{tables_in}
-use Rattle.office_store.specs.Remembering.{fuse_map_at}
+use Rattle.office_sql.specs.Prelude.{tables_in}
+use Rattle.office_store.specs.Prelude.{fuse_map_at}
 use Rattle.office_store.proofs.maps.fuse_map.Goals as goal
 
 pub returns-in-Ok-clause-asks : goal.returns-in-Ok-clause-asks

@@ -1,7 +1,7 @@
 -- The row is asked for, and the map is made of it.
-use Rattle.std.specs.Prelude.{option_and_then}
-use Rattle.fusemap_core.specs.MapText.{map_in}
-use Rattle.office_tables.specs.Tables.{map_at}
+use Rattle.std.proofs.Common.{option_and_then}
+use Rattle.fusemap_core.specs.Prelude.{map_in}
+use Rattle.office_tables.specs.Prelude.{map_at}
 use Rattle.office_store.proofs.MadeAnswers.{asks_made}
 use Rattle.office_store.proofs.maps.read_map.Goals as goal
 

@@ -1,11 +1,7 @@
 use Rattle.std.proofs.Common.{◌≡◌, ◌∙◌, ap, rules, subst, sym, true≢false, IsTrue}
-use Rattle.sqlite.specs.Effect.{Database}
-use Rattle.sqlite.specs.State.{HasCleanDisk}
-use Rattle.sqlite.specs.Tree.{Trees}
-use Rattle.sqlite.specs.Held.{state}
-use Rattle.sqlite.proofs.StateLemmas.{clean_if_open}
-use Rattle.office_sql.specs.Keeping.{IsReady}
-use Rattle.office_store.specs.Meta.{HoldsSite}
+use Rattle.office_sql.proofs.Kit.{Database, HasCleanDisk, Trees, state, clean_if_open}
+use Rattle.office_sql.specs.Prelude.{IsReady}
+use Rattle.office_store.specs.Prelude.{HoldsSite}
 use Rattle.office_store.proofs.Answers.{ready_if_open}
 use Rattle.office_store.proofs.LeftOfSite.{left_of_site}
 use Rattle.office_store.proofs.Opened.{taken}

@@ -1,15 +1,11 @@
 -- The states of the customer's devices tell the number of each order.
-use Rattle.std.proofs.Common.{◌≡◌, ◌∙◌, List, ap, sym, subst, length, map, filter}
-use Rattle.std.specs.Prelude.{Vec}
+use Rattle.std.proofs.Common.{◌≡◌, ◌∙◌, List, ap, sym, subst, length, map, filter, Vec}
 use Rattle.std.specs.declared.alloc.Global.{Global}
 use Rattle.sqlite.specs.Held.{state}
-use Rattle.office_tables.specs.OrderPlaces.{places_taken}
-use Rattle.office_tables.specs.Tables.{is_of, rows_of}
-use Rattle.office_sql.specs.declared.devices.OrderState.{OrderState}
-use Rattle.office_sql.specs.OrderStates.{order_state}
-use Rattle.office_sql.specs.Tables.{tables_in}
-use Rattle.office_store.specs.Counting.{takes, AreRight}
-use Rattle.office_store.specs.declared.places.PlaceCounts.{PlaceCounts}
+use Rattle.office_tables.specs.Prelude.{places_taken, is_of, rows_of}
+use Rattle.office_store.proofs.Types.{OrderState, PlaceCounts}
+use Rattle.office_sql.specs.Prelude.{order_state, tables_in}
+use Rattle.office_store.specs.Prelude.{takes, AreRight}
 use Rattle.office_store.proofs.MadeAnswers.{asks_of, said}
 use Rattle.office_store.proofs.Numbers.{states_tell}
 use Rattle.office_store.proofs.places.count_places.Goals as goal

@@ -1,5 +1,5 @@
 use Rattle.std.proofs.Common.{◌≡◌, ℕ, List, filter, length, take}
-use Rattle.office_store.specs.Counting.{number_at, takes}
+use Rattle.office_store.specs.Prelude.{number_at, takes}
 use Rattle.office_store.proofs.places.count_states.Given as goal
 
 abbrev pub invariant-loop-one : goal.invariant-loop-one

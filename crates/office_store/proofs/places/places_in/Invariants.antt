@@ -1,5 +1,5 @@
 use Rattle.std.proofs.Common.{◌≡◌, ◌≤◌, filter, length, take}
-use Rattle.office_store.specs.Counting.{takes}
+use Rattle.office_store.specs.Prelude.{takes}
 use Rattle.office_store.proofs.places.places_in.Given as goal
 
 abbrev pub invariant-loop-one : goal.invariant-loop-one

@@ -1,6 +1,6 @@
 use Rattle.std.proofs.Common.{Ok, false, subst}
 use Rattle.sqlite.specs.Held.{state}
-use Rattle.office_store.specs.Texts.{IsOnlyText}
+use Rattle.office_store.specs.Prelude.{IsOnlyText}
 use Rattle.office_store.proofs.FoundAsked.{tests_more}
 use Rattle.office_store.proofs.TextShows.{held_if_same, not_held}
 use Rattle.office_store.proofs.site_text.has_text.Goals as goal

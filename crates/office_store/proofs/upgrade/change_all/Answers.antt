@@ -1,10 +1,8 @@
 use Rattle.std.proofs.Common.{Ok}
-use Rattle.sqlite.specs.Effect.{Database}
-use Rattle.sqlite.specs.Held.{state}
-use Rattle.sqlite.proofs.StateLemmas.{clean_if_open}
+use Rattle.office_sql.proofs.Kit.{Database, state, clean_if_open}
 use Rattle.office_sql.proofs.Asked.{was_clean}
 use Rattle.office_sql.proofs.MapChanges.{changes_then}
-use Rattle.office_store.specs.Upgrading.{IsFilled, IsUpgrade, PutsText, TellsThird}
+use Rattle.office_store.specs.Prelude.{IsFilled, IsUpgrade, PutsText, TellsThird}
 use Rattle.office_store.proofs.Upgrades.{tells_still, upgraded}
 use Rattle.office_store.proofs.upgrade.change_all.Goals as goal
 

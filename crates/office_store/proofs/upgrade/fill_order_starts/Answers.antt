@@ -1,20 +1,19 @@
 use Rattle.std.proofs.Common.{rules, [], Ok}
 use Rattle.sqlite.specs.Held.{state}
-use Rattle.office_sql.specs.Rows.{order_in_row, starts_order}
+use Rattle.office_sql.specs.Prelude.{orders, order_starts, order_in_row, starts_order}
 use Rattle.office_sql.proofs.Inserting.{changed, done}
-use Rattle.office_sql.proofs.StartsFilled.{order_fill_text, orders_filled}
-use Rattle.office_store.specs.Upgrading.{GainsNone}
-use Rattle.office_store.proofs.Upgrades.{gains_none}
+use Rattle.office_sql.proofs.StartsFilled.{order_fill_text}
+use Rattle.office_store.specs.Prelude.{GainsNone}
+use Rattle.office_store.proofs.StartsMade.{orders_filled}
 use Rattle.office_store.proofs.upgrade.fill_order_starts.Goals as goal
 
 pub returns-clause-changes : goal.returns-clause-changes
 returns-clause-changes g c =
     let old = c.args.tx.now.conn.now in
     let new = c.execute.new.self.conn.now in
-    done g.S.Store old new c.in_ok-execute.field-0 tt (λ x y _. GainsNone starts_order order_in_row 7 17 x y) _
-    (changed g.S.Store order_fill_text _ [] (search rules) old new (Ok c.in_ok-execute.field-0) (λ x y _. GainsNone starts_order order_in_row 7 17 x y)
-    (λ count up ran.
-    let lacks = c.requires up in
-    gains_none starts_order order_in_row 7 17 _ _ (orders_filled (state g.S.Store old) (state g.S.Store new) count lacks.schema lacks.rows lacks.none ran))
+    done g.S.Store old new c.in_ok-execute.field-0 tt (λ x y _. GainsNone starts_order order_in_row orders order_starts x y) _
+    (changed g.S.Store order_fill_text _ [] (search rules) old new (Ok c.in_ok-execute.field-0)
+    (λ x y _. GainsNone starts_order order_in_row orders order_starts x y)
+    (λ count up ran. orders_filled (state g.S.Store old) (state g.S.Store new) count (c.requires up) ran)
     c.in_ok-execute.ensures.ended c.in_ok-execute.ensures.runs c.in_ok-execute.ensures.survives)
     (λ x y h. h)

@@ -1,8 +1,8 @@
 use Rattle.sqlite.proofs.StateLemmas.{clean_if_open}
-use Rattle.office_sql.specs.Rows.{order_in_row, given_in_row, starts_order, starts_given}
+use Rattle.office_sql.specs.Prelude.{orders, given, order_starts, given_starts, order_in_row, given_in_row, starts_order, starts_given}
 use Rattle.office_sql.proofs.MapChanges.{changes_then}
-use Rattle.office_store.specs.Upgrading.{GainsNone, GainsNoStart}
-use Rattle.office_store.proofs.Upgrades.{still_lacks_given}
+use Rattle.office_store.specs.Prelude.{GainsNone, GainsNoStart}
+use Rattle.office_store.proofs.Steps.{still_lacks_given}
 use Rattle.office_store.proofs.upgrade.fill_starts.Goals as goal
 
 pub fill_given_starts-requires : goal.fill_given_starts-requires
@@ -18,5 +18,6 @@ returns-clause-changes g c =
     let mid = c.fill_order_starts.new.tx.conn.now in
     let new = c.fill_given_starts.new.tx.conn.now in
     changes_then g.S.Store old mid new c.in_ok-fill_order_starts.field-0 c.fill_given_starts.result
-    (λ x y _. GainsNone starts_order order_in_row 7 17 x y) (λ x y _. GainsNone starts_given given_in_row 11 19 x y) (λ x y _. GainsNoStart x y)
+    (λ x y _. GainsNone starts_order order_in_row orders order_starts x y) (λ x y _. GainsNone starts_given given_in_row given given_starts x y)
+    (λ x y _. GainsNoStart x y)
     c.in_ok-fill_order_starts.ensures.changes c.fill_given_starts.ensures.changes (λ x y z _ p q. record { mid = y; orders = p; given = q })

@@ -3,7 +3,7 @@ use Rattle.sqlite.specs.Held.{state}
 use Rattle.office_sql.proofs.Inserting.{changed, done}
 use Rattle.office_sql.proofs.MapChanges.{refused}
 use Rattle.office_sql.proofs.Told.{tell_text}
-use Rattle.office_store.specs.Upgrading.{TellsThird}
+use Rattle.office_store.specs.Prelude.{TellsThird}
 use Rattle.office_store.proofs.UpgradeMeta.{tells_third}
 use Rattle.office_store.proofs.upgrade.tell_schema.Goals as goal
 

@@ -1,11 +1,8 @@
 use Rattle.std.proofs.Common.{◌≡◌, rules, sym, subst, IsTrue}
-use Rattle.sqlite.specs.State.{Survives}
-use Rattle.sqlite.specs.Held.{state}
-use Rattle.sqlite.specs.Tree.{Trees}
-use Rattle.sqlite.proofs.StateLemmas.{survives_then}
-use Rattle.office_sql.specs.Tables.{office_over}
+use Rattle.office_sql.proofs.Kit.{Survives, state, Trees, survives_then}
+use Rattle.office_sql.specs.Prelude.{office_over}
 use Rattle.office_sql.proofs.Asked.{was_clean}
-use Rattle.office_store.specs.Upgrading.{IsUpgrade}
+use Rattle.office_store.specs.Prelude.{IsUpgrade}
 use Rattle.office_store.proofs.upgrade.upgrade_tables.Goals as goal
 
 pub returns-clause-crash : goal.returns-clause-crash

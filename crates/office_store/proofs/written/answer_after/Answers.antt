@@ -1,9 +1,7 @@
 -- The device is found where it was put.
-use Rattle.std.proofs.Common.{◌∙◌, ap, List}
-use Rattle.std.specs.Prelude.{find}
-use Rattle.office_tables.specs.declared.rows.OfCustomer.{OfCustomer}
-use Rattle.office_tables.specs.declared.rows.Device.{Device}
-use Rattle.office_tables.specs.Tables.{is_device}
+use Rattle.std.proofs.Common.{◌∙◌, ap, List, find}
+use Rattle.office_store.proofs.Types.{OfCustomer, Device}
+use Rattle.office_tables.specs.Prelude.{is_device}
 use Rattle.office_store.proofs.DevicesPut.{device_found}
 use Rattle.office_store.proofs.written.answer_after.Goals as goal
 

@@ -1,7 +1,6 @@
-use Rattle.std.proofs.Common.{◌≡◌, drop, filter_map}
+use Rattle.std.proofs.Common.{◌≡◌, drop, filter_map, option_copied}
 use Rattle.std.specs.List.{cons_option}
-use Rattle.std.specs.Option.{option_copied}
-use Rattle.office_store.specs.Written.{device_written}
+use Rattle.office_store.specs.Prelude.{device_written}
 use Rattle.office_store.proofs.written.written_devices.Given as goal
 
 -- the devices of the list are the one that was found and those of what is left

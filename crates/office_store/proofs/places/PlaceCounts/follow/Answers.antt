@@ -1,4 +1,3 @@
--- Why `places::PlaceCounts::follow` meets its contract, where that has to be said.
 use Rattle.std.proofs.Common.{arith}
 use Rattle.office_store.proofs.DevicesPut.{followed}
 use Rattle.office_store.proofs.places.PlaceCounts.follow.Goals as goal

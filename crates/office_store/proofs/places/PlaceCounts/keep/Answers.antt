@@ -1,5 +1,5 @@
 use Rattle.std.proofs.Common.{◌≡◌, ℕ, List, Some, refl, subst}
-use Rattle.office_store.specs.Counting.{number_at}
+use Rattle.office_store.specs.Prelude.{number_at}
 use Rattle.office_store.specs.declared.places.OrderPlaces.{OrderPlaces}
 use Rattle.office_store.proofs.Numbers.{counted_put}
 use Rattle.office_store.proofs.places.PlaceCounts.keep.Goals as goal

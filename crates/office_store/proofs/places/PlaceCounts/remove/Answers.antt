@@ -1,7 +1,6 @@
--- Why `places::PlaceCounts::remove` meets its contract, where that has to be said.
 use Rattle.std.proofs.Common.{◌≡◌, ◌-◌, ◌∙◌, Some, arith, sym}
 use Rattle.office_tables.proofs.Places.{takes_its_place}
-use Rattle.office_store.specs.Counting.{count_if_counted}
+use Rattle.office_store.specs.Prelude.{count_if_counted}
 use Rattle.office_store.proofs.Numbers.{agree_less}
 use Rattle.office_store.proofs.places.PlaceCounts.remove.Goals as goal
 

@@ -1,4 +1,4 @@
-use Rattle.office_store.specs.Remembering.{fuse_map_at}
+use Rattle.office_store.specs.Prelude.{fuse_map_at}
 use Rattle.office_store.proofs.remembered.Remembered.new.Goals as goal
 
 pub returns : goal.returns

@@ -1,0 +1,80 @@
+-- What is left of the starts by the texts that fill them, in a database of the second version.
+use Rattle.std.proofs.Common.{◌≡◌, ◌∷◌, Ordering}
+use Rattle.text_core.proofs.Kit.{ℕ, ℤ, Bool, List, [], Ok, refl, sym, subst, append-nil, AllByRecursion, IsTotalOrder, is_eq, IsPermutation-trans}
+use Rattle.office_sql.proofs.Kit.{Null, Int, Row, column, Term, lit, col, eval_all, inner, end, Collation, Binary, Database, State, Executes, cast_row}
+use Rattle.office_sql.proofs.Kit.{IsPermutation-same}
+use Rattle.sqlite.specs.Listing.{understood}
+use Rattle.sqlite_tied.specs.Compute.{everything}
+use Rattle.office_tables.specs.Prelude.{order_cmp, given_cmp}
+use Rattle.office_sql.specs.Prelude.{OfficeTable, orders, given, order_starts, given_starts, order_start_table, given_start_table, rows_in, tree_of, env}
+use Rattle.office_sql.specs.Prelude.{over_by, order_in_row, given_in_row, starts_order, starts_given, AreRows, AreStarted, IsText, IsOrderRow, IsGivenRow}
+use Rattle.office_sql.proofs.Filled.{news_of, numbered_made, grows, started, each_made}
+use Rattle.office_sql.proofs.OrderReads.{order_total, order_tied}
+use Rattle.office_sql.proofs.GivenReads.{given_total, given_tied}
+use Rattle.office_sql.proofs.StartsFilled.{start_columns, order_fill_text, given_fill_text}
+use Rattle.office_sql.proofs.Stepping.{cast_null}
+use Rattle.office_store.specs.Prelude.{GainsNone, LacksOrderStarts, LacksGivenStarts}
+use Rattle.office_store.proofs.FirstTables.{FillsIn, IsFillIn, fills_in}
+
+abbrev fill_shown : List Term
+fill_shown = lit Null ∷ col 1 1 ∷ col 1 2 ∷ lit Null ∷ []
+
+abbrev plainly : List Collation
+plainly = Binary ∷ Binary ∷ Binary ∷ Binary ∷ []
+
+-- where the table of starts is filled with the rows' keys
+filled : {A : Type 0} (Typed : Row → Type 0) (cmp : A → A → Ordering) (total : IsTotalOrder cmp) (value : Row → A) (is_for : A → Row → Bool)
+    → ((a : A) (id : ℤ) (r : Row) → Typed r → is_for a (Int id ∷ start_columns r) ≡ is_eq (cmp a (value r))) → ((r : Row) → Typed r → IsText 1 r × IsText 2 r)
+    → (table side : OfficeTable) (old new : Database) → AreRows Typed cmp value (rows_in old.trees table)
+    → FillsIn 10 11 start_columns table side old new → GainsNone is_for value table side old new
+filled Typed cmp total value is_for tied texts table side old new are it =
+    let news = news_of start_columns [] it.kept in
+    let grown = grows start_columns it.kept [] tt tt in
+    let made = numbered_made start_columns [] it.kept in
+    let same = IsPermutation-trans _ _ _ grown.same (IsPermutation-same _ _ (append-nil news)) in
+    record {
+      schema = it.schema;
+      sound = it.sound;
+      started = subst (AreStarted is_for value (rows_in old.trees table)) (sym it.rows)
+          (started Typed cmp total value is_for start_columns tied (λ id r e.
+          texts r e) (rows_in old.trees table)
+          it.kept news _ are it.along made grown.rising grown.numbered same);
+      silent = subst (AllByRecursion (λ s. column s 3
+          ≡ Null)) (sym it.rows) (each_made start_columns (λ s. column s 3
+          ≡ Null) it.kept news _ made same (λ id r. refl));
+      others = it.others;
+    }
+
+-- ---- the starts of orders
+
+order_fill : IsFillIn 10 11 order_fill_text order_starts (over_by plainly (inner (tree_of orders) end) [] fill_shown [])
+unfolding understood everything
+order_fill = record { is = refl; plain = (refl, refl); there = refl; uncounted = refl; unstamped = refl }
+
+order_casts : (r : Row) → IsOrderRow r → cast_row order_start_table (eval_all fill_shown (env [] r)) ≡ Null ∷ start_columns r
+order_casts r e = rw (cast_null, e.0, e.1) refl
+
+pub orders_filled : (old new : State) (count : ℕ) → LacksOrderStarts old.now → Executes order_fill_text [] old new (Ok count)
+    → GainsNone starts_order order_in_row orders order_starts old.now new.now
+orders_filled old new count lacks ran =
+    filled IsOrderRow order_cmp order_total order_in_row starts_order (λ a id r e.
+    sym (order_tied a (order_in_row r))) (λ r e. (e.0, e.1)) orders order_starts old.now new.now lacks.rows
+    (fills_in 10 11 order_fill_text order_starts orders plainly fill_shown order_fill (λ db.
+    refl) [] IsOrderRow start_columns order_casts old new count lacks.schema lacks.none lacks.rows.typed ran)
+
+-- ---- the starts of records
+
+given_fill : IsFillIn 10 11 given_fill_text given_starts (over_by plainly (inner (tree_of given) end) [] fill_shown [])
+unfolding understood everything
+given_fill = record { is = refl; plain = (refl, refl); there = refl; uncounted = refl; unstamped = refl }
+
+given_casts : (r : Row) → IsGivenRow r → cast_row given_start_table (eval_all fill_shown (env [] r)) ≡ Null ∷ start_columns r
+given_casts r e = rw (cast_null, e.0, e.1) refl
+
+pub given_filled : (old new : State) (count : ℕ) → LacksGivenStarts old.now → Executes given_fill_text [] old new (Ok count)
+    → GainsNone starts_given given_in_row given given_starts old.now new.now
+given_filled old new count lacks ran =
+    filled IsGivenRow given_cmp given_total given_in_row starts_given (λ a id r e.
+    sym (given_tied a (given_in_row r))) (λ r e. (e.0, e.1)) given given_starts old.now new.now lacks.rows
+    (fills_in 10 11 given_fill_text given_starts given plainly fill_shown given_fill (λ db.
+    refl) [] IsGivenRow start_columns given_casts old new count lacks.schema lacks.none lacks.rows.typed ran)

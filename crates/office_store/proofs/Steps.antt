@@ -1,0 +1,297 @@
+-- What the steps of an upgrade make of a database, one after another.
+use Rattle.std.proofs.Common.{◌≡◌, ◌≢◌, ◌<◌, ◌≤◌, ℕ, [], Option, Some, None, map, refl, sym, ap, subst, subst₂, ◌∙◌, arith, lt-ltb}
+use Rattle.std.specs.List.{AllByRecursion}
+use Rattle.office_sql.proofs.Kit.{Null, column, Database, State, Trees, sort_by}
+use Rattle.office_tables.specs.Prelude.{seat_cmp, order_cmp, map_cmp, link_cmp, device_cmp, given_cmp, entry_cmp}
+use Rattle.office_sql.proofs.Names.{first_by_name}
+use Rattle.office_sql.specs.Prelude.{OfficeTable, meta, seats, maps, links, orders, devices, given, ledger, order_starts, given_starts, texts, seat_in_row}
+use Rattle.office_sql.specs.Prelude.{map_in_row, link_in_row, order_in_row, device_in_row, given_in_row, entry_in_row, starts_order, starts_given}
+use Rattle.office_sql.specs.Prelude.{with_order_start, with_given_start, rows_in, place_of, AreOfficeRows, AreRows, AreStarted, tables_in}
+use Rattle.office_sql.specs.Prelude.{IsSeatRow, IsMapRow, IsLinkRow, IsOrderRow, IsDeviceRow, IsGivenRow, IsEntryRow}
+use Rattle.office_sql.proofs.StartsFilled.{silent_start}
+use Rattle.office_store.proofs.Types.{Version, Earliest, Early, First, Second, Third}
+use Rattle.office_store.specs.Prelude.{CanUpgrade, GainsNone, GainsNoStart, GainsStarts, GainsText, IsAt, IsEarly, IsFilled, IsFound, IsRaised, IsRemade}
+use Rattle.office_store.specs.Prelude.{IsStep, KeepsFirst, LacksGivenStarts, LacksOrderStarts, Sees, TellsNoStart, count_of, next_version, rows_at, tables_at}
+use Rattle.office_store.proofs.Counts.{first_eight}
+
+-- the rows of a table that a version has are those of the database
+at_first : (version : Version) (db : Trees) (table : OfficeTable) → place_of table < count_of version → rows_at version db table ≡ rows_in db table
+at_first version db table low = rw (lt-ltb (place_of table) (count_of version) low) refl
+
+-- where the rows of the first version's tables stand
+module _ (old new : Trees) (same : KeepsFirst 8 old new) where
+  -- they are as the office has them
+  office_rows : AreOfficeRows old → AreOfficeRows new
+  office_rows rows meta = tt
+  office_rows rows seats = subst (AreRows IsSeatRow seat_cmp seat_in_row) (sym (same seats (omega arith))) (rows seats)
+  office_rows rows maps = subst (AreRows IsMapRow map_cmp map_in_row) (sym (same maps (omega arith))) (rows maps)
+  office_rows rows links = subst (AreRows IsLinkRow link_cmp link_in_row) (sym (same links (omega arith))) (rows links)
+  office_rows rows orders = subst (AreRows IsOrderRow order_cmp order_in_row) (sym (same orders (omega arith))) (rows orders)
+  office_rows rows devices = subst (AreRows IsDeviceRow device_cmp device_in_row) (sym (same devices (omega arith))) (rows devices)
+  office_rows rows given = subst (AreRows IsGivenRow given_cmp given_in_row) (sym (same given (omega arith))) (rows given)
+  office_rows rows ledger = subst (AreRows IsEntryRow entry_cmp entry_in_row) (sym (same ledger (omega arith))) (rows ledger)
+  office_rows rows order_starts = tt
+  office_rows rows given_starts = tt
+  office_rows rows texts = tt
+
+  same_at : (version later : Version) (table : OfficeTable) → place_of table < 8 → rows_at later new table ≡ rows_at version old table
+  same_at version later table low =
+      at_first later new table (omega (arith, low, first_eight later)) ∙ same table low
+      ∙ sym (at_first version old table (omega (arith, low, first_eight version)))
+
+  -- and say what they said, if the beginnings of validity do
+  tables_same : (version later : Version) → with_order_start (rows_at later new order_starts) ≡ with_order_start (rows_at version old order_starts)
+      → with_given_start (rows_at later new given_starts) ≡ with_given_start (rows_at version old given_starts)
+      → tables_at later new ≡ tables_at version old
+  tables_same version later of_orders of_given i = record {
+    seats = sort_by seat_cmp (map seat_in_row (same_at version later seats (omega arith) i));
+    orders = map (of_orders i) (sort_by order_cmp (map order_in_row (same_at version later orders (omega arith) i)));
+    devices = sort_by device_cmp (map device_in_row (same_at version later devices (omega arith) i));
+    given = map (of_given i) (sort_by given_cmp (map given_in_row (same_at version later given (omega arith) i)));
+    maps = sort_by map_cmp (map map_in_row (same_at version later maps (omega arith) i));
+    links = sort_by link_cmp (map link_in_row (same_at version later links (omega arith) i));
+    ledger = sort_by entry_cmp (map entry_in_row (same_at version later ledger (omega arith) i));
+  }
+
+-- a version has one next
+stepped : (version next : Version) (x y : Database) → next_version version ≡ Some next → IsRaised version next x y → IsStep version x y
+stepped version next x y is raised later also = subst (λ v. IsRaised version v x y) same raised
+  where
+    same : next ≡ later
+    same = let e : Some next ≡ Some later = sym is ∙ also in cc
+
+-- ---- from a version before the first
+
+module _ (x y : Database) (rows : AreOfficeRows x.trees) (it : IsRemade x y) where
+  first_is : IsAt First y
+  first_is = record { schema = it.tables.0; sound = it.tables.1; rows = office_rows x.trees y.trees it.rows rows; starts = tt }
+
+  pub early_step : (version : Version) → IsEarly version → IsStep version x y
+  early_step Earliest early = stepped Earliest First x y refl (record {
+    is = first_is;
+    tables = tables_same x.trees y.trees it.rows Earliest First refl refl;
+    rows = it.rows;
+    none = λ _. refl;
+  })
+  early_step Early early = stepped Early First x y refl (record {
+    is = first_is;
+    tables = tables_same x.trees y.trees it.rows Early First refl refl;
+    rows = it.rows;
+    none = λ _. refl;
+  })
+  early_step First early = absurd early
+  early_step Second early = absurd early
+  early_step Third early = absurd early
+
+-- ---- from the first
+
+-- records are not filled with orders
+pub still_lacks_given : (y mid : Database) → GainsNone starts_order order_in_row orders order_starts y mid → LacksGivenStarts y → LacksGivenStarts mid
+still_lacks_given y mid fills lacks = record {
+  schema = fills.schema;
+  rows = subst (AreRows IsGivenRow given_cmp given_in_row) (sym (fills.others given (omega arith) (λ e. cc))) lacks.rows;
+  none = fills.others given_starts (omega arith) (λ e. cc) ∙ lacks.none;
+}
+
+module _ (x y : Database) (rows : AreOfficeRows x.trees) (gains : GainsStarts x y) where
+  first_stand : KeepsFirst 8 x.trees y.trees
+  first_stand = first_by_name (λ t. y.trees t.tree ≡ x.trees t.tree) 8 gains.others
+
+  -- once the tables are made, they can be filled
+  pub lacks_orders : LacksOrderStarts y
+  lacks_orders = record {
+    schema = gains.schema;
+    rows = subst (AreRows IsOrderRow order_cmp order_in_row) (sym (first_stand orders (omega arith))) (rows orders);
+    none = gains.orders;
+  }
+
+  pub lacks_given : LacksGivenStarts y
+  lacks_given = record {
+    schema = gains.schema;
+    rows = subst (AreRows IsGivenRow given_cmp given_in_row) (sym (first_stand given (omega arith))) (rows given);
+    none = gains.given;
+  }
+
+  module _ (z : Database) (fills : GainsNoStart y z) where
+    abbrev mid : Database
+    mid = fills.mid
+
+    -- what is filled are the starts alone
+    others_stand : (table : OfficeTable) → place_of table < 8 → rows_in z.trees table ≡ rows_in y.trees table
+    others_stand table low =
+        fills.given.others table (omega (arith, low)) (λ e. omega (arith, subst (λ t. place_of t < 8) e low))
+        ∙ fills.orders.others table (omega (arith, low)) (λ e. omega (arith, subst (λ t. place_of t < 8) e low))
+
+    rows_stand : KeepsFirst 8 x.trees z.trees
+    rows_stand table low = others_stand table low ∙ first_stand table low
+
+    starts_stand : rows_in z.trees order_starts ≡ rows_in mid.trees order_starts
+    starts_stand = fills.given.others order_starts (omega arith) (λ e. cc)
+
+    -- starts that say nothing say as much as none
+    no_order_starts : with_order_start (rows_in z.trees order_starts) ≡ with_order_start []
+    no_order_starts i o =
+        let silent = subst (AllByRecursion (λ s. column s 3 ≡ Null)) (sym starts_stand) fills.orders.silent in
+        record o { row = record o.row { not_before = silent_start starts_order (rows_in z.trees order_starts) o silent i } }
+
+    no_given_starts : with_given_start (rows_in z.trees given_starts) ≡ with_given_start []
+    no_given_starts i o = record o {
+      row = record o.row { not_before = silent_start starts_given (rows_in z.trees given_starts) o fills.given.silent i };
+    }
+
+    pub first_step : IsStep First x z
+    first_step = stepped First Second x z refl (record {
+      is = record {
+        schema = fills.given.schema;
+        sound = fills.given.sound;
+        rows = office_rows x.trees z.trees rows_stand rows;
+        starts = record {
+          orders = subst₂ (AreStarted starts_order order_in_row)
+              (sym (others_stand orders (omega arith))) (sym starts_stand) fills.orders.started;
+          given = subst (λ l. AreStarted starts_given given_in_row l (rows_in z.trees given_starts))
+              (sym (fills.given.others given (omega arith) (λ e. cc))) fills.given.started;
+        };
+      };
+      tables = tables_same x.trees z.trees rows_stand First Second no_order_starts no_given_starts;
+      rows = rows_stand;
+      none = λ _. refl;
+    })
+
+-- ---- from the second
+
+pub second_step : (x z : Database) → IsAt Second x → GainsText x z → IsStep Second x z
+second_step x z at gains =
+    let same = first_by_name (λ t. z.trees t.tree ≡ x.trees t.tree) 10 gains.others in
+    let first : KeepsFirst 8 x.trees z.trees = λ table low. same table (omega (arith, low)) in
+    let of_orders = same order_starts (omega arith) in
+    let of_given = same given_starts (omega arith) in
+    stepped Second Third x z refl (record {
+      is = record {
+        schema = gains.schema;
+        sound = gains.sound;
+        rows = office_rows x.trees z.trees first at.rows;
+        starts = record {
+          orders = subst₂ (AreStarted starts_order order_in_row) (sym (same orders (omega arith))) (sym of_orders) at.starts.orders;
+          given = subst₂ (AreStarted starts_given given_in_row) (sym (same given (omega arith))) (sym of_given) at.starts.given;
+        };
+      };
+      tables = tables_same x.trees z.trees first Second Third (ap with_order_start of_orders) (ap with_given_start of_given);
+      rows = same;
+      none = λ _. gains.none;
+    })
+
+-- ---- one step after another
+
+-- how many steps are left
+abbrev pub steps_left : Version → ℕ
+steps_left Earliest = 3
+steps_left Early = 3
+steps_left First = 2
+steps_left Second = 1
+steps_left Third = 0
+
+-- what is so of each version and the one that it is written to have next
+each_next : (P : Version → Version → Type 0) → P Earliest First × P Early First × P First Second × P Second Third
+    → (version next : Version) → next_version version ≡ Some next → P version next
+each_next P all Earliest next is = let same : First ≡ next = cc in subst (P Earliest) same all.0
+each_next P all Early next is = let same : First ≡ next = cc in subst (P Early) same all.1
+each_next P all First next is = let same : Second ≡ next = cc in subst (P First) same all.2
+each_next P all Second next is = let same : Third ≡ next = cc in subst (P Second) same all.3
+each_next P all Third next is = absurd (let none = is in cc)
+
+-- each step leaves one less
+pub one_less : (version next : Version) → next_version version ≡ Some next → steps_left next < steps_left version
+one_less = each_next (λ v n. steps_left n < steps_left v) (omega arith, omega arith, omega arith, omega arith)
+
+-- no version has more tables than the next
+pub more_tables : (version next : Version) → next_version version ≡ Some next → count_of version ≤ count_of next
+more_tables = each_next (λ v n. count_of v ≤ count_of n) (omega arith, omega arith, omega arith, omega arith)
+
+-- of an earlier version it is known which it is
+pub is_second : (version : Version) → version ≢ Earliest → version ≢ Early → version ≢ First → version ≢ Third → version ≡ Second
+is_second Earliest a b c d = absurd (a refl)
+is_second Early a b c d = absurd (b refl)
+is_second First a b c d = absurd (c refl)
+is_second Second a b c d = refl
+is_second Third a b c d = absurd (d refl)
+
+-- the third has no next
+pub no_next : (next : Option Version) → ((version : Version) → next ≢ Some version) → next ≡ None
+no_next None none = refl
+no_next (Some version) none = absurd (none version refl)
+
+pub is_last : (version : Version) → next_version version ≡ None → version ≡ Third
+is_last Earliest none = absurd (let e = none in cc)
+is_last Early none = absurd (let e = none in cc)
+is_last First none = absurd (let e = none in cc)
+is_last Second none = absurd (let e = none in cc)
+is_last Third none = refl
+
+pub raised_on : (version at next : Version) → count_of version ≤ count_of at → (x y z : Database) → IsRaised version at x y → IsRaised at next y z
+    → IsRaised version next x z
+raised_on version at next fewer x y z first second = record {
+  is = second.is;
+  tables = second.tables ∙ first.tables;
+  rows = λ table low. second.rows table (omega (arith, low, fewer)) ∙ first.rows table low;
+  none = λ none. second.none (first.none none);
+}
+
+-- ---- from the database that was found to the office
+
+-- one that can be upgraded is of its version
+pub is_at : (version : Version) (s : State) → CanUpgrade version s → Sees (IsAt version) s
+is_at Earliest s can up =
+    let found = can.found up in
+    record { schema = found.schema; sound = found.sound; rows = found.rows; starts = tt }
+is_at Early s can up =
+    let found = can.found up in
+    record { schema = found.schema; sound = found.sound; rows = found.rows; starts = tt }
+is_at First s can up =
+    let found = can.found up in
+    record { schema = found.schema; sound = found.sound; rows = found.rows; starts = tt }
+is_at Second s can up =
+    let found = can.found up in
+    record { schema = found.schema; sound = found.sound; rows = found.rows; starts = found.starts (can.started (λ e. omega (arith, e)) up) }
+is_at Third s can up = absurd (can.earlier refl)
+
+-- where no beginning of validity is told, the tables of a version with the number 1 say what those of the office do
+untold : (db : Trees) → TellsNoStart db → tables_at First db ≡ tables_in db
+untold db none i = record {
+  seats = sort_by seat_cmp (map seat_in_row (rows_in db seats));
+  orders = map (with_order_start (sym none.0 i)) (sort_by order_cmp (map order_in_row (rows_in db orders)));
+  devices = sort_by device_cmp (map device_in_row (rows_in db devices));
+  given = map (with_given_start (sym none.1 i)) (sort_by given_cmp (map given_in_row (rows_in db given)));
+  maps = sort_by map_cmp (map map_in_row (rows_in db maps));
+  links = sort_by link_cmp (map link_in_row (rows_in db links));
+  ledger = sort_by entry_cmp (map entry_in_row (rows_in db ledger));
+}
+
+found_tables : (version : Version) (x : Database) → IsFound version x → tables_at version x.trees ≡ tables_in x.trees
+found_tables Earliest x found = untold x.trees found.starts
+found_tables Early x found = untold x.trees found.starts
+found_tables First x found = untold x.trees found.starts
+found_tables Second x found = refl
+found_tables Third x found = refl
+
+-- an earlier version has no text of the site
+no_texts : (version : Version) → version ≢ Third → (db : Trees) → rows_at version db texts ≡ []
+no_texts Earliest earlier db = refl
+no_texts Early earlier db = refl
+no_texts First earlier db = refl
+no_texts Second earlier db = refl
+no_texts Third earlier db = absurd (earlier refl)
+
+-- all is as the office has it, and says what it said
+pub filled : (version : Version) → version ≢ Third → (x z : Database) → IsFound version x → IsRaised version Third x z → IsFilled version x z
+filled version earlier x z found raised = record {
+  office = record {
+    schema = raised.is.schema;
+    sound = raised.is.sound;
+    rows = raised.is.rows;
+    orders_started = raised.is.starts.orders;
+    given_started = raised.is.starts.given;
+  };
+  tables = raised.tables ∙ found_tables version x found;
+  rows = raised.rows;
+  none = raised.none (no_texts version earlier x.trees);
+}
