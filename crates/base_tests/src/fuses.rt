@@ -1,7 +1,7 @@
 //! Sets of fuse positions, keys and images, and what the locks of the sample map hide and protect.
 
 ghost use Rattle.std.specs.Prelude.{◌≡◌, ◌<◌};
-ghost use Rattle.fuse_image.specs.Places.{IsPlace};
+ghost use Rattle.fuse_image.specs.Prelude.{IsPlace};
 
 use fuse_image::{
     Bits, Image, Keys, hidden_positions, is_hidden_key, is_write_protected_key, key_positions,

@@ -1,7 +1,7 @@
 //! The sample fuse map, read whole and copied, and shelves of maps.
 
 ghost use Rattle.std.specs.Prelude.{IfSome};
-ghost use Rattle.fusemap_core.specs.Map.{IsFieldOf};
+ghost use Rattle.fusemap_core.specs.Prelude.{IsFieldOf};
 
 use fusemap_core::{FieldId, FuseMap, MapFault, Pos, read_map};
 use map_shelf::NumberShelf;

@@ -1,8 +1,7 @@
 //! Streams of HTTP requests, in whatever pieces they come, with interruptions and with failures.
 
 ghost use Rattle.std.specs.Prelude.{◌≡◌, ◌+◌, ◌%◌};
-ghost use Rattle.http_frames.specs.Frames.{Request};
-ghost use Rattle.http_frames.specs.Looks.{IsFrameAt};
+ghost use Rattle.http_frames.specs.Prelude.{Request, IsFrameAt};
 
 use http_frames::buffer::Buffer;
 use http_frames::fields::{Occurrence, only_parameter, split_target};

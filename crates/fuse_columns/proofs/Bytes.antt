@@ -1,11 +1,8 @@
 -- Words and their four bytes, the lowest first, by their bits.
-use Rattle.std.proofs.Common.{◌≡◌, ℕ, zero, suc, ◌+◌, ◌-◌, ◌*◌, ◌/◌, ◌%◌, ◌^◌, ◌<◌, Bool, true, false, List, [], ◌∷◌, refl, sym, ap, ap₂, ◌∙◌, inl, inr, arith}
-use Rattle.std.specs.Prelude.{slice_index, ◌==◌, if◌then◌else◌}
-use Rattle.std.specs.Int.{bit_at, to_le_bytes, from_le_bytes, w32}
-use Rattle.std.proofs.lemmas.Bool.{cases_lt, cases_order}
-use Rattle.std.proofs.lemmas.Nat.{pow-add}
-use Rattle.std.proofs.lemmas.Nat.Bits.{bit_at_cat_low, bit_at_cat_high}
-use Rattle.fuse_image.specs.Words.{number_with}
+use Rattle.std.proofs.Common.{◌≡◌, ◌+◌, ◌-◌, ◌*◌, ◌/◌, ◌%◌, ◌^◌, ◌<◌, ◌∷◌, ◌==◌, if◌then◌else◌}
+use Rattle.text_core.proofs.Kit.{ℕ, zero, suc, Bool, true, false, List, [], refl, sym, ap, ap₂, ◌∙◌, inl, inr, arith, slice_index, bit_at, to_le_bytes}
+use Rattle.text_core.proofs.Kit.{from_le_bytes, w32, cases_lt, cases_order, pow-add, bit_at_cat_low, bit_at_cat_high}
+use Rattle.fuse_image.specs.Prelude.{number_with}
 use Rattle.fuse_columns.proofs.Numbers.{number_with-lt}
 
 -- a bit of a number is 1 where the test passes

@@ -1,23 +1,15 @@
 -- The bytes of all blocks come back from the set that they stand for.
-use Rattle.std.proofs.Common.{◌≡◌, ℕ, zero, suc, ◌+◌, ◌*◌, ◌/◌, ◌%◌, ◌<◌, ◌≤◌, Bool, true, false, ◌&&◌, not, All, List, [], ◌∷◌, ◌++◌, length, take, drop}
-use Rattle.std.proofs.Common.{refl, sym, ap, ap₂, ◌∙◌, arith, length-drop}
-use Rattle.std.specs.Prelude.{slice_index, sum, nat_lt, ◌==◌}
-use Rattle.std.specs.Int.{bit_at}
-use Rattle.std.specs.List.{flat_map, range_with_len}
+use Rattle.std.proofs.Common.{◌≡◌, ◌+◌, ◌*◌, ◌/◌, ◌%◌, ◌<◌, ◌≤◌, ◌&&◌, ◌∷◌, ◌++◌, ◌==◌}
+use Rattle.text_core.proofs.Kit.{ℕ, zero, suc, Bool, true, false, not, All, List, [], length, take, drop, refl, sym, ap, ap₂, ◌∙◌, arith, length-drop}
+use Rattle.text_core.proofs.Kit.{slice_index, sum, nat_lt, bit_at, flat_map, range_with_len, lt-ltb, and_from, true≢false, get_or-drop, get_or-take}
+use Rattle.text_core.proofs.Kit.{length-take-le, take_all, fill_by_all, sum_by_more, sum_by_more_le, bit_at-lt, same_from_bits_below, take-add}
 use Rattle.std.specs.FinSet as set
-use Rattle.std.proofs.lemmas.Bool.{lt-ltb, and_from, true≢false}
-use Rattle.std.proofs.lemmas.List.{get_or-drop, get_or-take, length-take-le, take_all}
-use Rattle.std.proofs.lemmas.List.FromFn.{fill_by_all}
-use Rattle.std.proofs.lemmas.List.Sums.{sum_by_more, sum_by_more_le}
-use Rattle.std.proofs.lemmas.Nat.Bits.{bit_at-lt, same_from_bits_below}
-use Rattle.std.proofs.Math.Seq.{take-add}
 use Rattle.fusemap_core.specs.declared.pos.Pos.{Pos}
-use Rattle.fusemap_core.specs.Map.{Map, IsMap, IsPosition, word_count}
-use Rattle.fuse_image.specs.Locks.{is_key_position}
-use Rattle.fuse_image.specs.Places.{Positions, is_place, contains-places_where, pos_exact}
+use Rattle.fusemap_core.specs.Prelude.{Map, IsMap, IsPosition, word_count}
+use Rattle.fuse_image.specs.Prelude.{is_key_position, Positions, is_place, contains-places_where, pos_exact}
 use Rattle.fuse_columns.proofs.Numbers.{number_with-lt}
-use Rattle.fuse_columns.specs.BitsColumns.{byte_of, block_bytes, all_bytes, outside_keys, bits_column, start_of_block, bytes_have_one, is_plain, bits_in}
-use Rattle.fuse_columns.specs.Laws.{IsBitsColumn}
+use Rattle.fuse_columns.specs.Prelude.{byte_of, block_bytes, all_bytes, outside_keys, bits_column, start_of_block, bytes_have_one, is_plain, bits_in}
+use Rattle.fuse_columns.specs.Prelude.{IsBitsColumn}
 use Rattle.fuse_columns.proofs.Bytes.{number_reads}
 use Rattle.fuse_columns.proofs.Pieces.{flat_map-range_more}
 use Rattle.fuse_image.proofs.InMap.{block_is}

@@ -1,22 +1,15 @@
 -- Tables of keys as bytes, and back.
-use Rattle.std.proofs.Common.{◌≡◌, ◌≢◌, ℕ, suc, ◌+◌, ◌*◌, ◌<◌, ◌≤◌, true, false, ◌&&◌, List, [], ◌∷◌, ◌++◌, length, get_or, take, drop, drop-cons, Option}
-use Rattle.std.proofs.Common.{Some, None, IfSome, refl, sym, ap, ◌∙◌, inl, inr, arith, length-append}
-use Rattle.std.specs.Prelude.{◌==◌, ◌||◌, slice_index, is_some, if◌then◌else◌}
-use Rattle.std.specs.List.{flat_map, list_any}
+use Rattle.std.proofs.Common.{◌≡◌, ◌≢◌, ◌+◌, ◌*◌, ◌<◌, ◌≤◌, ◌&&◌, ◌∷◌, ◌++◌, get_or, drop-cons, ◌==◌, ◌||◌, if◌then◌else◌}
+use Rattle.text_core.proofs.Kit.{ℕ, suc, true, false, List, [], length, take, drop, Option, Some, None, IfSome, refl, sym, ap, ◌∙◌, inl, inr, arith}
+use Rattle.text_core.proofs.Kit.{length-append, slice_index, is_some, flat_map, list_any, cases_Bool, cases_lt, cond-true, cond-false, eq-eqb, eqb-true, ne_eqb}
+use Rattle.text_core.proofs.Kit.{and_from, and_left, and_right, and_parts, or_left, or_right, false≢true, true≢false, append_assoc, length-take-le, take_all}
+use Rattle.text_core.proofs.Kit.{drop_of_length-le, take-append_seam, drop-append_seam}
 use Rattle.std.specs.FinMap as map
-use Rattle.std.proofs.lemmas.Bool.{cases_Bool, cases_lt, cond-true, cond-false, eq-eqb, eqb-true, ne_eqb, and_from, and_left, and_right, and_parts, or_left}
-use Rattle.std.proofs.lemmas.Bool.{or_right, false≢true, true≢false}
-use Rattle.std.proofs.lemmas.List.{append_assoc, length-take-le, take_all}
-use Rattle.std.proofs.Math.ListN.{drop_of_length-le}
-use Rattle.std.proofs.Math.Seq.{take-append_seam, drop-append_seam}
 use Rattle.fusemap_core.specs.declared.field.Field.{Field}
-use Rattle.fusemap_core.specs.Map.{Map}
-use Rattle.fuse_image.specs.Keys.{HoldsDigests, KeyTable}
-use Rattle.fuse_image.specs.Locks.{is_key_block}
+use Rattle.fusemap_core.specs.Prelude.{Map}
+use Rattle.fuse_image.specs.Prelude.{HoldsDigests, KeyTable, is_key_block, AreKeys, AreKeysOf}
 use Rattle.fuse_image.proofs.Tables.{HoldsDigests-table_where, get_within, get_past, table_where-same}
-use Rattle.fuse_image.specs.Redaction.{AreKeys}
-use Rattle.fuse_image.specs.InMap.{AreKeysOf}
-use Rattle.fuse_columns.specs.KeysColumns.{key_blocks, key_bytes, keys_column, key_of_bytes, key_in_bytes, keys_in}
+use Rattle.fuse_columns.specs.Prelude.{key_blocks, key_bytes, keys_column, key_of_bytes, key_in_bytes, keys_in}
 use Rattle.fuse_columns.proofs.KeyFields.{key_blocks-key, key_blocks-plain, key_block_is}
 
 -- what 33 bytes stand for

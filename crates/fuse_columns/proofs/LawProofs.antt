@@ -1,9 +1,7 @@
 -- The laws of columns, by the lemmas of their parts.
-use Rattle.std.proofs.Common.{[], sym, ap, ◌∙◌}
-use Rattle.std.proofs.lemmas.List.{append-nil}
-use Rattle.fuse_columns.specs.BitsColumns.{bits_column, bits_in}
-use Rattle.fuse_columns.specs.Laws.{PlainBitsComeBack, BitsComeBack, KeysComeBack, ImageComesBack, WorkComesBack, BitsInMap, KeysInMap, PendingInMap}
-use Rattle.fuse_columns.specs.Laws.{BitsHaveLength, KeysHaveLength, WorkHasLength, BitsBytesComeBack, KeyBytesComeBack, WorkBytesComeBack}
+use Rattle.std.proofs.Common.{[], sym, ap, ◌∙◌, append-nil}
+use Rattle.fuse_columns.specs.Prelude.{bits_column, bits_in, PlainBitsComeBack, BitsComeBack, KeysComeBack, ImageComesBack, WorkComesBack, BitsInMap, KeysInMap}
+use Rattle.fuse_columns.specs.Prelude.{PendingInMap, BitsHaveLength, KeysHaveLength, WorkHasLength, BitsBytesComeBack, KeyBytesComeBack, WorkBytesComeBack}
 use Rattle.fuse_columns.proofs.BytesBack.{bytes_back}
 use Rattle.fuse_columns.proofs.WorkBytesBack.{key_bytes_back, work_bytes_back}
 use Rattle.fuse_columns.proofs.KeyBytes.{AreKeysOf-keys_in}

@@ -1,7 +1,7 @@
 -- Numbers with a 1 at each place that passes a test.
 use Rattle.std.proofs.Common.{ℕ, zero, suc, ◌^◌, ◌<◌, ◌≤◌, Bool, true, false, cond, arith}
 use Rattle.std.proofs.Math.Nat.{pow-suc}
-use Rattle.fuse_image.specs.Words.{number_with}
+use Rattle.fuse_image.specs.Prelude.{number_with}
 
 -- the bits below n are less than 2 to the power of n
 at_most_once : (b : Bool) (k : ℕ) → cond b k 0 ≤ k

@@ -1,27 +1,18 @@
 -- Sets of positions as the bytes of all blocks, and back.
-use Rattle.std.proofs.Common.{◌≡◌, ℕ, zero, suc, ◌+◌, ◌*◌, ◌/◌, ◌%◌, ◌<◌, ◌≤◌, Bool, true, false, ◌&&◌, not, All, List, [], ◌∷◌, ◌++◌, length, refl, sym, ap}
-use Rattle.std.proofs.Common.{ap₂, ◌∙◌, inl, inr, arith, map}
-use Rattle.std.specs.Prelude.{slice_index, sum, take, nat_lt, ◌==◌}
-use Rattle.std.specs.Int.{bit_at, to_le_bytes, w32}
-use Rattle.std.specs.List.{flat_map, range_with_len}
+use Rattle.std.proofs.Common.{◌≡◌, ◌+◌, ◌*◌, ◌/◌, ◌%◌, ◌<◌, ◌≤◌, ◌&&◌, ◌∷◌, ◌++◌, ◌==◌}
+use Rattle.text_core.proofs.Kit.{ℕ, zero, suc, Bool, true, false, not, All, List, [], length, refl, sym, ap, ap₂, ◌∙◌, inl, inr, arith, map, slice_index, sum}
+use Rattle.text_core.proofs.Kit.{take, nat_lt, bit_at, to_le_bytes, w32, flat_map, range_with_len, cases_Bool, cases_lt, cond-true, cond-false, lt-ltb, le-ltb}
+use Rattle.text_core.proofs.Kit.{ltb-true, and_parts, and_from, and_left, and_right, not-true, false≢true, false_from_ne_true, get_or_past, get_or_append_left}
+use Rattle.text_core.proofs.Kit.{map-append, get_or-map-range_with_len, length-map-range_with_len, sum_by_more_le}
 use Rattle.std.specs.FinSet as set
-use Rattle.std.proofs.lemmas.Bool.{cases_Bool, cases_lt, cond-true, cond-false, lt-ltb, le-ltb, ltb-true, and_parts, and_from, and_left, and_right, not-true}
-use Rattle.std.proofs.lemmas.Bool.{false≢true, false_from_ne_true}
-use Rattle.std.proofs.lemmas.List.{get_or_past, get_or_append_left, map-append}
-use Rattle.std.proofs.lemmas.List.FromFn.{get_or-map-range_with_len, length-map-range_with_len}
-use Rattle.std.proofs.lemmas.List.Sums.{sum_by_more_le}
 use Rattle.fusemap_core.specs.declared.pos.Pos.{Pos}
-use Rattle.fusemap_core.specs.Map.{Map, IsMap, word_count}
-use Rattle.fuse_image.specs.Locks.{is_key_position}
-use Rattle.fuse_image.specs.Places.{Positions, IsPlace, is_place, places_where, contains-places_where, pos_total, pos_exact}
-use Rattle.fuse_image.specs.Words.{bit_in, number_with, position_of_bit, word_of, words_of_set as image_words}
+use Rattle.fusemap_core.specs.Prelude.{Map, IsMap, word_count}
+use Rattle.fuse_image.specs.Prelude.{is_key_position, Positions, IsPlace, is_place, places_where, contains-places_where, pos_total, pos_exact, bit_in}
+use Rattle.fuse_image.specs.Prelude.{number_with, position_of_bit, word_of, words_of_set as image_words, same_number, AreBits}
 use Rattle.fuse_image.proofs.InMap.{block_is}
 use Rattle.fuse_image.proofs.Sets.{places_where-at, none_outside, same_places, is_place-from_IsPlace}
-use Rattle.fuse_image.specs.WordsAgain.{same_number}
-use Rattle.fuse_columns.specs.BitsColumns.{byte_of, block_bytes, all_bytes, outside_keys, bits_column, bits_length, start_of_block, bytes_have_one}
-use Rattle.fuse_columns.specs.BitsColumns.{is_plain, bits_in}
-use Rattle.fuse_image.specs.InMap.{AreBits}
-use Rattle.fuse_columns.specs.Words.{bytes_of_words, bytes_of_blocks, word_at, word_of_block}
+use Rattle.fuse_columns.specs.Prelude.{byte_of, block_bytes, all_bytes, outside_keys, bits_column, bits_length, start_of_block, bytes_have_one, is_plain}
+use Rattle.fuse_columns.specs.Prelude.{bits_in, bytes_of_words, bytes_of_blocks, word_at, word_of_block}
 use Rattle.fuse_columns.proofs.Blocks.{bytes_of_words-zero, bytes_of_words-more}
 use Rattle.fuse_columns.proofs.Bytes.{bytes_of_number, bit_of_bytes, number_reads}
 use Rattle.fuse_columns.proofs.Pieces.{range-append, same_pieces, length-pieces, at_piece}

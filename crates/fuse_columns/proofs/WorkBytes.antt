@@ -1,16 +1,10 @@
 -- Pending work as bytes, and back.
-use Rattle.std.proofs.Common.{◌≡◌, ℕ, ◌+◌, List, [], ◌++◌, length, drop, sym, ap, ap₂, ◌∙◌, arith, length-append}
-use Rattle.std.proofs.lemmas.List.{append_assoc, append-nil, drop-drop}
+use Rattle.std.proofs.Common.{◌≡◌, ℕ, ◌+◌, List, [], ◌++◌, length, drop, sym, ap, ap₂, ◌∙◌, arith, length-append, append_assoc, append-nil, drop-drop}
 use Rattle.std.proofs.Math.Seq.{drop-append_seam}
-use Rattle.fusemap_core.specs.Map.{Map, IsMap}
-use Rattle.fuse_image.specs.Keys.{HoldsDigests, KeyTable}
-use Rattle.fuse_image.specs.Places.{Positions}
+use Rattle.fusemap_core.specs.Prelude.{Map, IsMap}
+use Rattle.fuse_image.specs.Prelude.{HoldsDigests, KeyTable, Positions, AreBits, AreKeysOf, IsPending}
 use Rattle.fuse_image.specs.declared.pending.Pending.{Pending}
-use Rattle.fuse_image.specs.InMap.{AreBits, AreKeysOf}
-use Rattle.fuse_columns.specs.BitsColumns.{bits_column, bits_in, bits_length}
-use Rattle.fuse_columns.specs.KeysColumns.{key_blocks, keys_column, keys_in, keys_length}
-use Rattle.fuse_image.specs.Pending.{IsPending}
-use Rattle.fuse_columns.specs.TodoColumns.{todo_column, pending_in}
+use Rattle.fuse_columns.specs.Prelude.{bits_column, bits_in, bits_length, key_blocks, keys_column, keys_in, keys_length, todo_column, pending_in}
 use Rattle.fuse_columns.proofs.KeyBytes.{AreKeysOf-keys_in, keys_return, length-keys}
 use Rattle.fuse_columns.proofs.SetBytes.{AreBits-bits_in, bits_return, length-bits_column}
 

@@ -1,24 +1,18 @@
 -- Zeros stand for nothing, and nothing is zeros.
-use Rattle.std.proofs.Common.{◌≡◌, ℕ, zero, suc, ◌+◌, ◌-◌, ◌*◌, ◌/◌, ◌%◌, ◌<◌, false, ◌&&◌, List, [], ◌∷◌, ◌++◌, length, get_or, take, drop, None, refl, sym}
-use Rattle.std.proofs.Common.{ap, ap₂, ◌∙◌, inl, inr, arith, nat_cmp}
-use Rattle.std.specs.Prelude.{◌==◌, if◌then◌else◌}
-use Rattle.std.specs.Int.{bit_at}
+use Rattle.std.proofs.Common.{◌≡◌, ◌+◌, ◌-◌, ◌*◌, ◌/◌, ◌%◌, ◌<◌, ◌&&◌, ◌∷◌, ◌++◌, get_or, ◌==◌, if◌then◌else◌}
+use Rattle.text_core.proofs.Kit.{ℕ, zero, suc, false, List, [], length, take, drop, None, refl, sym, ap, ap₂, ◌∙◌, inl, inr, arith, nat_cmp, bit_at, cases_Bool}
+use Rattle.text_core.proofs.Kit.{cond-true, cond-false, and_right, drop-replicate, take-replicate, replicate-append-replicate, length-replicate}
 use Rattle.std.specs.FinSet as set
 use Rattle.std.specs.FinMap as map
-use Rattle.std.proofs.lemmas.Bool.{cases_Bool, cond-true, cond-false, and_right}
-use Rattle.std.proofs.lemmas.List.{drop-replicate, take-replicate, replicate-append-replicate, length-replicate}
-use Rattle.text_core.specs.ShortBytes.{zeros}
+use Rattle.text_core.specs.Prelude.{zeros}
 use Rattle.fusemap_core.specs.declared.pos.Pos.{Pos}
-use Rattle.fusemap_core.specs.Map.{Map, IsMap}
-use Rattle.fuse_image.specs.Places.{pos_cmp}
+use Rattle.fusemap_core.specs.Prelude.{Map, IsMap}
+use Rattle.fuse_image.specs.Prelude.{pos_cmp}
 use Rattle.fuse_image.proofs.BitSets.{zeros_at}
 use Rattle.fuse_image.proofs.Sets.{same_places}
 use Rattle.fuse_image.proofs.Tables.{table_where-same}
-use Rattle.fuse_columns.specs.BitsColumns.{bits_column, bits_in, bits_length, is_plain, bytes_have_one, start_of_block}
-use Rattle.fuse_columns.specs.KeysColumns.{key_blocks, key_in_bytes, key_of_bytes, keys_column, keys_in, keys_length}
-use Rattle.fuse_columns.specs.TodoColumns.{todo_column, pending_in}
-use Rattle.fuse_columns.specs.Laws.{AreKeyBytes}
-use Rattle.fuse_columns.specs.Zeros.{ZerosAreNothing, NothingIsZeros}
+use Rattle.fuse_columns.specs.Prelude.{bits_column, bits_in, bits_length, is_plain, bytes_have_one, start_of_block, key_blocks, key_in_bytes, key_of_bytes}
+use Rattle.fuse_columns.specs.Prelude.{keys_column, keys_in, keys_length, todo_column, pending_in, AreKeyBytes, ZerosAreNothing, NothingIsZeros}
 use Rattle.fuse_columns.proofs.BytesBack.{bytes_back}
 use Rattle.fuse_columns.proofs.KeyBytes.{key_of_bytes-other}
 use Rattle.fuse_columns.proofs.WorkBytesBack.{key_bytes_back}

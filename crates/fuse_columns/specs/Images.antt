@@ -1,6 +1,6 @@
 -- What is burnt, by its columns.
 use Rattle.std.specs.Prelude.{ℕ, List}
-use Rattle.fusemap_core.specs.Map.{Map}
+use Rattle.fusemap_core.specs.Prelude.{Map}
 use Rattle.fuse_image.specs.declared.image.Image.{Image}
 use Rattle.fuse_columns.specs.BitsColumns.{bits_in}
 use Rattle.fuse_columns.specs.KeysColumns.{keys_in}

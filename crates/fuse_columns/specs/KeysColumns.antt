@@ -1,10 +1,10 @@
 -- The bytes of the keys of a chip, and the table that they stand for.
 use Rattle.std.specs.Prelude.{ℕ, ◌*◌, ◌&&◌, ◌==◌, List, [], ◌∷◌, length, map as list_map, filter, take, drop, replicate, Option, Some, None, if◌then◌else◌}
-use Rattle.std.specs.List.{flat_map}
+use Rattle.std.specs.Prelude.{flat_map}
 use Rattle.std.specs.FinMap as map
 use Rattle.fusemap_core.specs.declared.field.Field.{Field}
-use Rattle.fusemap_core.specs.Map.{Map}
-use Rattle.fuse_image.specs.Keys.{KeyTable, table_where}
+use Rattle.fusemap_core.specs.Prelude.{Map}
+use Rattle.fuse_image.specs.Prelude.{KeyTable, table_where}
 
 -- the blocks of the key fields, in the map's order
 abbrev pub key_blocks : List Field → List ℕ
@@ -19,6 +19,7 @@ key_bytes (Some digest) = 1 ∷ digest
 unfoldable pub keys_column : Map → KeyTable → List ℕ
 keys_column m t = flat_map (λ block. key_bytes (map.get t block)) (key_blocks m.fields)
 
+-- how many bytes such a table takes
 abbrev pub keys_length : Map → ℕ
 keys_length m = 33 * length (key_blocks m.fields)
 

@@ -2,17 +2,13 @@
 use Rattle.std.specs.Prelude.{◌≡◌, ℕ, zero, suc, ◌+◌, ◌<◌, false, true, All, List, [], length, take, drop, Option, IfSome}
 use Rattle.std.specs.FinSet as set
 use Rattle.fusemap_core.specs.declared.pos.Pos.{Pos}
-use Rattle.fusemap_core.specs.Map.{Map, IsMap, IsPosition}
+use Rattle.fusemap_core.specs.Prelude.{Map, IsMap, IsPosition}
 use Rattle.fuse_image.specs.declared.image.Image.{Image}
-use Rattle.fuse_image.specs.Keys.{HoldsDigests, KeyTable}
-use Rattle.fuse_image.specs.Locks.{is_key_position}
-use Rattle.fuse_image.specs.Places.{Positions}
+use Rattle.fuse_image.specs.Prelude.{HoldsDigests, KeyTable, is_key_position, Positions, AreBits, AreKeysOf, IsPending}
 use Rattle.fuse_image.specs.declared.pending.Pending.{Pending}
-use Rattle.fuse_image.specs.InMap.{AreBits, AreKeysOf}
 use Rattle.fuse_columns.specs.BitsColumns.{bits_column, bits_in, bits_length, is_plain, bytes_have_one}
 use Rattle.fuse_columns.specs.Images.{image_in}
 use Rattle.fuse_columns.specs.KeysColumns.{key_blocks, key_bytes, keys_column, keys_in, keys_length}
-use Rattle.fuse_image.specs.Pending.{IsPending}
 use Rattle.fuse_columns.specs.TodoColumns.{todo_column, pending_in}
 
 -- of any set its positions that are the map's, outside key fields, come back from its column
@@ -36,7 +32,7 @@ ImageComesBack = (m : Map) → IsMap m → (image : Image) → AreBits m image.b
 abbrev pub WorkComesBack : Type 0
 WorkComesBack = (m : Map) → IsMap m → (work : Pending) → IsPending m work → pending_in m (todo_column m work) ≡ work
 
--- whatever the bytes are, what they stand for lies in the map
+-- whatever the bytes are, what they stand for lies in the map: bits, keys, and what is pending
 abbrev pub BitsInMap : Type 0
 BitsInMap = (m : Map) (bytes : List ℕ) → AreBits m (bits_in m bytes)
 
@@ -46,7 +42,7 @@ KeysInMap = (m : Map) (bytes : List ℕ) → AreKeysOf m (keys_in m bytes)
 abbrev pub PendingInMap : Type 0
 PendingInMap = (m : Map) (bytes : List ℕ) → IsPending m (pending_in m bytes)
 
--- a column is as long as the map says
+-- a column is as long as the map says: that of bits, of keys, and of what is pending
 abbrev pub BitsHaveLength : Type 0
 BitsHaveLength = (m : Map) (s : Positions) → length (bits_column m s) ≡ bits_length m
 

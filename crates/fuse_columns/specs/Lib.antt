@@ -6,3 +6,4 @@ pub mod Images
 pub mod TodoColumns
 pub mod Laws
 pub mod Zeros
+pub mod Prelude

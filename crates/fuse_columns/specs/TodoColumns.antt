@@ -1,6 +1,6 @@
 -- The bytes of what is still to be burnt.
 use Rattle.std.specs.Prelude.{ℕ, ◌+◌, List, ◌++◌, drop}
-use Rattle.fusemap_core.specs.Map.{Map}
+use Rattle.fusemap_core.specs.Prelude.{Map}
 use Rattle.fuse_image.specs.declared.pending.Pending.{Pending}
 use Rattle.fuse_columns.specs.BitsColumns.{bits_column, bits_in, bits_length}
 use Rattle.fuse_columns.specs.KeysColumns.{keys_column, keys_in}

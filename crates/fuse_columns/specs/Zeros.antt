@@ -2,9 +2,9 @@
 use Rattle.std.specs.Prelude.{◌≡◌, ℕ, ◌+◌}
 use Rattle.std.specs.FinSet as set
 use Rattle.std.specs.FinMap as map
-use Rattle.text_core.specs.ShortBytes.{zeros}
-use Rattle.fusemap_core.specs.Map.{Map}
-use Rattle.fuse_image.specs.Pending.{no_pending}
+use Rattle.text_core.specs.Prelude.{zeros}
+use Rattle.fusemap_core.specs.Prelude.{Map}
+use Rattle.fuse_image.specs.Prelude.{no_pending}
 use Rattle.fuse_columns.specs.BitsColumns.{bits_column, bits_in, bits_length}
 use Rattle.fuse_columns.specs.KeysColumns.{keys_column, keys_in, keys_length}
 use Rattle.fuse_columns.specs.TodoColumns.{todo_column, pending_in}

@@ -1,10 +1,8 @@
 // Sets of positions as bytes, and back.
-ghost use Rattle.std.specs.Prelude.{◌≡◌, ◌+◌, ◌*◌, ◌/◌, ◌%◌, ◌<◌, ◌≤◌, ◌++◌, ℕ, All, length};
-ghost use Rattle.std.specs.Prelude.{slice_index, sum, take};
-ghost use Rattle.fuse_image.specs.InMap.{AreBits};
-ghost use Rattle.fuse_columns.specs.BitsColumns.{bits_column, bits_in, bits_length};
+ghost use Rattle.std.specs.Prelude.{◌≡◌, ◌+◌, ◌*◌, ◌/◌, ◌%◌, ◌<◌, ◌≤◌, ◌++◌, ℕ, All, length, slice_index, sum, take};
+ghost use Rattle.fuse_image.specs.Prelude.{AreBits};
+ghost use Rattle.fuse_columns.specs.Prelude.{bits_column, bits_in, bits_length, bytes_of_blocks, bytes_of_words};
 ghost use Rattle.fuse_columns.specs.Words as words;
-ghost use Rattle.fuse_columns.specs.Words.{bytes_of_blocks, bytes_of_words};
 
 use fuse_image::{Bits, key_positions};
 use fusemap_core::FuseMap;

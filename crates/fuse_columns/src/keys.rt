@@ -1,9 +1,8 @@
 // Tables of keys as bytes, and back.
 ghost use Rattle.std.specs.Prelude.{◌≡◌, ◌+◌, ◌≤◌, ◌++◌, length, take, drop};
 ghost use Rattle.fuse_columns.specs.KeysColumns as keys_columns;
-ghost use Rattle.fuse_image.specs.InMap.{AreKeysOf};
-ghost use Rattle.fuse_columns.specs.KeysColumns.{key_blocks, key_bytes, keys_column};
-ghost use Rattle.fuse_columns.specs.KeysColumns.{keys_in, keys_length};
+ghost use Rattle.fuse_image.specs.Prelude.{AreKeysOf};
+ghost use Rattle.fuse_columns.specs.Prelude.{key_blocks, key_bytes, keys_column, keys_in, keys_length};
 
 use fuse_image::Keys;
 use fusemap_core::{Field, FuseMap};

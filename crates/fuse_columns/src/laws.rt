@@ -1,12 +1,9 @@
 // What holds of columns and of what they stand for.
 ghost use Rattle.std.specs.Prelude.{ℕ};
-ghost use Rattle.fusemap_core.specs.Map.{IsMap, Map};
-ghost use Rattle.fuse_columns.specs.Zeros.{NothingIsZeros, ZerosAreNothing};
-ghost use Rattle.fuse_columns.specs.Laws.{PlainBitsComeBack, BitsComeBack, KeysComeBack};
-ghost use Rattle.fuse_columns.specs.Laws.{ImageComesBack, WorkComesBack, BitsInMap};
-ghost use Rattle.fuse_columns.specs.Laws.{KeysInMap, PendingInMap, BitsHaveLength};
-ghost use Rattle.fuse_columns.specs.Laws.{KeysHaveLength, WorkHasLength, BitsBytesComeBack};
-ghost use Rattle.fuse_columns.specs.Laws.{KeyBytesComeBack, WorkBytesComeBack};
+ghost use Rattle.fusemap_core.specs.Prelude.{IsMap, Map};
+ghost use Rattle.fuse_columns.specs.Prelude.{NothingIsZeros, ZerosAreNothing, PlainBitsComeBack, BitsComeBack, KeysComeBack, ImageComesBack, WorkComesBack};
+ghost use Rattle.fuse_columns.specs.Prelude.{BitsInMap, KeysInMap, PendingInMap, BitsHaveLength, KeysHaveLength, WorkHasLength, BitsBytesComeBack};
+ghost use Rattle.fuse_columns.specs.Prelude.{KeyBytesComeBack, WorkBytesComeBack};
 
 /// What was made a column comes back from it as it was: sets of positions of the map outside key
 /// fields, keys at its key fields, and an image and work made of both. Of any other set such positions

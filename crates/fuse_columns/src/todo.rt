@@ -1,9 +1,7 @@
 // Pending work as bytes, and back.
 ghost use Rattle.std.specs.Prelude.{◌≡◌, ◌+◌, length};
-ghost use Rattle.fuse_columns.specs.BitsColumns.{bits_length};
-ghost use Rattle.fuse_columns.specs.KeysColumns.{keys_length};
-ghost use Rattle.fuse_image.specs.Pending.{IsPending};
-ghost use Rattle.fuse_columns.specs.TodoColumns.{todo_column, pending_in};
+ghost use Rattle.fuse_columns.specs.Prelude.{bits_length, keys_length, todo_column, pending_in};
+ghost use Rattle.fuse_image.specs.Prelude.{IsPending};
 
 use crate::bits::{encode_bits, read_bits};
 use crate::keys::{after, encode_keys, read_keys};

@@ -1,23 +1,14 @@
 -- Sets of positions by the bits of words.
-use Rattle.std.proofs.Common.{◌≡◌, ℕ, zero, suc, ◌+◌, ◌-◌, ◌*◌, ◌/◌, ◌%◌, ◌^◌, ◌<◌, max, min, Bool, true, false, ◌&&◌, ◌||◌, not, List, length, get_or}
-use Rattle.std.proofs.Common.{set as list_set, replicate, ◌↔◌, is_eq, refl, sym, ap, ap₂, ◌∙◌, inl, inr, arith}
-use Rattle.std.specs.Prelude.{◌==◌, bit_and, bit_or}
-use Rattle.std.specs.Int.{bit_at, bit_not, w32}
+use Rattle.std.proofs.Common.{◌≡◌, ◌+◌, ◌-◌, ◌*◌, ◌/◌, ◌%◌, ◌^◌, ◌<◌, ◌&&◌, ◌||◌, get_or, set as list_set, ◌↔◌, ◌==◌}
+use Rattle.text_core.proofs.Kit.{ℕ, zero, suc, max, min, Bool, true, false, not, List, length, replicate, is_eq, refl, sym, ap, ap₂, ◌∙◌, inl, inr, arith}
+use Rattle.text_core.proofs.Kit.{bit_and, bit_or, bit_at, bit_not, w32, cases_Bool, cases_eq, and_parts, and_from, and_left, and_right, or_from, or_left}
+use Rattle.text_core.proofs.Kit.{eq-eqb, eqb-true, ne_eqb, true≢false, false_from_ne_true, and_lt, eq_by_cmp, Equal-is, tied_itself, get_or-set_at}
+use Rattle.text_core.proofs.Kit.{get_or-set_other, bit_at_or, bit_at_and, bit_at_not, bit_at-lt, bit_at-zero, bit_at_set_same, bit_at_set_other, shr_and_one}
+use Rattle.text_core.proofs.Kit.{same_from_bits_below}
 use Rattle.std.specs.FinSet as set
-use Rattle.std.proofs.lemmas.Bool.{cases_Bool, cases_eq, and_parts, and_from, and_left, and_right, or_from, or_left, eq-eqb, eqb-true, ne_eqb, true≢false}
-use Rattle.std.proofs.lemmas.Bool.{false_from_ne_true}
-use Rattle.std.specs.Int.Bits.{and_lt}
-use Rattle.std.specs.Ordering.{eq_by_cmp}
-use Rattle.std.specs.Cmp.{Equal-is, tied_itself}
-use Rattle.std.proofs.lemmas.Grind.{get_or-set_at}
-use Rattle.std.proofs.lemmas.List.{get_or-set_other}
-use Rattle.std.proofs.lemmas.Nat.Bits.{bit_at_or, bit_at_and, bit_at_not, bit_at-lt, bit_at-zero, bit_at_set_same, bit_at_set_other, shr_and_one}
-use Rattle.std.proofs.lemmas.Nat.Bits.{same_from_bits_below}
 use Rattle.fusemap_core.specs.declared.pos.Pos.{Pos}
-use Rattle.fuse_image.specs.Places.{is_empty, sets_meet, Positions, pos_cmp, pos_total, pos_exact, is_place, IsPlace, places_where, contains-places_where}
-use Rattle.fuse_image.specs.Places.{same_bool}
-use Rattle.fuse_image.specs.Words.{bit_in, position_of_bit}
-use Rattle.fuse_image.specs.WordsAgain.{AreWords, contains-place_of}
+use Rattle.fuse_image.specs.Prelude.{is_empty, sets_meet, Positions, pos_cmp, pos_total, pos_exact, is_place, IsPlace, places_where, contains-places_where}
+use Rattle.fuse_image.specs.Prelude.{same_bool, bit_in, position_of_bit, AreWords, contains-place_of}
 use Rattle.fuse_image.proofs.Sets.{none_in, is_empty-from_none, is_empty-difference, is_place-from_IsPlace, IsPlace-from_is_place, same_places, none_outside}
 
 -- the positions at which words have ones

@@ -1,8 +1,6 @@
 -- Words that a loop changes, one after another.
-use Rattle.std.proofs.Common.{◌≡◌, ℕ, ◌+◌, ◌<◌, ◌≤◌, List, length, get_or, set as list_set, refl, sym, ap, ◌∙◌, inl, inr, arith}
-use Rattle.std.proofs.lemmas.Bool.{cases_eq}
-use Rattle.std.proofs.lemmas.Grind.{get_or-set_at}
-use Rattle.std.proofs.lemmas.List.{get_or-set_other, length-set}
+use Rattle.std.proofs.Common.{◌≡◌, ◌+◌, ◌<◌, ◌≤◌, get_or, set as list_set}
+use Rattle.text_core.proofs.Kit.{ℕ, List, length, refl, sym, ap, ◌∙◌, inl, inr, arith, cases_eq, get_or-set_at, get_or-set_other, length-set}
 
 -- of the words, the first n are those of `own` changed by f, a function of the index and of the word, and the others are still those of `own`
 pub record AreChanged (f : ℕ → ℕ → ℕ) (own words : List ℕ) (n : ℕ) : Type 0 where

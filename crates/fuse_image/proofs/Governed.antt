@@ -1,21 +1,15 @@
 -- The positions of fields that pass a test, one field after another, and where the locks of a map lie.
-use Rattle.std.proofs.Common.{◌≡◌, ℕ, ◌+◌, ◌<◌, Bool, true, false, ◌&&◌, ◌||◌, List, [], length, get_or, take, Option, Some, None, IfSome, refl, sym, ap, ap₂}
-use Rattle.std.proofs.Common.{◌∙◌}
-use Rattle.std.specs.Prelude.{slice_get}
-use Rattle.std.specs.List.{list_any}
+use Rattle.std.proofs.Common.{◌≡◌, ◌+◌, ◌<◌, ◌&&◌, ◌||◌, get_or}
+use Rattle.text_core.proofs.Kit.{ℕ, Bool, true, false, List, [], length, take, Option, Some, None, IfSome, refl, sym, ap, ap₂, ◌∙◌, slice_get, list_any}
+use Rattle.text_core.proofs.Kit.{list_any_more, and-true, or-false, and_right, slice_get_read}
 use Rattle.std.specs.FinSet as set
-use Rattle.std.proofs.lemmas.List.Folds.{list_any_more}
-use Rattle.std.proofs.Math.Bool.{and-true, or-false}
-use Rattle.std.proofs.lemmas.Bool.{and_right}
-use Rattle.std.proofs.lemmas.Option.{slice_get_read}
 use Rattle.fusemap_core.specs.declared.field.Field.{Field}
 use Rattle.fusemap_core.specs.declared.pos.Pos.{Pos}
-use Rattle.fusemap_core.specs.Map.{Map, IsMap, IsSmallPosition, holds, id_at}
+use Rattle.fusemap_core.specs.Prelude.{Map, IsMap, IsSmallPosition, holds, id_at}
 use Rattle.fusemap_core.proofs.Bounds.{write_lock_is_small, read_lock_is_small}
 use Rattle.fuse_image.specs.declared.locks.Lock.{Lock}
 use Rattle.fuse_image.specs.declared.locks.Lock.TheVariants.{Write, Read}
-use Rattle.fuse_image.specs.Places.{IsPlace, pos_cmp, pos_total, pos_exact, is_place, contains-places_where, run}
-use Rattle.fuse_image.specs.Locks.{lock_of, positions_in}
+use Rattle.fuse_image.specs.Prelude.{IsPlace, pos_cmp, pos_total, pos_exact, is_place, contains-places_where, run, lock_of, positions_in}
 
 both_parts : (x a h : Bool) → (x && (a || h)) ≡ ((x && a) || (x && h))
 both_parts true a h = refl

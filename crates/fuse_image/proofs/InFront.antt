@@ -1,7 +1,7 @@
 -- One more element at the front of an array.
-use Rattle.std.proofs.Common.{◌≡◌, ℕ, ◌+◌, ◌-◌, ◌<◌, List, set, drop, replicate, sym, ap, ◌∙◌, arith}
-use Rattle.std.proofs.lemmas.List.{drop-set-lt, drop-drop, drop-replicate, length-set}
-use Rattle.text_core.specs.InPlace.{AreAtFront}
+use Rattle.std.proofs.Common.{◌≡◌, ℕ, ◌+◌, ◌-◌, ◌<◌, List, set, drop, replicate, sym, ap, ◌∙◌, arith, drop-set-lt, drop-drop, length-set}
+use Rattle.std.proofs.lemmas.List.{drop-replicate}
+use Rattle.text_core.specs.Prelude.{AreAtFront}
 
 pub one_more_at_front : {X : Type 0} (size : ℕ) (blank : X) (array : List X) (len : ℕ) (x : X) → AreAtFront size blank array len → len < size
     → AreAtFront size blank (set array len x) (len + 1)

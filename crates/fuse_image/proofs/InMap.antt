@@ -1,27 +1,19 @@
 -- Sets and tables of a map stay in it, and so does what a chip shows.
-use Rattle.std.proofs.Common.{◌≡◌, ℕ, ◌*◌, ◌/◌, ◌%◌, ◌<◌, Bool, true, false, ◌&&◌, not, List, [], length, Option, Some, None, IfSome, refl, sym, ap, ◌∙◌, inl}
-use Rattle.std.proofs.Common.{inr, arith}
-use Rattle.std.specs.Prelude.{◌==◌, is_some, slice_index, slice_index_or, if◌then◌else◌}
-use Rattle.std.specs.Int.{bit_at}
-use Rattle.std.specs.Option.{option_or}
+use Rattle.std.proofs.Common.{◌≡◌, ◌*◌, ◌/◌, ◌%◌, ◌<◌, ◌&&◌, ◌==◌, if◌then◌else◌, ◌⊎◌}
+use Rattle.text_core.proofs.Kit.{ℕ, Bool, true, false, not, List, [], length, Option, Some, None, IfSome, refl, sym, ap, ◌∙◌, inl, inr, arith, is_some}
+use Rattle.text_core.proofs.Kit.{slice_index, slice_index_or, bit_at, option_or, nat_cmp, cases_lt, and_parts, or_cases, false≢true, not-true, get_or_past}
 use Rattle.std.specs.FinSet as set
 use Rattle.std.specs.FinMap as map
-use Rattle.std.proofs.Common.{nat_cmp, ◌⊎◌}
-use Rattle.std.proofs.lemmas.Bool.{cases_lt, and_parts, or_cases, false≢true, not-true}
-use Rattle.std.proofs.lemmas.List.{get_or_past}
 use Rattle.std.proofs.Math.ListN.{get_or-map}
 use Rattle.sha2.specs.Sha256.{sha256}
 use Rattle.sha2.proofs.Facts256.{length-sha256}
 use Rattle.fusemap_core.specs.declared.pos.Pos.{Pos}
-use Rattle.fusemap_core.specs.Map.{Map, IsPosition, word_count}
-use Rattle.fuse_image.specs.Keys.{HoldsDigests, KeyTable, keys_union, keys_without, table_where}
-use Rattle.fuse_image.specs.Locks.{is_key_block, is_key_position}
-use Rattle.fuse_image.specs.Places.{pos_cmp, pos_total, contains-places_where, is_place}
+use Rattle.fusemap_core.specs.Prelude.{Map, IsPosition, word_count}
+use Rattle.fuse_image.specs.Prelude.{HoldsDigests, KeyTable, keys_union, keys_without, table_where, is_key_block, is_key_position, pos_cmp, pos_total}
+use Rattle.fuse_image.specs.Prelude.{contains-places_where, is_place, bytes_of_block, WordsFitMap, block_has_one, words_have_one, redacted, shown_key, AreBits}
+use Rattle.fuse_image.specs.Prelude.{AreKeysOf, SetsStay, TablesStay, ReadBacksInMap}
 use Rattle.fuse_image.proofs.Tables.{get_within, get_past, HoldsDigests-table_where}
-use Rattle.fuse_image.specs.Blocks.{bytes_of_block}
-use Rattle.fuse_image.specs.Redaction.{WordsFitMap, block_has_one, words_have_one, redacted, shown_key}
 use Rattle.fuse_image.proofs.Redacted.{AreKeys-redacted}
-use Rattle.fuse_image.specs.InMap.{AreBits, AreKeysOf, SetsStay, TablesStay, ReadBacksInMap}
 
 -- a block with a bit is one of the blocks
 pub block_is : (blocks : List ℕ) (block bit : ℕ) → bit < 32 * word_count blocks block → block < length blocks

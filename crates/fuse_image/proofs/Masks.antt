@@ -1,15 +1,11 @@
 -- Masks: words with ones from one place up to another.
-use Rattle.std.proofs.Common.{◌≡◌, ℕ, ◌+◌, ◌-◌, ◌*◌, ◌/◌, ◌^◌, ◌<◌, ◌≤◌, min, Bool, ◌&&◌, List, get_or, bit_or, nat_le, nat_lt, sym, ap, ◌∙◌, inl, inr, arith}
-use Rattle.std.specs.Prelude.{◌==◌}
-use Rattle.std.specs.Int.{bit_at}
+use Rattle.std.proofs.Common.{◌≡◌, ◌+◌, ◌-◌, ◌*◌, ◌/◌, ◌^◌, ◌<◌, ◌≤◌, ◌&&◌, get_or, ◌==◌}
+use Rattle.text_core.proofs.Kit.{ℕ, min, Bool, List, bit_or, nat_le, nat_lt, sym, ap, ◌∙◌, inl, inr, arith, bit_at, and_parts, and_from, and_left, and_right}
+use Rattle.text_core.proofs.Kit.{ltb-true, lt-ltb, le-ltb, leb-true, le-leb, lt-leb, eq-eqb, eqb-true, cases_lt, bit_at_mask_inside, bit_at_mask_below}
+use Rattle.text_core.proofs.Kit.{bit_at_mask_above, pow_mono}
 use Rattle.std.specs.FinSet as set
-use Rattle.std.proofs.lemmas.Bool.{and_parts, and_from, and_left, and_right, ltb-true, lt-ltb, le-ltb, leb-true, le-leb, lt-leb, eq-eqb, eqb-true, cases_lt}
-use Rattle.std.proofs.lemmas.Nat.Bits.{bit_at_mask_inside, bit_at_mask_below, bit_at_mask_above}
-use Rattle.std.proofs.Math.Pow.{pow_mono}
 use Rattle.fusemap_core.specs.declared.pos.Pos.{Pos}
-use Rattle.fuse_image.specs.Masks.{mask_of}
-use Rattle.fuse_image.specs.Places.{run, same_bool}
-use Rattle.fuse_image.specs.Words.{position_of_bit}
+use Rattle.fuse_image.specs.Prelude.{mask_of, run, same_bool, position_of_bit}
 use Rattle.fuse_image.proofs.BitSets.{AreBitsOf, AreBitsOf-words, AreBitsOf-same, AreBitsOf-or, positions_of, positions_of-bits}
 use Rattle.fuse_image.proofs.Sets.{places_where-at, none_outside}
 

@@ -1,18 +1,14 @@
 -- What is left of the words of a chip once its keys are replaced by their digests.
-use Rattle.std.proofs.Common.{◌≡◌, ℕ, ◌+◌, ◌*◌, ◌/◌, ◌%◌, ◌<◌, Bool, true, false, ◌&&◌, not, List, [], Some, None, refl, sym, ap, ap₂, ◌∙◌, inl, inr, arith}
-use Rattle.std.specs.Prelude.{◌==◌, slice_index, slice_index_or, is_some, if◌then◌else◌}
-use Rattle.std.specs.Int.{bit_at}
+use Rattle.std.proofs.Common.{◌≡◌, ◌+◌, ◌*◌, ◌/◌, ◌%◌, ◌<◌, ◌&&◌, ◌==◌, if◌then◌else◌}
+use Rattle.text_core.proofs.Kit.{ℕ, Bool, true, false, not, List, [], Some, None, refl, sym, ap, ap₂, ◌∙◌, inl, inr, arith, slice_index, slice_index_or}
+use Rattle.text_core.proofs.Kit.{is_some, bit_at, and_parts, and_left, not-true, cases_lt, false≢true}
 use Rattle.std.specs.FinSet as set
-use Rattle.std.proofs.lemmas.Bool.{and_parts, and_left, not-true, cases_lt, false≢true}
 use Rattle.fusemap_core.specs.declared.pos.Pos.{Pos}
-use Rattle.fusemap_core.specs.Map.{Map}
-use Rattle.fuse_image.specs.Keys.{table_where}
-use Rattle.fuse_image.specs.Locks.{is_key_block, is_key_position}
-use Rattle.fuse_image.specs.Places.{IsPlace, pos_total, contains-places_where, is_place, places_where}
-use Rattle.fuse_image.specs.Words.{bit_in}
+use Rattle.fusemap_core.specs.Prelude.{Map}
+use Rattle.fuse_image.specs.Prelude.{table_where, is_key_block, is_key_position, IsPlace, pos_total, contains-places_where, is_place, places_where, bit_in}
+use Rattle.fuse_image.specs.Prelude.{words_have_one, shown_key, plain_ones, redacted, AreKeys, AreOutsideKeys}
 use Rattle.fuse_image.proofs.Sets.{places_where-at, none_outside, same_places}
 use Rattle.fuse_image.proofs.Tables.{get_within, get_past}
-use Rattle.fuse_image.specs.Redaction.{words_have_one, shown_key, plain_ones, redacted, AreKeys, AreOutsideKeys}
 
 -- the words of all blocks, eight a block
 abbrev pub AreWordsOf : List (List ℕ) → List ℕ → Type 0

@@ -1,12 +1,10 @@
 -- Sets of positions, by their positions.
-use Rattle.std.proofs.Common.{◌≡◌, ℕ, ◌+◌, ◌<◌, Bool, true, false, ◌&&◌, ◌||◌, not, List, length, take, get_or, refl, sym, ap, ◌∙◌, inl, inr}
+use Rattle.std.proofs.Common.{◌≡◌, ◌+◌, ◌<◌, ◌&&◌, ◌||◌, get_or}
+use Rattle.text_core.proofs.Kit.{ℕ, Bool, true, false, not, List, length, take, refl, sym, ap, ◌∙◌, inl, inr, eq_by_cmp, take_more, or-false, eqb-true, eq-eqb}
+use Rattle.text_core.proofs.Kit.{and_parts, and_from, ltb-true, lt-ltb, cases_Bool, true≢false, false≢true}
 use Rattle.std.specs.FinSet as set
-use Rattle.std.specs.Ordering.{eq_by_cmp}
-use Rattle.std.proofs.lemmas.List.{take_more}
-use Rattle.std.proofs.Math.Bool.{or-false}
-use Rattle.std.proofs.lemmas.Bool.{eqb-true, eq-eqb, and_parts, and_from, ltb-true, lt-ltb, cases_Bool, true≢false, false≢true}
 use Rattle.fusemap_core.specs.declared.pos.Pos.{Pos}
-use Rattle.fuse_image.specs.Places.{is_empty, Positions, pos_cmp, pos_total, pos_exact, is_place, IsPlace, places_where, contains-places_where, same_bool}
+use Rattle.fuse_image.specs.Prelude.{is_empty, Positions, pos_cmp, pos_total, pos_exact, is_place, IsPlace, places_where, contains-places_where, same_bool}
 
 -- a set is empty exactly where it has no position
 pub none_in : (s : Positions) → is_empty s ≡ true → (p : Pos) → set.contains s p ≡ false

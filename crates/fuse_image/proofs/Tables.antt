@@ -1,14 +1,10 @@
 -- Tables of four digests.
-use Rattle.std.proofs.Common.{◌≡◌, ℕ, ◌<◌, Bool, true, List, [], ◌∷◌, get_or, length, refl, sym, ap, ◌∙◌, arith, zero, suc, nat_cmp, inl, inr, subst}
-use Rattle.std.specs.Prelude.{Option, Some, None, IfSome, is_none, if◌then◌else◌, nat_lt, ◌==◌}
+use Rattle.std.proofs.Common.{◌≡◌, ◌<◌, ◌∷◌, get_or, if◌then◌else◌, ◌==◌}
+use Rattle.text_core.proofs.Kit.{ℕ, Bool, true, List, [], length, refl, sym, ap, ◌∙◌, arith, zero, suc, nat_cmp, inl, inr, subst, Option, Some, None, IfSome}
+use Rattle.text_core.proofs.Kit.{is_none, nat_lt, nat_cmp-IsAntisymmetric, list_all, nat_cmp_total, unsigned_tied, cases_lt, lt-ltb, le-ltb, eqb-true, eq-eqb}
+use Rattle.text_core.proofs.Kit.{ne_eqb, cond-true, cond-false, false≢true, and_parts, and_from, get_or_default}
 use Rattle.std.specs.FinMap as map
-use Rattle.std.specs.FinMap.{nat_cmp-IsAntisymmetric}
-use Rattle.std.specs.List.{list_all}
-use Rattle.std.specs.Cmp.{nat_cmp_total, unsigned_tied}
-use Rattle.std.proofs.lemmas.Bool.{cases_lt, lt-ltb, le-ltb, eqb-true, eq-eqb, ne_eqb, cond-true, cond-false, false≢true, and_parts, and_from}
-use Rattle.std.proofs.lemmas.List.{get_or_default}
-use Rattle.fuse_image.specs.Keys.{KeyTable, table, table_where, get-table_where, has_no_key, AreAmong, AreDigests, AreEachAmong, HoldsDigests}
-use Rattle.fuse_image.specs.Places.{same_bool}
+use Rattle.fuse_image.specs.Prelude.{KeyTable, table, table_where, get-table_where, has_no_key, AreAmong, AreDigests, AreEachAmong, HoldsDigests, same_bool}
 
 -- a table at one of the 4 blocks, and past them
 pub get_within : (f : ℕ → Option (List ℕ)) → (b : ℕ) → b < 4 → map.get (table_where f) b ≡ f b

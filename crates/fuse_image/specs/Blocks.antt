@@ -1,6 +1,6 @@
 -- The words of the blocks of a chip.
-use Rattle.std.specs.Prelude.{ℕ, Bool, ◌&&◌, List, length, nat_le, Option, Some, None, if◌then◌else◌}
-use Rattle.std.specs.List.{flat_map, list_all}
+use Rattle.std.specs.Prelude.{ℕ, Bool, ◌&&◌, List, length, nat_le, Option, Some, None, if◌then◌else◌, flat_map}
+use Rattle.std.specs.List.{list_all}
 use Rattle.std.specs.Int.{to_le_bytes, w32}
 
 -- 1 to 8 words

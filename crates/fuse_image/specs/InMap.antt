@@ -3,7 +3,7 @@ use Rattle.std.specs.Prelude.{◌≡◌, ℕ, List, true, false}
 use Rattle.std.specs.FinSet as set
 use Rattle.std.specs.FinMap as map
 use Rattle.fusemap_core.specs.declared.pos.Pos.{Pos}
-use Rattle.fusemap_core.specs.Map.{IsPosition, Map}
+use Rattle.fusemap_core.specs.Prelude.{IsPosition, Map}
 use Rattle.fuse_image.specs.Keys.{HoldsDigests, KeyTable, keys_union, keys_without}
 use Rattle.fuse_image.specs.Locks.{is_key_position}
 use Rattle.fuse_image.specs.Places.{Positions}
@@ -18,7 +18,7 @@ pub record AreKeysOf (m : Map) (t : KeyTable) : Type 0 where
   pub keys : AreKeys m t
   pub digests : HoldsDigests t
 
--- no position, no key; two sets or tables together; and what is left of one
+-- in the map lie: no position, no key; two sets or tables together, where both do; and what is left of one
 pub record SetsStay (m : Map) : Type 0 where
   pub none : AreBits m set.empty
   pub union : (s t : Positions) → AreBits m s → AreBits m t → AreBits m (set.union s t)
@@ -34,5 +34,6 @@ pub record ReadBackInMap (m : Map) (blocks : List (List ℕ)) : Type 0 where
   pub ones : AreBits m (redacted m blocks).ones
   pub shown : AreKeysOf m (redacted m blocks).shown
 
+-- so it is of all words that fit the map
 abbrev pub ReadBacksInMap : Type 0
 ReadBacksInMap = (m : Map) (blocks : List (List ℕ)) → WordsFitMap m blocks → ReadBackInMap m blocks

@@ -1,7 +1,7 @@
 -- Tables from key blocks to digests.
 use Rattle.std.specs.Prelude.{◌≡◌, ℕ, zero, suc, ◌<◌, Bool, true, false, ◌==◌, nat_lt, List, [], ◌∷◌, length, slice_index_or, Option, Some, None, IfSome}
-use Rattle.std.specs.Prelude.{is_some, if◌then◌else◌}
-use Rattle.std.proofs.Common.{refl, sym, ap, ◌∙◌, arith, nat_cmp, inl, inr, zero-le}
+use Rattle.std.specs.Prelude.{is_some, if◌then◌else◌, refl}
+use Rattle.std.proofs.Common.{sym, ap, ◌∙◌, arith, nat_cmp, inl, inr, zero-le}
 use Rattle.std.proofs.lemmas.Bool.{cases_order, cond-true, cond-false, le-ltb, lt-ltb, eq-eqb, ne_eqb}
 use Rattle.std.specs.Option.{option_or}
 use Rattle.std.specs.FinMap as map
@@ -52,6 +52,7 @@ table digests = table_where (λ b. slice_index_or digests b None)
 abbrev pub digests_of : KeyTable → List (Option (List ℕ))
 digests_of t = map.get t 0 ∷ map.get t 1 ∷ map.get t 2 ∷ map.get t 3 ∷ []
 
+-- there is a place for the digest of each of the four key blocks
 abbrev pub AreDigests : List (Option (List ℕ)) → Type 0
 AreDigests digests = length digests ≡ 4
 

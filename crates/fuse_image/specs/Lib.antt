@@ -11,3 +11,4 @@ pub mod Image
 pub mod Redaction
 pub mod InMap
 pub mod Pending
+pub mod Prelude

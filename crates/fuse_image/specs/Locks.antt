@@ -4,7 +4,7 @@ use Rattle.std.specs.List.{list_any}
 use Rattle.std.specs.FinSet as set
 use Rattle.fusemap_core.specs.declared.field.Field.{Field}
 use Rattle.fusemap_core.specs.declared.pos.Pos.{Pos}
-use Rattle.fusemap_core.specs.Map.{Map, holds, read_lock, write_lock}
+use Rattle.fusemap_core.specs.Prelude.{Map, holds, read_lock, write_lock}
 use Rattle.fuse_image.specs.declared.locks.Lock.{Lock}
 use Rattle.fuse_image.specs.declared.locks.Lock.TheVariants.{Write, Read}
 use Rattle.fuse_image.specs.Places.{Positions, places_where}

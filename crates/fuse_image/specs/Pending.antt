@@ -1,7 +1,7 @@
 -- What is still to be burnt.
 use Rattle.std.specs.FinSet as set
 use Rattle.std.specs.FinMap as map
-use Rattle.fusemap_core.specs.Map.{Map}
+use Rattle.fusemap_core.specs.Prelude.{Map}
 use Rattle.fuse_image.specs.InMap.{AreBits, AreKeysOf}
 use Rattle.fuse_image.specs.declared.pending.Pending.{Pending}
 

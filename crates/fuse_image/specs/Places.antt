@@ -1,6 +1,6 @@
 -- Positions of fuse bits, and sets of them.
-use Rattle.std.specs.Prelude.{◌≡◌, ℕ, zero, suc, ◌+◌, ◌*◌, ◌/◌, ◌%◌, ◌<◌, Bool, true, false, not, ◌&&◌, ◌==◌, nat_lt, nat_le, List, [], ◌∷◌}
-use Rattle.std.proofs.Common.{refl, sym, ap, ap₂, ◌∙◌, inl, inr, arith, Ordering, nat_cmp, is_eq}
+use Rattle.std.specs.Prelude.{◌≡◌, ℕ, zero, suc, ◌+◌, ◌*◌, ◌/◌, ◌%◌, ◌<◌, Bool, true, false, not, ◌&&◌, ◌==◌, nat_lt, nat_le, List, [], ◌∷◌, refl}
+use Rattle.std.proofs.Common.{sym, ap, ap₂, ◌∙◌, inl, inr, arith, Ordering, nat_cmp, is_eq}
 use Rattle.std.specs.List.{list_any}
 use Rattle.std.specs.Ordering.{ordering_then, eq_by_cmp}
 use Rattle.std.specs.Cmp.{IsTotalOrder, then_total, on_total, nat_cmp_total, Equal-is, tied_itself}
@@ -29,6 +29,7 @@ pos_exact a b h =
     ap (λ (p : ℕ × ℕ). let r : Pos = record { block = p.0; bit = p.1 } in r)
     (exact_pairs nat_cmp nat_cmp exact_unsigned exact_unsigned (a.block, a.bit) (b.block, b.bit) h)
 
+-- and it is a total one
 pub pos_total : IsTotalOrder pos_cmp
 pos_total = then_total (on_total (λ (p : Pos). p.block) nat_cmp_total) (on_total (λ (p : Pos). p.bit) nat_cmp_total)
 

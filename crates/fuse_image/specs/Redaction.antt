@@ -9,7 +9,7 @@ use Rattle.std.specs.FinMap as map
 use Rattle.sha2.specs.Sha256.{sha256}
 use Rattle.fusemap_core.specs.declared.field.Field.{Field}
 use Rattle.fusemap_core.specs.declared.pos.Pos.{Pos}
-use Rattle.fusemap_core.specs.Map.{Map, field_named, holds, read_lock}
+use Rattle.fusemap_core.specs.Prelude.{Map, field_named, holds, read_lock}
 use Rattle.fuse_image.specs.Keys.{KeyTable, table_where}
 use Rattle.fuse_image.specs.Locks.{is_burnt, is_hidden, is_hidden_key, is_key_block, is_key_position}
 use Rattle.fuse_image.specs.Places.{sets_meet, Positions, places_where}

@@ -1,6 +1,6 @@
 -- The words of a set of positions are those that the set was made of.
-use Rattle.std.specs.Prelude.{◌≡◌, ℕ, zero, suc, ◌+◌, ◌*◌, ◌/◌, ◌%◌, ◌^◌, ◌<◌, Bool, ◌&&◌, ◌==◌, List, length, slice_index, if◌then◌else◌}
-use Rattle.std.proofs.Common.{refl, sym, ap, ap₂, ◌∙◌, arith, mod-eq_of_lt, one-add}
+use Rattle.std.specs.Prelude.{◌≡◌, ℕ, zero, suc, ◌+◌, ◌*◌, ◌/◌, ◌%◌, ◌^◌, ◌<◌, Bool, ◌&&◌, ◌==◌, List, length, slice_index, if◌then◌else◌, refl}
+use Rattle.std.proofs.Common.{sym, ap, ap₂, ◌∙◌, arith, mod-eq_of_lt, one-add}
 use native.Mathlib.Nat.{mod-one}
 use Rattle.std.specs.Int.{bit_at}
 use Rattle.std.specs.FinSet as set
@@ -47,6 +47,7 @@ contains-place_of words word bit low small =
     (and_from _ _ (lt-ltb (word / 8) 4 (omega (arith, low))) (lt-ltb (32 * (word % 8) + bit) 256 (omega (arith, small))))
     ∙ ap₂ (λ (w b : ℕ). bit_at (slice_index words w) b == 1) index place)
 
+-- words are those of the set of their bits that are 1
 pub words_again : (words : List ℕ) → AreWords words → words_of_set (places_where (bit_in words)) ≡ words
 unfolding words_of_set
 words_again words are = sym (fill_by_all (word_of (places_where (bit_in words))) words 32 0 are.count (λ word low.

@@ -1,6 +1,5 @@
 // Sets of fuse positions, as packed words.
-ghost use Rattle.std.specs.Prelude.{◌≡◌, ◌<◌, ◌≤◌, ◌+◌, ◌*◌, ◌/◌, ◌↔◌, true, ℕ, All, IsTrue};
-ghost use Rattle.std.specs.Prelude.{slice_index, bit_and, bit_or};
+ghost use Rattle.std.specs.Prelude.{◌≡◌, ◌<◌, ◌≤◌, ◌+◌, ◌*◌, ◌/◌, ◌↔◌, true, ℕ, All, IsTrue, slice_index, bit_and, bit_or};
 ghost use Rattle.std.specs.Int.{bit_not, w32};
 ghost use Rattle.std.specs.FinSet as set;
 ghost use Rattle.fusemap_core.specs.declared.pos.Pos.{Pos};
@@ -134,8 +133,8 @@ impl Bits {
         !are_apart(&self.words, &other.words)
     }
 
-    /// It has positions of 4 blocks of 256 bits alone.
-    pub fn known(&self)
+    /// A fact: it has positions of 4 blocks of 256 bits alone. Nothing happens.
+    pub fn fact_places(&self)
         ensures { (p : Pos) → set.contains self.now p ≡ true → is_place p ≡ true }
     {
         let _words = &self.words;

@@ -18,7 +18,7 @@ pub(crate) struct Block {
 
 impl Model for Block {
     ghost use Rattle.std.specs.Prelude.{List, ℕ, take, length, ◌++◌, ◌-◌, replicate};
-    ghost use Rattle.text_core.specs.InPlace.{AreAtFront};
+    ghost use Rattle.text_core.specs.Prelude.{AreAtFront};
 
     ghost Value = { List ℕ };
 
@@ -60,7 +60,7 @@ pub(crate) struct Blocks {
 
 impl Model for Blocks {
     ghost use Rattle.std.specs.Prelude.{List, ℕ, [], take, length, ◌++◌, ◌-◌, replicate};
-    ghost use Rattle.text_core.specs.InPlace.{AreAtFront};
+    ghost use Rattle.text_core.specs.Prelude.{AreAtFront};
 
     ghost Value = { List (List ℕ) };
 

@@ -2,12 +2,10 @@
 ghost use Rattle.std.specs.Prelude.{◌≡◌, ◌<◌, ◌↔◌, All, IsTrue, None, not, if◌then◌else◌};
 ghost use Rattle.std.specs.FinMap as table;
 ghost use Rattle.std.specs.FinSet as set;
-ghost use Rattle.fusemap_core.specs.Map.{IsPosition};
+ghost use Rattle.fusemap_core.specs.Prelude.{IsPosition};
 ghost use Rattle.fuse_image.specs.Image as image;
-ghost use Rattle.fuse_image.specs.Keys.{table_where};
+ghost use Rattle.fuse_image.specs.Prelude.{table_where, IsPlace, places_where, bit_in, words_of_set};
 ghost use Rattle.fuse_image.specs.Locks as locks;
-ghost use Rattle.fuse_image.specs.Places.{IsPlace, places_where};
-ghost use Rattle.fuse_image.specs.Words.{bit_in, words_of_set};
 
 use crate::bits::Bits;
 use crate::keys::Keys;
@@ -160,7 +158,7 @@ impl Image {
 fn visible_bits(map: &FuseMap, burnt: &Bits) -> Bits
     ensures { result ≡ set.retain burnt.now (λ p. not (locks.is_hidden map.now burnt.now p)) }
 {
-    burnt.known();
+    burnt.fact_places();
     burnt.minus(&hidden_positions(map, burnt))
 }
 

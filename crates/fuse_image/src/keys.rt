@@ -1,11 +1,9 @@
 // Tables of the digests of keys, by block.
-ghost use Rattle.std.specs.Prelude.{◌≡◌, ◌<◌, ◌↔◌, IsTrue, IfSome, Some, None, is_some, is_none};
-ghost use Rattle.std.specs.Prelude.{length, if◌then◌else◌};
+ghost use Rattle.std.specs.Prelude.{◌≡◌, ◌<◌, ◌↔◌, IsTrue, IfSome, Some, None, is_some, is_none, length, if◌then◌else◌};
 ghost use Rattle.std.specs.FinMap as map;
 ghost use Rattle.std.specs.List.{list_all};
 ghost use Rattle.std.specs.Option.{option_or};
-ghost use Rattle.fuse_image.specs.Keys.{AreAmong, AreDigests, AreEachAmong, HoldsDigests};
-ghost use Rattle.fuse_image.specs.Keys.{has_no_key, keys_union, table, keys_without};
+ghost use Rattle.fuse_image.specs.Keys.{AreAmong, AreDigests, AreEachAmong, HoldsDigests, has_no_key, keys_union, table, keys_without};
 
 use std::marker::Model;
 use text_core::Digest;
@@ -118,18 +116,19 @@ impl Keys {
         are_among(&self.digests, &other.digests)
     }
 
-    /// Each digest has 32 bytes.
-    pub fn known(&self)
+    /// A fact: each digest has 32 bytes. Nothing happens.
+    pub fn fact_digests(&self)
         ensures { HoldsDigests self.now }
     {
-        known_digest(self.digests[0]);
-        known_digest(self.digests[1]);
-        known_digest(self.digests[2]);
-        known_digest(self.digests[3]);
+        fact_digest(self.digests[0]);
+        fact_digest(self.digests[1]);
+        fact_digest(self.digests[2]);
+        fact_digest(self.digests[3]);
     }
 }
 
-fn known_digest(digest: Option<Digest>)
+/// A fact: a digest has 32 bytes. Nothing happens.
+fn fact_digest(digest: Option<Digest>)
     ensures { IfSome digest (λ bytes. length bytes ≡ 32) }
 {
     if let Some(digest) = digest {

@@ -1,10 +1,9 @@
 // What the locks of a map hide and protect.
 ghost use Rattle.std.specs.Prelude.{◌≡◌, ◌<◌, ◌&&◌, ◌==◌, IfSome};
 ghost use Rattle.std.specs.List.{list_any};
-ghost use Rattle.fusemap_core.specs.Map.{IsSmall, holds};
+ghost use Rattle.fusemap_core.specs.Prelude.{IsSmall, holds};
 ghost use Rattle.fuse_image.specs.Locks as locks;
-ghost use Rattle.fuse_image.specs.Locks.{has_burnt_lock, positions_in};
-ghost use Rattle.fuse_image.specs.Places.{IsPlace, places_where};
+ghost use Rattle.fuse_image.specs.Prelude.{has_burnt_lock, positions_in, IsPlace, places_where};
 
 use crate::bits::Bits;
 use fusemap_core::{Field, FuseMap, Pos};

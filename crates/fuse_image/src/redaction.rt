@@ -1,14 +1,12 @@
 // What the words of a chip show, with digests in place of its keys.
-ghost use Rattle.std.specs.Prelude.{◌≡◌, ◌<◌, ◌↔◌, ◌&&◌, ◌==◌, IfSome, IsTrue, is_some, length};
-ghost use Rattle.std.specs.Prelude.{map as list_map, option_and_then};
+ghost use Rattle.std.specs.Prelude.{◌≡◌, ◌<◌, ◌↔◌, ◌&&◌, ◌==◌, IfSome, IsTrue, is_some, length, map as list_map, option_and_then};
 ghost use Rattle.std.specs.List.{list_all};
 ghost use Rattle.std.specs.FinMap as table;
 ghost use Rattle.fusemap_core.specs.declared.field.Field.{Field};
-ghost use Rattle.fusemap_core.specs.Map.{IsFieldOf, field_of};
-ghost use Rattle.fuse_image.specs.Keys.{table_where};
+ghost use Rattle.fusemap_core.specs.Prelude.{IsFieldOf, field_of};
+ghost use Rattle.fuse_image.specs.Prelude.{table_where, AreKeys, AreOutsideKeys, WordsFitMap, redacted};
 ghost use Rattle.fuse_image.specs.Locks as locks;
 ghost use Rattle.fuse_image.specs.Redaction as redaction;
-ghost use Rattle.fuse_image.specs.Redaction.{AreKeys, AreOutsideKeys, WordsFitMap, redacted};
 
 use crate::bits::Bits;
 use crate::keys::Keys;

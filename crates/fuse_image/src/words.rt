@@ -1,6 +1,5 @@
 // The words of a chip, as a station read them.
-ghost use Rattle.std.specs.Prelude.{◌≡◌, ◌<◌, ◌≤◌, ◌/◌, ◌%◌, ℕ, map, length, slice_index};
-ghost use Rattle.std.specs.Prelude.{slice_index_or, [], All};
+ghost use Rattle.std.specs.Prelude.{◌≡◌, ◌<◌, ◌≤◌, ◌/◌, ◌%◌, ℕ, map, length, slice_index, slice_index_or, [], All};
 ghost use Rattle.std.specs.List.{list_all};
 ghost use Rattle.sha2.specs.Sha256.{sha256};
 ghost use Rattle.fuse_image.specs.Blocks.{are_blocks, is_block, blocks_of, bytes_of_block};

@@ -1,18 +1,14 @@
 -- Sets of positions by tests, and what wishes ask for, one wish after another.
-use Rattle.std.proofs.Common.{◌≡◌, ℕ, ◌+◌, ◌<◌, Bool, true, false, ◌&&◌, ◌||◌, not, List, [], length, get_or, take, refl, sym, ap, ap₂, ◌∙◌, arith}
-use Rattle.std.specs.Prelude.{◌==◌, nat_le, nat_lt, Option, Some, None, option_and_then}
-use Rattle.std.specs.List.{list_any}
-use Rattle.std.specs.Option.{option_map_or}
+use Rattle.std.proofs.Common.{◌≡◌, ◌+◌, ◌<◌, ◌&&◌, ◌||◌, get_or, ◌==◌}
+use Rattle.text_core.proofs.Kit.{ℕ, Bool, true, false, not, List, [], length, take, refl, sym, ap, ap₂, ◌∙◌, arith, nat_le, nat_lt, Option, Some, None}
+use Rattle.text_core.proofs.Kit.{option_and_then, list_any, option_map_or, and_right, eqb-true, eq-eqb, lt-ltb, le-leb, leb-true, ltb-true, and_parts, and_from}
+use Rattle.text_core.proofs.Kit.{list_any_more}
 use Rattle.std.specs.FinSet as set
-use Rattle.std.proofs.lemmas.Bool.{and_right, eqb-true, eq-eqb, lt-ltb, le-leb, leb-true, ltb-true, and_parts, and_from}
-use Rattle.std.proofs.lemmas.List.Folds.{list_any_more}
-use Rattle.fusemap_core.specs.declared.field.Field.{Field}
-use Rattle.fusemap_core.specs.declared.pos.Pos.{Pos}
-use Rattle.fusemap_core.specs.Map.{is_lock}
-use Rattle.fuse_image.specs.Places.{Positions, pos_cmp, pos_total, pos_exact, is_place, places_where, contains-places_where, run, same_bool}
+use Rattle.fuse_plan.proofs.Types.{Field, Pos, Wish}
+use Rattle.fusemap_core.specs.Prelude.{is_lock}
+use Rattle.fuse_image.specs.Prelude.{Positions, pos_cmp, pos_total, pos_exact, is_place, places_where, contains-places_where, run, same_bool}
 use Rattle.fuse_image.proofs.Sets.{union-empty}
-use Rattle.fuse_plan.specs.Wishes.{asked_by}
-use Rattle.fuse_plan.specs.declared.wish.Wish.{Wish}
+use Rattle.fuse_plan.specs.Prelude.{asked_by}
 
 -- sets by tests that agree are the same
 pub same_test : (f g : Pos → Bool) → ((p : Pos) → f p ≡ g p) → places_where f ≡ places_where g

@@ -2,10 +2,9 @@
 use Rattle.std.proofs.Common.{◌≡◌, Bool, true, false, ◌&&◌, ◌||◌, not, refl, sym, ap, ap₂, ◌∙◌, true≢false}
 use Rattle.std.specs.FinSet as set
 use Rattle.fusemap_core.specs.declared.pos.Pos.{Pos}
-use Rattle.fuse_image.specs.Places.{Positions, pos_total, pos_exact, is_place, places_where, contains-places_where}
-use Rattle.fusemap_core.specs.Map.{Map}
-use Rattle.fuse_image.specs.Locks.{is_hidden}
-use Rattle.fuse_plan.specs.Outcome.{lost, stray}
+use Rattle.fusemap_core.specs.Prelude.{Map}
+use Rattle.fuse_image.specs.Prelude.{Positions, pos_total, pos_exact, is_place, places_where, contains-places_where, is_hidden}
+use Rattle.fuse_plan.specs.Prelude.{lost, stray}
 
 -- what passes of a set, by position
 pub in_retain : (s : Positions) (test : Pos → Bool) (p : Pos) → set.contains (set.retain s test) p ≡ (set.contains s p && test p)

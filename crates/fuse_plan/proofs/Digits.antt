@@ -1,17 +1,12 @@
 -- The number of hexadecimal digits, and its words of eight digits each.
-use Rattle.std.proofs.Common.{◌≡◌, ℕ, zero, suc, ◌+◌, ◌-◌, ◌*◌, ◌/◌, ◌%◌, ◌^◌, ◌<◌, ◌≤◌, Bool, true, false, ◌&&◌, List, [], ◌∷◌, ◌++◌, length, get_or, take}
-use Rattle.std.proofs.Common.{drop, replicate, refl, sym, ap, ap₂, subst, ◌∙◌, append-nil, arith, length-append}
+use Rattle.std.proofs.Common.{◌≡◌, ◌+◌, ◌-◌, ◌*◌, ◌/◌, ◌%◌, ◌^◌, ◌<◌, ◌≤◌, ◌&&◌, ◌∷◌, ◌++◌, get_or, if◌then◌else◌}
+use Rattle.text_core.proofs.Kit.{ℕ, zero, suc, Bool, true, false, List, [], length, take, drop, replicate, refl, sym, ap, ap₂, subst, ◌∙◌, append-nil, arith}
+use Rattle.text_core.proofs.Kit.{length-append, nat_le, unwrap_or, fold, Some, None, slice_range, and_parts, leb-true, append_assoc, drop-replicate}
+use Rattle.text_core.proofs.Kit.{length-drop, length-replicate, length-take-le, take-append-drop, take-replicate, drop_split, fold-append, fold_more}
+use Rattle.text_core.proofs.Kit.{pow-le-pow_right, mul-add-lt, mod_low, pow-add, shr_high}
 use borrow.Rule.Slice.PartMut.{put_mid}
-use Rattle.std.specs.Prelude.{nat_le, unwrap_or, fold, if◌then◌else◌, Some, None}
-use Rattle.std.specs.List.{slice_range}
-use Rattle.std.proofs.lemmas.Bool.{and_parts, leb-true}
-use Rattle.std.proofs.lemmas.List.{append_assoc, drop-replicate, length-drop, length-replicate, length-take-le, take-append-drop, take-replicate}
-use Rattle.std.proofs.lemmas.List.Folds.{drop_split}
-use Rattle.std.proofs.lemmas.List.Sums.{fold-append, fold_more}
-use Rattle.std.proofs.Math.Nat.{pow-le-pow_right}
-use Rattle.std.proofs.lemmas.Nat.{mul-add-lt, mod_low, pow-add, shr_high}
-use Rattle.text_core.specs.Padding.{zero_padded}
-use Rattle.fuse_plan.specs.Numbers.{digit_value, digits_value, number_word}
+use Rattle.text_core.specs.Prelude.{zero_padded}
+use Rattle.fuse_plan.specs.Prelude.{digit_value, digits_value, number_word}
 
 -- one digit more
 abbrev pub step : ℕ → ℕ → ℕ

@@ -1,33 +1,19 @@
 -- What lawful wishes ask to be burnt lies in the map, outside key fields.
-use Rattle.std.proofs.Common.{◌≡◌, ℕ, ◌+◌, ◌<◌, Bool, true, false, List, [], ◌∷◌, Option, Some, None, IfSome, IsSomeAnd, option_map, option_and_then, refl}
-use Rattle.std.proofs.Common.{subst, sym, ap, ap₂, ◌∙◌, inl, inr, arith}
-use Rattle.std.specs.Prelude.{◌==◌, ◌&&◌, nat_le, nat_lt, if◌then◌else◌}
-use Rattle.std.specs.List.{list_any}
-use Rattle.std.specs.Option.{option_map_or}
+use Rattle.std.proofs.Common.{◌≡◌, ◌+◌, ◌<◌, ◌∷◌, ◌==◌, ◌&&◌, if◌then◌else◌}
+use Rattle.text_core.proofs.Kit.{ℕ, Bool, true, false, List, [], Option, Some, None, IfSome, IsSomeAnd, option_map, option_and_then, refl, subst, sym, ap, ap₂}
+use Rattle.text_core.proofs.Kit.{◌∙◌, inl, inr, arith, nat_le, nat_lt, list_any, option_map_or, and_from, and_parts, eqb-true, false≢true, le-leb, lt-ltb}
+use Rattle.text_core.proofs.Kit.{ltb-true, or_cases, or_parts}
 use Rattle.std.specs.FinSet as set
-use Rattle.std.proofs.lemmas.Bool.{and_from, and_parts, eqb-true, false≢true, le-leb, lt-ltb, ltb-true, or_cases, or_parts}
-use Rattle.text_core.specs.Options.{first_that_holds}
-use Rattle.fusemap_core.specs.declared.field.Field.{Field}
-use Rattle.fusemap_core.specs.declared.pos.Pos.{Pos}
-use Rattle.fusemap_core.specs.Map.{HasBit, HasItsLocks, IsInBlock, IsMap, IsPosition, Map, NamesLockField, bit_of, field_named, holds, is_lock, is_field_named}
-use Rattle.fusemap_core.specs.Map.{lock_at, word_count}
+use Rattle.text_core.specs.Prelude.{first_that_holds}
+use Rattle.fuse_plan.proofs.Types.{Field, Pos, Image, Wants, Want, Bit, Value, WriteLock, ReadLock, Key, Wish}
+use Rattle.fusemap_core.specs.Prelude.{HasBit, HasItsLocks, IsInBlock, IsMap, IsPosition, Map, NamesLockField, bit_of, field_named, holds, is_lock}
+use Rattle.fusemap_core.specs.Prelude.{is_field_named, lock_at, word_count}
 use Rattle.fusemap_core.proofs.Bounds.{found}
-use Rattle.fuse_image.specs.Locks.{is_key_position}
-use Rattle.fuse_image.specs.Places.{Positions, contains-places_where, is_place, pos_total}
-use Rattle.fuse_image.specs.declared.image.Image.{Image}
-use Rattle.fuse_image.specs.Keys.{HoldsDigests, KeyTable, keys_without}
-use Rattle.fuse_image.specs.InMap.{AreBits, AreKeysOf}
-use Rattle.fuse_image.specs.Pending.{IsPending}
+use Rattle.fuse_image.specs.Prelude.{is_key_position, Positions, contains-places_where, is_place, pos_total, HoldsDigests, KeyTable, keys_without, AreBits}
+use Rattle.fuse_image.specs.Prelude.{AreKeysOf, IsPending, AreKeys}
 use Rattle.fuse_image.proofs.InMap.{sets_stay, tables_stay}
-use Rattle.fuse_image.specs.Redaction.{AreKeys}
-use Rattle.fuse_plan.specs.declared.wants.Wants.{Wants}
-use Rattle.fuse_plan.specs.declared.wish.Want.{Want}
-use Rattle.fuse_plan.specs.declared.wish.Want.TheVariants.{Bit, Value, Key, WriteLock, ReadLock}
-use Rattle.fuse_plan.specs.declared.wish.Wish.{Wish}
-use Rattle.fuse_plan.specs.Outcome.{short_bits, short_keys}
-use Rattle.fuse_plan.specs.Pending.{RestsInMap}
-use Rattle.fuse_plan.specs.Plans.{batches, faults_with, is_of_wrong_kind, is_wrong, lock_positions}
-use Rattle.fuse_plan.specs.Wishes.{asks_one, is_to_be_one, missing, wanted_ones, wants_of}
+use Rattle.fuse_plan.specs.Prelude.{short_bits, short_keys, RestsInMap, batches, faults_with, wish_passes, is_wrong, lock_positions, asks_one, is_to_be_one}
+use Rattle.fuse_plan.specs.Prelude.{missing, wanted_ones, wants_of}
 use Rattle.fuse_plan.proofs.Pending.{missing_keys, none_at}
 use Rattle.fuse_plan.proofs.Shown.{found_alone}
 
@@ -90,7 +76,7 @@ module _ (m : Map) (is : IsMap m) (q : Pos) where
       subst (λ (o : Option Field). IfSome o (HasItsLocks m)) e (found (is_field_named name) (HasItsLocks m) m.fields is.locks) in
       lock m.rd is.lock_fields.rd f.read has.read asks
 
-  of_wish : (w : Wish) → is_of_wrong_kind m w ≡ false → asks_one m q w ≡ true → IsPlain m q
+  of_wish : (w : Wish) → wish_passes m is_wrong w ≡ false → asks_one m q w ≡ true → IsPlain m q
   of_wish w right asks = at (field_named w.field m.fields) refl right asks
     where
       at : (o : Option Field) → field_named w.field m.fields ≡ o → option_map_or (is_wrong w.want) o false ≡ false
@@ -98,17 +84,17 @@ module _ (m : Map) (is : IsMap m) (q : Pos) where
       at None e r a = absurd (false≢true a)
       at (Some f) e r a = of_field w.field f e w.want r a
 
-  of_wishes : (ws : List Wish) → list_any (is_of_wrong_kind m) ws ≡ false → list_any (asks_one m q) ws ≡ true → IsPlain m q
+  of_wishes : (ws : List Wish) → list_any (wish_passes m is_wrong) ws ≡ false → list_any (asks_one m q) ws ≡ true → IsPlain m q
   of_wishes [] right asks = absurd (false≢true asks)
   of_wishes (w ∷ ws) right asks =
-      let parts = or_parts (is_of_wrong_kind m w) (list_any (is_of_wrong_kind m) ws) right in
+      let parts = or_parts (wish_passes m is_wrong w) (list_any (wish_passes m is_wrong) ws) right in
       elim (or_cases (asks_one m q w) (list_any (asks_one m q) ws) asks) as (λ _. IsPlain m q) [
         | inl here ↦ of_wish w parts.0 here
         | inr later ↦ of_wishes ws parts.1 later
       ]
 
 -- what wishes of right kinds ask to be burnt
-wanted_in_map : (m : Map) → IsMap m → (ws : List Wish) → list_any (is_of_wrong_kind m) ws ≡ false → AreBits m (wanted_ones m ws)
+wanted_in_map : (m : Map) → IsMap m → (ws : List Wish) → list_any (wish_passes m is_wrong) ws ≡ false → AreBits m (wanted_ones m ws)
 unfolding wanted_ones
 wanted_in_map m is ws right q has =
     of_wishes m is q ws right (and_parts (is_place q) _ (sym (contains-places_where (λ p. list_any (asks_one m p) ws) q) ∙ has)).1
@@ -120,7 +106,7 @@ pub batches_in_map : (m : Map) → IsMap m → (a : Image) (ws : List Wish)
 batches_in_map m is a ws lawful =
     let w = wants_of m ws in
     let lacking = missing a w in
-    let right = or_parts (list_any (is_of_wrong_kind m) ws) _ (none_at (faults_with m a ws w lacking) 5 lawful) in
+    let right = or_parts (list_any (wish_passes m is_wrong) ws) _ (none_at (faults_with m a ws w lacking) 5 lawful) in
     let wanted = wanted_in_map m is ws right.0 in
     let all : AreBits m lacking.burnt = λ q has. wanted q (and_parts _ _ (sym (set.contains-difference pos_total (wanted_ones m ws) a.burnt q) ∙ has)).0 in (
       λ q has. all q (and_parts _ _ (sym (set.contains-difference pos_total lacking.burnt (lock_positions m) q) ∙ has)).0,

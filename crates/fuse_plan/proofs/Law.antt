@@ -1,30 +1,17 @@
 -- The verdict is Match exactly where the chip shows what it had and all of the batch.
-use Rattle.std.proofs.Common.{◌≡◌, ℕ, ◌<◌, Bool, true, false, ◌&&◌, ◌||◌, not, List, [], ◌∷◌, refl, sym, ap, ap₂, ◌∙◌, inl, inr}
-use Rattle.std.specs.Prelude.{◌==◌, Option, Some, None, is_some, if◌then◌else◌, cond, nat_lt, bytes_eq}
-use Rattle.std.specs.List.{list_any}
-use Rattle.std.specs.Option.{option_or}
+use Rattle.std.proofs.Common.{◌≡◌, ◌<◌, ◌&&◌, ◌||◌, ◌∷◌, ◌==◌, if◌then◌else◌}
+use Rattle.text_core.proofs.Kit.{ℕ, Bool, true, false, not, List, [], refl, sym, ap, ap₂, ◌∙◌, inl, inr, Option, Some, None, is_some, cond, nat_lt, bytes_eq}
+use Rattle.text_core.proofs.Kit.{list_any, option_or, nat_cmp-IsAntisymmetric, nat_cmp_total, bytes_decides, and_parts, and_from, and_right, or_parts, or_from}
+use Rattle.text_core.proofs.Kit.{or_cases, or_right, true≢false, false≢true, not-true, not-false, not_from_false, not_from_true, cases_Bool, eqb-true}
+use Rattle.text_core.proofs.Kit.{false_from_ne_true, lt-ltb, ltb-true, cond-true, cond-false}
 use Rattle.std.specs.FinSet as set
 use Rattle.std.specs.FinMap as map
-use Rattle.std.specs.FinMap.{nat_cmp-IsAntisymmetric}
-use Rattle.std.specs.Cmp.{nat_cmp_total}
-use Rattle.std.specs.Cmp.Lexicographic.{bytes_decides}
-use Rattle.std.proofs.lemmas.Bool.{and_parts, and_from, and_right, or_parts, or_from, or_cases, or_right, true≢false, false≢true, not-true, not-false}
-use Rattle.std.proofs.lemmas.Bool.{not_from_false, not_from_true, cases_Bool, eqb-true, false_from_ne_true, lt-ltb, ltb-true, cond-true, cond-false}
-use Rattle.fuse_image.specs.declared.image.Image.{Image}
-use Rattle.fuse_image.specs.declared.redaction.ReadBack.{ReadBack}
-use Rattle.fuse_plan.specs.declared.verdict.ChipFault.{ChipFault}
-use Rattle.fuse_plan.specs.declared.verdict.Verdict.{Verdict}
-use Rattle.fuse_plan.specs.declared.verdict.Verdict.TheVariants.{Match, Short, Fault}
-use Rattle.fuse_plan.specs.declared.verdict.ChipFault.TheVariants.{Lost, Stray, Key}
-use Rattle.fusemap_core.specs.declared.field.Field.{Field}
-use Rattle.fusemap_core.specs.declared.pos.Pos.{Pos}
-use Rattle.fuse_image.specs.Places.{Positions, is_empty, pos_total, pos_exact}
-use Rattle.fuse_image.specs.Keys.{KeyTable, has_no_key, keys_union, table_where, get-table_where, keys_without}
-use Rattle.fusemap_core.specs.Map.{Map}
-use Rattle.fuse_image.specs.Locks.{is_hidden, is_hidden_key, is_key_block}
-use Rattle.fuse_image.specs.Redaction.{AreKeys, some_key}
-use Rattle.fuse_plan.specs.Outcome.{seen, verdict_under, lost, stray, is_other, is_bad_key, short_bits, short_keys}
-use Rattle.fuse_plan.specs.Law.{StaysReadable, MatchLaw, with_batch}
+use Rattle.fuse_plan.proofs.Types.{Image, ReadBack, ChipFault, Verdict, Match, Short, Fault, Lost, Stray, Field, Pos}
+use Rattle.fuse_image.specs.Prelude.{Positions, is_empty, pos_total, pos_exact, KeyTable, has_no_key, keys_union, table_where, get-table_where, keys_without}
+use Rattle.fuse_image.specs.Prelude.{is_hidden, is_hidden_key, is_key_block, AreKeys, some_key}
+use Rattle.fuse_plan.specs.declared.verdict.ChipFault.TheVariants.{Key}
+use Rattle.fuse_plan.specs.Prelude.{seen, verdict_under, lost, stray, is_other, is_bad_key, short_bits, short_keys, StaysReadable, MatchLaw, with_batch}
+use Rattle.fusemap_core.specs.Prelude.{Map}
 use Rattle.fuse_image.proofs.Sets.{none_in, is_empty-from_none}
 use Rattle.fuse_image.proofs.Tables.{get_within, no_key_at, has_no_key-from_none}
 use Rattle.fuse_plan.proofs.Compared.{in_retain}

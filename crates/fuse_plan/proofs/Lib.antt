@@ -8,3 +8,4 @@ pub mod Digits
 pub mod Shown
 pub mod Pending
 pub mod InMap
+mod Types

@@ -1,15 +1,13 @@
 -- The ones of a number from a bit on, as it stands in a block.
-use Rattle.std.proofs.Common.{◌≡◌, ℕ, zero, suc, ◌+◌, ◌-◌, ◌<◌, ◌≤◌, Bool, true, ◌&&◌, not, List, inl, inr, sym, ap, ◌∙◌, arith}
-use Rattle.std.specs.Prelude.{◌==◌, nat_le, nat_lt}
-use Rattle.std.specs.List.{list_any, range_with_len}
+use Rattle.std.proofs.Common.{◌≡◌, ◌+◌, ◌-◌, ◌<◌, ◌≤◌, ◌&&◌, ◌==◌}
+use Rattle.text_core.proofs.Kit.{ℕ, zero, suc, Bool, true, not, List, inl, inr, sym, ap, ◌∙◌, arith, nat_le, nat_lt, list_any, range_with_len, and_from}
+use Rattle.text_core.proofs.Kit.{and_parts, both_ways, cases_lt, false_from_ne_true, false≢true, le-leb, leb-true, lt-ltb, ltb-true, not-true, not_from_false}
+use Rattle.text_core.proofs.Kit.{or_cases, or_left, or_right, true_from_ne_false}
 use Rattle.std.specs.FinSet as set
-use Rattle.std.proofs.lemmas.Bool.{and_from, and_parts, both_ways, cases_lt, false_from_ne_true, false≢true, le-leb, leb-true, lt-ltb, ltb-true, not-true}
-use Rattle.std.proofs.lemmas.Bool.{not_from_false, or_cases, or_left, or_right, true_from_ne_false}
 use Rattle.fusemap_core.specs.declared.pos.Pos.{Pos}
-use Rattle.fuse_image.specs.Places.{Positions, contains-places_where, is_empty, is_place, sets_meet, places_where, run, same_bool}
+use Rattle.fuse_image.specs.Prelude.{Positions, contains-places_where, is_empty, is_place, sets_meet, places_where, run, same_bool}
 use Rattle.fuse_image.proofs.Sets.{is_empty-from_none, none_in}
-use Rattle.fuse_plan.specs.Numbers.{number_has_one}
-use Rattle.fuse_plan.specs.Wishes.{is_one_from}
+use Rattle.fuse_plan.specs.Prelude.{number_has_one, is_one_from}
 use Rattle.fuse_plan.proofs.Asked.{intersection-of_tests}
 
 -- a number of a range that passes

@@ -1,38 +1,22 @@
 -- A plan is pending on its chip, and so is what a read-back leaves of it.
-use Rattle.std.proofs.Common.{◌≡◌, ℕ, zero, suc, get_or, Bool, true, false, ◌&&◌, ◌||◌, not, List, [], ◌∷◌, Option, Some, None, option_and_then, find, refl}
-use Rattle.std.proofs.Common.{sym, ap, ap₂, subst, ◌∙◌, nat_cmp, inl, inr}
-use Rattle.std.specs.Prelude.{◌==◌, nat_lt, is_some, Ok, if◌then◌else◌, cond}
-use Rattle.std.specs.List.{list_any}
-use Rattle.std.specs.Option.{option_map_or, option_or}
+use Rattle.std.proofs.Common.{◌≡◌, get_or, ◌&&◌, ◌||◌, ◌∷◌, ◌==◌, if◌then◌else◌}
+use Rattle.text_core.proofs.Kit.{ℕ, zero, suc, Bool, true, false, not, List, [], Option, Some, None, option_and_then, find, refl, sym, ap, ap₂, subst, ◌∙◌}
+use Rattle.text_core.proofs.Kit.{nat_cmp, inl, inr, nat_lt, is_some, Ok, cond, list_any, option_map_or, option_or, and_parts, cases_Bool, eqb-true, false≢true}
+use Rattle.text_core.proofs.Kit.{ltb-true, not-false, not-true, or_left, or_parts, or_right, true≢false, same_Some}
 use Rattle.std.specs.FinSet as set
 use Rattle.std.specs.FinMap as map
-use Rattle.std.proofs.lemmas.Bool.{and_parts, cases_Bool, eqb-true, false≢true, ltb-true, not-false, not-true, or_left, or_parts, or_right, true≢false}
-use Rattle.std.proofs.lemmas.Option.{same_Some}
-use Rattle.text_core.specs.Options.{first_that_holds}
-use Rattle.fusemap_core.specs.declared.field.Field.{Field}
-use Rattle.fusemap_core.specs.declared.pos.Pos.{Pos}
-use Rattle.fusemap_core.specs.Map.{Map, IsMap, field_named, is_field_named}
-use Rattle.fuse_image.specs.Keys.{KeyTable, get-table_where, has_no_key, keys_union, keys_without}
-use Rattle.fuse_image.specs.Locks.{is_hidden, is_hidden_key, is_key_block}
-use Rattle.fuse_image.specs.Places.{Positions, is_empty, is_place, sets_meet, pos_cmp, pos_total, pos_exact, places_where, contains-places_where}
-use Rattle.fuse_image.specs.declared.image.Image.{Image}
+use Rattle.text_core.specs.Prelude.{first_that_holds}
+use Rattle.fuse_plan.proofs.Types.{Field, Pos, Image, Pending, ReadBack, PlanFault, UnknownField, Verdict, Fault, Match, Short, Want, Bit, Value, WriteLock}
+use Rattle.fuse_plan.proofs.Types.{ReadLock, Key, Wish, Wants}
+use Rattle.fusemap_core.specs.Prelude.{Map, IsMap, field_named, is_field_named}
+use Rattle.fuse_image.specs.Prelude.{KeyTable, get-table_where, has_no_key, keys_union, keys_without, is_hidden, is_hidden_key, is_key_block, Positions}
+use Rattle.fuse_image.specs.Prelude.{is_empty, is_place, sets_meet, pos_cmp, pos_total, pos_exact, places_where, contains-places_where, AreKeys, some_key}
 use Rattle.fuse_image.proofs.Sets.{none_in}
-use Rattle.fuse_image.specs.declared.pending.Pending.{Pending}
-use Rattle.fuse_image.specs.Redaction.{AreKeys, some_key}
-use Rattle.fuse_image.specs.declared.redaction.ReadBack.{ReadBack}
-use Rattle.fuse_plan.specs.declared.fault.PlanFault.{PlanFault}
-use Rattle.fuse_plan.specs.declared.fault.PlanFault.TheVariants.{UnknownField}
-use Rattle.fuse_plan.specs.declared.verdict.Verdict.{Verdict}
-use Rattle.fuse_plan.specs.declared.verdict.Verdict.TheVariants.{Fault, Match, Short}
+use Rattle.fuse_plan.specs.Prelude.{image_after, is_bad_key, lost, short_bits, short_keys, short_or_match, stray, verdict_of, batches, faults_with}
+use Rattle.fuse_plan.specs.Prelude.{has_key_where, is_hidden_in, lock_positions, pending_or_fault, FirstRestLaw, PendingFitsImage, PlanLaw, RestLaw}
+use Rattle.fuse_plan.specs.Prelude.{SecondRestLaw, is_no_fault, rest_of, rest_of_first, asks_one, key_of_want, key_of_wish, missing, wanted_key, wanted_keys}
+use Rattle.fuse_plan.specs.Prelude.{wanted_ones, wants_of}
 use Rattle.fuse_plan.specs.declared.verdict.ChipFault.TheVariants as chip
-use Rattle.fuse_plan.specs.declared.wants.Wants.{Wants}
-use Rattle.fuse_plan.specs.declared.wish.Want.{Want}
-use Rattle.fuse_plan.specs.declared.wish.Want.TheVariants.{Bit, Value, Key, WriteLock, ReadLock}
-use Rattle.fuse_plan.specs.declared.wish.Wish.{Wish}
-use Rattle.fuse_plan.specs.Outcome.{image_after, is_bad_key, lost, short_bits, short_keys, short_or_match, stray, verdict_of}
-use Rattle.fuse_plan.specs.Plans.{batches, faults_with, has_key_where, is_hidden_in, lock_positions, pending_or_fault}
-use Rattle.fuse_plan.specs.Pending.{FirstRestLaw, PendingFitsImage, PlanLaw, RestLaw, SecondRestLaw, is_no_fault, rest_of, rest_of_first}
-use Rattle.fuse_plan.specs.Wishes.{asks_one, key_of_want, key_of_wish, missing, wanted_key, wanted_keys, wanted_ones, wants_of}
 use Rattle.fuse_plan.proofs.Law.{test_of_key}
 use Rattle.fuse_plan.proofs.Compared.{in_retain}
 use Rattle.fuse_plan.proofs.Shown.{IsPlain, same_hidden, same_hidden_key}

@@ -1,22 +1,14 @@
 -- No lock hides the lock fields, and no batch outside them changes what is hidden.
-use Rattle.std.proofs.Common.{◌≡◌, ℕ, suc, ◌+◌, ◌<◌, Bool, true, false, ◌&&◌, ◌||◌, cond, List, [], ◌∷◌, get_or, All, AllPairs, Option, Some, None, IfSome}
-use Rattle.std.proofs.Common.{IsSomeAnd, option_map, option_and_then, find, refl, subst, sym, ap, ap₂, ◌∙◌, inl, inr, arith}
-use Rattle.std.specs.Prelude.{◌==◌}
-use Rattle.std.specs.List.{list_any}
-use Rattle.std.specs.Option.{option_map_or}
+use Rattle.std.proofs.Common.{◌≡◌, ◌+◌, ◌<◌, ◌&&◌, ◌||◌, ◌∷◌, get_or, ◌==◌}
+use Rattle.text_core.proofs.Kit.{ℕ, suc, Bool, true, false, cond, List, [], All, AllPairs, Option, Some, None, IfSome, IsSomeAnd, option_map, option_and_then}
+use Rattle.text_core.proofs.Kit.{find, refl, subst, sym, ap, ap₂, ◌∙◌, inl, inr, arith, list_any, option_map_or, and_parts, and_from, and_left, and_right}
+use Rattle.text_core.proofs.Kit.{or_cases, or_from, or_right, cases_Bool, true≢false, le-leb, lt-ltb, eq-eqb, list_any_none, same_Some}
 use Rattle.std.specs.FinSet as set
-use Rattle.std.proofs.lemmas.Bool.{and_parts, and_from, and_left, and_right, or_cases, or_from, or_right, cases_Bool, true≢false, le-leb, lt-ltb, eq-eqb}
-use Rattle.std.proofs.lemmas.List.Folds.{list_any_none}
-use Rattle.std.proofs.lemmas.Option.{same_Some}
-use Rattle.fusemap_core.specs.declared.field.Field.{Field}
-use Rattle.fusemap_core.specs.declared.pos.Pos.{Pos}
-use Rattle.fusemap_core.specs.Map.{Map, IsMap, FieldsDisjoint, NamesLockField, bit_of, field_named, holds, is_field_named, lock_at, read_lock}
+use Rattle.fuse_plan.proofs.Types.{Field, Pos}
+use Rattle.fusemap_core.specs.Prelude.{Map, IsMap, FieldsDisjoint, NamesLockField, bit_of, field_named, holds, is_field_named, lock_at, read_lock}
 use Rattle.fusemap_core.proofs.Bounds.{found}
-use Rattle.fuse_image.specs.Locks.{is_burnt, is_hidden, is_hidden_key}
-use Rattle.fuse_image.specs.Places.{Positions, is_place, contains-places_where, pos_total}
-use Rattle.fuse_plan.specs.Wishes.{at_field}
-use Rattle.fuse_plan.specs.Plans.{lock_positions, positions_named}
-use Rattle.fuse_plan.specs.Pending.{LocksShow}
+use Rattle.fuse_image.specs.Prelude.{is_burnt, is_hidden, is_hidden_key, Positions, is_place, contains-places_where, pos_total}
+use Rattle.fuse_plan.specs.Prelude.{at_field, lock_positions, positions_named, LocksShow}
 
 -- the fields after the first are apart from it, and from one another
 after_first : (f : Field) (fs : List Field) → AllPairs FieldsDisjoint (f ∷ fs) → All (FieldsDisjoint f) fs

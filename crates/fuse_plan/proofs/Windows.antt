@@ -1,22 +1,14 @@
 -- Where the ones of a number lie that begins at some bit of a block, word by word.
-use Rattle.std.proofs.Common.{length, subst, set as set_word, ◌≡◌, ℕ, ◌+◌, ◌-◌, ◌*◌, ◌/◌, ◌%◌, ◌^◌, ◌<◌, ◌≤◌, Bool, true, false, ◌&&◌, not, List, refl, sym}
-use Rattle.std.proofs.Common.{ap, ap₂, ◌∙◌, inl, inr, arith}
-use Rattle.std.specs.Prelude.{◌==◌, nat_le, nat_lt, slice_index, if◌then◌else◌}
-use Rattle.std.specs.Int.{bit_at}
+use Rattle.text_core.proofs.Kit.{length, subst, ℕ, Bool, true, false, not, List, refl, sym, ap, ap₂, ◌∙◌, inl, inr, arith, nat_le, nat_lt, slice_index, bit_at}
+use Rattle.text_core.proofs.Kit.{cases_eq, cases_lt, cond-true, cond-false, le-leb, lt-leb, lt-ltb, le-ltb, get_or-set_same, get_or-set_other, pow-add}
+use Rattle.text_core.proofs.Kit.{bit_at_cat_low, bit_at_cat_high, bit_at-zero, div-div-eq-div-mul}
+use Rattle.std.proofs.Common.{set as set_word, ◌≡◌, ◌+◌, ◌-◌, ◌*◌, ◌/◌, ◌%◌, ◌^◌, ◌<◌, ◌≤◌, ◌&&◌, ◌==◌, if◌then◌else◌}
 use Rattle.std.specs.FinSet as set
-use Rattle.std.proofs.lemmas.Bool.{cases_eq, cases_lt, cond-true, cond-false, le-leb, lt-leb, lt-ltb, le-ltb}
-use Rattle.std.proofs.lemmas.List.{get_or-set_same, get_or-set_other}
-use Rattle.std.proofs.lemmas.Nat.{pow-add}
-use Rattle.std.proofs.lemmas.Nat.Bits.{bit_at_cat_low, bit_at_cat_high, bit_at-zero}
-use Rattle.std.proofs.Math.Nat.{div-div-eq-div-mul}
-use Rattle.fusemap_core.specs.declared.field.Field.{Field}
-use Rattle.fusemap_core.specs.declared.pos.Pos.{Pos}
-use Rattle.fusemap_core.specs.Map.{holds}
-use Rattle.fuse_image.specs.Places.{places_where}
-use Rattle.fuse_image.specs.Words.{bit_in, position_of_bit}
+use Rattle.fuse_plan.proofs.Types.{Field, Pos}
+use Rattle.fusemap_core.specs.Prelude.{holds}
+use Rattle.fuse_image.specs.Prelude.{places_where, bit_in, position_of_bit}
 use Rattle.fuse_image.proofs.Sets.{places_where-at, same_places, none_outside}
-use Rattle.fuse_plan.specs.Numbers.{number_has_one}
-use Rattle.fuse_plan.specs.Wishes.{is_one_from}
+use Rattle.fuse_plan.specs.Prelude.{number_has_one, is_one_from}
 use Rattle.fuse_plan.proofs.Asked.{same_test, difference-of_tests, intersection-of_tests}
 
 -- bit i of a number that is moved down by k bits and cut to 32 bits

@@ -3,12 +3,9 @@ use Rattle.std.specs.Prelude.{◌≡◌, ℕ, ◌↔◌, true, false, is_some}
 use Rattle.std.specs.FinSet as set
 use Rattle.std.specs.FinMap as map
 use Rattle.fusemap_core.specs.declared.pos.Pos.{Pos}
-use Rattle.fusemap_core.specs.Map.{Map}
-use Rattle.fuse_image.specs.Keys.{KeyTable, keys_union}
-use Rattle.fuse_image.specs.Locks.{is_hidden, is_hidden_key}
-use Rattle.fuse_image.specs.Places.{Positions}
+use Rattle.fusemap_core.specs.Prelude.{Map}
+use Rattle.fuse_image.specs.Prelude.{KeyTable, keys_union, is_hidden, is_hidden_key, Positions, AreKeys}
 use Rattle.fuse_image.specs.declared.image.Image.{Image}
-use Rattle.fuse_image.specs.Redaction.{AreKeys}
 use Rattle.fuse_image.specs.declared.redaction.ReadBack.{ReadBack}
 use Rattle.fuse_plan.specs.declared.verdict.Verdict.TheVariants.{Match}
 use Rattle.fuse_plan.specs.Outcome.{seen, verdict_of}

@@ -5,3 +5,4 @@ pub mod Plans
 pub mod Outcome
 pub mod Law
 pub mod Pending
+pub mod Prelude

@@ -2,13 +2,10 @@
 use Rattle.std.specs.Prelude.{ℕ, Bool, true, false, ◌&&◌, ◌||◌, not, List, Option, Some, None, is_some, if◌then◌else◌, bytes_eq}
 use Rattle.std.specs.FinSet as set
 use Rattle.std.specs.FinMap as map
-use Rattle.fusemap_core.specs.Map.{Map}
+use Rattle.fusemap_core.specs.Prelude.{Map}
 use Rattle.fuse_image.specs.Image as image
-use Rattle.fuse_image.specs.Keys.{KeyTable, has_no_key, keys_union, keys_without}
-use Rattle.fuse_image.specs.Locks.{is_hidden, is_hidden_key}
-use Rattle.fuse_image.specs.Places.{Positions, is_empty}
+use Rattle.fuse_image.specs.Prelude.{KeyTable, has_no_key, keys_union, keys_without, is_hidden, is_hidden_key, Positions, is_empty, some_key}
 use Rattle.fuse_image.specs.declared.image.Image.{Image}
-use Rattle.fuse_image.specs.Redaction.{some_key}
 use Rattle.fuse_image.specs.declared.redaction.ReadBack.{ReadBack}
 use Rattle.fuse_plan.specs.declared.verdict.Verdict.{Verdict}
 use Rattle.fuse_plan.specs.declared.verdict.Verdict.TheVariants.{Match, Short, Fault}

@@ -3,17 +3,13 @@ use Rattle.std.specs.Prelude.{◌≡◌, ℕ, Bool, true, false, List, Ok, is_so
 use Rattle.std.specs.FinSet as set
 use Rattle.std.specs.FinMap as map
 use Rattle.fusemap_core.specs.declared.pos.Pos.{Pos}
-use Rattle.fusemap_core.specs.Map.{Map, IsMap}
-use Rattle.fuse_image.specs.Keys.{KeyTable}
-use Rattle.fuse_image.specs.Locks.{is_hidden}
-use Rattle.fuse_image.specs.Places.{Positions}
+use Rattle.fusemap_core.specs.Prelude.{Map, IsMap}
+use Rattle.fuse_image.specs.Prelude.{KeyTable, is_hidden, Positions, IsPending, AreKeys}
 use Rattle.fuse_image.specs.declared.image.Image.{Image}
-use Rattle.fuse_image.specs.Pending.{IsPending}
 use Rattle.fuse_image.specs.declared.pending.Pending.{Pending}
-use Rattle.fuse_image.specs.Redaction.{AreKeys}
 use Rattle.fuse_image.specs.declared.redaction.ReadBack.{ReadBack}
 use Rattle.fuse_plan.specs.declared.verdict.Verdict.{Verdict}
-use Rattle.fuse_plan.specs.declared.verdict.Verdict.TheVariants.{Match, Short, Fault}
+use Rattle.fuse_plan.specs.declared.verdict.Verdict.TheVariants.{Short, Fault}
 use Rattle.fuse_plan.specs.declared.wish.Wish.{Wish}
 use Rattle.fuse_plan.specs.Law.{StaysReadable}
 use Rattle.fuse_plan.specs.Outcome.{image_after, short_bits, short_keys, verdict_of}
@@ -40,15 +36,13 @@ LocksShow = (m : Map) → IsMap m → (burnt : Positions) (q : Pos) → set.cont
 
 -- a read-back says nothing wrong: it matches, or falls short
 abbrev pub is_no_fault : Verdict → Bool
-is_no_fault Match = true
-is_no_fault (Short rest) = true
 is_no_fault (Fault fault) = false
+is_no_fault _ = true
 
 -- the rest that a read-back tells: nothing where it matches
 abbrev pub rest_of : Verdict → Image
-rest_of Match = record { burnt = set.empty; keys = map.empty }
 rest_of (Short rest) = rest
-rest_of (Fault fault) = record { burnt = set.empty; keys = map.empty }
+rest_of _ = record { burnt = set.empty; keys = map.empty }
 
 -- where a read-back says nothing wrong, the rest that it tells is what falls short
 abbrev pub RestLaw : Type 0

@@ -4,15 +4,13 @@ use Rattle.std.specs.List.{list_any, range_with_len}
 use Rattle.std.specs.Option.{option_map_or}
 use Rattle.std.specs.FinSet as set
 use Rattle.std.specs.FinMap as map
-use Rattle.text_core.specs.Options.{first_that_holds}
+use Rattle.text_core.specs.Prelude.{first_that_holds}
 use Rattle.fusemap_core.specs.declared.field.Field.{Field}
-use Rattle.fusemap_core.specs.Map.{Map, field_named, holds, read_lock, write_lock}
-use Rattle.fuse_image.specs.Keys.{KeyTable}
-use Rattle.fuse_image.specs.Locks.{is_hidden, is_hidden_key, is_write_protected, is_write_protected_key}
-use Rattle.fuse_image.specs.Places.{Positions, sets_meet, places_where}
+use Rattle.fusemap_core.specs.Prelude.{Map, field_named, holds, read_lock, write_lock}
+use Rattle.fuse_image.specs.Prelude.{KeyTable, is_hidden, is_hidden_key, is_write_protected, is_write_protected_key, Positions, sets_meet, places_where}
+use Rattle.fuse_image.specs.Prelude.{coding_field, some_key}
 use Rattle.fuse_image.specs.declared.image.Image.{Image}
 use Rattle.fuse_image.specs.declared.pending.Pending.{Pending}
-use Rattle.fuse_image.specs.Redaction.{coding_field, some_key}
 use Rattle.fuse_plan.specs.declared.fault.PlanFault.{PlanFault}
 use Rattle.fuse_plan.specs.declared.fault.PlanFault.TheVariants.{UnknownField, UnmappedBit, ValueTooWide, ClearsBurnt, Contradiction, WrongKind, OtherKey}
 use Rattle.fuse_plan.specs.declared.fault.PlanFault.TheVariants.{WriteProtected, Hidden, NoLock}
@@ -21,7 +19,7 @@ use Rattle.fuse_plan.specs.declared.wish.Want.{Want}
 use Rattle.fuse_plan.specs.declared.wish.Want.TheVariants.{Bit, Value, Key, WriteLock, ReadLock}
 use Rattle.fuse_plan.specs.declared.wish.Wish.{Wish}
 use Rattle.fuse_plan.specs.Numbers.{number_has_one}
-use Rattle.fuse_plan.specs.Wishes.{at_field, missing, wants_of}
+use Rattle.fuse_plan.specs.Wishes.{at_field, missing, wants_of, wish_passes}
 
 -- the number of a fault
 abbrev pub plan_fault_number : PlanFault → ℕ
@@ -43,38 +41,17 @@ names_no_field m w = is_none (field_named w.field m.fields)
 -- the index of the bit isn't below the number of the field's bits
 abbrev pub is_past : Want → Field → Bool
 is_past (Bit i) f = nat_le f.count i
-is_past (Value v) f = false
-is_past (Key digest) f = false
-is_past WriteLock f = false
-is_past ReadLock f = false
-
--- a wish names a bit that its field hasn't
-abbrev pub names_no_bit : Map → Wish → Bool
-names_no_bit m w = at_field m (is_past w.want) w.field
+is_past _ f = false
 
 -- the value has a 1 at or above the number of the field's bits
 abbrev pub is_wide : Want → Field → Bool
-is_wide (Bit i) f = false
 is_wide (Value v) f = list_any (number_has_one v) (range_with_len f.count (256 - f.count))
-is_wide (Key digest) f = false
-is_wide WriteLock f = false
-is_wide ReadLock f = false
-
--- a wish is for a value that is too wide for its field
-abbrev pub is_wish_too_wide : Map → Wish → Bool
-is_wish_too_wide m w = at_field m (is_wide w.want) w.field
+is_wide _ f = false
 
 -- both are for keys, and the digests differ
 abbrev pub are_two_keys : Want → Want → Bool
 are_two_keys (Key digest) (Key other) = not (bytes_eq digest other)
-are_two_keys (Key digest) (Bit i) = false
-are_two_keys (Key digest) (Value v) = false
-are_two_keys (Key digest) WriteLock = false
-are_two_keys (Key digest) ReadLock = false
-are_two_keys (Bit i) other = false
-are_two_keys (Value v) other = false
-are_two_keys WriteLock other = false
-are_two_keys ReadLock other = false
+are_two_keys _ _ = false
 
 -- two wishes for keys name one field with two digests
 abbrev pub asks_another_key : Wish → Wish → Bool
@@ -89,12 +66,7 @@ abbrev pub is_wrong : Want → Field → Bool
 is_wrong (Bit i) f = f.key
 is_wrong (Value v) f = f.key
 is_wrong (Key digest) f = not f.key
-is_wrong WriteLock f = false
-is_wrong ReadLock f = false
-
--- a wish isn't of a kind that its field takes
-abbrev pub is_of_wrong_kind : Map → Wish → Bool
-is_of_wrong_kind m w = at_field m (is_wrong w.want) w.field
+is_wrong _ f = false
 
 -- a position is asked to be 1 and to be 0, or a field to hold two keys
 abbrev pub contradict : Wants → List Wish → Bool
@@ -110,7 +82,7 @@ coding_positions m = option_map_or (λ f. places_where (holds f)) (coding_field 
 
 -- a wish isn't of a kind that its field takes, or a position of the coding field is asked to be 1
 abbrev pub are_wrong : Map → Wants → List Wish → Bool
-are_wrong m w ws = list_any (is_of_wrong_kind m) ws || sets_meet w.ones (coding_positions m)
+are_wrong m w ws = list_any (wish_passes m is_wrong) ws || sets_meet w.ones (coding_positions m)
 
 -- the positions of the two lock fields (WR_DIS and RD_DIS)
 abbrev pub lock_positions : Map → Positions
@@ -118,15 +90,8 @@ lock_positions m = set.union (positions_named m m.wr) (positions_named m m.rd)
 
 -- a key is wished for a key block that is known to hold another
 abbrev pub is_other_key : KeyTable → Want → Field → Bool
-is_other_key keys (Bit i) f = false
-is_other_key keys (Value v) f = false
 is_other_key keys (Key digest) f = f.key && option_map_or (λ known. not (bytes_eq known digest)) (map.get keys f.block) false
-is_other_key keys WriteLock f = false
-is_other_key keys ReadLock f = false
-
--- a wish is for another key than its key block is known to hold
-abbrev pub asks_other_key : Map → KeyTable → Wish → Bool
-asks_other_key m keys w = at_field m (is_other_key keys w.want) w.field
+is_other_key keys _ f = false
 
 -- the table has a key at a key block that passes a test
 abbrev pub has_key_where : Map → KeyTable → (ℕ → Bool) → Bool
@@ -134,15 +99,9 @@ has_key_where m keys test = some_key m (λ b. is_some (map.get keys b) && test b
 
 -- a lock is wished for that the field hasn't
 abbrev pub lacks_lock : Map → Want → Field → Bool
-lacks_lock m (Bit i) f = false
-lacks_lock m (Value v) f = false
-lacks_lock m (Key digest) f = false
 lacks_lock m WriteLock f = is_none (write_lock m f)
 lacks_lock m ReadLock f = is_none (read_lock m f)
-
--- a wish is for a lock that its field hasn't
-abbrev pub names_no_lock : Map → Wish → Bool
-names_no_lock m w = at_field m (lacks_lock m w.want) w.field
+lacks_lock m _ f = false
 
 -- a position or a key of the image is write-protected (its lock bit in WR_DIS is burnt)
 abbrev pub is_protected_in : Map → Positions → Image → Bool
@@ -159,15 +118,15 @@ is_hidden_in m burnt part =
 abbrev pub faults_with : Map → Image → List Wish → Wants → Image → List (Bool × PlanFault)
 faults_with m image ws w lacking =
     (list_any (names_no_field m) ws, UnknownField)
-    ∷ (list_any (names_no_bit m) ws, UnmappedBit)
-    ∷ (list_any (is_wish_too_wide m) ws, ValueTooWide)
+    ∷ (list_any (wish_passes m is_past) ws, UnmappedBit)
+    ∷ (list_any (wish_passes m is_wide) ws, ValueTooWide)
     ∷ (sets_meet w.zeros image.burnt, ClearsBurnt)
     ∷ (contradict w ws, Contradiction)
     ∷ (are_wrong m w ws, WrongKind)
-    ∷ (list_any (asks_other_key m image.keys) ws, OtherKey)
+    ∷ (list_any (wish_passes m (is_other_key image.keys)) ws, OtherKey)
     ∷ (is_protected_in m image.burnt lacking, WriteProtected)
     ∷ (is_hidden_in m image.burnt lacking, Hidden)
-    ∷ (list_any (names_no_lock m) ws, NoLock)
+    ∷ (list_any (wish_passes m (lacks_lock m)) ws, NoLock)
     ∷ []
 
 -- the same for wishes alone

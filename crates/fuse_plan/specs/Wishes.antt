@@ -5,9 +5,8 @@ use Rattle.std.specs.Option.{option_map_or, option_or}
 use Rattle.std.specs.FinSet as set
 use Rattle.fusemap_core.specs.declared.field.Field.{Field}
 use Rattle.fusemap_core.specs.declared.pos.Pos.{Pos}
-use Rattle.fusemap_core.specs.Map.{Map, bit_of, field_named, holds, is_lock, read_lock, write_lock}
-use Rattle.fuse_image.specs.Keys.{KeyTable, table_where, keys_without}
-use Rattle.fuse_image.specs.Places.{Positions, places_where}
+use Rattle.fusemap_core.specs.Prelude.{Map, bit_of, field_named, holds, is_lock, read_lock, write_lock}
+use Rattle.fuse_image.specs.Prelude.{KeyTable, table_where, keys_without, Positions, places_where}
 use Rattle.fuse_image.specs.declared.image.Image.{Image}
 use Rattle.fuse_plan.specs.Numbers.{number_has_one}
 use Rattle.fuse_plan.specs.declared.wants.Wants.{Wants}
@@ -23,6 +22,10 @@ is_one_from number first p = first.block == p.block && (nat_le first.bit p.bit &
 abbrev pub at_field : Map → (Field → Bool) → List ℕ → Bool
 at_field m test name = option_map_or test (field_named name m.fields) false
 
+-- the map has the field that the wish names, and what is wanted of it passes a test
+abbrev pub wish_passes : Map → (Want → Field → Bool) → Wish → Bool
+wish_passes m test w = at_field m (test w.want) w.field
+
 -- bit i of a field, where it has one
 abbrev pub bit_within : Field → ℕ → Option Pos
 bit_within f i = if nat_lt i f.count then Some (bit_of f i) else None
@@ -37,18 +40,15 @@ is_to_be_one m p ReadLock f = is_lock (read_lock m f) p
 
 -- the position is one that is to be 0: a zero of the value
 abbrev pub is_to_be_zero : Pos → Want → Field → Bool
-is_to_be_zero p (Bit i) f = false
 is_to_be_zero p (Value v) f = holds f p && not (number_has_one v (p.bit - f.bit))
-is_to_be_zero p (Key digest) f = false
-is_to_be_zero p WriteLock f = false
-is_to_be_zero p ReadLock f = false
+is_to_be_zero p _ f = false
 
 -- a wish asks for a 1 at the position, and for a 0
 abbrev pub asks_one : Map → Pos → Wish → Bool
-asks_one m p w = at_field m (is_to_be_one m p w.want) w.field
+asks_one m p w = wish_passes m (is_to_be_one m p) w
 
 abbrev pub asks_zero : Map → Pos → Wish → Bool
-asks_zero m p w = at_field m (is_to_be_zero p w.want) w.field
+asks_zero m p w = wish_passes m (is_to_be_zero p) w
 
 -- the positions for which one of the wishes asks
 abbrev pub asked_by : (Pos → Wish → Bool) → List Wish → Positions
@@ -63,12 +63,10 @@ wanted_zeros m ws = asked_by (asks_zero m) ws
 
 -- the digest of the key that is asked for in a block, where the field is the key field of that block
 abbrev pub key_of_want : ℕ → Want → Field → Option (List ℕ)
-key_of_want b (Bit i) f = None
-key_of_want b (Value v) f = None
 key_of_want b (Key digest) f = if f.key && f.block == b then Some digest else None
-key_of_want b WriteLock f = None
-key_of_want b ReadLock f = None
+key_of_want b _ f = None
 
+-- the digest that a wish asks for in a block, if it is that of its field
 abbrev pub key_of_wish : Map → ℕ → Wish → Option (List ℕ)
 key_of_wish m b w = option_and_then (key_of_want b w.want) (field_named w.field m.fields)
 

@@ -1,9 +1,7 @@
 // What a read-back says of a batch.
 ghost use Rattle.std.specs.Prelude.{◌≡◌, is_some, if◌then◌else◌, ◌||◌, None};
-ghost use Rattle.fusemap_core.specs.Map.{Map};
-ghost use Rattle.fuse_image.specs.Locks.{is_hidden};
-ghost use Rattle.fuse_image.specs.Places.{Positions, places_where};
-ghost use Rattle.fuse_image.specs.Redaction.{some_key};
+ghost use Rattle.fusemap_core.specs.Prelude.{Map};
+ghost use Rattle.fuse_image.specs.Prelude.{is_hidden, Positions, places_where, some_key};
 ghost use Rattle.fuse_plan.specs.Outcome as outcome;
 
 use crate::verdict::{ChipFault, Verdict};
@@ -16,7 +14,7 @@ fn lost(burnt: &Bits, hidden: &Bits, ones: &Bits) -> Bits
     ensures { (m : Map) (after : Positions) → hidden.now ≡ places_where (is_hidden m after) →
         result ≡ outcome.lost m after burnt.now ones.now }
 {
-    burnt.known();
+    burnt.fact_places();
     burnt.minus(hidden).minus(ones)
 }
 
@@ -25,7 +23,7 @@ fn stray(burnt: &Bits, batch: &Bits, hidden: &Bits, ones: &Bits) -> Bits
     ensures { (m : Map) (after : Positions) → hidden.now ≡ places_where (is_hidden m after) →
         result ≡ outcome.stray m after burnt.now batch.now ones.now }
 {
-    ones.known();
+    ones.fact_places();
     ones.minus(&burnt.join(batch)).join(&ones.meet(hidden))
 }
 

@@ -1,6 +1,6 @@
 // The faults of wishes.
 ghost use Rattle.std.specs.Prelude.{◌≡◌};
-ghost use Rattle.fuse_plan.specs.Plans.{plan_fault_number};
+ghost use Rattle.fuse_plan.specs.Prelude.{plan_fault_number};
 
 use thiserror::Error;
 

@@ -2,12 +2,11 @@
 ghost use Rattle.std.specs.Prelude.{◌≡◌, ◌≤◌, ◌-◌, not, false, bytes_eq};
 ghost use Rattle.std.specs.List.{list_any, range_with_len};
 ghost use Rattle.std.specs.Option.{option_map_or};
-ghost use Rattle.text_core.specs.Options.{first_that_holds};
-ghost use Rattle.fusemap_core.specs.Map.{IsSmall};
+ghost use Rattle.text_core.specs.Prelude.{first_that_holds};
+ghost use Rattle.fusemap_core.specs.Prelude.{IsSmall};
 ghost use Rattle.fuse_image.specs.Locks as locks;
 ghost use Rattle.fuse_plan.specs.Plans as plans;
-ghost use Rattle.fuse_plan.specs.Plans.{faults_with};
-ghost use Rattle.fuse_plan.specs.Numbers.{number_has_one};
+ghost use Rattle.fuse_plan.specs.Prelude.{faults_with, number_has_one, wish_passes};
 
 use crate::fault::PlanFault;
 use crate::fields::{coding_positions, field_named};
@@ -93,14 +92,14 @@ fn names_no_field(map: &FuseMap, wish: &Wish) -> bool
 }
 
 fn some_name_no_bit(map: &FuseMap, wishes: &[Wish]) -> bool
-    ensures { result ≡ list_any (plans.names_no_bit map.now) wishes.now }
+    ensures { result ≡ list_any (wish_passes map.now plans.is_past) wishes.now }
 {
     wishes.iter().any(|wish| names_no_bit(map, wish))
 }
 
 /// Whether the wish names a bit that its field hasn't.
 fn names_no_bit(map: &FuseMap, wish: &Wish) -> bool
-    ensures { result ≡ plans.names_no_bit map.now wish.now }
+    ensures { result ≡ wish_passes map.now plans.is_past wish.now }
 {
     match field_named(map, &wish.field) {
         Some(field) => is_past(&wish.want, &field),
@@ -121,14 +120,14 @@ fn is_past(want: &Want, field: &Field) -> bool
 }
 
 fn some_are_too_wide(map: &FuseMap, wishes: &[Wish]) -> bool
-    ensures { result ≡ list_any (plans.is_wish_too_wide map.now) wishes.now }
+    ensures { result ≡ list_any (wish_passes map.now plans.is_wide) wishes.now }
 {
     wishes.iter().any(|wish| is_too_wide(map, wish))
 }
 
 /// Whether the wish is for a value with a 1 at or above the number of its field's bits.
 fn is_too_wide(map: &FuseMap, wish: &Wish) -> bool
-    ensures { result ≡ plans.is_wish_too_wide map.now wish.now }
+    ensures { result ≡ wish_passes map.now plans.is_wide wish.now }
 {
     match field_named(map, &wish.field) {
         Some(field) => is_wide(&wish.want, &field),
@@ -193,14 +192,14 @@ fn are_two_keys(want: &Want, other: &Want) -> bool
 }
 
 fn some_are_of_wrong_kind(map: &FuseMap, wishes: &[Wish]) -> bool
-    ensures { result ≡ list_any (plans.is_of_wrong_kind map.now) wishes.now }
+    ensures { result ≡ list_any (wish_passes map.now plans.is_wrong) wishes.now }
 {
     wishes.iter().any(|wish| is_of_wrong_kind(map, wish))
 }
 
 /// Whether the wish is for a key of a plain field, or for a bit or a value of a key field.
 fn is_of_wrong_kind(map: &FuseMap, wish: &Wish) -> bool
-    ensures { result ≡ plans.is_of_wrong_kind map.now wish.now }
+    ensures { result ≡ wish_passes map.now plans.is_wrong wish.now }
 {
     match field_named(map, &wish.field) {
         Some(field) => is_wrong(&wish.want, &field),
@@ -221,14 +220,14 @@ fn is_wrong(want: &Want, field: &Field) -> bool
 }
 
 fn some_ask_other_key(map: &FuseMap, keys: &Keys, wishes: &[Wish]) -> bool
-    ensures { result ≡ list_any (plans.asks_other_key map.now keys.now) wishes.now }
+    ensures { result ≡ list_any (wish_passes map.now (plans.is_other_key keys.now)) wishes.now }
 {
     wishes.iter().any(|wish| asks_other_key(map, keys, wish))
 }
 
 /// Whether the wish is for a key of a key field that is known to hold another.
 fn asks_other_key(map: &FuseMap, keys: &Keys, wish: &Wish) -> bool
-    ensures { result ≡ plans.asks_other_key map.now keys.now wish.now }
+    ensures { result ≡ wish_passes map.now (plans.is_other_key keys.now) wish.now }
 {
     match field_named(map, &wish.field) {
         Some(field) => is_other_key(keys, &wish.want, &field),
@@ -304,14 +303,14 @@ fn has_hidden_key(map: &FuseMap, burnt: &Bits, keys: &Keys) -> bool
 }
 
 fn some_name_no_lock(map: &FuseMap, wishes: &[Wish]) -> bool
-    ensures { result ≡ list_any (plans.names_no_lock map.now) wishes.now }
+    ensures { result ≡ list_any (wish_passes map.now (plans.lacks_lock map.now)) wishes.now }
 {
     wishes.iter().any(|wish| names_no_lock(map, wish))
 }
 
 /// Whether the wish is for a lock that its field hasn't.
 fn names_no_lock(map: &FuseMap, wish: &Wish) -> bool
-    ensures { result ≡ plans.names_no_lock map.now wish.now }
+    ensures { result ≡ wish_passes map.now (plans.lacks_lock map.now) wish.now }
 {
     match field_named(map, &wish.field) {
         Some(field) => lacks_lock(map, &wish.want, &field),

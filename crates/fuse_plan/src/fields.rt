@@ -1,17 +1,17 @@
 // Fields by their names, and the sets of their positions.
 ghost use Rattle.std.specs.Prelude.{◌≡◌, IfSome, option_and_then};
 ghost use Rattle.fusemap_core.specs.Map as fuse_map;
-ghost use Rattle.fusemap_core.specs.Map.{IsMap, IsSmall, is_lock};
-ghost use Rattle.fuse_image.specs.Places.{IsPlace, places_where};
+ghost use Rattle.fusemap_core.specs.Prelude.{IsMap, IsSmall, is_lock};
+ghost use Rattle.fuse_image.specs.Prelude.{IsPlace, places_where};
 ghost use Rattle.fuse_plan.specs.Plans as plans;
-ghost use Rattle.fuse_plan.specs.Wishes.{bit_within};
+ghost use Rattle.fuse_plan.specs.Prelude.{bit_within};
 
 use fuse_image::{Bits, coding_field, positions_of};
 use fusemap_core::{Field, FuseMap, Pos};
 use text_core::Name;
 
-/// A map keeps the rules of maps.
-pub(crate) fn known_map(map: &FuseMap)
+/// A fact: a map keeps the rules of maps. Nothing happens.
+pub(crate) fn fact_map(map: &FuseMap)
     ensures { IsMap map.now }
 {
     let _fields = map.fields();

@@ -1,7 +1,5 @@
 // What holds of plans and read-backs.
-ghost use Rattle.fuse_plan.specs.Law.{MatchLaw};
-ghost use Rattle.fuse_plan.specs.Pending.{FirstRestLaw, LocksShow, PlanLaw, RestLaw, RestsInMap};
-ghost use Rattle.fuse_plan.specs.Pending.{SecondRestLaw};
+ghost use Rattle.fuse_plan.specs.Prelude.{MatchLaw, FirstRestLaw, LocksShow, PlanLaw, RestLaw, RestsInMap, SecondRestLaw};
 
 /// A read-back matches exactly where it is what the chip shows when all of the batch is burnt and
 /// nothing else, for a batch that stays readable.

@@ -2,7 +2,7 @@
 ghost use Rattle.std.specs.Prelude.{◌≡◌, ◌<◌, ◌≤◌, length, slice_index};
 ghost use Rattle.std.specs.List.{list_all};
 ghost use Rattle.hex.specs.Hex.{is_hex_digit};
-ghost use Rattle.text_core.specs.Padding.{zero_padded};
+ghost use Rattle.text_core.specs.Prelude.{zero_padded};
 ghost use Rattle.fuse_plan.specs.Numbers as numbers;
 ghost use Rattle.fuse_plan.specs.Numbers.{digit_value, digits_value, is_number, number_of_text};
 

@@ -1,12 +1,12 @@
 // The plan of some wishes.
 ghost use Rattle.std.specs.Prelude.{◌≡◌, IfOk};
-ghost use Rattle.fuse_image.specs.Pending.{IsPending};
+ghost use Rattle.fuse_image.specs.Prelude.{IsPending};
 ghost use Rattle.fuse_plan.specs.Plans as plans;
-ghost use Rattle.fuse_plan.specs.Plans.{plan_of};
+ghost use Rattle.fuse_plan.specs.Prelude.{plan_of};
 
 use crate::fault::PlanFault;
 use crate::faults::lowest_fault;
-use crate::fields::{known_map, lock_positions};
+use crate::fields::{fact_map, lock_positions};
 use crate::wants::{missing, wants_of};
 use crate::wish::Wish;
 use fuse_image::{Image, Pending};
@@ -19,10 +19,10 @@ pub fn plan(map: &FuseMap, image: &Image, wishes: &[Wish]) -> Result<Pending, Pl
     ensures same { result ≡ plan_of map.now image.now wishes.now }
     ensures work { IfOk result (IsPending map.now) }
 {
-    known_map(map);
+    fact_map(map);
     let wants = wants_of(map, wishes);
     let lacking = missing(image, &wants);
-    lacking.keys.known();
+    lacking.keys.fact_digests();
     match lowest_fault(map, image, wishes, &wants, &lacking) {
         Some(fault) => Err(fault),
         None => Ok(batches(map, &lacking)),

@@ -1,12 +1,9 @@
 // Where the ones and zeros of a value lie in a field.
-ghost use Rattle.std.specs.Prelude.{◌≡◌, ◌<◌, ℕ, ◌+◌, ◌-◌, ◌*◌, ◌==◌, ◌&&◌, not, nat_le};
-ghost use Rattle.std.specs.Prelude.{nat_lt, slice_index, if◌then◌else◌};
+ghost use Rattle.std.specs.Prelude.{◌≡◌, ◌<◌, ℕ, ◌+◌, ◌-◌, ◌*◌, ◌==◌, ◌&&◌, not, nat_le, nat_lt, slice_index, if◌then◌else◌};
 ghost use Rattle.std.specs.Int.{bit_at};
-ghost use Rattle.fusemap_core.specs.Map.{IsSmall, holds};
-ghost use Rattle.fuse_image.specs.Places.{places_where};
-ghost use Rattle.fuse_image.specs.Words.{position_of_bit};
-ghost use Rattle.fuse_plan.specs.Numbers.{number_has_one};
-ghost use Rattle.fuse_plan.specs.Wishes.{is_one_from};
+ghost use Rattle.fusemap_core.specs.Prelude.{IsSmall, holds};
+ghost use Rattle.fuse_image.specs.Prelude.{places_where, position_of_bit};
+ghost use Rattle.fuse_plan.specs.Prelude.{number_has_one, is_one_from};
 
 use crate::number::Number;
 use fuse_image::{Bits, positions_of};

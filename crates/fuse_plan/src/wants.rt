@@ -1,11 +1,10 @@
 // What wishes ask for.
 ghost use Rattle.std.specs.Prelude.{◌≡◌, ◌&&◌, ◌-◌, not, Some, None, if◌then◌else◌};
-ghost use Rattle.fusemap_core.specs.Map.{holds};
-ghost use Rattle.fuse_image.specs.Places.{places_where};
-ghost use Rattle.fuse_plan.specs.Numbers.{number_has_one};
+ghost use Rattle.fusemap_core.specs.Prelude.{holds};
+ghost use Rattle.fuse_image.specs.Prelude.{places_where};
+ghost use Rattle.fuse_plan.specs.Prelude.{number_has_one, asks_one, asks_zero, at_field, key_of_want, key_of_wish, wanted_key, wanted_keys, wanted_ones};
+ghost use Rattle.fuse_plan.specs.Prelude.{wanted_zeros};
 ghost use Rattle.fuse_plan.specs.Wishes as asked;
-ghost use Rattle.fuse_plan.specs.Wishes.{asks_one, asks_zero, at_field, key_of_want, key_of_wish, wanted_key};
-ghost use Rattle.fuse_plan.specs.Wishes.{wanted_keys, wanted_ones, wanted_zeros};
 
 use crate::fields::{bit_named, field_named, only, read_lock_named, write_lock_named};
 use crate::number::Number;

@@ -1,16 +1,13 @@
 -- Where the fields and the locks of a map lie.
-use Rattle.std.proofs.Common.{◌≡◌, ℕ, suc, ◌+◌, ◌<◌, ◌≤◌, nat_lt, Bool, true, false, cond, List, [], ◌∷◌, length, get_or, Option, Some, None, All, IfSome}
-use Rattle.std.proofs.Common.{IsSomeAnd, option_map, option_and_then, find, refl, sym, ap, ◌∙◌, arith}
-use Rattle.std.specs.Prelude.{position, slice_get}
-use Rattle.std.specs.List.{position_or_len}
-use Rattle.std.proofs.lemmas.Bool.{ltb-false}
-use Rattle.std.proofs.lemmas.List.Folds.{find_at}
-use Rattle.std.proofs.lemmas.Option.{slice_get_past, slice_get_within, get_or_from_slice_get}
+use Rattle.std.proofs.Common.{◌≡◌, ◌+◌, ◌<◌, ◌≤◌, ◌∷◌, get_or}
+use Rattle.text_core.proofs.Kit.{ℕ, suc, nat_lt, Bool, true, false, cond, List, [], length, Option, Some, None, All, IfSome, IsSomeAnd, option_map}
+use Rattle.text_core.proofs.Kit.{option_and_then, find, refl, sym, ap, ◌∙◌, arith, position, slice_get, position_or_len, ltb-false, find_at, slice_get_past}
+use Rattle.text_core.proofs.Kit.{slice_get_within, get_or_from_slice_get}
 use Rattle.fusemap_core.specs.declared.field.Field.{Field}
 use Rattle.fusemap_core.specs.declared.map.FieldId.{FieldId}
 use Rattle.fusemap_core.specs.declared.pos.Pos.{Pos}
-use Rattle.fusemap_core.specs.Map.{Map, is_field_named, field_named, bit_of, lock_at, write_lock, read_lock, field_of, id_at, IsInRange, IsInBlock, IsMap}
-use Rattle.fusemap_core.specs.Map.{IsPosition, IsSmall, IsSmallPosition, HasBit, HasItsLocks}
+use Rattle.fusemap_core.specs.Prelude.{Map, is_field_named, field_named, bit_of, lock_at, write_lock, read_lock, field_of, id_at, IsInRange, IsInBlock, IsMap}
+use Rattle.fusemap_core.specs.Prelude.{IsPosition, IsSmall, IsSmallPosition, HasBit, HasItsLocks}
 
 -- what holds of each element holds of the one that is found
 found_by : {X : Type 0} (P : X → Type 0) (passes : Bool) (x : X) (rest : Option X) → P x → IfSome rest P → IfSome (cond passes (Some x) rest) P

@@ -1,14 +1,12 @@
 -- A map in which no fault is found keeps the rules, and the other way round.
-use Rattle.std.proofs.Common.{◌≡◌, ◌≢◌, ◌<◌, ℕ, Bool, true, false, not, Option, Some, None, Ok, Err, All, AllPairs, Decides, refl, ap, arith}
-use Rattle.std.specs.Prelude.{if◌then◌else◌}
-use Rattle.std.specs.List.{list_all}
-use Rattle.std.proofs.lemmas.Bool.{false≢true}
+use Rattle.std.proofs.Common.{◌≡◌, ◌≢◌, ◌<◌, if◌then◌else◌}
+use Rattle.text_core.proofs.Kit.{ℕ, Bool, true, false, not, Option, Some, None, Ok, Err, All, AllPairs, Decides, refl, ap, arith, list_all, false≢true}
 use Rattle.fusemap_core.specs.declared.fault.MapFault.{MapFault}
 use Rattle.fusemap_core.specs.declared.fault.MapFault.TheVariants.{NotToml, BadMember, NameTwice, OutOfBlock, FieldsOverlap, BadLockField, BadLockIndex}
 use Rattle.fusemap_core.specs.declared.fault.MapFault.TheVariants.{BadKeyField, OutOfMemory}
-use Rattle.fusemap_core.specs.Map.{Map, IsMap, IsInRange, IsInBlock, FieldsDisjoint, HasItsLocks, IsKeyField}
-use Rattle.fusemap_core.specs.MapFaults.{all_pairs, have_other_names, is_in_block, are_apart, has_lock_fields, has_its_locks, is_plain_or_key, map_fault_number}
-use Rattle.fusemap_core.specs.MapFaults.{lowest_fault, map_unless_faulty, map_or_fault, KeepsMapRule, IsLowestMapFault}
+use Rattle.fusemap_core.specs.Prelude.{Map, IsMap, IsInRange, IsInBlock, FieldsDisjoint, HasItsLocks, IsKeyField, all_pairs, have_other_names, is_in_block}
+use Rattle.fusemap_core.specs.Prelude.{are_apart, has_lock_fields, has_its_locks, is_plain_or_key, map_fault_number, lowest_fault, map_unless_faulty}
+use Rattle.fusemap_core.specs.Prelude.{map_or_fault, KeepsMapRule, IsLowestMapFault}
 use Rattle.fusemap_core.proofs.Pairs.{Decides-all_pairs, Decides-list_all}
 use Rattle.fusemap_core.proofs.Rules.{Decides-have_other_names, Decides-is_in_block, Decides-are_apart, Decides-has_lock_fields, Decides-has_its_locks}
 use Rattle.fusemap_core.proofs.Rules.{Decides-is_plain_or_key}

@@ -2,7 +2,7 @@
 use Rattle.std.proofs.Common.{◌≡◌, [], Err, None, refl, ap}
 use Rattle.toml.specs.Parse.{parse_document, lines, skip_bom}
 use Rattle.toml_parser.specs.Lexical.{skip_from}
-use Rattle.fusemap_core.specs.MapText.{map_in, map_of_document, map_or_none, map_read}
+use Rattle.fusemap_core.specs.Prelude.{map_in, map_of_document, map_or_none, map_read}
 use Rattle.fusemap_core.specs.declared.fault.MapFault.TheVariants.{BadMember}
 
 pub nothing_is_refused : map_read [] ≡ Err BadMember

@@ -1,12 +1,8 @@
 -- Tests of a list's elements and of its pairs, and what they decide.
-use Rattle.std.proofs.Common.{◌≡◌, suc, Bool, true, false, not, ◌||◌, List, [], ◌∷◌, Option, Some, None, All, AllPairs, IfSome, IsSomeAnd, Decides, refl, arith}
-use Rattle.std.specs.Prelude.{is_none}
-use Rattle.std.specs.List.{list_all}
-use Rattle.std.specs.Option.{option_map_or}
-use Rattle.std.proofs.lemmas.Bool.{false≢true, not-true, not_from_false}
-use Rattle.std.proofs.lemmas.Bool.Decides.{Decides-and, Decides-like, Decides-by_and}
-use Rattle.std.proofs.lemmas.List.Kept.{AllPairs-cons}
-use Rattle.fusemap_core.specs.MapFaults.{all_pairs}
+use Rattle.std.proofs.Common.{◌≡◌, ◌||◌, ◌∷◌}
+use Rattle.text_core.proofs.Kit.{suc, Bool, true, false, not, List, [], Option, Some, None, All, AllPairs, IfSome, IsSomeAnd, Decides, refl, arith, is_none}
+use Rattle.text_core.proofs.Kit.{list_all, option_map_or, false≢true, not-true, not_from_false, Decides-and, Decides-like, Decides-by_and, AllPairs-cons}
+use Rattle.fusemap_core.specs.Prelude.{all_pairs}
 
 -- a test of each element
 pub Decides-list_all : {X : Type 0} (test : X → Bool) (P : X → Type 0) → ((x : X) → Decides (test x) (P x)) → (xs : List X)

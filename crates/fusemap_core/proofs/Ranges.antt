@@ -1,15 +1,12 @@
 -- The ranges of the numbers that a document gives.
-use Rattle.std.proofs.Common.{◌≡◌, ℕ, suc, zero, ℤ, pos, negsuc, ◌≤◌, ◌&&◌, List, [], ◌∷◌, length, Option, Some, None, All, option_map, option_and_then, refl}
-use Rattle.std.proofs.Common.{ap, ◌∙◌, arith}
-use Rattle.std.specs.Prelude.{nat_le, if◌then◌else◌, codes}
-use Rattle.std.proofs.lemmas.Bool.{and_parts, leb-true}
-use Rattle.std.proofs.lemmas.Option.{cond_some, option_and_then_some}
+use Rattle.std.proofs.Common.{◌≡◌, ◌≤◌, ◌&&◌, ◌∷◌, if◌then◌else◌}
+use Rattle.text_core.proofs.Kit.{ℕ, suc, zero, ℤ, pos, negsuc, List, [], length, Option, Some, None, All, option_map, option_and_then, refl, ap, ◌∙◌, arith}
+use Rattle.text_core.proofs.Kit.{nat_le, codes, and_parts, leb-true, cond_some, option_and_then_some}
 use Rattle.toml.specs.Data.{Data, get, as_integer}
-use Rattle.toml_members.specs.Documents.{integer_within, whole_within, whole_member, optional_whole, flag_member, name_member, items_member}
-use Rattle.text_core.specs.Options.{all_of, list_of_length}
+use Rattle.toml_members.specs.Prelude.{integer_within, whole_within, whole_member, optional_whole, flag_member, name_member, items_member}
+use Rattle.text_core.specs.Prelude.{all_of, list_of_length}
 use Rattle.fusemap_core.specs.declared.field.Field.{Field}
-use Rattle.fusemap_core.specs.Map.{Map, IsInRange}
-use Rattle.fusemap_core.specs.MapText.{largest_integer, optional_name, array_member, words_in, field_in, map_of_document}
+use Rattle.fusemap_core.specs.Prelude.{Map, IsInRange, largest_integer, optional_name, array_member, words_in, field_in, map_of_document}
 
 -- a number in a range
 in_bounds : (least greatest n found : ℕ) → (if nat_le least n && nat_le n greatest then Some n else None) ≡ Some found → (least ≤ found) × (found ≤ greatest)

@@ -1,13 +1,11 @@
 -- The map that a text is, by its definition and by its relation.
 use Rattle.std.proofs.Common.{◌≡◌, ◌≢◌, ◌∙◌, ℕ, List, Some, Result, Ok, IfOk, IfErr, sym}
 use Rattle.toml.specs.Data.{Data}
-use Rattle.text_core.specs.Answer.{GivesUnless}
+use Rattle.text_core.specs.Prelude.{GivesUnless}
 use Rattle.toml_members.proofs.Reading as reading
 use Rattle.fusemap_core.specs.declared.fault.MapFault.{MapFault}
 use Rattle.fusemap_core.specs.declared.fault.MapFault.TheVariants.{NotToml, BadMember, OutOfMemory}
-use Rattle.fusemap_core.specs.Map.{Map, IsMap}
-use Rattle.fusemap_core.specs.MapFaults.{map_or_fault, IsLowestMapFault}
-use Rattle.fusemap_core.specs.MapText.{HasMapMembers, IsMapText, map_of_document, map_read}
+use Rattle.fusemap_core.specs.Prelude.{Map, IsMap, map_or_fault, IsLowestMapFault, HasMapMembers, IsMapText, map_of_document, map_read}
 use Rattle.fusemap_core.proofs.Judged.{IsMap-from_judged, same-from_judged, map_or_fault-from_IsMap, IsLowestMapFault-from_judged}
 use Rattle.fusemap_core.proofs.Ranges.{IsInRange-from_map_of}
 

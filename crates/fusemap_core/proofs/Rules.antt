@@ -1,16 +1,13 @@
 -- The tests of a map's rules, and the rules that they decide.
-use Rattle.std.proofs.Common.{◌≡◌, ◌≢◌, ℕ, ◌+◌, ◌*◌, ◌<◌, ◌≤◌, min, max, true, false, not, ◌&&◌, ◌==◌, List, length, None, Decides, refl, sym, arith}
-use Rattle.std.specs.Prelude.{nat_le, nat_lt, is_none, is_some, bytes_eq}
-use Rattle.std.specs.Option.{option_map_or}
-use Rattle.std.proofs.lemmas.Bool.{leb-true, le-leb, eqb-true, eq-eqb, false_from_ne_true, true_from_ne_false, or_parts, not-false, leb-false}
-use Rattle.std.proofs.lemmas.Bool.Decides.{Decides-and, Decides-eqb, Decides-like, Decides-ltb, Decides-not}
-use Rattle.std.proofs.lemmas.Slice.Eq.{bytes_eq-Decides}
+use Rattle.std.proofs.Common.{◌≡◌, ◌≢◌, ◌+◌, ◌*◌, ◌<◌, ◌≤◌, ◌&&◌, ◌==◌}
+use Rattle.text_core.proofs.Kit.{ℕ, min, max, true, false, not, List, length, None, Decides, refl, sym, arith, nat_le, nat_lt, is_none, is_some, bytes_eq}
+use Rattle.text_core.proofs.Kit.{option_map_or, leb-true, le-leb, eqb-true, eq-eqb, false_from_ne_true, true_from_ne_false, or_parts, not-false, leb-false}
+use Rattle.text_core.proofs.Kit.{Decides-and, Decides-eqb, Decides-like, Decides-ltb, Decides-not, bytes_eq-Decides}
 use Rattle.fusemap_core.specs.declared.field.Field.{Field}
 use Rattle.fusemap_core.specs.declared.pos.Pos.{Pos}
-use Rattle.fusemap_core.specs.Map.{Map, word_count, holds, field_named, IsInBlock, FieldsDisjoint, NamesLockField, NamesCodingField, HasLockFields, HasBit}
-use Rattle.fusemap_core.specs.Map.{HasItsLocks, IsKeyField}
-use Rattle.fusemap_core.specs.MapFaults.{have_other_names, is_in_block, are_apart, names_lock_field, names_plain_field, names_coding_field, has_lock_fields}
-use Rattle.fusemap_core.specs.MapFaults.{has_bit, has_its_locks, is_key_field, is_plain_or_key}
+use Rattle.fusemap_core.specs.Prelude.{Map, word_count, holds, field_named, IsInBlock, FieldsDisjoint, NamesLockField, NamesCodingField, HasLockFields, HasBit}
+use Rattle.fusemap_core.specs.Prelude.{HasItsLocks, IsKeyField, have_other_names, is_in_block, are_apart, names_lock_field, names_plain_field}
+use Rattle.fusemap_core.specs.Prelude.{names_coding_field, has_lock_fields, has_bit, has_its_locks, is_key_field, is_plain_or_key}
 use Rattle.fusemap_core.proofs.Pairs.{Decides-some_and, Decides-if_some, Decides-is_none, Decides-is_false, Decides-is_true, Decides-under}
 
 Decides-leb : (a b : ℕ) → Decides (nat_le a b) (a ≤ b)

@@ -2,3 +2,4 @@
 pub mod Map
 pub mod MapFaults
 pub mod MapText
+pub mod Prelude

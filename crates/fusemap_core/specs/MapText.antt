@@ -1,10 +1,8 @@
 -- The fuse map that a text is.
-use Rattle.std.specs.Prelude.{◌≡◌, ℕ, ◌≤◌, nat_lt, List, length, codes, Option, Some, None, option_and_then, Result, Ok, Err, if◌then◌else◌}
-use Rattle.std.specs.Option.{ok_or}
+use Rattle.std.specs.Prelude.{◌≡◌, ℕ, ◌≤◌, nat_lt, List, length, codes, Option, Some, None, option_and_then, Result, Ok, Err, if◌then◌else◌, ok_or}
 use Rattle.toml.specs.Data.{Data, get}
-use Rattle.text_core.specs.Answer.{result_and_then}
-use Rattle.toml_members.specs.Documents.{document_of, whole_member, optional_whole, flag_member, name_in, name_member, items_member, if_there}
-use Rattle.text_core.specs.Options.{◌>>=◌, all_of, list_of_length}
+use Rattle.text_core.specs.Prelude.{result_and_then, ◌>>=◌, all_of, list_of_length}
+use Rattle.toml_members.specs.Prelude.{document_of, whole_member, optional_whole, flag_member, name_in, name_member, items_member, if_there}
 use Rattle.fusemap_core.specs.declared.fault.MapFault.{MapFault}
 use Rattle.fusemap_core.specs.declared.fault.MapFault.TheVariants.{NotToml, BadMember}
 use Rattle.fusemap_core.specs.declared.field.Field.{Field}

@@ -1,6 +1,6 @@
 // The faults of a map's text.
 ghost use Rattle.std.specs.Prelude.{◌≡◌};
-ghost use Rattle.fusemap_core.specs.MapFaults.{map_fault_number, map_fault_of_document};
+ghost use Rattle.fusemap_core.specs.Prelude.{map_fault_number, map_fault_of_document};
 ghost use Rattle.fusemap_core.specs.declared.fault.MapFault.TheVariants.{OutOfMemory};
 
 use std::alloc::{AllocError, AllocFailed};

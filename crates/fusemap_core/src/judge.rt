@@ -2,11 +2,10 @@
 ghost use Rattle.std.specs.Prelude.{◌≡◌, ◌*◌, ◌<◌, All, IfOk, IfSome, true};
 ghost use Rattle.std.specs.List.{list_all};
 ghost use Rattle.std.specs.Option.{option_map_or};
-ghost use Rattle.text_core.specs.Answer.{GivesUnless};
+ghost use Rattle.text_core.specs.Prelude.{GivesUnless};
 ghost use Rattle.fusemap_core.specs.Map as map;
-ghost use Rattle.fusemap_core.specs.Map.{IsInRange, IsSmall};
+ghost use Rattle.fusemap_core.specs.Prelude.{IsInRange, IsSmall, all_pairs, map_or_fault};
 ghost use Rattle.fusemap_core.specs.MapFaults as faults;
-ghost use Rattle.fusemap_core.specs.MapFaults.{all_pairs, map_or_fault};
 
 use crate::draft::{FieldDraft, MapDraft};
 use crate::fault::MapFault;

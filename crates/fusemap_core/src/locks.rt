@@ -1,9 +1,8 @@
 // The locks of fields, and the positions that they govern.
-ghost use Rattle.std.specs.Prelude.{◌≡◌, ◌<◌, ◌&&◌, ◌||◌, All, IfSome, length, position};
+ghost use Rattle.std.specs.Prelude.{◌≡◌, ◌<◌, ◌&&◌, ◌||◌, All, IfSome, length, position, option_and_then};
 ghost use Rattle.std.specs.List.{list_any};
-ghost use Rattle.std.specs.Option.{option_and_then};
 ghost use Rattle.fusemap_core.specs.Map as map;
-ghost use Rattle.fusemap_core.specs.Map.{IsSmall, holds, is_lock, is_field_named, lock_at};
+ghost use Rattle.fusemap_core.specs.Prelude.{IsSmall, holds, is_lock, is_field_named, lock_at};
 
 use crate::field::Field;
 use crate::pos::Pos;

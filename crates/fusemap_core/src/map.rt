@@ -1,9 +1,7 @@
 // Fuse maps, and what they tell of their fields.
-ghost use Rattle.std.specs.Prelude.{◌≡◌, ◌≤◌, All, IfOk, IfSome, find, length};
-ghost use Rattle.std.specs.Option.{option_and_then};
+ghost use Rattle.std.specs.Prelude.{◌≡◌, ◌≤◌, All, IfOk, IfSome, find, length, option_and_then};
 ghost use Rattle.fusemap_core.specs.Map as map;
-ghost use Rattle.fusemap_core.specs.Map.{IsFieldOf, IsInBlock, IsMap, IsPosition, IsSmall};
-ghost use Rattle.fusemap_core.specs.Map.{IsSmallPosition, field_named, field_of, holds, id_of};
+ghost use Rattle.fusemap_core.specs.Map.{IsFieldOf, IsInBlock, IsMap, IsPosition, IsSmall, IsSmallPosition, field_named, field_of, holds, id_of};
 ghost use Rattle.fusemap_core.specs.Map.{is_field_named};
 
 use crate::field::Field;

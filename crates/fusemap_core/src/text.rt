@@ -1,13 +1,9 @@
 // The text of a fuse map.
 ghost use Rattle.std.specs.Prelude.{◌≡◌, ◌≢◌, ◌<◌, IfErr, IfOk, length, map, option_map};
 ghost use Rattle.toml.specs.View.{view};
-ghost use Rattle.text_core.specs.Answer.{GivesUnless};
-ghost use Rattle.text_core.specs.Options.{list_of_length};
-ghost use Rattle.fusemap_core.specs.Map.{Map};
-ghost use Rattle.fusemap_core.specs.MapFaults.{IsLowestMapFault};
+ghost use Rattle.text_core.specs.Prelude.{GivesUnless, list_of_length};
+ghost use Rattle.fusemap_core.specs.Prelude.{Map, IsLowestMapFault, HasMapMembers, IsMapText, field_in, map_of_document, map_read, words_in};
 ghost use Rattle.fusemap_core.specs.MapText as map_text;
-ghost use Rattle.fusemap_core.specs.MapText.{HasMapMembers, IsMapText, field_in, map_of_document, map_read};
-ghost use Rattle.fusemap_core.specs.MapText.{words_in};
 
 use crate::draft::{FieldDraft, MapDraft};
 use crate::fault::MapFault;

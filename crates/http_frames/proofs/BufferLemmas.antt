@@ -1,14 +1,11 @@
 -- Bytes that move within the buffer, and into it.
-use Rattle.std.proofs.Common.{◌≡◌, ℕ, ◌+◌, ◌-◌, ◌<◌, ◌≤◌, List, [], ◌++◌, length, take, drop, sym, ap, ◌∙◌, subst, arith, append_assoc, add-zero}
-use Rattle.std.specs.Prelude.{Option, Some, None}
+use Rattle.std.proofs.Common.{◌≡◌, ℕ, ◌+◌, ◌-◌, ◌<◌, ◌≤◌, List, [], ◌++◌, length, take, drop, sym, ap, ◌∙◌, subst, arith, append_assoc, add-zero, Option, Some}
+use Rattle.std.proofs.Common.{None, length-drop, inl, inr}
 use Rattle.std.specs.List.{copy_within}
-use Rattle.std.proofs.lemmas.List.{length-drop, drop-take}
+use Rattle.std.proofs.lemmas.List.{drop-take}
 use Rattle.std.proofs.lemmas.List.Edits.{take-paste}
 use Rattle.std.proofs.Math.Seq.{take-add}
-use Rattle.std.proofs.Common.{inl, inr}
-use Rattle.http_frames.specs.Frames.{IsUndecided, IsCutOff}
-use Rattle.http_frames.specs.Transfers.{Takes, ReadsBytes}
-use Rattle.http_frames.specs.Buffers.{KeepsBytes, count_of}
+use Rattle.http_frames.specs.Prelude.{IsUndecided, IsCutOff, Takes, ReadsBytes, KeepsBytes, count_of}
 use Rattle.http_frames.specs.declared.transfer.Transfer.{Transfer}
 use Rattle.http_frames.specs.declared.transfer.Transfer.TheVariants.{Moved, Interrupted, Failed}
 

@@ -1,20 +1,16 @@
 -- Pieces between bytes, and lists of fields one more at a time.
 use Rattle.std.proofs.Common.{◌≡◌, ◌≢◌, ℕ, zero, suc, ◌+◌, ◌*◌, ◌<◌, ◌≤◌, min, Bool, true, false, cond, eqb, ◌&&◌, ◌||◌, List, [], ◌∷◌, ◌++◌, length, get_or}
-use Rattle.std.proofs.Common.{take, drop, sym, refl, ap, ◌∙◌, arith, add-one}
-use Rattle.std.specs.Prelude.{codes, flat_map, Some, None}
+use Rattle.std.proofs.Common.{take, drop, sym, refl, ap, ◌∙◌, arith, add-one, codes, flat_map, Some, None, eq-eqb, ne_eqb, Bor, option_to_list, option_map}
+use Rattle.std.proofs.Common.{append-nil}
 use Rattle.std.specs.List.{list_all, list_any}
-use Rattle.std.proofs.lemmas.Bool.{eq-eqb, ne_eqb}
 use Rattle.std.specs.Bool.{then_some}
-use Rattle.std.specs.Borrow.{Bor}
-use Rattle.std.specs.Option.{option_to_list, option_map}
-use Rattle.std.proofs.lemmas.List.{append-nil, take_more, map_push}
+use Rattle.std.proofs.lemmas.List.{take_more, map_push}
 use Rattle.std.proofs.lemmas.List.Concat.{flat_map-append}
 use Rattle.httparse.specs.Grammar.{trim_ows}
 use Rattle.httparse.specs.declared.spans.HeaderSpan.{HeaderSpan}
 use Rattle.httparse.specs.Spans.{header_bytes}
-use Rattle.http_frames.specs.Fields.{headers_at, Header, Lacks, split_at_byte, cons_first, before_byte, after_byte, same_ignoring_case, has_close}
-use Rattle.http_frames.specs.Fields.{is_header_named}
-use Rattle.http_frames.specs.Fields.{values_named, parameters_named, piece_values, bearer_token, skip_spaces, some_token}
+use Rattle.http_frames.specs.Prelude.{headers_at, Header, Lacks, split_at_byte, cons_first, before_byte, after_byte, same_ignoring_case, has_close}
+use Rattle.http_frames.specs.Prelude.{is_header_named, values_named, parameters_named, piece_values, bearer_token, skip_spaces, some_token}
 
 eqb-same : (n : ℕ) → eqb n n ≡ true
 eqb-same n = eq-eqb n n refl

@@ -1,20 +1,15 @@
 -- Fronts of a stream, and the bytes that follow them.
 use Rattle.std.proofs.Common.{◌≡◌, ℕ, ◌+◌, ◌-◌, ◌≤◌, List, [], ◌∷◌, ◌++◌, map, length, take, drop, sym, refl, ap, ◌∙◌, subst, arith, append_assoc}
-use Rattle.std.proofs.Common.{length-append, length-take}
-use Rattle.std.specs.Prelude.{Ok}
-use Rattle.std.proofs.Common.{inl, inr}
-use Rattle.std.proofs.lemmas.List.{take-append-drop, length-map, take-append-le, drop-append-le, length-drop}
+use Rattle.std.proofs.Common.{length-append, length-take, Ok, inl, inr, take-append-drop, length-drop, All, slice_range, Bool, bytes_eq, codes, ◌==◌, ◌||◌}
+use Rattle.std.proofs.lemmas.List.{length-map, take-append-le, drop-append-le}
 use Rattle.std.proofs.lemmas.List.Elements.{All-head, All-tail}
-use Rattle.std.specs.Prelude.{All, slice_range, Bool, bytes_eq, codes, ◌==◌, ◌||◌}
 use Rattle.std.proofs.lemmas.List.Folds.{drop_split}
-use Rattle.http_frames.specs.Fields.{body_size, headers_at, asks_close}
+use Rattle.http_frames.specs.Prelude.{body_size, headers_at, asks_close, LacksHead, HasBadHead, head_limit, field_limit, IsHeadAt, IsFrameAt}
 use Rattle.std.proofs.Math.Seq.{drop-append_seam}
 use Rattle.httparse.specs.declared.spans.HeaderSpan.{HeaderSpan}
 use Rattle.httparse.specs.declared.spans.RequestSpans.{RequestSpans}
 use Rattle.httparse.specs.Grammar.{RequestHead, print_request, ReadsRequest, HasNoRequest}
 use Rattle.httparse.specs.Spans.{IsRequestAt, IsRequestWithin, RequestOverflows, header_bytes, name_and_value, IsHeaderWithin, span_bytes}
-use Rattle.http_frames.specs.Frames.{LacksHead, HasBadHead, head_limit, field_limit}
-use Rattle.http_frames.specs.Looks.{IsHeadAt, IsFrameAt}
 
 -- what follows a front
 pub after_front : (xs p after : List ℕ) → xs ≡ p ++ after → after ≡ drop (length p) xs

@@ -1,11 +1,9 @@
 //! The bytes of a stream that were read and not yet served.
 
-ghost use Rattle.std.specs.Prelude.{◌≡◌, ◌+◌, ◌-◌, ◌<◌, ◌≤◌, ◌^◌, [], ◌↔◌, ◌==◌};
-ghost use Rattle.std.specs.Prelude.{true, length, take, drop, IfOk, Option, vec_len};
+ghost use Rattle.std.specs.Prelude.{◌≡◌, ◌+◌, ◌-◌, ◌<◌, ◌≤◌, ◌^◌, [], ◌↔◌, ◌==◌, true, length, take, drop, IfOk, Option, vec_len};
 ghost use Rattle.http_frames.specs.Transfers.{ReadsBytes, failures_of};
 ghost use Rattle.http_frames.specs.Looks.{IsLook};
-ghost use Rattle.http_frames.specs.Buffers.{unread, count_of, KeepsBytes, IsFramed, IsEnd, faults_of};
-ghost use Rattle.http_frames.specs.Buffers.{end_of_framed};
+ghost use Rattle.http_frames.specs.Buffers.{unread, count_of, KeepsBytes, IsFramed, IsEnd, faults_of, end_of_framed};
 
 use crate::frame::Framed;
 use crate::look;

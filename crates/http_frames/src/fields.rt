@@ -1,16 +1,12 @@
 //! What the fields of a request's head say of its body, its connection and its caller, and how its target
 //! is split (RFC 9110, RFC 9112, RFC 6750).
 
-ghost use Rattle.std.specs.Prelude.{◌≡◌, ℕ, List, length, reverse, Option, option_map};
-ghost use Rattle.std.specs.Prelude.{option_to_list, ◌++◌, All, codes};
+ghost use Rattle.std.specs.Prelude.{◌≡◌, ℕ, List, length, reverse, Option, option_map, option_to_list, ◌++◌, All, codes};
 ghost use Rattle.httparse.specs.Grammar.{skip_ows, trim_ows};
 ghost use Rattle.httparse.specs.Spans.{IsHeaderWithin};
-ghost use Rattle.http_frames.specs.Fields.{frame_refusal_number, same_ignoring_case, values_named};
-ghost use Rattle.http_frames.specs.Fields.{has_field, size_of_value, body_size, has_close};
-ghost use Rattle.http_frames.specs.Fields.{asks_close, skip_spaces, bearer_token, token_in_headers};
-ghost use Rattle.http_frames.specs.Fields.{IsOccurrence, headers_at, path_of, query_of};
-ghost use Rattle.http_frames.specs.Fields.{parameters_named, before_byte, after_byte};
-ghost use Rattle.http_frames.specs.Fields.{piece_values, IsCut};
+ghost use Rattle.http_frames.specs.Prelude.{frame_refusal_number, same_ignoring_case, values_named, has_field, size_of_value, body_size, has_close, asks_close};
+ghost use Rattle.http_frames.specs.Prelude.{skip_spaces, bearer_token, token_in_headers, IsOccurrence, headers_at, path_of, query_of, parameters_named};
+ghost use Rattle.http_frames.specs.Prelude.{before_byte, after_byte, piece_values, IsCut};
 
 use httparse::is_space_or_tab;
 use httparse::spans::HeaderSpan;

@@ -2,9 +2,7 @@
 
 ghost use Rattle.std.specs.Prelude.{◌≡◌, All, length, option_map};
 ghost use Rattle.httparse.specs.Spans.{IsHeaderWithin};
-ghost use Rattle.http_frames.specs.Fields.{headers_at, token_in_headers};
-ghost use Rattle.http_frames.specs.Frames.{Request, headers_of};
-ghost use Rattle.http_frames.specs.Looks.{IsFrameAt};
+ghost use Rattle.http_frames.specs.Prelude.{headers_at, token_in_headers, Request, headers_of, IsFrameAt};
 
 use crate::buffer::Buffer;
 use crate::fields::{FrameRefusal, read_token};

@@ -2,8 +2,7 @@
 
 ghost use Rattle.std.specs.Prelude.{◌≡◌, ◌<◌, ◌≤◌, ◌==◌, ◌||◌, length, All, bytes_eq, codes};
 ghost use Rattle.httparse.specs.Spans.{IsHeaderWithin, IsWithin, span_bytes};
-ghost use Rattle.http_frames.specs.Fields.{headers_at, asks_close};
-ghost use Rattle.http_frames.specs.Looks.{IsHeadFound, IsLook};
+ghost use Rattle.http_frames.specs.Prelude.{headers_at, asks_close, IsHeadFound, IsLook};
 
 use crate::buffer::ROOM;
 use crate::fields::{FrameRefusal, is_close_asked, read_body_size};

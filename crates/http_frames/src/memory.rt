@@ -1,7 +1,6 @@
 //! Readers and writers over memory, readers and writers that are interrupted or fail, and those of std with their calls counted.
 
-ghost use Rattle.std.specs.Prelude.{◌≡◌, ◌+◌, ◌^◌, ◌<◌, ◌≤◌, ◌==◌, not, if◌then◌else◌};
-ghost use Rattle.std.specs.Prelude.{Some, None};
+ghost use Rattle.std.specs.Prelude.{◌≡◌, ◌+◌, ◌^◌, ◌<◌, ◌≤◌, ◌==◌, not, if◌then◌else◌, Some, None};
 
 use crate::transfer::{Drain, Source, Transfer};
 use std::io::{ErrorKind, Read, Write};

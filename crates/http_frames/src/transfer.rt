@@ -1,8 +1,7 @@
 //! What bytes come from and go to, one call at a time.
 
 ghost use Rattle.std.specs.Prelude.{◌≡◌, ℕ, ◌+◌, ◌<◌, ◌^◌, List, length, Option};
-ghost use Rattle.http_frames.specs.Transfers.{MovesAtMost, failures_of, write_failures, ReadsBytes};
-ghost use Rattle.http_frames.specs.Transfers.{WritesBytes};
+ghost use Rattle.http_frames.specs.Transfers.{MovesAtMost, failures_of, write_failures, ReadsBytes, WritesBytes};
 
 /// What one call of a reader or writer did.
 #[derive(Clone, Copy)]

@@ -1,2 +1,1 @@
 -- The lemmas of this crate.
-pub mod RunLemmas

@@ -1,7 +1,7 @@
 //! Writes what stands in front of a reply's body.
 
 ghost use Rattle.std.specs.Prelude.{◌≡◌, ◌+◌, ◌<◌, ◌≤◌, ◌++◌, length, take, codes, decimal};
-ghost use Rattle.http_replies.specs.Replies.{answer_of, code_of, phrase_of, line_if, head_text};
+ghost use Rattle.http_replies.specs.Prelude.{answer_of, code_of, phrase_of, line_if, head_text};
 
 use crate::{Flags, Reply, Status};
 use itoa::Buffer;

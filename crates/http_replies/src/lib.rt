@@ -2,8 +2,7 @@
 #![tactic(auto)]
 
 ghost use Rattle.std.specs.Prelude.{◌≡◌, ◌<◌, ◌≤◌, length};
-ghost use Rattle.http_replies.specs.Replies.{code_of, phrase_of, media_type_of, asks_token};
-ghost use Rattle.http_replies.specs.Replies.{is_unavailable, kind_of_body, bytes_of_body, answer_of};
+ghost use Rattle.http_replies.specs.Prelude.{code_of, phrase_of, media_type_of, asks_token, is_unavailable, kind_of_body, bytes_of_body, answer_of};
 
 use http::StatusCode;
 

@@ -1,16 +1,15 @@
 -- A stream is cut in one way.
 use Rattle.std.proofs.Common.{◌≡◌, ℕ, List, [], ◌∷◌, ◌++◌, length, map, Bool, true, false, ◌||◌, sym, refl, ap, ◌∙◌, subst, arith, length-append, ◌⊎◌, inl, inr}
-use Rattle.std.specs.Prelude.{Result, Ok, Err}
+use Rattle.std.proofs.Common.{Result, Ok, Err}
 use Rattle.std.specs.List.{list_any}
 use Rattle.httparse.specs.Grammar.{RequestHead, ReadsRequest}
 use Rattle.httparse.proofs.GrammarLemmas.{request_unique, print_request-append}
-use Rattle.http_frames.specs.Fields.{body_size}
+use Rattle.http_frames.specs.Prelude.{body_size, Request, HasHead, HasRequest, IsRefused, IsCutOff, ends_after, is_head_method, headers_of}
 use Rattle.http_frames.specs.declared.fields.FrameRefusal.{FrameRefusal}
-use Rattle.http_frames.specs.Frames.{Request, HasHead, HasRequest, IsRefused, IsCutOff, ends_after, is_head_method, headers_of}
 use Rattle.http_serving.specs.declared.Served.{Served}
-use Rattle.http_serving.specs.declared.Served.TheVariants.{Ended, Closed, Cut, ReadFault, WriteFault, TurnLimit, NoMemory}
-use Rattle.http_serving.specs.Streams.{HttpExchange, answered, refused, BeginsWithExchange, is_last, Cuts, IsOpen, Ends}
-use Rattle.http_serving.specs.Determined.{cut_of, requests_of, is_by_bytes, IsCutWhole, IsEitherWay}
+use Rattle.http_serving.specs.declared.Served.TheVariants.{Ended, Closed, Cut, ReadFault, WriteFault, NoMemory, TurnLimit}
+use Rattle.http_serving.specs.Prelude.{HttpExchange, answered, refused, BeginsWithExchange, is_last, Cuts, IsOpen, Ends, cut_of, requests_of, is_by_bytes}
+use Rattle.http_serving.specs.Prelude.{IsCutWhole, IsEitherWay}
 use Rattle.http_serving.proofs.StreamLemmas.{one_request, or_split}
 
 -- no head stands in no bytes
@@ -44,23 +43,26 @@ one_refusal rest refusal other is_head was_head (inl has) (inr bad) = absurd (ba
 one_refusal rest refusal other is_head was_head (inr bad) (inl had) = absurd (bad.3.0 had.0 had.1 had.2)
 one_refusal rest refusal other is_head was_head (inr bad) (inr ill) = (bad.0 ∙ sym ill.0, bad.1 ∙ sym ill.1)
 
--- at most one piece stands at the front of a stream
-pub one_piece : (rest : List ℕ) (piece other : HttpExchange) (after later : List ℕ) → BeginsWithExchange rest piece after → BeginsWithExchange rest other later
-    → (cut_of piece ≡ cut_of other) × (after ≡ later)
-one_piece rest (answered request answer) (answered other said) after later has had =
+-- at most one exchange stands at the front of a stream
+pub one_exchange : (rest : List ℕ) (exchange other : HttpExchange) (after later : List ℕ)
+    → BeginsWithExchange rest exchange after → BeginsWithExchange rest other later
+    → (cut_of exchange ≡ cut_of other) × (after ≡ later)
+one_exchange rest (answered request answer) (answered other said) after later has had =
     let same = one_request rest request other after later has had in
     (ap Ok same.0, same.1)
-one_piece rest (answered request answer) (refused refusal is_head) after later has had = absurd (whole_or_refused rest request after refusal is_head has had.0)
-one_piece rest (refused refusal is_head) (answered request answer) after later has had = absurd (whole_or_refused rest request later refusal is_head had has.0)
-one_piece rest (refused refusal is_head) (refused other was_head) after later has had =
+one_exchange rest (answered request answer) (refused refusal is_head) after later has had =
+    absurd (whole_or_refused rest request after refusal is_head has had.0)
+one_exchange rest (refused refusal is_head) (answered request answer) after later has had =
+    absurd (whole_or_refused rest request later refusal is_head had has.0)
+one_exchange rest (refused refusal is_head) (refused other was_head) after later has had =
     let same = one_refusal rest refusal other is_head was_head has.0 had.0 in
     ((λ i. Err (same.0 i, same.1 i)), has.1 ∙ sym had.1)
 
--- no piece stands in no bytes
-no_piece : (piece : HttpExchange) (after : List ℕ) → BeginsWithExchange [] piece after → ⊥
-no_piece (answered request answer) after has = no_head request.head (request.body ++ after) has.0.0
-no_piece (refused refusal is_head) after (inl had, same) = no_head had.0 had.1 had.2.0
-no_piece (refused refusal is_head) after (inr bad, same) =
+-- no exchange stands in no bytes
+no_exchange : (exchange : HttpExchange) (after : List ℕ) → BeginsWithExchange [] exchange after → ⊥
+no_exchange (answered request answer) after has = no_head request.head (request.body ++ after) has.0.0
+no_exchange (refused refusal is_head) after (inl had, same) = no_head had.0 had.1 had.2.0
+no_exchange (refused refusal is_head) after (inr bad, same) =
     let some = bad.2 in
     omega arith
 
@@ -90,25 +92,25 @@ cut_off_refused rest refusal is_head (inr part) (inr bad) = absurd (bad.3.0 part
 
 -- a stream that ends by its bytes, without what was written
 abbrev Stops : Served → List HttpExchange → List ℕ → Type 0
-Stops Ended pieces rest = IsOpen pieces × (rest ≡ [])
-Stops Closed pieces rest = list_any is_last pieces ≡ true
-Stops Cut pieces rest = IsOpen pieces × IsCutOff rest
-Stops ReadFault pieces rest = ⊥
-Stops WriteFault pieces rest = ⊥
-Stops TurnLimit pieces rest = ⊥
-Stops NoMemory pieces rest = ⊥
+Stops Ended exchanges rest = IsOpen exchanges × (rest ≡ [])
+Stops Closed exchanges rest = list_any is_last exchanges ≡ true
+Stops Cut exchanges rest = IsOpen exchanges × IsCutOff rest
+Stops ReadFault exchanges rest = ⊥
+Stops WriteFault exchanges rest = ⊥
+Stops TurnLimit exchanges rest = ⊥
+Stops NoMemory exchanges rest = ⊥
 
 -- what the bytes have to do with it
-stops : (served : Served) (pieces : List HttpExchange) (rest left before written : List ℕ)
-    → is_by_bytes served ≡ true → Ends served pieces rest left before written
-    → Stops served pieces rest
-stops Ended pieces rest left before written by_bytes ends = (ends.0, ends.1)
-stops Closed pieces rest left before written by_bytes ends = ends.0
-stops Cut pieces rest left before written by_bytes ends = (ends.0, ends.1)
-stops ReadFault pieces rest left before written by_bytes ends = absurd cc
-stops WriteFault pieces rest left before written by_bytes ends = absurd cc
-stops TurnLimit pieces rest left before written by_bytes ends = absurd cc
-stops NoMemory pieces rest left before written by_bytes ends = absurd cc
+stops : (served : Served) (exchanges : List HttpExchange) (rest left before written : List ℕ)
+    → is_by_bytes served ≡ true → Ends served exchanges rest left before written
+    → Stops served exchanges rest
+stops Ended exchanges rest left before written by_bytes ends = (ends.0, ends.1)
+stops Closed exchanges rest left before written by_bytes ends = ends.0
+stops Cut exchanges rest left before written by_bytes ends = (ends.0, ends.1)
+stops ReadFault exchanges rest left before written by_bytes ends = absurd cc
+stops WriteFault exchanges rest left before written by_bytes ends = absurd cc
+stops TurnLimit exchanges rest left before written by_bytes ends = absurd cc
+stops NoMemory exchanges rest left before written by_bytes ends = absurd cc
 
 -- no bytes are not cut off
 not_cut_off : IsCutOff [] → ⊥
@@ -117,7 +119,7 @@ not_cut_off (inl part) =
     omega arith
 not_cut_off (inr part) = no_head part.0 part.1 part.3.0
 
--- a stream that ends where no piece was cut
+-- a stream that ends where no exchange was cut
 no_end : (served : Served) (rest : List ℕ) → Stops served [] rest → (served ≡ Ended × rest ≡ []) ⊎ (served ≡ Cut × IsCutOff rest)
 no_end Ended rest stop = inl (refl, stop.1)
 no_end Closed rest stop = absurd cc
@@ -135,35 +137,36 @@ one_end served other rest (inl stop) (inr stopped) = absurd (not_cut_off (subst 
 one_end served other rest (inr stop) (inl stopped) = absurd (not_cut_off (subst IsCutOff stopped.1 stop.1))
 one_end served other rest (inr stop) (inr stopped) = stop.0 ∙ sym stopped.0
 
--- behind the last piece is the rest
-last_rest : (after : List ℕ) (pieces : List HttpExchange) (rest : List ℕ) → pieces ≡ [] → Cuts after pieces rest → rest ≡ after
-last_rest after pieces rest none cut = subst (λ pieces. Cuts after pieces rest) none cut
+-- behind the last exchange is the rest
+last_rest : (after : List ℕ) (exchanges : List HttpExchange) (rest : List ℕ) → exchanges ≡ [] → Cuts after exchanges rest → rest ≡ after
+last_rest after exchanges rest none cut = subst (λ exchanges. Cuts after exchanges rest) none cut
 
 -- one stops where the other goes on
-goes_on : (served : Served) (stream : List ℕ) (piece : HttpExchange) (pieces : List HttpExchange) (after later : List ℕ)
+goes_on : (served : Served) (stream : List ℕ) (exchange : HttpExchange) (exchanges : List HttpExchange) (after later : List ℕ)
     → (served ≡ Ended × stream ≡ []) ⊎ (served ≡ Cut × IsCutOff stream)
-    → BeginsWithExchange stream piece after → (is_last piece ≡ true → pieces ≡ []) → Cuts after pieces later
-    → IsEitherWay stream × (stream ≡ later) × (requests_of (piece ∷ pieces) ≡ [])
-goes_on served stream piece pieces after later (inl stop) is_piece last cut =
-    absurd (no_piece piece after (subst (λ (s : List ℕ). BeginsWithExchange s piece after) stop.1 is_piece))
-goes_on served stream (answered request answer) pieces after later (inr stop) is_piece last cut = absurd (cut_off_whole stream request after stop.1 is_piece)
-goes_on served stream (refused refusal is_head) pieces after later (inr stop) is_piece last cut =
-    (cut_off_refused stream refusal is_head stop.1 is_piece.0, sym (last_rest after pieces later (last refl) cut ∙ is_piece.1), ap requests_of (last refl))
+    → BeginsWithExchange stream exchange after → (is_last exchange ≡ true → exchanges ≡ []) → Cuts after exchanges later
+    → IsEitherWay stream × (stream ≡ later) × (requests_of (exchange ∷ exchanges) ≡ [])
+goes_on served stream exchange exchanges after later (inl stop) begins last cut =
+    absurd (no_exchange exchange after (subst (λ (s : List ℕ). BeginsWithExchange s exchange after) stop.1 begins))
+goes_on served stream (answered request answer) exchanges after later (inr stop) begins last cut = absurd (cut_off_whole stream request after stop.1 begins)
+goes_on served stream (refused refusal is_head) exchanges after later (inr stop) begins last cut =
+    (cut_off_refused stream refusal is_head stop.1 begins.0, sym (last_rest after exchanges later (last refl) cut ∙ begins.1), ap requests_of (last refl))
 
 -- the stream is cut in one way, or its rest may be taken in either of two
 abbrev pub Agrees : Served → Served → List HttpExchange → List HttpExchange → List ℕ → List ℕ → Type 0
-Agrees served other pieces others rest later =
-    (requests_of pieces ≡ requests_of others) × (rest ≡ later) × (((served ≡ other) × (map cut_of pieces ≡ map cut_of others)) ⊎ IsEitherWay rest)
+Agrees served other exchanges others rest later =
+    (requests_of exchanges ≡ requests_of others) × (rest ≡ later) × (((served ≡ other) × (map cut_of exchanges ≡ map cut_of others)) ⊎ IsEitherWay rest)
 
--- one piece more, on both sides
-requests_more : (piece twin : HttpExchange) (pieces others : List HttpExchange) → cut_of piece ≡ cut_of twin → requests_of pieces ≡ requests_of others
-    → requests_of (piece ∷ pieces) ≡ requests_of (twin ∷ others)
-requests_more (answered request answer) (answered other said) pieces others same more =
+-- one exchange more, on both sides
+requests_more : (exchange twin : HttpExchange) (exchanges others : List HttpExchange)
+    → cut_of exchange ≡ cut_of twin → requests_of exchanges ≡ requests_of others
+    → requests_of (exchange ∷ exchanges) ≡ requests_of (twin ∷ others)
+requests_more (answered request answer) (answered other said) exchanges others same more =
     let here : request ≡ other = cc in
     (λ i. here i ∷ more i)
-requests_more (answered request answer) (refused refusal is_head) pieces others same more = absurd cc
-requests_more (refused refusal is_head) (answered request answer) pieces others same more = absurd cc
-requests_more (refused refusal is_head) (refused other was_head) pieces others same more = more
+requests_more (answered request answer) (refused refusal is_head) exchanges others same more = absurd cc
+requests_more (refused refusal is_head) (answered request answer) exchanges others same more = absurd cc
+requests_more (refused refusal is_head) (refused other was_head) exchanges others same more = more
 
 -- whether the stream ends after what was cut
 ends_cut : Result Request (FrameRefusal × Bool) → Bool
@@ -171,74 +174,78 @@ ends_cut (Ok request) = ends_after request.head
 ends_cut (Err refusal) = true
 
 -- what was cut says whether the stream ends after it
-cut_last : (piece : HttpExchange) → is_last piece ≡ ends_cut (cut_of piece)
+cut_last : (exchange : HttpExchange) → is_last exchange ≡ ends_cut (cut_of exchange)
 unfolding ends_cut
 cut_last (answered request answer) = refl
 cut_last (refused refusal is_head) = refl
 
--- so two pieces that are cut alike both end the stream, or neither does
-same_last : (piece other : HttpExchange) → cut_of piece ≡ cut_of other → is_last other ≡ is_last piece
-same_last piece other same = cut_last other ∙ ap ends_cut (sym same) ∙ sym (cut_last piece)
+-- so two exchanges that are cut alike both end the stream, or neither does
+same_last : (exchange other : HttpExchange) → cut_of exchange ≡ cut_of other → is_last other ≡ is_last exchange
+same_last exchange other same = cut_last other ∙ ap ends_cut (sym same) ∙ sym (cut_last exchange)
 
--- a stream that a piece ends is closed
-closes : (served : Served) (piece : HttpExchange) (pieces : List HttpExchange) (rest : List ℕ)
-    → is_last piece ≡ true → Stops served (piece ∷ pieces) rest → served ≡ Closed
-closes Ended piece pieces rest last stop =
-    let no = (or_split (is_last piece) (list_any is_last pieces) stop.0).0 in
+-- a stream that an exchange ends is closed
+closes : (served : Served) (exchange : HttpExchange) (exchanges : List HttpExchange) (rest : List ℕ)
+    → is_last exchange ≡ true → Stops served (exchange ∷ exchanges) rest → served ≡ Closed
+closes Ended exchange exchanges rest last stop =
+    let no = (or_split (is_last exchange) (list_any is_last exchanges) stop.0).0 in
     absurd cc
-closes Closed piece pieces rest last stop = refl
-closes Cut piece pieces rest last stop =
-    let no = (or_split (is_last piece) (list_any is_last pieces) stop.0).0 in
+closes Closed exchange exchanges rest last stop = refl
+closes Cut exchange exchanges rest last stop =
+    let no = (or_split (is_last exchange) (list_any is_last exchanges) stop.0).0 in
     absurd cc
-closes ReadFault piece pieces rest last stop = absurd stop
-closes WriteFault piece pieces rest last stop = absurd stop
-closes TurnLimit piece pieces rest last stop = absurd stop
-closes NoMemory piece pieces rest last stop = absurd stop
+closes ReadFault exchange exchanges rest last stop = absurd stop
+closes WriteFault exchange exchanges rest last stop = absurd stop
+closes TurnLimit exchange exchanges rest last stop = absurd stop
+closes NoMemory exchange exchanges rest last stop = absurd stop
 
--- a piece that does not end the stream leaves its end to the others
-stops_later : (served : Served) (piece : HttpExchange) (pieces : List HttpExchange) (rest : List ℕ) → is_last piece ≡ false → Stops served (piece ∷ pieces) rest
-    → Stops served pieces rest
-stops_later Ended piece pieces rest last stop = ((or_split (is_last piece) (list_any is_last pieces) stop.0).1, stop.1)
-stops_later Closed piece pieces rest last stop = sym (ap (λ t. t || list_any is_last pieces) last) ∙ stop
-stops_later Cut piece pieces rest last stop = ((or_split (is_last piece) (list_any is_last pieces) stop.0).1, stop.1)
-stops_later ReadFault piece pieces rest last stop = absurd stop
-stops_later WriteFault piece pieces rest last stop = absurd stop
-stops_later TurnLimit piece pieces rest last stop = absurd stop
-stops_later NoMemory piece pieces rest last stop = absurd stop
+-- an exchange that does not end the stream leaves its end to the others
+stops_later : (served : Served) (exchange : HttpExchange) (exchanges : List HttpExchange) (rest : List ℕ)
+    → is_last exchange ≡ false → Stops served (exchange ∷ exchanges) rest
+    → Stops served exchanges rest
+stops_later Ended exchange exchanges rest last stop = ((or_split (is_last exchange) (list_any is_last exchanges) stop.0).1, stop.1)
+stops_later Closed exchange exchanges rest last stop = sym (ap (λ t. t || list_any is_last exchanges) last) ∙ stop
+stops_later Cut exchange exchanges rest last stop = ((or_split (is_last exchange) (list_any is_last exchanges) stop.0).1, stop.1)
+stops_later ReadFault exchange exchanges rest last stop = absurd stop
+stops_later WriteFault exchange exchanges rest last stop = absurd stop
+stops_later TurnLimit exchange exchanges rest last stop = absurd stop
+stops_later NoMemory exchange exchanges rest last stop = absurd stop
 
--- the same piece in front of pieces that agree
-one_more : (served other : Served) (piece twin : HttpExchange) (pieces others : List HttpExchange) (rest later : List ℕ) → cut_of piece ≡ cut_of twin
-    → Agrees served other pieces others rest later → Agrees served other (piece ∷ pieces) (twin ∷ others) rest later
-one_more served other piece twin pieces others rest later same (requests, rests, inl (ends, cuts)) =
-    (requests_more piece twin pieces others same requests, rests, inl (ends, (λ i. same i ∷ cuts i)))
-one_more served other piece twin pieces others rest later same (requests, rests, inr either) =
-    (requests_more piece twin pieces others same requests, rests, inr either)
+-- the same exchange in front of exchanges that agree
+one_more : (served other : Served) (exchange twin : HttpExchange) (exchanges others : List HttpExchange) (rest later : List ℕ) → cut_of exchange ≡ cut_of twin
+    → Agrees served other exchanges others rest later → Agrees served other (exchange ∷ exchanges) (twin ∷ others) rest later
+one_more served other exchange twin exchanges others rest later same (requests, rests, inl (ends, cuts)) =
+    (requests_more exchange twin exchanges others same requests, rests, inl (ends, (λ i. same i ∷ cuts i)))
+one_more served other exchange twin exchanges others rest later same (requests, rests, inr either) =
+    (requests_more exchange twin exchanges others same requests, rests, inr either)
 
--- a piece that ends the stream, or one that does not and what follows
-at_piece : (last : Bool) (served other : Served) (piece twin : HttpExchange) (pieces others : List HttpExchange) (stream rest later : List ℕ)
-    (cut : Cuts stream (piece ∷ pieces) rest) (had : Cuts stream (twin ∷ others) later)
-    → is_last piece ≡ last → Stops served (piece ∷ pieces) rest → Stops other (twin ∷ others) later
-    → ((after : List ℕ) → Cuts after pieces rest → Cuts after others later → Stops served pieces rest → Stops other others later
-    → Agrees served other pieces others rest later)
-    → Agrees served other (piece ∷ pieces) (twin ∷ others) rest later
-at_piece true served other piece twin pieces others stream rest later cut had last stop stopped more =
-    let same = one_piece stream piece twin cut.0 had.0 cut.1 had.1 in
-    let also = same_last piece twin same.0 ∙ last in
+-- an exchange that ends the stream, or one that does not and what follows
+at_exchange : (last : Bool) (served other : Served) (exchange twin : HttpExchange) (exchanges others : List HttpExchange) (stream rest later : List ℕ)
+    (cut : Cuts stream (exchange ∷ exchanges) rest) (had : Cuts stream (twin ∷ others) later)
+    → is_last exchange ≡ last → Stops served (exchange ∷ exchanges) rest → Stops other (twin ∷ others) later
+    → ((after : List ℕ) → Cuts after exchanges rest → Cuts after others later → Stops served exchanges rest → Stops other others later
+    → Agrees served other exchanges others rest later)
+    → Agrees served other (exchange ∷ exchanges) (twin ∷ others) rest later
+at_exchange true served other exchange twin exchanges others stream rest later cut had last stop stopped more =
+    let same = one_exchange stream exchange twin cut.0 had.0 cut.1 had.1 in
+    let also = same_last exchange twin same.0 ∙ last in
     let none = cut.2 last in
     let empty = had.2 also in (
-      requests_more piece twin pieces others same.0 (ap requests_of (none ∙ sym empty)),
-      last_rest cut.0 pieces rest none cut.3 ∙ same.1 ∙ sym (last_rest had.0 others later empty had.3),
-      inl (closes served piece pieces rest last stop ∙ sym (closes other twin others later also stopped), (λ i. same.0 i ∷ map cut_of ((none ∙ sym empty) i))),
+      requests_more exchange twin exchanges others same.0 (ap requests_of (none ∙ sym empty)),
+      last_rest cut.0 exchanges rest none cut.3 ∙ same.1 ∙ sym (last_rest had.0 others later empty had.3),
+      inl (
+        closes served exchange exchanges rest last stop ∙ sym (closes other twin others later also stopped),
+        (λ i. same.0 i ∷ map cut_of ((none ∙ sym empty) i)),
+      ),
     )
-at_piece false served other piece twin pieces others stream rest later cut had last stop stopped more =
-    let same = one_piece stream piece twin cut.0 had.0 cut.1 had.1 in
-    let also = same_last piece twin same.0 ∙ last in
-    one_more served other piece twin pieces others rest later same.0 (more cut.0 cut.3 (subst (λ (s : List ℕ). Cuts s others later) (sym same.1) had.3)
-    (stops_later served piece pieces rest last stop) (stops_later other twin others later also stopped))
+at_exchange false served other exchange twin exchanges others stream rest later cut had last stop stopped more =
+    let same = one_exchange stream exchange twin cut.0 had.0 cut.1 had.1 in
+    let also = same_last exchange twin same.0 ∙ last in
+    one_more served other exchange twin exchanges others rest later same.0 (more cut.0 cut.3 (subst (λ (s : List ℕ). Cuts s others later) (sym same.1) had.3)
+    (stops_later served exchange exchanges rest last stop) (stops_later other twin others later also stopped))
 
 -- two cuts of one stream that its bytes end
-agrees : (served other : Served) (pieces others : List HttpExchange) (stream rest later : List ℕ) → Cuts stream pieces rest → Cuts stream others later
-    → Stops served pieces rest → Stops other others later → Agrees served other pieces others rest later
+agrees : (served other : Served) (exchanges others : List HttpExchange) (stream rest later : List ℕ) → Cuts stream exchanges rest → Cuts stream others later
+    → Stops served exchanges rest → Stops other others later → Agrees served other exchanges others rest later
 agrees served other [] [] stream rest later cut had stop stopped =
     let same = cut ∙ sym had in (
       refl,
@@ -251,17 +258,20 @@ agrees served other [] [] stream rest later cut had stop stopped =
 agrees served other [] (twin ∷ others) stream rest later cut had stop stopped =
     let either = goes_on served stream twin others had.0 later (no_end served stream (subst (λ (s : List ℕ). Stops served [] s) cut stop)) had.1 had.2 had.3 in
     (sym either.2, cut ∙ either.1, inr (subst IsEitherWay (sym cut) either.0))
-agrees served other (piece ∷ pieces) [] stream rest later cut had stop stopped =
-    let either = goes_on other stream piece pieces cut.0 rest (no_end other stream (subst (λ (s : List ℕ). Stops other [] s) had stopped)) cut.1 cut.2 cut.3 in
+agrees served other (exchange ∷ exchanges) [] stream rest later cut had stop stopped =
+    let either =
+    goes_on other stream exchange exchanges cut.0 rest (no_end other stream (subst (λ (s : List ℕ). Stops other [] s) had stopped))
+    cut.1 cut.2 cut.3
+    in
     (either.2, sym either.1 ∙ sym had, inr (subst IsEitherWay either.1 either.0))
-agrees served other (piece ∷ pieces) (twin ∷ others) stream rest later cut had stop stopped =
-    at_piece (is_last piece) served other piece twin pieces others stream rest later cut had refl stop stopped (λ after.
-    agrees served other pieces others after rest later)
+agrees served other (exchange ∷ exchanges) (twin ∷ others) stream rest later cut had stop stopped =
+    at_exchange (is_last exchange) served other exchange twin exchanges others stream rest later cut had refl stop stopped (λ after.
+    agrees served other exchanges others after rest later)
 
 -- the same, as `streams_are_determined` says it
-pub one_stream : (stream : List ℕ) (served other : Served) (pieces others : List HttpExchange) (rest later : List ℕ)
-    → IsCutWhole stream served pieces rest → IsCutWhole stream other others later → Agrees served other pieces others rest later
-one_stream stream served other pieces others rest later is_cut had_cut =
-    agrees served other pieces others stream rest later is_cut.cut had_cut.cut
-    (stops served pieces rest is_cut.left is_cut.before is_cut.written is_cut.by_bytes is_cut.ends)
+pub one_stream : (stream : List ℕ) (served other : Served) (exchanges others : List HttpExchange) (rest later : List ℕ)
+    → IsCutWhole stream served exchanges rest → IsCutWhole stream other others later → Agrees served other exchanges others rest later
+one_stream stream served other exchanges others rest later is_cut had_cut =
+    agrees served other exchanges others stream rest later is_cut.cut had_cut.cut
+    (stops served exchanges rest is_cut.left is_cut.before is_cut.written is_cut.by_bytes is_cut.ends)
     (stops other others later had_cut.left had_cut.before had_cut.written had_cut.by_bytes had_cut.ends)

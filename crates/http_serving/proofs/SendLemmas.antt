@@ -1,7 +1,6 @@
 -- Bytes that are written in two parts.
-use Rattle.std.proofs.Common.{ℕ, List, ◌++◌, sym, ap, ◌∙◌, append_assoc}
-use Rattle.std.specs.Prelude.{Option, Some, None}
-use Rattle.http_serving.specs.Sends.{Sends, Sending}
+use Rattle.std.proofs.Common.{ℕ, List, ◌++◌, sym, ap, ◌∙◌, append_assoc, Option, Some, None}
+use Rattle.http_serving.specs.Prelude.{Sends, Sending}
 use Rattle.http_serving.specs.declared.send.Sent.{Sent}
 use Rattle.http_serving.specs.declared.send.Sent.TheVariants.{All, Fault, TurnLimit}
 

@@ -1,30 +1,21 @@
--- Pieces of a stream, one after another.
-use Rattle.std.proofs.Common.{◌≡◌, ◌≢◌, ℕ, ◌≤◌, List, [], ◌∷◌, ◌++◌, length, Bool, true, false, ◌||◌, sym, refl, ap, ◌∙◌, subst, append_assoc, arith}
-use Rattle.std.proofs.Common.{length-append, inl, inr}
-use Rattle.std.specs.Prelude.{Option, Some, None}
-use Rattle.std.specs.List.{list_any}
-use Rattle.std.proofs.lemmas.List.{append-nil}
-use Rattle.std.proofs.lemmas.List.Concat.{flat_map-append}
-use Rattle.std.proofs.lemmas.List.Folds.{list_any-append}
+-- Exchanges of a stream, one after another.
+use Rattle.std.proofs.Common.{◌≡◌, ◌≢◌, ◌≤◌, ◌∷◌, ◌++◌, ◌||◌}
+use Rattle.text_core.proofs.Kit.{ℕ, List, [], length, Bool, true, false, sym, refl, ap, ◌∙◌, subst, append_assoc, arith, length-append, inl, inr, Option, Some}
+use Rattle.text_core.proofs.Kit.{None, append-nil, list_any, flat_map-append, list_any-append}
 use Rattle.httparse.specs.Grammar.{ReadsRequest}
 use Rattle.httparse.specs.Spans.{RequestOverflows}
 use Rattle.httparse.proofs.GrammarLemmas.{request_unique}
-use Rattle.http_frames.specs.Fields.{body_size}
+use Rattle.http_frames.specs.Prelude.{body_size, Request, LacksHead, HasBadHead, HasRequest, IsRefused, HasRefusedHead, head_limit, field_limit, IsUndecided}
+use Rattle.http_frames.specs.Prelude.{IsCutOff, headers_of, KeepsBytes}
 use Rattle.http_frames.specs.declared.fields.FrameRefusal.{FrameRefusal}
-use Rattle.http_frames.specs.Frames.{Request, LacksHead, HasBadHead, HasRequest, IsRefused, HasRefusedHead, head_limit, field_limit, IsUndecided, IsCutOff}
-use Rattle.http_frames.specs.Frames.{headers_of}
 use Rattle.http_frames.proofs.FrameLemmas.{reads_more, reads_within, bad_overflowing}
-use Rattle.http_frames.specs.Buffers.{KeepsBytes}
-use Rattle.http_serving.specs.Sends.{Sends, Sending}
-use Rattle.http_serving.specs.declared.send.Sent.{Sent}
+use Rattle.http_serving.specs.Prelude.{Sends, Sending, ending_of_sent, StopsReading, StopsWriting, HttpExchange, answered, refused, BeginsWithExchange, is_last}
+use Rattle.http_serving.specs.Prelude.{text_of, texts_of, requests_with_answers, Cuts, IsOpen, Ends, ServesExchanges, ServesBytes, IsOneExchange}
 use Rattle.http_serving.specs.declared.Served.{Served}
-use Rattle.http_replies.specs.Replies.{Answer, reply_text}
-use Rattle.http_replies.specs.Runs.{Machine, Runs}
-use Rattle.http_replies.proofs.RunLemmas.{runs_both}
-use Rattle.http_serving.specs.Streams.{ending_of_sent, StopsReading, StopsWriting, HttpExchange, answered, refused, BeginsWithExchange, is_last}
-use Rattle.http_serving.specs.Streams.{text_of, texts_of, requests_with_answers, Cuts}
-use Rattle.http_serving.specs.Streams.{IsOpen, Ends}
-use Rattle.http_serving.specs.Cycles.{ServesExchanges, ServesBytes, IsOneExchange}
+use Rattle.http_serving.specs.declared.send.Sent.{Sent}
+use Rattle.http_replies.specs.Prelude.{Answer, reply_text}
+use Rattle.text_core.specs.Prelude.{Machine, Runs}
+use Rattle.text_core.proofs.MachineLemmas.{runs_both}
 
 -- a request stays one whatever bytes follow
 pub request_more : (rest more : List ℕ) (request : Request) (after : List ℕ) → HasRequest rest request after → HasRequest (rest ++ more) request (after ++ more)
@@ -65,72 +56,72 @@ one before text = ap (λ s. before ++ s) (append-nil text)
 none_more : (before : List ℕ) → before ≡ before ++ []
 none_more before = sym (append-nil before)
 
--- one piece is cut
-one_cut : (rest after : List ℕ) (piece : HttpExchange) → BeginsWithExchange rest piece after → Cuts rest (piece ∷ []) after
-one_cut rest after piece is_piece = (after, is_piece, (λ _. refl), refl)
+-- one exchange is cut
+one_cut : (rest after : List ℕ) (exchange : HttpExchange) → BeginsWithExchange rest exchange after → Cuts rest (exchange ∷ []) after
+one_cut rest after exchange begins = (after, begins, (λ _. refl), refl)
 
--- of one piece a front of the reply was written
-one_part : (before written sent unsent : List ℕ) (piece : HttpExchange) → text_of piece ≡ sent ++ unsent → written ≡ before ++ sent
-    → StopsWriting (piece ∷ []) before written
-one_part before written sent unsent piece text written_is = record {
+-- of one exchange a front of the reply was written
+one_part : (before written sent unsent : List ℕ) (exchange : HttpExchange) → text_of exchange ≡ sent ++ unsent → written ≡ before ++ sent
+    → StopsWriting (exchange ∷ []) before written
+one_part before written sent unsent exchange text written_is = record {
   front = [];
-  last = piece;
-  pieces_are = refl;
+  last = exchange;
+  exchanges_are = refl;
   sent = sent;
   unsent = unsent;
   text = text;
   written_is = written_is ∙ ap (λ s. s ++ sent) (none_more before);
 }
 
--- one piece and its reply, or a front of the reply
-piece_turn : (rest after left before written : List ℕ) (piece : HttpExchange) (last : Bool) (sent : Sent) → is_last piece ≡ last
-    → BeginsWithExchange rest piece after → Sends before written (text_of piece) sent
-    → ServesExchanges (ending_of_sent sent last) (piece ∷ []) rest after left before written
-piece_turn rest after left before written piece true Sent.All last is_piece sends =
-    (after, one_cut rest after piece is_piece, (ap (λ t. t || false) last, sends ∙ sym (one before (text_of piece))))
-piece_turn rest after left before written piece false Sent.All last is_piece sends =
-    (one_cut rest after piece is_piece, ap (λ t. t || false) last, sends ∙ sym (one before (text_of piece)))
-piece_turn rest after left before written piece last Sent.Fault last_is is_piece sends =
-    (after, one_cut rest after piece is_piece, one_part before written sends.0 sends.1 piece sends.2 sends.3)
-piece_turn rest after left before written piece last Sent.TurnLimit last_is is_piece sends =
-    (after, one_cut rest after piece is_piece, inr (one_part before written sends.0 sends.1 piece sends.2 sends.3))
+-- one exchange and its reply, or a front of the reply
+exchange_served : (rest after left before written : List ℕ) (exchange : HttpExchange) (last : Bool) (sent : Sent) → is_last exchange ≡ last
+    → BeginsWithExchange rest exchange after → Sends before written (text_of exchange) sent
+    → ServesExchanges (ending_of_sent sent last) (exchange ∷ []) rest after left before written
+exchange_served rest after left before written exchange true Sent.All last begins sends =
+    (after, one_cut rest after exchange begins, (ap (λ t. t || false) last, sends ∙ sym (one before (text_of exchange))))
+exchange_served rest after left before written exchange false Sent.All last begins sends =
+    (one_cut rest after exchange begins, ap (λ t. t || false) last, sends ∙ sym (one before (text_of exchange)))
+exchange_served rest after left before written exchange last Sent.Fault last_is begins sends =
+    (after, one_cut rest after exchange begins, one_part before written sends.0 sends.1 exchange sends.2 sends.3)
+exchange_served rest after left before written exchange last Sent.TurnLimit last_is begins sends =
+    (after, one_cut rest after exchange begins, inr (one_part before written sends.0 sends.1 exchange sends.2 sends.3))
 
 -- a refusal always ends the stream, so that nothing is said of what follows
-refused_turn : (rest next left before written : List ℕ) (refusal : FrameRefusal) (is_head : Bool) (sent : Sent)
+refusal_served : (rest next left before written : List ℕ) (refusal : FrameRefusal) (is_head : Bool) (sent : Sent)
     → IsRefused rest refusal is_head → Sends before written (text_of (refused refusal is_head)) sent
     → ServesExchanges (ending_of_sent sent true) (refused refusal is_head ∷ []) rest next left before written
-refused_turn rest next left before written refusal is_head Sent.All is_refused sends =
-    piece_turn rest rest left before written (refused refusal is_head) true Sent.All refl (is_refused, refl) sends
-refused_turn rest next left before written refusal is_head Sent.Fault is_refused sends =
-    piece_turn rest rest left before written (refused refusal is_head) true Sent.Fault refl (is_refused, refl) sends
-refused_turn rest next left before written refusal is_head Sent.TurnLimit is_refused sends =
-    piece_turn rest rest left before written (refused refusal is_head) true Sent.TurnLimit refl (is_refused, refl) sends
+refusal_served rest next left before written refusal is_head Sent.All is_refused sends =
+    exchange_served rest rest left before written (refused refusal is_head) true Sent.All refl (is_refused, refl) sends
+refusal_served rest next left before written refusal is_head Sent.Fault is_refused sends =
+    exchange_served rest rest left before written (refused refusal is_head) true Sent.Fault refl (is_refused, refl) sends
+refusal_served rest next left before written refusal is_head Sent.TurnLimit is_refused sends =
+    exchange_served rest rest left before written (refused refusal is_head) true Sent.TurnLimit refl (is_refused, refl) sends
 
--- a turn without a write
+-- no exchange is served, and nothing is written
 quiet : (front window next : List ℕ) (left_old left_new written : Option (List ℕ)) (ended : Type 0) (result : Option Served)
     → KeepsBytes front left_old window left_new ended
     → ((left after before : List ℕ) → front ++ left ≡ window ++ after → (ended → after ≡ [])
     → ServesExchanges result [] (front ++ left) (next ++ after) after before before)
     → ServesBytes front left_old next left_new written written result []
-quiet front window next None left_new written ended result keeps turn = tt
-quiet front window next (Some left) None None ended result keeps turn = tt
-quiet front window next (Some left) None (Some before) ended result keeps turn = absurd keeps
-quiet front window next (Some left) (Some after) None ended result keeps turn = tt
-quiet front window next (Some left) (Some after) (Some before) ended result keeps turn = turn left after before keeps.0 keeps.1
+quiet front window next None left_new written ended result keeps serves = tt
+quiet front window next (Some left) None None ended result keeps serves = tt
+quiet front window next (Some left) None (Some before) ended result keeps serves = absurd keeps
+quiet front window next (Some left) (Some after) None ended result keeps serves = tt
+quiet front window next (Some left) (Some after) (Some before) ended result keeps serves = serves left after before keeps.0 keeps.1
 
--- a turn with a reply
+-- a reply is written, or a front of it
 told : (front window next text : List ℕ) (left_old left_new written_old written_new : Option (List ℕ)) (ended : Type 0) (sent : Sent) (result : Option Served)
-    (pieces : List HttpExchange)
+    (exchanges : List HttpExchange)
     → KeepsBytes front left_old window left_new ended → Sending written_old written_new text sent
     → ((left after before written : List ℕ) → front ++ left ≡ window ++ after → Sends before written text sent
-    → ServesExchanges result pieces (front ++ left) (next ++ after) after before written)
-    → ServesBytes front left_old next left_new written_old written_new result pieces
-told front window next text None left_new written_old written_new ended sent result pieces keeps sends turn = tt
-told front window next text (Some left) left_new None written_new ended sent result pieces keeps sends turn = tt
-told front window next text (Some left) None (Some before) written_new ended sent result pieces keeps sends turn = absurd keeps
-told front window next text (Some left) (Some after) (Some before) None ended sent result pieces keeps sends turn = absurd sends
-told front window next text (Some left) (Some after) (Some before) (Some written) ended sent result pieces keeps sends turn =
-    turn left after before written keeps.0 sends
+    → ServesExchanges result exchanges (front ++ left) (next ++ after) after before written)
+    → ServesBytes front left_old next left_new written_old written_new result exchanges
+told front window next text None left_new written_old written_new ended sent result exchanges keeps sends serves = tt
+told front window next text (Some left) left_new None written_new ended sent result exchanges keeps sends serves = tt
+told front window next text (Some left) None (Some before) written_new ended sent result exchanges keeps sends serves = absurd keeps
+told front window next text (Some left) (Some after) (Some before) None ended sent result exchanges keeps sends serves = absurd sends
+told front window next text (Some left) (Some after) (Some before) (Some written) ended sent result exchanges keeps sends serves =
+    serves left after before written keeps.0 sends
 
 -- the bytes ended inside a request
 pub cycle_cut : (front window next : List ℕ) (left_old left_new written : Option (List ℕ))
@@ -142,10 +133,10 @@ cycle_cut front window next left_old left_new written keeps cut =
     let answered : window ≡ front ++ left = sym (same ∙ ap (λ s. window ++ s) (ended tt) ∙ append-nil window) in
     (front ++ left, refl, (refl, subst IsCutOff answered cut, none_more before)))
 
--- no piece was cut, and reading stopped
+-- no exchange was cut, and reading stopped
 stops : (front window left after before : List ℕ) → front ++ left ≡ window ++ after → IsUndecided window → StopsReading [] (front ++ left) after before before
 stops front window left after before same undecided =
-    record { open_pieces = refl; held = window; rest_is = same; undecided = undecided; written_is = none_more before }
+    record { open_exchanges = refl; held = window; rest_is = same; undecided = undecided; written_is = none_more before }
 
 -- the reader failed
 pub cycle_fault : (front window next : List ℕ) (left_old left_new written : Option (List ℕ)) → KeepsBytes front left_old window left_new ⊥ → IsUndecided window
@@ -170,7 +161,7 @@ cycle_refused front window next left_old left_new written_old written_new refusa
     told front window next (text_of (refused refusal is_head)) left_old left_new written_old written_new ⊥ sent (ending_of_sent sent true)
     (refused refusal is_head ∷ []) keeps sends
     (λ left after before written same sends.
-    refused_turn (front ++ left) (next ++ after) after before written refusal is_head sent
+    refusal_served (front ++ left) (next ++ after) after before written refusal is_head sent
     (subst (λ (s : List ℕ). IsRefused s refusal is_head) (sym same) (refused_more window after refusal is_head is_refused)) sends)
 
 -- a request and its reply, or a front of the reply
@@ -185,15 +176,15 @@ cycle_answered front window next left_old left_new written_old written_new reque
     told front window next (text_of (answered request answer)) left_old left_new written_old written_new ⊥ sent (ending_of_sent sent last)
     (answered request answer ∷ []) keeps sends
     (λ left after before written same sends.
-    piece_turn (front ++ left) (next ++ after) after before written (answered request answer) last sent (sym last_is)
+    exchange_served (front ++ left) (next ++ after) after before written (answered request answer) last sent (sym last_is)
     (subst (λ (s : List ℕ). HasRequest s request (next ++ after)) (sym same) (request_more window after request next has)) sends)
 
--- whatever became of the reply, one piece is a turn
-pub is_one_exchange : (sent : Sent) (last : Bool) (piece : HttpExchange) → IsOneExchange (ending_of_sent sent last) (piece ∷ [])
-is_one_exchange Sent.All true piece = omega arith
-is_one_exchange Sent.All false piece = refl
-is_one_exchange Sent.Fault last piece = omega arith
-is_one_exchange Sent.TurnLimit last piece = omega arith
+-- whatever became of the reply, one exchange is served
+pub is_one_exchange : (sent : Sent) (last : Bool) (exchange : HttpExchange) → IsOneExchange (ending_of_sent sent last) (exchange ∷ [])
+is_one_exchange Sent.All true exchange = omega arith
+is_one_exchange Sent.All false exchange = refl
+is_one_exchange Sent.Fault last exchange = omega arith
+is_one_exchange Sent.TurnLimit last exchange = omega arith
 
 list_any_both : (p q : List HttpExchange) (a b : Bool) → list_any is_last p ≡ a → list_any is_last q ≡ b → list_any is_last (p ++ q) ≡ (a || b)
 list_any_both p q a b e f = list_any-append is_last p q ∙ (λ i. e i || f i)
@@ -203,18 +194,18 @@ texts_both : (p q : List HttpExchange) (before middle written : List ℕ) → mi
 texts_both p q before middle written e f =
     f ∙ ap (λ s. s ++ texts_of q) e ∙ append_assoc before (texts_of p) (texts_of q) ∙ ap (λ s. before ++ s) (sym (flat_map-append text_of p q))
 
--- some pieces, and then others
-cuts_both : (stream : List ℕ) (pieces : List HttpExchange) (rest : List ℕ) (others : List HttpExchange) (after : List ℕ)
-    → Cuts stream pieces rest → IsOpen pieces → Cuts rest others after → Cuts stream (pieces ++ others) after
-cuts_both stream [] rest others after cut open_pieces more = subst (λ (s : List ℕ). Cuts s others after) cut more
-cuts_both stream (p ∷ pieces) rest others after cut open_pieces more =
-    let closed = or_split (is_last p) (list_any is_last pieces) open_pieces in
-    (cut.0, cut.1, (λ yes. let no = closed.0 in absurd cc), cuts_both cut.0 pieces rest others after cut.3 closed.1 more)
+-- some exchanges, and then others
+cuts_both : (stream : List ℕ) (exchanges : List HttpExchange) (rest : List ℕ) (others : List HttpExchange) (after : List ℕ)
+    → Cuts stream exchanges rest → IsOpen exchanges → Cuts rest others after → Cuts stream (exchanges ++ others) after
+cuts_both stream [] rest others after cut open_exchanges more = subst (λ (s : List ℕ). Cuts s others after) cut more
+cuts_both stream (p ∷ exchanges) rest others after cut open_exchanges more =
+    let closed = or_split (is_last p) (list_any is_last exchanges) open_exchanges in
+    (cut.0, cut.1, (λ yes. let no = closed.0 in absurd cc), cuts_both cut.0 exchanges rest others after cut.3 closed.1 more)
 
 reading_both : (p q : List HttpExchange) (rest left before middle written : List ℕ) → IsOpen p → middle ≡ before ++ texts_of p
     → StopsReading q rest left middle written → StopsReading (p ++ q) rest left before written
-reading_both p q rest left before middle written open_pieces told stop = record {
-  open_pieces = list_any_both p q false false open_pieces stop.open_pieces;
+reading_both p q rest left before middle written open_exchanges told stop = record {
+  open_exchanges = list_any_both p q false false open_exchanges stop.open_exchanges;
   held = stop.held;
   rest_is = stop.rest_is;
   undecided = stop.undecided;
@@ -226,7 +217,7 @@ writing_both : (p q : List HttpExchange) (before middle written : List ℕ) → 
 writing_both p q before middle written told stop = record {
   front = p ++ stop.front;
   last = stop.last;
-  pieces_are = ap (λ s. p ++ s) stop.pieces_are ∙ sym (append_assoc p stop.front (stop.last ∷ []));
+  exchanges_are = ap (λ s. p ++ s) stop.exchanges_are ∙ sym (append_assoc p stop.front (stop.last ∷ []));
   sent = stop.sent;
   unsent = stop.unsent;
   text = stop.text;
@@ -236,36 +227,36 @@ writing_both p q before middle written told stop = record {
 ends_both : (served : Served) (p q : List HttpExchange) (rest left before middle written : List ℕ) → IsOpen p → middle ≡ before ++ texts_of p
     → served ≢ Served.NoMemory
     → Ends served q rest left middle written → Ends served (p ++ q) rest left before written
-ends_both Served.Ended p q rest left before middle written open_pieces told some ends =
-    (list_any_both p q false false open_pieces ends.0, ends.1, texts_both p q before middle written told ends.2)
-ends_both Served.Closed p q rest left before middle written open_pieces told some ends =
-    (list_any_both p q false true open_pieces ends.0, texts_both p q before middle written told ends.1)
-ends_both Served.Cut p q rest left before middle written open_pieces told some ends =
-    (list_any_both p q false false open_pieces ends.0, ends.1, texts_both p q before middle written told ends.2)
-ends_both Served.ReadFault p q rest left before middle written open_pieces told some ends =
-    reading_both p q rest left before middle written open_pieces told ends
-ends_both Served.WriteFault p q rest left before middle written open_pieces told some ends = writing_both p q before middle written told ends
-ends_both Served.TurnLimit p q rest left before middle written open_pieces told some (inl ends) =
-    inl (reading_both p q rest left before middle written open_pieces told ends)
-ends_both Served.TurnLimit p q rest left before middle written open_pieces told some (inr ends) = inr (writing_both p q before middle written told ends)
-ends_both Served.NoMemory p q rest left before middle written open_pieces told some ends = absurd (some refl)
+ends_both Served.Ended p q rest left before middle written open_exchanges told some ends =
+    (list_any_both p q false false open_exchanges ends.0, ends.1, texts_both p q before middle written told ends.2)
+ends_both Served.Closed p q rest left before middle written open_exchanges told some ends =
+    (list_any_both p q false true open_exchanges ends.0, texts_both p q before middle written told ends.1)
+ends_both Served.Cut p q rest left before middle written open_exchanges told some ends =
+    (list_any_both p q false false open_exchanges ends.0, ends.1, texts_both p q before middle written told ends.2)
+ends_both Served.ReadFault p q rest left before middle written open_exchanges told some ends =
+    reading_both p q rest left before middle written open_exchanges told ends
+ends_both Served.WriteFault p q rest left before middle written open_exchanges told some ends = writing_both p q before middle written told ends
+ends_both Served.TurnLimit p q rest left before middle written open_exchanges told some (inl ends) =
+    inl (reading_both p q rest left before middle written open_exchanges told ends)
+ends_both Served.TurnLimit p q rest left before middle written open_exchanges told some (inr ends) = inr (writing_both p q before middle written told ends)
+ends_both Served.NoMemory p q rest left before middle written open_exchanges told some ends = absurd (some refl)
 
--- some pieces, and then a turn
+-- some exchanges, and then others that are served
 takes_both : (result : Option Served) (p q : List HttpExchange) (stream rest next left before middle written : List ℕ) → result ≢ Some Served.NoMemory
     → Cuts stream p rest → IsOpen p → middle ≡ before ++ texts_of p → ServesExchanges result q rest next left middle written
     → ServesExchanges result (p ++ q) stream next left before written
-takes_both None p q stream rest next left before middle written some cut open_pieces told turns = (
-  cuts_both stream p rest q next cut open_pieces turns.0,
-  list_any_both p q false false open_pieces turns.1,
-  texts_both p q before middle written told turns.2,
+takes_both None p q stream rest next left before middle written some cut open_exchanges told serves = (
+  cuts_both stream p rest q next cut open_exchanges serves.0,
+  list_any_both p q false false open_exchanges serves.1,
+  texts_both p q before middle written told serves.2,
 )
-takes_both (Some served) p q stream rest next left before middle written some cut open_pieces told turns = (
-  turns.0,
-  cuts_both stream p rest q turns.0 cut open_pieces turns.1,
-  ends_both served p q turns.0 left before middle written open_pieces told (λ none. some (ap Some none)) turns.2,
+takes_both (Some served) p q stream rest next left before middle written some cut open_exchanges told serves = (
+  serves.0,
+  cuts_both stream p rest q serves.0 cut open_exchanges serves.1,
+  ends_both served p q serves.0 left before middle written open_exchanges told (λ none. some (ap Some none)) serves.2,
 )
 
--- some turns, and then others
+-- the same of their bytes
 pub cycles_both : (result : Option Served) (p q : List HttpExchange) (front next further : List ℕ)
     (left_old left_mid left_new written_old written_mid written_new : Option (List ℕ)) → result ≢ Some Served.NoMemory
     → ServesBytes front left_old next left_mid written_old written_mid None p → ServesBytes next left_mid further left_new written_mid written_new result q
@@ -279,18 +270,18 @@ cycles_both result p q front next further (Some left) (Some mid) (Some after) (S
 cycles_both result p q front next further (Some left) (Some mid) (Some after) (Some before) (Some told) (Some written) some first second =
     takes_both result p q (front ++ left) (next ++ mid) (further ++ after) after before told written some first.0 first.1 first.2 second
 
--- the requests of some pieces and then others
-turns_both : (p q : List HttpExchange) → requests_with_answers (p ++ q) ≡ requests_with_answers p ++ requests_with_answers q
-turns_both [] q = refl
-turns_both (answered request answer ∷ p) q = ap (λ turns. (request, answer) ∷ turns) (turns_both p q)
-turns_both (refused refusal is_head ∷ p) q = turns_both p q
+-- the requests of some exchanges and then others
+requests_both : (p q : List HttpExchange) → requests_with_answers (p ++ q) ≡ requests_with_answers p ++ requests_with_answers q
+requests_both [] q = refl
+requests_both (answered request answer ∷ p) q = ap (λ exchanges. (request, answer) ∷ exchanges) (requests_both p q)
+requests_both (refused refusal is_head ∷ p) q = requests_both p q
 
--- the requests of some pieces, and then of others
-pub runs_on : {S : Type 0} (step : Machine S Request) (old : S) (p : List HttpExchange) (middle : S) (q : List HttpExchange) (new : S)
+-- the requests of some exchanges, and then of others
+pub runs_on : {S : Type 0} (step : Machine S Request Answer) (old : S) (p : List HttpExchange) (middle : S) (q : List HttpExchange) (new : S)
     → Runs step old (requests_with_answers p) middle → Runs step middle (requests_with_answers q) new → Runs step old (requests_with_answers (p ++ q)) new
 runs_on step old p middle q new first second =
-    subst (λ turns.
-    Runs step old turns new) (sym (turns_both p q))
+    subst (λ exchanges.
+    Runs step old exchanges new) (sym (requests_both p q))
     (runs_both step old (requests_with_answers p) middle (requests_with_answers q)
     new first second)
 

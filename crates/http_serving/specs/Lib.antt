@@ -3,3 +3,4 @@ pub mod Streams
 pub mod Sends
 pub mod Cycles
 pub mod Determined
+pub mod Prelude

@@ -1,12 +1,12 @@
--- A stream is served piece by piece.
+-- A stream is served exchange by exchange.
 use Rattle.std.specs.Prelude.{◌≡◌, ℕ, List, [], ◌∷◌, ◌++◌, Bool, true, false, ◌⊎◌, Option, Some, None, IfSome, IsSomeAnd, codes, flat_map}
 use Rattle.std.specs.List.{list_any}
 use Rattle.http_frames.specs.declared.fields.FrameRefusal.{FrameRefusal}
 use Rattle.http_frames.specs.declared.fields.FrameRefusal.TheVariants.{BadHead, BadLength, TooLarge, Chunked}
-use Rattle.http_frames.specs.Frames.{Request, HasRequest, IsRefused, IsCutOff, IsUndecided, is_head_method, ends_after}
+use Rattle.http_frames.specs.Prelude.{Request, HasRequest, IsRefused, IsCutOff, IsUndecided, is_head_method, ends_after}
 use Rattle.http_replies.specs.declared.Status.TheVariants as Status
 use Rattle.http_replies.specs.declared.Kind.TheVariants.{Json}
-use Rattle.http_replies.specs.Replies.{Answer, reply_text}
+use Rattle.http_replies.specs.Prelude.{Answer, reply_text}
 use Rattle.http_serving.specs.declared.send.Sent.{Sent}
 use Rattle.http_serving.specs.declared.send.Sent.TheVariants.{All}
 use Rattle.http_serving.specs.declared.Served.{Served}
@@ -17,12 +17,12 @@ pub data HttpExchange : Type 0 where
   answered : (request : Request) → (answer : Answer) → HttpExchange
   refused : (refusal : FrameRefusal) → (is_head : Bool) → HttpExchange
 
--- the rest begins with the piece, and `after` follows. Nothing is cut from the rest after a refusal
+-- the rest begins with the request of the exchange, or with what it refuses, and `after` follows. Nothing is cut from the rest after a refusal
 abbrev pub BeginsWithExchange : List ℕ → HttpExchange → List ℕ → Type 0
 BeginsWithExchange rest (answered request answer) after = HasRequest rest request after
 BeginsWithExchange rest (refused refusal is_head) after = IsRefused rest refusal is_head × (after ≡ rest)
 
--- the stream ends after the piece
+-- the stream ends after the exchange
 abbrev pub is_last : HttpExchange → Bool
 is_last (answered request answer) = ends_after request.head
 is_last (refused refusal is_head) = true
@@ -39,39 +39,39 @@ abbrev pub text_of : HttpExchange → List ℕ
 text_of (answered request answer) = reply_text answer (is_head_method request.head) (ends_after request.head)
 text_of (refused refusal is_head) = reply_text (refusal_answer refusal) is_head true
 
--- the replies to all the pieces
+-- the replies of all the exchanges
 abbrev pub texts_of : List HttpExchange → List ℕ
-texts_of pieces = flat_map text_of pieces
+texts_of exchanges = flat_map text_of exchanges
 
--- the requests among the pieces, with their answers
+-- the requests among the exchanges, with their answers
 abbrev pub requests_with_answers : List HttpExchange → List (Request × Answer)
 requests_with_answers [] = []
-requests_with_answers (answered request answer ∷ pieces) = (request, answer) ∷ requests_with_answers pieces
-requests_with_answers (refused refusal is_head ∷ pieces) = requests_with_answers pieces
+requests_with_answers (answered request answer ∷ exchanges) = (request, answer) ∷ requests_with_answers exchanges
+requests_with_answers (refused refusal is_head ∷ exchanges) = requests_with_answers exchanges
 
--- the stream begins with these pieces, and `rest` follows. Only the last may end the stream
+-- the stream begins with these exchanges, and `rest` follows. Only the last may end the stream
 abbrev pub Cuts : List ℕ → List HttpExchange → List ℕ → Type 0
 Cuts stream [] rest = rest ≡ stream
-Cuts stream (piece ∷ pieces) rest =
-    (after : List ℕ) × BeginsWithExchange stream piece after × (is_last piece ≡ true → pieces ≡ []) × Cuts after pieces rest
+Cuts stream (exchange ∷ exchanges) rest =
+    (after : List ℕ) × BeginsWithExchange stream exchange after × (is_last exchange ≡ true → exchanges ≡ []) × Cuts after exchanges rest
 
--- none of the pieces ends the stream
+-- none of the exchanges ends the stream
 abbrev pub IsOpen : List HttpExchange → Type 0
-IsOpen pieces = list_any is_last pieces ≡ false
+IsOpen exchanges = list_any is_last exchanges ≡ false
 
--- all the replies were written, and what was read behind the pieces is no whole request
-pub record StopsReading (pieces : List HttpExchange) (rest left before written : List ℕ) : Type 0 where
-  pub open_pieces : IsOpen pieces
+-- all the replies were written, and what was read behind the exchanges is no whole request
+pub record StopsReading (exchanges : List HttpExchange) (rest left before written : List ℕ) : Type 0 where
+  pub open_exchanges : IsOpen exchanges
   pub held : List ℕ
   pub rest_is : rest ≡ held ++ left
   pub undecided : IsUndecided held
-  pub written_is : written ≡ before ++ texts_of pieces
+  pub written_is : written ≡ before ++ texts_of exchanges
 
 -- all the replies but the last, and a front of the last
-pub record StopsWriting (pieces : List HttpExchange) (before written : List ℕ) : Type 0 where
+pub record StopsWriting (exchanges : List HttpExchange) (before written : List ℕ) : Type 0 where
   pub front : List HttpExchange
   pub last : HttpExchange
-  pub pieces_are : pieces ≡ front ++ last ∷ []
+  pub exchanges_are : exchanges ≡ front ++ last ∷ []
   pub sent : List ℕ
   pub unsent : List ℕ
   pub text : text_of last ≡ sent ++ unsent
@@ -79,20 +79,20 @@ pub record StopsWriting (pieces : List HttpExchange) (before written : List ℕ)
 
 -- how the stream came to its end
 abbrev pub Ends : Served → List HttpExchange → List ℕ → List ℕ → List ℕ → List ℕ → Type 0
-Ends Ended pieces rest left before written = IsOpen pieces × (rest ≡ []) × (written ≡ before ++ texts_of pieces)
-Ends Closed pieces rest left before written = (list_any is_last pieces ≡ true) × (written ≡ before ++ texts_of pieces)
-Ends Cut pieces rest left before written = IsOpen pieces × IsCutOff rest × (written ≡ before ++ texts_of pieces)
-Ends ReadFault pieces rest left before written = StopsReading pieces rest left before written
-Ends WriteFault pieces rest left before written = StopsWriting pieces before written
-Ends TurnLimit pieces rest left before written = StopsReading pieces rest left before written ⊎ StopsWriting pieces before written
-Ends NoMemory pieces rest left before written = (pieces ≡ []) × (written ≡ before)
+Ends Ended exchanges rest left before written = IsOpen exchanges × (rest ≡ []) × (written ≡ before ++ texts_of exchanges)
+Ends Closed exchanges rest left before written = (list_any is_last exchanges ≡ true) × (written ≡ before ++ texts_of exchanges)
+Ends Cut exchanges rest left before written = IsOpen exchanges × IsCutOff rest × (written ≡ before ++ texts_of exchanges)
+Ends ReadFault exchanges rest left before written = StopsReading exchanges rest left before written
+Ends WriteFault exchanges rest left before written = StopsWriting exchanges before written
+Ends TurnLimit exchanges rest left before written = StopsReading exchanges rest left before written ⊎ StopsWriting exchanges before written
+Ends NoMemory exchanges rest left before written = (exchanges ≡ []) × (written ≡ before)
 
--- what the pieces are to the bytes, where the reader and the writer tell theirs
+-- what the exchanges are to the bytes, where the reader and the writer tell theirs
 abbrev pub Tells : Option (List ℕ) → Option (List ℕ) → Option (List ℕ) → Option (List ℕ) → Served → List HttpExchange → Type 0
-Tells left_old left_new written_old written_new served pieces =
+Tells left_old left_new written_old written_new served exchanges =
     IfSome left_old (λ stream. IfSome written_old (λ before.
     IsSomeAnd left_new (λ left. IsSomeAnd written_new (λ written.
-    (rest : List ℕ) × Cuts stream pieces rest × Ends served pieces rest left before written))))
+    (rest : List ℕ) × Cuts stream exchanges rest × Ends served exchanges rest left before written))))
 
 -- what became of a stream where this became of a reply
 abbrev pub ending_of_sent : Sent → Bool → Option Served

@@ -2,13 +2,10 @@
 #![tactic(auto)]
 
 ghost use Rattle.std.specs.Prelude.{◌≡◌, ◌≢◌, ℕ, ◌+◌, ◌<◌, ◌≤◌, ◌^◌, ◌⊎◌, List, Option, map};
-ghost use Rattle.http_replies.specs.Replies.{Answer, answer_of};
-ghost use Rattle.http_replies.specs.Runs.{Runs};
-ghost use Rattle.http_frames.specs.Frames.{Request, HasRequest};
-ghost use Rattle.http_frames.specs.Looks.{IsFrameAt};
-ghost use Rattle.http_frames.specs.Buffers.{unread};
-ghost use Rattle.http_serving.specs.Streams.{HttpExchange, refusal_answer, requests_with_answers, Tells, ending_of_sent};
-ghost use Rattle.http_serving.specs.Streams.{read_faults, write_faults};
+ghost use Rattle.http_replies.specs.Prelude.{Answer, answer_of};
+ghost use Rattle.text_core.specs.Prelude.{Runs};
+ghost use Rattle.http_frames.specs.Prelude.{Request, HasRequest, IsFrameAt, unread};
+ghost use Rattle.http_serving.specs.Streams.{HttpExchange, refusal_answer, requests_with_answers, Tells, ending_of_sent, read_faults, write_faults};
 ghost use Rattle.http_serving.specs.Cycles.{ServesBytes, IsOneExchange};
 ghost use Rattle.http_serving.specs.Determined.{cut_of, requests_of, IsCutWhole, IsEitherWay};
 
@@ -101,10 +98,10 @@ fn serve_one<S, V: Service<S>, R: Source, W: Drain>(
 ) -> Option<Served>
     requires reader { R.calls reader.old + 2 ^ 25 < 2 ^ 64 + buffer.old.calls }
     requires writer { W.calls writer.old + 2 ^ 25 < 2 ^ 64 + buffer.old.calls }
-    ensures served_one { (pieces : List HttpExchange) × IsOneExchange result pieces
+    ensures served_one { (exchanges : List HttpExchange) × IsOneExchange result exchanges
         × ServesBytes (unread buffer.old) (R.left reader.old) (unread buffer.new) (R.left reader.new)
-        (W.written writer.old) (W.written writer.new) result pieces
-        × Runs (V.steps service.now) state.old (requests_with_answers pieces) state.new }
+        (W.written writer.old) (W.written writer.new) result exchanges
+        × Runs (V.steps service.now) state.old (requests_with_answers exchanges) state.new }
     ensures calls { R.calls reader.new + W.calls writer.new + buffer.old.calls
         ≡ R.calls reader.old + W.calls writer.old + buffer.new.calls }
     ensures reader_calls { R.calls reader.old ≤ R.calls reader.new }
@@ -143,7 +140,7 @@ fn serve_one<S, V: Service<S>, R: Source, W: Drain>(
     }
 }
 
-/// At most one whole request stands at the front of a stream, so that the pieces of a stream are determined by its bytes.
+/// At most one whole request stands at the front of a stream, so that the requests of a stream are determined by its bytes.
 pub fn requests_are_unique()
     ensures { (rest : List ℕ) (request other : Request) (after later : List ℕ)
         → HasRequest rest request after
@@ -155,20 +152,20 @@ pub fn requests_are_unique()
 /// is part of a head and never becomes one with few enough fields: it may be refused, or be cut off
 /// where the stream ends.
 pub fn streams_are_determined()
-    ensures { (stream : List ℕ) (served other : Served) (pieces others : List HttpExchange)
+    ensures { (stream : List ℕ) (served other : Served) (exchanges others : List HttpExchange)
         (rest later : List ℕ)
-        → IsCutWhole stream served pieces rest → IsCutWhole stream other others later
-        → (requests_of pieces ≡ requests_of others) × (rest ≡ later)
-        × (((served ≡ other) × (map cut_of pieces ≡ map cut_of others)) ⊎ IsEitherWay rest) }
+        → IsCutWhole stream served exchanges rest → IsCutWhole stream other others later
+        → (requests_of exchanges ≡ requests_of others) × (rest ≡ later)
+        × (((served ≡ other) × (map cut_of exchanges ≡ map cut_of others)) ⊎ IsEitherWay rest) }
 {}
 
 /// Serves a stream until it ends, and answers how it did. It takes memory once, for its buffer, and
 /// makes the room for the heads of the replies beside it, both before the first read.
 ///
 /// Whatever the reader and the writer tell of their bytes, the state goes by steps of the service,
-/// one for each request among the pieces in turn, with the answer that the piece has (`Runs`).
-/// Where both tell them, the stream begins with these pieces, and what is written is the replies to
-/// them, up to where the stream ended (`Tells`).
+/// one for each request among the exchanges in turn, with the answer that the exchange has
+/// (`Runs`). Where both tell them, the stream begins with these exchanges, and what is written is
+/// their replies, up to where the stream ended (`Tells`).
 pub fn serve_stream<S, V: Service<S>, R: Source, W: Drain>(
     alloc: Global,
     service: &V,
@@ -178,10 +175,10 @@ pub fn serve_stream<S, V: Service<S>, R: Source, W: Drain>(
 ) -> Served
     requires reader { R.calls reader.old + 2 ^ 25 < 2 ^ 64 }
     requires writer { W.calls writer.old + 2 ^ 25 < 2 ^ 64 }
-    ensures run { (pieces : List HttpExchange)
+    ensures run { (exchanges : List HttpExchange)
         × Tells (R.left reader.old) (R.left reader.new)
-        (W.written writer.old) (W.written writer.new) result pieces
-        × Runs (V.steps service.now) state.old (requests_with_answers pieces) state.new }
+        (W.written writer.old) (W.written writer.new) result exchanges
+        × Runs (V.steps service.now) state.old (requests_with_answers exchanges) state.new }
     ensures calls { R.calls reader.new + W.calls writer.new ≤ R.calls reader.old + W.calls
         writer.old + CALL_LIMIT }
     ensures limit { result ≡ Served.TurnLimit → R.calls reader.new + W.calls writer.new

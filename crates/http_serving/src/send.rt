@@ -1,8 +1,8 @@
 //! Writes replies, and counts the calls of the writer.
 
 ghost use Rattle.std.specs.Prelude.{◌≡◌, ◌+◌, ◌-◌, ◌<◌, ◌≤◌, ◌^◌, length};
-ghost use Rattle.http_replies.specs.Replies.{answer_of, reply_text};
-ghost use Rattle.http_serving.specs.Sends.{Sending, sent_faults};
+ghost use Rattle.http_replies.specs.Prelude.{answer_of, reply_text};
+ghost use Rattle.http_serving.specs.Prelude.{Sending, sent_faults};
 
 use http_frames::buffer::{Buffer, CALL_LIMIT};
 use http_frames::transfer::{Drain, Transfer};

@@ -1,11 +1,9 @@
 -- Free blocks of addresses.
-use Rattle.std.proofs.Common.{◌≡◌, ℕ, ◌+◌, ◌<◌, ◌≤◌, max, Bool, true, false, not, List, [], ◌∷◌, length, Some, find, slice_index_or, All, inl, inr, ap}
-use Rattle.std.proofs.Common.{sym, ◌∙◌, arith}
-use Rattle.std.proofs.lemmas.Bool.{cases_Bool, lt-ltb, ltb-true, le-leb, leb-true, not-true, and_from, and_parts, both_ways, false_from_ne_true}
-use Rattle.std.proofs.lemmas.List.Folds.{list_any_at, list_any_none}
-use Rattle.std.proofs.lemmas.Option.{none-some, same_Some}
-use Rattle.std.specs.List.{list_any}
-use Rattle.id_ranges.specs.Blocks.{is_in, blocks_overlap, is_free, IsIn, IsApart}
+use Rattle.std.proofs.Common.{◌≡◌, ◌+◌, ◌<◌, ◌≤◌, ◌∷◌}
+use Rattle.text_core.proofs.Kit.{ℕ, max, Bool, true, false, not, List, [], length, Some, find, slice_index_or, All, inl, inr, ap, sym, ◌∙◌, arith, cases_Bool}
+use Rattle.text_core.proofs.Kit.{lt-ltb, ltb-true, le-leb, leb-true, not-true, and_from, and_parts, both_ways, false_from_ne_true, list_any_at, list_any_none}
+use Rattle.text_core.proofs.Kit.{none-some, same_Some, list_any}
+use Rattle.id_ranges.specs.Prelude.{is_in, blocks_overlap, is_free, IsIn, IsApart}
 use Rattle.id_ranges.proofs.Ranges.{list_all-range, in_list_all-range}
 
 -- what is found passes

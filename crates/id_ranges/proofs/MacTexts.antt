@@ -1,23 +1,15 @@
 -- A hardware address has one text, from which it is read back.
-use Rattle.std.proofs.Common.{◌≡◌, ℕ, zero, suc, ◌+◌, ◌-◌, ◌*◌, ◌/◌, ◌%◌, ◌^◌, ◌<◌, ◌≤◌, inl, inr, Bool, true, false, cond, nat_le, List, [], ◌∷◌, ◌++◌}
-use Rattle.std.proofs.Common.{length, map, replicate, Option, Some, None, Result, Ok, Err, refl, sym, ap, ◌∙◌, subst, arith, append-nil}
-use Rattle.std.specs.Fmt.{digit_glyph, digits_onto}
-use Rattle.std.specs.Int.Digits.{number_from_digits, number_from_digits_after, AllBelowBase}
-use Rattle.std.specs.List.{list_all}
-use Rattle.std.specs.Option.{option_map}
-use Rattle.std.specs.Result.{result_ok}
-use Rattle.std.proofs.Math.Nat.{pow-zero, pow-suc}
-use Rattle.std.proofs.lemmas.Bool.{and_from, and_parts, cases_eq}
-use Rattle.std.proofs.lemmas.Bool.Decides.{nat_tests}
-use Rattle.std.proofs.lemmas.List.{length-map}
-use Rattle.std.proofs.lemmas.Int.Digits.{number_lt}
-use Rattle.std.proofs.DigitsParse.{digits_onto-nil, digits_onto_last, digits_onto_step}
+use Rattle.std.proofs.Common.{◌≡◌, ◌+◌, ◌-◌, ◌*◌, ◌/◌, ◌%◌, ◌^◌, ◌<◌, ◌≤◌, ◌∷◌, ◌++◌}
+use Rattle.text_core.proofs.Kit.{ℕ, zero, suc, inl, inr, Bool, true, false, cond, nat_le, List, [], length, map, replicate, Option, Some, None, Result, Ok, Err}
+use Rattle.text_core.proofs.Kit.{refl, sym, ap, ◌∙◌, subst, arith, append-nil, digit_glyph, digits_onto, number_from_digits, number_from_digits_after}
+use Rattle.text_core.proofs.Kit.{AllBelowBase, list_all, option_map, result_ok, pow-zero, pow-suc, and_from, and_parts, cases_eq, nat_tests, length-map}
+use Rattle.text_core.proofs.Kit.{number_lt, digits_onto-nil, digits_onto_last, digits_onto_step}
 use Rattle.hex.specs.Hex.{decode_pairs, decode_sized, pair_value, value_at, hex_digit_value, digit_or_error}
 use Rattle.hex.specs.declared.error.FromHexError.{FromHexError}
 use Rattle.hex.proofs.Pairs.{cons_byte, decode_pairs-ok_pair, decode_sized-pairs}
 use Rattle.hex.proofs.HexLemmas.{decode_sized-ok}
-use Rattle.text_core.specs.Chip.{is_lower_hex_digit}
-use Rattle.id_ranges.specs.Mac.{mac_text, mac_of_bytes, mac_of_text}
+use Rattle.text_core.specs.Prelude.{is_lower_hex_digit}
+use Rattle.id_ranges.specs.Prelude.{mac_text, mac_of_bytes, mac_of_text}
 
 -- the digit with this value
 abbrev glyph : ℕ → ℕ

@@ -1,11 +1,9 @@
 -- Ranges that meet.
-use Rattle.std.proofs.Common.{◌≡◌, false, refl, sym, ◌==◌, ℕ, suc, zero, ◌+◌, ◌<◌, ◌≤◌, nat_le, nat_lt, Bool, true, ◌&&◌, bytes_eq, inl, inr, arith}
-use Rattle.std.proofs.lemmas.Bool.{and_from, and_parts, cases_Bool, cases_lt, le-leb, leb-true, lt-ltb, ltb-true, or_left, or_right}
-use Rattle.std.proofs.lemmas.Bool.Decides.{Decides-eqb}
-use Rattle.std.proofs.lemmas.Slice.Eq.{bytes_eq-Decides}
-use Rattle.std.specs.Prelude.{◌↔◌, IsTrue}
-use Rattle.std.specs.List.{list_any, range_with_len}
-use Rattle.id_ranges.specs.Range.{Range, RangesOverlap, ranges_overlap}
+use Rattle.std.proofs.Common.{◌≡◌, ◌==◌, ◌+◌, ◌<◌, ◌≤◌, ◌&&◌, ◌↔◌}
+use Rattle.text_core.proofs.Kit.{false, refl, sym, ℕ, suc, zero, nat_le, nat_lt, Bool, true, bytes_eq, inl, inr, arith, and_from, and_parts, cases_Bool}
+use Rattle.text_core.proofs.Kit.{cases_lt, le-leb, leb-true, lt-ltb, ltb-true, or_left, or_right, Decides-eqb, bytes_eq-Decides, IsTrue, list_any}
+use Rattle.text_core.proofs.Kit.{range_with_len}
+use Rattle.id_ranges.specs.Prelude.{Range, RangesOverlap, ranges_overlap}
 
 -- a number of a range that passes
 some_passes : (p : ℕ → Bool) (first count : ℕ) → list_any p (range_with_len first count) ≡ true → (n : ℕ) × (first ≤ n) × (n < first + count) × (p n ≡ true)

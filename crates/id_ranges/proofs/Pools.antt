@@ -1,9 +1,8 @@
 -- Addresses of a pool.
-use Rattle.std.proofs.Common.{◌≡◌, ℕ, ◌+◌, ◌-◌, ◌/◌, ◌%◌, ◌^◌, ◌<◌, ◌≤◌, nat_le, Bool, true, false, ◌==◌, ◌&&◌, ◌⊎◌, Some, inl, inr, refl, ap, ◌∙◌, arith}
-use Rattle.std.proofs.lemmas.Bool.{and_parts, cases_lt, false_from_ne_true, leb-true, le-leb}
-use Rattle.std.specs.List.{list_all, range_with_len}
-use Rattle.std.proofs.lemmas.Option.{cond_some}
-use Rattle.id_ranges.specs.Pool.{Pool, IsPool, pool_of, is_pool, is_individual}
+use Rattle.std.proofs.Common.{◌≡◌, ◌+◌, ◌-◌, ◌/◌, ◌%◌, ◌^◌, ◌<◌, ◌≤◌, ◌==◌, ◌&&◌, ◌⊎◌}
+use Rattle.text_core.proofs.Kit.{ℕ, nat_le, Bool, true, false, Some, inl, inr, refl, ap, ◌∙◌, arith, and_parts, cases_lt, false_from_ne_true, leb-true, le-leb}
+use Rattle.text_core.proofs.Kit.{list_all, range_with_len, cond_some}
+use Rattle.id_ranges.specs.Prelude.{Pool, IsPool, pool_of, is_pool, is_individual}
 use Rattle.id_ranges.proofs.Ranges.{list_all-range, in_list_all-range}
 
 -- an address between two that are less than 2^40 apart has the first octet of one of them

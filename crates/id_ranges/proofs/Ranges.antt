@@ -1,8 +1,7 @@
 -- Tests of the numbers of a range.
-use Rattle.std.proofs.Common.{◌≡◌, ℕ, suc, zero, ◌+◌, ◌<◌, ◌≤◌, Bool, true, false, Some, None, find, inl, inr, refl, ap, sym, arith}
-use Rattle.std.proofs.lemmas.Bool.{and_parts, cases_lt, cases_Bool}
-use Rattle.std.proofs.lemmas.Option.{none-some, same_Some}
-use Rattle.std.specs.List.{list_all, range_with_len}
+use Rattle.std.proofs.Common.{◌≡◌, ◌+◌, ◌<◌, ◌≤◌}
+use Rattle.text_core.proofs.Kit.{ℕ, suc, zero, Bool, true, false, Some, None, find, inl, inr, refl, ap, sym, arith, and_parts, cases_lt, cases_Bool, none-some}
+use Rattle.text_core.proofs.Kit.{same_Some, list_all, range_with_len}
 
 -- a test that each number of a range passes
 pub list_all-range : (p : ℕ → Bool) (first count : ℕ) → ((k : ℕ) → first ≤ k → k < first + count → p k ≡ true) → list_all p (range_with_len first count) ≡ true

@@ -1,14 +1,9 @@
 -- The block that is taken from the pools.
 use Rattle.std.proofs.Math.Seq.{drop-cons}
-use Rattle.std.proofs.Common.{add-one, ◌≡◌, ℕ, suc, zero, ◌+◌, ◌-◌, ◌<◌, ◌≤◌, Bool, true, false, List, [], ◌∷◌, length, get_or, drop, Option, Some, None, find}
-use Rattle.std.proofs.Common.{All, Any, refl, sym, ◌∙◌, arith}
-use Rattle.std.proofs.lemmas.List.{at_drop_all}
-use Rattle.std.proofs.lemmas.List.Folds.{find-append}
-use Rattle.std.proofs.lemmas.Option.{none-some}
-use Rattle.std.specs.List.{flat_map}
-use Rattle.std.specs.Option.{option_or}
-use Rattle.id_ranges.specs.Blocks.{is_free, starts, reserved_start, IsBlockWithin, IsApart}
-use Rattle.id_ranges.specs.Pool.{Pool}
+use Rattle.text_core.proofs.Kit.{add-one, ℕ, suc, zero, Bool, true, false, List, [], length, drop, Option, Some, None, find, All, Any, refl, sym, ◌∙◌, arith}
+use Rattle.text_core.proofs.Kit.{at_drop_all, find-append, none-some, flat_map, option_or}
+use Rattle.std.proofs.Common.{◌≡◌, ◌+◌, ◌-◌, ◌<◌, ◌≤◌, ◌∷◌, get_or}
+use Rattle.id_ranges.specs.Prelude.{is_free, starts, reserved_start, IsBlockWithin, IsApart, Pool}
 use Rattle.id_ranges.proofs.FreeBlocks.{find-passes, apart-from_free}
 use Rattle.id_ranges.proofs.Ranges.{in_range-from_find, fails-from_find}
 

@@ -1,19 +1,10 @@
 -- The serial numbers of a range's numbers.
-use Rattle.std.proofs.Common.{◌≡◌, ℕ, zero, suc, ◌+◌, ◌-◌, ◌%◌, ◌^◌, ◌<◌, ◌≤◌, true, ◌&&◌, nat_le, List, [], ◌∷◌, ◌++◌, length, replicate, decimal, refl, sym}
-use Rattle.std.proofs.Common.{ap, ◌∙◌, arith, length-append}
-use Rattle.std.specs.List.{list_all}
-use Rattle.std.specs.Str.{IsAscii, IsUtf8}
-use Rattle.std.specs.Str.Parse.{digits_value}
-use Rattle.std.proofs.Math.Nat.{pow-le-pow_right}
-use Rattle.std.proofs.lemmas.Bool.{and_from, and_parts, le-leb, leb-true}
-use Rattle.std.proofs.lemmas.Bool.Decides.{nat_tests}
-use Rattle.std.proofs.lemmas.Fmt.{decimal_by_steps, decimal_is_IsNumeral, length-decimal-le}
-use Rattle.std.proofs.lemmas.List.{append_cancel_left, length-replicate}
-use Rattle.std.proofs.lemmas.List.Folds.{list_all-append}
-use Rattle.std.proofs.lemmas.Str.{IsUtf8-from_ascii}
-use Rattle.text_core.specs.Padding.{zero_padded}
-use Rattle.text_core.specs.Serial.{is_serial, is_serial_byte}
-use Rattle.id_ranges.specs.Range.{Range, IsRange, Has, serial_text_of}
+use Rattle.std.proofs.Common.{◌≡◌, ◌+◌, ◌-◌, ◌%◌, ◌^◌, ◌<◌, ◌≤◌, ◌&&◌, ◌∷◌, ◌++◌}
+use Rattle.text_core.proofs.Kit.{ℕ, zero, suc, true, nat_le, List, [], length, replicate, decimal, refl, sym, ap, ◌∙◌, arith, length-append, list_all, IsAscii}
+use Rattle.text_core.proofs.Kit.{IsUtf8, digits_value, pow-le-pow_right, and_from, and_parts, le-leb, leb-true, nat_tests, decimal_by_steps}
+use Rattle.text_core.proofs.Kit.{decimal_is_IsNumeral, length-decimal-le, append_cancel_left, length-replicate, list_all-append, IsUtf8-from_ascii}
+use Rattle.text_core.specs.Prelude.{zero_padded, is_serial, is_serial_byte}
+use Rattle.id_ranges.specs.Prelude.{Range, IsRange, Has, serial_text_of}
 
 -- a number of at most nine digits is below 10^9
 pub below_billion : (width n : ℕ) → width ≤ 9 → n < 10 ^ width → n < 1000000000

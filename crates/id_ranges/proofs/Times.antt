@@ -1,16 +1,9 @@
 -- The digits of a time, and which texts are the beginning of a validity.
-use Rattle.std.proofs.Common.{◌≡◌, ℕ, ◌+◌, ◌<◌, Bool, true, false, ◌&&◌, ◌==◌, nat_le, if◌then◌else◌, List, length, take, get_or, Some, None, Ok, Err}
-use Rattle.std.proofs.Common.{refl, arith}
-use Rattle.std.specs.Char.{is_ascii_digit}
-use Rattle.std.specs.Int.{IsInRange}
-use Rattle.std.specs.List.{list_all}
-use Rattle.std.proofs.lemmas.Bool.{and_parts, eqb-true, leb-true}
-use Rattle.std.proofs.lemmas.Option.{cond_some}
-use Rattle.std.proofs.lemmas.List.{get_or-take, length-take-le}
-use Rattle.std.proofs.lemmas.List.Elements.{All-get_or}
-use Rattle.std.proofs.lemmas.List.Sums.{AllPass-from_list_all}
-use Rattle.text_core.specs.Time.{is_time, time_of_text}
-use Rattle.id_ranges.specs.NotBefore.{has_clock, has_date, not_before_of}
+use Rattle.std.proofs.Common.{◌≡◌, ◌+◌, ◌<◌, ◌&&◌, ◌==◌, if◌then◌else◌, get_or}
+use Rattle.text_core.proofs.Kit.{ℕ, Bool, true, false, nat_le, List, length, take, Some, None, Ok, Err, refl, arith, is_ascii_digit, IsInRange, list_all}
+use Rattle.text_core.proofs.Kit.{and_parts, eqb-true, leb-true, cond_some, get_or-take, length-take-le, All-get_or, AllPass-from_list_all}
+use Rattle.text_core.specs.Prelude.{is_time, time_of_text}
+use Rattle.id_ranges.specs.Prelude.{has_clock, has_date, not_before_of}
 use Rattle.id_ranges.specs.declared.fault.RangeFault.TheVariants.{BadNotBefore}
 
 -- each of the first 14 bytes of a time is a digit

@@ -1,6 +1,6 @@
 -- Blocks of consecutive addresses, taken from pools.
-use Rattle.std.specs.Prelude.{ℕ, ◌+◌, ◌-◌, ◌<◌, ◌≤◌, Bool, not, ◌&&◌, nat_lt, nat_le, min, max, List, Option, find}
-use Rattle.std.specs.List.{list_all, list_any, flat_map, range_with_len}
+use Rattle.std.specs.Prelude.{ℕ, ◌+◌, ◌-◌, ◌<◌, ◌≤◌, Bool, not, ◌&&◌, nat_lt, nat_le, min, max, List, Option, find, flat_map}
+use Rattle.std.specs.List.{list_all, list_any, range_with_len}
 use Rattle.id_ranges.specs.Pool.{Pool}
 
 -- the address is in the interval, which is its first address and its length

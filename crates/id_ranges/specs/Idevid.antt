@@ -1,6 +1,6 @@
 -- Records of device identities.
 use Rattle.std.specs.Prelude.{ℕ, List, codes, Option, Result, Ok, Err, if◌then◌else◌}
-use Rattle.text_core.specs.Serial.{is_serial}
+use Rattle.text_core.specs.Prelude.{is_serial}
 use Rattle.id_ranges.specs.declared.fault.RangeFault.{RangeFault}
 use Rattle.id_ranges.specs.declared.fault.RangeFault.TheVariants.{BadText}
 

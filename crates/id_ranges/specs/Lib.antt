@@ -11,3 +11,4 @@ pub mod Range
 pub mod RangeFaults
 pub mod Serial
 pub mod SerialLaws
+pub mod Prelude

@@ -4,8 +4,7 @@ use Rattle.std.specs.Fmt.{digits}
 use Rattle.std.specs.List.{list_all}
 use Rattle.std.specs.Result.{result_ok}
 use Rattle.hex.specs.Hex.{decode_sized}
-use Rattle.text_core.specs.Chip.{is_lower_hex_digit}
-use Rattle.text_core.specs.Padding.{zero_padded}
+use Rattle.text_core.specs.Prelude.{is_lower_hex_digit, zero_padded}
 
 -- twelve lowercase hexadecimal digits
 abbrev pub mac_text : ℕ → List ℕ

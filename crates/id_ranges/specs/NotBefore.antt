@@ -2,7 +2,7 @@
 use Rattle.std.specs.Prelude.{ℕ, ◌+◌, ◌*◌, Bool, ◌&&◌, nat_lt, List, slice_index, Option, option_and_then, Result, Ok, Err, if◌then◌else◌}
 use Rattle.std.specs.Char.{digit_value}
 use Rattle.std.specs.Result.{result_ok}
-use Rattle.text_core.specs.Time.{is_time}
+use Rattle.text_core.specs.Prelude.{is_time}
 use Rattle.id_ranges.specs.Calendar.{is_date}
 use Rattle.id_ranges.specs.declared.fault.RangeFault.{RangeFault}
 use Rattle.id_ranges.specs.declared.fault.RangeFault.TheVariants.{BadNotBefore}

@@ -1,7 +1,7 @@
 -- Ranges of serial numbers.
 use Rattle.std.specs.Prelude.{◌≡◌, ◌==◌, ℕ, ◌+◌, ◌-◌, ◌^◌, ◌<◌, ◌≤◌, Bool, true, not, ◌&&◌, nat_le, nat_lt, bytes_eq, List, Result, Ok, Err, if◌then◌else◌}
 use Rattle.std.specs.List.{list_any, range_with_len}
-use Rattle.text_core.specs.Prefix.{is_prefix}
+use Rattle.text_core.specs.Prelude.{is_prefix}
 use Rattle.id_ranges.specs.Serial.{serial_text}
 use Rattle.id_ranges.specs.declared.fault.RangeFault.{RangeFault}
 use Rattle.id_ranges.specs.declared.fault.RangeFault.TheVariants.{BadText, TooWide}

@@ -1,6 +1,6 @@
 -- What holds of ranges and their serial numbers.
 use Rattle.std.specs.Prelude.{◌≡◌, ◌≢◌, ◌↔◌, IsTrue, ℕ, ◌<◌, ◌≤◌, true, false, Some, None}
-use Rattle.text_core.specs.Serial.{is_serial}
+use Rattle.text_core.specs.Prelude.{is_serial}
 use Rattle.id_ranges.specs.Range.{Range, IsRange, Has, RangesOverlap, ranges_overlap, serial_text_of}
 use Rattle.id_ranges.specs.NextSerial.{TextSet, next_serial, next_serial_from}
 

@@ -1,8 +1,7 @@
 // The lowest free block of addresses.
-ghost use Rattle.std.specs.Prelude.{◌≡◌, ◌<◌, ◌≤◌, ◌^◌, ℕ, true, false, find, Any, IfOk, OnErr};
-ghost use Rattle.std.specs.Option.{ok_or};
+ghost use Rattle.std.specs.Prelude.{◌≡◌, ◌<◌, ◌≤◌, ◌^◌, ℕ, true, false, find, Any, IfOk, OnErr, ok_or};
 ghost use Rattle.id_ranges.specs.Blocks as spec;
-ghost use Rattle.id_ranges.specs.Blocks.{is_free, starts, reserved_start, IsBlockWithin};
+ghost use Rattle.id_ranges.specs.Prelude.{is_free, starts, reserved_start, IsBlockWithin};
 
 use crate::fault::RangeFault;
 use crate::mac::Mac;

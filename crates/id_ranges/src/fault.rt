@@ -1,6 +1,6 @@
 // The faults of ranges.
 ghost use Rattle.std.specs.Prelude.{◌≡◌};
-ghost use Rattle.id_ranges.specs.RangeFaults.{range_fault_number};
+ghost use Rattle.id_ranges.specs.Prelude.{range_fault_number};
 
 use thiserror::Error;
 

@@ -2,7 +2,7 @@
 ghost use Rattle.std.specs.Prelude.{◌≡◌, Some};
 ghost use Rattle.hex.specs.Hex.{encode_lower};
 ghost use Rattle.sha2.specs.Sha256.{sha256};
-ghost use Rattle.text_core.specs.Digest.{digest_of_text};
+ghost use Rattle.text_core.specs.Prelude.{digest_of_text};
 
 use std::fmt;
 use std::marker::Model;

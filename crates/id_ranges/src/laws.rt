@@ -1,7 +1,5 @@
 // What holds of ranges and their serial numbers.
-ghost use Rattle.id_ranges.specs.SerialLaws.{MeetsIsTested, TextsAreSerials, NumbersDiffer};
-ghost use Rattle.id_ranges.specs.SerialLaws.{WidthsDiffer, NextIsLeast, NoneIsLeft};
-ghost use Rattle.id_ranges.specs.SerialLaws.{CursorSkipsIssued};
+ghost use Rattle.id_ranges.specs.Prelude.{MeetsIsTested, TextsAreSerials, NumbersDiffer, WidthsDiffer, NextIsLeast, NoneIsLeft, CursorSkipsIssued};
 
 /// The test whether two ranges meet says whether they are of one prefix and width and have a number in
 /// common.

@@ -1,12 +1,10 @@
 // The next serial number of a range.
-ghost use Rattle.std.specs.Prelude.{◌≡◌, IfOk};
+ghost use Rattle.std.specs.Prelude.{◌≡◌, IfOk, ok_or};
 ghost use Rattle.std.specs.BTreeSet.{contains};
 ghost use Rattle.std.specs.Cmp.Lexicographic.{slice_cmp};
-ghost use Rattle.std.specs.Option.{ok_or};
 ghost use Rattle.std.specs.Ordering.{nat_cmp};
-ghost use Rattle.text_core.specs.Answer.{GivesUnless};
-ghost use Rattle.id_ranges.specs.LookUps.{Looked};
-ghost use Rattle.id_ranges.specs.NextSerial.{IsOneFrom};
+ghost use Rattle.text_core.specs.Prelude.{GivesUnless};
+ghost use Rattle.id_ranges.specs.Prelude.{Looked, IsOneFrom};
 ghost use Rattle.id_ranges.specs.NextSerial as spec;
 
 use crate::fault::RangeFault;

@@ -1,8 +1,7 @@
 // Ranges of serial numbers.
 ghost use Rattle.std.specs.Prelude.{◌≡◌, ◌≤◌, ◌↔◌, IsTrue, true};
-ghost use Rattle.text_core.specs.Serial.{is_serial};
-ghost use Rattle.id_ranges.specs.Range.{Has, IsRange, RangesOverlap, SharesANumber, is_number_too_wide, ranges_overlap};
-ghost use Rattle.id_ranges.specs.Range.{range_of, serial_text_of};
+ghost use Rattle.text_core.specs.Prelude.{is_serial};
+ghost use Rattle.id_ranges.specs.Range.{Has, IsRange, RangesOverlap, SharesANumber, is_number_too_wide, ranges_overlap, range_of, serial_text_of};
 
 use crate::fault::RangeFault;
 use itoa::Buffer;

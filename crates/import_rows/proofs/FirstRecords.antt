@@ -1,10 +1,7 @@
 -- The records that a reader has given, as the first of its text.
-use Rattle.std.proofs.Common.{◌≡◌, ◌≤◌, ◌<◌, ◌+◌, ℕ, zero, suc, true, false, List, [], ◌∷◌, ◌++◌, length, take, take_all, Some, None, inl, inr, refl, sym, ap}
-use Rattle.std.proofs.Common.{subst, ◌∙◌, arith}
-use Rattle.std.proofs.lemmas.Bool.{cases_Bool}
-use Rattle.std.proofs.lemmas.Bool.Decides.{nat_tests}
-use Rattle.std.proofs.lemmas.List.{append-nil}
-use Rattle.std.proofs.Math.Seq.{take-append_seam}
+use Rattle.std.proofs.Common.{◌≡◌, ◌≤◌, ◌<◌, ◌+◌, ◌∷◌, ◌++◌}
+use Rattle.text_core.proofs.Kit.{ℕ, zero, suc, true, false, List, [], length, take, take_all, Some, None, inl, inr, refl, sym, ap, subst, ◌∙◌, arith}
+use Rattle.text_core.proofs.Kit.{cases_Bool, nat_tests, append-nil, take-append_seam}
 use Rattle.csv.specs.Machine.{Read, ends_at_end, field_after, fields_after, is_end, next_record, step}
 use Rattle.csv.specs.Reading.{Reached, default_config, records, records_from}
 use Rattle.csv.specs.declared.parser.State.{State}

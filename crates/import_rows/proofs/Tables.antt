@@ -1,16 +1,12 @@
 -- Tables of rows, by their first rows and by how the rows were found.
-use Rattle.std.proofs.Common.{◌≡◌, ◌≤◌, ◌<◌, ℕ, zero, suc, List, [], ◌∷◌, length, map, take, take_all, length-take, nat_le, Bool, ◌&&◌, if◌then◌else◌, true}
-use Rattle.std.proofs.Common.{false, Option, Some, None, option_map, option_and_then, inl, inr, refl, ap, ◌∙◌, arith}
-use Rattle.std.proofs.lemmas.Bool.{cases_Bool, le-leb, leb-true}
-use Rattle.std.proofs.lemmas.Bool.Decides.{nat_tests}
-use Rattle.std.specs.Str.{IsUtf8}
+use Rattle.std.proofs.Common.{◌≡◌, ◌≤◌, ◌<◌, ◌∷◌, ◌&&◌, if◌then◌else◌}
+use Rattle.text_core.proofs.Kit.{ℕ, zero, suc, List, [], length, map, take, take_all, length-take, nat_le, Bool, true, false, Option, Some, None, option_map}
+use Rattle.text_core.proofs.Kit.{option_and_then, inl, inr, refl, ap, ◌∙◌, arith, cases_Bool, le-leb, leb-true, nat_tests, IsUtf8}
 use Rattle.csv.specs.Records.{field_at}
 use Rattle.id_ranges.proofs.Texts.{serial_is_text}
-use Rattle.text_core.specs.Options.{all_of}
-use Rattle.text_core.specs.Serial.{is_serial, serial_of_text}
+use Rattle.text_core.specs.Prelude.{all_of, is_serial, serial_of_text}
 use Rattle.text_core.proofs.Lists.{all_of-map}
-use Rattle.import_rows.specs.Found.{found_row, with_serial}
-use Rattle.import_rows.specs.Rows.{fields_of_row, is_header, row_with_serial, import_table, two_fields}
+use Rattle.import_rows.specs.Prelude.{found_row, with_serial, fields_of_row, is_header, row_with_serial, import_table, two_fields}
 use Rattle.import_rows.specs.declared.read.FoundRow.{FoundRow}
 
 -- where the second test fails

@@ -1,6 +1,6 @@
 -- A row as it was found, before it is known whether each row has a serial number.
 use Rattle.std.specs.Prelude.{ℕ, List, Option, option_map}
-use Rattle.text_core.specs.Serial.{serial_of_text}
+use Rattle.text_core.specs.Prelude.{serial_of_text}
 use Rattle.import_rows.specs.declared.read.FoundRow.{FoundRow}
 use Rattle.import_rows.specs.declared.rows.ImportRow.{ImportRow}
 

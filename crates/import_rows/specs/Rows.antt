@@ -2,9 +2,7 @@
 use Rattle.std.specs.Prelude.{ℕ, Bool, ◌&&◌, nat_eq, nat_le, if◌then◌else◌, List, [], ◌∷◌, codes, length, Option, Some, None, option_map}
 use Rattle.std.specs.Cmp.Lexicographic.{pointwise}
 use Rattle.csv.specs.Reading.{default_config, records, strip_bom}
-use Rattle.text_core.specs.Digest.{digest_of_text}
-use Rattle.text_core.specs.Options.{◌>>=◌, all_of}
-use Rattle.text_core.specs.Serial.{serial_of_text}
+use Rattle.text_core.specs.Prelude.{digest_of_text, ◌>>=◌, all_of, serial_of_text}
 use Rattle.import_rows.specs.declared.rows.ImportRow.{ImportRow}
 
 -- the header of an import

@@ -1,12 +1,8 @@
 // The reading of an import, row for row.
 ghost use Rattle.std.specs.Prelude.{◌≡◌, IfOk, map, option_map};
 ghost use Rattle.csv.specs.Records.{fields_of};
-ghost use Rattle.text_core.specs.Digest.{digest_of_text};
-ghost use Rattle.text_core.specs.Options.{all_of};
-ghost use Rattle.text_core.specs.Serial.{serial_of_text};
-ghost use Rattle.import_rows.specs.Rows.{fields_of_row, is_header, row_with_serial, import_rows_of};
-ghost use Rattle.import_rows.specs.Rows.{import_table, two_fields};
-ghost use Rattle.import_rows.specs.Found.{found_row, with_serial};
+ghost use Rattle.text_core.specs.Prelude.{digest_of_text, all_of, serial_of_text};
+ghost use Rattle.import_rows.specs.Prelude.{fields_of_row, is_header, row_with_serial, import_rows_of, import_table, two_fields, found_row, with_serial};
 
 use crate::records::first_records;
 use crate::rows::{ImportRow, ImportRows};

@@ -1,12 +1,11 @@
 -- What a body reads as, by what the reader says.
-use Rattle.std.proofs.Common.{◌≡◌, ℕ, List, Bool, true, false, if◌then◌else◌, Some, None, Ok, Err, refl}
-use Rattle.std.specs.Option.{ok_or}
-use Rattle.std.specs.Str.{IsUtf8, is_utf8}
+use Rattle.std.proofs.Common.{◌≡◌, ℕ, List, Bool, true, false, if◌then◌else◌, Some, None, Ok, Err, refl, ok_or, IsUtf8}
+use Rattle.std.specs.Str.{is_utf8}
 use Rattle.std.proofs.lemmas.Str.{is_utf8-from_IsUtf8, IsUtf8-from_is_utf8}
 use Rattle.serde_json.specs.Data.{Data}
 use Rattle.serde_json.specs.Read.{read}
 use Rattle.json_members.specs.declared.JsonFault.TheVariants.{NotJson}
-use Rattle.json_members.specs.Json.{json_read}
+use Rattle.json_members.specs.Prelude.{json_read}
 
 pub json_read-found : (body : List ℕ) (d : Data) → IsUtf8 body → read body ≡ Some d → json_read body ≡ Ok d
 json_read-found body d text found = rw (is_utf8-from_IsUtf8 body text, found) refl

@@ -1,14 +1,10 @@
 -- A body as JSON (RFC 8259), and the members of a JSON value.
-use Rattle.std.specs.Prelude.{ℕ, List, [], ◌∷◌, ◌&&◌, nat_le, Option, Some, None, Result, option_and_then, option_map, if◌then◌else◌}
-use Rattle.std.specs.Option.{ok_or}
+use Rattle.std.specs.Prelude.{ℕ, List, [], ◌∷◌, ◌&&◌, nat_le, Option, Some, None, Result, option_and_then, option_map, if◌then◌else◌, ok_or}
 use Rattle.std.specs.Str.{is_utf8}
 use Rattle.serde_json.specs.Data.{Data, null, string, Items, no_items, item}
 use Rattle.serde_json.specs.Read.{read}
 use Rattle.serde_json.specs.Find.{get, as_array, as_str, as_number, as_u64}
-use Rattle.text_core.specs.Chip.{chip_of_text}
-use Rattle.text_core.specs.Digest.{digest_of_text}
-use Rattle.text_core.specs.Name.{name_of_text}
-use Rattle.text_core.specs.Options.{list_of_length}
+use Rattle.text_core.specs.Prelude.{chip_of_text, digest_of_text, name_of_text, list_of_length}
 use Rattle.json_members.specs.declared.JsonFault.{JsonFault}
 use Rattle.json_members.specs.declared.JsonFault.TheVariants.{NotJson}
 

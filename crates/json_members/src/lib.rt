@@ -4,11 +4,9 @@
 ghost use Rattle.std.specs.Prelude.{◌≡◌, ◌≤◌, IfOk, IfSome, Option, map, option_map};
 ghost use Rattle.serde_json.specs.Data.{Data};
 ghost use Rattle.serde_json.specs.View.{view};
-ghost use Rattle.text_core.specs.Answer.{GivesUnless, result_map};
-ghost use Rattle.text_core.specs.Options.{all_of, list_of_length};
-ghost use Rattle.text_core.specs.Readers.{ReadsItems, ReadsOrFails};
+ghost use Rattle.text_core.specs.Prelude.{GivesUnless, result_map, all_of, list_of_length, ReadsItems, ReadsOrFails};
 ghost use Rattle.json_members.specs.Json as json;
-ghost use Rattle.json_members.specs.Json.{json_read};
+ghost use Rattle.json_members.specs.Prelude.{json_read};
 ghost use Rattle.json_members.specs.declared.JsonFault.TheVariants.{OutOfMemory};
 
 use serde_json::Value;

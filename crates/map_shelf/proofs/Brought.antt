@@ -1,10 +1,7 @@
 -- The numbers of what was asked for last, and what holds of each of them.
-use Rattle.std.proofs.Common.{◌≡◌, ◌+◌, ◌∙◌, ℕ, suc, nat_lt, Bool, cond, List, [], ◌∷◌, ◌++◌, map, take, drop, Some, None, refl, sym, ap, ap₂}
-use Rattle.std.specs.Prelude.{All, not, position, remove}
-use Rattle.std.specs.List.{position_or_len}
-use Rattle.std.proofs.lemmas.List.{length-map, map-append, take-map}
-use Rattle.std.specs.List.{drop-map}
-use Rattle.std.proofs.lemmas.List.Elements.{All-append, All-cons, All-drop, All-take}
+use Rattle.std.proofs.Common.{◌≡◌, ◌+◌, ◌∷◌, ◌++◌}
+use Rattle.text_core.proofs.Kit.{◌∙◌, ℕ, suc, nat_lt, Bool, cond, List, [], map, take, drop, Some, None, refl, sym, ap, ap₂, All, not, position, remove}
+use Rattle.text_core.proofs.Kit.{position_or_len, length-map, map-append, take-map, drop-map, All-append, All-cons, All-drop, All-take}
 use Rattle.map_shelf.specs.Recent.{with_first}
 
 module _ {X Y : Type 0} (f : X → Y) where

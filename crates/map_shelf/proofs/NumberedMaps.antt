@@ -1,10 +1,8 @@
 -- The maps that are kept by number, and the one at the place of a number.
-use Rattle.std.proofs.Common.{◌≡◌, ◌∙◌, ℕ, List, Option, Some, Result, Ok, Err, get_or, nat_eq, map, sym, ap}
-use Rattle.std.specs.Prelude.{All, IfOk, IfSome, OnErr, OnOk, position}
-use Rattle.std.specs.Result.{result_ok}
-use Rattle.std.proofs.lemmas.Bool.{eqb-true}
-use Rattle.std.proofs.lemmas.List.Elements.{All-same}
-use Rattle.fusemap_core.specs.Map.{Map}
+use Rattle.std.proofs.Common.{◌≡◌, get_or}
+use Rattle.text_core.proofs.Kit.{◌∙◌, ℕ, List, Option, Some, Result, Ok, Err, nat_eq, map, sym, ap, All, IfOk, IfSome, OnErr, OnOk, position, result_ok}
+use Rattle.text_core.proofs.Kit.{eqb-true, All-same}
+use Rattle.fusemap_core.specs.Prelude.{Map}
 use Rattle.map_shelf.specs.Recent.{with_first}
 use Rattle.map_shelf.proofs.Brought.{All-with_first, map-with_first}
 use Rattle.map_shelf.specs.Numbers.{IsMapOfNumber}

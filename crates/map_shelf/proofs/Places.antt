@@ -1,10 +1,7 @@
 -- What stands at the place of the first that passes a test.
-use Rattle.std.proofs.Common.{◌≡◌, ◌<◌, ℕ, nat_lt, Bool, true, false, cond, List, length, get_or, Option, Some, None, refl, sym, ap, subst, ◌∙◌}
-use Rattle.std.specs.Prelude.{bytes_eq, position, IfSome, IfNone}
-use Rattle.std.specs.List.{position_or_len}
-use Rattle.std.proofs.lemmas.Bool.{ltb-true}
-use Rattle.std.proofs.lemmas.List.Sums.{passes_at_first}
-use Rattle.std.proofs.lemmas.Slice.Eq.{bytes_eq-Decides}
+use Rattle.std.proofs.Common.{◌≡◌, ◌<◌, get_or}
+use Rattle.text_core.proofs.Kit.{ℕ, nat_lt, Bool, true, false, cond, List, length, Option, Some, None, refl, sym, ap, subst, ◌∙◌, bytes_eq, position, IfSome}
+use Rattle.text_core.proofs.Kit.{IfNone, position_or_len, ltb-true, passes_at_first, bytes_eq-Decides}
 
 at_first : {X : Type 0} (p : X → Bool) (xs : List X) (first place : ℕ) (d : X) (is_low : Bool) → first ≡ position_or_len p xs
     → nat_lt first (length xs) ≡ is_low → cond is_low (Some first) None ≡ Some place

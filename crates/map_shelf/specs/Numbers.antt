@@ -1,6 +1,6 @@
 -- Fuse maps that are kept by number, and when they are right.
 use Rattle.std.specs.Prelude.{◌≡◌, ℕ, All, List, map, Option, Some}
-use Rattle.fusemap_core.specs.Map.{Map}
+use Rattle.fusemap_core.specs.Prelude.{Map}
 use Rattle.map_shelf.specs.declared.numbered.NumberedMap.{NumberedMap}
 use Rattle.map_shelf.specs.declared.numbered.NumberShelf.{NumberShelf}
 

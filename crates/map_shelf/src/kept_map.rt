@@ -1,6 +1,6 @@
 // A fuse map that is kept with its text.
 ghost use Rattle.std.specs.Prelude.{◌≡◌, Some, IfOk};
-ghost use Rattle.fusemap_core.specs.MapText.{map_in};
+ghost use Rattle.fusemap_core.specs.Prelude.{map_in};
 
 use fusemap_core::FuseMap;
 use std::alloc::AllocError;
@@ -16,7 +16,7 @@ pub(crate) struct KeptMap {
 
 impl Model for KeptMap {
     ghost use Rattle.std.specs.Prelude.{◌≡◌, List, ℕ, Some};
-    ghost use Rattle.fusemap_core.specs.MapText.{map_in};
+    ghost use Rattle.fusemap_core.specs.Prelude.{map_in};
 
     ghost Value = { List ℕ };
 

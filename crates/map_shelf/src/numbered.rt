@@ -1,7 +1,6 @@
 // The maps that are kept by number.
-ghost use Rattle.std.specs.Prelude.{◌≡◌, ◌⊎◌, ℕ, Option, Some, IfNone, IfSome, OnErr, OnOk};
-ghost use Rattle.std.specs.Prelude.{nat_eq, position, remove};
-ghost use Rattle.fusemap_core.specs.Map.{Map};
+ghost use Rattle.std.specs.Prelude.{◌≡◌, ◌⊎◌, ℕ, Option, Some, IfNone, IfSome, OnErr, OnOk, nat_eq, position, remove};
+ghost use Rattle.fusemap_core.specs.Prelude.{Map};
 ghost use Rattle.map_shelf.specs.Numbers.{AreMapsOfNumbers, numbers_of};
 ghost use Rattle.map_shelf.specs.Recent.{with_first};
 

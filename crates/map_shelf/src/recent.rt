@@ -1,6 +1,5 @@
 // What was asked for last.
-ghost use Rattle.std.specs.Prelude.{◌≡◌, ◌<◌, IsOk, OnErr, OnOk, remove, slice_index_or, vec_capacity};
-ghost use Rattle.std.specs.Prelude.{vec_len};
+ghost use Rattle.std.specs.Prelude.{◌≡◌, ◌<◌, IsOk, OnErr, OnOk, remove, slice_index_or, vec_capacity, vec_len};
 ghost use Rattle.map_shelf.specs.Recent.{with_first};
 
 use std::alloc::AllocError;

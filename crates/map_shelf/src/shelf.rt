@@ -1,7 +1,6 @@
 // The maps that are kept.
-ghost use Rattle.std.specs.Prelude.{◌≡◌, ◌⊎◌, [], Some, IfNone, IfOk, IfSome, OnErr, OnOk, bytes_eq};
-ghost use Rattle.std.specs.Prelude.{position, remove};
-ghost use Rattle.fusemap_core.specs.MapText.{map_in};
+ghost use Rattle.std.specs.Prelude.{◌≡◌, ◌⊎◌, [], Some, IfNone, IfOk, IfSome, OnErr, OnOk, bytes_eq, position, remove};
+ghost use Rattle.fusemap_core.specs.Prelude.{map_in};
 ghost use Rattle.map_shelf.specs.Recent.{with_first};
 
 use crate::kept_map::KeptMap;

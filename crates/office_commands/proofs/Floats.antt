@@ -1,29 +1,23 @@
 -- Nothing that is shown of a device has a float.
-use Rattle.std.proofs.Common.{◌≡◌, ℕ, suc, ◌==◌, Bool, true, false, List, [], ◌∷◌, map, Option, Some, None, Ordering, Less, Equal, Greater, refl, if◌then◌else◌}
-use Rattle.std.proofs.lemmas.Bool.{or_from, or_parts}
+use Rattle.std.proofs.Common.{◌≡◌, ◌==◌, ◌∷◌, Ordering, if◌then◌else◌}
+use Rattle.text_core.proofs.Kit.{ℕ, suc, Bool, true, false, List, [], map, Option, Some, None, Less, Equal, Greater, refl, or_from, or_parts, match_ordering}
 use Rattle.std.specs.FinMap as table
-use Rattle.std.specs.Ordering.{match_ordering}
 use Rattle.serde_json.specs.Data.{Data, Members, no_members, member, put}
 use Rattle.serde_json.specs.Written.{has_float, items_have_float, members_have_float}
 use Rattle.fusemap_core.specs.declared.field.Field.{Field}
-use Rattle.fusemap_core.specs.Map.{Map}
+use Rattle.fusemap_core.specs.Prelude.{Map}
 use Rattle.fuse_image.specs.declared.image.Image.{Image}
-use Rattle.fuse_image.specs.Keys.{KeyTable}
-use Rattle.fuse_image.specs.Places.{Positions}
-use Rattle.fuse_image.specs.Words.{words_of_set}
+use Rattle.fuse_image.specs.Prelude.{KeyTable, Positions, words_of_set}
 use Rattle.fuse_image.specs.declared.pending.Pending.{Pending}
-use Rattle.office_tables.specs.States.{state_row}
+use Rattle.office_tables.specs.Prelude.{state_row}
 use Rattle.office_tables.specs.declared.rows.Device.{Device}
 use Rattle.office_tables.specs.declared.rows.DeviceState.{DeviceState}
 use Rattle.office_tables.specs.declared.rows.NewEntry.{NewEntry}
 use Rattle.office_tables.specs.declared.rows.Outcome.{Outcome}
 use Rattle.office_tables.specs.declared.rows.Reason.{Reason}
 use Rattle.office_tables.specs.declared.rows.Reason.TheVariants.{Lost, Stray, Key}
-use Rattle.office_commands.specs.Replies.{text_data}
-use Rattle.office_commands.specs.StepReplies.{outcome_data, plan_data}
-use Rattle.office_commands.specs.DeviceReplies.{items_of, word_data, word_list, bits_data, key_at, with_digest, with_key_members, keys_data}
-use Rattle.office_commands.specs.DeviceReplies.{batch_data, reason_data}
-use Rattle.office_commands.specs.DeviceReplies.{device_data, entry_by, entry_data, fields_of, image_by, ledger_data}
+use Rattle.office_commands.specs.Prelude.{text_data, outcome_data, plan_data, items_of, word_data, word_list, bits_data, key_at, with_digest, with_key_members}
+use Rattle.office_commands.specs.Prelude.{keys_data, batch_data, reason_data, device_data, entry_by, entry_data, fields_of, image_by, ledger_data}
 
 in_words_shown : (is_zero : Bool) (d : Data) (ds : List Data) → has_float d ≡ false → items_have_float (items_of ds) ≡ false
     → items_have_float (items_of (if is_zero then ds else d ∷ ds)) ≡ false

@@ -1,18 +1,17 @@
 -- The body of each refusal tells its number.
-use Rattle.std.proofs.Common.{◌≡◌, ◌+◌, ◌++◌, ◌∷◌, [], ℕ, List, append_assoc, inl, inr, refl, sym, ap, ◌∙◌}
-use Rattle.std.specs.Prelude.{codes, decimal}
+use Rattle.std.proofs.Common.{◌≡◌, ◌+◌, ◌++◌, ◌∷◌, [], ℕ, List, append_assoc, inl, inr, refl, sym, ap, ◌∙◌, codes, decimal}
 use Rattle.std.specs.Fmt.{digits}
 use Rattle.fuse_plan.specs.declared.fault.PlanFault.{PlanFault}
 use Rattle.fuse_plan.specs.declared.fault.PlanFault.TheVariants.{UnknownField, UnmappedBit, ValueTooWide, ClearsBurnt, Contradiction, WrongKind, OtherKey}
 use Rattle.fuse_plan.specs.declared.fault.PlanFault.TheVariants.{WriteProtected, Hidden, NoLock}
-use Rattle.fuse_plan.specs.Plans.{plan_fault_number}
+use Rattle.fuse_plan.specs.Prelude.{plan_fault_number}
 use Rattle.office_commands.specs.declared.refusal.Refusal.{Refusal}
 use Rattle.office_commands.specs.declared.refusal.Refusal.TheVariants.{UnknownToken, UnknownPath, WrongCaller, BadJson, BadMember, WrongNumber, OtherBody}
 use Rattle.office_commands.specs.declared.refusal.Refusal.TheVariants.{UnknownMap, UnknownOrder, UnknownDevice, Exists, WrongState, QuantityReached, BadPlan}
 use Rattle.office_commands.specs.declared.refusal.Refusal.TheVariants.{BadMap, BadSerial, NumberTooWide, Exhausted, NoMacRoom, RangeOverlap, KeyBound}
 use Rattle.office_commands.specs.declared.refusal.Refusal.TheVariants.{CodingScheme, ForeignIssuer, ImportConflict, MapDigestTaken, Limit, BadReadback}
 use Rattle.office_commands.specs.declared.refusal.Refusal.TheVariants.{BadNotBefore, Unkept}
-use Rattle.office_commands.specs.Refusals.{plan_fault_body, refusal_body, refusal_number, TellsNumber}
+use Rattle.office_commands.specs.Prelude.{plan_fault_body, refusal_body, refusal_number, TellsNumber}
 
 -- a body that ends with the number
 ends_with : (body front : List ℕ) (number : ℕ) → body ≡ front ++ (codes "\"no\":" ++ (decimal number ++ 125 ∷ [])) → TellsNumber body number

@@ -3,8 +3,8 @@ use Rattle.std.specs.Prelude.{ℕ, List, [], ◌∷◌, codes}
 use Rattle.serde_json.specs.Data.{Data, string, object}
 use Rattle.serde_json.specs.Written.{compact_text}
 use Rattle.hex.specs.Hex.{encode_lower}
-use Rattle.id_ranges.specs.Idevid.{Idevid}
-use Rattle.office_tables.specs.States.{state_row}
+use Rattle.id_ranges.specs.Prelude.{Idevid}
+use Rattle.office_tables.specs.Prelude.{state_row}
 use Rattle.office_tables.specs.declared.rows.DeviceState.{DeviceState}
 use Rattle.office_commands.specs.Replies.{mac_data, members_of, text_data, whole_data}
 

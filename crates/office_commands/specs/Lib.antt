@@ -7,3 +7,4 @@ pub mod DeviceReplies
 pub mod StepReplies
 pub mod Wholes
 pub mod IdentityReplies
+pub mod Prelude

@@ -3,10 +3,10 @@ use Rattle.std.specs.Prelude.{ℕ, List, [], ◌∷◌, codes, Option, Some, Non
 use Rattle.serde_json.specs.Data.{Data, null, number, unsigned, string, object, Members, no_members, member}
 use Rattle.serde_json.specs.Written.{compact_text}
 use Rattle.hex.specs.Hex.{encode_lower}
-use Rattle.http_replies.specs.Replies.{Answer}
+use Rattle.http_replies.specs.Prelude.{Answer}
 use Rattle.http_replies.specs.declared.Status.TheVariants.{Success}
 use Rattle.http_replies.specs.declared.Kind.TheVariants.{Json}
-use Rattle.id_ranges.specs.Mac.{mac_text}
+use Rattle.id_ranges.specs.Prelude.{mac_text}
 use Rattle.office_tables.specs.declared.rows.Order.{Order}
 use Rattle.office_commands.specs.declared.refusal.Refusal.{Refusal}
 use Rattle.office_commands.specs.Refusals.{refusal_status, refusal_body}
@@ -19,17 +19,21 @@ acceptance body = record { status = Success; kind = Json; body = body }
 abbrev pub refusal : Refusal → Answer
 refusal r = record { status = refusal_status r; kind = Json; body = refusal_body r }
 
+-- names with their values, as the members of an object
 abbrev pub members_of : List (List ℕ × Data) → Members
 members_of [] = no_members
 members_of (m ∷ ms) = member m.0 m.1 (members_of ms)
 
+-- a whole number
 abbrev pub whole_data : ℕ → Data
 whole_data n = number (unsigned n)
 
+-- a text, null where there is none
 abbrev pub text_data : Option (List ℕ) → Data
 text_data None = null
 text_data (Some text) = string text
 
+-- a hardware address by its text, null where there is none
 abbrev pub mac_data : Option ℕ → Data
 mac_data None = null
 mac_data (Some mac) = string (mac_text mac)

@@ -1,6 +1,5 @@
 // What a seat can ask for.
-ghost use Rattle.office_commands.specs.Asked.{IsAsked};
-ghost use Rattle.office_commands.specs.Wholes.{IsRequestNumber};
+ghost use Rattle.office_commands.specs.Prelude.{IsAsked, IsRequestNumber};
 
 use crate::{AskedOrder, NewDevice, NewIdentity, NewImport, RequestNumber, Wishes};
 use fuse_image::BlockWords;
@@ -67,9 +66,8 @@ pub struct Request {
 }
 
 impl Request {
-    /// The numbers of what is asked for are within their ranges. Nothing happens: it is what is known
-    /// of each request by its types.
-    pub fn assert_in_range(&self)
+    /// A fact: the numbers of what is asked for are within their ranges. Nothing happens.
+    pub fn fact_in_range(&self)
         ensures asked { IsAsked self.now }
         ensures number { IsRequestNumber self.now.number }
     {
@@ -78,7 +76,7 @@ impl Request {
             Command::Change(Change::MakeOrder(order)) => {
                 let _order = order.order();
             }
-            Command::Change(Change::Act(_, Action::Plan(wishes))) => wishes.assert_digests(),
+            Command::Change(Change::Act(_, Action::Plan(wishes))) => wishes.fact_digests(),
             _ => {}
         }
     }

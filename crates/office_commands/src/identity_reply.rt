@@ -2,7 +2,7 @@
 ghost use Rattle.std.specs.Prelude.{◌≡◌, IfOk, string_bytes};
 ghost use Rattle.serde_json.specs.View.{view};
 ghost use Rattle.office_commands.specs.IdentityReplies as replies;
-ghost use Rattle.office_commands.specs.IdentityReplies.{identity_data, import_data, state_data};
+ghost use Rattle.office_commands.specs.Prelude.{identity_data, import_data, state_data};
 
 use crate::reply::{mac_value, start_value};
 use id_ranges::IdevidRecord;

@@ -1,7 +1,6 @@
 // Why a request is refused.
 ghost use Rattle.std.specs.Prelude.{◌≡◌};
-ghost use Rattle.office_commands.specs.Refusals.{TellsNumber, refusal_body, refusal_number};
-ghost use Rattle.office_commands.specs.Refusals.{refusal_status};
+ghost use Rattle.office_commands.specs.Prelude.{TellsNumber, refusal_body, refusal_number, refusal_status};
 
 use fuse_plan::PlanFault;
 use http_replies::Status;

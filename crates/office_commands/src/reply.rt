@@ -1,11 +1,9 @@
 // What a seat is answered.
 ghost use Rattle.std.specs.Prelude.{◌≡◌, IfOk, option_map, string_bytes};
 ghost use Rattle.serde_json.specs.View.{view};
-ghost use Rattle.http_replies.specs.Replies.{answer_of, bytes_of_body, kind_of_body};
+ghost use Rattle.http_replies.specs.Prelude.{answer_of, bytes_of_body, kind_of_body};
 ghost use Rattle.http_replies.specs.declared.Kind.{Kind};
-ghost use Rattle.office_commands.specs.Refusals.{plan_fault_body, refusal_body};
-ghost use Rattle.office_commands.specs.Replies.{acceptance, refusal, text_data, mac_data};
-ghost use Rattle.office_commands.specs.Replies.{order_data, map_data};
+ghost use Rattle.office_commands.specs.Prelude.{plan_fault_body, refusal_body, acceptance, refusal, text_data, mac_data, order_data, map_data};
 ghost use Rattle.office_commands.specs.Replies as replies;
 
 use crate::Refusal;

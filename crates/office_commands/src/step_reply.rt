@@ -1,9 +1,9 @@
 // What answers a plan and a read-back.
 ghost use Rattle.std.specs.Prelude.{◌≡◌, All, IfOk, string_bytes};
 ghost use Rattle.serde_json.specs.View.{view};
-ghost use Rattle.fusemap_core.specs.Map.{IsSmall};
+ghost use Rattle.fusemap_core.specs.Prelude.{IsSmall};
 ghost use Rattle.office_commands.specs.StepReplies as replies;
-ghost use Rattle.office_commands.specs.StepReplies.{outcome_data, plan_data};
+ghost use Rattle.office_commands.specs.Prelude.{outcome_data, plan_data};
 
 use crate::device_reply::batch_value;
 use fuse_image::{Image, Keys, Pending};

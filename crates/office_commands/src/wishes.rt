@@ -29,14 +29,13 @@ impl Wishes {
         Wishes { wishes }
     }
 
-    /// The keys that are wished for are named by digests of 32 bytes. Nothing happens: it is what is
-    /// known of each wish by its type.
-    pub fn assert_digests(&self)
+    /// A fact: the keys that are wished for are named by digests of 32 bytes. Nothing happens.
+    pub fn fact_digests(&self)
         ensures { AllByRecursion (λ w. HasDigest w.want) self.now }
     {
         let wishes = self.as_slice();
         for wish in wishes {
-            assert_digest(wish.want);
+            fact_digest(wish.want);
         }
     }
 
@@ -48,8 +47,8 @@ impl Wishes {
     }
 }
 
-/// A key that is wished for is named by a digest of 32 bytes.
-fn assert_digest(want: Want)
+/// A fact: a key that is wished for is named by a digest of 32 bytes. Nothing happens.
+fn fact_digest(want: Want)
     ensures { HasDigest want }
 {
     if let Want::Key(digest) = want {

@@ -1,31 +1,27 @@
 -- A judgement that is carried out, with its reply kept.
-use Rattle.std.proofs.Common.{◌≡◌, ◌⊎◌, inl, inr, ℕ, List, [], ◌∷◌, ◌++◌, Some, sym, ◌∙◌, ap, subst}
-use Rattle.std.specs.Prelude.{IfOk, MatchResult, Result, Ok, Err, string_bytes}
-use Rattle.text_core.specs.Options.{first_that_holds}
-use Rattle.http_replies.specs.Replies.{Answer, answer_of}
+use Rattle.std.proofs.Common.{◌≡◌, ◌⊎◌, inl, inr, ℕ, List, [], ◌∷◌, ◌++◌, Some, sym, ◌∙◌, ap, subst, IfOk, MatchResult, Result, Ok, Err, string_bytes}
+use Rattle.text_core.specs.Prelude.{first_that_holds}
+use Rattle.http_replies.specs.Prelude.{Answer, answer_of}
 use Rattle.http_replies.specs.declared.Reply.{Reply}
-use Rattle.site_core.specs.Section.{Section}
+use Rattle.site_core.specs.Prelude.{Section}
 use Rattle.office_tables.specs.declared.rows.OfCustomer.{OfCustomer}
 use Rattle.office_tables.specs.declared.rows.SeatState.{SeatState}
 use Rattle.office_tables.specs.declared.rows.Write.TheVariants.{PutSeat}
-use Rattle.office_tables.specs.Tables.{Tables, Written, with_seat}
+use Rattle.office_tables.specs.Prelude.{Tables, Written, with_seat}
 use Rattle.office_tables.specs.declared.keep.Unkept.{Unkept}
 use Rattle.office_tables.proofs.Writing.{Written_last}
 use Rattle.office_commands.specs.declared.command.Request.{Request}
+use Rattle.office_commands.specs.Prelude.{acceptance, refusal}
+use Rattle.office_commands.specs.declared.refusal.Refusal.{Refusal}
 use Rattle.office_commands.specs.declared.command.Change.{Change}
 use Rattle.office_commands.specs.declared.command.Command.TheVariants.{Show}
 use Rattle.office_commands.specs.declared.command.Show.{Show as Showing}
-use Rattle.office_commands.specs.Replies.{acceptance, refusal}
-use Rattle.office_commands.specs.declared.refusal.Refusal.{Refusal}
 use Rattle.office_judges.specs.declared.judgement.Accepted.{Accepted}
 use Rattle.office_judges.specs.declared.judgement.Judgement.TheVariants.{Accepted as Accepts, Refused as Refuses}
-use Rattle.office_judges.specs.Judging.{IsJudged}
-use Rattle.office_rules.specs.Effect.{seat_put}
-use Rattle.office_rules.specs.Machine.{decide, effect, refusals, reply_only, show_reply}
-use Rattle.office_rules.specs.OfficeMachine.{Performs, Step, office_sight, seat_row_after}
-use Rattle.office_rules.specs.Retry.{kept_of}
+use Rattle.office_judges.specs.Prelude.{IsJudged}
+use Rattle.office_rules.specs.Prelude.{seat_put, decide, effect, refusals, reply_only, show_reply, Performs, Step, office_sight, seat_row_after, kept_of}
 use Rattle.office_rules.proofs.Fulfilled.{last_put, puts_made}
-use Rattle.office_core.specs.Retrying.{CommitsReply}
+use Rattle.office_core.specs.Prelude.{CommitsReply}
 
 -- the row of a seat whose request has this number and this reply
 abbrev row_with : List ℕ → List ℕ → Request → ℕ → List ℕ → OfCustomer SeatState

@@ -1,24 +1,20 @@
 -- Parts of a run, each under its own site.
-use Rattle.std.proofs.Common.{◌≡◌, ◌∙◌, ◌+◌, ◌<◌, ◌++◌, ℕ, List, [], ◌∷◌, length, map, drop, get_or, add-one, drop-cons, refl, ap}
-use Rattle.std.specs.Prelude.{zip}
-use Rattle.std.specs.List.{AllByRecursion}
-use Rattle.std.proofs.lemmas.Grind.{flat_map-append}
-use Rattle.std.proofs.lemmas.List.{append-nil, length-append, length-map}
-use Rattle.http_replies.specs.Replies.{answer_of}
+use Rattle.std.proofs.Common.{◌≡◌, ◌+◌, ◌<◌, ◌++◌, ◌∷◌, get_or, drop-cons}
+use Rattle.text_core.proofs.Kit.{◌∙◌, ℕ, List, [], length, map, drop, add-one, refl, ap, zip, AllByRecursion, flat_map-append, append-nil, length-append}
+use Rattle.text_core.proofs.Kit.{length-map}
+use Rattle.http_replies.specs.Prelude.{answer_of}
 use Rattle.http_replies.specs.declared.Reply.{Reply}
-use Rattle.http_replies.proofs.RunLemmas.{runs_both}
-use Rattle.site_core.specs.Ownership.{Ownership, ownership_of}
-use Rattle.site_core.specs.Site.{IsSite}
+use Rattle.text_core.proofs.MachineLemmas.{runs_both}
+use Rattle.site_core.specs.Prelude.{Ownership, ownership_of, IsSite}
 use Rattle.site_core.proofs.Kept.{owners_grown}
-use Rattle.office_tables.specs.Tables.{Tables}
+use Rattle.office_tables.specs.Prelude.{Tables}
 use Rattle.office_tables.specs.declared.keep.Keep.{Ghosts}
-use Rattle.office_laws.specs.Exchanges.{Call, Exchange, Passes}
-use Rattle.office_laws.specs.Growth.{AreSeats}
+use Rattle.office_laws.specs.Prelude.{Call, Exchange, Passes, AreSeats}
 use Rattle.office_laws.proofs.Grown.{growth_itself}
 use Rattle.office_laws.proofs.Leaving.{leaves_joined}
 use Rattle.office_laws.proofs.Seats.{IsSeatOf}
 use Rattle.office_laws.proofs.Stopping.{seats_grown}
-use Rattle.office_core.specs.Replaying.{Answered, AreGrown, BeginGrown, call_of, calls_in, calls_of_parts, last_owners, sites_of}
+use Rattle.office_core.specs.Prelude.{Answered, AreGrown, BeginGrown, call_of, calls_in, calls_of_parts, last_owners, sites_of}
 use Rattle.office_core.specs.declared.requests.Part.{Part}
 
 -- the calls of one part more

@@ -1,9 +1,8 @@
 -- Calls and their replies, one more at a time.
-use Rattle.std.proofs.Common.{◌≡◌, List, [], ◌∷◌, ◌++◌, length, map, refl, ap, suc}
-use Rattle.std.specs.Prelude.{zip}
-use Rattle.http_replies.specs.Replies.{answer_of}
+use Rattle.std.proofs.Common.{◌≡◌, List, [], ◌∷◌, ◌++◌, length, map, refl, ap, suc, zip}
+use Rattle.http_replies.specs.Prelude.{answer_of}
 use Rattle.http_replies.specs.declared.Reply.{Reply}
-use Rattle.office_laws.specs.Exchanges.{Call, Exchange, calls_of}
+use Rattle.office_laws.specs.Prelude.{Call, Exchange, calls_of}
 
 pub exchanges_more : (cs : List Call) (replies : List Reply) (c : Call) (reply : Reply)
     → length replies ≡ length cs

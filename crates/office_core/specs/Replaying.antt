@@ -1,19 +1,11 @@
 -- Lists of requests and their replies.
-use Rattle.std.specs.Prelude.{List, [], ◌∷◌, map, zip}
-use Rattle.std.specs.List.{flat_map}
-use Rattle.http_replies.specs.Replies.{answer_of}
+use Rattle.std.specs.Prelude.{List, [], ◌∷◌, map, zip, flat_map}
+use Rattle.http_replies.specs.Prelude.{answer_of}
 use Rattle.http_replies.specs.declared.Reply.{Reply}
-use Rattle.site_core.specs.Caller.{section_at, seat_name_at}
-use Rattle.site_core.specs.Growth.{IsGrowth}
-use Rattle.site_core.specs.Ownership.{Ownership, OwnershipGrows, ownership_of}
-use Rattle.site_core.specs.Section.{SiteValue}
-use Rattle.office_tables.specs.Keeping.{Stands}
-use Rattle.office_tables.specs.Tables.{Tables}
+use Rattle.site_core.specs.Prelude.{section_at, seat_name_at, IsGrowth, Ownership, OwnershipGrows, ownership_of, SiteValue}
+use Rattle.office_tables.specs.Prelude.{Stands, Tables}
 use Rattle.office_tables.specs.declared.keep.Keep.{Ghosts}
-use Rattle.office_laws.specs.Sound.{IsSound}
-use Rattle.office_laws.specs.Exchanges.{Call, Exchange, IsRun, asks}
-use Rattle.office_laws.specs.Promises.{Promises}
-use Rattle.office_laws.specs.Stops.{LeavesAfter}
+use Rattle.office_laws.specs.Prelude.{IsSound, Call, Exchange, IsRun, asks, Promises, LeavesAfter}
 use Rattle.office_core.specs.declared.requests.Part.{Part}
 use Rattle.office_core.specs.declared.requests.SeatRequest.{SeatRequest}
 

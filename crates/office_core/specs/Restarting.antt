@@ -1,8 +1,8 @@
 -- A store that is stopped and opened again.
 use Rattle.std.specs.Prelude.{◌≡◌, List}
-use Rattle.office_tables.specs.Tables.{Tables}
+use Rattle.office_tables.specs.Prelude.{Tables}
 use Rattle.office_tables.specs.declared.keep.Keep.{Ghosts}
-use Rattle.office_laws.specs.Exchanges.{Exchange}
+use Rattle.office_laws.specs.Prelude.{Exchange}
 use Rattle.office_core.specs.Replaying.{Answered}
 
 -- A store from its opening to its stop: a crash could leave nothing but its tables when it was

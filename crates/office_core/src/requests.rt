@@ -1,16 +1,12 @@
 // Lists of requests, one after another.
-ghost use Rattle.std.specs.Prelude.{◌≡◌, ◌+◌, ◌≤◌, ◌++◌, ◌∷◌, [], All, List, length, IsOk, IfOk, IfSome, OnErr};
+ghost use Rattle.std.specs.Prelude.{◌≡◌, ◌+◌, ◌≤◌, ◌++◌, ◌∷◌, [], All, List, length, IsOk, IfOk, IfSome, OnErr, vec_capacity, vec_len};
 ghost use Rattle.std.specs.List.{AllByRecursion};
-ghost use Rattle.std.specs.Vec.{vec_capacity, vec_len};
 ghost use Rattle.http_replies.specs.declared.Reply.{Reply as AReply};
-ghost use Rattle.site_core.specs.Caller.{IsSeatCaller};
-ghost use Rattle.site_core.specs.Ownership.{PoolsDisjoint, Ownership, ownership_of};
-ghost use Rattle.site_core.specs.Site.{IsSite};
-ghost use Rattle.office_tables.specs.Keeping.{Stands};
-ghost use Rattle.office_tables.specs.Tables.{Tables};
-ghost use Rattle.office_laws.specs.Growth.{AreSeats, IsSeat};
-ghost use Rattle.office_core.specs.Replaying.{Answered, AreGrown, BeginGrown, KeepsPromises, call_of, calls_in, calls_of_parts, exchanges_in};
-ghost use Rattle.office_core.specs.Replaying.{exchanges_of_parts, last_owners, sites_of};
+ghost use Rattle.site_core.specs.Prelude.{IsSeatCaller, PoolsDisjoint, Ownership, ownership_of, IsSite};
+ghost use Rattle.office_tables.specs.Prelude.{Stands, Tables};
+ghost use Rattle.office_laws.specs.Prelude.{AreSeats, IsSeat};
+ghost use Rattle.office_core.specs.Prelude.{Answered, AreGrown, BeginGrown, KeepsPromises, call_of, calls_in, calls_of_parts, exchanges_in, exchanges_of_parts};
+ghost use Rattle.office_core.specs.Prelude.{last_owners, sites_of};
 
 use crate::office::answer;
 use http_replies::Reply;
@@ -33,13 +29,13 @@ pub struct Part<'a> {
     pub requests: &'a [SeatRequest],
 }
 
-/// The caller is a seat of the site, and asks for what a seat can ask for.
-fn seat_asks(site: &Site, asked: &SeatRequest)
+/// A fact: the caller is a seat of the site, and asks for what a seat can ask for. Nothing happens.
+fn fact_seat(site: &Site, asked: &SeatRequest)
     requires { IsSeatCaller site.now asked.now.caller }
     ensures apart { PoolsDisjoint (ownership_of site.now) }
     ensures seat { IsSeat (ownership_of site.now) (call_of site.now asked.now) }
 {
-    asked.request.assert_in_range();
+    asked.request.fact_in_range();
     let _customer = site.customer(asked.caller);
 }
 
@@ -69,9 +65,9 @@ fn answer_all<K: Keep>(
         → (t2 : Tables)
         × Answered K.Keep keep.old keep.new (exchanges_in site.now requests.now added) t t2) }
 {
-    let _customers = site.customers();
+    site.fact_rules();
     for asked in requests {
-        seat_asks(site, asked);
+        fact_seat(site, asked);
         replies.push(answer(alloc, keep, site, asked.caller, &asked.request))?;
     }
     Ok(())

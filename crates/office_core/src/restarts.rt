@@ -1,15 +1,10 @@
 // What holds of a store that was stopped.
 ghost use Rattle.std.specs.Prelude.{◌++◌, List};
 ghost use Rattle.std.specs.List.{AllByRecursion};
-ghost use Rattle.site_core.specs.Ownership.{PoolsDisjoint, Ownership, OwnershipGrows};
-ghost use Rattle.office_tables.specs.Tables.{Tables};
-ghost use Rattle.office_laws.specs.Sound.{IsSound};
-ghost use Rattle.office_laws.specs.Exchanges.{Exchange, calls_of};
-ghost use Rattle.office_laws.specs.Growth.{IsSeat};
-ghost use Rattle.office_laws.specs.Promises.{Promises};
-ghost use Rattle.office_laws.specs.Stops.{IsLeft, IsUnanswered};
-ghost use Rattle.office_core.specs.Replaying.{Answered};
-ghost use Rattle.office_core.specs.Restarting.{IsLife};
+ghost use Rattle.site_core.specs.Prelude.{PoolsDisjoint, Ownership, OwnershipGrows};
+ghost use Rattle.office_tables.specs.Prelude.{Tables};
+ghost use Rattle.office_laws.specs.Prelude.{IsSound, Exchange, calls_of, IsSeat, Promises, IsLeft, IsUnanswered};
+ghost use Rattle.office_core.specs.Prelude.{Answered, IsLife};
 
 use office_tables::Keep;
 

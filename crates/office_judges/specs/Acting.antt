@@ -1,12 +1,11 @@
 -- What an action comes to by a device and its fuse map, before anything is written.
 use Rattle.std.specs.Prelude.{List, None, Result, Err, Ok, Some, string_bytes, ℕ, ◌≡◌}
-use Rattle.text_core.specs.Options.{first_that_holds}
-use Rattle.fusemap_core.specs.Map.{Map}
+use Rattle.text_core.specs.Prelude.{first_that_holds}
+use Rattle.fusemap_core.specs.Prelude.{Map}
 use Rattle.office_tables.specs.declared.rows.Device.{Device}
 use Rattle.office_commands.specs.declared.command.Action.{Action}
 use Rattle.office_commands.specs.declared.refusal.Refusal.{Refusal}
-use Rattle.office_rules.specs.Actions.{action_refusals, rule_of}
-use Rattle.office_rules.specs.Sight.{Refusals}
+use Rattle.office_rules.specs.Prelude.{action_refusals, rule_of, Refusals}
 use Rattle.office_rules.specs.declared.device_step.DeviceStep.{DeviceStep}
 use Rattle.office_judges.specs.declared.act.Acted.{Acted}
 

@@ -1,16 +1,14 @@
 // What a device goes through: each action of a device with its fuse map, and what it comes to.
 ghost use Rattle.std.specs.Prelude.{◌≡◌, IfOk};
-ghost use Rattle.office_tables.specs.Reading.{ReadsOnly};
-ghost use Rattle.office_tables.specs.States.{is_one_of};
-ghost use Rattle.office_rules.specs.Actions.{rule_of};
-ghost use Rattle.office_judges.specs.Acting.{IsActed, IsActedOn};
-ghost use Rattle.office_judges.specs.Judging.{IsJudged};
+ghost use Rattle.office_tables.specs.Prelude.{ReadsOnly, is_one_of};
+ghost use Rattle.office_rules.specs.Prelude.{rule_of};
+ghost use Rattle.office_judges.specs.Prelude.{IsActed, IsActedOn, IsJudged};
 
 use crate::Judgement;
-use crate::ends::{scrap, ship};
+use crate::end::{scrap, ship};
 use crate::found_device::{find_device, map_of};
-use crate::plans::plan_device;
-use crate::readbacks::read_back;
+use crate::plan::plan_device;
+use crate::read_back::read_back;
 use crate::steps::accept_step;
 use fusemap_core::FuseMap;
 use office_commands::{Action, Change, Refusal};

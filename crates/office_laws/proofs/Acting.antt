@@ -1,19 +1,13 @@
 -- A request that comes again acts once.
-use Rattle.std.proofs.Common.{◌≡◌, ◌∙◌, ◌+◌, ◌≤◌, ◌<◌, ◌==◌, ℕ, ◌⊎◌, inl, inr, arith, Bool, true, false, cond, List, [], ◌∷◌, Option, Some, None}
-use Rattle.std.proofs.Common.{refl, sym, ap, subst}
-use Rattle.std.specs.Prelude.{◌&&◌, bytes_eq, filter, not}
-use Rattle.std.specs.List.{AllByRecursion}
-use Rattle.std.proofs.lemmas.Bool.{and_parts, eqb-true}
+use Rattle.std.proofs.Common.{◌≡◌, ◌+◌, ◌≤◌, ◌<◌, ◌==◌, ◌⊎◌, ◌∷◌, ◌&&◌}
+use Rattle.text_core.proofs.Kit.{◌∙◌, ℕ, inl, inr, arith, Bool, true, false, cond, List, [], Option, Some, None, refl, sym, ap, subst, bytes_eq, filter, not}
+use Rattle.text_core.proofs.Kit.{AllByRecursion, and_parts, eqb-true}
 use Rattle.office_tables.specs.declared.rows.SeatState.{SeatState}
-use Rattle.office_tables.specs.Tables.{Tables}
-use Rattle.office_commands.specs.Replies.{acceptance}
+use Rattle.office_tables.specs.Prelude.{Tables}
+use Rattle.office_commands.specs.Prelude.{acceptance}
 use Rattle.office_rules.proofs.Ties.{same_text}
-use Rattle.office_laws.specs.SoloMachine.{SoloState, seat_named}
-use Rattle.office_laws.specs.View.{view}
-use Rattle.office_laws.specs.Exchanges.{Exchange}
-use Rattle.office_laws.specs.Alone.{exchanges_of}
-use Rattle.office_laws.specs.Gifts.{last_number_of_seat}
-use Rattle.office_laws.specs.Once.{ActsOnce, AgreeWithFirst, firsts, is_accepted, is_again, number_of_wanted, once}
+use Rattle.office_laws.specs.Prelude.{SoloState, seat_named, view, Exchange, exchanges_of, last_number_of_seat, ActsOnce, AgreeWithFirst, firsts, is_accepted}
+use Rattle.office_laws.specs.Prelude.{is_again, number_of_wanted, once}
 use Rattle.office_laws.proofs.OwnRetries.{Accepts, takes}
 use Rattle.office_laws.proofs.RunsAlone.{Own, RunsAlone, alone_state}
 

@@ -1,28 +1,21 @@
 -- Each action of a device that nothing refuses keeps of the device what its map asks for.
-use Rattle.std.proofs.Common.{◌≡◌, ◌∷◌, [], true, false, None, refl}
-use Rattle.std.proofs.lemmas.Bool.{not-false}
-use Rattle.std.proofs.lemmas.Slice.Eq.{bytes_eq-Decides}
-use Rattle.text_core.specs.Options.{first_that_holds}
-use Rattle.fusemap_core.specs.Map.{IsMap, Map}
-use Rattle.fuse_image.specs.InMap.{ReadBackInMap}
-use Rattle.fuse_image.specs.Redaction.{WordsFitMap, redacted}
+use Rattle.std.proofs.Common.{◌≡◌, ◌∷◌}
+use Rattle.text_core.proofs.Kit.{[], true, false, None, refl, not-false, bytes_eq-Decides}
+use Rattle.text_core.specs.Prelude.{first_that_holds}
+use Rattle.fusemap_core.specs.Prelude.{IsMap, Map}
+use Rattle.fuse_image.specs.Prelude.{ReadBackInMap, WordsFitMap, redacted}
 use Rattle.fuse_image.proofs.InMap.{read_backs_in_map}
-use Rattle.office_tables.specs.States.{is_one_of, state_row}
-use Rattle.office_tables.specs.declared.rows.Device.{Device}
-use Rattle.office_tables.specs.declared.rows.DeviceState.{DeviceState}
-use Rattle.office_tables.specs.declared.rows.DeviceState.TheVariants.{AwaitingFirst, AwaitingSecond, Registered, Settled}
-use Rattle.office_tables.specs.declared.rows.OfCustomer.{OfCustomer}
-use Rattle.office_commands.specs.Asked.{IsAction}
-use Rattle.office_commands.specs.declared.command.Action.{Action}
-use Rattle.office_commands.specs.declared.command.Action.TheVariants.{Plan, ReadBack, Ship, Scrap}
-use Rattle.office_rules.specs.Actions.{action_refusals, rule_of}
-use Rattle.office_rules.specs.Plan.{known_of}
+use Rattle.office_tables.specs.Prelude.{is_one_of, state_row}
+use Rattle.office_laws.proofs.Types.{Device, DeviceState, AwaitingFirst, AwaitingSecond, Settled, Registered, OfCustomer, Action, Plan, Ship, Scrap}
+use Rattle.office_commands.specs.Prelude.{IsAction}
+use Rattle.office_commands.specs.declared.command.Action.TheVariants.{ReadBack}
+use Rattle.office_rules.specs.Prelude.{action_refusals, rule_of, known_of}
 use Rattle.office_rules.proofs.Refusing.{first_is_false, later_is_none}
-use Rattle.office_laws.specs.SoundRecords.{SerialIsOfIdentified}
-use Rattle.office_laws.proofs.Ends.{scrap_keeps, ship_keeps}
+use Rattle.office_laws.specs.Prelude.{SerialIsOfIdentified}
+use Rattle.office_laws.proofs.End.{scrap_keeps, ship_keeps}
 use Rattle.office_laws.proofs.Keeping.{Keeps}
-use Rattle.office_laws.proofs.Planning.{missing_digests, plan_keeps, unnumbered_where}
-use Rattle.office_laws.proofs.ReadingBack.{read_keeps}
+use Rattle.office_laws.proofs.Plan.{missing_digests, plan_keeps, unnumbered_where}
+use Rattle.office_laws.proofs.ReadBack.{read_keeps}
 
 -- what is planned or read back has no serial number yet
 planned_unnumbered : (s : DeviceState) → is_one_of (Registered ∷ Settled ∷ []) s ≡ true

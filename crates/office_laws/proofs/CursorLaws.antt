@@ -1,23 +1,14 @@
 -- An order's new cursor keeps the tables sound, and the order as it is without it.
-use Rattle.std.proofs.Common.{◌≡◌, ◌≤◌, ◌+◌, ℕ, Bool, true, false, cond, List, [], ◌∷◌, map, Option, Some, None, Equal, Greater, Less, refl, sym, ap, ◌∙◌}
-use Rattle.std.proofs.Common.{subst}
-use Rattle.std.specs.Prelude.{filter, find, is_some, IsSomeAnd}
-use Rattle.std.specs.List.{AllByRecursion}
-use Rattle.std.specs.Option.{option_map}
-use Rattle.std.specs.Ordering.{ordering_reverse}
-use Rattle.std.proofs.lemmas.Cmp.{tied_itself}
-use Rattle.site_core.specs.Ownership.{Ownership}
-use Rattle.office_tables.specs.declared.rows.Given.{Given}
-use Rattle.office_tables.specs.declared.rows.Order.{Order}
-use Rattle.office_tables.specs.declared.rows.OfCustomer.{OfCustomer}
-use Rattle.office_tables.specs.declared.rows.Device.{Device}
-use Rattle.office_tables.specs.Tables.{Tables, is_device, is_of, is_order, order_at, order_cmp, rows_of, with_row, with_cursor, with_cursor_of}
-use Rattle.office_tables.specs.Tables.{with_order, IsInOrder}
+use Rattle.std.proofs.Common.{◌≡◌, ◌≤◌, ◌+◌, ◌∷◌}
+use Rattle.text_core.proofs.Kit.{ℕ, Bool, true, false, cond, List, [], map, Option, Some, None, Equal, Greater, Less, refl, sym, ap, ◌∙◌, subst, filter, find}
+use Rattle.text_core.proofs.Kit.{is_some, IsSomeAnd, AllByRecursion, option_map, ordering_reverse, tied_itself}
+use Rattle.site_core.specs.Prelude.{Ownership}
+use Rattle.office_laws.proofs.Types.{Given, Order, OfCustomer, Device}
+use Rattle.office_tables.specs.Prelude.{Tables, is_device, is_of, is_order, order_at, order_cmp, rows_of, with_row, with_cursor, with_cursor_of, with_order}
+use Rattle.office_tables.specs.Prelude.{IsInOrder}
 use Rattle.office_rules.proofs.Refusing.{is_some_map}
-use Rattle.office_laws.specs.Grows.{Grows}
-use Rattle.office_laws.specs.Sound.{AreDisjoint, EachApart, IsInPool, IsOrder, IsSound}
-use Rattle.office_laws.specs.SoundRecords.{IsIssuedBelow, IsOfDevice, IsOfOrder, IsRecordOf}
-use Rattle.office_rules.specs.OfficeMachine.{at_first}
+use Rattle.office_laws.specs.Prelude.{Grows, AreDisjoint, EachApart, IsInPool, IsOrder, IsSound, IsIssuedBelow, IsOfDevice, IsOfOrder, IsRecordOf}
+use Rattle.office_rules.specs.Prelude.{at_first}
 use Rattle.office_laws.proofs.Growing.{OrderStays}
 use Rattle.office_laws.proofs.Readings.{find_holds, find_map, orders_total}
 use Rattle.office_laws.proofs.SoundRows.{order_placed}

@@ -1,30 +1,20 @@
 -- A device with an entry of its ledger keeps the tables sound, and how both lie with their
 -- customers.
-use Rattle.std.proofs.Common.{◌≡◌, ◌+◌, ◌++◌, ℕ, arith, true, false, List, [], ◌∷◌, length, map, Some, None, Ordering, Equal, refl, sym, ap, ◌∙◌, subst}
-use Rattle.std.specs.Prelude.{bytes_eq, filter, find, is_some}
-use Rattle.std.specs.List.{AllByRecursion}
-use Rattle.std.specs.Ordering.{nat_cmp, ordering_then}
-use Rattle.std.specs.Cmp.{IsTotalOrder}
-use Rattle.std.proofs.lemmas.Bool.{and_parts, and_from}
-use Rattle.std.proofs.lemmas.Cmp.{nat_cmp_total, on_total, then_total, nat_list_cmp_total, tied_itself}
-use Rattle.site_core.specs.Ownership.{Ownership}
-use Rattle.office_tables.specs.declared.rows.OfCustomer.{OfCustomer}
-use Rattle.office_tables.specs.declared.rows.Device.{Device}
-use Rattle.office_tables.specs.declared.rows.Entry.{Entry}
-use Rattle.office_tables.specs.declared.rows.NewEntry.{NewEntry}
-use Rattle.fusemap_core.specs.Map.{Map}
-use Rattle.office_tables.specs.Tables.{Tables, device_at, device_cmp, entry_cmp, entry_under, entry_with, greatest, has_entry_id, is_device, is_entry_of}
-use Rattle.office_tables.specs.Tables.{is_of, last_number, link_at, order_at, text_cmp, with_device, with_new_entry}
+use Rattle.std.proofs.Common.{◌≡◌, ◌+◌, ◌++◌, ◌∷◌, Ordering}
+use Rattle.text_core.proofs.Kit.{ℕ, arith, true, false, List, [], length, map, Some, None, Equal, refl, sym, ap, ◌∙◌, subst, bytes_eq, filter, find, is_some}
+use Rattle.text_core.proofs.Kit.{AllByRecursion, nat_cmp, ordering_then, IsTotalOrder, and_parts, and_from, nat_cmp_total, on_total, then_total}
+use Rattle.text_core.proofs.Kit.{nat_list_cmp_total, tied_itself}
+use Rattle.site_core.specs.Prelude.{Ownership}
+use Rattle.office_laws.proofs.Types.{OfCustomer, Device, Entry, NewEntry, DeviceStep}
+use Rattle.office_tables.specs.Prelude.{Tables, device_at, device_cmp, entry_cmp, entry_under, entry_with, greatest, has_entry_id, is_device, is_entry_of}
+use Rattle.office_tables.specs.Prelude.{is_of, last_number, link_at, order_at, text_cmp, with_device, with_new_entry}
+use Rattle.fusemap_core.specs.Prelude.{Map}
 use Rattle.office_tables.proofs.Finding.{filter_none, filter_only, filter_other, none_passes, some_placed, still_there}
 use Rattle.office_tables.proofs.Placing.{all_map, all_placed, placed_in_order}
-use Rattle.office_rules.specs.Effect.{entry_of}
-use Rattle.office_rules.specs.OfficeMachine.{map_named}
-use Rattle.office_rules.specs.declared.device_step.DeviceStep.{DeviceStep}
+use Rattle.office_rules.specs.Prelude.{entry_of, map_named}
 use Rattle.office_rules.proofs.Ties.{first_equal, same_place, same_text, second_equal, text_itself}
 use Rattle.office_laws.proofs.OwnPlaces.{solo_device_cmp}
-use Rattle.office_laws.specs.SoundDevices.{AreNumberedFrom, AreSoundDevices, HasLedger, FitsFuseMap, IsReferred, MapOf}
-use Rattle.office_laws.specs.SoundRecords.{SerialIsOfIdentified, IsRecordOf}
-use Rattle.office_laws.specs.Sound.{IsSound}
+use Rattle.office_laws.specs.Prelude.{AreNumberedFrom, AreSoundDevices, HasLedger, FitsFuseMap, IsReferred, MapOf, SerialIsOfIdentified, IsRecordOf, IsSound}
 use Rattle.office_laws.proofs.Appended.{all_below, appended, last_of_numbered, numbered_appended}
 use Rattle.office_laws.proofs.DeviceRows.{ids_apart_placed}
 use Rattle.office_laws.proofs.Placed.{all_placed_apart}

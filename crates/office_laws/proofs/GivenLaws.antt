@@ -1,25 +1,17 @@
 -- A new record of a serial number keeps the tables sound, and forgets nothing.
-use Rattle.std.proofs.Common.{◌≡◌, ◌==◌, ℕ, arith, true, false, List, [], ◌∷◌, Option, Some, None, Less, Equal, Greater, refl, sym, ◌∙◌, subst}
-use Rattle.std.specs.Prelude.{bytes_eq, find, IfSome}
-use Rattle.std.specs.List.{AllByRecursion}
-use Rattle.std.specs.Ordering.{match_ordering}
-use Rattle.std.specs.Cmp.{IsTotalOrder}
-use Rattle.std.proofs.lemmas.Bool.{and_parts, and_from}
-use Rattle.std.proofs.lemmas.Bool.Decides.{nat_tests}
-use Rattle.std.proofs.lemmas.Cmp.{on_total, then_total, nat_list_cmp_total, tied_itself}
-use Rattle.site_core.specs.Ownership.{Ownership}
-use Rattle.id_ranges.specs.Range.{serial_text_of}
-use Rattle.office_tables.specs.declared.rows.OfCustomer.{OfCustomer}
-use Rattle.office_tables.specs.declared.rows.Given.{Given}
-use Rattle.office_tables.specs.declared.rows.Order.{Order}
-use Rattle.office_tables.specs.Tables.{Tables, IsAddressFree, given_at, given_by_key, given_cmp, has_address, is_address, is_bound, is_serial_of}
-use Rattle.office_tables.specs.Tables.{with_row, with_given}
+use Rattle.std.proofs.Common.{◌≡◌, ◌==◌, ◌∷◌}
+use Rattle.text_core.proofs.Kit.{ℕ, arith, true, false, List, [], Option, Some, None, Less, Equal, Greater, refl, sym, ◌∙◌, subst, bytes_eq, find, IfSome}
+use Rattle.text_core.proofs.Kit.{AllByRecursion, match_ordering, IsTotalOrder, and_parts, and_from, nat_tests, on_total, then_total, nat_list_cmp_total}
+use Rattle.text_core.proofs.Kit.{tied_itself}
+use Rattle.site_core.specs.Prelude.{Ownership}
+use Rattle.id_ranges.specs.Prelude.{serial_text_of}
+use Rattle.office_laws.proofs.Types.{OfCustomer, Given, Order}
+use Rattle.office_tables.specs.Prelude.{Tables, IsAddressFree, given_at, given_by_key, given_cmp, has_address, is_address, is_bound, is_serial_of, with_row}
+use Rattle.office_tables.specs.Prelude.{with_given}
 use Rattle.office_tables.proofs.Finding.{none_passes, other_placed, still_there}
 use Rattle.office_tables.proofs.Placing.{all_map, all_placed}
 use Rattle.office_rules.proofs.Ties.{first_equal, same_place, same_text, second_equal, text_itself}
-use Rattle.office_laws.specs.Grows.{Grows}
-use Rattle.office_laws.specs.Sound.{IsSound}
-use Rattle.office_laws.specs.SoundRecords.{AreAddressesApart, AreKeysApart, HasOther, IsIssuedBelow, IsRecordOf}
+use Rattle.office_laws.specs.Prelude.{Grows, IsSound, AreAddressesApart, AreKeysApart, HasOther, IsIssuedBelow, IsRecordOf}
 use Rattle.office_laws.proofs.Placed.{found_replaced, others_fail}
 use Rattle.office_laws.proofs.SoundRows.{owned_placed}
 

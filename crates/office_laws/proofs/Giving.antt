@@ -1,45 +1,23 @@
 -- What an identity gives in a run is given once.
-use Rattle.std.proofs.Common.{◌≡◌, ◌∙◌, ◌+◌, ◌==◌, ℕ, ◌⊎◌, inl, inr, arith, Bool, true, false, cond, List, [], ◌∷◌, Option, Some, None, refl, sym, ap, subst}
-use Rattle.std.specs.Prelude.{◌&&◌, bytes_eq, filter, is_some, nat_lt, not, IfSome, MatchBool}
-use Rattle.std.specs.List.{AllByRecursion}
-use Rattle.std.proofs.lemmas.Bool.{and_parts}
-use Rattle.std.proofs.lemmas.Bool.Decides.{nat_tests}
-use Rattle.http_replies.specs.Replies.{Answer, code_of, is_unavailable}
-use Rattle.id_ranges.specs.Idevid.{Idevid}
-use Rattle.site_core.specs.Ownership.{Ownership}
-use Rattle.site_core.specs.Section.{Section}
-use Rattle.office_tables.specs.declared.rows.Given.{Given}
-use Rattle.office_tables.specs.declared.rows.OfCustomer.{OfCustomer}
-use Rattle.office_tables.specs.declared.rows.SeatState.{SeatState}
-use Rattle.office_tables.specs.Tables.{Tables, given_at, is_serial_of}
-use Rattle.office_commands.specs.IdentityReplies.{identity_body}
-use Rattle.office_commands.specs.Replies.{acceptance, refusal}
-use Rattle.office_commands.specs.declared.command.Change.TheVariants.{Identify}
-use Rattle.office_commands.specs.declared.command.Command.{Command}
+use Rattle.std.proofs.Common.{◌≡◌, ◌+◌, ◌==◌, ◌⊎◌, ◌∷◌, ◌&&◌}
+use Rattle.text_core.proofs.Kit.{◌∙◌, ℕ, inl, inr, arith, Bool, true, false, cond, List, [], Option, Some, None, refl, sym, ap, subst, bytes_eq, filter}
+use Rattle.text_core.proofs.Kit.{is_some, nat_lt, not, IfSome, MatchBool, AllByRecursion, and_parts, nat_tests}
+use Rattle.http_replies.specs.Prelude.{Answer, code_of, is_unavailable}
+use Rattle.id_ranges.specs.Prelude.{Idevid}
+use Rattle.site_core.specs.Prelude.{Ownership, Section}
+use Rattle.office_laws.proofs.Types.{Given, OfCustomer, SeatState, Identify, Command, NewIdentity, Refusal, Unkept, Repeats}
+use Rattle.office_tables.specs.Prelude.{Tables, given_at, is_serial_of}
+use Rattle.office_commands.specs.Prelude.{identity_body, acceptance, refusal}
 use Rattle.office_commands.specs.declared.command.Command.TheVariants.{Change}
-use Rattle.office_commands.specs.declared.new_identity.NewIdentity.{NewIdentity}
-use Rattle.office_commands.specs.declared.refusal.Refusal.{Refusal}
-use Rattle.office_commands.specs.declared.refusal.Refusal.TheVariants.{Unkept}
-use Rattle.office_rules.specs.Effect.{Put}
-use Rattle.office_rules.specs.Identity.{row_of}
-use Rattle.office_rules.specs.Machine.{Response, reply_only}
-use Rattle.office_rules.specs.OfficeMachine.{Step, asks_identity, office_sight, retry_at}
-use Rattle.office_rules.specs.Retry.{retry_of}
-use Rattle.office_rules.specs.declared.retry.Retry.TheVariants.{Repeats}
+use Rattle.office_rules.specs.Prelude.{Put, row_of, Response, reply_only, Step, asks_identity, office_sight, retry_at, retry_of}
 use Rattle.office_rules.proofs.Ties.{same_text}
-use Rattle.office_laws.specs.Fresh.{BlocksDisjoint, IsFreshRecord, addresses_of}
-use Rattle.office_laws.specs.Grows.{Grows}
-use Rattle.office_laws.specs.SoloMachine.{SoloState, seat_named}
-use Rattle.office_laws.specs.Sound.{IsSound}
-use Rattle.office_laws.specs.View.{view}
+use Rattle.office_laws.specs.Prelude.{BlocksDisjoint, IsFreshRecord, addresses_of, Grows, SoloState, seat_named, IsSound, view, Exchange, IsRun, FulfilsWanted}
+use Rattle.office_laws.specs.Prelude.{Passes, Wanted, asks, reports, refused, calls_of, AreSeats, IsSeat, is_own, AreGifts, IssuesOnce, IsGift}
+use Rattle.office_laws.specs.Prelude.{identity_of_command, identity_wanted, is_new_identity, last_number_of_seat, is_accepted, is_again}
+use Rattle.office_laws.specs.Prelude.{number_of_wanted, once, writes}
 use Rattle.office_laws.proofs.Obeying.{step_anew}
 use Rattle.office_laws.proofs.Readings.{find_holds, seat_own}
 use Rattle.office_laws.proofs.RecordAddresses.{addresses_apart, addresses_begin}
-use Rattle.office_laws.specs.Exchanges.{Exchange, IsRun, FulfilsWanted, Passes, Wanted, asks, reports, refused, calls_of}
-use Rattle.office_laws.specs.Growth.{AreSeats, IsSeat}
-use Rattle.office_laws.specs.Alone.{is_own}
-use Rattle.office_laws.specs.Gifts.{AreGifts, IssuesOnce, IsGift, identity_of_command, identity_wanted, is_new_identity, last_number_of_seat, new_identities}
-use Rattle.office_laws.specs.Once.{is_accepted, is_again, number_of_wanted, once, writes}
 use Rattle.office_laws.proofs.Acting.{accepts, last_at, last_is, unaccepted}
 use Rattle.office_laws.proofs.Grown.{sound_grown}
 use Rattle.office_laws.proofs.OwnRetries.{Accepts, not_success, retry_repeats}
@@ -376,6 +354,10 @@ once_accepted x xs is = rw is refl
 once_unaccepted : (x : Exchange) (xs : List Exchange) → is_accepted x ≡ false
     → once (x ∷ xs) ≡ once xs
 once_unaccepted x xs is = rw is refl
+
+-- the accepted identities of a run from these tables, none of them a repeat
+abbrev new_identities : Tables → List Exchange → List Exchange
+new_identities t xs = filter (is_new_identity t) (once xs)
 
 -- one exchange more before a run
 module _ {site last : Ownership} (x : Exchange) (xs : List Exchange) (t mid t2 : Tables)

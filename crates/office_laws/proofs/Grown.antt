@@ -1,14 +1,11 @@
 -- What stays where tables grow, and where a site does.
-use Rattle.std.proofs.Common.{◌≡◌, ◌*◌, ℕ, true, List, Option, Some, None, Ordering}
-use Rattle.std.specs.Prelude.{Any, IfSome}
+use Rattle.std.proofs.Common.{◌≡◌, ◌*◌, ℕ, true, List, Option, Some, None, Ordering, Any, IfSome}
 use Rattle.id_ranges.specs.Blocks as blocks
-use Rattle.site_core.specs.Ownership.{Ownership, OwnershipGrows}
-use Rattle.office_tables.specs.declared.rows.Order.{Order}
-use Rattle.office_tables.specs.declared.rows.OfCustomer.{OfCustomer}
-use Rattle.office_tables.specs.Tables.{Tables}
+use Rattle.site_core.specs.Prelude.{Ownership, OwnershipGrows}
+use Rattle.office_laws.proofs.Types.{Order, OfCustomer}
+use Rattle.office_tables.specs.Prelude.{Tables}
 use Rattle.office_tables.proofs.Placing.{all_map}
-use Rattle.office_laws.specs.Sound.{IsInPool, IsSound}
-use Rattle.office_laws.specs.SoundRows.{AreOwned}
+use Rattle.office_laws.specs.Prelude.{IsInPool, IsSound, AreOwned}
 
 -- a site as it was
 pub growth_itself : (site : Ownership) → OwnershipGrows site site

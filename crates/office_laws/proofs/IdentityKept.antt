@@ -1,45 +1,32 @@
 -- An identity keeps the tables sound, and forgets nothing.
-use Rattle.std.proofs.Common.{◌≡◌, ◌+◌, ◌≤◌, ◌<◌, ◌∙◌, ℕ, arith, true, List, Option, Some, None, inl, inr, refl, sym, ap, subst}
-use Rattle.std.specs.Prelude.{bytes_eq, find, is_some, IfSome}
+use Rattle.std.proofs.Common.{◌≡◌, ◌+◌, ◌≤◌, ◌<◌, ◌∙◌, ℕ, arith, true, List, Option, Some, None, inl, inr, refl, sym, ap, subst, bytes_eq, find, is_some}
+use Rattle.std.proofs.Common.{IfSome}
 use Rattle.std.proofs.lemmas.Bool.{and_parts, cases_lt, not-false}
-use Rattle.text_core.specs.Options.{first_that_holds}
-use Rattle.fusemap_core.specs.Map.{Map}
-use Rattle.id_ranges.specs.Idevid.{Idevid}
-use Rattle.id_ranges.specs.Range.{serial_text_of}
-use Rattle.id_ranges.specs.SerialLaws.{IsLeastUnused}
+use Rattle.text_core.specs.Prelude.{first_that_holds}
+use Rattle.fusemap_core.specs.Prelude.{Map}
+use Rattle.id_ranges.specs.Prelude.{Idevid, serial_text_of, IsLeastUnused}
 use Rattle.id_ranges.proofs.FreeBlocks.{find-passes}
-use Rattle.site_core.specs.Ownership.{IsSection, Ownership}
-use Rattle.site_core.specs.Section.{Section}
-use Rattle.office_tables.specs.declared.rows.Cursor.{Cursor}
-use Rattle.office_tables.specs.declared.rows.Device.{Device}
-use Rattle.office_tables.specs.declared.rows.Given.{Given}
-use Rattle.office_tables.specs.declared.rows.Order.{Order}
-use Rattle.office_tables.specs.declared.rows.OfCustomer.{OfCustomer}
-use Rattle.office_tables.specs.Tables.{IsAddressFree, Tables, device_at, device_cmp, given_at, given_by_key, given_cmp, is_device, is_serial_of}
-use Rattle.office_tables.specs.Tables.{is_order, order_at, with_row, with_cursor, with_given}
-use Rattle.office_tables.specs.States.{is_one_of}
-use Rattle.office_commands.specs.declared.new_identity.NewIdentity.{NewIdentity}
-use Rattle.office_rules.specs.Actions.{identified_from}
-use Rattle.office_rules.specs.Effect.{Effect}
-use Rattle.office_rules.specs.Identity.{step_of_identity, identity_effect, identity_refusals, idevid_of_order, row_of}
-use Rattle.office_rules.specs.OfficeMachine.{MakesPuts, is_taken, its, map_named, map_text, next_of, office_sight}
-use Rattle.office_rules.specs.declared.device_step.DeviceStep.{DeviceStep}
+use Rattle.site_core.specs.Prelude.{IsSection, Ownership, Section}
+use Rattle.office_laws.proofs.Types.{Cursor, Device, Given, Order, OfCustomer, NewIdentity, DeviceStep}
+use Rattle.office_tables.specs.Prelude.{IsAddressFree, Tables, device_at, device_cmp, given_at, given_by_key, given_cmp, is_device, is_serial_of, is_order}
+use Rattle.office_tables.specs.Prelude.{order_at, with_row, with_cursor, with_given, is_one_of}
+use Rattle.office_rules.specs.Prelude.{identified_from, Effect, step_of_identity, identity_effect, identity_refusals, idevid_of_order, row_of, MakesPuts}
+use Rattle.office_rules.specs.Prelude.{is_taken, its, map_named, map_text, next_of, office_sight}
 use Rattle.office_rules.proofs.Refusing.{none_from_test}
 use Rattle.office_rules.proofs.Ties.{same_text}
-use Rattle.office_laws.specs.Sound.{IsSound}
-use Rattle.office_laws.specs.SoundRecords.{IsIssuedBelow, SerialIsOfIdentified, IsRecordOf}
+use Rattle.office_laws.specs.Prelude.{IsSound, IsIssuedBelow, SerialIsOfIdentified, IsRecordOf}
 use Rattle.office_laws.proofs.CursorLaws.{cursor_grows, cursor_sound}
-use Rattle.office_laws.proofs.Ends.{identifies_unnumbered, identity_keeps}
+use Rattle.office_laws.proofs.End.{identifies_unnumbered, identity_keeps}
 use Rattle.office_laws.proofs.GivenLaws.{given_found, given_grows, given_sound}
 use Rattle.office_laws.proofs.Growing.{grows_itself}
-use Rattle.office_laws.proofs.Identifying.{identity_found, identity_free, next_least, numbered_effect}
+use Rattle.office_laws.proofs.Identity.{identity_found, identity_free, next_least, numbered_effect}
 use Rattle.office_laws.proofs.Keeping.{Keeps}
 use Rattle.office_laws.proofs.Lasting.{Lasts, lasts_named}
 use Rattle.office_laws.proofs.Placed.{found_replaced}
-use Rattle.office_laws.proofs.Planning.{unnumbered_where}
+use Rattle.office_laws.proofs.Plan.{unnumbered_where}
 use Rattle.office_laws.proofs.Readings.{find_holds, order_below, order_issuer}
 use Rattle.office_laws.proofs.RecordRows.{each_tied, own_device}
-use Rattle.office_laws.proofs.Registrations.{found_is_map}
+use Rattle.office_laws.proofs.Registration.{found_is_map}
 use Rattle.office_laws.proofs.StepKept.{step_kept, step_made, stepped}
 
 module _ {owners : Ownership} {t : Tables} (sound : IsSound owners t) (s : Section)

@@ -1,24 +1,16 @@
 -- An import of serial numbers keeps the tables sound, and forgets nothing.
-use Rattle.std.proofs.Common.{◌≡◌, ℕ, Bool, true, false, List, [], ◌∷◌, map, None, refl, sym, ap, ◌∙◌, subst}
+use Rattle.std.proofs.Common.{◌≡◌, ℕ, Bool, true, false, List, [], ◌∷◌, map, None, refl, sym, ap, ◌∙◌, subst, ◌&&◌, ◌||◌, is_some, not, if◌then◌else◌}
+use Rattle.std.proofs.Common.{option_and_then, Some, Result, Ok, Err}
 use Rattle.std.specs.Result.{result_ok}
-use Rattle.std.specs.Prelude.{◌&&◌, ◌||◌, is_some, not, if◌then◌else◌, option_and_then, Some, Result, Ok, Err}
-use Rattle.site_core.specs.Ownership.{IsSection, Ownership}
-use Rattle.site_core.specs.Section.{Section}
-use Rattle.text_core.specs.Answer.{result_map}
-use Rattle.import_rows.specs.declared.rows.ImportRow.{ImportRow}
-use Rattle.office_tables.specs.declared.rows.Given.{Given}
-use Rattle.office_tables.specs.declared.rows.OfCustomer.{OfCustomer}
-use Rattle.office_tables.specs.Tables.{Tables, given_at, given_by_key, with_given}
-use Rattle.office_commands.specs.declared.new_identity.NewImport.{NewImport}
-use Rattle.office_rules.specs.Effect.{Effect, record_put}
-use Rattle.office_rules.specs.Import.{ImportResult, import_effect, merged_rows, import_result, row_of_import, is_conflict, is_present, with_added}
-use Rattle.office_rules.specs.Import.{with_present, with_import_row}
-use Rattle.office_rules.specs.OfficeMachine.{MakesPuts, issued_in, office_sight}
-use Rattle.office_rules.specs.Sight.{IssuedIn, Sight}
+use Rattle.site_core.specs.Prelude.{IsSection, Ownership, Section}
+use Rattle.text_core.specs.Prelude.{result_map}
+use Rattle.office_laws.proofs.Types.{ImportRow, Given, OfCustomer, NewImport}
+use Rattle.office_tables.specs.Prelude.{Tables, given_at, given_by_key, with_given}
+use Rattle.office_rules.specs.Prelude.{Effect, record_put, ImportResult, import_effect, merged_rows, import_result, row_of_import, is_conflict, is_present}
+use Rattle.office_rules.specs.Prelude.{with_added, with_present, with_import_row, MakesPuts, issued_in, office_sight, IssuedIn, Sight}
 use Rattle.office_rules.proofs.GivenRows.{given_with, owned_row}
 use Rattle.office_rules.proofs.Refusing.{is_some_map, none_from_test}
-use Rattle.office_laws.specs.Grows.{Grows}
-use Rattle.office_laws.specs.Sound.{IsSound}
+use Rattle.office_laws.specs.Prelude.{Grows, IsSound}
 use Rattle.office_laws.proofs.GivenLaws.{given_grows, given_sound}
 use Rattle.office_laws.proofs.Growing.{grows_itself}
 use Rattle.office_laws.proofs.Lasting.{Lasts, lasts_named}

@@ -1,15 +1,11 @@
 -- What a step keeps of its device.
-use Rattle.std.proofs.Common.{◌≡◌, ◌++◌, ℕ, true, List, [], ◌∷◌, Some}
-use Rattle.std.specs.Prelude.{is_some}
-use Rattle.fusemap_core.specs.Map.{Map}
-use Rattle.fuse_image.specs.Image.{IsImageWithin}
-use Rattle.office_tables.specs.declared.rows.Device.{Device}
-use Rattle.office_tables.specs.declared.rows.Entry.{Entry}
-use Rattle.office_tables.specs.declared.rows.OfCustomer.{OfCustomer}
-use Rattle.office_tables.specs.States.{state_row}
-use Rattle.office_rules.specs.Plan.{known_of}
-use Rattle.office_rules.specs.declared.device_step.DeviceStep.{DeviceStep}
-use Rattle.office_laws.specs.SoundDevices.{FitsFuseMap}
+use Rattle.std.proofs.Common.{◌≡◌, ◌++◌, ℕ, true, List, [], ◌∷◌, Some, is_some}
+use Rattle.fusemap_core.specs.Prelude.{Map}
+use Rattle.fuse_image.specs.Prelude.{IsImageWithin}
+use Rattle.office_laws.proofs.Types.{Device, Entry, OfCustomer, DeviceStep}
+use Rattle.office_tables.specs.Prelude.{state_row}
+use Rattle.office_rules.specs.Prelude.{known_of}
+use Rattle.office_laws.specs.Prelude.{FitsFuseMap}
 
 -- chip, order, map, the serial number that it has and what is known to be burnt; and what its map
 -- asks of the device and its ledger holds of it with the step's entry

@@ -1,9 +1,8 @@
 -- Tables after a change that are sound, and forget nothing.
 use Rattle.std.proofs.Common.{◌≡◌, sym, subst}
-use Rattle.site_core.specs.Ownership.{Ownership}
-use Rattle.office_tables.specs.Tables.{Tables}
-use Rattle.office_laws.specs.Grows.{Grows}
-use Rattle.office_laws.specs.Sound.{IsSound}
+use Rattle.site_core.specs.Prelude.{Ownership}
+use Rattle.office_tables.specs.Prelude.{Tables}
+use Rattle.office_laws.specs.Prelude.{Grows, IsSound}
 use Rattle.office_laws.proofs.Growing.{grows_itself}
 
 pub record Lasts (owners : Ownership) (t t2 : Tables) : Type 0 where

@@ -1,17 +1,13 @@
 -- What a crash may leave after one exchange more.
-use Rattle.std.proofs.Common.{◌≡◌, ◌⊎◌, inl, inr, true, false, List, [], ◌∷◌, ◌++◌, append_assoc, refl, sym, ap, subst}
-use Rattle.std.specs.Prelude.{MatchBool, not}
-use Rattle.std.proofs.lemmas.Bool.{and_right}
-use Rattle.std.proofs.lemmas.List.{append-nil}
-use Rattle.std.specs.List.{AllByRecursion}
-use Rattle.http_replies.specs.Replies.{Answer, is_unavailable}
-use Rattle.office_tables.specs.Tables.{Tables}
-use Rattle.office_commands.specs.declared.command.Request.{Request}
-use Rattle.office_commands.specs.declared.refusal.Refusal.TheVariants.{Unkept}
-use Rattle.office_commands.specs.Replies.{refusal}
-use Rattle.office_rules.specs.OfficeMachine.{Step}
-use Rattle.office_laws.specs.Exchanges.{Call, Exchange, FulfilsWanted, Passes, asks}
-use Rattle.office_laws.specs.Stops.{IsInDoubt, IsLeft, IsUnanswered, Leaves, LeavesAfter, Session, WasUnavailable, is_request, is_answered}
+use Rattle.std.proofs.Common.{◌≡◌, ◌⊎◌, ◌∷◌, ◌++◌}
+use Rattle.text_core.proofs.Kit.{inl, inr, true, false, List, [], append_assoc, refl, sym, ap, subst, MatchBool, not, and_right, append-nil, AllByRecursion}
+use Rattle.http_replies.specs.Prelude.{Answer, is_unavailable}
+use Rattle.office_tables.specs.Prelude.{Tables}
+use Rattle.office_laws.proofs.Types.{Request, Unkept}
+use Rattle.office_commands.specs.Prelude.{refusal}
+use Rattle.office_rules.specs.Prelude.{Step}
+use Rattle.office_laws.specs.Prelude.{Call, Exchange, FulfilsWanted, Passes, asks, IsInDoubt, IsLeft, IsUnanswered, Leaves, LeavesAfter, Session}
+use Rattle.office_laws.specs.Prelude.{WasUnavailable, is_request, is_answered}
 
 -- the exchange answers nothing
 abbrev pub AnswersNothing : Exchange → Type 0

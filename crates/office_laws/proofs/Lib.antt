@@ -7,13 +7,13 @@ mod Appended
 pub mod CursorLaws
 mod DeviceLaws
 mod DeviceRows
-pub mod Ends
+pub mod End
 pub mod Fresh
 pub mod GivenLaws
 pub mod Giving
 pub mod Growing
 pub mod Grown
-mod Identifying
+mod Identity
 mod IdentityKept
 mod ImportKept
 mod Keeping
@@ -35,14 +35,14 @@ pub mod OwnReports
 pub mod OwnRetries
 pub mod Passing
 pub mod Placed
-mod Planning
+mod Plan
 pub mod Promising
-mod ReadingBack
+mod ReadBack
 pub mod Readings
 pub mod RecordAddresses
 mod RecordRows
+mod Registration
 mod RegistrationKept
-mod Registrations
 mod Responses
 pub mod RunLaws
 pub mod RunsAlone
@@ -59,3 +59,4 @@ mod Terms
 mod Tidy
 mod Unread
 pub mod Within
+mod Types

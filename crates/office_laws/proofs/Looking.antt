@@ -1,22 +1,14 @@
 -- What the look-ups of a customer's seat found in the tables.
-use Rattle.std.proofs.Common.{◌≡◌, ◌∙◌, ℕ, Bool, true, false, List, Option, Some, None}
-use Rattle.std.proofs.Common.{Ok, refl, sym, subst}
-use Rattle.std.specs.Result.{result_ok}
-use Rattle.std.specs.Prelude.{bytes_eq, if◌then◌else◌, option_and_then, option_map}
-use Rattle.std.specs.List.{list_any}
-use Rattle.fusemap_core.specs.Map.{Map}
+use Rattle.std.proofs.Common.{◌≡◌, if◌then◌else◌}
+use Rattle.text_core.proofs.Kit.{◌∙◌, ℕ, Bool, true, false, List, Option, Some, None, Ok, refl, sym, subst, result_ok, bytes_eq, option_and_then, option_map}
+use Rattle.text_core.proofs.Kit.{list_any}
+use Rattle.fusemap_core.specs.Prelude.{Map}
 use Rattle.text_core.proofs.Results.{ok_is}
-use Rattle.import_rows.specs.declared.rows.ImportRow.{ImportRow}
-use Rattle.site_core.specs.Section.{Section}
-use Rattle.office_tables.specs.declared.rows.Device.{Device}
-use Rattle.office_tables.specs.declared.rows.OfCustomer.{OfCustomer}
-use Rattle.office_tables.specs.Tables.{Tables, device_at}
-use Rattle.office_commands.specs.declared.new_identity.NewImport.{NewImport}
-use Rattle.office_rules.specs.Effect.{Effect}
-use Rattle.office_rules.specs.Import.{ImportResult, merged_rows, import_result}
-use Rattle.office_rules.specs.OfficeMachine.{MakesPuts, issued_in, has_issuer, map_named, office_sight}
-use Rattle.office_rules.specs.Sight.{IssuedIn, Sight, device_in_sight, map_in_sight}
-use Rattle.office_rules.specs.declared.device_step.FoundDevice.{FoundDevice}
+use Rattle.office_laws.proofs.Types.{ImportRow, Device, OfCustomer, NewImport, FoundDevice}
+use Rattle.site_core.specs.Prelude.{Section}
+use Rattle.office_tables.specs.Prelude.{Tables, device_at}
+use Rattle.office_rules.specs.Prelude.{Effect, ImportResult, merged_rows, import_result, MakesPuts, issued_in, has_issuer, map_named, office_sight, IssuedIn}
+use Rattle.office_rules.specs.Prelude.{Sight, device_in_sight, map_in_sight}
 use Rattle.office_rules.proofs.Sights.{map_same}
 
 -- what a step before gave

@@ -1,31 +1,17 @@
 -- The refusals of each command stand in the order of their numbers, so the first that holds has the lowest.
-use Rattle.std.proofs.Common.{◌≡◌, ◌<◌, ◌≤◌, ◌++◌, ℕ, Bool, true, false, List, [], ◌∷◌, Option, Some, None, arith, refl}
-use Rattle.std.specs.Option.{option_map_or}
-use Rattle.std.specs.Result.{result_err}
-use Rattle.std.specs.Prelude.{◌&&◌, if◌then◌else◌, nat_lt, option_and_then}
-use Rattle.std.specs.List.{AllByRecursion}
-use Rattle.std.proofs.lemmas.Bool.{and_parts, false≢true}
-use Rattle.std.proofs.lemmas.Bool.Decides.{nat_tests}
+use Rattle.std.proofs.Common.{◌≡◌, ◌<◌, ◌≤◌, ◌++◌, ◌∷◌, ◌&&◌, if◌then◌else◌}
+use Rattle.text_core.proofs.Kit.{ℕ, Bool, true, false, List, [], Option, Some, None, arith, refl, option_map_or, result_err, nat_lt, option_and_then}
+use Rattle.text_core.proofs.Kit.{AllByRecursion, and_parts, false≢true, nat_tests}
 use Rattle.sha2.specs.Sha256.{sha256}
-use Rattle.text_core.specs.Options.{first_that_holds}
-use Rattle.fusemap_core.specs.Map.{Map}
-use Rattle.site_core.specs.Section.{Section}
-use Rattle.office_tables.specs.declared.rows.Device.{Device}
-use Rattle.office_commands.specs.Refusals.{refusal_number}
-use Rattle.office_commands.specs.declared.command.Action.{Action}
-use Rattle.office_commands.specs.declared.command.Action.TheVariants.{Ship}
-use Rattle.office_commands.specs.declared.command.Change.{Change}
-use Rattle.office_commands.specs.declared.command.Change.TheVariants.{MakeOrder, ImportMap, RegisterDevice, Act, Identify, Import}
-use Rattle.office_commands.specs.declared.refusal.Refusal.{Refusal}
-use Rattle.office_commands.specs.declared.refusal.Refusal.TheVariants.{BadMap, ImportConflict, Unkept}
-use Rattle.office_rules.specs.Actions.{action_refusals}
-use Rattle.office_rules.specs.Identity.{number_and_key_refusals}
-use Rattle.office_rules.specs.Import.{merged_rows}
-use Rattle.office_rules.specs.Machine.{refusals}
-use Rattle.office_rules.specs.Map.{map_fault, text_refusals}
-use Rattle.office_rules.specs.Registration.{readback_refusals}
-use Rattle.office_rules.specs.Sight.{OrderSight, Refusals, Sight, device_in_sight, map_in_sight, refused_for, step_refusals}
-use Rattle.office_rules.specs.declared.device_step.FoundDevice.{FoundDevice}
+use Rattle.text_core.specs.Prelude.{first_that_holds}
+use Rattle.fusemap_core.specs.Prelude.{Map}
+use Rattle.site_core.specs.Prelude.{Section}
+use Rattle.office_laws.proofs.Types.{Device, Action, Ship, MakeOrder, ImportMap, RegisterDevice, Act, Identify, Import, Refusal, BadMap, ImportConflict, Unkept}
+use Rattle.office_laws.proofs.Types.{Change, FoundDevice}
+use Rattle.office_commands.specs.Prelude.{refusal_number}
+use Rattle.office_rules.specs.Prelude.{action_refusals, merged_rows, refusals, map_fault, text_refusals, readback_refusals, OrderSight}
+use Rattle.office_rules.specs.Prelude.{Refusals, Sight, device_in_sight, map_in_sight, refused_for, step_refusals}
+use Rattle.office_laws.proofs.Identity.{number_and_key_refusals}
 
 -- each number is above the one before it, the first above n, and below that of 503
 abbrev ascends : ℕ → Refusals → Bool

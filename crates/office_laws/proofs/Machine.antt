@@ -1,36 +1,27 @@
 -- A step acts on the customer's view as the customer's own machine does, and leaves each other
 -- view.
-use Rattle.std.proofs.Common.{◌≡◌, ℕ, false, List, [], ◌∷◌, ◌++◌, map, Option, Some, None, refl, sym, ap, ◌∙◌, subst}
-use Rattle.std.specs.Result.{result_ok}
-use Rattle.std.specs.Prelude.{bytes_eq, is_some, if◌then◌else◌, option_and_then, option_map}
-use Rattle.std.specs.List.{AllByRecursion}
-use Rattle.text_core.specs.Options.{first_that_holds}
-use Rattle.http_replies.specs.Replies.{Answer}
-use Rattle.site_core.specs.Section.{Section}
-use Rattle.site_core.specs.Ownership.{IsSection, Ownership}
-use Rattle.import_rows.specs.declared.rows.ImportRow.{ImportRow}
-use Rattle.office_tables.specs.Tables.{Tables}
-use Rattle.office_commands.specs.declared.command.Change.{Change as Changing}
-use Rattle.office_commands.specs.declared.command.Change.TheVariants.{MakeOrder, ImportMap, RegisterDevice, Act, Identify, Import}
-use Rattle.office_commands.specs.declared.command.Request.{Request}
-use Rattle.office_commands.specs.declared.refusal.Refusal.TheVariants.{BadMap}
-use Rattle.office_rules.specs.Actions.{rule_of}
-use Rattle.office_rules.specs.Effect.{StepRule, Effect, Put, map_put, record_put, step_effect}
-use Rattle.office_rules.specs.Import.{merged_rows, row_of_import}
-use Rattle.office_rules.specs.Machine.{Response, accept, effect, refusals, response}
-use Rattle.office_rules.specs.Map.{map_fault, text_refusals}
-use Rattle.office_rules.specs.OfficeMachine.{Step, office_sight}
-use Rattle.office_rules.specs.Sight.{IssuedIn, Sight, map_in_sight, refused_for}
-use Rattle.office_laws.specs.SoloMachine.{after_response, solo_step}
-use Rattle.office_laws.specs.Sound.{IsSound}
-use Rattle.office_laws.specs.View.{view}
-use Rattle.office_laws.proofs.Identifying.{identity_found}
+use Rattle.std.proofs.Common.{◌≡◌, ◌∷◌, ◌++◌, if◌then◌else◌}
+use Rattle.text_core.proofs.Kit.{ℕ, false, List, [], map, Option, Some, None, refl, sym, ap, ◌∙◌, subst, result_ok, bytes_eq, is_some, option_and_then}
+use Rattle.text_core.proofs.Kit.{option_map, AllByRecursion}
+use Rattle.text_core.specs.Prelude.{first_that_holds}
+use Rattle.http_replies.specs.Prelude.{Answer}
+use Rattle.site_core.specs.Prelude.{Section, IsSection, Ownership}
+use Rattle.office_laws.proofs.Types.{ImportRow, Change as Changing, MakeOrder, ImportMap, RegisterDevice, Act, Identify, Import, Request, BadMap}
+use Rattle.office_tables.specs.Prelude.{Tables}
+use Rattle.office_rules.specs.Prelude.{rule_of, StepRule, Effect, Put, map_put, record_put, step_effect, merged_rows, row_of_import, Response, accept, effect}
+use Rattle.office_rules.specs.Prelude.{refusals, response, map_fault, text_refusals, Step, office_sight, IssuedIn, Sight, map_in_sight, refused_for}
+use Rattle.office_laws.specs.Prelude.{SoloState, solo_step, with_puts, IsSound, view}
+use Rattle.office_laws.proofs.Identity.{identity_found}
 use Rattle.office_laws.proofs.Looking.{gave, issuer_found, mapped, rows_taken, some_is}
 use Rattle.office_laws.proofs.Readings.{issuer_owner, order_issuer}
 use Rattle.office_laws.proofs.Responses.{of_command}
 use Rattle.office_laws.proofs.Seen.{seen_own}
 use Rattle.office_laws.proofs.Tidy.{IsDue, puts_act, sound_is_tidy}
 use Rattle.office_laws.proofs.Unread.{all_with}
+
+-- the reply to a seat's request, and the own machine's state after it
+abbrev after_response : SoloState → Response → Answer × SoloState
+after_response s r = (r.reply, with_puts r.puts s)
 
 module _ {owners : Ownership} {t : Tables} (sound : IsSound owners t) (s : Section)
     (section : IsSection owners s) (seat : List ℕ) (mine : owners.seat seat ≡ Some s.name) where

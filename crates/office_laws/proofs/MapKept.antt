@@ -1,21 +1,13 @@
 -- The import of a fuse map keeps the tables sound, and forgets nothing.
-use Rattle.std.proofs.Common.{◌≡◌, ◌∙◌, ◌++◌, ℕ, List, [], ◌∷◌, Option, Some, None, refl, sym, ap}
-use Rattle.std.specs.Prelude.{if◌then◌else◌, is_some, option_map}
+use Rattle.std.proofs.Common.{◌≡◌, ◌∙◌, ◌++◌, ℕ, List, [], ◌∷◌, Option, Some, None, refl, sym, ap, if◌then◌else◌, is_some, option_map}
 use Rattle.sha2.specs.Sha256.{sha256}
-use Rattle.text_core.specs.Options.{first_that_holds}
-use Rattle.site_core.specs.Ownership.{IsSection, Ownership}
-use Rattle.site_core.specs.Section.{Section}
-use Rattle.office_tables.specs.declared.rows.Link.{Link}
-use Rattle.office_tables.specs.declared.rows.MapRow.{MapRow}
-use Rattle.office_tables.specs.declared.rows.OfCustomer.{OfCustomer}
-use Rattle.office_tables.specs.Tables.{Tables, link_at, map_at, map_with, with_link, with_map}
-use Rattle.office_commands.specs.declared.refusal.Refusal.TheVariants.{BadMap}
-use Rattle.office_rules.specs.Effect.{map_put}
-use Rattle.office_rules.specs.Map.{map_effect, map_fault, map_refusals, text_refusals}
-use Rattle.office_rules.specs.OfficeMachine.{Links, MakesPuts, its, office_sight, body_of_map}
-use Rattle.office_rules.specs.Sight.{Refusals, Sight, refused_for}
-use Rattle.office_laws.specs.Grows.{Grows}
-use Rattle.office_laws.specs.Sound.{IsLinked, IsSound}
+use Rattle.text_core.specs.Prelude.{first_that_holds}
+use Rattle.site_core.specs.Prelude.{IsSection, Ownership, Section}
+use Rattle.office_laws.proofs.Types.{Link, MapRow, OfCustomer, BadMap}
+use Rattle.office_tables.specs.Prelude.{Tables, link_at, map_at, map_with, with_link, with_map}
+use Rattle.office_rules.specs.Prelude.{map_put, map_effect, map_fault, map_refusals, text_refusals, Links, MakesPuts, its, office_sight, body_of_map, Refusals}
+use Rattle.office_rules.specs.Prelude.{Sight, refused_for}
+use Rattle.office_laws.specs.Prelude.{Grows, IsLinked, IsSound}
 use Rattle.office_laws.proofs.Growing.{grows_itself, link_grows, map_grows}
 use Rattle.office_laws.proofs.Lasting.{Lasts, lasts_itself, lasts_named}
 use Rattle.office_laws.proofs.MapLaws.{link_sound, map_sound}

@@ -1,19 +1,14 @@
 -- A new map and a new link keep the tables sound, and how links lie with their customers.
-use Rattle.std.proofs.Common.{◌≡◌, ℕ, true, List, [], ◌∷◌, None, Ordering, Equal, sym, ap, ◌∙◌, subst}
-use Rattle.std.specs.List.{AllByRecursion}
-use Rattle.std.specs.Ordering.{ordering_then}
-use Rattle.std.specs.Cmp.{IsTotalOrder}
-use Rattle.std.proofs.lemmas.Cmp.{on_total, then_total, nat_list_cmp_total, tied_itself}
-use Rattle.site_core.specs.Ownership.{Ownership}
-use Rattle.office_tables.specs.declared.rows.OfCustomer.{OfCustomer}
-use Rattle.office_tables.specs.declared.rows.Link.{Link}
-use Rattle.office_tables.specs.declared.rows.MapRow.{MapRow}
-use Rattle.office_tables.specs.Tables.{Tables, is_of, link_at, link_cmp, map_at, map_cmp, map_with, with_row, text_cmp, with_link, with_map}
+use Rattle.std.proofs.Common.{◌≡◌, ◌∷◌, Ordering}
+use Rattle.text_core.proofs.Kit.{ℕ, true, List, [], None, Equal, sym, ap, ◌∙◌, subst, AllByRecursion, ordering_then, IsTotalOrder, on_total, then_total}
+use Rattle.text_core.proofs.Kit.{nat_list_cmp_total, tied_itself}
+use Rattle.site_core.specs.Prelude.{Ownership}
+use Rattle.office_laws.proofs.Types.{OfCustomer, Link, MapRow}
+use Rattle.office_tables.specs.Prelude.{Tables, is_of, link_at, link_cmp, map_at, map_cmp, map_with, with_row, text_cmp, with_link, with_map}
 use Rattle.office_tables.proofs.Placing.{all_map, all_placed, placed_in_order}
-use Rattle.office_rules.specs.OfficeMachine.{map_named}
+use Rattle.office_rules.specs.Prelude.{map_named}
 use Rattle.office_rules.proofs.Ties.{first_equal, same_place, same_text}
-use Rattle.office_laws.specs.Sound.{AreSoundMaps, IsLinked, IsSound}
-use Rattle.office_laws.specs.SoundDevices.{MapOf}
+use Rattle.office_laws.specs.Prelude.{AreSoundMaps, IsLinked, IsSound, MapOf}
 use Rattle.office_laws.proofs.MapRows.{body_is_new, linked_after, maps_total, texts_apart_placed}
 use Rattle.office_laws.proofs.NamedMaps.{named_after_link, named_after_map}
 use Rattle.office_laws.proofs.DeviceRows.{ledgers_kept, referred_after_link}

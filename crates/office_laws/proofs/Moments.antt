@@ -1,24 +1,14 @@
 -- What holds at each moment of a run.
-use Rattle.std.proofs.Common.{◌≡◌, ◌∙◌, ℕ, false, List, [], ◌∷◌, ◌++◌, Option, Some, None, refl, ap, subst}
-use Rattle.std.specs.Prelude.{IfSome, IsSomeAnd}
+use Rattle.std.proofs.Common.{◌≡◌, ◌∙◌, ℕ, false, List, [], ◌∷◌, ◌++◌, Option, Some, None, refl, ap, subst, IfSome, IsSomeAnd}
 use Rattle.std.specs.List.{AllByRecursion}
-use Rattle.site_core.specs.Ownership.{Ownership}
-use Rattle.office_tables.specs.Tables.{Tables, device_at, given_at, is_serial_of, order_at}
-use Rattle.office_tables.specs.declared.rows.Device.{Device}
-use Rattle.office_tables.specs.declared.rows.Given.{Given}
-use Rattle.office_tables.specs.declared.rows.Order.{Order}
-use Rattle.office_tables.specs.declared.rows.OfCustomer.{OfCustomer}
-use Rattle.office_rules.specs.OfficeMachine.{map_named}
-use Rattle.office_rules.specs.Order.{block_from}
-use Rattle.office_laws.specs.Fresh.{addresses_for, addresses_in, addresses_of, addresses_with}
-use Rattle.office_laws.specs.Grows.{Grows, DeviceStays}
-use Rattle.office_laws.specs.Sound.{IsSound}
-use Rattle.office_laws.specs.SoundRecords.{IsOfDevice, IsOfOrder, IsRecordOf}
+use Rattle.site_core.specs.Prelude.{Ownership}
+use Rattle.office_tables.specs.Prelude.{Tables, device_at, given_at, is_serial_of, order_at}
+use Rattle.office_laws.proofs.Types.{Device, Given, Order, OfCustomer}
+use Rattle.office_rules.specs.Prelude.{map_named, block_from}
+use Rattle.office_laws.specs.Prelude.{addresses_for, addresses_in, addresses_of, addresses_with, Grows, DeviceStays, IsSound, IsOfDevice, IsOfOrder, IsRecordOf}
+use Rattle.office_laws.specs.Prelude.{Call, Exchange, IsCut, SeatRun, calls_of, AreNotImported, AreSeats}
 use Rattle.office_laws.proofs.Growing.{OrderStays}
 use Rattle.office_laws.proofs.Readings.{find_holds}
-use Rattle.office_laws.specs.Exchanges.{Call, Exchange, IsRun, calls_of}
-use Rattle.office_laws.specs.Gifts.{AreNotImported}
-use Rattle.office_laws.specs.Growth.{AreSeats}
 use Rattle.office_laws.proofs.Grown.{growth_itself}
 use Rattle.office_laws.proofs.Stopping.{calls_joined}
 use Rattle.office_laws.proofs.RunLaws.{run_grows, run_sound}
@@ -33,16 +23,17 @@ seats_parted first (c ∷ cs) ds last seats =
 
 -- the tables at a moment of a run are sound for the site as it stands then, and keep what they have
 -- to its end
-pub moment : (first : Ownership) (front back : List Exchange) (last : Ownership) (t mid t2 : Tables)
-    → IsSound first t → AreSeats first (calls_of (front ++ back)) last → IsRun front t mid
-    → IsRun back mid t2
-    → (site : Ownership) × IsSound site mid × Grows mid t2
-moment first front back last t mid t2 sound seats before after =
-    let joined : AreSeats first (calls_of front ++ calls_of back) last =
-    subst (λ cs. AreSeats first cs last) (calls_joined front back) seats in
-    let parts = seats_parted first (calls_of front) (calls_of back) last joined in
-    let now : IsSound parts.0 mid = run_sound first front parts.0 t mid sound parts.1 before in
-    (parts.0, now, run_grows parts.0 back last mid t2 now parts.2 after)
+pub moment : (r : SeatRun) (front back : List Exchange) (middle : Tables)
+    → IsCut r front middle back
+    → (site : Ownership) × IsSound site middle × Grows middle r.new
+moment r front back middle cut =
+    let joined : AreSeats r.first (calls_of front ++ calls_of back) r.last =
+    subst (λ (cs : List Call). AreSeats r.first cs r.last)
+    (ap (λ (xs : List Exchange). calls_of xs) cut.0 ∙ calls_joined front back) r.are_seats in
+    let parts = seats_parted r.first (calls_of front) (calls_of back) r.last joined in
+    let now : IsSound parts.0 middle =
+    run_sound r.first front parts.0 r.old middle r.is_sound parts.1 cut.1 in
+    (parts.0, now, run_grows parts.0 back r.last middle r.new now parts.2 cut.2)
 
 -- what an import recorded stays so
 pub not_imported_before : (mid t2 : Tables) (gifts : List (OfCustomer Given)) → Grows mid t2

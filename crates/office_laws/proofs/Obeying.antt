@@ -1,20 +1,14 @@
 -- A step acts on the customer's view as the customer's own machine does, leaves each other view,
 -- keeps the tables sound, and forgets nothing.
-use Rattle.std.proofs.Common.{◌≡◌, ℕ, false, List, Some, sym, ap}
-use Rattle.std.specs.Prelude.{bytes_eq}
-use Rattle.http_replies.specs.Replies.{Answer}
-use Rattle.site_core.specs.Ownership.{PoolsDisjoint, IsSection, Ownership}
-use Rattle.site_core.specs.Section.{Section}
-use Rattle.office_tables.specs.Tables.{Tables}
-use Rattle.office_commands.specs.Asked.{IsAsked}
-use Rattle.office_commands.specs.declared.command.Request.{Request}
-use Rattle.office_commands.specs.declared.new_identity.NewIdentity.{NewIdentity}
-use Rattle.office_rules.specs.OfficeMachine.{Step, asks_identity}
-use Rattle.office_laws.specs.Fresh.{IssuesFresh}
-use Rattle.office_laws.specs.Grows.{Grows}
-use Rattle.office_laws.specs.SoloMachine.{SoloState, or_unkept, solo}
-use Rattle.office_laws.specs.Sound.{IsSound}
-use Rattle.office_laws.specs.View.{view}
+use Rattle.std.proofs.Common.{◌≡◌, ℕ, false, List, Some, sym, ap, bytes_eq}
+use Rattle.std.specs.Option.{option_map_or}
+use Rattle.http_replies.specs.Prelude.{Answer}
+use Rattle.site_core.specs.Prelude.{PoolsDisjoint, IsSection, Ownership, Section}
+use Rattle.office_tables.specs.Prelude.{Tables}
+use Rattle.office_commands.specs.Prelude.{IsAsked, refusal}
+use Rattle.office_laws.proofs.Types.{Request, Unkept, NewIdentity}
+use Rattle.office_rules.specs.Prelude.{Step, asks_identity}
+use Rattle.office_laws.specs.Prelude.{IssuesFresh, Grows, SoloState, solo, IsSound, view}
 use Rattle.office_laws.proofs.Fresh.{gives_anew}
 use Rattle.office_laws.proofs.Machine.{step_own}
 use Rattle.office_laws.proofs.StepLasts.{step_lasts}
@@ -38,7 +32,7 @@ module _ {owners : Ownership} {t : Tables} (sound : IsSound owners t) (s : Secti
       record {
         sound = lasts.sound;
         grows = lasts.grows;
-        own = sym (ap (or_unkept (view s.name t)) views.0);
+        own = sym (ap (λ made. option_map_or (λ x. x) made (refusal Unkept, view s.name t)) views.0);
         other = views.1;
       }
 

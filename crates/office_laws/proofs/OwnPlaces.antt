@@ -1,9 +1,7 @@
 -- The places of the own machine's rows, by names.
 use Rattle.std.specs.declared.cmp.Ordering.{Ordering}
-use Rattle.office_tables.specs.declared.rows.Device.{Device}
-use Rattle.office_tables.specs.declared.rows.Order.{Order}
-use Rattle.office_tables.specs.declared.rows.SeatState.{SeatState}
-use Rattle.office_laws.specs.SoloMachine.{SoloMap, by_text}
+use Rattle.office_laws.proofs.Types.{Device, Order, SeatState}
+use Rattle.office_laws.specs.Prelude.{SoloMap, by_text}
 
 abbrev pub solo_seat_cmp : SeatState → SeatState → Ordering
 solo_seat_cmp = by_text (λ r. r.name)

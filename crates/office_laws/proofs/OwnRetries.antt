@@ -1,42 +1,24 @@
 -- What a call does to the seats of the customer's own machine.
-use Rattle.std.proofs.Common.{◌≡◌, ◌∙◌, ◌+◌, ◌==◌, ◌++◌, ℕ, ◌⊎◌, inl, inr, true, false, List, [], ◌∷◌, Option, Some, None, Equal, refl, sym, ap}
-use Rattle.std.specs.Prelude.{Bool, ◌&&◌, bytes_eq, find, if◌then◌else◌, is_some, map, MatchBool, option_and_then, option_map}
-use Rattle.std.specs.Result.{result_ok}
-use Rattle.std.specs.List.{AllByRecursion}
-use Rattle.std.proofs.lemmas.Bool.{eqb-true}
-use Rattle.std.proofs.lemmas.Cmp.{nat_list_cmp_total, tied_itself}
+use Rattle.std.proofs.Common.{◌≡◌, ◌+◌, ◌==◌, ◌++◌, ◌⊎◌, ◌∷◌, ◌&&◌, if◌then◌else◌}
+use Rattle.text_core.proofs.Kit.{◌∙◌, ℕ, inl, inr, true, false, List, [], Option, Some, None, Equal, refl, sym, ap, Bool, bytes_eq, find, is_some, map}
+use Rattle.text_core.proofs.Kit.{MatchBool, option_and_then, option_map, result_ok, AllByRecursion, eqb-true, nat_list_cmp_total, tied_itself, option_map_or}
 use Rattle.sha2.specs.Sha256.{sha256}
-use Rattle.http_replies.specs.Replies.{Answer, code_of}
-use Rattle.import_rows.specs.declared.rows.ImportRow.{ImportRow}
-use Rattle.site_core.specs.Section.{Section}
-use Rattle.office_tables.specs.declared.rows.SeatState.{SeatState}
-use Rattle.office_tables.specs.Tables.{with_row}
+use Rattle.http_replies.specs.Prelude.{Answer, code_of}
+use Rattle.office_laws.proofs.Types.{ImportRow, SeatState, Change as Changing, MakeOrder, ImportMap, RegisterDevice, Act, Identify, Import, Command, Request}
+use Rattle.office_laws.proofs.Types.{Refusal, Unkept, Show, Repeats, Differs, Next, Skips}
+use Rattle.site_core.specs.Prelude.{Section}
+use Rattle.office_tables.specs.Prelude.{with_row}
 use Rattle.office_tables.proofs.Finding.{other_placed}
-use Rattle.office_commands.specs.declared.command.Change.{Change as Changing}
-use Rattle.office_commands.specs.declared.command.Change.TheVariants.{MakeOrder, ImportMap, RegisterDevice, Act, Identify, Import}
-use Rattle.office_commands.specs.declared.command.Command.{Command}
-use Rattle.office_commands.specs.declared.command.Command.TheVariants.{Change, Show}
-use Rattle.office_commands.specs.declared.command.Request.{Request}
-use Rattle.office_commands.specs.declared.refusal.Refusal.{Refusal}
-use Rattle.office_commands.specs.declared.refusal.Refusal.TheVariants.{Unkept}
-use Rattle.office_commands.specs.Refusals.{refusal_status}
-use Rattle.office_commands.specs.Replies.{acceptance, refusal}
-use Rattle.office_rules.specs.Actions.{rule_of}
-use Rattle.office_rules.specs.Effect.{StepRule, Effect, Put, map_put, record_put, seat_put, step_effect}
-use Rattle.office_rules.specs.Import.{merged_rows, row_of_import}
-use Rattle.office_rules.specs.Machine.{Response, accept, effect, reply_only, respond_to}
-use Rattle.office_rules.specs.Retry.{kept_of, retry_of}
-use Rattle.office_rules.specs.Sight.{Sight, map_in_sight}
-use Rattle.office_rules.specs.declared.retry.Retry.TheVariants.{Repeats, Differs, Next, Skips}
+use Rattle.office_commands.specs.Prelude.{refusal_status, acceptance, refusal}
+use Rattle.office_commands.specs.declared.command.Command.TheVariants.{Change}
+use Rattle.office_rules.specs.Prelude.{rule_of, StepRule, Effect, Put, map_put, record_put, seat_put, step_effect, merged_rows, row_of_import, Response, accept}
+use Rattle.office_rules.specs.Prelude.{effect, reply_only, respond_to, kept_of, retry_of, Sight, map_in_sight}
 use Rattle.office_rules.proofs.Ties.{same_place, same_text, text_itself}
-use Rattle.office_laws.specs.SoloMachine.{SoloState, after_response, or_unkept, seat_named, solo_sight, with_put, with_puts}
+use Rattle.office_laws.specs.Prelude.{SoloState, seat_named, solo_sight, with_put, with_puts, Call, Exchange, Wanted, asks, reports}
+use Rattle.office_laws.specs.Prelude.{refused, alone, alone_on, last_number_of_seat, is_accepted, is_change, number_of_wanted, writes}
 use Rattle.office_laws.proofs.OwnPlaces.{solo_seat_cmp}
 use Rattle.office_laws.proofs.Placed.{found_replaced}
 use Rattle.office_laws.proofs.Responses.{of_change}
-use Rattle.office_laws.specs.Exchanges.{Call, Exchange, Wanted, asks, reports, refused}
-use Rattle.office_laws.specs.Alone.{alone, alone_on}
-use Rattle.office_laws.specs.Gifts.{last_number_of_seat}
-use Rattle.office_laws.specs.Once.{is_accepted, is_change, number_of_wanted, writes}
 
 -- no refusal is answered 200
 pub not_success : (reason : Refusal) → (code_of (refusal_status reason) == 200) ≡ false
@@ -191,7 +173,8 @@ module _ (c : Section) (seat : List ℕ) (s mid : SoloState) (reply : Answer) wh
   -- the reply and the state after it are those of what the machine responds
   abbrev Performed : Option Response → Type 0
   Performed made =
-      ◌≡◌ {A = Answer × SoloState} (reply, mid) (or_unkept s (option_map (after_response s) made))
+      ◌≡◌ {A = Answer × SoloState} (reply, mid) (option_map_or (λ x. x)
+      (option_map (λ r. (r.reply, with_puts r.puts s)) made) (refusal Unkept, s))
 
   abbrev Does : Request → Option Response → Type 0
   Does r made = Performed made

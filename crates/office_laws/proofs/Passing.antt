@@ -1,22 +1,16 @@
 -- What one exchange does to the tables and to each customer's view.
-use Rattle.std.proofs.Common.{◌≡◌, ◌∙◌, ℕ, true, false, List, refl, sym, ap, subst}
-use Rattle.std.specs.Prelude.{bytes_eq, not, MatchBool}
+use Rattle.std.proofs.Common.{◌≡◌, ◌∙◌, ℕ, true, false, List, refl, sym, ap, subst, bytes_eq, not, MatchBool}
 use Rattle.std.proofs.lemmas.Bool.{and_parts}
-use Rattle.http_replies.specs.Replies.{Answer, is_unavailable}
-use Rattle.site_core.specs.Ownership.{PoolsDisjoint, Ownership}
-use Rattle.office_tables.specs.Tables.{Tables}
+use Rattle.http_replies.specs.Prelude.{Answer, is_unavailable}
+use Rattle.site_core.specs.Prelude.{PoolsDisjoint, Ownership}
+use Rattle.office_tables.specs.Prelude.{Tables}
 use Rattle.office_commands.specs.declared.refusal.Refusal.TheVariants.{Unkept}
-use Rattle.office_commands.specs.Replies.{refusal}
+use Rattle.office_commands.specs.Prelude.{refusal}
 use Rattle.office_rules.proofs.Ties.{same_text}
-use Rattle.office_laws.specs.Grows.{Grows}
-use Rattle.office_laws.specs.SoloMachine.{SoloState}
-use Rattle.office_laws.specs.Sound.{IsSound}
-use Rattle.office_laws.specs.View.{view}
+use Rattle.office_laws.specs.Prelude.{Grows, SoloState, IsSound, view, Exchange, Wanted, asks, reports, refused, FulfilsWanted, Passes, report_reply, CanAsk}
+use Rattle.office_laws.specs.Prelude.{IsSeat, alone, alone_on, is_own}
 use Rattle.office_laws.proofs.Growing.{grows_itself}
 use Rattle.office_laws.proofs.Obeying.{Obeys, step_obeys}
-use Rattle.office_laws.specs.Exchanges.{Exchange, Wanted, asks, reports, refused, FulfilsWanted, Passes, report_reply}
-use Rattle.office_laws.specs.Growth.{CanAsk, IsSeat}
-use Rattle.office_laws.specs.Alone.{alone, alone_on, is_own}
 use Rattle.office_laws.proofs.OwnReports.{report_own}
 
 -- the tables stay sound, and keep what they have; to its customer the exchange is one of the

@@ -1,11 +1,8 @@
 -- A run from sound tables keeps what is promised.
 use Rattle.std.proofs.Common.{List}
-use Rattle.site_core.specs.Ownership.{Ownership}
-use Rattle.office_tables.specs.Tables.{Tables}
-use Rattle.office_laws.specs.Sound.{IsSound}
-use Rattle.office_laws.specs.Exchanges.{Exchange, IsRun, calls_of}
-use Rattle.office_laws.specs.Growth.{AreSeats}
-use Rattle.office_laws.specs.Promises.{Promises}
+use Rattle.site_core.specs.Prelude.{Ownership}
+use Rattle.office_tables.specs.Prelude.{Tables}
+use Rattle.office_laws.specs.Prelude.{IsSound, Exchange, IsRun, calls_of, AreSeats, Promises}
 use Rattle.office_laws.proofs.Acting.{acts_once}
 use Rattle.office_laws.proofs.Giving.{gives_once}
 use Rattle.office_laws.proofs.RunLaws.{isolated, run_alone, run_grows, run_sound}

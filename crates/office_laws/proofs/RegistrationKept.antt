@@ -1,35 +1,23 @@
 -- The registration of a device keeps the tables sound, and forgets nothing.
-use Rattle.std.proofs.Common.{◌≡◌, ◌∙◌, ℕ, Bool, true, false, List, [], ◌∷◌, Some, None, refl, sym, subst}
-use Rattle.std.specs.Option.{option_map_or}
-use Rattle.std.specs.Prelude.{◌||◌, is_some, not}
-use Rattle.std.proofs.lemmas.Bool.{not-false}
-use Rattle.std.proofs.lemmas.Slice.Eq.{bytes_eq-Decides}
-use Rattle.text_core.specs.Options.{first_that_holds}
-use Rattle.fusemap_core.specs.Map.{Map}
-use Rattle.fuse_image.specs.Redaction.{WordsFitMap, redacted, shows_what_is_hidden}
-use Rattle.site_core.specs.Ownership.{IsSection, Ownership}
-use Rattle.site_core.specs.Section.{Section}
-use Rattle.office_tables.specs.declared.rows.Device.{Device}
-use Rattle.office_tables.specs.declared.rows.Entry.{Entry}
-use Rattle.office_tables.specs.declared.rows.OfCustomer.{OfCustomer}
-use Rattle.office_tables.specs.Tables.{Tables, device_at, entry_under, link_at, order_at}
-use Rattle.office_commands.specs.declared.new_device.NewDevice.{NewDevice}
-use Rattle.office_rules.specs.Effect.{Effect}
-use Rattle.office_rules.specs.OfficeMachine.{MakesPuts, its, map_named, map_text, office_order_sight, office_sight}
-use Rattle.office_rules.specs.Registration.{device_of_registration, first_step, readback_refusals}
-use Rattle.office_rules.specs.Registration.{registration_effect, registration_refusals, words_fit_map}
-use Rattle.office_rules.specs.Sight.{Sight, map_in_sight}
-use Rattle.office_rules.specs.declared.device_step.DeviceStep.{DeviceStep}
+use Rattle.std.proofs.Common.{◌≡◌, ◌∷◌, ◌||◌}
+use Rattle.text_core.proofs.Kit.{◌∙◌, ℕ, Bool, true, false, List, [], Some, None, refl, sym, subst, option_map_or, is_some, not, not-false, bytes_eq-Decides}
+use Rattle.text_core.specs.Prelude.{first_that_holds}
+use Rattle.fusemap_core.specs.Prelude.{Map}
+use Rattle.fuse_image.specs.Prelude.{WordsFitMap, redacted, shows_what_is_hidden}
+use Rattle.site_core.specs.Prelude.{IsSection, Ownership, Section}
+use Rattle.office_laws.proofs.Types.{Device, Entry, OfCustomer, NewDevice, DeviceStep}
+use Rattle.office_tables.specs.Prelude.{Tables, device_at, entry_under, link_at, order_at}
+use Rattle.office_rules.specs.Prelude.{Effect, MakesPuts, its, map_named, map_text, office_order_sight, office_sight, device_of_registration, first_step}
+use Rattle.office_rules.specs.Prelude.{readback_refusals, registration_effect, registration_refusals, words_fit_map, Sight, map_in_sight}
 use Rattle.office_rules.proofs.Linked.{map_is_linked}
 use Rattle.office_rules.proofs.Refusing.{NoneHolds, is_some_map, lowest_none, none_from_test}
 use Rattle.office_rules.proofs.Sights.{map_same}
-use Rattle.office_laws.specs.Sound.{IsSound}
-use Rattle.office_laws.specs.SoundDevices.{FitsFuseMap}
+use Rattle.office_laws.specs.Prelude.{IsSound, FitsFuseMap}
 use Rattle.office_laws.proofs.DeviceLaws.{new_ledger, step_sound}
 use Rattle.office_laws.proofs.Growing.{device_grows}
 use Rattle.office_laws.proofs.Lasting.{Lasts, lasts_named}
 use Rattle.office_laws.proofs.Looking.{gave, puts_of}
-use Rattle.office_laws.proofs.Registrations.{found_is_map, registered_kept}
+use Rattle.office_laws.proofs.Registration.{found_is_map, registered_kept}
 use Rattle.office_laws.proofs.StepKept.{entry_made, step_made}
 
 -- what nothing refuses of a read-back fits the map

@@ -1,22 +1,12 @@
 -- What holds of each reply alone, and of what a command that nothing refuses comes to, holds of each response.
-use Rattle.std.proofs.Common.{◌≡◌, ◌<◌, ℕ, List, Option, Some, None, refl, arith}
-use Rattle.std.specs.Prelude.{option_map}
-use Rattle.text_core.specs.Options.{first_that_holds}
-use Rattle.http_replies.specs.Replies.{Answer}
-use Rattle.site_core.specs.Section.{Section}
-use Rattle.office_commands.specs.Refusals.{refusal_number}
-use Rattle.office_commands.specs.Replies.{acceptance, refusal}
-use Rattle.office_commands.specs.declared.command.Change.{Change as Changing}
-use Rattle.office_commands.specs.declared.command.Command.{Command}
-use Rattle.office_commands.specs.declared.command.Command.TheVariants.{Change, Show}
-use Rattle.office_commands.specs.declared.command.Request.{Request}
-use Rattle.office_commands.specs.declared.refusal.Refusal.{Refusal}
-use Rattle.office_commands.specs.declared.refusal.Refusal.TheVariants.{OtherBody, Unkept, WrongNumber}
-use Rattle.office_rules.specs.Machine.{Response, accept, decide, effect, refusals, reply_only, respond_by_retry, respond_to, show_reply}
-use Rattle.office_rules.specs.Retry.{retry_of}
-use Rattle.office_rules.specs.Sight.{Sight}
-use Rattle.office_rules.specs.declared.retry.Retry.{Retry}
-use Rattle.office_rules.specs.declared.retry.Retry.TheVariants.{Repeats, Differs, Next, Skips}
+use Rattle.std.proofs.Common.{◌≡◌, ◌<◌, ℕ, List, Option, Some, None, refl, arith, option_map}
+use Rattle.text_core.specs.Prelude.{first_that_holds}
+use Rattle.http_replies.specs.Prelude.{Answer}
+use Rattle.site_core.specs.Prelude.{Section}
+use Rattle.office_commands.specs.Prelude.{refusal_number, acceptance, refusal}
+use Rattle.office_laws.proofs.Types.{Command, Request, Refusal, OtherBody, Unkept, WrongNumber, Change as Changing, Show, Retry, Repeats, Differs, Next, Skips}
+use Rattle.office_commands.specs.declared.command.Command.TheVariants.{Change}
+use Rattle.office_rules.specs.Prelude.{Response, accept, decide, effect, refusals, reply_only, respond_by_retry, respond_to, show_reply, retry_of, Sight}
 use Rattle.office_laws.proofs.Lowest.{found_below, refusals_ascend}
 
 module _ (s : Section) (seat : List ℕ) (v : Sight) (r : Request) (P : Option Response → Type 0) where

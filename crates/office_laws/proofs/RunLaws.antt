@@ -1,15 +1,10 @@
 -- From one exchange to a run of them.
 use Rattle.std.proofs.Common.{◌≡◌, ◌∙◌, ℕ, true, false, cond, List, [], ◌∷◌, refl, sym, subst}
-use Rattle.site_core.specs.Ownership.{Ownership}
-use Rattle.office_tables.specs.Tables.{Tables}
-use Rattle.office_laws.specs.Grows.{Grows}
-use Rattle.office_laws.specs.SoloMachine.{SoloState}
-use Rattle.office_laws.specs.Sound.{IsSound}
-use Rattle.office_laws.specs.View.{view}
+use Rattle.site_core.specs.Prelude.{Ownership}
+use Rattle.office_tables.specs.Prelude.{Tables}
+use Rattle.office_laws.specs.Prelude.{Grows, SoloState, IsSound, view, Exchange, IsRun, Passes, calls_of, replies_of, AreSeats, is_own, exchanges_of}
+use Rattle.office_laws.specs.Prelude.{solo_replies, solo_state, IsAsAlone, IsIsolated}
 use Rattle.office_laws.proofs.Growing.{grows_both, grows_itself}
-use Rattle.office_laws.specs.Exchanges.{Exchange, IsRun, Passes, calls_of, replies_of}
-use Rattle.office_laws.specs.Growth.{AreSeats}
-use Rattle.office_laws.specs.Alone.{is_own, exchanges_of, solo_replies, solo_state, IsAsAlone, IsIsolated}
 use Rattle.office_laws.proofs.Grown.{sound_grown}
 use Rattle.office_laws.proofs.Passing.{Serves, serves}
 use Rattle.office_laws.proofs.RunsAlone.{RunsAlone, alone_replies, alone_state}

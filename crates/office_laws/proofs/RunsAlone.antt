@@ -1,13 +1,11 @@
 -- A run of a customer's own machine, as a relation.
 use Rattle.std.proofs.Common.{◌≡◌, ◌∙◌, List, [], ◌∷◌, refl, ap}
-use Rattle.http_replies.specs.Replies.{Answer}
-use Rattle.http_replies.specs.Runs.{Machine, Runs}
-use Rattle.office_laws.specs.SoloMachine.{SoloState}
-use Rattle.office_laws.specs.Exchanges.{Call, Exchange, calls_of, replies_of}
-use Rattle.office_laws.specs.Alone.{alone, solo_replies, solo_state}
+use Rattle.http_replies.specs.Prelude.{Answer}
+use Rattle.text_core.specs.Prelude.{Machine, Runs}
+use Rattle.office_laws.specs.Prelude.{SoloState, Call, Exchange, calls_of, replies_of, alone, solo_replies, solo_state}
 
 -- a step of the own machine
-abbrev pub Own : Machine SoloState Call
+abbrev pub Own : Machine SoloState Call Answer
 Own s c reply s2 = ◌≡◌ {A = Answer × SoloState} (reply, s2) (alone c s)
 
 -- the own machine gives these replies, one after another

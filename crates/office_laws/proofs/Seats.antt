@@ -1,11 +1,10 @@
 -- Exchanges of the seats of one site, one more at a time.
 use Rattle.std.proofs.Common.{List, [], ◌∷◌, ◌++◌, refl}
 use Rattle.std.specs.List.{AllByRecursion}
-use Rattle.http_replies.proofs.RunLemmas.{runs_both}
-use Rattle.site_core.specs.Ownership.{PoolsDisjoint, Ownership}
-use Rattle.office_tables.specs.Tables.{Tables}
-use Rattle.office_laws.specs.Exchanges.{Call, Exchange, IsRun, Passes, calls_of}
-use Rattle.office_laws.specs.Growth.{AreSeats, IsSeat}
+use Rattle.text_core.proofs.MachineLemmas.{runs_both}
+use Rattle.site_core.specs.Prelude.{PoolsDisjoint, Ownership}
+use Rattle.office_tables.specs.Prelude.{Tables}
+use Rattle.office_laws.specs.Prelude.{Call, Exchange, IsRun, Passes, AreSeats, IsSeat}
 use Rattle.office_laws.proofs.Grown.{growth_itself}
 
 abbrev pub IsSeatOf : Ownership → Call → Type 0
@@ -15,12 +14,6 @@ pub all_seats : (site : Ownership) (cs : List Call) → AllByRecursion (IsSeatOf
     → AreSeats site cs site
 all_seats site [] all = growth_itself site
 all_seats site (c ∷ cs) all = (site, growth_itself site, all.0.0, all.0.1, all_seats site cs all.1)
-
-pub seats_more : (site : Ownership) (xs : List Exchange) (x : Exchange)
-    → AllByRecursion (IsSeatOf site) (calls_of xs) → IsSeatOf site x.0
-    → AllByRecursion (IsSeatOf site) (calls_of (xs ++ x ∷ []))
-seats_more site [] x all is = (is, tt)
-seats_more site (y ∷ ys) x all is = (all.0, seats_more site ys x all.1 is)
 
 pub run_more : (xs : List Exchange) (x : Exchange) (t mid t2 : Tables) → IsRun xs t mid
     → Passes mid x.0 x.1 t2 → IsRun (xs ++ x ∷ []) t t2

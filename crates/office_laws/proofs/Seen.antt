@@ -1,19 +1,12 @@
 -- What a customer's seat sees of sound tables is what it sees of the customer's own rows.
-use Rattle.std.proofs.Common.{◌≡◌, ℕ, true, false, List, map, Option, Some, None, refl, sym, ap, ◌∙◌}
-use Rattle.std.specs.Prelude.{bytes_eq, is_some, if◌then◌else◌, option_map}
-use Rattle.std.specs.List.{list_any}
-use Rattle.std.proofs.lemmas.List.{length-map}
-use Rattle.site_core.specs.Section.{Section}
-use Rattle.site_core.specs.Ownership.{IsSection, Ownership}
-use Rattle.office_tables.specs.declared.rows.Order.{Order}
-use Rattle.office_tables.specs.declared.rows.OfCustomer.{OfCustomer}
-use Rattle.office_tables.specs.OrderPlaces.{places_taken}
-use Rattle.office_tables.specs.Tables.{Tables, given_by_key, link_at, order_at, rows_of}
-use Rattle.office_rules.specs.OfficeMachine.{at_first, issued_in, office_order_sight, office_sight}
+use Rattle.std.proofs.Common.{◌≡◌, if◌then◌else◌}
+use Rattle.text_core.proofs.Kit.{ℕ, true, false, List, map, Option, Some, None, refl, sym, ap, ◌∙◌, bytes_eq, is_some, option_map, list_any, length-map}
+use Rattle.site_core.specs.Prelude.{Section, IsSection, Ownership}
+use Rattle.office_laws.proofs.Types.{Order, OfCustomer}
+use Rattle.office_tables.specs.Prelude.{places_taken, Tables, given_by_key, link_at, order_at, rows_of}
+use Rattle.office_rules.specs.Prelude.{at_first, issued_in, office_order_sight, office_sight}
 use Rattle.office_rules.proofs.Refusing.{is_some_map}
-use Rattle.office_laws.specs.SoloMachine.{SoloState, solo_issued_in, solo_order_sight, solo_sight}
-use Rattle.office_laws.specs.Sound.{IsSound}
-use Rattle.office_laws.specs.View.{solo_map, view}
+use Rattle.office_laws.specs.Prelude.{SoloState, solo_issued_in, solo_order_sight, solo_sight, IsSound, solo_map, view}
 use Rattle.office_laws.proofs.Readings.{bound_own, device_own, entries_own, given_in_own, issuer_owner, map_map, map_own, order_issuer}
 use Rattle.office_laws.proofs.Readings.{order_next_own, order_own, seat_own}
 

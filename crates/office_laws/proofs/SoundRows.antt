@@ -1,17 +1,11 @@
 -- A row that is placed among sound ones.
-use Rattle.std.proofs.Common.{◌≡◌, ℕ, true, List, Option, Some, Ordering, Equal}
-use Rattle.std.specs.Prelude.{find, is_some}
-use Rattle.std.specs.Cmp.{IsTotalOrder}
-use Rattle.std.specs.List.{AllByRecursion}
-use Rattle.site_core.specs.Ownership.{Ownership}
-use Rattle.office_tables.specs.declared.rows.Given.{Given}
-use Rattle.office_tables.specs.declared.rows.Order.{Order}
-use Rattle.office_tables.specs.declared.rows.OfCustomer.{OfCustomer}
-use Rattle.office_tables.specs.Tables.{Tables, is_order, order_cmp, with_row, with_order}
+use Rattle.std.proofs.Common.{◌≡◌, Ordering}
+use Rattle.text_core.proofs.Kit.{ℕ, true, List, Option, Some, Equal, find, is_some, IsTotalOrder, AllByRecursion}
+use Rattle.site_core.specs.Prelude.{Ownership}
+use Rattle.office_laws.proofs.Types.{Given, Order, OfCustomer}
+use Rattle.office_tables.specs.Prelude.{Tables, is_order, order_cmp, with_row, with_order}
 use Rattle.office_tables.proofs.Placing.{all_map, all_placed, placed_in_order}
-use Rattle.office_laws.specs.Sound.{EachApart, IsInPool, IsOrder, IsSound}
-use Rattle.office_laws.specs.SoundRecords.{IsIssuedBelow, IsRecordOf}
-use Rattle.office_laws.specs.SoundRows.{AreOwned}
+use Rattle.office_laws.specs.Prelude.{EachApart, IsInPool, IsOrder, IsSound, IsIssuedBelow, IsRecordOf, AreOwned}
 use Rattle.office_laws.proofs.DeviceRows.{referred_after_orders}
 use Rattle.office_laws.proofs.Readings.{orders_total}
 

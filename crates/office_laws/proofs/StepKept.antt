@@ -1,36 +1,24 @@
 -- A step of a device keeps the tables sound, and forgets nothing that was burnt.
-use Rattle.std.proofs.Common.{◌≡◌, ◌+◌, ◌∙◌, ◌++◌, ℕ, List, [], ◌∷◌, Option, Some, None, refl, sym, ap, subst}
-use Rattle.std.specs.Prelude.{bytes_eq, option_and_then, option_map}
+use Rattle.std.proofs.Common.{◌≡◌, ◌+◌, ◌∙◌, ◌++◌, ℕ, List, [], ◌∷◌, Option, Some, None, refl, sym, ap, subst, bytes_eq, option_and_then, option_map}
 use Rattle.std.proofs.lemmas.Bool.{and_parts}
-use Rattle.text_core.specs.Options.{first_that_holds}
-use Rattle.fusemap_core.specs.Map.{Map}
-use Rattle.site_core.specs.Ownership.{IsSection, Ownership}
-use Rattle.site_core.specs.Section.{Section}
-use Rattle.office_tables.specs.declared.rows.Device.{Device}
-use Rattle.office_tables.specs.declared.rows.Entry.{Entry}
-use Rattle.office_tables.specs.declared.rows.NewEntry.{NewEntry}
-use Rattle.office_tables.specs.declared.rows.OfCustomer.{OfCustomer}
-use Rattle.office_tables.specs.Tables.{Tables, device_at, entry_under, entry_with, is_device, last_number, with_device, with_new_entry}
-use Rattle.office_commands.specs.Asked.{IsAction}
-use Rattle.office_commands.specs.declared.command.Action.{Action}
-use Rattle.office_rules.specs.Actions.{action_refusals, rule_of}
-use Rattle.office_rules.specs.Effect.{Effect, entry_of, step_effect, step_put}
-use Rattle.office_rules.specs.OfficeMachine.{MakesPut, MakesPuts, its, map_named, map_text, office_sight}
-use Rattle.office_rules.specs.Sight.{Sight, device_in_sight, map_in_sight, step_refusals}
-use Rattle.office_rules.specs.declared.device_step.DeviceStep.{DeviceStep}
+use Rattle.text_core.specs.Prelude.{first_that_holds}
+use Rattle.fusemap_core.specs.Prelude.{Map}
+use Rattle.site_core.specs.Prelude.{IsSection, Ownership, Section}
+use Rattle.office_laws.proofs.Types.{Device, Entry, NewEntry, OfCustomer, Action, DeviceStep}
+use Rattle.office_tables.specs.Prelude.{Tables, device_at, entry_under, entry_with, is_device, last_number, with_device, with_new_entry}
+use Rattle.office_commands.specs.Prelude.{IsAction}
+use Rattle.office_rules.specs.Prelude.{action_refusals, rule_of, Effect, entry_of, step_effect, step_put, MakesPut, MakesPuts, its, map_named, map_text}
+use Rattle.office_rules.specs.Prelude.{office_sight, Sight, device_in_sight, map_in_sight, step_refusals}
 use Rattle.office_rules.proofs.Sights.{entry_same, map_same}
 use Rattle.office_rules.proofs.Ties.{same_text}
-use Rattle.office_laws.specs.Grows.{DeviceStays}
-use Rattle.office_laws.specs.Sound.{IsSound}
-use Rattle.office_laws.specs.SoundDevices.{FitsFuseMap, IsReferred}
-use Rattle.office_laws.specs.SoundRecords.{SerialIsOfIdentified}
+use Rattle.office_laws.specs.Prelude.{DeviceStays, IsSound, FitsFuseMap, IsReferred, SerialIsOfIdentified}
 use Rattle.office_laws.proofs.Actions.{action_keeps}
 use Rattle.office_laws.proofs.DeviceLaws.{next_ledger, step_sound}
 use Rattle.office_laws.proofs.Growing.{device_grows, stays_known}
 use Rattle.office_laws.proofs.Lasting.{Lasts, lasts_named}
 use Rattle.office_laws.proofs.Looking.{device_seen, gave, puts_of}
 use Rattle.office_laws.proofs.Readings.{find_holds}
-use Rattle.office_laws.proofs.Registrations.{found_is_map}
+use Rattle.office_laws.proofs.Registration.{found_is_map}
 use Rattle.office_laws.proofs.Keeping.{Keeps}
 
 module _ (s : Section) (seat : List ℕ) (t : Tables) where

@@ -1,23 +1,13 @@
 -- Each step keeps the tables sound, and forgets nothing.
-use Rattle.std.proofs.Common.{◌≡◌, ◌++◌, ℕ, List, [], ◌∷◌, Option, Some, None, refl, sym, subst}
-use Rattle.std.specs.Prelude.{option_map}
-use Rattle.text_core.specs.Options.{first_that_holds}
-use Rattle.http_replies.specs.Replies.{Answer}
-use Rattle.site_core.specs.Ownership.{PoolsDisjoint, IsSection, Ownership}
-use Rattle.site_core.specs.Section.{Section}
-use Rattle.office_tables.specs.declared.rows.OfCustomer.{OfCustomer}
-use Rattle.office_tables.specs.declared.rows.SeatState.{SeatState}
-use Rattle.office_tables.specs.Tables.{Tables, with_seat}
-use Rattle.office_commands.specs.Asked.{IsAsked, IsChange, IsCommand}
-use Rattle.office_commands.specs.declared.command.Change.{Change as Changing}
-use Rattle.office_commands.specs.declared.command.Change.TheVariants.{MakeOrder, ImportMap, RegisterDevice, Act, Identify, Import}
-use Rattle.office_commands.specs.declared.command.Request.{Request}
-use Rattle.office_rules.specs.Effect.{Effect, Put, seat_put}
-use Rattle.office_rules.specs.Machine.{Response, accept, effect, refusals}
-use Rattle.office_rules.specs.OfficeMachine.{MakesPut, MakesPuts, Step, its, office_sight}
-use Rattle.office_rules.specs.Retry.{kept_of}
-use Rattle.office_rules.specs.Sight.{Sight}
-use Rattle.office_laws.specs.Sound.{IsSound}
+use Rattle.std.proofs.Common.{◌≡◌, ◌++◌, ℕ, List, [], ◌∷◌, Option, Some, None, refl, sym, subst, option_map}
+use Rattle.text_core.specs.Prelude.{first_that_holds}
+use Rattle.http_replies.specs.Prelude.{Answer}
+use Rattle.site_core.specs.Prelude.{PoolsDisjoint, IsSection, Ownership, Section}
+use Rattle.office_laws.proofs.Types.{OfCustomer, SeatState, MakeOrder, ImportMap, RegisterDevice, Act, Identify, Import, Request, Change as Changing}
+use Rattle.office_tables.specs.Prelude.{Tables, with_seat}
+use Rattle.office_commands.specs.Prelude.{IsAsked, IsChange, IsCommand}
+use Rattle.office_rules.specs.Prelude.{Effect, Put, seat_put, Response, accept, effect, refusals, MakesPut, MakesPuts, Step, its, office_sight, kept_of, Sight}
+use Rattle.office_laws.specs.Prelude.{IsSound}
 use Rattle.office_laws.proofs.Growing.{seat_grows}
 use Rattle.office_laws.proofs.IdentityKept.{identity_kept}
 use Rattle.office_laws.proofs.ImportKept.{import_kept}

@@ -1,16 +1,14 @@
 -- A run with stops is one run.
-use Rattle.std.proofs.Common.{◌≡◌, ◌∙◌, inl, inr, true, List, [], ◌∷◌, ◌++◌, refl, ap}
-use Rattle.std.specs.Prelude.{IfSome, MatchBool}
+use Rattle.std.proofs.Common.{◌≡◌, ◌∙◌, inl, inr, true, List, [], ◌∷◌, ◌++◌, refl, ap, IfSome, MatchBool}
 use Rattle.std.specs.List.{AllByRecursion}
-use Rattle.http_replies.specs.Replies.{is_unavailable}
-use Rattle.http_replies.proofs.RunLemmas.{runs_both}
-use Rattle.site_core.specs.Ownership.{PoolsDisjoint, Ownership, OwnershipGrows}
-use Rattle.office_tables.specs.Tables.{Tables}
+use Rattle.http_replies.specs.Prelude.{is_unavailable}
+use Rattle.text_core.proofs.MachineLemmas.{runs_both}
+use Rattle.site_core.specs.Prelude.{PoolsDisjoint, Ownership, OwnershipGrows}
+use Rattle.office_tables.specs.Prelude.{Tables}
 use Rattle.office_commands.specs.declared.refusal.Refusal.TheVariants.{Unkept}
-use Rattle.office_commands.specs.Replies.{refusal}
-use Rattle.office_laws.specs.Exchanges.{Call, Exchange, IsRun, FulfilsWanted, Passes, Wanted, asks, reports, refused, calls_of}
-use Rattle.office_laws.specs.Growth.{AreSeats, IsSeat}
-use Rattle.office_laws.specs.Stops.{AreSessions, IsInDoubt, IsLeft, IsStoppedRun, Session, WasUnavailable, is_request}
+use Rattle.office_commands.specs.Prelude.{refusal}
+use Rattle.office_laws.specs.Prelude.{Call, Exchange, IsRun, FulfilsWanted, Passes, Wanted, asks, reports, refused, calls_of, AreSeats, IsSeat, AreSessions}
+use Rattle.office_laws.specs.Prelude.{IsInDoubt, IsLeft, IsStoppedRun, Session, WasUnavailable, is_request}
 use Rattle.office_laws.proofs.Grown.{growth_itself, growth_more}
 use Rattle.office_laws.proofs.Served.{answers}
 

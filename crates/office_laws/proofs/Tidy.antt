@@ -1,36 +1,20 @@
 -- Tables whose rows stand in order and lie with their owners: each put is seen by its customer
 -- alone, as one into that customer's rows.
-use Rattle.std.proofs.Common.{◌≡◌, ◌+◌, ℕ, true, false, List, [], ◌∷◌, map, Option, Some, None, Equal, refl, sym, ap, ◌∙◌, subst}
-use Rattle.std.specs.Prelude.{bytes_eq}
-use Rattle.std.specs.List.{AllByRecursion}
+use Rattle.std.proofs.Common.{◌≡◌, ◌+◌, ◌∷◌}
+use Rattle.text_core.proofs.Kit.{ℕ, true, false, List, [], map, Option, Some, None, Equal, refl, sym, ap, ◌∙◌, subst, bytes_eq, AllByRecursion, IsTotalOrder}
 use Rattle.std.specs.declared.cmp.Ordering.{Ordering}
-use Rattle.std.specs.Cmp.{IsTotalOrder}
 use Rattle.sha2.specs.Sha256.{sha256}
-use Rattle.site_core.specs.Section.{Section}
-use Rattle.site_core.specs.Ownership.{IsSection, Ownership}
-use Rattle.office_tables.specs.declared.rows.Cursor.{Cursor}
-use Rattle.office_tables.specs.declared.rows.Device.{Device}
-use Rattle.office_tables.specs.declared.rows.Entry.{Entry}
-use Rattle.office_tables.specs.declared.rows.Given.{Given}
-use Rattle.office_tables.specs.declared.rows.Link.{Link}
-use Rattle.office_tables.specs.declared.rows.MapRow.{MapRow}
-use Rattle.office_tables.specs.declared.rows.NewEntry.{NewEntry}
-use Rattle.office_tables.specs.declared.rows.Order.{Order}
-use Rattle.office_tables.specs.declared.rows.OfCustomer.{OfCustomer}
-use Rattle.office_tables.specs.declared.rows.SeatState.{SeatState}
-use Rattle.office_tables.specs.Tables.{IsInOrder, Tables, device_cmp, entry_cmp, entry_under, given_cmp, is_of, is_order, link_cmp, map_at, map_cmp}
-use Rattle.office_tables.specs.Tables.{map_with, order_at, order_cmp, rows_of, with_row, seat_cmp, with_cursor, with_cursor_of, with_device}
-use Rattle.office_tables.specs.Tables.{with_given, with_link, with_map, with_new_entry, with_order, with_seat}
+use Rattle.site_core.specs.Prelude.{Section, IsSection, Ownership}
+use Rattle.office_laws.proofs.Types.{Cursor, Device, Entry, Given, Link, MapRow, NewEntry, Order, OfCustomer, SeatState}
+use Rattle.office_tables.specs.Prelude.{IsInOrder, Tables, device_cmp, entry_cmp, entry_under, given_cmp, is_of, is_order, link_cmp, map_at, map_cmp, map_with}
+use Rattle.office_tables.specs.Prelude.{order_at, order_cmp, rows_of, with_row, seat_cmp, with_cursor, with_cursor_of, with_device, with_given, with_link}
+use Rattle.office_tables.specs.Prelude.{with_map, with_new_entry, with_order, with_seat}
 use Rattle.office_tables.proofs.Placing.{all_map, placed_in_order, placed_other, placed_own}
-use Rattle.office_rules.specs.Effect.{Put, device_put, map_put, number_put, order_put, record_put, seat_put}
-use Rattle.office_rules.specs.Map.{map_fault}
-use Rattle.office_rules.specs.OfficeMachine.{Links, MakesPut, MakesPuts, at_first, its, entry_of_chip, body_of_map}
+use Rattle.office_rules.specs.Prelude.{Put, device_put, map_put, number_put, order_put, record_put, seat_put, map_fault, Links, MakesPut, MakesPuts, at_first}
+use Rattle.office_rules.specs.Prelude.{its, entry_of_chip, body_of_map}
 use Rattle.office_rules.proofs.Ties.{first_equal, same_place, text_itself}
-use Rattle.office_laws.specs.SoloMachine.{SoloState, solo_entry_cmp, solo_given_cmp, with_put, with_puts}
+use Rattle.office_laws.specs.Prelude.{SoloState, solo_entry_cmp, solo_given_cmp, with_put, with_puts, AreSoundMaps, IsLinked, IsSound, AreOwned, solo_map, view}
 use Rattle.office_laws.proofs.OwnPlaces.{solo_device_cmp, solo_map_cmp, solo_order_cmp, solo_seat_cmp}
-use Rattle.office_laws.specs.Sound.{AreSoundMaps, IsLinked, IsSound}
-use Rattle.office_laws.specs.SoundRows.{AreOwned}
-use Rattle.office_laws.specs.View.{solo_map, view}
 use Rattle.office_laws.proofs.CursorLaws.{moved, moved_same, own_same}
 use Rattle.office_laws.proofs.DeviceLaws.{device_agree, device_place, devices_total, entries_total, entry_agree, entry_place, entry_row_cmp}
 use Rattle.office_laws.proofs.GivenLaws.{given_total}

@@ -1,17 +1,17 @@
 -- What seats ask for and are answered in turn, over the tables of all customers.
 use Rattle.std.specs.Prelude.{◌≡◌, ℕ, List, map, MatchBool}
-use Rattle.http_replies.specs.Replies.{Answer, is_unavailable}
+use Rattle.http_replies.specs.Prelude.{Answer, is_unavailable}
 use Rattle.http_replies.specs.declared.Kind.TheVariants.{Csv}
 use Rattle.http_replies.specs.declared.Status.TheVariants.{Success}
-use Rattle.http_replies.specs.Runs.{Machine, Runs}
-use Rattle.site_core.specs.Section.{Section}
-use Rattle.office_tables.specs.Tables.{Tables}
-use Rattle.yield_report.specs.Reports.{order_report_in}
+use Rattle.text_core.specs.Prelude.{Machine, Runs}
+use Rattle.site_core.specs.Prelude.{Section}
+use Rattle.office_tables.specs.Prelude.{Tables}
+use Rattle.yield_report.specs.Prelude.{order_report_in}
 use Rattle.office_commands.specs.declared.command.Request.{Request}
 use Rattle.office_commands.specs.declared.refusal.Refusal.{Refusal}
 use Rattle.office_commands.specs.declared.refusal.Refusal.TheVariants.{Unkept}
-use Rattle.office_commands.specs.Replies.{refusal}
-use Rattle.office_rules.specs.OfficeMachine.{Step}
+use Rattle.office_commands.specs.Prelude.{refusal}
+use Rattle.office_rules.specs.Prelude.{Step}
 
 -- what a seat asks for: a request of the office; the report of its customer's orders; or what is
 -- refused as it came, whatever the tables are
@@ -51,7 +51,7 @@ FulfilsWanted c reports t reply t2 =
 FulfilsWanted c (refused reason) t reply t2 = (reply ≡ refusal reason) × (t2 ≡ t)
 
 -- a call is answered 503, which is a constant and changes nothing, or gets what it asks for
-abbrev pub Passes : Machine Tables Call
+abbrev pub Passes : Machine Tables Call Answer
 Passes t c reply t2 = MatchBool (is_unavailable reply.status)
     ((reply ≡ refusal Unkept) × (t2 ≡ t)) (FulfilsWanted c c.wanted t reply t2)
 

@@ -2,18 +2,17 @@
 use Rattle.std.specs.Prelude.{◌≡◌, ◌&&◌, nat_lt, ℕ, Bool, false, List, [], ◌∷◌, filter, Option}
 use Rattle.std.specs.Prelude.{Some, None, is_some, IfSome}
 use Rattle.std.specs.List.{AllByRecursion}
-use Rattle.id_ranges.specs.Idevid.{Idevid}
+use Rattle.id_ranges.specs.Prelude.{Idevid}
 use Rattle.office_tables.specs.declared.rows.Given.{Given}
 use Rattle.office_tables.specs.declared.rows.OfCustomer.{OfCustomer}
 use Rattle.office_tables.specs.declared.rows.SeatState.{SeatState}
-use Rattle.office_tables.specs.Tables.{Tables, given_at, is_serial_of}
-use Rattle.office_commands.specs.IdentityReplies.{identity_body}
-use Rattle.office_commands.specs.Replies.{acceptance}
+use Rattle.office_tables.specs.Prelude.{Tables, given_at, is_serial_of}
+use Rattle.office_commands.specs.Prelude.{identity_body, acceptance}
 use Rattle.office_commands.specs.declared.command.Command.{Command}
-use Rattle.office_commands.specs.declared.command.Command.TheVariants.{Change}
 use Rattle.office_commands.specs.declared.command.Change.TheVariants.{Identify}
 use Rattle.office_commands.specs.declared.new_identity.NewIdentity.{NewIdentity}
-use Rattle.office_rules.specs.Identity.{row_of}
+use Rattle.office_commands.specs.declared.command.Command.TheVariants.{Change}
+use Rattle.office_rules.specs.Prelude.{row_of}
 use Rattle.office_laws.specs.Fresh.{BlocksDisjoint, IsFreshRecord, addresses_of}
 use Rattle.office_laws.specs.SoloMachine.{seat_named}
 use Rattle.office_laws.specs.View.{view}
@@ -41,10 +40,6 @@ abbrev pub is_new_identity : Tables → Exchange → Bool
 is_new_identity t x = is_some (identity_wanted x.0.wanted)
     && nat_lt (last_number_of_seat (seat_named x.0.seat (view x.0.section.name t)))
     (number_of_wanted x.0.wanted)
-
--- the accepted identities of a run from these tables, none of them a repeat
-abbrev pub new_identities : Tables → List Exchange → List Exchange
-new_identities t xs = filter (is_new_identity t) (once xs)
 
 -- the record that the identity's reply shows
 abbrev pub IsGift : Exchange → OfCustomer Given → Type 0
@@ -78,7 +73,7 @@ AreNotImported t gifts = (issuer serial : List ℕ)
 -- same; and none gives what an import recorded
 pub record IssuesOnce (xs : List Exchange) (t t2 : Tables) : Type 0 where
   pub gifts : List (OfCustomer Given)
-  pub shown : AreGifts (new_identities t xs) gifts
+  pub shown : AreGifts (filter (is_new_identity t) (once xs)) gifts
   pub new : AllByRecursion (IsFreshRecord t t2) gifts
   pub apart : AreAllApart t2 gifts
   pub imported : AreNotImported t2 gifts

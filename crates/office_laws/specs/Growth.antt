@@ -1,7 +1,7 @@
 -- Sites that grow, and the calls of their seats.
 use Rattle.std.specs.Prelude.{◌≡◌, List, [], ◌∷◌, Some}
-use Rattle.site_core.specs.Ownership.{PoolsDisjoint, IsSection, Ownership, OwnershipGrows}
-use Rattle.office_commands.specs.Asked.{IsAsked}
+use Rattle.site_core.specs.Prelude.{PoolsDisjoint, IsSection, Ownership, OwnershipGrows}
+use Rattle.office_commands.specs.Prelude.{IsAsked}
 use Rattle.office_laws.specs.Exchanges.{Call, Wanted, asks}
 
 -- what a seat can ask for: in a request the numbers are within their ranges, and the digests of

@@ -5,6 +5,7 @@ pub mod Fresh
 pub mod Gifts
 pub mod Grows
 pub mod Growth
+pub mod LawfulRuns
 pub mod Once
 pub mod Pending
 pub mod Promises
@@ -15,3 +16,4 @@ pub mod SoundRows
 pub mod Sound
 pub mod Stops
 pub mod View
+pub mod Prelude

@@ -2,8 +2,8 @@
 use Rattle.std.specs.Prelude.{◌≡◌, ◌==◌, ◌&&◌, ℕ, Bool, true, false, not, bytes_eq, List, [], ◌∷◌}
 use Rattle.std.specs.Prelude.{filter}
 use Rattle.std.specs.List.{AllByRecursion}
-use Rattle.http_replies.specs.Replies.{code_of}
-use Rattle.office_tables.specs.Tables.{Tables}
+use Rattle.http_replies.specs.Prelude.{code_of}
+use Rattle.office_tables.specs.Prelude.{Tables}
 use Rattle.office_commands.specs.declared.command.Command.{Command}
 use Rattle.office_commands.specs.declared.command.Command.TheVariants.{Change, Show}
 use Rattle.office_laws.specs.View.{view}

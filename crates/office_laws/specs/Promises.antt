@@ -1,7 +1,7 @@
 -- What is promised of a run.
 use Rattle.std.specs.Prelude.{ℕ, List}
-use Rattle.site_core.specs.Ownership.{Ownership}
-use Rattle.office_tables.specs.Tables.{Tables}
+use Rattle.site_core.specs.Prelude.{Ownership}
+use Rattle.office_tables.specs.Prelude.{Tables}
 use Rattle.office_laws.specs.Grows.{Grows}
 use Rattle.office_laws.specs.Sound.{IsSound}
 use Rattle.office_laws.specs.Exchanges.{Exchange}

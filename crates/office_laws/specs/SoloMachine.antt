@@ -1,27 +1,24 @@
 -- A customer's own machine: the machine over that customer's rows alone.
 use Rattle.std.specs.Prelude.{ℕ, Bool, ◌&&◌, is_some, bytes_eq, if◌then◌else◌, List, []}
 use Rattle.std.specs.Prelude.{◌∷◌, length, filter, find, Option, Some, None, option_map}
+use Rattle.std.specs.Option.{option_map_or}
 use Rattle.std.specs.Ordering.{nat_cmp, ordering_then}
 use Rattle.std.specs.declared.cmp.Ordering.{Ordering}
 use Rattle.sha2.specs.Sha256.{sha256}
-use Rattle.http_replies.specs.Replies.{Answer}
-use Rattle.site_core.specs.Section.{Section}
-use Rattle.id_ranges.specs.NextSerial.{next_serial}
+use Rattle.http_replies.specs.Prelude.{Answer}
+use Rattle.site_core.specs.Prelude.{Section}
+use Rattle.id_ranges.specs.Prelude.{next_serial}
 use Rattle.office_tables.specs.declared.rows.Device.{Device}
 use Rattle.office_tables.specs.declared.rows.Given.{Given}
 use Rattle.office_tables.specs.declared.rows.NewEntry.{NewEntry}
 use Rattle.office_tables.specs.declared.rows.Order.{Order}
 use Rattle.office_tables.specs.declared.rows.SeatState.{SeatState}
-use Rattle.office_tables.specs.OrderPlaces.{places_taken}
-use Rattle.office_tables.specs.Tables.{with_row, text_cmp}
+use Rattle.office_tables.specs.Prelude.{places_taken, with_row, text_cmp}
 use Rattle.office_commands.specs.declared.command.Request.{Request}
 use Rattle.office_commands.specs.declared.refusal.Refusal.TheVariants.{Unkept}
-use Rattle.office_commands.specs.Replies.{refusal}
-use Rattle.office_rules.specs.Effect.{Put, device_put, map_put, number_put}
-use Rattle.office_rules.specs.Effect.{order_put, record_put, seat_put}
-use Rattle.office_rules.specs.Machine.{Response, response}
-use Rattle.office_rules.specs.OfficeMachine.{has_issuer}
-use Rattle.office_rules.specs.Sight.{IssuedIn, OrderSight, Sight}
+use Rattle.office_commands.specs.Prelude.{refusal}
+use Rattle.office_rules.specs.Prelude.{Put, device_put, map_put, number_put, order_put, record_put}
+use Rattle.office_rules.specs.Prelude.{seat_put, response, has_issuer, IssuedIn, OrderSight, Sight}
 
 -- a fuse map of the customer's, by the digest of its text
 pub record SoloMap : Type 0 where
@@ -50,6 +47,7 @@ solo_given_cmp a b = ordering_then (text_cmp a.issuer b.issuer) (text_cmp a.seri
 abbrev pub solo_entry_cmp : NewEntry → NewEntry → Ordering
 solo_entry_cmp a b = ordering_then (text_cmp a.chip b.chip) (nat_cmp a.number b.number)
 
+-- the row of a seat, by its name
 abbrev pub seat_named : List ℕ → SoloState → Option SeatState
 seat_named name s = find (λ r. bytes_eq name r.name) s.seats
 
@@ -61,6 +59,7 @@ record_of_serial issuer serial s =
 abbrev pub record_of_key : List ℕ → List ℕ → SoloState → Option Given
 record_of_key issuer key s = find (λ g. bytes_eq issuer g.issuer && bytes_eq key g.key) s.given
 
+-- the serial number is given in the issuer
 abbrev pub is_issued : SoloState → List ℕ → List ℕ → Bool
 is_issued s issuer serial = is_some (record_of_serial issuer serial s)
 
@@ -73,6 +72,7 @@ solo_order_sight s o = record {
   is_bound = λ key. is_some (record_of_key o.issuer key s);
 }
 
+-- what is given in an issuer: the key of each serial number, and the number of each key
 abbrev pub solo_issued_in : List ℕ → SoloState → IssuedIn
 solo_issued_in issuer s = record {
   key_of = λ serial. option_map (λ g. g.key) (record_of_serial issuer serial s);
@@ -106,21 +106,17 @@ with_put (device_put d e) s = record s {
 with_put (record_put g) s = record s { given = with_row solo_given_cmp g s.given }
 with_put (number_put order number g) s = record s { given = with_row solo_given_cmp g s.given }
 
+-- and puts in turn
 abbrev pub with_puts : List Put → SoloState → SoloState
 with_puts [] s = s
 with_puts (p ∷ ps) s = with_puts ps (with_put p s)
 
--- the reply to a seat's request, and the state after it
-abbrev pub after_response : SoloState → Response → Answer × SoloState
-after_response s r = (r.reply, with_puts r.puts s)
-
+-- the reply to a seat's request, by what the seat sees, and the state after it
 abbrev pub solo_step : Section → List ℕ → SoloState → Request → Option (Answer × SoloState)
-solo_step c seat s r = option_map (after_response s) (response c seat (solo_sight c seat s) r)
+solo_step c seat s r = option_map (λ made. (made.reply, with_puts made.puts s))
+    (response c seat (solo_sight c seat s) r)
 
--- for runs, where a reply is wanted of each: none is 503, and changes nothing
-abbrev pub or_unkept : SoloState → Option (Answer × SoloState) → Answer × SoloState
-or_unkept s None = (refusal Unkept, s)
-or_unkept s (Some made) = made
-
+-- the own machine, for runs, where a reply is wanted of each request: none is 503, and changes
+-- nothing
 abbrev pub solo : Section → List ℕ → SoloState → Request → Answer × SoloState
-solo c seat s r = or_unkept s (solo_step c seat s r)
+solo c seat s r = option_map_or (λ made. made) (solo_step c seat s r) (refusal Unkept, s)

@@ -3,7 +3,7 @@ use Rattle.std.specs.Prelude.{◌≡◌, ℕ, List, Option, Some}
 use Rattle.std.specs.List.{AllByRecursion}
 use Rattle.std.specs.declared.cmp.Ordering.{Ordering}
 use Rattle.office_tables.specs.declared.rows.OfCustomer.{OfCustomer}
-use Rattle.office_tables.specs.Tables.{IsInOrder}
+use Rattle.office_tables.specs.Prelude.{IsInOrder}
 
 -- the rows are in the order of their keys, and each is the customer's who owns what it names
 pub record AreOwned {A : Type 0} (cmp : OfCustomer A → OfCustomer A → Ordering)

@@ -2,9 +2,9 @@
 use Rattle.std.specs.Prelude.{◌≡◌, ◌⊎◌, ◌&&◌, Bool, true, false, not, List, [], ◌∷◌, ◌++◌, Option}
 use Rattle.std.specs.Prelude.{Some, IfSome}
 use Rattle.std.specs.List.{AllByRecursion}
-use Rattle.http_replies.specs.Replies.{is_unavailable}
-use Rattle.site_core.specs.Ownership.{PoolsDisjoint, Ownership, OwnershipGrows}
-use Rattle.office_tables.specs.Tables.{Tables}
+use Rattle.http_replies.specs.Prelude.{is_unavailable}
+use Rattle.site_core.specs.Prelude.{PoolsDisjoint, Ownership, OwnershipGrows}
+use Rattle.office_tables.specs.Prelude.{Tables}
 use Rattle.office_laws.specs.Exchanges.{Call, Exchange, IsRun, FulfilsWanted, Wanted, asks}
 use Rattle.office_laws.specs.Exchanges.{calls_of}
 use Rattle.office_laws.specs.Growth.{IsSeat}

@@ -1,14 +1,13 @@
 // A law of refusals, over their definitions alone.
 ghost use Rattle.std.specs.Prelude.{◌≡◌, ◌<◌, ◌≤◌, Some, true};
 ghost use Rattle.std.specs.List.{AllByRecursion};
-ghost use Rattle.text_core.specs.Options.{first_that_holds};
-ghost use Rattle.site_core.specs.Section.{Section};
-ghost use Rattle.office_commands.specs.Refusals.{refusal_number};
-ghost use Rattle.office_commands.specs.declared.command.Change.{Change};
+ghost use Rattle.text_core.specs.Prelude.{first_that_holds};
+ghost use Rattle.site_core.specs.Prelude.{Section};
+ghost use Rattle.office_commands.specs.Prelude.{refusal_number};
 ghost use Rattle.office_commands.specs.declared.refusal.Refusal.{Refusal};
 ghost use Rattle.office_commands.specs.declared.refusal.Refusal.TheVariants.{OtherBody};
-ghost use Rattle.office_rules.specs.Machine.{refusals};
-ghost use Rattle.office_rules.specs.Sight.{Sight};
+ghost use Rattle.office_commands.specs.declared.command.Change.{Change};
+ghost use Rattle.office_rules.specs.Prelude.{refusals, Sight};
 
 /// Where several refusals of a command hold, the one that is answered has the lowest number. Each has
 /// a number above those of the retry rule, 11 and 12, which is judged before.

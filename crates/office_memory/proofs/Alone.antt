@@ -1,11 +1,9 @@
 -- Tests that at most one row passes.
 use Rattle.std.proofs.Common.{◌≡◌, ◌≤◌, ◌+◌, ◌∙◌, ℕ, arith, Bool, true, false, cond, List, [], ◌∷◌, length, Some, None, Ordering, Less, Equal, Greater, refl}
-use Rattle.std.proofs.Common.{sym, ap, subst}
-use Rattle.std.specs.Prelude.{filter, find}
-use Rattle.std.specs.Ordering.{is_eq, match_ordering}
-use Rattle.office_tables.specs.Tables.{with_row}
-use Rattle.office_memory.specs.Indexing.{IsAtMostOne}
-use Rattle.office_memory.specs.Unplaced.{without}
+use Rattle.std.proofs.Common.{sym, ap, subst, filter, find, is_eq}
+use Rattle.std.specs.Ordering.{match_ordering}
+use Rattle.office_tables.specs.Prelude.{with_row}
+use Rattle.office_memory.specs.Prelude.{IsAtMostOne, without}
 
 module _ {A : Type 0} (test : A → Bool) where
   abbrev passing : List A → ℕ

@@ -1,12 +1,8 @@
 -- The greatest of the numbers of rows, which is that of the last of them, and the number after it.
-use Rattle.std.proofs.Common.{◌≡◌, ◌≤◌, ◌+◌, ◌-◌, ℕ, zero, suc, length, map, Some, arith, true, false, List, [], ◌∷◌, None, refl, sym, ap}
-use Rattle.std.specs.Prelude.{slice_get, IfSome, nat_lt, cond}
-use Rattle.std.proofs.lemmas.Option.{slice_get-get_or}
-use Rattle.std.proofs.lemmas.Bool.Decides.{nat_tests}
-use Rattle.std.specs.List.{AllByRecursion}
-use Rattle.std.specs.Ordering.{nat_cmp, is_lt}
-use Rattle.office_tables.specs.Numbers.{largest_number, one_more}
-use Rattle.office_tables.specs.Tables.{greatest}
+use Rattle.std.proofs.Common.{◌≡◌, ◌≤◌, ◌+◌, ◌-◌, ◌∷◌}
+use Rattle.text_core.proofs.Kit.{ℕ, zero, suc, length, map, Some, arith, true, false, List, [], None, refl, sym, ap, slice_get, IfSome, nat_lt, cond}
+use Rattle.text_core.proofs.Kit.{slice_get-get_or, nat_tests, AllByRecursion, nat_cmp, is_lt}
+use Rattle.office_tables.specs.Prelude.{largest_number, one_more, greatest}
 
 module _ {A : Type 0} (number : A → ℕ) where
   -- where there is no last row there is none

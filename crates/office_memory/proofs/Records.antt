@@ -1,24 +1,15 @@
 -- The records of serial numbers and their indexes.
 use mathlib.Core.Path.{fun_ext}
-use Rattle.std.proofs.Common.{◌≡◌, ◌∙◌, ℕ, Bool, true, false, cond, List, [], ◌∷◌, Option, Some, None, Less, Greater, refl, sym, ap}
-use Rattle.std.specs.Prelude.{◌&&◌, ◌||◌, not, ◌==◌, bytes_eq, filter, find, is_some, option_map}
-use Rattle.std.specs.List.{AllByRecursion}
-use Rattle.std.specs.BTreeMap.{get, is_at}
-use Rattle.std.specs.BTreeSet.{BTreeSet, contains}
-use Rattle.std.specs.Cmp.{unsigned_tied}
-use Rattle.office_memory.specs.Counting.{text_pair_cmp}
-use Rattle.std.specs.Ordering.{nat_cmp, is_eq, is_le, is_lt, ordering_then}
-use Rattle.std.specs.Cmp.Lexicographic.{nat_list_cmp_total, texts_ties}
-use Rattle.std.proofs.lemmas.Cmp.{tied_itself}
-use Rattle.std.proofs.lemmas.Bool.{eqb-true, eq-eqb}
-use Rattle.std.proofs.lemmas.Slice.Eq.{bytes_eq-Decides}
-use Rattle.text_core.specs.Serial.{is_serial, serial_of_text}
+use Rattle.std.proofs.Common.{◌≡◌, ◌∷◌, ◌&&◌, ◌||◌, ◌==◌}
+use Rattle.text_core.proofs.Kit.{◌∙◌, ℕ, Bool, true, false, cond, List, [], Option, Some, None, Less, Greater, refl, sym, ap, not, bytes_eq, filter, find}
+use Rattle.text_core.proofs.Kit.{is_some, option_map, AllByRecursion, get, is_at, BTreeSet, contains, unsigned_tied, nat_cmp, is_eq, is_le, is_lt}
+use Rattle.text_core.proofs.Kit.{ordering_then, nat_list_cmp_total, texts_ties, tied_itself, eqb-true, eq-eqb, bytes_eq-Decides}
+use Rattle.office_memory.specs.Prelude.{text_pair_cmp, has_mac, serial_of, AreIndexed, without}
+use Rattle.text_core.specs.Prelude.{is_serial, serial_of_text}
 use Rattle.office_tables.specs.declared.rows.OfCustomer.{OfCustomer}
 use Rattle.office_tables.specs.declared.rows.Given.{Given}
-use Rattle.office_tables.specs.Tables.{given_cmp, has_address, is_address, is_bound, is_serial_of, is_of_issuer, with_row, text_cmp, IsAddressFree}
+use Rattle.office_tables.specs.Prelude.{given_cmp, has_address, is_address, is_bound, is_serial_of, is_of_issuer, with_row, text_cmp, IsAddressFree}
 use Rattle.office_tables.proofs.Placing.{all_placed}
-use Rattle.office_memory.specs.Indexing.{has_mac, serial_of, AreIndexed}
-use Rattle.office_memory.specs.Unplaced.{without}
 use Rattle.office_memory.specs.declared.given.GivenIndex.{GivenIndex}
 use Rattle.office_memory.proofs.Truth.{both_true}
 use Rattle.office_memory.proofs.Alone.{find-placed, find-without, found_also, still_alone, alone_without}

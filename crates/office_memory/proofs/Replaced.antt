@@ -1,12 +1,10 @@
 -- A device in place of another of its chip and its order.
-use Rattle.std.proofs.Common.{◌≡◌, ◌<◌, ◌+◌, ◌-◌, ◌^◌, ◌∙◌, ℕ, arith, Bool, true, false, List, length, Some, refl, sym}
-use Rattle.std.specs.Prelude.{bytes_eq, find, not}
+use Rattle.std.proofs.Common.{◌≡◌, ◌<◌, ◌+◌, ◌-◌, ◌^◌, ◌∙◌, ℕ, arith, Bool, true, false, List, length, Some, refl, sym, bytes_eq, find, not}
 use Rattle.std.proofs.lemmas.Slice.Eq.{bytes_eq-Decides}
 use Rattle.office_tables.specs.declared.rows.OfCustomer.{OfCustomer}
 use Rattle.office_tables.specs.declared.rows.Device.{Device}
-use Rattle.office_tables.specs.Tables.{device_cmp, is_device}
-use Rattle.office_memory.specs.Counting.{count_of_order, is_counted, place_of_device, AreCounted, KeepsCounts}
-use Rattle.office_memory.specs.Unplaced.{unplaced, with_device_row, with_other}
+use Rattle.office_tables.specs.Prelude.{device_cmp, is_device}
+use Rattle.office_memory.specs.Prelude.{count_of_order, is_counted, place_of_device, AreCounted, KeepsCounts, unplaced, with_device_row, with_other}
 use Rattle.office_memory.specs.declared.devices.PlaceCounts.{PlaceCounts}
 use Rattle.office_memory.proofs.Counted.{all_kept, all_other, find_other, found_has, found_passes, itself, places_few, places_other, places_without}
 use Rattle.office_memory.proofs.Truth.{both_true}

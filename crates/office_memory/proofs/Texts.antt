@@ -1,17 +1,10 @@
 -- The maps and the numbers of their texts.
-use Rattle.std.proofs.Common.{◌≡◌, ◌∙◌, ℕ, Bool, true, false, cond, List, Option, Some, None, refl, sym, ap}
-use Rattle.std.specs.Prelude.{bytes_eq, find, option_map}
-use Rattle.std.specs.BTreeMap.{BTreeMap, get_by_text, is_at}
-use Rattle.std.specs.Cmp.Lexicographic.{slice_cmp}
-use Rattle.std.specs.Map.{lookup, update}
-use Rattle.std.specs.Ordering.{is_eq, nat_cmp}
-use Rattle.std.specs.String.{string_bytes}
-use Rattle.std.specs.declared.string.String.{String}
-use Rattle.std.proofs.lemmas.Slice.Eq.{bytes_eq-Decides}
+use Rattle.std.proofs.Common.{◌≡◌}
+use Rattle.text_core.proofs.Kit.{◌∙◌, ℕ, Bool, true, false, cond, List, Option, Some, None, refl, sym, ap, bytes_eq, find, option_map, BTreeMap, get_by_text}
+use Rattle.text_core.proofs.Kit.{is_at, slice_cmp, lookup, update, is_eq, nat_cmp, string_bytes, String, bytes_eq-Decides}
 use Rattle.office_tables.specs.declared.rows.MapRow.{MapRow}
-use Rattle.office_tables.specs.Tables.{has_body, has_id, map_cmp, with_row}
-use Rattle.office_memory.specs.Indexing.{AreFoundByText}
-use Rattle.office_memory.specs.Unplaced.{without}
+use Rattle.office_tables.specs.Prelude.{has_body, has_id, map_cmp, with_row}
+use Rattle.office_memory.specs.Prelude.{AreFoundByText, without}
 use Rattle.office_memory.proofs.Alone.{find-placed, find-without, still_alone, alone_without}
 use Rattle.office_memory.proofs.Counted.{same_both_ways}
 use Rattle.office_memory.proofs.Keys.{find_map}

@@ -5,11 +5,11 @@ use Rattle.std.specs.BTreeMap.{BTreeMap, get, get_by_text}
 use Rattle.std.specs.BTreeSet.{contains}
 use Rattle.std.specs.Ordering.{nat_cmp}
 use Rattle.std.specs.declared.string.String.{String}
-use Rattle.text_core.specs.Serial.{is_serial}
+use Rattle.text_core.specs.Prelude.{is_serial}
 use Rattle.office_tables.specs.declared.rows.OfCustomer.{OfCustomer}
 use Rattle.office_tables.specs.declared.rows.Given.{Given}
 use Rattle.office_tables.specs.declared.rows.MapRow.{MapRow}
-use Rattle.office_tables.specs.Tables.{has_address, has_body, is_bound, is_serial_of}
+use Rattle.office_tables.specs.Prelude.{has_address, has_body, is_bound, is_serial_of}
 use Rattle.office_memory.specs.Counting.{text_pair_cmp}
 use Rattle.office_memory.specs.declared.given.GivenIndex.{GivenIndex}
 

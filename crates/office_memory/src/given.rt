@@ -1,11 +1,7 @@
 // The records of serial numbers, over all customers.
-ghost use Rattle.std.specs.Prelude.{◌≡◌, ◌&&◌, ◌||◌, not, ℕ, List, [], Some, None, true, false};
-ghost use Rattle.std.specs.Prelude.{filter, find, if◌then◌else◌, OnOk, OnErr};
-ghost use Rattle.std.specs.Option.{option_copied};
-ghost use Rattle.text_core.specs.Serial.{is_serial};
-ghost use Rattle.office_tables.specs.Keeping.{Visits};
-ghost use Rattle.office_tables.specs.Tables.{given_cmp, is_address, is_bound, is_serial_of};
-ghost use Rattle.office_tables.specs.Tables.{is_of_issuer, with_row, IsAddressFree};
+ghost use Rattle.std.specs.Prelude.{◌≡◌, ◌&&◌, ◌||◌, not, ℕ, List, [], Some, None, true, false, filter, find, if◌then◌else◌, OnOk, OnErr, option_copied};
+ghost use Rattle.text_core.specs.Prelude.{is_serial};
+ghost use Rattle.office_tables.specs.Prelude.{Visits, given_cmp, is_address, is_bound, is_serial_of, is_of_issuer, with_row, IsAddressFree};
 ghost use Rattle.office_memory.specs.Indexing.{has_mac, serial_of};
 ghost use Rattle.office_memory.specs.Unplaced.{without};
 

@@ -1,8 +1,6 @@
 // The maps, found by their numbers and by their texts.
-ghost use Rattle.std.specs.Prelude.{◌≡◌, ◌≤◌, [], None, find, map, option_map, IfOk, IfSome, OnErr};
-ghost use Rattle.std.specs.Option.{option_copied};
-ghost use Rattle.office_tables.specs.Numbers.{largest_number, one_more};
-ghost use Rattle.office_tables.specs.Tables.{greatest, has_body, has_id, map_cmp, with_row};
+ghost use Rattle.std.specs.Prelude.{◌≡◌, ◌≤◌, [], None, find, map, option_map, IfOk, IfSome, OnErr, option_copied};
+ghost use Rattle.office_tables.specs.Prelude.{largest_number, one_more, greatest, has_body, has_id, map_cmp, with_row};
 ghost use Rattle.office_memory.specs.Unplaced.{without};
 
 use crate::table::Table;

@@ -5,15 +5,10 @@ use Rattle.sqlite_disk.specs.declared.Files.{Files}
 use Rattle.sqlite_store.specs.declared.store.FileStore.{FileStore}
 use Rattle.sqlite.specs.Files.{image_of, over_files}
 use Rattle.sqlite.specs.Held.{Held}
-use Rattle.site_core.specs.Ownership.{Ownership, OwnershipGrows}
-use Rattle.office_tables.specs.Keeping.{Stands}
-use Rattle.office_tables.specs.Tables.{Tables}
-use Rattle.office_laws.specs.Sound.{IsSound}
-use Rattle.office_laws.specs.Exchanges.{Exchange, IsRun}
-use Rattle.office_laws.specs.Promises.{Promises}
-use Rattle.office_laws.specs.Stops.{IsLeft, IsUnanswered}
-use Rattle.office_store.specs.Keeping.{is_open_at, tables_of}
-use Rattle.office_store.specs.Opening.{HasTablesOf}
+use Rattle.site_core.specs.Prelude.{Ownership, OwnershipGrows}
+use Rattle.office_tables.specs.Prelude.{Stands, Tables}
+use Rattle.office_laws.specs.Prelude.{IsSound, Exchange, IsRun, Promises, IsLeft, IsUnanswered}
+use Rattle.office_store.specs.Prelude.{is_open_at, tables_of, HasTablesOf}
 
 -- The files held the first tables. What was answered before the crash led from them to those that
 -- stood; the crash left these, or those after one step more, of a request that was answered 503

@@ -3,10 +3,8 @@ ghost use Rattle.std.specs.Prelude.{IsTrue};
 ghost use Rattle.sqlite.specs.Files.{HoldsDatabase, image_of, over_files};
 ghost use Rattle.sqlite.specs.Tree.{Trees};
 ghost use Rattle.sqlite_wal.specs.Reads.{AreClean};
-ghost use Rattle.office_tables.specs.Tables.{Tables};
-ghost use Rattle.office_store.specs.Adopting.{IsOfSite};
-ghost use Rattle.office_store.specs.Keeping.{is_honest_at, may_leave_at};
-ghost use Rattle.office_store.specs.Opening.{HasTablesOf};
+ghost use Rattle.office_tables.specs.Prelude.{Tables};
+ghost use Rattle.office_store.specs.Prelude.{IsOfSite, is_honest_at, may_leave_at, HasTablesOf};
 
 use office_store::{SqlKeep, into_store};
 use sqlite::{FileStore, Files};

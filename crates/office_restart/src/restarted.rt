@@ -2,13 +2,10 @@
 ghost use Rattle.std.specs.Prelude.{◌≡◌, ◌∷◌, [], All, length, IsTrue, IfOk};
 ghost use Rattle.std.specs.List.{AllByRecursion};
 ghost use Rattle.sqlite.specs.Files.{over_files};
-ghost use Rattle.site_core.specs.Caller.{IsSeatCaller};
-ghost use Rattle.site_core.specs.Growth.{IsGrowth};
-ghost use Rattle.site_core.specs.Ownership.{PoolsDisjoint, ownership_of};
-ghost use Rattle.site_core.specs.Site.{IsSite};
-ghost use Rattle.office_laws.specs.Growth.{IsSeat};
-ghost use Rattle.office_core.specs.Replaying.{KeepsPromises, calls_in, exchanges_in};
-ghost use Rattle.office_store.specs.Keeping.{is_honest_at};
+ghost use Rattle.site_core.specs.Prelude.{IsSeatCaller, IsGrowth, PoolsDisjoint, ownership_of, IsSite};
+ghost use Rattle.office_laws.specs.Prelude.{IsSeat};
+ghost use Rattle.office_core.specs.Prelude.{KeepsPromises, calls_in, exchanges_in};
+ghost use Rattle.office_store.specs.Prelude.{is_honest_at};
 ghost use Rattle.office_restart.specs.Restarting.{GoesOn};
 
 use crate::crashing::crash;

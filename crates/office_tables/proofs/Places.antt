@@ -1,21 +1,13 @@
 -- The places of an order, counted device by device, and the key under which they are counted.
 use mathlib.Core.Path.{fun_ext}
-use Rattle.std.proofs.Common.{◌≡◌, ◌+◌, ◌∙◌, ℕ, arith, true, false, Bool, cond, List, [], ◌∷◌, Option, Some, None, Ordering, Less, Equal, Greater, refl, sym}
-use Rattle.std.proofs.Common.{ap}
-use Rattle.std.specs.List.{AllByRecursion}
-use Rattle.std.specs.Prelude.{◌&&◌, bytes_eq, filter, find, map, not}
-use Rattle.std.specs.BTreeMap.{is_at}
-use Rattle.std.specs.Cmp.{IsTotalOrder}
-use Rattle.std.proofs.lemmas.Cmp.{on_total, then_total, nat_list_cmp_total}
-use Rattle.std.specs.Cmp.Lexicographic.{texts_ties}
-use Rattle.std.specs.Ordering.{is_eq, match_ordering, ordering_then}
-use Rattle.std.proofs.lemmas.Slice.Eq.{bytes_eq-Decides}
+use Rattle.std.proofs.Common.{◌≡◌, ◌+◌, ◌∷◌, Ordering, ◌&&◌}
+use Rattle.text_core.proofs.Kit.{◌∙◌, ℕ, arith, true, false, Bool, cond, List, [], Option, Some, None, Less, Equal, Greater, refl, sym, ap, AllByRecursion}
+use Rattle.text_core.proofs.Kit.{bytes_eq, filter, find, map, not, is_at, IsTotalOrder, on_total, then_total, nat_list_cmp_total, texts_ties, is_eq}
+use Rattle.text_core.proofs.Kit.{match_ordering, ordering_then, bytes_eq-Decides}
 use Rattle.office_tables.specs.declared.rows.OfCustomer.{OfCustomer}
 use Rattle.office_tables.specs.declared.rows.Device.{Device}
-use Rattle.office_tables.specs.OrderPlaces.{places_taken, takes_place}
-use Rattle.office_tables.specs.States.{state_row}
-use Rattle.office_tables.specs.PlaceCounting.{place_of_device, text_pair_cmp}
-use Rattle.office_tables.specs.Tables.{device_cmp, is_device, is_of, rows_of, with_row, text_cmp, IsInOrder}
+use Rattle.office_tables.specs.Prelude.{places_taken, takes_place, state_row, place_of_device, text_pair_cmp, device_cmp, is_device, is_of, rows_of, with_row}
+use Rattle.office_tables.specs.Prelude.{text_cmp, IsInOrder}
 use Rattle.office_tables.proofs.Placing.{all_map}
 
 -- devices are in a total order, by customer and chip

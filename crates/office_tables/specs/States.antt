@@ -20,6 +20,7 @@ pub record StateRow : Type 0 where
   pub pending : Batches
   pub column : ℕ
 
+-- the row of each state
 abbrev pub state_row : DeviceState → StateRow
 state_row Registered =
     record { number = 0; text = codes "registered"; reason = None; is_given_up = false; may_have_serial = false; pending = Neither; column = 0 }

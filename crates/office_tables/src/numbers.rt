@@ -1,6 +1,6 @@
 // The whole numbers that a table has room for.
 ghost use Rattle.std.specs.Prelude.{◌≡◌};
-ghost use Rattle.office_tables.specs.Numbers.{one_more};
+ghost use Rattle.office_tables.specs.Prelude.{one_more};
 
 /// The largest whole number that a table has room for.
 pub const LARGEST_NUMBER: u64 = 9223372036854775807;

@@ -1,6 +1,6 @@
 // What there is to know of the states of a device: a row for each.
 ghost use Rattle.std.specs.Prelude.{◌≡◌, false, None};
-ghost use Rattle.office_tables.specs.States.{state_row};
+ghost use Rattle.office_tables.specs.Prelude.{state_row};
 
 use crate::{Batches, DeviceState, Reason};
 

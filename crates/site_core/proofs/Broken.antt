@@ -1,14 +1,11 @@
 -- The fault that a judgement tells is that of a broken rule, and no lower rule is broken.
-use Rattle.std.proofs.Common.{◌≡◌, ◌<◌, ℕ, Bool, true, false, not, List, Err, Ok, AllPairs, Decides, bytes_eq, refl, arith}
-use Rattle.std.specs.Prelude.{if◌then◌else◌}
+use Rattle.std.proofs.Common.{◌≡◌, ◌<◌, ℕ, Bool, true, false, not, List, Err, Ok, AllPairs, Decides, bytes_eq, refl, arith, if◌then◌else◌}
 use Rattle.std.proofs.lemmas.Bool.{both_ways, false_from_ne_true, false≢true, not-true, not_from_false}
 use Rattle.std.proofs.lemmas.Map.Keys.{IsDistinct-from_apart, apart_from_distinct}
-use Rattle.id_ranges.specs.Pool.{Pool}
+use Rattle.id_ranges.specs.Prelude.{Pool}
 use Rattle.id_ranges.proofs.FreeBlocks.{IsIn-from_meets, blocks_overlap-from_IsIn}
-use Rattle.site_core.specs.Section.{SiteValue, names_of, issuers_of, pools_of, seat_names_of, tokens_of}
-use Rattle.site_core.specs.Site.{pools_meet, is_over_limit}
-use Rattle.site_core.specs.SiteFaults.{has_pair, has_repeat, has_bad_pool, site_or_fault, site_fault_number, ArePoolsApart, HasNoRepeat}
-use Rattle.site_core.specs.SiteFaults.{KeepsSiteRule, IsLowestSiteFault}
+use Rattle.site_core.specs.Prelude.{SiteValue, names_of, issuers_of, pools_of, seat_names_of, tokens_of, pools_meet, is_over_limit, has_pair, has_repeat}
+use Rattle.site_core.specs.Prelude.{has_bad_pool, site_or_fault, site_fault_number, ArePoolsApart, HasNoRepeat, KeepsSiteRule, IsLowestSiteFault}
 use Rattle.site_core.specs.declared.fault.SiteFault.{SiteFault}
 use Rattle.site_core.specs.declared.fault.SiteFault.TheVariants.{NotToml, BadMember, Repeated, PoolsMeet, BadPool, OverLimit, OutOfMemory}
 use Rattle.site_core.proofs.Judged.{ArePools-from_good, good-from_ArePools, none_of}

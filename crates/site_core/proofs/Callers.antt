@@ -1,21 +1,13 @@
 -- What is known of a caller that was found.
-use Rattle.std.proofs.Common.{◌≡◌, ◌<◌, ◌+◌, ◌∙◌, ◌||◌, ℕ, suc, List, [], ◌∷◌, length, map, Bool, true, false, not, cond, ltb, Option, Some, None, is_some}
-use Rattle.std.proofs.Common.{IfSome, slice_index_or, refl, sym, ap, arith}
-use Rattle.std.specs.List.{flat_map, list_any, position, position_or_len}
-use Rattle.std.specs.Prelude.{bytes_eq}
-use Rattle.std.proofs.lemmas.Bool.Decides.{nat_tests}
-use Rattle.std.proofs.lemmas.Cmp.{nat_list_eq_equiv}
-use Rattle.std.proofs.lemmas.List.{map-append}
-use Rattle.std.proofs.lemmas.List.Folds.{list_any-append}
-use Rattle.std.proofs.lemmas.List.Quantifiers.{position-Some}
-use Rattle.std.proofs.lemmas.List.Sums.{passes_at_first}
-use Rattle.std.proofs.lemmas.Slice.Eq.{bytes_eq-Decides}
+use Rattle.std.proofs.Common.{◌≡◌, ◌<◌, ◌+◌, ◌||◌, ◌∷◌}
+use Rattle.text_core.proofs.Kit.{◌∙◌, ℕ, suc, List, [], length, map, Bool, true, false, not, cond, ltb, Option, Some, None, is_some, IfSome, slice_index_or}
+use Rattle.text_core.proofs.Kit.{refl, sym, ap, arith, flat_map, list_any, position, position_or_len, bytes_eq, nat_tests, nat_list_eq_equiv, map-append}
+use Rattle.text_core.proofs.Kit.{list_any-append, position-Some, passes_at_first, bytes_eq-Decides}
 use borrow.Author.Tests.{ltb-true}
 use Rattle.sha2.specs.Sha256.{sha256}
-use Rattle.text_core.specs.Options.{◌>>=◌}
-use Rattle.site_core.specs.Caller.{IsCaller, IsSeatCaller, caller_of, caller_or, has_seat_with, manager_with, no_seat, no_section, seat_caller_with, seat_of}
-use Rattle.site_core.specs.Caller.{seat_with, section_in}
-use Rattle.site_core.specs.Section.{SeatOf, Section, SiteValue, has_token, tokens_of, with_token}
+use Rattle.text_core.specs.Prelude.{◌>>=◌}
+use Rattle.site_core.specs.Prelude.{IsCaller, IsSeatCaller, caller_of, caller_or, has_seat_with, manager_with, no_seat, no_section, seat_caller_with, seat_of}
+use Rattle.site_core.specs.Prelude.{seat_with, section_in, SeatOf, Section, SiteValue, has_token, tokens_of, with_token}
 use Rattle.site_core.specs.declared.site.Caller.{Caller}
 use Rattle.site_core.specs.declared.site.Caller.TheVariants.{Manager}
 use Rattle.site_core.specs.declared.site.SeatCaller.{SeatCaller}

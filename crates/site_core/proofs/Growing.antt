@@ -1,14 +1,10 @@
 -- The tests of a growth decide it.
-use Rattle.std.proofs.Common.{◌≡◌, ◌++◌, ◌==◌, Bool, true, false, ℕ, List, length, drop, get_or, Some, bytes_eq, Decides, refl, sym, subst, ap, ◌∙◌}
-use Rattle.std.specs.Prelude.{All, Any, Contains, IfSome}
-use Rattle.std.specs.List.{list_all, list_any, starts_with}
-use Rattle.std.proofs.lemmas.Bool.{both_ways}
-use Rattle.std.proofs.lemmas.Bool.Decides.{Decides-and, Decides-by_and, Decides-eqb, Decides-like}
-use Rattle.std.proofs.lemmas.List.Folds.{Any-from_list_any, list_any-from_Any}
-use Rattle.std.proofs.lemmas.Slice.Eq.{bytes_eq-Decides, starts_is}
-use Rattle.id_ranges.specs.Pool.{Pool}
-use Rattle.site_core.specs.Growth.{IsGrowth, KeepsSection, are_kept, is_same_pool, is_same_seat, keeps}
-use Rattle.site_core.specs.Section.{SeatOf, Section, SiteValue}
+use Rattle.std.proofs.Common.{◌≡◌, ◌++◌, ◌==◌, get_or}
+use Rattle.text_core.proofs.Kit.{Bool, true, false, ℕ, List, length, drop, Some, bytes_eq, Decides, refl, sym, subst, ap, ◌∙◌, All, Any, Contains, IfSome}
+use Rattle.text_core.proofs.Kit.{list_all, list_any, starts_with, both_ways, Decides-and, Decides-by_and, Decides-eqb, Decides-like, Any-from_list_any}
+use Rattle.text_core.proofs.Kit.{list_any-from_Any, bytes_eq-Decides, starts_is}
+use Rattle.id_ranges.specs.Prelude.{Pool}
+use Rattle.site_core.specs.Prelude.{IsGrowth, KeepsSection, are_kept, is_same_pool, is_same_seat, keeps, SeatOf, Section, SiteValue}
 
 all_decided : {X : Type 0} (p : X → Bool) (P : X → Type 0) → ((x : X) → Decides (p x) (P x)) → (xs : List X) → Decides (list_all p xs) (All P xs)
 all_decided p P each xs = Decides-by_and p P (list_all p) each refl (λ _ _. refl) xs

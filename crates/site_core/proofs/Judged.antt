@@ -1,19 +1,12 @@
 -- A site in which no fault is found is a site, and the other way round.
-use Rattle.std.proofs.Common.{◌≡◌, ℕ, Bool, true, false, not, ◌||◌, List, [], ◌∷◌, ◌++◌, Result, Ok, Err, bytes_eq, inl, inr, refl, ap, ◌∙◌}
-use Rattle.std.specs.Prelude.{if◌then◌else◌, nat_lt, length, Option}
-use Rattle.std.specs.List.{flat_map, list_any, AllByRecursion}
-use Rattle.std.specs.Result.{IsErrAnd}
-use Rattle.std.proofs.Math.Bool.{or-true}
-use Rattle.std.proofs.lemmas.Bool.{not-false, or_from, or_parts}
-use Rattle.std.proofs.lemmas.Grind.{flat_map-append}
-use Rattle.std.proofs.lemmas.List.Folds.{list_any-append}
-use Rattle.std.proofs.lemmas.Option.{cond_some}
-use Rattle.id_ranges.specs.Pool.{Pool, IsPool, is_pool}
+use Rattle.std.proofs.Common.{◌≡◌, ◌||◌, ◌∷◌, ◌++◌, if◌then◌else◌}
+use Rattle.text_core.proofs.Kit.{ℕ, Bool, true, false, not, List, [], Result, Ok, Err, bytes_eq, inl, inr, refl, ap, ◌∙◌, nat_lt, length, Option, flat_map}
+use Rattle.text_core.proofs.Kit.{list_any, AllByRecursion, IsErrAnd, or-true, not-false, or_from, or_parts, flat_map-append, list_any-append, cond_some}
+use Rattle.id_ranges.specs.Prelude.{Pool, IsPool, is_pool}
 use Rattle.id_ranges.proofs.Pools.{IsPool-from_pool_of, pool_of-from_IsPool}
-use Rattle.text_core.specs.Answer.{GivesUnless, result_map}
-use Rattle.site_core.specs.Section.{Section, SiteValue, names_of, issuers_of, pools_of, seat_names_of, tokens_of}
-use Rattle.site_core.specs.Site.{IsSite, pools_meet, is_over_limit, is_section_over}
-use Rattle.site_core.specs.SiteFaults.{has_pair, has_repeat, is_bad_pool, has_bad_pool, site_or_fault}
+use Rattle.text_core.specs.Prelude.{GivesUnless, result_map}
+use Rattle.site_core.specs.Prelude.{Section, SiteValue, names_of, issuers_of, pools_of, seat_names_of, tokens_of, IsSite, pools_meet, is_over_limit}
+use Rattle.site_core.specs.Prelude.{is_section_over, has_pair, has_repeat, is_bad_pool, has_bad_pool, site_or_fault}
 use Rattle.site_core.specs.declared.fault.SiteFault.{SiteFault}
 use Rattle.site_core.specs.declared.fault.SiteFault.TheVariants.{Repeated, PoolsMeet, BadPool, OverLimit, OutOfMemory}
 use Rattle.site_core.proofs.Pairs.{IsDistinct-from_has_pair, has_pair-from_IsDistinct}

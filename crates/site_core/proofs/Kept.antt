@@ -1,19 +1,10 @@
 -- What was a customer's in a site stays the customer's in one that grew from it.
-use Rattle.std.proofs.Common.{◌≡◌, ◌<◌, ◌++◌, ℕ, List, length, Bool, true, Option, Some, None, refl, sym, subst, ap, ◌∙◌, bytes_eq}
-use Rattle.std.specs.Prelude.{Any, Contains, find, is_some, option_map}
-use Rattle.std.proofs.lemmas.List.{get_or_read}
-use Rattle.std.proofs.lemmas.List.Elements.{All-contains, Contains-append_left}
-use Rattle.std.proofs.lemmas.List.Folds.{Any-from_list_any}
-use Rattle.std.proofs.lemmas.Map.Views.{Contains-from_any}
-use Rattle.std.proofs.lemmas.Slice.Eq.{bytes_eq-Decides}
-use Rattle.id_ranges.specs.Blocks.{IsBlockWithin}
-use Rattle.id_ranges.specs.Pool.{Pool}
+use Rattle.std.proofs.Common.{◌≡◌, ◌<◌, ◌++◌}
+use Rattle.text_core.proofs.Kit.{ℕ, List, length, Bool, true, Option, Some, None, refl, sym, subst, ap, ◌∙◌, bytes_eq, Any, Contains, find, is_some, option_map}
+use Rattle.text_core.proofs.Kit.{list_any, get_or_read, All-contains, Contains-append_left, Any-from_list_any, Contains-from_any, bytes_eq-Decides}
+use Rattle.id_ranges.specs.Prelude.{IsBlockWithin, Pool}
 use Rattle.id_ranges.proofs.FreeBlocks.{find-passes}
-use Rattle.site_core.specs.Caller.{no_section, section_in}
-use Rattle.site_core.specs.Growth.{IsGrowth, KeepsSection}
-use Rattle.site_core.specs.Ownership.{OwnershipGrows, is_issuer_of, has_seat, ownership_of}
-use Rattle.site_core.specs.Section.{SeatOf, Section, SiteValue}
-use Rattle.site_core.specs.Site.{IsSite}
+use Rattle.site_core.specs.Prelude.{no_section, section_in, IsGrowth, KeepsSection, OwnershipGrows, has_seat, ownership_of, SeatOf, Section, SiteValue, IsSite}
 use Rattle.site_core.proofs.Owners.{IsDistinct-by_key, find-of_key, find-of_name, place_of_found, pool_of_found}
 
 -- a customer is kept at a place
@@ -42,6 +33,10 @@ found_of_name (Some s) customer e = (s, refl, cc)
 found_of_some : (found : Option Section) → is_some found ≡ true → (s : Section) × (found ≡ Some s)
 found_of_some None e = cc
 found_of_some (Some s) e = (s, refl)
+
+-- the issuer is one of this customer's
+abbrev is_issuer_of : List ℕ → Section → Bool
+is_issuer_of issuer s = list_any (bytes_eq issuer) s.issuers
 
 -- an issuer of a customer is that customer's still
 issuer_kept : (old new : SiteValue) (issuer customer : List ℕ) → IsSite new → IsGrowth old new → (ownership_of old).issuer issuer ≡ Some customer

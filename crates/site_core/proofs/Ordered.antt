@@ -1,11 +1,9 @@
 -- A site is a growth of itself, and a growth of a growth is one of the first.
-use Rattle.std.proofs.Common.{◌≡◌, ◌∙◌, ◌++◌, ℕ, List, [], append_assoc, get_or, Option, Some, None, refl, sym, subst, ap}
-use Rattle.std.specs.Prelude.{All, Any, Contains, IfSome}
-use Rattle.std.proofs.lemmas.List.{append-nil, get_or_default}
-use Rattle.std.proofs.lemmas.List.Elements.{All-contains, All-weaker, Contains-get_or}
-use Rattle.id_ranges.specs.Pool.{Pool}
-use Rattle.site_core.specs.Growth.{IsGrowth, KeepsSection}
-use Rattle.site_core.specs.Section.{Section, SiteValue}
+use Rattle.std.proofs.Common.{◌≡◌, ◌++◌, get_or}
+use Rattle.text_core.proofs.Kit.{◌∙◌, ℕ, List, [], append_assoc, Option, Some, None, refl, sym, subst, ap, All, Any, Contains, IfSome, append-nil}
+use Rattle.text_core.proofs.Kit.{get_or_default, All-contains, All-weaker, Contains-get_or}
+use Rattle.id_ranges.specs.Prelude.{Pool}
+use Rattle.site_core.specs.Prelude.{IsGrowth, KeepsSection, Section, SiteValue}
 
 keeps_itself : (s : Section) → KeepsSection s s
 keeps_itself s = record {

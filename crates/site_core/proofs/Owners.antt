@@ -1,25 +1,16 @@
 -- The issuers, seats and pools of each customer of a site are that customer's alone.
-use Rattle.std.proofs.Common.{◌≡◌, ◌<◌, ◌≤◌, ◌+◌, ℕ, List, length, map, take, get_or, Bool, true, false, Option, Some, None, inl, inr, refl, sym, ap, ◌∙◌}
-use Rattle.std.proofs.Common.{arith}
-use Rattle.std.specs.Prelude.{bytes_eq, find, is_some, option_map, Any}
-use Rattle.std.specs.List.{Contains, IsDistinct, flat_map, list_any, position_or_len}
-use Rattle.std.proofs.lemmas.Bool.{both_ways, cases_order}
-use Rattle.std.proofs.lemmas.Cmp.{nat_list_eq_equiv}
-use Rattle.std.proofs.lemmas.List.{get_or-map, get_or-take, get_or_read, length-map, length-take-le, take-take}
-use Rattle.std.proofs.lemmas.List.Concat.{get_or-flat_map}
-use Rattle.std.proofs.lemmas.List.Elements.{All-from_get_or, Contains-get_or, recursion_from_All}
-use Rattle.std.proofs.lemmas.List.Folds.{find_at, length-flat_map-take, list_any_at, list_any_none}
-use Rattle.std.proofs.lemmas.List.Sums.{position_or_len_is}
-use Rattle.std.proofs.lemmas.Map.Keys.{IsDistinct-from_apart, apart_from_distinct}
-use Rattle.std.proofs.lemmas.Option.{get_or_from_slice_get, slice_get-get_or, slice_get_within}
-use Rattle.std.proofs.lemmas.Slice.Eq.{bytes_eq-Decides}
-use Rattle.id_ranges.specs.Pool.{Pool}
-use Rattle.id_ranges.specs.Blocks.{IsIn, IsBlockWithin}
+use Rattle.std.proofs.Common.{[], ◌≡◌, ◌<◌, ◌≤◌, ◌+◌, get_or}
+use Rattle.text_core.proofs.Kit.{ℕ, List, length, map, take, Bool, true, false, Option, Some, None, inl, inr, refl, sym, ap, ◌∙◌, arith, bytes_eq, find}
+use Rattle.text_core.proofs.Kit.{is_some, option_map, option_map_or, Any, Contains, flat_map, list_any, position_or_len, both_ways, cases_order}
+use Rattle.text_core.proofs.Kit.{nat_list_eq_equiv, get_or-take, get_or_read, length-map, length-take-le, take-take, get_or-flat_map, All-from_get_or}
+use Rattle.text_core.proofs.Kit.{recursion_from_All, find_at, length-flat_map-take, list_any_at, list_any_none, position_or_len_is, IsDistinct-from_apart}
+use Rattle.text_core.proofs.Kit.{Contains-get_or, apart_from_distinct, get_or_from_slice_get, slice_get-get_or, slice_get_within, bytes_eq-Decides}
+use Rattle.std.specs.List.{IsDistinct}
+use Rattle.std.proofs.lemmas.List.{get_or-map}
+use Rattle.id_ranges.specs.Prelude.{Pool, IsIn, IsBlockWithin}
 use Rattle.id_ranges.proofs.FreeBlocks.{find-passes, blocks_overlap-from_IsIn}
-use Rattle.site_core.specs.Caller.{IsSeatCaller, no_seat, no_section, seat_name_at, section_at, section_in}
-use Rattle.site_core.specs.Ownership.{PoolsDisjoint, IsSection, ownership_of, pools_in}
-use Rattle.site_core.specs.Section.{SeatOf, Section, SiteValue}
-use Rattle.site_core.specs.Site.{IsSite, pools_meet}
+use Rattle.site_core.specs.Prelude.{IsSeatCaller, no_seat, no_section, seat_name_at, section_at, section_in, PoolsDisjoint, IsSection, ownership_of, SeatOf}
+use Rattle.site_core.specs.Prelude.{Section, SiteValue, IsSite, pools_meet}
 use Rattle.site_core.specs.declared.site.SeatCaller.{SeatCaller}
 
 -- the pieces before the j-th hold the whole of an earlier one
@@ -97,6 +88,10 @@ pub seat_owned : (site : SiteValue) (caller : SeatCaller) → IsSite site → Is
     → (ownership_of site).seat (seat_name_at site caller) ≡ Some (section_at site caller).name
 seat_owned site caller w within =
     seat_of_section site caller.customer _ w within.customer_in (Contains-get_or _ caller.seat no_seat within.seat_in)
+
+-- the pools of a customer, none where there is no such customer
+abbrev pools_in : Option Section → List Pool
+pools_in found = option_map_or (λ s. s.pools) found []
 
 -- the issuers, the seats and the pools of a caller's customer are that customer's
 pub section_owned : (site : SiteValue) (caller : SeatCaller) → IsSite site → IsSeatCaller site caller → IsSection (ownership_of site) (section_at site caller)

@@ -1,12 +1,10 @@
 -- Pairs of a list's elements that go with one another.
 use mathlib.Core.Path.{fun_ext}
-use Rattle.std.proofs.Common.{◌≡◌, ℕ, suc, ◌≤◌, Bool, true, false, ◌||◌, cond, ltb, List, [], ◌∷◌, length, refl, ap, arith}
-use Rattle.std.proofs.lemmas.Bool.{or_from, or_parts}
-use Rattle.std.proofs.lemmas.Bool.Decides.{nat_tests}
-use Rattle.std.proofs.lemmas.Map.Made.{distinct_count-le}
-use Rattle.std.specs.List.{list_any, AllByRecursion, IsDistinct}
-use Rattle.std.specs.Set.{distinct_count, unique_keys}
-use Rattle.site_core.specs.SiteFaults.{has_pair}
+use Rattle.std.proofs.Common.{◌≡◌, ◌≤◌, ◌||◌, ◌∷◌}
+use Rattle.text_core.proofs.Kit.{ℕ, suc, Bool, true, false, cond, ltb, List, [], length, refl, ap, arith, or_from, or_parts, nat_tests, distinct_count-le}
+use Rattle.text_core.proofs.Kit.{list_any, AllByRecursion, distinct_count, unique_keys}
+use Rattle.std.specs.List.{IsDistinct}
+use Rattle.site_core.specs.Prelude.{has_pair}
 
 -- one more element, which is there already or not
 counted : {A : Type 0} (there : Bool) (x : A) (unique : List A) (n : ℕ) (pair : Bool) → length unique ≤ n → ltb (length unique) n ≡ pair

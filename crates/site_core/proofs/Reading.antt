@@ -1,12 +1,9 @@
 -- The site that a text is, by its definition and by its relation.
 use Rattle.std.proofs.Common.{◌≡◌, ◌≢◌, ◌∙◌, ℕ, List, Some, Result, Ok, IfOk, IfErr, sym}
 use Rattle.toml.specs.Data.{Data}
-use Rattle.text_core.specs.Answer.{GivesUnless}
+use Rattle.text_core.specs.Prelude.{GivesUnless}
 use Rattle.toml_members.proofs.Reading as reading
-use Rattle.site_core.specs.Section.{SiteValue}
-use Rattle.site_core.specs.Site.{IsSite}
-use Rattle.site_core.specs.SiteFaults.{site_or_fault, IsLowestSiteFault}
-use Rattle.site_core.specs.SiteText.{HasSiteMembers, IsSiteText, site_of, site_read}
+use Rattle.site_core.specs.Prelude.{SiteValue, IsSite, site_or_fault, IsLowestSiteFault, HasSiteMembers, IsSiteText, site_of, site_read}
 use Rattle.site_core.specs.declared.fault.SiteFault.{SiteFault}
 use Rattle.site_core.specs.declared.fault.SiteFault.TheVariants.{NotToml, BadMember, OverLimit, OutOfMemory}
 use Rattle.site_core.proofs.Judged.{IsSite-from_judged, same-from_judged, site_or_fault-from_IsSite}

@@ -1,14 +1,14 @@
 -- Who sent a request.
-use Rattle.std.specs.Prelude.{◌≡◌, ℕ, ◌<◌, List, [], length, Bool, true, Option, Some, None, bytes_eq, slice_index_or, is_some, if◌then◌else◌}
-use Rattle.std.specs.List.{list_any, position}
+use Rattle.std.specs.Prelude.{◌≡◌, ℕ, ◌<◌, List, [], length, Bool, true, Option, Some, None, bytes_eq, slice_index_or, is_some, if◌then◌else◌, position}
+use Rattle.std.specs.List.{list_any}
 use Rattle.sha2.specs.Sha256.{sha256}
-use Rattle.text_core.specs.Options.{◌>>=◌}
+use Rattle.text_core.specs.Prelude.{◌>>=◌}
 use Rattle.site_core.specs.Section.{SeatOf, Section, SiteValue, has_token}
 use Rattle.site_core.specs.declared.site.SeatCaller.{SeatCaller}
 use Rattle.site_core.specs.declared.site.Caller.{Caller}
 use Rattle.site_core.specs.declared.site.Caller.TheVariants.{Seat, Manager}
 
--- what stands past the end
+-- what stands past the end of the sections, and of a section's seats
 abbrev pub no_section : Section
 no_section = record { name = []; issuers = []; pools = []; seats = [] }
 

@@ -1,7 +1,7 @@
 -- Growth of a site: a new site may add to an old one, and takes nothing away.
 use Rattle.std.specs.Prelude.{◌≡◌, ◌==◌, Bool, ◌&&◌, List, ◌++◌, All, Any, Contains, IfSome, Some, bytes_eq}
 use Rattle.std.specs.List.{list_all, list_any, starts_with}
-use Rattle.id_ranges.specs.Pool.{Pool}
+use Rattle.id_ranges.specs.Prelude.{Pool}
 use Rattle.site_core.specs.Section.{SeatOf, Section, SiteValue}
 
 -- the customer keeps the name, the issuers, the seats with their tokens, and the pools in front of any others

@@ -6,3 +6,4 @@ pub mod Section
 pub mod Site
 pub mod SiteFaults
 pub mod SiteText
+pub mod Prelude

@@ -1,8 +1,8 @@
 -- Whose an issuer, a seat and a hardware address are.
-use Rattle.std.specs.Prelude.{◌≡◌, true, false, ℕ, List, [], find, Option, Some, None, is_some, option_map, Bool, bytes_eq, Any}
+use Rattle.std.specs.Prelude.{◌≡◌, true, false, ℕ, List, [], find, Option, Some, is_some, option_map, Bool, bytes_eq, Any}
 use Rattle.std.specs.List.{list_any, AllByRecursion}
-use Rattle.id_ranges.specs.Pool.{Pool}
-use Rattle.id_ranges.specs.Blocks.{IsBlockWithin, IsApart}
+use Rattle.std.specs.Option.{option_map_or}
+use Rattle.id_ranges.specs.Prelude.{Pool, IsBlockWithin, IsApart}
 use Rattle.site_core.specs.Section.{Section, SiteValue}
 
 -- who is a customer, the customer of an issuer, the customer of a seat, and a customer's pools
@@ -12,23 +12,17 @@ pub record Ownership : Type 0 where
   pub seat : List ℕ → Option (List ℕ)
   pub pools : List ℕ → List Pool
 
-abbrev pub is_issuer_of : List ℕ → Section → Bool
-is_issuer_of issuer s = list_any (bytes_eq issuer) s.issuers
-
+-- the seat is one of this customer's
 abbrev pub has_seat : List ℕ → Section → Bool
 has_seat seat s = list_any (λ own. bytes_eq seat own.name) s.seats
-
-abbrev pub pools_in : Option Section → List Pool
-pools_in None = []
-pools_in (Some s) = s.pools
 
 -- by a site
 abbrev pub ownership_of : SiteValue → Ownership
 ownership_of site = record {
   customer = λ customer. is_some (find (λ s. bytes_eq customer s.name) site.customers);
-  issuer = λ issuer. option_map (λ s. s.name) (find (is_issuer_of issuer) site.customers);
+  issuer = λ issuer. option_map (λ s. s.name) (find (λ s. list_any (bytes_eq issuer) s.issuers) site.customers);
   seat = λ seat. option_map (λ s. s.name) (find (has_seat seat) site.customers);
-  pools = λ customer. pools_in (find (λ s. bytes_eq customer s.name) site.customers);
+  pools = λ customer. option_map_or (λ s. s.pools) (find (λ s. bytes_eq customer s.name) site.customers) [];
 }
 
 -- the issuers, the seats and the pools of a section are its customer's

@@ -1,7 +1,6 @@
 -- A site: its customers and its manager.
-use Rattle.std.specs.Prelude.{ℕ, List, ◌∷◌, Bool, bytes_eq, map, Option, Some, None}
-use Rattle.std.specs.List.{flat_map}
-use Rattle.id_ranges.specs.Pool.{Pool}
+use Rattle.std.specs.Prelude.{ℕ, List, ◌∷◌, Bool, bytes_eq, map, Option, Some, None, flat_map}
+use Rattle.id_ranges.specs.Prelude.{Pool}
 
 -- a seat: its name, and the SHA-256 of its token
 pub record SeatOf : Type 0 where

@@ -1,8 +1,7 @@
 -- What holds of each site.
 use Rattle.std.specs.Prelude.{◌≡◌, Bool, false, ◌||◌, nat_lt, length, bytes_eq}
 use Rattle.std.specs.List.{IsDistinct, list_any, AllByRecursion}
-use Rattle.id_ranges.specs.Pool.{Pool, IsPool}
-use Rattle.id_ranges.specs.Blocks.{blocks_overlap}
+use Rattle.id_ranges.specs.Prelude.{Pool, IsPool, blocks_overlap}
 use Rattle.site_core.specs.Section.{Section, SiteValue, names_of, issuers_of, pools_of, seat_names_of, tokens_of}
 
 -- two pools have an address in common

@@ -1,8 +1,7 @@
 -- The faults of a site's text.
-use Rattle.std.specs.Prelude.{◌≡◌, ◌<◌, ℕ, AllPairs, Bool, false, not, ◌||◌, List, [], ◌∷◌, Result, Ok, Err, bytes_eq, if◌then◌else◌}
-use Rattle.std.specs.List.{IsDistinct, AllByRecursion, flat_map, list_any}
-use Rattle.id_ranges.specs.Blocks.{IsApart}
-use Rattle.id_ranges.specs.Pool.{Pool, IsPool, is_pool}
+use Rattle.std.specs.Prelude.{◌≡◌, ◌<◌, ℕ, AllPairs, Bool, false, not, ◌||◌, List, [], ◌∷◌, Result, Ok, Err, bytes_eq, if◌then◌else◌, flat_map}
+use Rattle.std.specs.List.{IsDistinct, AllByRecursion, list_any}
+use Rattle.id_ranges.specs.Prelude.{IsApart, Pool, IsPool, is_pool}
 use Rattle.toml_members.specs.declared.DocumentFault.{DocumentFault}
 use Rattle.toml_members.specs.declared.DocumentFault.TheVariants as document
 use Rattle.site_core.specs.Section.{Section, SiteValue, names_of, issuers_of, pools_of, seat_names_of, tokens_of}

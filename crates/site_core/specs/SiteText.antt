@@ -1,12 +1,9 @@
 -- The site that a text is.
-use Rattle.std.specs.Prelude.{◌≡◌, ℕ, ◌≤◌, nat_lt, List, length, codes, Option, Some, None, option_and_then, option_map, Result, Err, if◌then◌else◌}
-use Rattle.std.specs.Option.{ok_or}
+use Rattle.std.specs.Prelude.{◌≡◌, ℕ, ◌≤◌, nat_lt, List, length, codes, Option, Some, None, option_and_then, option_map, Result, Err, if◌then◌else◌, ok_or}
 use Rattle.toml.specs.Data.{Data, get}
-use Rattle.id_ranges.specs.Mac.{mac_of_text}
-use Rattle.id_ranges.specs.Pool.{Pool}
-use Rattle.text_core.specs.Answer.{result_and_then}
-use Rattle.toml_members.specs.Documents.{document_of, whole_member, text_member, name_in, name_member, digest_member, items_member, optional_items}
-use Rattle.text_core.specs.Options.{◌>>=◌, all_of}
+use Rattle.id_ranges.specs.Prelude.{mac_of_text, Pool}
+use Rattle.text_core.specs.Prelude.{result_and_then, ◌>>=◌, all_of}
+use Rattle.toml_members.specs.Prelude.{document_of, whole_member, text_member, name_in, name_member, digest_member, items_member, optional_items}
 use Rattle.site_core.specs.Section.{SeatOf, Section, SiteValue}
 use Rattle.site_core.specs.Site.{IsSite}
 use Rattle.site_core.specs.SiteFaults.{site_or_fault}

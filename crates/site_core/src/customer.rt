@@ -1,6 +1,6 @@
 // A customer's section of a site.
-ghost use Rattle.std.specs.Prelude.{◌≡◌, bytes_eq};
-ghost use Rattle.std.specs.List.{list_any, position};
+ghost use Rattle.std.specs.Prelude.{◌≡◌, bytes_eq, position};
+ghost use Rattle.std.specs.List.{list_any};
 ghost use Rattle.site_core.specs.Growth as growth;
 ghost use Rattle.site_core.specs.Section.{has_token};
 

@@ -14,7 +14,7 @@ pub(crate) struct PoolDraft {
 
 impl Model for PoolDraft {
     ghost use Rattle.std.specs.Prelude.{◌≤◌};
-    ghost use Rattle.id_ranges.specs.Pool.{Pool};
+    ghost use Rattle.id_ranges.specs.Prelude.{Pool};
 
     ghost Value = { Pool };
 

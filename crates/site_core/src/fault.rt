@@ -1,6 +1,6 @@
 // The faults of a site's text.
 ghost use Rattle.std.specs.Prelude.{◌≡◌};
-ghost use Rattle.site_core.specs.SiteFaults.{site_fault_number, site_fault_of_document};
+ghost use Rattle.site_core.specs.Prelude.{site_fault_number, site_fault_of_document};
 ghost use Rattle.site_core.specs.declared.fault.SiteFault.TheVariants.{OutOfMemory};
 
 use std::alloc::{AllocError, AllocFailed};

@@ -2,7 +2,7 @@
 ghost use Rattle.std.specs.Prelude.{◌≡◌, ◌↔◌, IfSome, IsTrue, Some, bytes_eq};
 ghost use Rattle.std.specs.List.{list_all, list_any, starts_with};
 ghost use Rattle.site_core.specs.Growth as growth;
-ghost use Rattle.site_core.specs.Growth.{are_kept, is_same_pool, is_same_seat, keeps};
+ghost use Rattle.site_core.specs.Prelude.{are_kept, is_same_pool, is_same_seat, keeps};
 
 use crate::customer::Customer;
 use id_ranges::MacPool;

@@ -1,13 +1,10 @@
 // The lowest fault of a draft, or the site that it is.
-ghost use Rattle.std.specs.Prelude.{◌≡◌, ◌||◌, IfOk, bytes_eq, length, nat_lt, map, if◌then◌else◌};
+ghost use Rattle.std.specs.Prelude.{◌≡◌, ◌||◌, IfOk, bytes_eq, length, nat_lt, map, if◌then◌else◌, flat_map};
 ghost use Rattle.std.specs.Ordering.{eq_by_cmp};
-ghost use Rattle.std.specs.List.{flat_map, list_any};
-ghost use Rattle.text_core.specs.Answer.{GivesUnless, result_map};
-ghost use Rattle.site_core.specs.Section.{with_token};
+ghost use Rattle.std.specs.List.{list_any};
+ghost use Rattle.text_core.specs.Prelude.{GivesUnless, result_map};
+ghost use Rattle.site_core.specs.Prelude.{with_token, is_section_over, has_pair, has_repeat, is_bad_pool, has_bad_pool, site_or_fault};
 ghost use Rattle.site_core.specs.Site as site;
-ghost use Rattle.site_core.specs.Site.{is_section_over};
-ghost use Rattle.site_core.specs.SiteFaults.{has_pair, has_repeat, is_bad_pool, has_bad_pool};
-ghost use Rattle.site_core.specs.SiteFaults.{site_or_fault};
 
 use crate::customer::{Customer, ISSUER_LIMIT, POOL_LIMIT, SEAT_LIMIT, Seat};
 use crate::draft::{CustomerDraft, PoolDraft, SiteDraft};

@@ -1,10 +1,7 @@
 // Laws of sites and their owners, over the definitions alone.
 ghost use Rattle.std.specs.Prelude.{◌≡◌, Some};
-ghost use Rattle.site_core.specs.Caller.{IsSeatCaller, seat_name_at, section_at};
-ghost use Rattle.site_core.specs.Growth.{IsGrowth};
-ghost use Rattle.site_core.specs.Ownership.{PoolsDisjoint, IsSection, OwnershipGrows, ownership_of};
-ghost use Rattle.site_core.specs.Section.{SiteValue};
-ghost use Rattle.site_core.specs.Site.{IsSite};
+ghost use Rattle.site_core.specs.Prelude.{IsSeatCaller, seat_name_at, section_at, IsGrowth, PoolsDisjoint, IsSection, OwnershipGrows, ownership_of, SiteValue};
+ghost use Rattle.site_core.specs.Prelude.{IsSite};
 ghost use Rattle.site_core.specs.declared.site.SeatCaller.{SeatCaller};
 
 /// The issuers, seats and pools of each customer are that customer's alone.

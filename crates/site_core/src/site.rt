@@ -1,9 +1,8 @@
 // Sites, and whose a token is.
-ghost use Rattle.std.specs.Prelude.{◌≡◌, ◌<◌, ◌↔◌, IfSome, IsTrue, is_some, length, bytes_eq};
-ghost use Rattle.std.specs.List.{list_any, position};
+ghost use Rattle.std.specs.Prelude.{◌≡◌, ◌<◌, ◌↔◌, IfSome, IsTrue, is_some, length, bytes_eq, position};
+ghost use Rattle.std.specs.List.{list_any};
 ghost use Rattle.sha2.specs.Sha256.{sha256};
-ghost use Rattle.site_core.specs.Caller.{IsSeatCaller, IsCaller, HoldsToken, caller_of};
-ghost use Rattle.site_core.specs.Caller.{seat_caller_with, manager_with, has_seat_with, seat_name_at};
+ghost use Rattle.site_core.specs.Caller.{IsSeatCaller, IsCaller, HoldsToken, caller_of, seat_caller_with, manager_with, has_seat_with, seat_name_at};
 ghost use Rattle.site_core.specs.Caller.{section_at, section_in};
 ghost use Rattle.site_core.specs.Growth.{IsGrowth};
 ghost use Rattle.site_core.specs.Section.{tokens_of};
@@ -67,6 +66,13 @@ impl Site {
         ensures site { IsSite self.now }
     {
         self.customers.as_slice()
+    }
+
+    /// A fact: the rules of sites hold. Nothing happens.
+    pub fn fact_rules(&self)
+        ensures { IsSite self.now }
+    {
+        let _customers = &self.customers;
     }
 
     /// Whether there is a manager.

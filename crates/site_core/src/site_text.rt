@@ -1,7 +1,7 @@
 // A site with its text.
 ghost use Rattle.std.specs.Prelude.{◌≡◌, ◌<◌, IfOk, length};
 ghost use Rattle.sha2.specs.Sha256.{sha256};
-ghost use Rattle.text_core.specs.Answer.{GivesUnless, result_map};
+ghost use Rattle.text_core.specs.Prelude.{GivesUnless, result_map};
 ghost use Rattle.site_core.specs.SiteText.{IsSiteText, site_read};
 
 use crate::fault::SiteFault;
@@ -54,6 +54,13 @@ impl SiteText {
         ensures of_text { result ≡ sha256 self.now.text }
     {
         self.digest
+    }
+
+    /// A fact: the digest is that of the text. Nothing happens.
+    pub fn fact_digest(&self)
+        ensures { self.now.digest ≡ sha256 self.now.text }
+    {
+        let _digest = &self.digest;
     }
 }
 

@@ -1,12 +1,10 @@
 // The text of a site.
 ghost use Rattle.std.specs.Prelude.{◌≡◌, ◌≢◌, ◌<◌, IfErr, IfOk, length};
 ghost use Rattle.toml.specs.View.{view};
-ghost use Rattle.text_core.specs.Answer.{GivesUnless};
-ghost use Rattle.site_core.specs.Section.{SiteValue};
-ghost use Rattle.site_core.specs.SiteFaults.{IsLowestSiteFault};
+ghost use Rattle.text_core.specs.Prelude.{GivesUnless};
+ghost use Rattle.site_core.specs.Prelude.{SiteValue, IsLowestSiteFault, HasSiteMembers, IsSiteText, customer_in, manager_in, pool_in, seat_of_data, site_of};
+ghost use Rattle.site_core.specs.Prelude.{site_read};
 ghost use Rattle.site_core.specs.SiteText as site_text;
-ghost use Rattle.site_core.specs.SiteText.{HasSiteMembers, IsSiteText, customer_in, manager_in};
-ghost use Rattle.site_core.specs.SiteText.{pool_in, seat_of_data, site_of, site_read};
 
 use crate::customer::Seat;
 use crate::draft::{CustomerDraft, PoolDraft, SiteDraft};

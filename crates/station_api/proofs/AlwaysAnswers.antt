@@ -1,27 +1,16 @@
 -- From sound tables there is an answer to each request that is no 503.
-use Rattle.std.proofs.Common.{◌≡◌, false, Option, Some, None, refl}
-use Rattle.std.specs.Prelude.{Result, Ok, Err}
-use Rattle.http_frames.specs.Frames.{Request as HttpRequest}
-use Rattle.http_replies.specs.Replies.{Answer, is_unavailable}
-use Rattle.site_core.specs.Caller.{seat_name_at, section_at}
-use Rattle.site_core.specs.Ownership.{ownership_of}
-use Rattle.site_core.specs.Section.{SiteValue}
-use Rattle.site_core.specs.declared.site.Caller.{Caller}
-use Rattle.site_core.specs.declared.site.Caller.TheVariants.{Seat, Manager}
-use Rattle.site_core.specs.declared.site.SeatCaller.{SeatCaller}
-use Rattle.office_tables.specs.Tables.{Tables}
-use Rattle.office_commands.specs.declared.refusal.Refusal.{Refusal}
-use Rattle.office_commands.specs.declared.refusal.Refusal.TheVariants.{UnknownToken}
-use Rattle.office_commands.specs.Replies.{refusal}
+use Rattle.std.proofs.Common.{◌≡◌, false, Option, Some, None, refl, Result, Ok, Err}
+use Rattle.http_frames.specs.Prelude.{Request as HttpRequest}
+use Rattle.http_replies.specs.Prelude.{Answer, is_unavailable}
+use Rattle.site_core.specs.Prelude.{seat_name_at, section_at, ownership_of, SiteValue}
+use Rattle.station_api.proofs.Types.{Caller, Seat, Manager, SeatCaller, Refusal, UnknownToken, Parsed, Office, Report, SiteReport}
+use Rattle.office_tables.specs.Prelude.{Tables}
+use Rattle.office_commands.specs.Prelude.{refusal}
 use Rattle.office_laws.proofs.Served.{step_is_served}
-use Rattle.office_laws.specs.Sound.{IsSound}
+use Rattle.office_laws.specs.Prelude.{IsSound, report_reply}
 use Rattle.office_laws.proofs.Obeying.{step_always}
-use Rattle.yield_report.specs.Reports.{order_report_in, site_report_in}
-use Rattle.station_api.specs.HttpAnswers.{AnswersAnyCaller, ParsedOrUnkept, AnswersParsed, AnswersHttp, caller_at}
-use Rattle.office_laws.specs.Exchanges.{report_reply}
-use Rattle.station_api.specs.Requests.{parse_request, of_manager, of_seat}
-use Rattle.station_api.specs.declared.parse.Parsed.{Parsed}
-use Rattle.station_api.specs.declared.parse.Parsed.TheVariants.{Office, Report, SiteReport}
+use Rattle.yield_report.specs.Prelude.{order_report_in, site_report_in}
+use Rattle.station_api.specs.Prelude.{AnswersAnyCaller, ParsedOrUnkept, AnswersParsed, AnswersHttp, caller_at, parse_request, of_manager, of_seat}
 use Rattle.station_api.proofs.AskedFor.{IsWithin, asked_within}
 
 -- what is done, and no 503, is an answer

@@ -1,32 +1,20 @@
 -- What a request comes to, from what its parts came to.
-use Rattle.std.proofs.Common.{◌≡◌, ◌⊎◌, inl, inr, true, false, List, ℕ, Option, Some, Result, Ok, Err, refl, sym, ap, subst, ◌∙◌}
-use Rattle.std.specs.Prelude.{IfOk, OnErr}
+use Rattle.std.proofs.Common.{◌≡◌, ◌⊎◌, inl, inr, true, false, List, ℕ, Option, Some, Result, Ok, Err, refl, sym, ap, subst, ◌∙◌, IfOk, OnErr}
 use Rattle.std.specs.List.{AllByRecursion}
-use Rattle.http_frames.specs.Frames.{Request as HttpRequest}
-use Rattle.http_replies.specs.Replies.{Answer, is_unavailable}
-use Rattle.site_core.specs.Caller.{seat_name_at, section_at}
-use Rattle.site_core.specs.Section.{SiteValue}
-use Rattle.site_core.specs.declared.site.Caller.{Caller}
-use Rattle.site_core.specs.declared.site.Caller.TheVariants.{Seat, Manager}
-use Rattle.office_tables.specs.Tables.{Tables}
-use Rattle.office_commands.specs.declared.refusal.Refusal.{Refusal}
-use Rattle.office_commands.specs.declared.refusal.Refusal.TheVariants.{UnknownToken, UnknownPath, WrongCaller, BadJson, BadMember, WrongNumber}
-use Rattle.office_commands.specs.declared.refusal.Refusal.TheVariants.{OtherBody, UnknownMap, UnknownOrder, UnknownDevice, WrongState, BadPlan}
-use Rattle.office_commands.specs.declared.refusal.Refusal.TheVariants.{QuantityReached, CodingScheme, BadReadback, BadNotBefore, Exists, BadMap}
-use Rattle.office_commands.specs.declared.refusal.Refusal.TheVariants.{BadSerial, NumberTooWide, Exhausted, NoMacRoom, RangeOverlap, KeyBound}
-use Rattle.office_commands.specs.declared.refusal.Refusal.TheVariants.{ForeignIssuer, ImportConflict, MapDigestTaken, Limit, Unkept}
-use Rattle.office_commands.specs.Refusals.{refusal_status}
-use Rattle.office_commands.specs.Replies.{refusal}
-use Rattle.office_tables.specs.Reading.{ReadsOnly}
-use Rattle.office_tables.specs.declared.keep.Keep.{Ghosts}
+use Rattle.http_frames.specs.Prelude.{Request as HttpRequest}
+use Rattle.http_replies.specs.Prelude.{Answer, is_unavailable}
+use Rattle.site_core.specs.Prelude.{seat_name_at, section_at, SiteValue}
+use Rattle.station_api.proofs.Types.{Caller, Seat, Manager, Ghosts, Refusal, UnknownToken, UnknownPath, WrongCaller, BadJson, BadMember, WrongNumber, OtherBody}
+use Rattle.station_api.proofs.Types.{UnknownMap, UnknownOrder, UnknownDevice, WrongState, BadPlan, QuantityReached, CodingScheme, BadReadback, BadNotBefore}
+use Rattle.station_api.proofs.Types.{Exists, BadMap, BadSerial, NumberTooWide, Exhausted, NoMacRoom, RangeOverlap, KeyBound, ForeignIssuer, ImportConflict}
+use Rattle.station_api.proofs.Types.{MapDigestTaken, Limit, Unkept, Parsed}
+use Rattle.office_tables.specs.Prelude.{Tables, ReadsOnly}
 use Rattle.office_tables.specs.declared.keep.Unkept.{Unkept as NoAnswer}
-use Rattle.office_laws.specs.Exchanges.{Exchange, report_reply}
+use Rattle.office_commands.specs.Prelude.{refusal_status, refusal}
+use Rattle.office_laws.specs.Prelude.{Exchange, report_reply}
 use Rattle.office_laws.proofs.Leaving.{AnswersNothing, leaves_unanswered, answers_nothing}
-use Rattle.station_api.specs.Requests.{parse_request, kind_of_caller}
-use Rattle.station_api.specs.declared.parse.Parsed.{Parsed}
-use Rattle.station_api.specs.HttpAnswers.{AnswersAnyCaller, ParsedOrUnkept, AnswersParsed, AnswersKnownCaller, DeskSteps, Says, SaysAny, SaysRefusal}
-use Rattle.station_api.specs.HttpAnswers.{AnswersHttp, caller_at}
-use Rattle.station_api.specs.SectionExchanges.{exchange_any, exchange_asked, exchange_of}
+use Rattle.station_api.specs.Prelude.{parse_request, kind_of_caller, AnswersAnyCaller, ParsedOrUnkept, AnswersParsed, AnswersKnownCaller, DeskSteps, Says}
+use Rattle.station_api.specs.Prelude.{SaysAny, SaysRefusal, AnswersHttp, caller_at, exchange_any, exchange_asked, exchange_of}
 
 -- only one refusal is answered 503
 unavailable_is_unkept : (reason : Refusal) → is_unavailable (refusal_status reason) ≡ true → reason ≡ Unkept

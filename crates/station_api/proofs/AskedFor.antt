@@ -1,55 +1,28 @@
 -- What is asked of the office is within its ranges.
-use Rattle.std.proofs.Common.{◌≡◌, ◌≤◌, ◌*◌, ◌/◌, ◌%◌, ◌==◌, ℕ, arith, true, false, cond, List, [], ◌∷◌, Option, Some, None, refl, length}
-use Rattle.std.specs.Prelude.{Result, Ok, Err, nat_le, ◌&&◌, codes, option_and_then, option_map, IfSome}
-use Rattle.std.specs.List.{AllByRecursion}
-use Rattle.std.specs.Option.{ok_or}
-use Rattle.std.specs.Result.{result_ok}
-use Rattle.std.proofs.lemmas.Bool.{and_parts, eqb-true, leb-true}
+use Rattle.std.proofs.Common.{◌≡◌, ◌≤◌, ◌*◌, ◌/◌, ◌%◌, ◌==◌, ◌∷◌, ◌&&◌}
+use Rattle.text_core.proofs.Kit.{ℕ, arith, true, false, cond, List, [], Option, Some, None, refl, length, Result, Ok, Err, nat_le, codes, option_and_then}
+use Rattle.text_core.proofs.Kit.{option_map, IfSome, AllByRecursion, ok_or, result_ok, and_parts, eqb-true, leb-true}
 use Rattle.serde_json.specs.Data.{Data}
 use Rattle.serde_json.specs.Find.{as_number, as_u64, get}
 use Rattle.hex.specs.Hex.{decode_pairs}
 use Rattle.hex.specs.declared.error.FromHexError.TheVariants as FromHexError
 use Rattle.hex.proofs.HexLemmas.{decode_pairs-ok}
-use Rattle.text_core.specs.Answer.{result_and_then, result_map}
-use Rattle.text_core.specs.Digest.{digest_of_text}
-use Rattle.text_core.specs.Options.{◌>>=◌, all_of}
+use Rattle.text_core.specs.Prelude.{result_and_then, result_map, digest_of_text, ◌>>=◌, all_of}
 use Rattle.text_core.proofs.Results.{ok_is}
-use Rattle.json_members.specs.Json.{chip_member, digest_member, json_of, name_member, text_if_member, text_member, whole_member, number_within}
-use Rattle.http_frames.specs.Fields.{path_of, query_of}
-use Rattle.http_frames.specs.Frames.{Request as HttpRequest}
-use Rattle.http_replies.specs.Replies.{is_unavailable}
-use Rattle.fuse_plan.specs.Numbers.{number_of_text}
-use Rattle.fuse_plan.specs.declared.wish.Want.{Want}
+use Rattle.json_members.specs.Prelude.{chip_member, digest_member, json_of, name_member, text_if_member, text_member, whole_member, number_within}
+use Rattle.http_frames.specs.Prelude.{path_of, query_of, Request as HttpRequest}
+use Rattle.http_replies.specs.Prelude.{is_unavailable}
+use Rattle.fuse_plan.specs.Prelude.{number_of_text}
+use Rattle.station_api.proofs.Types.{Want, Wish, Action, Plan, ReadBack, Scrap, Ship, Request, Refusal, BadJson, BadMember, Show, Parsed, Office, Report}
+use Rattle.station_api.proofs.Types.{SiteReport, Posted, Route, Posts, Shows, Reports, ReportsSite, Kind, Bit, Value, Key, WriteLock, ReadLock}
 use Rattle.fuse_plan.specs.declared.wish.Want.TheVariants as want
-use Rattle.fuse_plan.specs.declared.wish.Wish.{Wish}
-use Rattle.office_commands.specs.Asked.{HasDigest, IsAction, IsAsked}
-use Rattle.office_commands.specs.Refusals.{refusal_status}
-use Rattle.office_commands.specs.NewOrders.{IsNewOrder}
-use Rattle.office_commands.specs.Wholes.{largest_whole}
-use Rattle.office_commands.specs.declared.command.Action.{Action}
-use Rattle.office_commands.specs.declared.command.Action.TheVariants.{Plan, ReadBack, Scrap, Ship}
-use Rattle.office_commands.specs.declared.command.Request.{Request}
-use Rattle.office_commands.specs.declared.command.Show.{Show}
-use Rattle.office_commands.specs.declared.refusal.Refusal.{Refusal}
-use Rattle.office_commands.specs.declared.refusal.Refusal.TheVariants.{BadJson, BadMember}
-use Rattle.station_api.specs.Acts.{act_members, act_of}
-use Rattle.station_api.specs.Devices.{blocks_member, new_device_of, register_device_of, with_block_digests}
-use Rattle.station_api.specs.Identities.{identify_of, new_identity_of}
-use Rattle.station_api.specs.Imports.{import_of, new_import_of}
-use Rattle.station_api.specs.Maps.{import_map_of}
-use Rattle.station_api.specs.Numbers.{number_member}
-use Rattle.station_api.specs.Orders.{make_order_of, new_order_of}
-use Rattle.station_api.specs.Plans.{kind_of_wish, named_plan, plan_device_of, want_of, wish_in, wishes_in, wishes_of}
-use Rattle.station_api.specs.ReadBacks.{read_back_of}
-use Rattle.station_api.specs.Requests.{Kind as CallerKind, parse_request, parse_on_route, body_read, of_manager, of_seat, request_of, route_of, show_of, shows}
-use Rattle.station_api.specs.declared.parse.Parsed.{Parsed}
-use Rattle.station_api.specs.declared.parse.Parsed.TheVariants.{Office, Report, SiteReport}
-use Rattle.station_api.specs.declared.parse.Posted.{Posted}
+use Rattle.office_commands.specs.Prelude.{HasDigest, IsAction, IsAsked, refusal_status, IsNewOrder, largest_whole}
+use Rattle.station_api.specs.Prelude.{act_members, act_of, blocks_member, new_device_of, register_device_of, with_block_digests, identify_of, new_identity_of}
+use Rattle.station_api.specs.Prelude.{import_of, new_import_of, import_map_of, number_member, make_order_of, new_order_of, kind_of_wish, named_plan}
+use Rattle.station_api.specs.Prelude.{plan_device_of, want_of, wish_in, wishes_in, wishes_of, read_back_of, parse_request, parse_on_route, body_read}
+use Rattle.station_api.specs.Prelude.{of_manager, of_seat, request_of, route_of, show_of, shows}
+use Rattle.station_api.specs.Requests.{Kind as CallerKind}
 use Rattle.station_api.specs.declared.parse.Posted.TheVariants as posted
-use Rattle.station_api.specs.declared.parse.Route.{Route}
-use Rattle.station_api.specs.declared.parse.Route.TheVariants.{Posts, Shows, Reports, ReportsSite}
-use Rattle.station_api.specs.declared.plan.Kind.{Kind}
-use Rattle.station_api.specs.declared.plan.Kind.TheVariants.{Bit, Value, Key, WriteLock, ReadLock}
 
 -- what holds of all that the second step gives holds of what both give
 each_gives : {A B : Type 0} (P : B → Type 0) (o : Option A) (f : A → Option B) → ((x : A) → o ≡ Some x → IfSome (f x) P) → IfSome (o >>= f) P

@@ -1,36 +1,22 @@
 -- Requests that are answered in turn keep the books.
-use Rattle.std.proofs.Common.{◌≡◌, Bool, true, false, List, [], ◌∷◌, ◌++◌, Option, Some, None, refl, subst}
-use Rattle.std.specs.Prelude.{MatchBool, Result, Ok, Err}
+use Rattle.std.proofs.Common.{◌≡◌, Bool, true, false, List, [], ◌∷◌, ◌++◌, Option, Some, None, refl, subst, MatchBool, Result, Ok, Err}
 use Rattle.std.specs.List.{AllByRecursion}
-use Rattle.http_frames.specs.Frames.{Request as HttpRequest}
-use Rattle.http_replies.specs.Replies.{Answer, is_unavailable}
-use Rattle.http_replies.specs.Runs.{Runs}
-use Rattle.http_replies.proofs.RunLemmas.{runs_both}
-use Rattle.site_core.specs.Caller.{seat_name_at, section_at, section_in}
-use Rattle.site_core.specs.Ownership.{ownership_of}
-use Rattle.site_core.specs.Section.{SiteValue}
-use Rattle.site_core.specs.Site.{IsSite}
-use Rattle.site_core.specs.declared.site.Caller.{Caller}
-use Rattle.site_core.specs.declared.site.Caller.TheVariants.{Seat, Manager}
-use Rattle.site_core.specs.declared.site.SeatCaller.{SeatCaller}
+use Rattle.http_frames.specs.Prelude.{Request as HttpRequest}
+use Rattle.http_replies.specs.Prelude.{Answer, is_unavailable}
+use Rattle.text_core.specs.Prelude.{Runs}
+use Rattle.text_core.proofs.MachineLemmas.{runs_both}
+use Rattle.site_core.specs.Prelude.{Ownership, seat_name_at, section_at, section_in, ownership_of, SiteValue, IsSite}
+use Rattle.station_api.proofs.Types.{Caller, Seat, Manager, SeatCaller, Refusal, Unkept, Parsed, Office, Report, SiteReport}
 use Rattle.site_core.proofs.Owners.{owners_apart, seat_owned, section_owned}
-use Rattle.office_tables.specs.Tables.{Tables}
-use Rattle.office_commands.specs.declared.refusal.Refusal.{Refusal}
-use Rattle.office_commands.specs.declared.refusal.Refusal.TheVariants.{Unkept}
-use Rattle.office_commands.specs.Replies.{refusal}
-use Rattle.office_laws.specs.Sound.{IsSound}
-use Rattle.office_laws.specs.Alone.{IsAsAlone}
-use Rattle.office_laws.specs.Exchanges.{Call, Exchange, IsRun, FulfilsWanted, Passes, calls_of}
-use Rattle.office_laws.specs.Growth.{CanAsk}
-use Rattle.office_laws.proofs.Grown.{growth_itself}
+use Rattle.office_tables.specs.Prelude.{Stands, Tables}
+use Rattle.office_tables.specs.declared.keep.Keep.{Ghosts}
+use Rattle.office_commands.specs.Prelude.{refusal}
+use Rattle.office_laws.specs.Prelude.{IsSound, IsAsAlone, Call, Exchange, IsRun, FulfilsWanted, Passes, calls_of, CanAsk, IsSeat, LeavesAfter}
+use Rattle.office_laws.proofs.Grown.{growth_itself, sound_grown}
 use Rattle.office_laws.proofs.Promising.{promises}
 use Rattle.office_laws.proofs.Seats.{IsSeatOf, all_seats}
-use Rattle.station_api.specs.Books.{StreamKeepsPromises}
-use Rattle.station_api.specs.HttpAnswers.{AnswersAnyCaller, ParsedOrUnkept, AnswersParsed, AnswersHttp, caller_at}
-use Rattle.station_api.specs.SectionExchanges.{exchange_any, exchange_in, exchange_of, exchanges_with_seats, wanted_of}
-use Rattle.station_api.specs.Requests.{parse_request, of_manager, of_seat}
-use Rattle.station_api.specs.declared.parse.Parsed.{Parsed}
-use Rattle.station_api.specs.declared.parse.Parsed.TheVariants.{Office, Report, SiteReport}
+use Rattle.station_api.specs.Prelude.{IsLed, StreamKeepsPromises, SiteRun, AnswersAnyCaller, ParsedOrUnkept, AnswersParsed, AnswersHttp, caller_at}
+use Rattle.station_api.specs.Prelude.{exchange_any, exchange_in, exchange_of, exchanges_with_seats, wanted_of, parse_request, of_manager, of_seat}
 use Rattle.station_api.proofs.AskedFor.{IsWithin, asked_within}
 use Rattle.station_api.proofs.OwnCalls.{own_are}
 use Rattle.station_api.proofs.OwnTokens.{caller_one}
@@ -66,21 +52,21 @@ manager_same site wanted t reply t2 made = by (is_unavailable reply.status) want
     by false (Ok Report) made = absurd made
 
 -- so what anybody is answered is one exchange or none
-turn_runs : (site : SiteValue) (found : Option Caller) (r : HttpRequest) (t : Tables)
+exchange_runs : (site : SiteValue) (found : Option Caller) (r : HttpRequest) (t : Tables)
     (reply : Answer) (t2 : Tables) → AnswersAnyCaller site found r t reply t2
     → IsRun (exchange_any site found r reply) t t2
-turn_runs site None r t reply t2 made = made.1
-turn_runs site (Some Manager) r t reply t2 made = manager_same site (parse_request of_manager r) t reply t2 made
-turn_runs site (Some (Seat caller)) r t reply t2 made =
+exchange_runs site None r t reply t2 made = made.1
+exchange_runs site (Some Manager) r t reply t2 made = manager_same site (parse_request of_manager r) t reply t2 made
+exchange_runs site (Some (Seat caller)) r t reply t2 made =
     (t2, seat_passes site caller (parse_request of_seat r) t reply t2 made, refl)
 
 -- and what all are answered is a run
-run_of : (site : SiteValue) (turns : List (HttpRequest × Answer)) (t t2 : Tables)
-    → Runs (AnswersHttp site) t turns t2 → IsRun (exchanges_with_seats site turns) t t2
+run_of : (site : SiteValue) (exchanges : List (HttpRequest × Answer)) (t t2 : Tables)
+    → Runs (AnswersHttp site) t exchanges t2 → IsRun (exchanges_with_seats site exchanges) t t2
 run_of site [] t t2 run = run
-run_of site (turn ∷ turns) t t2 run =
-    runs_both Passes t (exchange_in site turn) run.0 (exchanges_with_seats site turns) t2
-    (turn_runs site (caller_at site turn.0) turn.0 t turn.1 run.0 run.1) (run_of site turns run.0 t2 run.2)
+run_of site (exchange ∷ exchanges) t t2 run =
+    runs_both Passes t (exchange_in site exchange) run.0 (exchanges_with_seats site exchanges) t2
+    (exchange_runs site (caller_at site exchange.0) exchange.0 t exchange.1 run.0 run.1) (run_of site exchanges run.0 t2 run.2)
 
 -- what a seat asks for is what a seat can ask for
 can_ask : (wanted : Result Parsed Refusal) → IsWithin of_seat wanted → CanAsk (wanted_of wanted)
@@ -96,11 +82,11 @@ all_joined P (x ∷ xs) ys all others = (all.0, all_joined P xs ys all.1 others)
 
 module _ (site : SiteValue) (w : IsSite site) where
   -- whoever has an exchange is a seat of the site
-  turn_seats : (r : HttpRequest) (reply : Answer) (found : Option Caller) → caller_at site r ≡ found
+  exchange_seats : (r : HttpRequest) (reply : Answer) (found : Option Caller) → caller_at site r ≡ found
       → AllByRecursion (IsSeatOf (ownership_of site)) (calls_of (exchange_any site found r reply))
-  turn_seats r reply None is = tt
-  turn_seats r reply (Some Manager) is = tt
-  turn_seats r reply (Some (Seat caller)) is =
+  exchange_seats r reply None is = tt
+  exchange_seats r reply (Some Manager) is = tt
+  exchange_seats r reply (Some (Seat caller)) is =
       let one = caller_one site r (Seat caller) is in (
         (
           owners_apart site w,
@@ -113,27 +99,49 @@ module _ (site : SiteValue) (w : IsSite site) where
         tt,
       )
 
-  seats_of : (turns : List (HttpRequest × Answer))
-      → AllByRecursion (IsSeatOf (ownership_of site)) (calls_of (exchanges_with_seats site turns))
+  seats_of : (exchanges : List (HttpRequest × Answer))
+      → AllByRecursion (IsSeatOf (ownership_of site)) (calls_of (exchanges_with_seats site exchanges))
   seats_of [] = tt
-  seats_of (turn ∷ turns) =
-      all_joined (IsSeatOf (ownership_of site)) (exchange_in site turn) (exchanges_with_seats site turns)
-      (turn_seats turn.0 turn.1 (caller_at site turn.0) refl) (seats_of turns)
+  seats_of (exchange ∷ exchanges) =
+      all_joined (IsSeatOf (ownership_of site)) (exchange_in site exchange) (exchanges_with_seats site exchanges)
+      (exchange_seats exchange.0 exchange.1 (caller_at site exchange.0) refl) (seats_of exchanges)
 
   -- from sound tables the books are kept
-  pub kept : (turns : List (HttpRequest × Answer)) (t t2 : Tables) → IsSound (ownership_of site) t
-      → Runs (AnswersHttp site) t turns t2 → StreamKeepsPromises site t turns t2
-  kept turns t t2 sound run =
-      let xs = exchanges_with_seats site turns in
+  pub kept : (exchanges : List (HttpRequest × Answer)) (t t2 : Tables) → IsSound (ownership_of site) t
+      → Runs (AnswersHttp site) t exchanges t2 → StreamKeepsPromises site t exchanges t2
+  kept exchanges t t2 sound run =
+      let xs = exchanges_with_seats site exchanges in
       let promised = promises (ownership_of site) xs (ownership_of site) t t2 sound
-      (all_seats (ownership_of site) (calls_of xs) (seats_of turns)) (run_of site turns t t2 run) in
+      (all_seats (ownership_of site) (calls_of xs) (seats_of exchanges)) (run_of site exchanges t t2 run) in
       record {
         promises = promised;
-        own = λ place low. own_are site w place low turns;
+        own = λ place low. own_are site w place low exchanges;
         isolated = λ place low.
             subst (λ (own : List Exchange). IsAsAlone (section_in site.customers place).name own t t2)
-            (own_are site w place low turns) (promised.isolated (section_in site.customers place).name);
+            (own_are site w place low exchanges) (promised.isolated (section_in site.customers place).name);
       }
+
+-- and so they are from tables that were sound before the site grew
+pub run_kept : (r : SiteRun) → StreamKeepsPromises r.site r.old r.exchanges r.new
+run_kept r =
+    kept r.site r.is_site r.exchanges r.old r.new
+    (sound_grown r.first (ownership_of r.site) r.old r.grew r.is_sound) r.is_run
+
+seats_alone : (site : Ownership) (cs : List Call) → AllByRecursion (IsSeatOf site) cs → AllByRecursion (IsSeat site) cs
+seats_alone site [] all = tt
+seats_alone site (c ∷ cs) all = (all.0.1, seats_alone site cs all.1)
+
+-- what was answered in turn, where a crash leaves what a stop may leave and the tables stand, leads from tables to tables
+pub led : {K : Type 0} (k : Ghosts K) (site : SiteValue) (old new : K) → IsSite site → (exchanges : List (HttpRequest × Answer)) (t t2 : Tables)
+    → Runs (AnswersHttp site) t exchanges t2 → LeavesAfter (exchanges_with_seats site exchanges) (k.may_leave old) t (k.may_leave new) t2
+    → Stands k.is_open k.tables new t2 → IsLed k site old new exchanges t t2
+led k site old new w exchanges t t2 run crash stands = record {
+  run = run;
+  answered = record { run = run_of site exchanges t t2 run; crash = crash; stands = stands };
+  apart = owners_apart site w;
+  seats = seats_alone (ownership_of site) (calls_of (exchanges_with_seats site exchanges)) (seats_of site w exchanges);
+  books = λ first growth sound. kept site w exchanges t t2 (sound_grown first (ownership_of site) t growth sound) run;
+}
 
 -- no requests keep the books
 pub kept_none : (site : SiteValue) (t : Tables) → IsSound (ownership_of site) t → StreamKeepsPromises site t [] t

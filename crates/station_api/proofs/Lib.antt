@@ -10,3 +10,4 @@ mod OwnCalls
 mod OwnTokens
 mod Streaming
 pub mod Wishes
+mod Types

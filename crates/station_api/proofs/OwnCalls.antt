@@ -1,22 +1,15 @@
 -- A customer's own exchanges are those that the customer's section alone tells.
-use Rattle.std.proofs.Common.{◌≡◌, ◌<◌, ◌∙◌, ℕ, Bool, false, cond, List, [], ◌∷◌, ◌++◌, length, Option, Some, None, refl, sym, ap}
-use Rattle.std.specs.Prelude.{◌&&◌, not, bytes_eq, filter, flat_map, is_some, Result}
+use Rattle.std.proofs.Common.{◌≡◌, ◌<◌, ◌∙◌, ℕ, Bool, false, cond, List, [], ◌∷◌, ◌++◌, length, Option, Some, None, refl, sym, ap, ◌&&◌, not, bytes_eq, filter}
+use Rattle.std.proofs.Common.{flat_map, is_some, Result}
 use Rattle.std.proofs.lemmas.List.Elements.{filter-append}
-use Rattle.http_frames.specs.Frames.{Request as HttpRequest}
-use Rattle.http_replies.specs.Replies.{Answer, is_unavailable}
-use Rattle.site_core.specs.Caller.{seat_name_at, section_at, section_in}
-use Rattle.site_core.specs.Section.{Section, SiteValue}
-use Rattle.site_core.specs.Site.{IsSite}
-use Rattle.site_core.specs.declared.site.Caller.{Caller}
-use Rattle.site_core.specs.declared.site.Caller.TheVariants.{Seat, Manager}
-use Rattle.office_commands.specs.declared.refusal.Refusal.{Refusal}
+use Rattle.http_frames.specs.Prelude.{Request as HttpRequest}
+use Rattle.http_replies.specs.Prelude.{Answer, is_unavailable}
+use Rattle.site_core.specs.Prelude.{seat_name_at, section_at, section_in, Section, SiteValue, IsSite}
+use Rattle.station_api.proofs.Types.{Caller, Seat, Manager, Refusal, Parsed}
 use Rattle.office_rules.proofs.Ties.{text_itself}
-use Rattle.office_laws.specs.Alone.{is_own, exchanges_of}
-use Rattle.office_laws.specs.Exchanges.{Exchange}
-use Rattle.station_api.specs.HttpAnswers.{caller_at}
-use Rattle.station_api.specs.SectionExchanges.{exchange_any, exchange_in, exchange_of, exchanges_with_seats, section_exchange, section_exchanges, seat_of_token}
-use Rattle.station_api.specs.Requests.{parse_request, of_seat}
-use Rattle.station_api.specs.declared.parse.Parsed.{Parsed}
+use Rattle.office_laws.specs.Prelude.{is_own, exchanges_of, Exchange}
+use Rattle.station_api.specs.Prelude.{caller_at, exchange_any, exchange_in, exchange_of, exchanges_with_seats, section_exchange, section_exchanges}
+use Rattle.station_api.specs.Prelude.{seat_of_token, parse_request, of_seat}
 use Rattle.station_api.proofs.OwnTokens.{other_caller, own_caller, seat_name}
 
 -- the exchange wasn't answered 503
@@ -44,10 +37,10 @@ module _ (site : SiteValue) (w : IsSite site) (place : ℕ) (low : place < lengt
   mine = section_in site.customers place
 
   -- of the exchange with whoever sent a request
-  own_turn : (r : HttpRequest) (reply : Answer)
+  own_exchange : (r : HttpRequest) (reply : Answer)
       → filter (is_own mine.name) (exchange_any site (caller_at site r) r reply)
       ≡ filter is_served (section_exchange mine (seat_of_token mine r) r reply)
-  own_turn r reply = by (seat_of_token mine r) refl
+  own_exchange r reply = by (seat_of_token mine r) refl
     where
       by_caller : (found : Option Caller) → caller_at site r ≡ found
           → is_some (seat_of_token mine r) ≡ false
@@ -70,11 +63,11 @@ module _ (site : SiteValue) (w : IsSite site) (place : ℕ) (low : place < lengt
           ∙ ap (λ (name : List ℕ). filter is_served (exchange_of mine name (parse_request of_seat r) reply ∷ [])) same
 
   -- so of all of them
-  pub own_are : (turns : List (HttpRequest × Answer))
-      → exchanges_of mine.name (exchanges_with_seats site turns) ≡ section_exchanges mine turns
+  pub own_are : (exchanges : List (HttpRequest × Answer))
+      → exchanges_of mine.name (exchanges_with_seats site exchanges) ≡ section_exchanges mine exchanges
   own_are [] = refl
-  own_are (turn ∷ turns) =
-      filter-append (is_own mine.name) (exchange_in site turn) (exchanges_with_seats site turns)
-      ∙ (λ i. own_turn turn.0 turn.1 i ++ own_are turns i)
-      ∙ sym (filter-append is_served (section_exchange mine (seat_of_token mine turn.0) turn.0 turn.1)
-      (flat_map (λ t. section_exchange mine (seat_of_token mine t.0) t.0 t.1) turns))
+  own_are (exchange ∷ exchanges) =
+      filter-append (is_own mine.name) (exchange_in site exchange) (exchanges_with_seats site exchanges)
+      ∙ (λ i. own_exchange exchange.0 exchange.1 i ++ own_are exchanges i)
+      ∙ sym (filter-append is_served (section_exchange mine (seat_of_token mine exchange.0) exchange.0 exchange.1)
+      (flat_map (λ x. section_exchange mine (seat_of_token mine x.0) x.0 x.1) exchanges))

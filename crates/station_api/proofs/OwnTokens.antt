@@ -1,32 +1,20 @@
 -- Whose a request is: by a customer's section alone as by the whole site.
-use Rattle.std.proofs.Common.{◌≡◌, ◌<◌, ℕ, arith, Bool, true, false, cond, List, length, map, get_or, Option, Some, None, inl, inr, refl, sym, ap}
-use Rattle.std.proofs.Common.{◌∙◌, subst, true≢false}
-use Rattle.std.specs.Prelude.{bytes_eq, is_some, option_and_then, option_map, slice_index_or}
-use Rattle.std.specs.List.{IsDistinct, flat_map, position, position_or_len}
-use Rattle.std.proofs.lemmas.Bool.{cases_order}
-use Rattle.std.proofs.lemmas.Bool.Decides.{nat_tests}
-use Rattle.std.proofs.lemmas.Cmp.{nat_list_eq_equiv}
-use Rattle.std.proofs.lemmas.List.Elements.{All-from_get_or, Contains-get_or}
-use Rattle.std.proofs.lemmas.List.Folds.{list_any_at, list_any_none}
-use Rattle.std.proofs.lemmas.List.Quantifiers.{position-Some}
-use Rattle.std.proofs.lemmas.List.Sums.{position_or_len_is}
-use Rattle.std.proofs.lemmas.Map.Keys.{apart_from_distinct}
+use Rattle.std.proofs.Common.{◌≡◌, ◌<◌, get_or}
+use Rattle.text_core.proofs.Kit.{ℕ, arith, Bool, true, false, cond, List, length, map, Option, Some, None, inl, inr, refl, sym, ap, ◌∙◌, subst, true≢false}
+use Rattle.text_core.proofs.Kit.{bytes_eq, is_some, option_and_then, option_map, slice_index_or, flat_map, position, position_or_len, cases_order, nat_tests}
+use Rattle.text_core.proofs.Kit.{nat_list_eq_equiv, All-from_get_or, Contains-get_or, list_any_at, list_any_none, position-Some, position_or_len_is}
+use Rattle.text_core.proofs.Kit.{apart_from_distinct}
+use Rattle.std.specs.List.{IsDistinct}
 use Rattle.sha2.specs.Sha256.{sha256}
-use Rattle.text_core.specs.Options.{◌>>=◌}
-use Rattle.http_frames.specs.Fields.{token_in_headers}
-use Rattle.http_frames.specs.Frames.{Request as HttpRequest, headers_of}
-use Rattle.site_core.specs.Caller.{IsCaller, caller_of, caller_or, has_seat_with, manager_with, no_seat, no_section, seat_caller_with, seat_with}
-use Rattle.site_core.specs.Caller.{section_at, section_in}
-use Rattle.site_core.specs.Section.{SeatOf, Section, SiteValue, has_token, with_token}
-use Rattle.site_core.specs.Site.{IsSite}
-use Rattle.site_core.specs.declared.site.Caller.{Caller}
-use Rattle.site_core.specs.declared.site.Caller.TheVariants.{Seat, Manager}
-use Rattle.site_core.specs.declared.site.SeatCaller.{SeatCaller}
+use Rattle.text_core.specs.Prelude.{◌>>=◌}
+use Rattle.http_frames.specs.Prelude.{token_in_headers, Request as HttpRequest, headers_of}
+use Rattle.site_core.specs.Prelude.{IsCaller, caller_of, caller_or, has_seat_with, manager_with, no_seat, no_section, seat_caller_with, seat_with, section_at}
+use Rattle.site_core.specs.Prelude.{section_in, SeatOf, Section, SiteValue, has_token, with_token, IsSite}
+use Rattle.station_api.proofs.Types.{Caller, Seat, Manager, SeatCaller}
 use Rattle.site_core.proofs.Callers.{caller_of-one}
 use Rattle.site_core.proofs.Owners.{IsDistinct-by_key, apart_in_pieces}
 use Rattle.office_rules.proofs.Ties.{same_text}
-use Rattle.station_api.specs.HttpAnswers.{caller_at}
-use Rattle.station_api.specs.SectionExchanges.{seat_of_token}
+use Rattle.station_api.specs.Prelude.{caller_at, seat_of_token}
 use Rattle.station_api.proofs.Members.{bound}
 
 -- a request carries the token of one of the customer's seats

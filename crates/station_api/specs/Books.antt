@@ -1,18 +1,14 @@
 -- What a stream's requests make of the books.
 use Rattle.std.specs.Prelude.{◌≡◌, ◌<◌, ℕ, List, length}
-use Rattle.http_frames.specs.Frames.{Request as HttpRequest}
-use Rattle.http_replies.specs.Replies.{Answer}
-use Rattle.http_replies.specs.Runs.{Runs}
-use Rattle.site_core.specs.Caller.{section_in}
-use Rattle.site_core.specs.Ownership.{Ownership, OwnershipGrows, ownership_of}
-use Rattle.site_core.specs.Section.{SiteValue}
-use Rattle.office_tables.specs.Keeping.{Stands}
-use Rattle.office_tables.specs.Tables.{Tables}
+use Rattle.std.specs.List.{AllByRecursion}
+use Rattle.http_frames.specs.Prelude.{Request as HttpRequest}
+use Rattle.http_replies.specs.Prelude.{Answer}
+use Rattle.text_core.specs.Prelude.{Runs}
+use Rattle.site_core.specs.Prelude.{section_in, PoolsDisjoint, Ownership, OwnershipGrows, ownership_of, SiteValue}
+use Rattle.office_tables.specs.Prelude.{Stands, Tables}
 use Rattle.office_tables.specs.declared.keep.Keep.{Ghosts}
-use Rattle.office_laws.specs.Sound.{IsSound}
-use Rattle.office_laws.specs.Alone.{IsAsAlone, exchanges_of}
-use Rattle.office_laws.specs.Promises.{Promises}
-use Rattle.office_laws.specs.Stops.{LeavesAfter}
+use Rattle.office_laws.specs.Prelude.{IsSound, IsAsAlone, IsSeat, calls_of, exchanges_of, Promises}
+use Rattle.office_core.specs.Prelude.{Answered}
 use Rattle.station_api.specs.HttpAnswers.{AnswersHttp}
 use Rattle.station_api.specs.SectionExchanges.{exchanges_with_seats, section_exchanges}
 
@@ -20,21 +16,25 @@ use Rattle.station_api.specs.SectionExchanges.{exchanges_with_seats, section_exc
 -- seats are the ones that the customer's section alone tells; so the replies in them, and the
 -- customer's rows, are those of the customer's own machine, run on the calls of these exchanges
 -- alone
-pub record StreamKeepsPromises (site : SiteValue) (t : Tables) (turns : List (HttpRequest × Answer)) (t2 : Tables) : Type 0 where
-  pub promises : Promises (ownership_of site) (exchanges_with_seats site turns) t t2
+pub record StreamKeepsPromises (site : SiteValue) (t : Tables) (exchanges : List (HttpRequest × Answer)) (t2 : Tables) : Type 0 where
+  pub promises : Promises (ownership_of site) (exchanges_with_seats site exchanges) t t2
   pub own : (place : ℕ) → place < length site.customers
-      → exchanges_of (section_in site.customers place).name (exchanges_with_seats site turns) ≡ section_exchanges (section_in site.customers place) turns
+      → exchanges_of (section_in site.customers place).name (exchanges_with_seats site exchanges)
+      ≡ section_exchanges (section_in site.customers place) exchanges
   pub isolated : (place : ℕ) → place < length site.customers
-      → IsAsAlone (section_in site.customers place).name (section_exchanges (section_in site.customers place) turns) t t2
+      → IsAsAlone (section_in site.customers place).name (section_exchanges (section_in site.customers place) exchanges) t t2
 
--- what some requests, answered in turn, make of the tables in a keeper: where its disk is honest
--- after them, the tables that stood lead to those that stand, a crash leaves what a stop may leave
--- after them, and from tables that are sound for the site, or for one that it grew from, the books
--- are kept
+-- these exchanges lead from the tables that stood to those that stand: those with seats are a run, a
+-- crash leaves what a stop may leave after them, each is of a seat of the site, whose customers are
+-- apart; and from tables that are sound for the site, or for one that it grew from, the books are kept
+pub record IsLed {K : Type 0} (k : Ghosts K) (site : SiteValue) (old new : K) (exchanges : List (HttpRequest × Answer)) (t t2 : Tables) : Type 0 where
+  pub run : Runs (AnswersHttp site) t exchanges t2
+  pub answered : Answered k old new (exchanges_with_seats site exchanges) t t2
+  pub apart : PoolsDisjoint (ownership_of site)
+  pub seats : AllByRecursion (IsSeat (ownership_of site)) (calls_of (exchanges_with_seats site exchanges))
+  pub books : (first : Ownership) → OwnershipGrows first (ownership_of site) → IsSound first t → StreamKeepsPromises site t exchanges t2
+
+-- so requests that were answered in turn do, where the keeper's disk is honest after them
 abbrev pub Leads : {K : Type 0} → Ghosts K → SiteValue → K → K → List (HttpRequest × Answer) → Type 0
-Leads k site old new turns =
-    k.is_honest new → (t : Tables) → Stands k.is_open k.tables old t
-    → (t2 : Tables) × Runs (AnswersHttp site) t turns t2
-    × LeavesAfter (exchanges_with_seats site turns) (k.may_leave old) t (k.may_leave new) t2
-    × Stands k.is_open k.tables new t2
-    × ((first : Ownership) → OwnershipGrows first (ownership_of site) → IsSound first t → StreamKeepsPromises site t turns t2)
+Leads k site old new exchanges =
+    k.is_honest new → (t : Tables) → Stands k.is_open k.tables old t → (t2 : Tables) × IsLed k site old new exchanges t t2

@@ -1,23 +1,19 @@
 -- What a stream's requests are answered, over the tables of all customers.
 use Rattle.std.specs.Prelude.{◌≡◌, ◌⊎◌, List, Option, Some, None, option_and_then, Result, Ok, Err, MatchBool}
 use Rattle.std.specs.List.{AllByRecursion}
-use Rattle.http_frames.specs.Fields.{token_in_headers}
-use Rattle.http_frames.specs.Frames.{Request as HttpRequest, headers_of}
-use Rattle.http_replies.specs.Replies.{Answer, is_unavailable}
-use Rattle.site_core.specs.Section.{SiteValue}
-use Rattle.site_core.specs.Caller.{caller_of, section_at, seat_name_at}
+use Rattle.http_frames.specs.Prelude.{token_in_headers, Request as HttpRequest, headers_of}
+use Rattle.http_replies.specs.Prelude.{Answer, is_unavailable}
+use Rattle.site_core.specs.Prelude.{SiteValue, caller_of, section_at, seat_name_at}
 use Rattle.site_core.specs.declared.site.Caller.{Caller}
 use Rattle.site_core.specs.declared.site.Caller.TheVariants.{Seat, Manager}
-use Rattle.office_tables.specs.Tables.{Tables}
-use Rattle.office_tables.specs.Keeping.{Stands}
+use Rattle.office_tables.specs.Prelude.{Tables, Stands}
 use Rattle.office_tables.specs.declared.keep.Keep.{Ghosts}
 use Rattle.office_commands.specs.declared.refusal.Refusal.{Refusal}
 use Rattle.office_commands.specs.declared.refusal.Refusal.TheVariants.{UnknownToken, Unkept}
-use Rattle.office_commands.specs.Replies.{refusal}
-use Rattle.office_rules.specs.OfficeMachine.{Step}
-use Rattle.office_laws.specs.Exchanges.{Exchange, report_reply}
-use Rattle.office_laws.specs.Stops.{LeavesAfter}
-use Rattle.yield_report.specs.Reports.{order_report_in, site_report_in}
+use Rattle.office_commands.specs.Prelude.{refusal}
+use Rattle.office_rules.specs.Prelude.{Step}
+use Rattle.office_laws.specs.Prelude.{Exchange, report_reply, LeavesAfter}
+use Rattle.yield_report.specs.Prelude.{order_report_in, site_report_in}
 use Rattle.station_api.specs.Requests.{parse_request, kind_of_caller}
 use Rattle.station_api.specs.declared.parse.Parsed.{Parsed}
 use Rattle.station_api.specs.declared.parse.Parsed.TheVariants.{Office, Report, SiteReport}
@@ -45,6 +41,7 @@ ParsedOrUnkept site caller wanted t reply t2 =
 abbrev pub AnswersKnownCaller : SiteValue → Caller → HttpRequest → Tables → Answer → Tables → Type 0
 AnswersKnownCaller site caller r t reply t2 = ParsedOrUnkept site caller (parse_request (kind_of_caller caller) r) t reply t2
 
+-- and of any: a caller who isn't known is refused
 abbrev pub AnswersAnyCaller : SiteValue → Option Caller → HttpRequest → Tables → Answer → Tables → Type 0
 AnswersAnyCaller site None r t reply t2 = (reply ≡ refusal UnknownToken) × (t2 ≡ t)
 AnswersAnyCaller site (Some caller) r t reply t2 = AnswersKnownCaller site caller r t reply t2
@@ -58,6 +55,7 @@ abbrev pub SaysRefusal : Result Parsed Refusal → Answer → Type 0
 SaysRefusal (Err reason) reply = (reply ≡ refusal reason) ⊎ (reply ≡ refusal Unkept)
 SaysRefusal (Ok parsed) reply = Unit {0}
 
+-- the same by the caller, known or not
 abbrev pub SaysAny : Option Caller → HttpRequest → Answer → Type 0
 SaysAny None r reply = reply ≡ refusal UnknownToken
 SaysAny (Some caller) r reply = SaysRefusal (parse_request (kind_of_caller caller) r) reply
@@ -68,7 +66,7 @@ Says site r reply = SaysAny (caller_at site r) r reply
 
 -- the same of the requests of a stream
 abbrev pub AreSaid : SiteValue → List (HttpRequest × Answer) → Type 0
-AreSaid site turns = AllByRecursion (λ turn. Says site turn.0 turn.1) turns
+AreSaid site exchanges = AllByRecursion (λ exchange. Says site exchange.0 exchange.1) exchanges
 
 -- a keeper's state before an answer and after it: where the disk is honest, the tables that stood
 -- lead to those that stand, and a crash leaves what a stop may leave after these exchanges

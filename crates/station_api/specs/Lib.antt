@@ -1,15 +1,17 @@
 -- What the contracts of this crate are made of.
-pub mod Digests
-pub mod Maps
-pub mod Numbers
-pub mod Devices
-pub mod Orders
-pub mod Acts
-pub mod Plans
-pub mod ReadBacks
-pub mod Identities
-pub mod Imports
+pub mod Digest
+pub mod Map
+pub mod Number
+pub mod Device
+pub mod Order
+pub mod Act
+pub mod Plan
+pub mod ReadBack
+pub mod Identity
+pub mod Import
 pub mod Requests
 pub mod HttpAnswers
 pub mod SectionExchanges
 pub mod Books
+pub mod SiteRuns
+pub mod Prelude

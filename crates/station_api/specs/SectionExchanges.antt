@@ -1,16 +1,14 @@
 -- Requests as they came, as calls of seats.
 use Rattle.std.specs.Prelude.{ℕ, not, List, [], ◌∷◌, filter, flat_map, Option, Some, None, option_and_then, option_map, Result, Ok, Err, slice_index_or}
 use Rattle.sha2.specs.Sha256.{sha256}
-use Rattle.http_frames.specs.Fields.{token_in_headers}
-use Rattle.http_frames.specs.Frames.{Request as HttpRequest, headers_of}
-use Rattle.http_replies.specs.Replies.{Answer, is_unavailable}
-use Rattle.site_core.specs.Caller.{no_seat, seat_name_at, seat_with, section_at}
-use Rattle.site_core.specs.Section.{Section, SiteValue}
+use Rattle.http_frames.specs.Prelude.{token_in_headers, Request as HttpRequest, headers_of}
+use Rattle.http_replies.specs.Prelude.{Answer, is_unavailable}
+use Rattle.site_core.specs.Prelude.{no_seat, seat_name_at, seat_with, section_at, Section, SiteValue}
 use Rattle.site_core.specs.declared.site.Caller.{Caller}
 use Rattle.site_core.specs.declared.site.Caller.TheVariants.{Seat, Manager}
 use Rattle.office_commands.specs.declared.refusal.Refusal.{Refusal}
 use Rattle.office_commands.specs.declared.refusal.Refusal.TheVariants.{WrongCaller}
-use Rattle.office_laws.specs.Exchanges.{Exchange, Wanted, asks, reports, refused}
+use Rattle.office_laws.specs.Prelude.{Exchange, Wanted, asks, reports, refused}
 use Rattle.station_api.specs.HttpAnswers.{caller_at}
 use Rattle.station_api.specs.Requests.{parse_request, kind_of_caller, of_seat}
 use Rattle.station_api.specs.declared.parse.Parsed.{Parsed}
@@ -40,8 +38,8 @@ section_exchange s (Some seat) r reply = exchange_of s seat (parse_request of_se
 
 -- a customer's own exchanges, by the customer's section alone: those with the customer's seats, in turn, but for those answered 503
 abbrev pub section_exchanges : Section → List (HttpRequest × Answer) → List Exchange
-section_exchanges s turns =
-    filter (λ x. not (is_unavailable x.1.status)) (flat_map (λ turn. section_exchange s (seat_of_token s turn.0) turn.0 turn.1) turns)
+section_exchanges s exchanges =
+    filter (λ x. not (is_unavailable x.1.status)) (flat_map (λ exchange. section_exchange s (seat_of_token s exchange.0) exchange.0 exchange.1) exchanges)
 
 -- the exchange with a caller who asks for this: the manager's is no customer's
 abbrev pub exchange_asked : SiteValue → Caller → Result Parsed Refusal → Answer → List Exchange
@@ -55,8 +53,8 @@ exchange_any site (Some caller) r reply = exchange_asked site caller (parse_requ
 
 -- the exchange with the seat whose token a request carries, if there is one
 abbrev pub exchange_in : SiteValue → HttpRequest × Answer → List Exchange
-exchange_in site turn = exchange_any site (caller_at site turn.0) turn.0 turn.1
+exchange_in site exchange = exchange_any site (caller_at site exchange.0) exchange.0 exchange.1
 
 -- the exchanges with the seats of a site, in turn
 abbrev pub exchanges_with_seats : SiteValue → List (HttpRequest × Answer) → List Exchange
-exchanges_with_seats site turns = flat_map (exchange_in site) turns
+exchanges_with_seats site exchanges = flat_map (exchange_in site) exchanges

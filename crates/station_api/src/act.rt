@@ -2,8 +2,7 @@
 ghost use Rattle.std.specs.Prelude.{◌≡◌, false, IfOk, codes};
 ghost use Rattle.serde_json.specs.View.{view};
 ghost use Rattle.serde_json.specs.Written.{has_float};
-ghost use Rattle.station_api.specs.Acts.{act_of, end_of};
-ghost use Rattle.station_api.specs.Digests.{LacksFloat};
+ghost use Rattle.station_api.specs.Prelude.{act_of, end_of, LacksFloat};
 
 use crate::digest::{named_members, request_digest};
 use crate::number::number_member;
@@ -17,7 +16,7 @@ pub const ACT_MEMBERS: [&str; 2] = ["chip", "nr"];
 
 /// The request that a body asks for on the path of an action, if its chip and its number are of
 /// their forms. A repeat is known by the members.
-#[tactic(auto, unfolding(crate::specs::Acts::act_of))]
+#[tactic(auto, unfolding(crate::specs::Act::act_of))]
 pub fn act_request(
     alloc: Global,
     value: &Value,

@@ -1,7 +1,7 @@
 // The number of a request.
 ghost use Rattle.std.specs.Prelude.{◌≡◌};
 ghost use Rattle.serde_json.specs.View.{view};
-ghost use Rattle.station_api.specs.Numbers as numbers;
+ghost use Rattle.station_api.specs.Number as numbers;
 
 use json_members::whole_member;
 use office_core::RequestNumber;

@@ -1,9 +1,8 @@
 // Serves a stream of a site's callers.
 ghost use Rattle.std.specs.Prelude.{◌≡◌, ◌+◌, ◌<◌, ◌≤◌, ◌^◌, List, Some};
-ghost use Rattle.http_frames.specs.Frames.{call_limit};
-ghost use Rattle.http_serving.specs.Streams.{HttpExchange, Tells, read_faults, requests_with_answers, write_faults};
-ghost use Rattle.station_api.specs.Books.{Leads};
-ghost use Rattle.station_api.specs.HttpAnswers.{AreSaid};
+ghost use Rattle.http_frames.specs.Prelude.{call_limit};
+ghost use Rattle.http_serving.specs.Prelude.{HttpExchange, Tells, read_faults, requests_with_answers, write_faults};
+ghost use Rattle.station_api.specs.Prelude.{Leads, AreSaid};
 
 use crate::desk::Desk;
 use http_frames::transfer::{Drain, Source};
@@ -15,10 +14,10 @@ use std::alloc::Global;
 /// Serves a stream until it ends, and answers how it did. It takes memory once for its buffer,
 /// before the first read, and none from a commit until that reply is written.
 ///
-/// The stream is cut into pieces, requests and refused heads, where the reader and the writer tell
-/// their bytes: what was written is the bytes of their replies, all of them where the stream ended,
-/// was closed or was cut. Whatever the store does, a request without a known token gets 401, and one
-/// that is refused as it came gets its refusal or 503.
+/// The stream is cut into exchanges, of requests and of refused heads, where the reader and the
+/// writer tell their bytes: what was written is the bytes of their replies, all of them where the
+/// stream ended, was closed or was cut. Whatever the store does, a request without a known token gets
+/// 401, and one that is refused as it came gets its refusal or 503.
 ///
 /// Where the store's disk is honest, each request is answered by a step of the office, by a report or
 /// by 503 with the tables as they were; the tables are those after these steps; and a crash leaves
@@ -37,11 +36,11 @@ pub fn serve_stream<K: Keep, R: Source, W: Drain>(
     requires reader { R.calls reader.old + 2 ^ 25 < 2 ^ 64 }
     requires writer { W.calls writer.old + 2 ^ 25 < 2 ^ 64 }
     ensures was_honest { K.is_honest keep.new → K.is_honest keep.old }
-    ensures run { (pieces : List HttpExchange)
+    ensures run { (exchanges : List HttpExchange)
         × Tells (R.left reader.old) (R.left reader.new)
-        (W.written writer.old) (W.written writer.new) result pieces
-        × AreSaid site.now (requests_with_answers pieces)
-        × Leads K.Keep site.now keep.old keep.new (requests_with_answers pieces) }
+        (W.written writer.old) (W.written writer.new) result exchanges
+        × AreSaid site.now (requests_with_answers exchanges)
+        × Leads K.Keep site.now keep.old keep.new (requests_with_answers exchanges) }
     ensures calls { R.calls reader.new + W.calls writer.new
         ≤ R.calls reader.old + W.calls writer.old + call_limit }
     ensures limit { result ≡ Served.TurnLimit
@@ -55,8 +54,7 @@ pub fn serve_stream<K: Keep, R: Source, W: Drain>(
         → (R.calls reader.new ≡ R.calls reader.old) × (W.calls writer.new ≡ W.calls writer.old) }
     ensures unserved { result ≡ Served.NoMemory → keep.new ≡ keep.old }
 {
-    // That the customers' sections are apart is known of each site that was read.
-    let _customers = site.customers();
+    site.fact_rules();
     let desk = Desk { alloc, site };
     http_serving::serve_stream(alloc, &desk, keep, reader, writer)
 }

@@ -1,17 +1,14 @@
 -- What is said of a store's books by the bytes of the site's file.
-use Rattle.std.proofs.Common.{◌≡◌, ◌⊎◌, ℕ, List, Result, Ok, Err, inl, inr, sym, subst}
-use Rattle.std.specs.Prelude.{IfOk, IsErrAnd}
+use Rattle.std.proofs.Common.{◌≡◌, ◌⊎◌, ℕ, List, Result, Ok, Err, inl, inr, sym, subst, IfOk, IsErrAnd}
 use Rattle.sha2.specs.Sha256.{sha256}
 use Rattle.sqlite.specs.Recovery.{Image}
 use Rattle.sqlite_disk.specs.declared.Disk.{Ghosts}
 use Rattle.sqlite_store.specs.declared.store.FileStore.{FileStore}
-use Rattle.site_core.specs.Section.{SiteValue}
-use Rattle.site_core.specs.SiteText.{TextOfSite}
-use Rattle.text_core.specs.Answer.{GivesUnless}
-use Rattle.office_store.specs.Kept.{Kept}
+use Rattle.site_core.specs.Prelude.{SiteValue, TextOfSite}
+use Rattle.text_core.specs.Prelude.{GivesUnless}
+use Rattle.office_store.specs.Prelude.{Kept}
 use Rattle.office_store.specs.declared.opening.Absent.{Absent}
-use Rattle.station_jobs.specs.Replaying.{IsOfStore}
-use Rattle.station_jobs.specs.Storing.{FromOpening, text_of_site}
+use Rattle.station_jobs.specs.Prelude.{IsOfStore, FromOpening, text_of_site}
 use Rattle.station_jobs.specs.declared.failure.Failure.{Failure}
 
 -- a failure of the store is one of memory or of the store

@@ -1,15 +1,13 @@
 -- What the result of a stream says of its end.
-use Rattle.std.proofs.Common.{◌≡◌, ◌⊎◌, ℕ, List, [], Option, Some, None, Result, Ok, Err, inl, inr, refl, sym, subst}
-use Rattle.std.specs.Prelude.{IfErr, IfOk}
-use Rattle.http_serving.specs.Streams.{Tells, read_faults, write_faults}
+use Rattle.std.proofs.Common.{◌≡◌, ◌⊎◌, ℕ, List, [], Option, Some, None, Result, Ok, Err, inl, inr, refl, sym, subst, IfErr, IfOk}
+use Rattle.http_serving.specs.Prelude.{Tells, read_faults, write_faults}
 use Rattle.http_serving.specs.declared.Served.{Served}
-use Rattle.http_serving.specs.declared.Served.TheVariants.{Ended, Closed, Cut, ReadFault, WriteFault, TurnLimit, NoMemory}
-use Rattle.office_tables.specs.Tables.{Tables}
-use Rattle.site_core.specs.Section.{SiteValue}
+use Rattle.http_serving.specs.declared.Served.TheVariants.{Ended, Closed, Cut, ReadFault, WriteFault, NoMemory, TurnLimit}
+use Rattle.office_tables.specs.Prelude.{Tables}
+use Rattle.site_core.specs.Prelude.{SiteValue}
 use Rattle.station_api.proofs.KeptRuns.{kept_none}
-use Rattle.text_core.specs.Answer.{GivesUnless}
-use Rattle.station_jobs.specs.Replaying.{IsOfStream, Replays, failed_reads, failed_writes}
-use Rattle.station_jobs.specs.Statuses.{result_of_ending}
+use Rattle.text_core.specs.Prelude.{GivesUnless}
+use Rattle.station_jobs.specs.Prelude.{IsOfStream, Replays, failed_reads, failed_writes, result_of_ending}
 use Rattle.station_jobs.specs.declared.failure.Failure.{Failure}
 
 -- the limit is told of a stream that met it alone

@@ -1,15 +1,12 @@
 -- What the bytes of a file give, by what reading their text gives.
-use Rattle.std.specs.Result.{IsErrAnd, MatchResult}
-use Rattle.std.proofs.Common.{◌≡◌, ◌≤◌, ℕ, List, length, Bool, true, false, Result, Ok, Err, inl, inr, refl, sym, subst, ap, ◌∙◌}
-use Rattle.std.specs.Prelude.{IfOk, nat_lt, if◌then◌else◌}
-use Rattle.std.specs.Borrow.{Bor}
-use Rattle.std.specs.Str.{IsUtf8, is_utf8}
-use Rattle.std.proofs.lemmas.Bool.{le-ltb}
+use Rattle.std.proofs.Common.{IsErrAnd, MatchResult, ◌≡◌, ◌≤◌, ℕ, List, length, Bool, true, false, Result, Ok, Err, inl, inr, refl, sym, subst, ap, ◌∙◌, IfOk}
+use Rattle.std.proofs.Common.{nat_lt, if◌then◌else◌, Bor, IsUtf8, le-ltb}
+use Rattle.std.specs.Str.{is_utf8}
 use Rattle.std.proofs.lemmas.Str.{is_utf8-from_IsUtf8, IsUtf8-from_is_utf8}
-use Rattle.station_jobs.specs.FileText.{or_failure, text_of_file}
-use Rattle.text_core.specs.Answer.{GivesUnless, result_and_then, result_map}
+use Rattle.station_jobs.specs.Prelude.{or_failure, text_of_file}
 use Rattle.station_jobs.specs.declared.failure.Failure.{Failure}
 use Rattle.station_jobs.specs.declared.failure.Failure.TheVariants.{CannotRead, NoMemory}
+use Rattle.text_core.specs.Prelude.{GivesUnless, result_and_then, result_map}
 
 -- bytes that are a text are the text
 pub text_of_file-text : (name : Bor (List ℕ)) (bytes : List ℕ) (limit : ℕ) (too_long : Failure) → length bytes ≤ limit → IsUtf8 bytes

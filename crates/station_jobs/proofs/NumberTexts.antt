@@ -8,7 +8,7 @@ use Rattle.clap.specs.Values.{IsUnsignedIn}
 use Rattle.clap.specs.Words.{first_value, rows_of}
 use Rattle.clap.specs.declared.parser.matches.Found.{Found}
 use Rattle.clap.specs.declared.builder.value_parser.ValueParser.TheVariants.{Unsigned}
-use Rattle.station_jobs.specs.CommandLine.{number_of_digits, number_of_option}
+use Rattle.station_jobs.specs.Prelude.{number_of_digits, number_of_option}
 
 -- what the test of a text says of its number
 abbrev number_if : List ℕ → Bool → Option ℕ

@@ -1,9 +1,7 @@
 -- The options of a subcommand, by the rows of its matches.
-use Rattle.std.proofs.Common.{◌≡◌, ℕ, List, Option, Some, None, option_map, Result, Ok, Err, sym, ap, ap₂, ◌∙◌, false}
+use Rattle.std.proofs.Common.{◌≡◌, ℕ, List, Option, Some, None, option_map, Result, Ok, Err, sym, ap, ap₂, ◌∙◌, false, IfOk}
 use Rattle.std.proofs.lemmas.Option.{same_Some}
-use Rattle.std.specs.Prelude.{IfOk}
-use Rattle.clap.specs.Words.{AddsSubcommand, App, Row, Text, app_of, first_of, rows_of, with_subcommand}
-use Rattle.clap.specs.Words.{first_value}
+use Rattle.clap.specs.Words.{AddsSubcommand, App, Row, Text, app_of, first_of, rows_of, with_subcommand, first_value}
 use Rattle.clap.proofs.WalkLemmas.{first_value-rows}
 use Rattle.clap.specs.declared.builder.command.Command.{Command}
 use Rattle.clap.specs.declared.builder.command.Command.TheViews.{out-Command as fields_of}

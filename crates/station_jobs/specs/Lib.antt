@@ -8,3 +8,4 @@ pub mod Replaying
 pub mod SiteFile
 pub mod Statuses
 pub mod Storing
+pub mod Prelude

@@ -1,11 +1,10 @@
 -- A port that is listened on, and what becomes of the tables over its connections.
 use Rattle.std.specs.Prelude.{◌≡◌, ◌⊎◌, ℕ, ◌++◌, List, codes, decimal}
-use Rattle.http_frames.specs.Frames.{Request}
-use Rattle.http_replies.specs.Replies.{Answer}
+use Rattle.http_frames.specs.Prelude.{Request}
+use Rattle.http_replies.specs.Prelude.{Answer}
 use Rattle.office_tables.specs.declared.keep.Keep.{Ghosts}
-use Rattle.site_core.specs.Section.{SiteValue}
-use Rattle.station_api.specs.Books.{Leads}
-use Rattle.station_api.specs.HttpAnswers.{AreSaid}
+use Rattle.site_core.specs.Prelude.{SiteValue}
+use Rattle.station_api.specs.Prelude.{Leads, AreSaid}
 use Rattle.station_jobs.specs.declared.failure.Failure.{Failure}
 use Rattle.station_jobs.specs.declared.failure.Failure.TheVariants.{ListenFailed, AcceptFailed, WriteFailed}
 
@@ -19,4 +18,4 @@ IsOfPort failure = (failure ≡ ListenFailed) ⊎ (failure ≡ WriteFailed) ⊎ 
 
 -- some requests were answered in turn, each as it has to be whatever the store does, and the tables that stood lead by them to those that stand
 abbrev pub LeadsOn : {K : Type 0} → Ghosts K → SiteValue → K → K → Type 0
-LeadsOn k site old new = (turns : List (Request × Answer)) × AreSaid site turns × Leads k site old new turns
+LeadsOn k site old new = (exchanges : List (Request × Answer)) × AreSaid site exchanges × Leads k site old new exchanges

@@ -1,10 +1,8 @@
 -- The fuse map that a file describes, or why there is none, and the line of a map.
 use Rattle.std.specs.Prelude.{ℕ, ◌++◌, List, length, codes, decimal, Result}
 use Rattle.std.specs.Borrow.{Bor}
-use Rattle.text_core.specs.Answer.{result_and_then}
-use Rattle.fusemap_core.specs.Map.{Map}
-use Rattle.fusemap_core.specs.MapFaults.{map_fault_number}
-use Rattle.fusemap_core.specs.MapText.{map_read}
+use Rattle.text_core.specs.Prelude.{result_and_then}
+use Rattle.fusemap_core.specs.Prelude.{Map, map_fault_number, map_read}
 use Rattle.fusemap_core.specs.declared.fault.MapFault.{MapFault}
 use Rattle.fusemap_core.specs.declared.fault.MapFault.TheVariants.{BadMember}
 use Rattle.station_jobs.specs.FileText.{or_failure, text_of_file}

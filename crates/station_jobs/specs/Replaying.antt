@@ -1,17 +1,15 @@
 -- What a stream leads to, and what its result tells.
 use Rattle.std.specs.Prelude.{◌≡◌, ◌⊎◌, ℕ, List, Option, Result, Ok, Err}
-use Rattle.http_replies.specs.Runs.{Runs}
-use Rattle.http_serving.specs.Streams.{HttpExchange, Tells, requests_with_answers}
+use Rattle.text_core.specs.Prelude.{Runs}
+use Rattle.http_serving.specs.Prelude.{HttpExchange, Tells, requests_with_answers}
 use Rattle.http_serving.specs.declared.Served.{Served}
-use Rattle.office_laws.specs.Sound.{IsSound}
-use Rattle.office_store.specs.Faults.{open_fault_number}
+use Rattle.office_laws.specs.Prelude.{IsSound}
+use Rattle.office_store.specs.Prelude.{open_fault_number}
 use Rattle.office_store.specs.declared.fault.OpenFault.{OpenFault}
-use Rattle.office_tables.specs.Tables.{Tables}
+use Rattle.office_tables.specs.Prelude.{Tables}
 use Rattle.office_tables.specs.declared.keep.Keep.{Ghosts}
-use Rattle.site_core.specs.Ownership.{ownership_of}
-use Rattle.site_core.specs.Section.{SiteValue}
-use Rattle.station_api.specs.Books.{Leads, StreamKeepsPromises}
-use Rattle.station_api.specs.HttpAnswers.{AreSaid, AnswersHttp}
+use Rattle.site_core.specs.Prelude.{ownership_of, SiteValue}
+use Rattle.station_api.specs.Prelude.{Leads, StreamKeepsPromises, AreSaid, AnswersHttp}
 use Rattle.station_jobs.specs.Statuses.{result_of_ending}
 use Rattle.station_jobs.specs.declared.failure.Failure.{Failure}
 use Rattle.station_jobs.specs.declared.failure.Failure.TheVariants.{StoreFault, ReadFailed, WriteFailed, TurnLimit, NoMemory}
@@ -19,21 +17,21 @@ use Rattle.station_jobs.specs.declared.failure.Failure.TheVariants.{StoreFault, 
 -- a stream was served from these tables on, with its requests in turn, and the result is what its end says
 abbrev pub Replays : SiteValue → Tables → Option (List ℕ) → Option (List ℕ) → Option (List ℕ) → Option (List ℕ) → Result Unit Failure → Type 0
 Replays site t left_old left_new written_old written_new result =
-    (served : Served) × (result ≡ result_of_ending served) × (pieces : List HttpExchange)
-    × Tells left_old left_new written_old written_new served pieces
-    × AreSaid site (requests_with_answers pieces)
-    × (t2 : Tables) × Runs (AnswersHttp site) t (requests_with_answers pieces) t2
+    (served : Served) × (result ≡ result_of_ending served) × (exchanges : List HttpExchange)
+    × Tells left_old left_new written_old written_new served exchanges
+    × AreSaid site (requests_with_answers exchanges)
+    × (t2 : Tables) × Runs (AnswersHttp site) t (requests_with_answers exchanges) t2
     × (IsSound (ownership_of site) t
-    → StreamKeepsPromises site t (requests_with_answers pieces) t2)
+    → StreamKeepsPromises site t (requests_with_answers exchanges) t2)
 
 -- a stream was served over a keeper, and the result is what its end says
 abbrev pub ServesOver : {K : Type 0} → Ghosts K → SiteValue → Option (List ℕ) → Option (List ℕ)
     → Option (List ℕ) → Option (List ℕ) → Result Unit Failure → K → K → Type 0
 ServesOver k site left_old left_new written_old written_new result old new =
-    (served : Served) × (result ≡ result_of_ending served) × (pieces : List HttpExchange)
-    × Tells left_old left_new written_old written_new served pieces
-    × AreSaid site (requests_with_answers pieces)
-    × Leads k site old new (requests_with_answers pieces)
+    (served : Served) × (result ≡ result_of_ending served) × (exchanges : List HttpExchange)
+    × Tells left_old left_new written_old written_new served exchanges
+    × AreSaid site (requests_with_answers exchanges)
+    × Leads k site old new (requests_with_answers exchanges)
 
 -- a failure that the end of a stream says
 abbrev pub IsOfStream : Failure → Type 0

@@ -1,10 +1,8 @@
 -- The site that a file describes, or why there is none.
 use Rattle.std.specs.Prelude.{ℕ, List, Result}
 use Rattle.std.specs.Borrow.{Bor}
-use Rattle.text_core.specs.Answer.{result_and_then}
-use Rattle.site_core.specs.Section.{SiteValue}
-use Rattle.site_core.specs.SiteFaults.{site_fault_number}
-use Rattle.site_core.specs.SiteText.{site_read}
+use Rattle.text_core.specs.Prelude.{result_and_then}
+use Rattle.site_core.specs.Prelude.{SiteValue, site_fault_number, site_read}
 use Rattle.site_core.specs.declared.fault.SiteFault.{SiteFault}
 use Rattle.site_core.specs.declared.fault.SiteFault.TheVariants.{OverLimit}
 use Rattle.station_jobs.specs.FileText.{or_failure, text_of_file}

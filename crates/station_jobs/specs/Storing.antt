@@ -8,14 +8,9 @@ use Rattle.sqlite.specs.Tree.{Trees}
 use Rattle.sqlite_disk.specs.declared.Disk.{Ghosts}
 use Rattle.sqlite_store.specs.declared.store.FileStore.{FileStore}
 use Rattle.sha2.specs.Sha256.{sha256}
-use Rattle.site_core.specs.Section.{SiteValue}
-use Rattle.site_core.specs.SiteText.{TextOfSite}
-use Rattle.office_sql.specs.Tables.{tables_in}
-use Rattle.office_store.specs.Addresses.{HasApartAddresses}
-use Rattle.office_store.specs.Adopting.{IsOurs, StaysUnstarted, TakesGrowth, TakesOwn}
-use Rattle.office_store.specs.Kept.{Kept}
-use Rattle.office_store.specs.Opening.{FilesHeld, HasTablesOf, IsTaken}
-use Rattle.office_store.specs.Texts.{HoldsText}
+use Rattle.site_core.specs.Prelude.{SiteValue, TextOfSite}
+use Rattle.office_sql.specs.Prelude.{tables_in}
+use Rattle.office_store.specs.Prelude.{HasApartAddresses, IsOurs, StaysUnstarted, TakesGrowth, TakesOwn, Kept, FilesHeld, HasTablesOf, IsTaken, HoldsText}
 use Rattle.office_store.specs.declared.opening.Absent.{Absent}
 
 -- what the opening of a site's store says of its connection, by what the files held, where the disk

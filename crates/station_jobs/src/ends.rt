@@ -1,7 +1,7 @@
 //! The two ends of a connection: what its client sends, and what it is sent. They fail once the client
 //! has taken too long.
 ghost use Rattle.std.specs.Prelude.{◌≡◌, ◌⊎◌, ◌≤◌, length, IfSome, MatchResult, None};
-ghost use Rattle.http_frames.specs.Transfers.{MovesAtMost};
+ghost use Rattle.http_frames.specs.Prelude.{MovesAtMost};
 
 use crate::arrivals::Arrivals;
 use crate::patience::{Awaited, Bounds, NextRead, Wait, is_untaken, next_read};

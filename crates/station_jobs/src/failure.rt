@@ -1,6 +1,6 @@
 //! Why a job fails, and the line that says so.
 ghost use Rattle.std.specs.Prelude.{Some};
-ghost use Rattle.station_jobs.specs.Statuses.{line_of};
+ghost use Rattle.station_jobs.specs.Prelude.{line_of};
 
 use std::fmt;
 

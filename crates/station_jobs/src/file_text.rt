@@ -1,7 +1,7 @@
 //! The files that the program reads, and their texts.
 ghost use Rattle.std.specs.Prelude.{◌≡◌, IfOk, IfSome, take};
-ghost use Rattle.text_core.specs.Answer.{result_map};
-ghost use Rattle.station_jobs.specs.FileText.{IsUnread, text_of_file};
+ghost use Rattle.text_core.specs.Prelude.{result_map};
+ghost use Rattle.station_jobs.specs.Prelude.{IsUnread, text_of_file};
 
 use crate::failure::Failure;
 use std::alloc::Global;

@@ -2,10 +2,9 @@
 ghost use Rattle.std.specs.Prelude.{◌≡◌, ◌⊎◌, false, Some, None, ◌≤◌, IfOk, IfErr, IfSome, option_and_then};
 ghost use Rattle.clap.specs.Words.{app_of, fault_of, first_of, found_of, kind_of, rows_of, rule_of, subcommand_rows_of};
 ghost use Rattle.clap.specs.declared.builder.command.Command.TheViews.{out-Command as fields_of};
-ghost use Rattle.station_jobs.specs.CommandLine.{CanGive, IsFaultOfKind, RefusesWith, books_app, check_map_app};
-ghost use Rattle.station_jobs.specs.CommandLine.{check_map_of, connections_rule, db_rule, existing_rule, has_flag, job_by};
-ghost use Rattle.station_jobs.specs.CommandLine.{job_read, number_of_digits, number_of_option, port_rule, replay_app, replay_of, required_db_rule};
-ghost use Rattle.station_jobs.specs.CommandLine.{serve_app, serve_of, site_rule, station_app, store_of, texts, top_app};
+ghost use Rattle.station_jobs.specs.Prelude.{CanGive, IsFaultOfKind, RefusesWith, books_app, check_map_app, check_map_of, connections_rule, db_rule};
+ghost use Rattle.station_jobs.specs.Prelude.{existing_rule, has_flag, job_by, job_read, number_of_digits, number_of_option, port_rule, replay_app, replay_of};
+ghost use Rattle.station_jobs.specs.Prelude.{required_db_rule, serve_app, serve_of, site_rule, station_app, store_of, texts, top_app};
 ghost use Rattle.station_jobs.specs.declared.job.WordsFault.TheVariants.{NoMemory};
 
 use clap::builder::ValueParser;

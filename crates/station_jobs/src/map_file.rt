@@ -1,9 +1,8 @@
 //! The file of a fuse map, the map that it describes, and the line of that map.
 ghost use Rattle.std.specs.Prelude.{◌≡◌, ◌∷◌, ◌++◌, [], IfOk, IfErr, IsErrAnd, OnOk};
 ghost use Rattle.std.specs.Io.KnownBytes.{Appends};
-ghost use Rattle.text_core.specs.Answer.{GivesUnless};
-ghost use Rattle.station_jobs.specs.FileText.{IsUnread};
-ghost use Rattle.station_jobs.specs.MapFile.{map_failure, map_of_file, map_line};
+ghost use Rattle.text_core.specs.Prelude.{GivesUnless};
+ghost use Rattle.station_jobs.specs.Prelude.{IsUnread, map_failure, map_of_file, map_line};
 
 use crate::failure::Failure;
 use crate::file_text::{read_file, text_of_file, unread};

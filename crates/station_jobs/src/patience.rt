@@ -1,7 +1,7 @@
 //! How long a connection may wait for its client, while others wait for it.
 ghost use Rattle.std.specs.Prelude.{◌≡◌, ◌↔◌, ◌*◌, ◌≤◌, IsTrue};
 ghost use Rattle.std.specs.Duration.{as_nanos};
-ghost use Rattle.station_jobs.specs.Patience.{GivesWay, IsOver, IsOutOfTime, IsTooLong, IsNextRead, MayLook};
+ghost use Rattle.station_jobs.specs.Prelude.{GivesWay, IsOver, IsOutOfTime, IsTooLong, IsNextRead, MayLook};
 
 use std::time::{Duration, Instant};
 

@@ -1,7 +1,7 @@
 //! What is printed where the words of the command line give no job.
 ghost use Rattle.std.specs.Prelude.{◌++◌, ◌∷◌, [], OnOk};
 ghost use Rattle.std.specs.Io.KnownBytes.{Appends};
-ghost use Rattle.station_jobs.specs.Statuses.{HasStatus, IsReported, line_of};
+ghost use Rattle.station_jobs.specs.Prelude.{HasStatus, IsReported, line_of};
 
 use crate::failure::Failure;
 use crate::job::WordsFault;

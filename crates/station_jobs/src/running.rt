@@ -1,12 +1,9 @@
 //! Does the jobs of the command line.
 ghost use Rattle.std.specs.Prelude.{◌≡◌, ◌≢◌, ◌+◌, ◌<◌, ◌≤◌, ◌^◌, ◌⊎◌, ◌++◌, ◌∷◌, [], IfOk, IfErr, IsErrAnd, MatchResult, OnOk};
 ghost use Rattle.std.specs.Io.KnownBytes.{Appends, Keeps};
-ghost use Rattle.office_tables.specs.Tables.{no_rows};
-ghost use Rattle.station_jobs.specs.FileText.{IsUnread};
-ghost use Rattle.station_jobs.specs.MapFile.{map_of_file, map_line};
-ghost use Rattle.station_jobs.specs.Replaying.{IsOfStream, Replays, ServesOver, failed_reads, failed_writes};
-ghost use Rattle.station_jobs.specs.SiteFile.{site_in};
-ghost use Rattle.station_jobs.specs.Statuses.{result_of_ending, line_of, status_of};
+ghost use Rattle.office_tables.specs.Prelude.{no_rows};
+ghost use Rattle.station_jobs.specs.Prelude.{IsUnread, map_of_file, map_line, IsOfStream, Replays, ServesOver, failed_reads, failed_writes, site_in};
+ghost use Rattle.station_jobs.specs.Prelude.{result_of_ending, line_of, status_of};
 
 use crate::failure::Failure;
 use crate::job::Job;

@@ -1,18 +1,12 @@
 //! Connections of a port of this machine, served one after another over the store in a file.
-ghost use Rattle.std.specs.Prelude.{◌≡◌, ◌≢◌, ◌⊎◌, ◌+◌, ◌<◌, ◌^◌, ◌++◌, ◌∷◌, []};
-ghost use Rattle.std.specs.Prelude.{List, Some, IfOk, IfErr, IsErrAnd, OnOk};
+ghost use Rattle.std.specs.Prelude.{◌≡◌, ◌≢◌, ◌⊎◌, ◌+◌, ◌<◌, ◌^◌, ◌++◌, ◌∷◌, [], List, Some, IfOk, IfErr, IsErrAnd, OnOk};
 ghost use Rattle.std.specs.Io.KnownBytes.{Appends, Keeps};
 ghost use Rattle.std.specs.Net.Addr.{ipv4_octets};
 ghost use Rattle.std.specs.Net.Socket.{v4_ip, v4_port};
-ghost use Rattle.http_serving.specs.Streams.{HttpExchange, Tells, requests_with_answers};
+ghost use Rattle.http_serving.specs.Prelude.{HttpExchange, Tells, requests_with_answers};
 ghost use Rattle.sqlite.specs.WalFiles.{image_at};
-ghost use Rattle.station_api.specs.Books.{Leads};
-ghost use Rattle.station_api.specs.HttpAnswers.{AreSaid};
-ghost use Rattle.station_jobs.specs.FileText.{IsUnread};
-ghost use Rattle.station_jobs.specs.Listening.{IsOfPort, LeadsOn, listening_line};
-ghost use Rattle.station_jobs.specs.Replaying.{IsOfStore};
-ghost use Rattle.station_jobs.specs.SiteFile.{site_in};
-ghost use Rattle.station_jobs.specs.Storing.{FromOpening, text_of_site};
+ghost use Rattle.station_api.specs.Prelude.{Leads, AreSaid};
+ghost use Rattle.station_jobs.specs.Prelude.{IsUnread, IsOfPort, LeadsOn, listening_line, IsOfStore, site_in, FromOpening, text_of_site};
 
 use crate::arrivals::Arrivals;
 use crate::ends::{ClientReader, ClientWriter, Line};
@@ -88,8 +82,7 @@ pub fn serve_site<'a, S: Start, W: Write>(
     let bytes = bytes_of_file(name, file)?;
     let site = site_text_of_bytes(alloc, name, bytes.as_slice())?;
 
-    // That this is the SHA-256 of the text is known of each text that was read.
-    let _digest = site.digest();
+    site.fact_digest();
     serve_store(rt, alloc, &site, store, door, output)
 }
 
@@ -144,6 +137,7 @@ fn serve_port<S: Alter, W: Write>(
         → failure ≢ Failure.AcceptFailed
         → Keeps (W.contents output.old) (W.contents output.new)) }
 {
+    site.fact_rules();
     let listener = listen(rt, door.port)?;
     if write_listening_line(door.port, output).is_err() {
         return Err(Failure::WriteFailed);
@@ -261,8 +255,7 @@ where
     ensures counted { OnOk result (connections.new.accepted ≡ connections.old.accepted + count) }
     ensures failed { IfErr result (λ failure. failure ≡ Failure.AcceptFailed) }
 {
-    // That the customers' sections are apart is known of each site that was read.
-    let _customers = site.customers();
+    site.fact_rules();
     for _turn in 0..count {
         let stream = connections.accept()?;
         let _ = serve_client(
@@ -295,6 +288,7 @@ where
     ensures was_honest { K.is_honest keep.new → K.is_honest keep.old }
     ensures reaches { LeadsOn K.Keep site.now keep.old keep.new }
 {
+    site.fact_rules();
     set_up(&stream, bounds)?;
     let line = Line::begin(clock, arrivals, bounds, stream)?;
     let mut reader = ClientReader::new(&line);
@@ -315,11 +309,11 @@ fn serve_connection<K: Keep, R: Source, W: Drain>(
     ensures was_honest { K.is_honest keep.new → K.is_honest keep.old }
 
     // Each request that was read whole has its reply, where the ends tell their bytes.
-    ensures served { (pieces : List HttpExchange)
+    ensures served { (exchanges : List HttpExchange)
         × Tells (R.left reader.old) (R.left reader.new)
-        (W.written writer.old) (W.written writer.new) result pieces
-        × AreSaid site.now (requests_with_answers pieces)
-        × Leads K.Keep site.now keep.old keep.new (requests_with_answers pieces) }
+        (W.written writer.old) (W.written writer.new) result exchanges
+        × AreSaid site.now (requests_with_answers exchanges)
+        × Leads K.Keep site.now keep.old keep.new (requests_with_answers exchanges) }
     ensures unserved { result ≡ Served.NoMemory → keep.new ≡ keep.old }
 {
     serve_stream(alloc, keep, site, reader, writer)

@@ -1,8 +1,7 @@
 //! The file of a site, and the site that it describes.
 ghost use Rattle.std.specs.Prelude.{◌≡◌, Ok, IfOk, IfErr, IsErrAnd};
-ghost use Rattle.text_core.specs.Answer.{GivesUnless, result_map};
-ghost use Rattle.station_jobs.specs.FileText.{IsUnread};
-ghost use Rattle.station_jobs.specs.SiteFile.{site_failure, site_in};
+ghost use Rattle.text_core.specs.Prelude.{GivesUnless, result_map};
+ghost use Rattle.station_jobs.specs.Prelude.{IsUnread, site_failure, site_in};
 
 use crate::failure::Failure;
 use crate::file_text::{read_file, text_of_file, unread};

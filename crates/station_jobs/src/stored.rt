@@ -1,10 +1,8 @@
 //! A store in a file: how it is opened, and a replay over it.
 ghost use Rattle.std.specs.Prelude.{◌≡◌, ◌⊎◌, ◌+◌, ◌<◌, ◌≤◌, ◌^◌, Some, IfOk, IfErr, IsErrAnd};
-ghost use Rattle.station_jobs.specs.FileText.{IsUnread};
-ghost use Rattle.office_store.specs.Faults.{open_fault_number};
-ghost use Rattle.station_jobs.specs.Replaying.{IsOfStore, IsOfStream, ServesOver, failed_reads, failed_writes};
-ghost use Rattle.station_jobs.specs.SiteFile.{site_in};
-ghost use Rattle.station_jobs.specs.Storing.{FromOpening, IsOpening, text_of_site};
+ghost use Rattle.station_jobs.specs.Prelude.{IsUnread, IsOfStore, IsOfStream, ServesOver, failed_reads, failed_writes, site_in, FromOpening, IsOpening};
+ghost use Rattle.station_jobs.specs.Prelude.{text_of_site};
+ghost use Rattle.office_store.specs.Prelude.{open_fault_number};
 ghost use Rattle.sqlite.specs.WalFiles.{image_at};
 
 use crate::failure::Failure;
@@ -67,8 +65,7 @@ pub fn replay_stored<'a, S: Start, R: Source, W: Drain>(
     let bytes = bytes_of_file(name, file)?;
     let site = site_text_of_bytes(alloc, name, bytes.as_slice())?;
 
-    // That this is the SHA-256 of the text is known of each text that was read.
-    let _digest = site.digest();
+    site.fact_digest();
     serve_stored(rt, alloc, &site, store, reader, writer)
 }
 

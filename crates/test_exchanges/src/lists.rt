@@ -1,6 +1,6 @@
 //! Conversations that are held by lists of requests, with no stream between the seats and the office.
 ghost use Rattle.std.specs.Prelude.{◌<◌, All, IfOk};
-ghost use Rattle.site_core.specs.Caller.{IsSeatCaller};
+ghost use Rattle.site_core.specs.Prelude.{IsSeatCaller};
 
 use office_core::site::{Caller, Site};
 use office_core::{Keep, Reply, SeatRequest, replay};

@@ -1,7 +1,8 @@
 -- More elements at the front of an array.
-use Rattle.std.proofs.Common.{◌≡◌, ℕ, ◌+◌, ◌-◌, ◌≤◌, List, ◌++◌, length, take, drop, replicate, sym, ap, ◌∙◌, arith, length-append, length-drop}
-use Rattle.std.proofs.lemmas.List.{drop-drop, drop-replicate, length-take-le, take-append-drop}
-use Rattle.text_core.specs.InPlace.{AreAtFront}
+use Rattle.std.proofs.Common.{◌≡◌, ℕ, ◌+◌, ◌-◌, ◌≤◌, List, ◌++◌, length, take, drop, replicate, sym, ap, ◌∙◌, arith, length-append, length-drop, drop-drop}
+use Rattle.std.proofs.Common.{length-take-le, take-append-drop}
+use Rattle.std.proofs.lemmas.List.{drop-replicate}
+use Rattle.text_core.specs.Prelude.{AreAtFront}
 
 -- an array with further elements put after those at its front
 pub appended_at_front : {X : Type 0} (size : ℕ) (blank : X) (array new put : List X) (len : ℕ) → AreAtFront size blank array len → len + length new ≤ size

@@ -1,6 +1,8 @@
 -- The lemmas of this crate.
 pub mod InFront
 pub mod Lists
+pub mod MachineLemmas
 pub mod Padding
 pub mod Results
 pub mod Shorts
+pub mod Kit

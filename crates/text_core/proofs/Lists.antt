@@ -2,7 +2,7 @@
 use Rattle.std.proofs.Common.{◌≡◌, ℕ, zero, suc, ◌+◌, ◌<◌, List, [], ◌∷◌, ◌++◌, length, get_or, take, map, Option, Some, None, option_map, option_and_then}
 use Rattle.std.proofs.Common.{refl, sym, ap, ◌∙◌, arith}
 use Rattle.std.proofs.lemmas.List.{take_more}
-use Rattle.text_core.specs.Options.{all_of}
+use Rattle.text_core.specs.Prelude.{all_of}
 
 -- the results, with one more at the end
 abbrev with_last : {B : Type 0} → Option B → List B → Option (List B)

@@ -1,7 +1,7 @@
 -- What a hole with a width and a zero before it writes.
 use Rattle.std.proofs.Common.{◌≡◌, ℕ, zero, suc, ◌-◌, ◌^◌, List, [], ◌++◌, length, replicate, decimal, false, refl, ap, arith, rules, tests, ◌==◌, append-nil}
 use Rattle.std.specs.Fmt.{padded_integral, format_spec, char_count, styled_decimal}
-use Rattle.text_core.specs.Padding.{zero_padded}
+use Rattle.text_core.specs.Prelude.{zero_padded}
 
 -- `{n:0width$x}`, of the numeral in that radix
 pub padded_integral-zeros : (width precision : ℕ) (numeral : List ℕ)

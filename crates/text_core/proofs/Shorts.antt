@@ -1,10 +1,8 @@
 -- A text copied to the front of zeros.
-use Rattle.std.proofs.Common.{◌≡◌, ℕ, ◌-◌, ◌≤◌, List, ◌++◌, length, drop, replicate, ◌∙◌, arith, length-append}
-use Rattle.std.specs.Str.{IsUtf8}
-use Rattle.std.proofs.lemmas.Str.{is_utf8-from_IsUtf8}
-use Rattle.std.proofs.lemmas.List.{drop-replicate, length-replicate}
-use Rattle.std.proofs.Math.Seq.{drop-append_seam, take-append_seam}
-use Rattle.text_core.specs.ShortText.{IsShortText}
+use Rattle.std.proofs.Common.{◌≡◌, ◌-◌, ◌≤◌, ◌++◌}
+use Rattle.text_core.proofs.Kit.{ℕ, List, length, drop, replicate, ◌∙◌, arith, length-append, IsUtf8, is_utf8-from_IsUtf8, drop-replicate, length-replicate}
+use Rattle.text_core.proofs.Kit.{drop-append_seam, take-append_seam}
+use Rattle.text_core.specs.Prelude.{IsShortText}
 
 pub IsShortText-copied : (size : ℕ) (text : List ℕ) → IsUtf8 text → length text ≤ size
     → IsShortText size (text ++ drop (length text) (replicate size 0)) (length text)

@@ -1,5 +1,6 @@
 -- What the contracts of this crate are made of.
-pub mod Answer
+pub mod Machines
+pub mod Memory
 pub mod Chip
 pub mod ShortBytes
 pub mod Digest
@@ -13,3 +14,4 @@ pub mod Readers
 pub mod Serial
 pub mod ShortText
 pub mod Time
+pub mod Prelude

@@ -1,8 +1,7 @@
 // The one loop that reads the items of an array.
 ghost use Rattle.std.specs.Prelude.{◌≡◌, IfOk, Option, option_map};
 ghost use Rattle.std.specs.Fn.{FnReturnsAt};
-ghost use Rattle.text_core.specs.Options.{all_of};
-ghost use Rattle.text_core.specs.Readers.{ReadsItems, ReadsOrFails};
+ghost use Rattle.text_core.specs.Prelude.{all_of, ReadsItems, ReadsOrFails};
 
 use std::alloc::{AllocError, Global};
 

@@ -1,8 +1,7 @@
 // Short texts that lie in place.
 ghost use Rattle.std.specs.Prelude.{◌≡◌, ◌≤◌, length, Some, nat_eq, refl};
 ghost use Rattle.std.specs.Cmp.{partial_equiv_from_equiv};
-ghost use Rattle.std.specs.Cmp.Lexicographic.{pointwise, slice_cmp, nat_list_cmp_total};
-ghost use Rattle.std.specs.Cmp.Lexicographic.{nat_list_eq_equiv, texts_po, texts_ties};
+ghost use Rattle.std.specs.Cmp.Lexicographic.{pointwise, slice_cmp, nat_list_cmp_total, nat_list_eq_equiv, texts_po, texts_ties};
 ghost use Rattle.std.specs.Ordering.{nat_cmp};
 
 use std::cmp::Ordering;

@@ -1,14 +1,10 @@
 -- What a text is read to be, for values that the members of a document are and that are judged.
-use Rattle.std.proofs.Common.{◌≡◌, ◌≢◌, ◌≤◌, ℕ, Bool, true, false, nat_lt, List, length, Option, Some, None, Result, Ok, Err}
-use Rattle.std.proofs.Common.{IfOk, IfErr, arith, inl, inr, refl, sym, ap}
-use Rattle.std.specs.Prelude.{if◌then◌else◌}
-use Rattle.std.specs.Option.{ok_or}
-use Rattle.std.proofs.lemmas.Bool.{ltb-false}
+use Rattle.std.proofs.Common.{◌≡◌, ◌≢◌, ◌≤◌, ℕ, Bool, true, false, nat_lt, List, length, Option, Some, None, Result, Ok, Err, IfOk, IfErr, arith, inl, inr}
+use Rattle.std.proofs.Common.{refl, sym, ap, if◌then◌else◌, ok_or, ltb-false}
 use Rattle.std.proofs.lemmas.Bool.Decides.{nat_tests}
 use Rattle.toml.specs.Data.{Data}
-use Rattle.text_core.specs.Answer.{GivesUnless, result_and_then}
-use Rattle.text_core.specs.Options.{◌>>=◌}
-use Rattle.toml_members.specs.Documents.{document_of}
+use Rattle.text_core.specs.Prelude.{GivesUnless, result_and_then, ◌>>=◌}
+use Rattle.toml_members.specs.Prelude.{document_of}
 
 module _ {A E : Type 0} (members : Data → Option A) (judge : A → Result A E)
     (not_toml bad_member over_limit : E) (limit : ℕ) where

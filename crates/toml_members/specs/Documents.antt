@@ -1,11 +1,9 @@
 -- A text as a TOML document, and the members of its tables.
 use Rattle.std.specs.Prelude.{ℕ, ℤ, pos, negsuc, List, [], ◌∷◌, Bool, false, ◌&&◌, nat_le, Option, Some, None, Result, option_and_then, option_map}
-use Rattle.std.specs.Prelude.{if◌then◌else◌}
-use Rattle.std.specs.Option.{ok_or}
+use Rattle.std.specs.Prelude.{if◌then◌else◌, ok_or}
 use Rattle.toml.specs.Data.{Data, Items, no_items, item, table, get, as_array, as_bool, as_integer, as_str}
 use Rattle.toml.specs.Parse.{parse_document}
-use Rattle.text_core.specs.Digest.{digest_of_text}
-use Rattle.text_core.specs.Name.{name_of_text}
+use Rattle.text_core.specs.Prelude.{digest_of_text, name_of_text}
 use Rattle.toml_members.specs.declared.DocumentFault.{DocumentFault}
 use Rattle.toml_members.specs.declared.DocumentFault.TheVariants.{NotToml}
 

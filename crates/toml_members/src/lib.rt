@@ -4,11 +4,9 @@
 ghost use Rattle.std.specs.Prelude.{◌≡◌, ◌≤◌, IfOk, IfSome, Option, map, option_map};
 ghost use Rattle.toml.specs.Data.{Data};
 ghost use Rattle.toml.specs.View.{view};
-ghost use Rattle.text_core.specs.Answer.{GivesUnless, result_map};
-ghost use Rattle.text_core.specs.Options.{all_of};
-ghost use Rattle.text_core.specs.Readers.{ReadsItems, ReadsOrFails};
+ghost use Rattle.text_core.specs.Prelude.{GivesUnless, result_map, all_of, ReadsItems, ReadsOrFails};
 ghost use Rattle.toml_members.specs.Documents as documents;
-ghost use Rattle.toml_members.specs.Documents.{document_read};
+ghost use Rattle.toml_members.specs.Prelude.{document_read};
 
 use std::alloc::{AllocError, Global};
 use text_core::{Digest, Name};

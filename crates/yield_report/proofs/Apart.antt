@@ -1,19 +1,13 @@
 -- Which line can have a serial number of a width, by the places of serial numbers.
-use Rattle.std.proofs.Common.{◌≡◌, ℕ, suc, ◌+◌, ◌-◌, ◌<◌, ◌≤◌, Bool, true, false, not, List, [], ◌∷◌, map, length, get_or, Ordering, Less, inl, inr}
-use Rattle.std.proofs.Common.{sym, ap, ◌∙◌, subst, arith}
-use Rattle.std.specs.Cmp.{IsTotalOrder}
-use Rattle.std.specs.List.{All, AllAdjacentBelow, AllByRecursion, IsAllAdjacentAnswer}
-use Rattle.std.specs.List.Sorted.{IsPartitionedBy, IsPermutation, IsStrictlySortedBy}
-use Rattle.std.specs.Ordering.{is_gt, nat_cmp}
-use Rattle.std.proofs.lemmas.Bool.{both_ways, cases_eq, cases_lt, not-true}
-use Rattle.std.proofs.lemmas.Bool.Decides.{nat_tests}
-use Rattle.std.proofs.lemmas.Cmp.{nat_cmp_total, nat_list_cmp_total, on_total, then_total, tied_itself, upto}
-use Rattle.std.proofs.lemmas.List.Elements.{All-get_or, recursion_from_All}
-use Rattle.std.proofs.lemmas.List.Sorted.{All-permutation}
-use Rattle.std.proofs.lemmas.Map.Keys.{Less-from_sorted}
-use Rattle.id_ranges.specs.Range.{Range, Has}
-use Rattle.yield_report.specs.Lines.{names_cmp, AreLines, IsLine}
-use Rattle.yield_report.specs.Places.{first_place, is_begun, last_place, lines_cmp, place_cmp, place_of, stands_before, AreApart, AreBegun}
+use Rattle.std.proofs.Common.{◌≡◌, ◌+◌, ◌-◌, ◌<◌, ◌≤◌, ◌∷◌, get_or, Ordering}
+use Rattle.text_core.proofs.Kit.{ℕ, suc, Bool, true, false, not, List, [], map, length, Less, inl, inr, sym, ap, ◌∙◌, subst, arith, IsTotalOrder, All}
+use Rattle.text_core.proofs.Kit.{AllAdjacentBelow, AllByRecursion, IsAllAdjacentAnswer, IsPartitionedBy, IsPermutation, is_gt, nat_cmp, both_ways, cases_eq}
+use Rattle.text_core.proofs.Kit.{cases_lt, not-true, nat_tests, nat_cmp_total, nat_list_cmp_total, on_total, then_total, tied_itself, upto, All-get_or}
+use Rattle.text_core.proofs.Kit.{recursion_from_All, All-permutation, Less-from_sorted}
+use Rattle.std.specs.List.Sorted.{IsStrictlySortedBy}
+use Rattle.id_ranges.specs.Prelude.{Range, Has}
+use Rattle.yield_report.specs.Prelude.{names_cmp, AreLines, IsLine, first_place, is_begun, last_place, lines_cmp, place_cmp, place_of, stands_before, AreApart}
+use Rattle.yield_report.specs.Prelude.{AreBegun}
 use Rattle.yield_report.specs.declared.lines.OrderLine.{OrderLine}
 use Rattle.yield_report.specs.declared.places.Place.{Place}
 use Rattle.yield_report.proofs.InOrder.{less_upto, lt_is_less, not_less_back, sorted_map, upto_less}

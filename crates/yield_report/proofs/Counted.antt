@@ -1,23 +1,12 @@
 -- Devices counted in the lines of orders.
-use Rattle.std.proofs.Common.{◌≡◌, ℕ, ◌+◌, ◌<◌, true, false, cond, List, [], ◌∷◌, map, length, get_or, slice_set, Ordering, Less, Equal, Greater}
-use Rattle.std.proofs.Common.{Result, Ok, Err, inl, inr, refl, sym, ap, ◌∙◌, subst, arith}
-use Rattle.std.specs.Prelude.{bytes_eq, fold}
-use Rattle.std.specs.List.Sorted.{IsBinarySearchResult, IsSortedBy}
-use Rattle.std.specs.Ordering.{is_eq, is_lt, ordering_reverse}
-use Rattle.std.proofs.lemmas.Bool.{cases_lt}
-use Rattle.std.proofs.lemmas.Cmp.{nat_list_cmp_total, nat_list_eq_equiv}
-use Rattle.std.proofs.lemmas.List.{map-id}
-use Rattle.std.proofs.lemmas.List.Sorted.{searchable_from_sorted}
-use Rattle.std.proofs.lemmas.Map.Keys.{Less-from_sorted}
-use Rattle.std.proofs.lemmas.Map.Text.{is_eq-slice_cmp}
-use Rattle.std.proofs.lemmas.Slice.Eq.{bytes_eq-Decides}
-use Rattle.office_tables.specs.Tables.{text_cmp}
+use Rattle.std.proofs.Common.{◌≡◌, ◌+◌, ◌<◌, ◌∷◌, get_or, Ordering}
+use Rattle.text_core.proofs.Kit.{ℕ, true, false, cond, List, [], map, length, slice_set, Less, Equal, Greater, Result, Ok, Err, inl, inr, refl, sym, ap, ◌∙◌}
+use Rattle.text_core.proofs.Kit.{subst, arith, bytes_eq, fold, IsBinarySearchResult, IsSortedBy, is_eq, is_lt, ordering_reverse, cases_lt, nat_list_cmp_total}
+use Rattle.text_core.proofs.Kit.{nat_list_eq_equiv, map-id, searchable_from_sorted, Less-from_sorted, is_eq-slice_cmp, bytes_eq-Decides}
+use Rattle.office_tables.specs.Prelude.{text_cmp, Visits}
 use Rattle.office_tables.specs.declared.rows.Device.{Device}
 use Rattle.office_tables.specs.declared.rows.OfCustomer.{OfCustomer}
-use Rattle.office_tables.specs.Keeping.{Visits}
-use Rattle.yield_report.specs.Counting.{with_device}
-use Rattle.yield_report.specs.Counts.{Yield, devices_of}
-use Rattle.yield_report.specs.Lines.{counted, names_cmp, AreInOrder, AreLines, CountsDevice}
+use Rattle.yield_report.specs.Prelude.{with_device, Yield, devices_of, counted, names_cmp, AreInOrder, AreLines, CountsDevice}
 use Rattle.yield_report.specs.declared.devices.DeviceScan.{DeviceScan}
 use Rattle.yield_report.specs.declared.lines.OrderLine.{OrderLine}
 use Rattle.yield_report.proofs.InOrder.{kept_on_walk, map_at, map_both, map_none, sorted_map}

@@ -1,25 +1,14 @@
 -- The digits of a range's serial numbers, and the numbers that they write.
-use Rattle.std.proofs.Common.{◌≡◌, ◌≢◌, ℕ, zero, suc, ◌+◌, ◌-◌, ◌*◌, ◌^◌, ◌<◌, ◌≤◌, Bool, true, false, List, ◌++◌, length, take, drop, get_or, replicate}
-use Rattle.std.proofs.Common.{decimal, Some, None, inl, inr, refl, sym, ap, ◌∙◌, arith}
-use Rattle.std.specs.Str.{bytes_eq}
-use Rattle.std.specs.Str.Parse.{digits_value, AllDigits}
-use Rattle.std.specs.Prelude.{◌&&◌, nat_le}
-use Rattle.std.specs.List.{list_all, list_any, range_with_len}
-use Rattle.std.proofs.Math.Nat.{pow-le-pow_right}
-use Rattle.std.proofs.lemmas.Bool.{and_from, and_parts, both_ways, cases_lt, le-leb, leb-true, or_left, or_right, or_from, false_from_ne_true}
-use Rattle.std.proofs.lemmas.Slice.Eq.{bytes_eq-Decides}
-use Rattle.std.proofs.lemmas.Option.{none-some, same_Some}
-use Rattle.std.proofs.lemmas.Int.Digits.{digits_value-lt, digits_value_more}
-use Rattle.std.proofs.lemmas.Str.{digit_value_digit}
-use Rattle.std.proofs.lemmas.Str.Parse.{digit_at, digits_value-take-le}
-use Rattle.std.proofs.lemmas.Fmt.{decimal_is_IsNumeral}
-use Rattle.std.proofs.lemmas.List.{drop_at, take_at, take_rest}
-use Rattle.text_core.specs.Padding.{zero_padded}
-use Rattle.id_ranges.specs.Range.{Range, IsRange, Has, serial_text_of}
-use Rattle.text_core.specs.Prefix.{is_prefix, prefix_of_text}
-use Rattle.text_core.specs.Serial.{is_serial, is_serial_byte}
+use Rattle.std.proofs.Common.{◌≡◌, ◌≢◌, ◌+◌, ◌-◌, ◌*◌, ◌^◌, ◌<◌, ◌≤◌, ◌++◌, get_or, ◌&&◌}
+use Rattle.text_core.proofs.Kit.{ℕ, zero, suc, Bool, true, false, List, length, take, drop, replicate, decimal, Some, None, inl, inr, refl, sym, ap, ◌∙◌, arith}
+use Rattle.text_core.proofs.Kit.{bytes_eq, digits_value, AllDigits, nat_le, list_all, list_any, range_with_len, pow-le-pow_right, and_from, and_parts}
+use Rattle.text_core.proofs.Kit.{both_ways, cases_lt, le-leb, leb-true, or_left, or_right, or_from, false_from_ne_true, bytes_eq-Decides, none-some, same_Some}
+use Rattle.text_core.proofs.Kit.{digits_value-lt, digits_value_more, digit_value_digit, digit_at, digits_value-take-le, decimal_is_IsNumeral, drop_at, take_at}
+use Rattle.text_core.proofs.Kit.{take_rest}
+use Rattle.text_core.specs.Prelude.{zero_padded, is_prefix, prefix_of_text, is_serial, is_serial_byte}
+use Rattle.id_ranges.specs.Prelude.{Range, IsRange, Has, serial_text_of}
 use Rattle.id_ranges.proofs.Texts.{is_small, length-serial_text_of}
-use Rattle.yield_report.specs.Serials.{has_serial}
+use Rattle.yield_report.specs.Prelude.{has_serial}
 
 -- at most nine digits write a small number
 pub value_is_small : (digits : List ℕ) (i : ℕ) → AllDigits 10 digits → length digits ≤ 9 → digits_value 10 (take i digits) < 1000000000

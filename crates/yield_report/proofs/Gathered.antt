@@ -1,18 +1,13 @@
 -- The lines of a customer's orders.
-use Rattle.std.proofs.Common.{◌≡◌, ◌+◌, ◌-◌, ◌<◌, true, false, List, [], ◌∷◌, ◌++◌, Some, inl, inr, map, length, get_or, refl, sym, ap, ap₂, ◌∙◌, subst, arith}
-use Rattle.std.proofs.Common.{length-append}
-use Rattle.std.specs.Prelude.{option_map, slice_get}
+use Rattle.std.proofs.Common.{◌≡◌, ◌+◌, ◌-◌, ◌<◌, ◌∷◌, ◌++◌, get_or}
+use Rattle.text_core.proofs.Kit.{true, false, List, [], Some, inl, inr, map, length, refl, sym, ap, ap₂, ◌∙◌, subst, arith, length-append, option_map}
+use Rattle.text_core.proofs.Kit.{slice_get, cases_lt, append_assoc, append-nil, get_or_append_left, get_or_default, get_or_push, sorted_from_all_adjacent}
+use Rattle.text_core.proofs.Kit.{Less-from_sorted, slice_get_read}
 use Rattle.std.specs.List.Sorted.{IsStrictlySortedBy}
-use Rattle.std.proofs.lemmas.Bool.{cases_lt}
-use Rattle.std.proofs.lemmas.List.{append_assoc, append-nil, get_or_append_left, get_or_default, get_or_push}
-use Rattle.std.proofs.lemmas.Map.Keys.{sorted_from_all_adjacent, Less-from_sorted}
-use Rattle.std.proofs.lemmas.Option.{slice_get_read}
-use Rattle.office_tables.specs.Tables.{text_cmp}
+use Rattle.office_tables.specs.Prelude.{text_cmp, Visits}
 use Rattle.office_tables.specs.declared.rows.Order.{Order}
 use Rattle.office_tables.specs.declared.rows.OfCustomer.{OfCustomer}
-use Rattle.office_tables.specs.Keeping.{Visits}
-use Rattle.yield_report.specs.Lines.{first_line, name_follows, names_cmp, AreInOrder, AreLines, GathersOrder}
-use Rattle.yield_report.specs.Serials.{follows}
+use Rattle.yield_report.specs.Prelude.{first_line, name_follows, names_cmp, AreInOrder, AreLines, GathersOrder, follows}
 use Rattle.yield_report.specs.declared.lines.OrderScan.{OrderScan}
 use Rattle.yield_report.specs.declared.lines.OrderLine.{OrderLine}
 use Rattle.yield_report.proofs.Apart.{names_total}

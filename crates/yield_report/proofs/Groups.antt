@@ -1,20 +1,11 @@
 -- The lines of an issuer stand one after the other where lines are apart.
-use Rattle.std.proofs.Common.{◌≡◌, ℕ, suc, ◌+◌, ◌-◌, ◌<◌, Bool, true, false, List, [], ◌∷◌, length, take, get_or, None, Some, Ordering, Less, Equal, Greater}
-use Rattle.std.proofs.Common.{inl, inr, refl, sym, ap, ◌∙◌, subst, arith}
-use Rattle.std.specs.Prelude.{◌||◌, bytes_eq, if◌then◌else◌}
-use Rattle.std.specs.List.{list_any}
-use Rattle.std.specs.Ordering.{is_eq, is_gt, ordering_reverse, ordering_then}
-use Rattle.std.proofs.lemmas.Bool.{both_ways, cases_Bool, or_from, or_left, or_right, false_from_ne_true}
-use Rattle.std.proofs.lemmas.Cmp.{nat_list_cmp_total}
-use Rattle.std.proofs.lemmas.List.{get_or-take, get_or_default, length-take, take_more}
-use Rattle.std.proofs.lemmas.List.Folds.{list_any-append}
-use Rattle.std.proofs.lemmas.Map.Keys.{Less-from_sorted}
-use Rattle.std.proofs.lemmas.Map.Text.{is_eq-slice_cmp}
-use Rattle.std.proofs.lemmas.Option.{slice_get_read}
-use Rattle.std.proofs.lemmas.Slice.Eq.{bytes_eq-Decides}
-use Rattle.office_tables.specs.Tables.{text_cmp}
-use Rattle.yield_report.specs.Lines.{is_met, new_issuer}
-use Rattle.yield_report.specs.Places.{lines_cmp, AreApart}
+use Rattle.std.proofs.Common.{◌≡◌, ◌+◌, ◌-◌, ◌<◌, ◌∷◌, get_or, Ordering, ◌||◌, if◌then◌else◌}
+use Rattle.text_core.proofs.Kit.{ℕ, suc, Bool, true, false, List, [], length, take, None, Some, Less, Equal, Greater, inl, inr, refl, sym, ap, ◌∙◌, subst}
+use Rattle.text_core.proofs.Kit.{arith, bytes_eq, list_any, is_eq, is_gt, ordering_reverse, ordering_then, both_ways, cases_Bool, or_from, or_left, or_right}
+use Rattle.text_core.proofs.Kit.{false_from_ne_true, nat_list_cmp_total, get_or-take, get_or_default, length-take, take_more, list_any-append, Less-from_sorted}
+use Rattle.text_core.proofs.Kit.{is_eq-slice_cmp, slice_get_read, bytes_eq-Decides}
+use Rattle.office_tables.specs.Prelude.{text_cmp}
+use Rattle.yield_report.specs.Prelude.{is_met, new_issuer, lines_cmp, AreApart}
 use Rattle.yield_report.specs.declared.lines.OrderLine.{OrderLine}
 
 any_none : {X : Type 0} (p : X → Bool) (xs : List X) → ((k : ℕ) (d : X) → k < length xs → p (get_or xs k d) ≡ false) → list_any p xs ≡ false

@@ -1,19 +1,13 @@
 -- Lists in order, and lists of which a function changes one element.
-use Rattle.std.proofs.Common.{◌≡◌, ◌⊎◌, ℕ, zero, suc, ◌+◌, ◌<◌, Bool, true, false, cond, List, [], ◌∷◌, map, length}
-use Rattle.std.proofs.Common.{get_or, slice_set, Ordering, Less, Equal, Greater}
-use Rattle.std.proofs.Common.{inl, inr, refl, sym, ap, ap₂, ◌∙◌, subst, arith}
-use Rattle.std.specs.Cmp.{IsTotalOrder}
-use Rattle.std.specs.List.{AllByRecursion, Contains}
-use Rattle.std.specs.List.Sorted.{IsPermutation, IsSortedBy, IsStrictlySortedBy}
-use Rattle.std.specs.Ordering.{eq_by_cmp, is_eq, is_gt, is_lt, ordering_reverse}
-use Rattle.std.proofs.lemmas.Bool.{both_ways, cases_Bool, cases_eq}
-use Rattle.std.proofs.lemmas.Cmp.{tied_itself, upto}
-use Rattle.std.proofs.lemmas.List.{get_or-map, get_or-set_other, get_or-set_same, get_or_read, length-map, length-set, same_lists}
-use Rattle.std.proofs.lemmas.List.Elements.{All-contains, All-from_recursion}
-use Rattle.std.proofs.lemmas.List.Sorted.{Contains-permutation, IsPermutation-sym}
-use Rattle.std.proofs.lemmas.Map.Keys.{apart_from_distinct, sorted_from_all_adjacent, sorted_head, sorted_tail}
-use Rattle.std.proofs.lemmas.Map.Keys.{IsDistinct-IsPermutation, IsDistinct-from_sorted}
-use Rattle.office_tables.specs.Keeping.{Visits}
+use Rattle.std.proofs.Common.{◌≡◌, ◌⊎◌, ◌+◌, ◌<◌, ◌∷◌, get_or, Ordering}
+use Rattle.text_core.proofs.Kit.{ℕ, zero, suc, Bool, true, false, cond, List, [], map, length, slice_set, Less, Equal, Greater, inl, inr, refl, sym, ap, ap₂}
+use Rattle.text_core.proofs.Kit.{◌∙◌, subst, arith, IsTotalOrder, AllByRecursion, Contains, IsPermutation, IsSortedBy, eq_by_cmp, is_eq, is_gt, is_lt}
+use Rattle.text_core.proofs.Kit.{ordering_reverse, both_ways, cases_Bool, cases_eq, tied_itself, upto, get_or-set_other, get_or-set_same, get_or_read}
+use Rattle.text_core.proofs.Kit.{length-map, length-set, same_lists, All-contains, All-from_recursion, Contains-permutation, IsPermutation-sym}
+use Rattle.text_core.proofs.Kit.{apart_from_distinct, sorted_from_all_adjacent, sorted_head, sorted_tail, IsDistinct-IsPermutation, IsDistinct-from_sorted}
+use Rattle.std.specs.List.Sorted.{IsStrictlySortedBy}
+use Rattle.std.proofs.lemmas.List.{get_or-map}
+use Rattle.office_tables.specs.Prelude.{Visits}
 
 -- one function after another, element by element
 pub map_both : {X Y Z : Type 0} (f : Y → Z) (g : X → Y) (h : X → Z) → ((x : X) → f (g x) ≡ h x) → (xs : List X) → map f (map g xs) ≡ map h xs

@@ -1,23 +1,13 @@
 -- One walk for each issuer leaves each line what isn't given in its own.
-use Rattle.std.proofs.Common.{Option, ◌≡◌, ℕ, ◌+◌, ◌<◌, Bool, true, false, not, List, [], ◌∷◌, ◌++◌, map, length, take, None, Some, inl, inr, refl}
-use Rattle.std.proofs.Common.{sym, ap, ap₂, ◌∙◌, subst, arith, cond}
-use Rattle.std.specs.Prelude.{◌||◌, bytes_eq, if◌then◌else◌, option_and_then, option_map, slice_get}
-use Rattle.std.specs.List.{list_any, AllByRecursion}
-use Rattle.std.proofs.lemmas.Bool.{or_left, or_right}
-use Rattle.std.proofs.lemmas.Cmp.{nat_list_eq_equiv}
-use Rattle.std.proofs.lemmas.List.{append_assoc, take-map, take_more}
-use Rattle.std.proofs.lemmas.List.Elements.{filter_agree}
-use Rattle.std.proofs.lemmas.List.Folds.{list_any-append}
-use Rattle.std.proofs.lemmas.Option.{none-some, same_Some, slice_get-map, slice_get_cases}
-use Rattle.std.proofs.lemmas.Slice.Eq.{bytes_eq-Decides}
-use Rattle.id_ranges.specs.NextSerial.{is_unused}
-use Rattle.id_ranges.specs.Range.{IsRange, numbers, serial_text_of}
-use Rattle.office_tables.specs.Tables.{Tables}
-use Rattle.yield_report.specs.Counts.{HasIssued}
-use Rattle.yield_report.specs.Lines.{count_of_range, issued_count, is_met, left_in, left_so_far, less, new_issuer, taken, IsLine}
-use Rattle.yield_report.specs.Places.{AreApart}
-use Rattle.yield_report.specs.Reports.{has_issued_in}
-use Rattle.yield_report.specs.Serials.{serials_of, AreRising}
+use Rattle.text_core.proofs.Kit.{Option, ℕ, Bool, true, false, not, List, [], map, length, take, None, Some, inl, inr, refl, sym, ap, ap₂, ◌∙◌, subst, arith}
+use Rattle.text_core.proofs.Kit.{cond, bytes_eq, option_and_then, option_map, slice_get, list_any, AllByRecursion, or_left, or_right, nat_list_eq_equiv}
+use Rattle.text_core.proofs.Kit.{append_assoc, take-map, take_more, filter_agree, list_any-append, none-some, same_Some, slice_get-map, slice_get_cases}
+use Rattle.text_core.proofs.Kit.{bytes_eq-Decides}
+use Rattle.std.proofs.Common.{◌≡◌, ◌+◌, ◌<◌, ◌∷◌, ◌++◌, ◌||◌, if◌then◌else◌}
+use Rattle.id_ranges.specs.Prelude.{is_unused, IsRange, numbers, serial_text_of}
+use Rattle.office_tables.specs.Prelude.{Tables}
+use Rattle.yield_report.specs.Prelude.{HasIssued, count_of_range, issued_count, is_met, left_in, left_so_far, less, new_issuer, taken, IsLine, AreApart}
+use Rattle.yield_report.specs.Prelude.{has_issued_in, serials_of, AreRising}
 use Rattle.yield_report.specs.declared.lines.OrderLine.{OrderLine}
 use Rattle.yield_report.proofs.Apart.{apart_map}
 use Rattle.yield_report.proofs.InOrder.{either}

@@ -2,8 +2,8 @@
 use Rattle.std.proofs.Common.{◌≡◌, ℕ, suc, ◌+◌, ◌-◌, ◌<◌, List, ◌∷◌, ◌++◌, length, take, drop, get_or, map, Ordering, Equal, sym, ap, ◌∙◌, arith}
 use Rattle.std.specs.Ordering.{match_ordering}
 use Rattle.std.proofs.lemmas.List.{drop_more, get_or-map, length-map}
-use Rattle.site_core.specs.Section.{Section}
-use Rattle.office_tables.specs.Tables.{with_row}
+use Rattle.site_core.specs.Prelude.{Section}
+use Rattle.office_tables.specs.Prelude.{with_row}
 
 -- the places so far are passed over
 abbrev pub IsPassed : {A : Type 0} → (A → A → Ordering) → A → List A → ℕ → Type 0

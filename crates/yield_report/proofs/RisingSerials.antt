@@ -1,21 +1,14 @@
 -- How many serial numbers of a range are left, where the given ones rise.
-use Rattle.std.proofs.Common.{◌≡◌, ℕ, zero, suc, ◌+◌, ◌<◌, ◌≤◌, Bool, true, false, not, List, [], ◌∷◌, length, Option, Some}
-use Rattle.std.proofs.Common.{inl, inr, refl, sym, ap, ◌∙◌, arith, cond}
-use Rattle.std.specs.Prelude.{◌||◌, filter, find, is_some}
-use Rattle.std.specs.List.{list_any, range_with_len}
-use Rattle.std.specs.Ordering.{is_eq, is_lt}
-use Rattle.std.specs.Str.{bytes_eq}
-use Rattle.std.proofs.lemmas.Bool.{cases_Bool, or_from, false_from_ne_true}
-use Rattle.std.proofs.lemmas.Bool.Decides.{nat_tests}
-use Rattle.std.proofs.lemmas.Cmp.{nat_list_cmp_total, nat_list_eq_equiv}
-use Rattle.std.proofs.lemmas.Map.Text.{is_eq-slice_cmp}
-use Rattle.std.proofs.lemmas.Slice.Eq.{bytes_eq-Decides}
-use Rattle.id_ranges.specs.Range.{Range, IsRange, numbers, serial_text_of}
+use Rattle.std.proofs.Common.{◌≡◌, ◌+◌, ◌<◌, ◌≤◌, ◌∷◌, ◌||◌}
+use Rattle.text_core.proofs.Kit.{ℕ, zero, suc, Bool, true, false, not, List, [], length, Option, Some, inl, inr, refl, sym, ap, ◌∙◌, arith, cond, filter, find}
+use Rattle.text_core.proofs.Kit.{is_some, list_any, range_with_len, is_eq, is_lt, bytes_eq, cases_Bool, or_from, false_from_ne_true, nat_tests}
+use Rattle.text_core.proofs.Kit.{nat_list_cmp_total, nat_list_eq_equiv, is_eq-slice_cmp, bytes_eq-Decides}
+use Rattle.id_ranges.specs.Prelude.{Range, IsRange, numbers, serial_text_of}
 use Rattle.id_ranges.proofs.Texts.{same_number}
 use Rattle.office_tables.specs.declared.rows.Given.{Given}
 use Rattle.office_tables.specs.declared.rows.OfCustomer.{OfCustomer}
-use Rattle.office_tables.specs.Tables.{is_serial_of, is_of_issuer, text_cmp}
-use Rattle.yield_report.specs.Serials.{has_serial, serials_in, AreRising}
+use Rattle.office_tables.specs.Prelude.{is_serial_of, is_of_issuer, text_cmp}
+use Rattle.yield_report.specs.Prelude.{has_serial, serials_in, AreRising}
 use Rattle.yield_report.proofs.InOrder.{lt_is_less}
 
 -- the text isn't one of these

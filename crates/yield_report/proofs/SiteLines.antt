@@ -1,15 +1,11 @@
 -- The sums of lines, and the lines of a site's report.
-use Rattle.std.proofs.Common.{◌≡◌, ℕ, ◌+◌, ◌<◌, ◌≤◌, List, [], ◌∷◌, ◌++◌, length, take, get_or, map, subst, refl, sym, ap, ap₂, ◌∙◌}
-use Rattle.std.specs.List.{All}
+use Rattle.std.proofs.Common.{◌≡◌, ℕ, ◌+◌, ◌<◌, ◌≤◌, List, [], ◌∷◌, ◌++◌, length, take, get_or, map, subst, refl, sym, ap, ap₂, ◌∙◌, All}
 use Rattle.std.proofs.lemmas.List.{length-map, map_push, take_more}
 use Rattle.std.proofs.lemmas.List.Elements.{recursion_from_All, All-push}
-use Rattle.site_core.specs.Section.{SiteValue}
-use Rattle.office_tables.specs.Tables.{Tables, rows_of}
-use Rattle.yield_report.specs.Counts.{Yield, total}
-use Rattle.yield_report.specs.Lines.{whole_line}
-use Rattle.yield_report.specs.Reports.{customer_line_in, customers_in_order, has_issued_in, IsSiteReport}
-use Rattle.yield_report.specs.Rows.{named_numbers, numbers_in, with_report_row, AreWhole, FitsCustomer}
-use Rattle.yield_report.specs.Texts.{customer_total, report_text, site_header, AreStorable}
+use Rattle.site_core.specs.Prelude.{SiteValue}
+use Rattle.office_tables.specs.Prelude.{Tables, rows_of}
+use Rattle.yield_report.specs.Prelude.{Yield, total, whole_line, customer_line_in, customers_in_order, has_issued_in, IsSiteReport, named_numbers, numbers_in}
+use Rattle.yield_report.specs.Prelude.{with_report_row, AreWhole, FitsCustomer, customer_total, report_text, site_header, AreStorable}
 use Rattle.yield_report.specs.declared.lines.OrderLine.{OrderLine}
 use Rattle.yield_report.proofs.InOrder.{map_both}
 use Rattle.yield_report.proofs.WholeLines.{report_more}

@@ -1,16 +1,12 @@
 -- The serial numbers of an issuer's records, taken from the lines of orders.
-use Rattle.std.proofs.Common.{◌≡◌, ℕ, zero, suc, ◌+◌, ◌-◌, Bool, true, false, List, [], ◌∷◌, map, length, slice_set, refl, sym, ap, ◌∙◌, subst, arith, cond}
-use Rattle.std.specs.Prelude.{filter, bytes_eq, slice_index}
-use Rattle.std.proofs.lemmas.Bool.Decides.{nat_tests}
-use Rattle.std.proofs.lemmas.List.{map-id, set-get_or}
+use Rattle.std.proofs.Common.{◌≡◌, ◌+◌, ◌-◌, ◌∷◌}
+use Rattle.text_core.proofs.Kit.{ℕ, zero, suc, Bool, true, false, List, [], map, length, slice_set, refl, sym, ap, ◌∙◌, subst, arith, cond, filter, bytes_eq}
+use Rattle.text_core.proofs.Kit.{slice_index, nat_tests, map-id, set-get_or}
 use Rattle.office_tables.specs.declared.rows.Given.{Given}
 use Rattle.office_tables.specs.declared.rows.OfCustomer.{OfCustomer}
-use Rattle.office_tables.specs.Keeping.{Visits}
-use Rattle.yield_report.specs.Counting.{left_place, with_less}
-use Rattle.yield_report.specs.Counts.{Yield}
-use Rattle.yield_report.specs.Lines.{count_of_range, less, taken, AreLines, TakesSerial}
-use Rattle.yield_report.specs.Places.{AreApart}
-use Rattle.yield_report.specs.Serials.{has_serial, serials_in, AreRising}
+use Rattle.office_tables.specs.Prelude.{Visits}
+use Rattle.yield_report.specs.Prelude.{left_place, with_less, Yield, count_of_range, less, taken, AreLines, TakesSerial, AreApart, has_serial, serials_in}
+use Rattle.yield_report.specs.Prelude.{AreRising}
 use Rattle.yield_report.specs.declared.left.GivenScan.{GivenScan}
 use Rattle.yield_report.specs.declared.lines.OrderLine.{OrderLine}
 use Rattle.yield_report.proofs.Apart.{apart_map}

@@ -1,28 +1,18 @@
 -- The lines of orders, once all rows were read, and their report.
-use Rattle.std.proofs.Common.{◌≡◌, ℕ, ◌+◌, ◌-◌, Bool, true, false, List, [], ◌∷◌, ◌++◌, map, length, length-append, refl, sym, ap, ◌∙◌, subst, arith, cond}
-use Rattle.std.specs.Prelude.{◌==◌, filter, fold, if◌then◌else◌}
-use Rattle.std.specs.List.{AllByRecursion}
-use Rattle.std.specs.List.Sorted.{IsPermutation, IsSortedByKey}
-use Rattle.std.proofs.lemmas.List.{append-nil, append_assoc, flat_map_more, map_push}
-use Rattle.std.proofs.lemmas.List.Sorted.{IsPermutation-map, IsPermutation-trans}
-use Rattle.std.proofs.lemmas.List.Elements.{filter-append, recursion_from_All}
+use Rattle.std.proofs.Common.{◌≡◌, ◌+◌, ◌-◌, ◌∷◌, ◌++◌, ◌==◌, if◌then◌else◌}
+use Rattle.text_core.proofs.Kit.{ℕ, Bool, true, false, List, [], map, length, length-append, refl, sym, ap, ◌∙◌, subst, arith, cond, filter, fold}
+use Rattle.text_core.proofs.Kit.{AllByRecursion, IsPermutation, IsSortedByKey, append-nil, append_assoc, flat_map_more, map_push, IsPermutation-map}
+use Rattle.text_core.proofs.Kit.{IsPermutation-trans, filter-append, recursion_from_All, length-range_with_len, count_by-le-length, length-filter}
 use Rattle.csv.specs.Writing.{default_writer, row_text}
-use Rattle.std.proofs.lemmas.List.FromFn.{length-range_with_len}
-use Rattle.std.proofs.lemmas.List.Sums.{count_by-le-length, length-filter}
-use Rattle.id_ranges.specs.NextSerial.{is_unused}
-use Rattle.id_ranges.specs.Range.{numbers}
+use Rattle.id_ranges.specs.Prelude.{is_unused, numbers}
 use Rattle.office_tables.specs.declared.rows.Device.{Device}
 use Rattle.office_tables.specs.declared.rows.DeviceState.{DeviceState}
-use Rattle.office_tables.specs.declared.rows.DeviceState.TheVariants.{Registered}
 use Rattle.office_tables.specs.declared.rows.Order.{Order}
-use Rattle.office_tables.specs.States.{state_row}
-use Rattle.office_tables.specs.Tables.{Tables, rows_of, text_cmp}
-use Rattle.yield_report.specs.Counting.{with_device, with_less}
-use Rattle.yield_report.specs.Counts.{HasIssued, Yield, columns, count_in, devices_of, serials_left, yield_of, yield_with}
-use Rattle.yield_report.specs.Lines.{counted, first_line, left_in, names_cmp, whole_line, AreInOrder, AreLines, IsLine}
-use Rattle.yield_report.specs.Reports.{has_issued_in, IsOrderReport}
-use Rattle.yield_report.specs.Rows.{line_fields, lines_text}
-use Rattle.yield_report.specs.Texts.{order_header, report_text, AreStorable}
+use Rattle.office_tables.specs.Prelude.{state_row, Tables, rows_of, text_cmp}
+use Rattle.office_tables.specs.declared.rows.DeviceState.TheVariants.{Registered}
+use Rattle.yield_report.specs.Prelude.{with_device, with_less, HasIssued, Yield, columns, count_in, devices_of, serials_left, yield_of, yield_with, counted}
+use Rattle.yield_report.specs.Prelude.{first_line, left_in, names_cmp, whole_line, AreInOrder, AreLines, IsLine, has_issued_in, IsOrderReport, line_fields}
+use Rattle.yield_report.specs.Prelude.{lines_text, order_header, report_text, AreStorable}
 use Rattle.yield_report.specs.declared.lines.OrderLine.{OrderLine}
 use Rattle.yield_report.proofs.InOrder.{map_both, sorted_again, sorted_map}
 use Rattle.yield_report.proofs.Apart.{names_total}

@@ -1,17 +1,9 @@
 -- A serial number is taken from the lines of one width after those of another.
-use Rattle.std.proofs.Common.{◌≡◌, ℕ, ◌+◌, ◌<◌, ◌≤◌, true, false, List, [], ◌∷◌, map, length, get_or, slice_set, Option, Some}
-use Rattle.std.proofs.Common.{inl, inr, refl, sym, ap, ap₂, ◌∙◌, subst, arith}
-use Rattle.std.specs.Prelude.{◌==◌, bytes_eq, nat_lt, if◌then◌else◌}
-use Rattle.std.specs.List.{AllByRecursion}
-use Rattle.std.proofs.lemmas.Bool.{cases_Bool, cases_eq, cases_lt}
-use Rattle.std.proofs.lemmas.Bool.Decides.{nat_tests}
-use Rattle.std.proofs.lemmas.List.Elements.{All-get_or, recursion_from_All}
-use Rattle.std.proofs.lemmas.Slice.Eq.{bytes_eq-Decides}
-use Rattle.std.proofs.lemmas.Option.{same_Some}
-use Rattle.id_ranges.specs.Range.{serial_text_of, Has, IsRange, Range}
-use Rattle.yield_report.specs.Lines.{taken, taken_in, AreLines, IsLine}
-use Rattle.yield_report.specs.Places.{place_of, AreApart, AreBegun}
-use Rattle.yield_report.specs.Serials.{has_serial}
+use Rattle.std.proofs.Common.{◌≡◌, ◌+◌, ◌<◌, ◌≤◌, ◌∷◌, get_or, ◌==◌, if◌then◌else◌}
+use Rattle.text_core.proofs.Kit.{ℕ, true, false, List, [], map, length, slice_set, Option, Some, inl, inr, refl, sym, ap, ap₂, ◌∙◌, subst, arith, bytes_eq}
+use Rattle.text_core.proofs.Kit.{nat_lt, AllByRecursion, cases_Bool, cases_eq, cases_lt, nat_tests, All-get_or, recursion_from_All, bytes_eq-Decides, same_Some}
+use Rattle.id_ranges.specs.Prelude.{serial_text_of, Has, IsRange, Range}
+use Rattle.yield_report.specs.Prelude.{taken, taken_in, AreLines, IsLine, place_of, AreApart, AreBegun, has_serial}
 use Rattle.yield_report.specs.declared.lines.OrderLine.{OrderLine}
 use Rattle.yield_report.specs.declared.places.Place.{Place}
 use Rattle.yield_report.proofs.Digits.{has_none}

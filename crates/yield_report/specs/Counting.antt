@@ -1,7 +1,6 @@
 -- How the numbers of a line are counted, up to what the tables have room for.
 use Rattle.std.specs.Prelude.{ℕ, ◌+◌, ◌-◌, Option, option_map, slice_index, slice_set}
-use Rattle.office_tables.specs.Numbers.{one_more}
-use Rattle.office_tables.specs.States.{state_row}
+use Rattle.office_tables.specs.Prelude.{one_more, state_row}
 use Rattle.office_tables.specs.declared.rows.DeviceState.{DeviceState}
 use Rattle.yield_report.specs.Counts.{Yield, column_count}
 

@@ -1,11 +1,10 @@
 -- What a yield report counts, by what was looked up: the orders and the devices of a customer, and whether a serial number of an issuer is given.
 use Rattle.std.specs.Prelude.{ℕ, ◌+◌, ◌==◌, Bool, List, [], ◌∷◌, ◌++◌, length, filter, map, bytes_eq, slice_index, sum_by}
 use Rattle.std.specs.List.{range_with_len}
-use Rattle.id_ranges.specs.Range.{numbers}
-use Rattle.id_ranges.specs.NextSerial.{is_unused}
+use Rattle.id_ranges.specs.Prelude.{numbers, is_unused}
 use Rattle.office_tables.specs.declared.rows.Order.{Order}
 use Rattle.office_tables.specs.declared.rows.Device.{Device}
-use Rattle.office_tables.specs.States.{state_row}
+use Rattle.office_tables.specs.Prelude.{state_row}
 
 -- the numbers of a line, in the order of their names
 abbrev pub Yield : Type 0

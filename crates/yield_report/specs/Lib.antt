@@ -7,3 +7,4 @@ pub mod Reports
 pub mod Rows
 pub mod Serials
 pub mod Texts
+pub mod Prelude

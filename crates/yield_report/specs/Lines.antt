@@ -1,12 +1,11 @@
 -- The lines of a report while its rows are read: what one row adds to them, and what all rows leave.
 use Rattle.std.specs.Prelude.{◌≡◌, ◌==◌, ℕ, ◌-◌, ◌++◌, Bool, true, false, List, [], ◌∷◌, Option, Some, None, bytes_eq, filter, fold, length, map, is_some, not}
-use Rattle.std.specs.Prelude.{option_and_then, option_map, slice_get, take, if◌then◌else◌}
-use Rattle.std.specs.List.{All, list_any}
+use Rattle.std.specs.Prelude.{option_and_then, option_map, slice_get, take, if◌then◌else◌, All}
+use Rattle.std.specs.List.{list_any}
 use Rattle.std.specs.List.Sorted.{IsStrictlySortedBy}
 use Rattle.std.specs.declared.cmp.Ordering.{Ordering}
-use Rattle.id_ranges.specs.NextSerial.{is_unused}
-use Rattle.id_ranges.specs.Range.{numbers, IsRange}
-use Rattle.office_tables.specs.Tables.{text_cmp}
+use Rattle.id_ranges.specs.Prelude.{is_unused, numbers, IsRange}
+use Rattle.office_tables.specs.Prelude.{text_cmp}
 use Rattle.office_tables.specs.declared.rows.OfCustomer.{OfCustomer}
 use Rattle.office_tables.specs.declared.rows.Order.{Order}
 use Rattle.office_tables.specs.declared.rows.Device.{Device}
@@ -29,6 +28,7 @@ first_line o = record { name = o.name; issuer = o.issuer; range = o.range; numbe
 abbrev pub IsLine : OrderLine → Type 0
 IsLine line = IsRange line.range × AreStorable line.numbers
 
+-- and so it is of each line
 abbrev pub AreLines : List OrderLine → Type 0
 AreLines lines = All IsLine lines
 

@@ -3,8 +3,8 @@ use Rattle.std.specs.Prelude.{◌≡◌, ℕ, ◌+◌, ◌-◌, Bool, true, fals
 use Rattle.std.specs.declared.cmp.Ordering.{Ordering}
 use Rattle.std.specs.Ordering.{is_gt, is_lt, nat_cmp, ordering_then}
 use Rattle.std.specs.List.Sorted.{IsPartitionPoint, IsStrictlySortedBy}
-use Rattle.id_ranges.specs.Range.{Range}
-use Rattle.office_tables.specs.Tables.{text_cmp}
+use Rattle.id_ranges.specs.Prelude.{Range}
+use Rattle.office_tables.specs.Prelude.{text_cmp}
 use Rattle.yield_report.specs.declared.lines.OrderLine.{OrderLine}
 use Rattle.yield_report.specs.declared.places.Place.{Place}
 
@@ -37,6 +37,7 @@ AreBegun place lines count = IsPartitionPoint (λ line. is_begun place line ≡ 
 abbrev pub lines_cmp : OrderLine → OrderLine → Ordering
 lines_cmp a b = place_cmp (last_place a) (first_place b)
 
+-- one line stands before the other in that order
 abbrev pub stands_before : OrderLine → OrderLine → Bool
 stands_before a b = is_lt (lines_cmp a b)
 

@@ -1,8 +1,8 @@
 -- The reports of the tables of all customers.
 use Rattle.std.specs.Prelude.{◌≡◌, ℕ, List, [], ◌∷◌, is_some, length, map}
 use Rattle.std.specs.List.{AllByRecursion}
-use Rattle.site_core.specs.Section.{SiteValue}
-use Rattle.office_tables.specs.Tables.{Tables, given_at, rows_of, with_row, text_cmp}
+use Rattle.site_core.specs.Prelude.{SiteValue}
+use Rattle.office_tables.specs.Prelude.{Tables, given_at, rows_of, with_row, text_cmp}
 use Rattle.yield_report.specs.Counts.{HasIssued, yield_of}
 use Rattle.yield_report.specs.Texts.{AreStorable, customer_line, customer_total, order_report_text, report_text, site_header}
 
@@ -29,6 +29,7 @@ in_order (name ∷ names) = with_row text_cmp name (in_order names)
 abbrev pub customers_in_order : SiteValue → List (List ℕ)
 customers_in_order site = in_order (map (λ c. c.name) site.customers)
 
+-- the line of a customer in the site's report, by the tables
 abbrev pub customer_line_in : Tables → List ℕ → List (List ℕ)
 customer_line_in t customer = customer_line customer (has_issued_in t) (rows_of customer t.orders) (rows_of customer t.devices)
 

@@ -1,7 +1,7 @@
 -- Rows of a report, as the program makes them.
 use Rattle.std.specs.Prelude.{◌≡◌, ℕ, ◌++◌, List, ◌∷◌, decimal, length, map}
 use Rattle.csv.specs.Writing.{default_writer, row_text}
-use Rattle.office_tables.specs.Tables.{Tables, rows_of}
+use Rattle.office_tables.specs.Prelude.{Tables, rows_of}
 use Rattle.yield_report.specs.Lines.{whole_line, AreLines}
 use Rattle.yield_report.specs.Reports.{has_issued_in}
 use Rattle.yield_report.specs.Texts.{customer_total, order_header, report_text, AreStorable}

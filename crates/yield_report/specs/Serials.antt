@@ -2,10 +2,10 @@
 use Rattle.std.specs.Prelude.{◌≡◌, ℕ, Bool, true, List, [], ◌∷◌, Option, Some, None, bytes_eq, filter, map}
 use Rattle.std.specs.List.{list_any}
 use Rattle.std.specs.Ordering.{is_lt}
-use Rattle.id_ranges.specs.Range.{Range, numbers, serial_text_of}
+use Rattle.id_ranges.specs.Prelude.{Range, numbers, serial_text_of}
 use Rattle.office_tables.specs.declared.rows.Given.{Given}
 use Rattle.office_tables.specs.declared.rows.OfCustomer.{OfCustomer}
-use Rattle.office_tables.specs.Tables.{Tables, is_of_issuer, text_cmp}
+use Rattle.office_tables.specs.Prelude.{Tables, is_of_issuer, text_cmp}
 
 -- the text is the serial number of a number of the range
 abbrev pub has_serial : Range → List ℕ → Bool

@@ -2,7 +2,7 @@
 use Rattle.std.specs.Prelude.{ℕ, ◌≤◌, List, [], ◌∷◌, codes, decimal, flat_map, length, map, Option, Some, None, nat_le, if◌then◌else◌}
 use Rattle.std.specs.List.{AllByRecursion}
 use Rattle.csv.specs.Writing.{default_writer, row_text}
-use Rattle.office_tables.specs.Numbers.{largest_number}
+use Rattle.office_tables.specs.Prelude.{largest_number}
 use Rattle.office_tables.specs.declared.rows.Order.{Order}
 use Rattle.office_tables.specs.declared.rows.Device.{Device}
 use Rattle.yield_report.specs.Counts.{HasIssued, Yield, total, yield_of}
@@ -21,11 +21,8 @@ report_text lines = flat_map (row_text default_writer) lines
 abbrev pub order_header : List (List ℕ)
 order_header = codes "order" ∷ number_names
 
-abbrev pub order_line : HasIssued → List Device → Order → List (List ℕ)
-order_line given devices o = o.name ∷ map decimal (yield_of given devices o)
-
 abbrev pub order_report_text : HasIssued → List Order → List Device → List ℕ
-order_report_text given orders devices = report_text (order_header ∷ map (order_line given devices) orders)
+order_report_text given orders devices = report_text (order_header ∷ map (λ o. o.name ∷ map decimal (yield_of given devices o)) orders)
 
 -- the manager's report: a header, and a line for each customer with the number of its orders and the sum of their numbers
 abbrev pub site_header : List (List ℕ)

@@ -1,9 +1,7 @@
 // The devices of each order, counted by their states.
 ghost use Rattle.std.specs.Prelude.{◌≡◌, ◌∷◌, [], false, true, is_some, map};
-ghost use Rattle.office_tables.specs.Tables.{rows_of};
-ghost use Rattle.office_tables.specs.Reading.{ReadsOnly};
-ghost use Rattle.yield_report.specs.Lines.{counted, has_no_room, with_one};
-ghost use Rattle.yield_report.specs.Lines.{AreInOrder, AreLines, CountsDevice, IsLine};
+ghost use Rattle.office_tables.specs.Prelude.{rows_of, ReadsOnly};
+ghost use Rattle.yield_report.specs.Prelude.{counted, has_no_room, with_one, AreInOrder, AreLines, CountsDevice, IsLine};
 
 use crate::lines::OrderLine;
 use crate::yields::with_device_counted;

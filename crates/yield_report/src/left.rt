@@ -1,11 +1,8 @@
 // The serial numbers that are left of each order.
 ghost use Rattle.std.specs.Prelude.{◌≡◌, ◌≤◌, ◌∷◌, [], map, None};
-ghost use Rattle.office_tables.specs.Reading.{ReadsOnly};
-ghost use Rattle.yield_report.specs.Lines.{left_in, new_issuer, taken, taken_in};
-ghost use Rattle.yield_report.specs.Lines.{AreInOrder, AreLines, IsLine, TakesSerial};
-ghost use Rattle.yield_report.specs.Places.{AreApart};
-ghost use Rattle.yield_report.specs.Reports.{has_issued_in};
-ghost use Rattle.yield_report.specs.Serials.{follows, serials_of, AreRising};
+ghost use Rattle.office_tables.specs.Prelude.{ReadsOnly};
+ghost use Rattle.yield_report.specs.Prelude.{left_in, new_issuer, taken, taken_in, AreInOrder, AreLines, IsLine, TakesSerial, AreApart, has_issued_in, follows};
+ghost use Rattle.yield_report.specs.Prelude.{serials_of, AreRising};
 
 use crate::lines::OrderLine;
 use crate::places::{begun, by_names, by_serials, place_in};

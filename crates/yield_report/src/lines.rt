@@ -1,9 +1,7 @@
 // The lines of a report, one for each order.
 ghost use Rattle.std.specs.Prelude.{◌≡◌, map};
-ghost use Rattle.office_tables.specs.Tables.{rows_of};
-ghost use Rattle.office_tables.specs.Reading.{ReadsOnly};
-ghost use Rattle.yield_report.specs.Lines.{first_line, name_follows};
-ghost use Rattle.yield_report.specs.Lines.{AreInOrder, AreLines, GathersOrder, IsLine};
+ghost use Rattle.office_tables.specs.Prelude.{rows_of, ReadsOnly};
+ghost use Rattle.yield_report.specs.Prelude.{first_line, name_follows, AreInOrder, AreLines, GathersOrder, IsLine};
 
 use crate::yields::{NUMBERS, QUANTITY, SERIALS_LEFT, Yield};
 use id_ranges::SerialRange;

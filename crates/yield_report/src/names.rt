@@ -1,7 +1,7 @@
 // The names of a site's customers, in order.
 ghost use Rattle.std.specs.Prelude.{◌≡◌, IfOk, OnOk};
-ghost use Rattle.office_tables.specs.Tables.{with_row, text_cmp};
-ghost use Rattle.yield_report.specs.Reports.{customers_in_order};
+ghost use Rattle.office_tables.specs.Prelude.{with_row, text_cmp};
+ghost use Rattle.yield_report.specs.Prelude.{customers_in_order};
 
 use site_core::Site;
 use std::alloc::{AllocError, Global};

@@ -1,8 +1,7 @@
 // The report of a customer.
 ghost use Rattle.std.specs.Prelude.{◌≡◌, IfOk};
-ghost use Rattle.office_tables.specs.Reading.{ReadsOnly};
-ghost use Rattle.yield_report.specs.Reports.{IsOrderReport};
-ghost use Rattle.yield_report.specs.Rows.{lines_text, AreWhole};
+ghost use Rattle.office_tables.specs.Prelude.{ReadsOnly};
+ghost use Rattle.yield_report.specs.Prelude.{IsOrderReport, lines_text, AreWhole};
 
 use crate::devices::count_devices;
 use crate::left::take_given;

@@ -1,11 +1,8 @@
 // Where serial numbers stand among those of a customer's orders, so that halving finds an order.
-ghost use Rattle.std.specs.Prelude.{◌≡◌, ◌≤◌, ℕ, length, Some, IfOk};
-ghost use Rattle.std.specs.List.Sorted.{IsPermutation, IsSortedByKey};
-ghost use Rattle.id_ranges.specs.Range.{serial_text_of, Has, IsRange, Range};
-ghost use Rattle.office_tables.specs.Tables.{text_cmp};
-ghost use Rattle.yield_report.specs.Lines.{AreLines};
-ghost use Rattle.yield_report.specs.Places.{first_place, last_place, place_cmp, place_of};
-ghost use Rattle.yield_report.specs.Places.{is_begun, stands_before, AreApart, AreBegun};
+ghost use Rattle.std.specs.Prelude.{◌≡◌, ◌≤◌, ℕ, length, Some, IfOk, IsPermutation, IsSortedByKey};
+ghost use Rattle.id_ranges.specs.Prelude.{serial_text_of, Has, IsRange, Range};
+ghost use Rattle.office_tables.specs.Prelude.{text_cmp};
+ghost use Rattle.yield_report.specs.Prelude.{AreLines, first_place, last_place, place_cmp, place_of, is_begun, stands_before, AreApart, AreBegun};
 
 use crate::lines::OrderLine;
 use crate::serials::number_of;

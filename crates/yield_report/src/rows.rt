@@ -1,8 +1,7 @@
 // The text of a report: rows of comma-separated fields (RFC 4180), each with a line feed behind it.
 ghost use Rattle.std.specs.Prelude.{◌≡◌, ◌∷◌, ◌++◌, IfOk, OnOk, decimal, map, string_bytes};
 ghost use Rattle.csv.specs.Writing.{default_writer, row_text};
-ghost use Rattle.yield_report.specs.Rows.{named_numbers, with_report_row};
-ghost use Rattle.yield_report.specs.Texts.{number_names, order_header, site_header};
+ghost use Rattle.yield_report.specs.Prelude.{named_numbers, with_report_row, number_names, order_header, site_header};
 
 use crate::yields::{NAMES, Yield};
 use csv::WriterBuilder;

@@ -1,8 +1,8 @@
 // Whether a text is a serial number of a range.
 ghost use Rattle.std.specs.Prelude.{◌≡◌, ◌≤◌, ℕ, IfSome, Some, length};
 ghost use Rattle.std.specs.Str.Parse.{digits_value, AllDigits};
-ghost use Rattle.id_ranges.specs.Range.{serial_text_of, Has};
-ghost use Rattle.yield_report.specs.Serials.{has_serial};
+ghost use Rattle.id_ranges.specs.Prelude.{serial_text_of, Has};
+ghost use Rattle.yield_report.specs.Prelude.{has_serial};
 
 use id_ranges::SerialRange;
 use text_core::Serial;

@@ -1,10 +1,8 @@
 // The report of a site.
 ghost use Rattle.std.specs.Prelude.{◌≡◌, ◌↔◌, ◌<◌, ⊤, IfSome, IsSome};
-ghost use Rattle.office_tables.specs.Reading.{ReadsOnly};
-ghost use Rattle.yield_report.specs.Counts.{number_count, sum_at, total};
-ghost use Rattle.yield_report.specs.Reports.{customer_line_in, IsSiteReport};
-ghost use Rattle.yield_report.specs.Rows.{numbers_in, with_report_row, FitsCustomer};
-ghost use Rattle.yield_report.specs.Texts.{storable, AreStorable};
+ghost use Rattle.office_tables.specs.Prelude.{ReadsOnly};
+ghost use Rattle.yield_report.specs.Prelude.{number_count, sum_at, total, customer_line_in, IsSiteReport, numbers_in, with_report_row, FitsCustomer, storable};
+ghost use Rattle.yield_report.specs.Prelude.{AreStorable};
 
 use crate::lines::OrderLine;
 use crate::names::customer_names;

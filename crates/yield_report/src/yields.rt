@@ -1,6 +1,6 @@
 // The numbers of a line of a report.
 ghost use Rattle.std.specs.Prelude.{◌≡◌, ◌<◌};
-ghost use Rattle.yield_report.specs.Counting.{left_place, state_place, with_device_counted};
+ghost use Rattle.yield_report.specs.Prelude.{left_place, state_place, with_device_counted};
 
 use office_tables::{DeviceState, one_more};
 

@@ -1,11 +1,7 @@
--- Why `serve_one` meets its contract, where that has to be said.
-use Rattle.std.proofs.Common.{◌∙◌, arith, ap, sym, subst, refl, drop, List, ℕ, [], ◌∷◌}
-use Rattle.std.specs.Prelude.{true}
-use Rattle.http_frames.specs.Buffers.{unread}
-use Rattle.http_serving.specs.Sends.{Sending}
-use Rattle.http_serving.specs.Streams.{ending_of_sent, answered, refused}
-use Rattle.http_serving.specs.Cycles.{ServesBytes}
-use Rattle.http_replies.specs.Replies.{answer_of}
+use Rattle.std.proofs.Common.{◌∙◌, arith, ap, sym, subst, refl, drop, List, ℕ, [], ◌∷◌, true}
+use Rattle.http_frames.specs.Prelude.{unread}
+use Rattle.http_serving.specs.Prelude.{Sending, ending_of_sent, answered, refused, ServesBytes}
+use Rattle.http_replies.specs.Prelude.{answer_of}
 use Rattle.http_serving.proofs.StreamLemmas.{cycle_cut, cycle_fault, cycle_limit, cycle_refused, cycle_answered, is_one_exchange, reply_same}
 use Rattle.http_serving.proofs.serve_one.Goals as goal
 
@@ -46,10 +42,10 @@ returns-in-Refused-clause-served_one g c =
     subst (λ (s : List ℕ). Sending (g.W.Drain.written c.args.writer.now) (g.W.Drain.written c.write_reply.new.writer) s c.write_reply.result) text
     c.write_reply.ensures.sent
     in
-    let piece = refused c.in-Refused.refusal c.in-Refused.is_head in
+    let exchange = refused c.in-Refused.refusal c.in-Refused.is_head in
     rw c.outcome.ensures (
-      piece ∷ [],
-      is_one_exchange c.write_reply.result true piece,
+      exchange ∷ [],
+      is_one_exchange c.write_reply.result true exchange,
       cycle_refused (unread c.args.buffer.now) c.read_request.new.buffer.window (unread c.write_reply.new.buffer) (g.R.Source.left c.args.reader.now)
           (g.R.Source.left c.read_request.new.reader)
           (g.W.Drain.written c.args.writer.now) (g.W.Drain.written c.write_reply.new.writer) c.in-Refused.refusal c.in-Refused.is_head c.write_reply.result
@@ -70,19 +66,19 @@ returns-in-Request-clause-served_one g c =
     (g.W.Drain.written c.write_reply-in-Request.new.writer) s c.write_reply-in-Request.result) text
     c.write_reply-in-Request.ensures.sent
     in
-    let piece = answered framed.0 (answer_of reply) in
-    let turn =
+    let exchange = answered framed.0 (answer_of reply) in
+    let serves =
     cycle_answered (unread c.args.buffer.now) window (drop c.in-Request.frame.end window) (g.R.Source.left c.args.reader.now)
     (g.R.Source.left c.read_request.new.reader)
     (g.W.Drain.written c.args.writer.now) (g.W.Drain.written c.write_reply-in-Request.new.writer) framed.0 (answer_of reply) c.in-Request.frame.is_last
     c.write_reply-in-Request.result c.in-Request.ensures.bytes framed.1.whole framed.1.is_last sends
     in
     rw c.outcome-in-Request.ensures (
-      piece ∷ [],
-      is_one_exchange c.write_reply-in-Request.result c.in-Request.frame.is_last piece,
+      exchange ∷ [],
+      is_one_exchange c.write_reply-in-Request.result c.in-Request.frame.is_last exchange,
       subst (λ (s : List ℕ). ServesBytes (unread c.args.buffer.now) (g.R.Source.left c.args.reader.now) s (g.R.Source.left c.read_request.new.reader)
           (g.W.Drain.written c.args.writer.now)
-          (g.W.Drain.written c.write_reply-in-Request.new.writer) (ending_of_sent c.write_reply-in-Request.result c.in-Request.frame.is_last) (piece ∷ []))
-          (sym next) turn,
+          (g.W.Drain.written c.write_reply-in-Request.new.writer) (ending_of_sent c.write_reply-in-Request.result c.in-Request.frame.is_last) (exchange ∷ []))
+          (sym next) serves,
       (c.answer-reply.new.state, c.answer-reply.ensures framed.0 framed.1, refl {a = c.answer-reply.new.state}),
     )

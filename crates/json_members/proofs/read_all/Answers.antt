@@ -1,6 +1,4 @@
--- Why `read_all` meets its contract, where that has to be said.
-use Rattle.std.proofs.Common.{◌∙◌, sym}
-use Rattle.std.proofs.lemmas.Result.{IfOk-weaker}
+use Rattle.text_core.proofs.Kit.{◌∙◌, sym, IfOk-weaker}
 use Rattle.serde_json.specs.View.{view}
 use Rattle.text_core.proofs.Lists.{all_of-map}
 use Rattle.json_members.proofs.read_all.Goals as goal

@@ -1,4 +1,3 @@
--- Why `read_json` meets its contract, where that has to be said.
 use Rattle.std.proofs.Common.{inl, sym, true≢false, ◌∙◌}
 use Rattle.json_members.proofs.BodyRead.{json_read-found, json_read-refused}
 use Rattle.json_members.proofs.read_json.Goals as goal

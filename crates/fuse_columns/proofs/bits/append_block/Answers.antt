@@ -1,7 +1,5 @@
--- Why `bits::append_block` meets its contract, where that has to be said.
-use Rattle.std.proofs.Common.{◌≡◌, ◌+◌, ◌*◌, ◌++◌, ◌<◌, ℕ, List, length, sym, ap, ap₂, ◌∙◌, arith, length-append}
-use Rattle.std.proofs.lemmas.List.{append_assoc, append-nil}
-use Rattle.fuse_columns.specs.Words.{bytes_of_words}
+use Rattle.std.proofs.Common.{◌≡◌, ◌+◌, ◌*◌, ◌++◌, ◌<◌, ℕ, List, length, sym, ap, ap₂, ◌∙◌, arith, length-append, append_assoc, append-nil}
+use Rattle.fuse_columns.specs.Prelude.{bytes_of_words}
 use Rattle.fuse_columns.proofs.Blocks.{bytes_of_words-zero, bytes_of_words-more, length-bytes_of_words}
 use Rattle.fuse_columns.proofs.bits.append_block.Goals as goal
 

@@ -1,6 +1,5 @@
--- What the loops of `bits::append_block` keep.
 use Rattle.std.proofs.Common.{◌≡◌, ◌++◌}
-use Rattle.fuse_columns.specs.Words.{bytes_of_words}
+use Rattle.fuse_columns.specs.Prelude.{bytes_of_words}
 use Rattle.fuse_columns.proofs.bits.append_block.Given as goal
 
 abbrev pub invariant-loop-word : goal.invariant-loop-word

@@ -1,7 +1,5 @@
--- Why `bits::column_of` meets its contract, where that has to be said.
-use Rattle.std.proofs.Common.{◌≡◌, ◌+◌, ◌*◌, ◌++◌, ◌≤◌, ℕ, List, length, sym, ap, ◌∙◌, arith, length-append}
-use Rattle.std.specs.Prelude.{slice_index}
-use Rattle.fuse_columns.specs.Words.{bytes_of_words}
+use Rattle.std.proofs.Common.{◌≡◌, ◌+◌, ◌*◌, ◌++◌, ◌≤◌, ℕ, List, length, sym, ap, ◌∙◌, arith, length-append, slice_index}
+use Rattle.fuse_columns.specs.Prelude.{bytes_of_words}
 use Rattle.fuse_columns.proofs.Blocks.{bytes_of_blocks-more, length-bytes_of_words}
 use Rattle.fuse_columns.proofs.bits.column_of.Goals as goal
 

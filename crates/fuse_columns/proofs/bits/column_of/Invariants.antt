@@ -1,6 +1,5 @@
--- What the loops of `bits::column_of` keep.
 use Rattle.std.proofs.Common.{◌≡◌, ◌≤◌, ◌*◌, length}
-use Rattle.fuse_columns.specs.Words.{bytes_of_blocks}
+use Rattle.fuse_columns.specs.Prelude.{bytes_of_blocks}
 use Rattle.fuse_columns.proofs.bits.column_of.Given as goal
 
 abbrev pub invariant-loop-block : goal.invariant-loop-block

@@ -1,8 +1,7 @@
--- Why `bits::encode_bits` meets its contract, where that has to be said.
 use Rattle.std.proofs.Common.{ℕ, List, length, ap, ap₂, ◌∙◌}
 use Rattle.std.specs.FinSet as set
-use Rattle.fuse_image.specs.Words.{words_of_set}
-use Rattle.fuse_columns.specs.Words.{bytes_of_blocks}
+use Rattle.fuse_image.specs.Prelude.{words_of_set}
+use Rattle.fuse_columns.specs.Prelude.{bytes_of_blocks}
 use Rattle.fuse_columns.proofs.SetBytes.{column_by_words, length-bits_column}
 use Rattle.fuse_columns.proofs.bits.encode_bits.Goals as goal
 

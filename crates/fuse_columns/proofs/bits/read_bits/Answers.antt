@@ -1,8 +1,7 @@
--- Why `bits::read_bits` meets its contract, where that has to be said.
 use Rattle.std.proofs.Common.{◌/◌, ◌%◌, ℕ, List, ap, ap₂, ◌∙◌}
 use Rattle.std.specs.FinSet as set
 use Rattle.std.proofs.Math.Facts.{Fits-lt-pow}
-use Rattle.fuse_columns.specs.Words.{word_of_block}
+use Rattle.fuse_columns.specs.Prelude.{word_of_block}
 use Rattle.fuse_columns.proofs.SetBytes.{bits_by_words}
 use Rattle.fuse_columns.proofs.bits.read_bits.Goals as goal
 

@@ -1,6 +1,4 @@
--- What the loops of `bits::words_in` keep.
-use Rattle.std.proofs.Common.{◌≡◌, ◌/◌, ◌%◌, ◌<◌, ℕ, length}
-use Rattle.std.specs.Prelude.{slice_index}
+use Rattle.std.proofs.Common.{◌≡◌, ◌/◌, ◌%◌, ◌<◌, ℕ, length, slice_index}
 use Rattle.fuse_columns.specs.Words as words
 use Rattle.fuse_columns.proofs.bits.words_in.Given as goal
 

@@ -1,4 +1,3 @@
--- Why `keys::decode_keys` meets its contract, where that has to be said.
 use Rattle.fuse_columns.proofs.KeyBytes.{AreKeysOf-keys_in}
 use Rattle.fuse_columns.proofs.keys.decode_keys.Goals as goal
 

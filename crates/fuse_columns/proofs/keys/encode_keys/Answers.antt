@@ -1,10 +1,7 @@
--- Why `keys::encode_keys` meets its contract, where that has to be said.
-use Rattle.std.proofs.Common.{◌≡◌, ◌+◌, ◌≤◌, List, length, take, ap, ◌∙◌, arith, length-append}
-use Rattle.std.specs.List.{flat_map}
+use Rattle.std.proofs.Common.{◌≡◌, ◌+◌, ◌≤◌, List, length, take, ap, ◌∙◌, arith, length-append, flat_map, take_all}
 use Rattle.std.specs.FinMap as map
-use Rattle.std.proofs.lemmas.List.{take_all}
 use Rattle.fusemap_core.specs.declared.field.Field.{Field}
-use Rattle.fuse_columns.specs.KeysColumns.{key_blocks, key_bytes, keys_column}
+use Rattle.fuse_columns.specs.Prelude.{key_blocks, key_bytes, keys_column}
 use Rattle.fuse_columns.proofs.KeyFields.{few_keys, fewer_keys, key_more}
 use Rattle.fuse_columns.proofs.keys.encode_keys.Goals as goal
 

@@ -1,8 +1,6 @@
--- What the loops of `keys::encode_keys` keep.
-use Rattle.std.proofs.Common.{◌≡◌, ◌*◌, length, take}
-use Rattle.std.specs.List.{flat_map}
+use Rattle.std.proofs.Common.{◌≡◌, ◌*◌, length, take, flat_map}
 use Rattle.std.specs.FinMap as map
-use Rattle.fuse_columns.specs.KeysColumns.{key_blocks, key_bytes}
+use Rattle.fuse_columns.specs.Prelude.{key_blocks, key_bytes}
 use Rattle.fuse_columns.proofs.keys.encode_keys.Given as goal
 
 abbrev pub invariant-loop-field : goal.invariant-loop-field

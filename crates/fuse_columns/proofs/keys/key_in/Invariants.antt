@@ -1,6 +1,5 @@
--- What the loops of `keys::key_in_bytes` keep.
 use Rattle.std.proofs.Common.{◌≡◌, drop}
-use Rattle.fuse_columns.specs.KeysColumns.{key_blocks, key_in_bytes}
+use Rattle.fuse_columns.specs.Prelude.{key_blocks, key_in_bytes}
 use Rattle.fuse_columns.proofs.keys.key_in.Given as goal
 
 abbrev pub invariant-loop-field : goal.invariant-loop-field

@@ -1,4 +1,3 @@
--- Why `keys::key_of` meets its contract, where that has to be said.
 use Rattle.std.proofs.Common.{sym}
 use Rattle.fuse_columns.proofs.KeyBytes.{key_of_bytes-short, key_of_bytes-other}
 use Rattle.fuse_columns.proofs.keys.key_of.Goals as goal

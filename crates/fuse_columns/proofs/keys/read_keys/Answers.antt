@@ -1,9 +1,8 @@
--- Why `keys::read_keys` meets its contract, where that has to be said.
 use Rattle.std.proofs.Common.{List, ap, ◌∙◌}
 use Rattle.fusemap_core.specs.declared.field.Field.{Field}
-use Rattle.fuse_image.specs.Keys.{table_where}
+use Rattle.fuse_image.specs.Prelude.{table_where}
 use Rattle.fuse_image.proofs.Tables.{table_is}
-use Rattle.fuse_columns.specs.KeysColumns.{key_blocks, key_in_bytes, keys_in}
+use Rattle.fuse_columns.specs.Prelude.{key_blocks, key_in_bytes, keys_in}
 use Rattle.fuse_columns.proofs.keys.read_keys.Goals as goal
 
 pub returns : goal.returns

@@ -1,4 +1,3 @@
--- Why `laws::come_back` meets its contract, where that has to be said.
 use Rattle.fuse_columns.proofs.LawProofs.{plain_bits_come_back, bits_come_back, keys_come_back, image_comes_back, work_comes_back}
 use Rattle.fuse_columns.proofs.laws.come_back.Goals as goal
 

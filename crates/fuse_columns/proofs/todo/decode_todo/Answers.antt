@@ -1,10 +1,6 @@
--- Why `todo::decode_todo` meets its contract, where that has to be said.
-use Rattle.std.proofs.Common.{ℕ, List, drop, sym, ap, ap₂, ◌∙◌, subst}
-use Rattle.std.proofs.lemmas.List.{drop-drop}
-use Rattle.fuse_columns.specs.BitsColumns.{bits_in, bits_length}
-use Rattle.fuse_columns.specs.KeysColumns.{keys_in}
-use Rattle.fuse_image.specs.Pending.{IsPending}
-use Rattle.fuse_columns.specs.TodoColumns.{pending_in}
+use Rattle.std.proofs.Common.{ℕ, List, drop, sym, ap, ap₂, ◌∙◌, subst, drop-drop}
+use Rattle.fuse_columns.specs.Prelude.{bits_in, bits_length, keys_in, pending_in}
+use Rattle.fuse_image.specs.Prelude.{IsPending}
 use Rattle.fuse_columns.proofs.WorkBytes.{IsPending-pending_in}
 use Rattle.fuse_columns.proofs.todo.decode_todo.Goals as goal
 

@@ -1,6 +1,5 @@
--- Why `todo::encode_todo` meets its contract, where that has to be said.
 use Rattle.std.proofs.Common.{◌++◌, ℕ, List, ap₂, ◌∙◌}
-use Rattle.fuse_columns.specs.TodoColumns.{todo_column}
+use Rattle.fuse_columns.specs.Prelude.{todo_column}
 use Rattle.fuse_columns.proofs.todo.encode_todo.Goals as goal
 
 pub returns-clause-same : goal.returns-clause-same

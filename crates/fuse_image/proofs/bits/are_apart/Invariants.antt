@@ -1,4 +1,3 @@
--- What the loops of `bits::are_apart` keep.
 use Rattle.std.proofs.Common.{◌≡◌, ◌<◌, ℕ, get_or, bit_and}
 use Rattle.fuse_image.proofs.bits.are_apart.Given as goal
 

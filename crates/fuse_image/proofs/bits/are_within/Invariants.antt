@@ -1,6 +1,5 @@
--- What the loops of `bits::are_within` keep.
-use Rattle.std.proofs.Common.{◌≡◌, ◌<◌, ℕ, get_or, bit_and}
-use Rattle.std.specs.Int.{bit_not, w32}
+use Rattle.std.proofs.Common.{◌≡◌, ◌<◌, ℕ, get_or, bit_and, w32}
+use Rattle.std.specs.Int.{bit_not}
 use Rattle.fuse_image.proofs.bits.are_within.Given as goal
 
 abbrev pub invariant-loop-word : goal.invariant-loop-word

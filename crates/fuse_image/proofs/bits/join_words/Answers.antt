@@ -1,4 +1,3 @@
--- Why `bits::join_words` meets its contract, where that has to be said.
 use Rattle.std.proofs.Common.{refl, arith}
 use Rattle.fuse_image.proofs.Changed.{AreChanged-more}
 use Rattle.fuse_image.proofs.bits.join_words.Goals as goal

@@ -1,4 +1,3 @@
--- What the loops of `bits::join_words` keep.
 use Rattle.std.proofs.Common.{get_or, bit_or}
 use Rattle.fuse_image.proofs.Changed.{AreChanged}
 use Rattle.fuse_image.proofs.bits.join_words.Given as goal

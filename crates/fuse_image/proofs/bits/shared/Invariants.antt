@@ -1,4 +1,3 @@
--- What the loops of `bits::shared` keep.
 use Rattle.std.proofs.Common.{get_or, bit_and}
 use Rattle.fuse_image.proofs.Changed.{AreChanged}
 use Rattle.fuse_image.proofs.bits.shared.Given as goal

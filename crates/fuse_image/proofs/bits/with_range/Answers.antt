@@ -1,8 +1,6 @@
--- Why `bits::with_range` meets its contract, where that has to be said.
-use Rattle.std.proofs.Common.{◌≡◌, ℕ, ◌*◌, ◌≤◌, get_or, bit_or, sym, ap, ap₂, ◌∙◌, inl, inr, arith}
-use Rattle.std.specs.Int.Bits.{or_zero_r}
-use Rattle.std.proofs.lemmas.Bool.{cases_lt}
-use Rattle.fuse_image.specs.Masks.{mask_of}
+use Rattle.std.proofs.Common.{◌≡◌, ◌*◌, ◌≤◌, get_or}
+use Rattle.text_core.proofs.Kit.{ℕ, bit_or, sym, ap, ap₂, ◌∙◌, inl, inr, arith, or_zero_r, cases_lt}
+use Rattle.fuse_image.specs.Prelude.{mask_of}
 use Rattle.fuse_image.proofs.Changed.{AreChanged-none, AreChanged-more}
 use Rattle.fuse_image.proofs.Masks.{mask_of-before, mask_of-after}
 use Rattle.fuse_image.proofs.bits.with_range.Goals as goal

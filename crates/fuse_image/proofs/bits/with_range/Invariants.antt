@@ -1,6 +1,5 @@
--- What the loops of `bits::with_range` keep.
 use Rattle.std.proofs.Common.{bit_or}
-use Rattle.fuse_image.specs.Masks.{mask_of}
+use Rattle.fuse_image.specs.Prelude.{mask_of}
 use Rattle.fuse_image.proofs.Changed.{AreChanged}
 use Rattle.fuse_image.proofs.bits.with_range.Given as goal
 

@@ -1,6 +1,5 @@
--- What the loops of `bits::without` keep.
-use Rattle.std.proofs.Common.{get_or, bit_and}
-use Rattle.std.specs.Int.{bit_not, w32}
+use Rattle.std.proofs.Common.{get_or, bit_and, w32}
+use Rattle.std.specs.Int.{bit_not}
 use Rattle.fuse_image.proofs.Changed.{AreChanged}
 use Rattle.fuse_image.proofs.bits.without.Given as goal
 

@@ -1,8 +1,6 @@
--- Why `image::visible_keys` meets its contract, where that has to be said.
-use Rattle.std.proofs.Common.{◌∙◌}
-use Rattle.std.specs.Prelude.{None, if◌then◌else◌}
+use Rattle.std.proofs.Common.{◌∙◌, None, if◌then◌else◌}
 use Rattle.std.specs.FinMap as map
-use Rattle.fuse_image.specs.Locks.{is_hidden_key}
+use Rattle.fuse_image.specs.Prelude.{is_hidden_key}
 use Rattle.fuse_image.proofs.Tables.{table_is}
 use Rattle.fuse_image.proofs.image.visible_keys.Goals as goal
 

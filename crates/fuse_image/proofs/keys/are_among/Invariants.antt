@@ -1,5 +1,4 @@
--- What the loops of `keys::are_among` keep.
-use Rattle.fuse_image.specs.Keys.{AreEachAmong}
+use Rattle.fuse_image.specs.Prelude.{AreEachAmong}
 use Rattle.fuse_image.proofs.keys.are_among.Given as goal
 
 abbrev pub invariant-loop-block : goal.invariant-loop-block

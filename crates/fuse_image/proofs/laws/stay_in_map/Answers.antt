@@ -1,4 +1,3 @@
--- Why `laws::stay_in_map` meets its contract, where that has to be said.
 use Rattle.fuse_image.proofs.InMap.{read_backs_in_map, sets_stay, tables_stay}
 use Rattle.fuse_image.proofs.laws.stay_in_map.Goals as goal
 

@@ -1,9 +1,8 @@
--- What the loops of `locks::is_locked` keep.
 use Rattle.std.proofs.Common.{◌≡◌, ◌&&◌, Bool, drop}
 use Rattle.std.specs.List.{list_any}
 use Rattle.fusemap_core.specs.declared.field.Field.{Field}
-use Rattle.fusemap_core.specs.Map.{holds}
-use Rattle.fuse_image.specs.Locks.{has_burnt_lock}
+use Rattle.fusemap_core.specs.Prelude.{holds}
+use Rattle.fuse_image.specs.Prelude.{has_burnt_lock}
 use Rattle.fuse_image.proofs.locks.is_locked.Given as goal
 
 abbrev pub invariant-loop-field : goal.invariant-loop-field

@@ -1,4 +1,3 @@
--- Why `locks::is_locked_key` meets its contract, where that has to be said.
 use Rattle.fuse_image.proofs.Governed.{lock_in_fields}
 use Rattle.fuse_image.proofs.locks.is_locked_key.Goals as goal
 

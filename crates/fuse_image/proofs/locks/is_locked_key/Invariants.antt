@@ -1,9 +1,7 @@
--- What the loops of `locks::is_locked_key` keep.
-use Rattle.std.proofs.Common.{◌≡◌, ◌&&◌, Bool, drop}
-use Rattle.std.specs.Prelude.{◌==◌}
+use Rattle.std.proofs.Common.{◌≡◌, ◌&&◌, Bool, drop, ◌==◌}
 use Rattle.std.specs.List.{list_any}
 use Rattle.fusemap_core.specs.declared.field.Field.{Field}
-use Rattle.fuse_image.specs.Locks.{has_burnt_lock}
+use Rattle.fuse_image.specs.Prelude.{has_burnt_lock}
 use Rattle.fuse_image.proofs.locks.is_locked_key.Given as goal
 
 abbrev pub invariant-loop-field : goal.invariant-loop-field

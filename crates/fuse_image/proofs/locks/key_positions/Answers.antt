@@ -1,9 +1,8 @@
--- Why `locks::key_positions` meets its contract, where that has to be said.
 use Rattle.std.proofs.Common.{Bool, ap₂, ◌∙◌}
 use Rattle.std.specs.FinSet as set
 use Rattle.fusemap_core.specs.declared.field.Field.{Field}
 use Rattle.fusemap_core.specs.declared.pos.Pos.{Pos}
-use Rattle.fuse_image.specs.Places.{Positions, run}
+use Rattle.fuse_image.specs.Prelude.{Positions, run}
 use Rattle.fuse_image.proofs.Governed.{positions_in-none, positions_in-passes, positions_in-fails}
 use Rattle.fuse_image.proofs.locks.key_positions.Goals as goal
 use Rattle.fuse_image.proofs.locks.key_positions.Goals.{then-field, else-field}

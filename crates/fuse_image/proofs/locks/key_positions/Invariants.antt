@@ -1,6 +1,5 @@
--- What the loops of `locks::key_positions` keep.
 use Rattle.std.proofs.Common.{◌≡◌, take}
-use Rattle.fuse_image.specs.Locks.{positions_in}
+use Rattle.fuse_image.specs.Prelude.{positions_in}
 use Rattle.fuse_image.proofs.locks.key_positions.Given as goal
 
 abbrev pub invariant-loop-field : goal.invariant-loop-field

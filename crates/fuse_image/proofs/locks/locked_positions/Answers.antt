@@ -1,11 +1,8 @@
--- Why `locks::locked_positions` meets its contract, where that has to be said.
-use Rattle.std.proofs.Common.{◌≡◌, Bool, sym, ap, ap₂, ◌∙◌}
+use Rattle.std.proofs.Common.{◌≡◌, Bool, sym, ap, ap₂, ◌∙◌, take_all}
 use Rattle.std.specs.FinSet as set
-use Rattle.std.proofs.lemmas.List.{take_all}
 use Rattle.fusemap_core.specs.declared.field.Field.{Field}
 use Rattle.fusemap_core.specs.declared.pos.Pos.{Pos}
-use Rattle.fuse_image.specs.Locks.{has_burnt_lock, is_burnt, positions_in}
-use Rattle.fuse_image.specs.Places.{Positions, run}
+use Rattle.fuse_image.specs.Prelude.{has_burnt_lock, is_burnt, positions_in, Positions, run}
 use Rattle.fuse_image.proofs.Governed.{lock_in_fields, positions_in-none, positions_in-passes, positions_in-fails}
 use Rattle.fuse_image.proofs.locks.locked_positions.Goals as goal
 use Rattle.fuse_image.proofs.locks.locked_positions.Goals.{then-is_burnt, else-is_burnt}

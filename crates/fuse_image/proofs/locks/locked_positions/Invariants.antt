@@ -1,6 +1,5 @@
--- What the loops of `locks::locked_positions` keep.
 use Rattle.std.proofs.Common.{◌≡◌, take}
-use Rattle.fuse_image.specs.Locks.{has_burnt_lock, positions_in}
+use Rattle.fuse_image.specs.Prelude.{has_burnt_lock, positions_in}
 use Rattle.fuse_image.proofs.locks.locked_positions.Given as goal
 
 abbrev pub invariant-loop-field : goal.invariant-loop-field

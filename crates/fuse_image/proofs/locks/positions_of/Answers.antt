@@ -1,9 +1,8 @@
--- Why `locks::positions_of` meets its contract, where that has to be said.
 use Rattle.std.proofs.Common.{ap₂, ◌∙◌}
 use Rattle.std.specs.FinSet as set
 use Rattle.fusemap_core.specs.declared.pos.Pos.{Pos}
-use Rattle.fusemap_core.specs.Map.{holds}
-use Rattle.fuse_image.specs.Places.{Positions, places_where, run}
+use Rattle.fusemap_core.specs.Prelude.{holds}
+use Rattle.fuse_image.specs.Prelude.{Positions, places_where, run}
 use Rattle.fuse_image.proofs.Sets.{union-empty}
 use Rattle.fuse_image.proofs.locks.positions_of.Goals as goal
 

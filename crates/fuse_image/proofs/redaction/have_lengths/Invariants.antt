@@ -1,6 +1,4 @@
--- What the loops of `redaction::have_lengths` keep.
-use Rattle.std.proofs.Common.{◌≡◌, ◌<◌, ℕ, [], length}
-use Rattle.std.specs.Prelude.{slice_index, slice_index_or}
+use Rattle.std.proofs.Common.{◌≡◌, ◌<◌, ℕ, [], length, slice_index, slice_index_or}
 use Rattle.fuse_image.proofs.redaction.have_lengths.Given as goal
 
 abbrev pub invariant-loop-index : goal.invariant-loop-index

@@ -1,11 +1,8 @@
--- Why `redaction::may_be_set` meets its contract, where that has to be said.
-use Rattle.std.proofs.Common.{◌≡◌, ◌||◌, Bool, option_and_then, ap, ◌∙◌, sym}
-use Rattle.std.proofs.lemmas.Bool.{or_left}
-use Rattle.std.proofs.lemmas.Option.{same_Some}
+use Rattle.std.proofs.Common.{◌≡◌, ◌||◌}
+use Rattle.text_core.proofs.Kit.{Bool, option_and_then, ap, ◌∙◌, sym, or_left, same_Some}
 use Rattle.fusemap_core.specs.declared.field.Field.{Field}
-use Rattle.fusemap_core.specs.Map.{holds, read_lock}
-use Rattle.fuse_image.specs.Locks.{is_burnt}
-use Rattle.fuse_image.specs.Places.{sets_meet, places_where}
+use Rattle.fusemap_core.specs.Prelude.{holds, read_lock}
+use Rattle.fuse_image.specs.Prelude.{is_burnt, sets_meet, places_where}
 use Rattle.fuse_image.proofs.redaction.may_be_set.Goals as goal
 
 pub returns-then-meets : goal.returns-then-meets

@@ -1,4 +1,3 @@
--- Why `redaction::redact` meets its contract, where that has to be said.
 use Rattle.fuse_image.proofs.Redacted.{AreKeys-shown, AreOutsideKeys-plain_ones}
 use Rattle.fuse_image.proofs.redaction.redact.Goals as goal
 

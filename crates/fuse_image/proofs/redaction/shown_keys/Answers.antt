@@ -1,7 +1,6 @@
--- Why `redaction::shown_keys` meets its contract, where that has to be said.
 use Rattle.std.proofs.Common.{◌∙◌}
 use Rattle.fuse_image.proofs.Tables.{table_is}
-use Rattle.fuse_image.specs.Redaction.{shown_key}
+use Rattle.fuse_image.specs.Prelude.{shown_key}
 use Rattle.fuse_image.proofs.redaction.shown_keys.Goals as goal
 
 pub returns : goal.returns

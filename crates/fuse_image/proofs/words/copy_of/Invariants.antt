@@ -1,4 +1,3 @@
--- What the loops of `words::copy_of` keep.
 use Rattle.std.proofs.Common.{◌≡◌, map, take}
 use Rattle.fuse_image.proofs.words.copy_of.Given as goal
 

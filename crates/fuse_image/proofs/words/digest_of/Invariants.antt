@@ -1,7 +1,4 @@
--- What the loops of `words::digest_of` keep.
-use Rattle.std.proofs.Common.{take}
-use Rattle.std.specs.Int.{to_le_bytes, w32}
-use Rattle.std.specs.List.{flat_map}
+use Rattle.text_core.proofs.Kit.{take, to_le_bytes, w32, flat_map}
 use Rattle.sha2.specs.Hashers.{Holds256}
 use Rattle.fuse_image.proofs.words.digest_of.Given as goal
 

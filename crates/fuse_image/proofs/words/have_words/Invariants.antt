@@ -1,7 +1,6 @@
--- What the loops of `words::have_words` keep.
 use Rattle.std.proofs.Common.{◌≡◌, map, drop}
 use Rattle.std.specs.List.{list_all}
-use Rattle.fuse_image.specs.Blocks.{is_block}
+use Rattle.fuse_image.specs.Prelude.{is_block}
 use Rattle.fuse_image.proofs.words.have_words.Given as goal
 
 abbrev pub invariant-loop-words : goal.invariant-loop-words

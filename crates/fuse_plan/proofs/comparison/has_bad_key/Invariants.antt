@@ -1,8 +1,7 @@
--- What the loop of `comparison::has_bad_key` keeps.
 use Rattle.std.proofs.Common.{◌≡◌, ◌&&◌, Bool, drop}
 use Rattle.std.specs.List.{list_any}
 use Rattle.fusemap_core.specs.declared.field.Field.{Field}
-use Rattle.fuse_plan.specs.Outcome.{is_bad_key}
+use Rattle.fuse_plan.specs.Prelude.{is_bad_key}
 use Rattle.fuse_plan.proofs.comparison.has_bad_key.Given as goal
 
 abbrev pub invariant-loop-field : goal.invariant-loop-field

@@ -1,4 +1,3 @@
--- Why `comparison::stray` meets its contract, where that has to be said.
 use Rattle.std.proofs.Common.{ap, ap₂, ◌∙◌}
 use Rattle.std.specs.FinSet as set
 use Rattle.fuse_plan.proofs.Compared.{stray_is}
@@ -8,4 +7,4 @@ pub returns : goal.returns
 returns c m L e =
     c.join-2.ensures
     ∙ ap₂ set.union (c.minus.ensures ∙ ap (set.difference c.args.ones.now) c.join.ensures) c.meet.ensures
-    ∙ stray_is m L c.args.burnt.now c.args.batch.now c.args.ones.now c.args.hidden.now c.known.ensures e
+    ∙ stray_is m L c.args.burnt.now c.args.batch.now c.args.ones.now c.args.hidden.now c.fact_places.ensures e

@@ -1,6 +1,5 @@
--- What the loop of `faults::first_fault` keeps.
 use Rattle.std.proofs.Common.{◌≡◌, drop}
-use Rattle.text_core.specs.Options.{first_that_holds}
+use Rattle.text_core.specs.Prelude.{first_that_holds}
 use Rattle.fuse_plan.proofs.faults.first_fault.Given as goal
 
 abbrev pub invariant-loop-holds : goal.invariant-loop-holds

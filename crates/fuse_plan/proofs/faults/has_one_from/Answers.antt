@@ -1,7 +1,6 @@
--- Why `faults::has_one_from` meets its contract, where that has to be said.
 use Rattle.std.proofs.Common.{◌-◌, ap, ap₂, ◌∙◌}
 use Rattle.std.specs.FinSet as set
-use Rattle.fuse_image.specs.Places.{Positions, sets_meet, run}
+use Rattle.fuse_image.specs.Prelude.{Positions, sets_meet, run}
 use Rattle.fuse_image.proofs.Sets.{union-empty}
 use Rattle.fuse_plan.proofs.Past.{sets_meet-from}
 use Rattle.fuse_plan.proofs.faults.has_one_from.Goals as goal

@@ -1,10 +1,8 @@
--- What the loop of `faults::has_protected_key` keeps.
-use Rattle.std.proofs.Common.{◌≡◌, ◌&&◌, Bool, drop}
-use Rattle.std.specs.Prelude.{is_some}
+use Rattle.std.proofs.Common.{◌≡◌, ◌&&◌, Bool, drop, is_some}
 use Rattle.std.specs.List.{list_any}
 use Rattle.std.specs.FinMap as map
 use Rattle.fusemap_core.specs.declared.field.Field.{Field}
-use Rattle.fuse_image.specs.Locks.{is_write_protected_key}
+use Rattle.fuse_image.specs.Prelude.{is_write_protected_key}
 use Rattle.fuse_plan.proofs.faults.has_protected_key.Given as goal
 
 abbrev pub invariant-loop-field : goal.invariant-loop-field

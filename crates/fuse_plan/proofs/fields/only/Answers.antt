@@ -1,9 +1,8 @@
--- Why `fields::only` meets its contract, where that has to be said.
 use Rattle.std.proofs.Common.{Option, sym, ap, ◌∙◌}
 use Rattle.std.specs.FinSet as set
 use Rattle.fusemap_core.specs.declared.pos.Pos.{Pos}
-use Rattle.fusemap_core.specs.Map.{is_lock}
-use Rattle.fuse_image.specs.Places.{Positions, places_where, run}
+use Rattle.fusemap_core.specs.Prelude.{is_lock}
+use Rattle.fuse_image.specs.Prelude.{Positions, places_where, run}
 use Rattle.fuse_plan.proofs.Asked.{none_passes, only_one}
 use Rattle.fuse_plan.proofs.fields.only.Goals as goal
 

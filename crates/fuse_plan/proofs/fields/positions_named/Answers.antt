@@ -1,6 +1,5 @@
--- Why `fields::positions_named` meets its contract, where that has to be said.
 use Rattle.std.proofs.Common.{◌∙◌, sym}
-use Rattle.fusemap_core.specs.Map.{field_named, holds}
+use Rattle.fusemap_core.specs.Prelude.{field_named, holds}
 use Rattle.fuse_plan.proofs.Asked.{in_no_field}
 use Rattle.fuse_plan.proofs.fields.positions_named.Goals as goal
 

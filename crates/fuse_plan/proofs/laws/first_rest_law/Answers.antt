@@ -1,4 +1,3 @@
--- Why `laws::first_rest_law` meets its contract, where that has to be said.
 use Rattle.fuse_plan.proofs.Pending.{first_rest_law}
 use Rattle.fuse_plan.proofs.laws.first_rest_law.Goals as goal
 

@@ -1,4 +1,3 @@
--- Why `laws::plan_law` meets its contract, where that has to be said.
 use Rattle.fuse_plan.proofs.Pending.{plan_law}
 use Rattle.fuse_plan.proofs.laws.plan_law.Goals as goal
 

@@ -1,4 +1,3 @@
--- Why `laws::rest_law` meets its contract, where that has to be said.
 use Rattle.fuse_plan.proofs.Pending.{rest_law}
 use Rattle.fuse_plan.proofs.laws.rest_law.Goals as goal
 

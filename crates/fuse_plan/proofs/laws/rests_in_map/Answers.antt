@@ -1,4 +1,3 @@
--- Why `laws::rests_in_map` meets its contract, where that has to be said.
 use Rattle.fuse_plan.proofs.InMap.{rests_in_map}
 use Rattle.fuse_plan.proofs.laws.rests_in_map.Goals as goal
 

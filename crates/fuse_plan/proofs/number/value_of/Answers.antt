@@ -1,7 +1,5 @@
--- Why `number::value_of` meets its contract, where that has to be said.
-use Rattle.std.proofs.Common.{refl, arith}
-use Rattle.std.specs.Prelude.{slice_index}
-use Rattle.fuse_plan.specs.Numbers.{digits_value}
+use Rattle.std.proofs.Common.{refl, arith, slice_index}
+use Rattle.fuse_plan.specs.Prelude.{digits_value}
 use Rattle.fuse_plan.proofs.Digits.{digits_value-more, fits-more}
 use Rattle.fuse_plan.proofs.number.value_of.Goals as goal
 

@@ -1,6 +1,5 @@
--- What the loop of `number::value_of` keeps.
 use Rattle.std.proofs.Common.{◌≡◌, take}
-use Rattle.fuse_plan.specs.Numbers.{digits_value}
+use Rattle.fuse_plan.specs.Prelude.{digits_value}
 use Rattle.fuse_plan.proofs.number.value_of.Given as goal
 
 abbrev pub invariant-loop-digit : goal.invariant-loop-digit

@@ -1,4 +1,3 @@
--- Why `number::with_zeros` meets its contract, where that has to be said.
 use Rattle.fuse_plan.proofs.Digits.{put_behind}
 use Rattle.fuse_plan.proofs.number.with_zeros.Goals as goal
 

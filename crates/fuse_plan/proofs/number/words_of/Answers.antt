@@ -1,10 +1,7 @@
--- Why `number::words_of` meets its contract, where that has to be said.
-use Rattle.std.proofs.Common.{◌≡◌, ℕ, ◌-◌, ◌*◌, List, ap, ◌∙◌, refl, arith}
-use Rattle.std.specs.List.{slice_range}
-use Rattle.std.proofs.lemmas.List.{length-set}
+use Rattle.std.proofs.Common.{◌≡◌, ℕ, ◌-◌, ◌*◌, List, ap, ◌∙◌, refl, arith, slice_range, length-set}
 use Rattle.std.proofs.lemmas.List.FromFn.{fill_by_all}
-use Rattle.text_core.specs.Padding.{zero_padded}
-use Rattle.fuse_plan.specs.Numbers.{digits_value, number_word}
+use Rattle.text_core.specs.Prelude.{zero_padded}
+use Rattle.fuse_plan.specs.Prelude.{digits_value, number_word}
 use Rattle.fuse_plan.proofs.Digits.{digits_value-padded, length-padded, word-is}
 use Rattle.fuse_plan.proofs.Windows.{one_word_more}
 use Rattle.fuse_plan.proofs.number.words_of.Goals as goal

@@ -1,6 +1,5 @@
--- What the loop of `number::words_of` keeps.
 use Rattle.std.proofs.Common.{◌≡◌, ℕ, ◌<◌, length, slice_index}
-use Rattle.fuse_plan.specs.Numbers.{digits_value, number_word}
+use Rattle.fuse_plan.specs.Prelude.{digits_value, number_word}
 use Rattle.fuse_plan.proofs.number.words_of.Given as goal
 
 abbrev pub invariant-loop-index : goal.invariant-loop-index

@@ -1,6 +1,5 @@
--- Why `values::ones_from` meets its contract, where that has to be said.
 use Rattle.std.proofs.Common.{◌∙◌}
-use Rattle.fuse_plan.specs.Wishes.{is_one_from}
+use Rattle.fuse_plan.specs.Prelude.{is_one_from}
 use Rattle.fuse_plan.proofs.Windows.{words_are}
 use Rattle.fuse_plan.proofs.values.ones_from.Goals as goal
 

@@ -1,4 +1,3 @@
--- Why `values::shifted` meets its contract, where that has to be said.
 use Rattle.std.proofs.Common.{◌≡◌, ℕ, ◌+◌, ◌-◌, ◌*◌, ◌/◌, ◌%◌, ◌^◌, ap, ◌∙◌, arith}
 use Rattle.std.specs.Int.{bit_at}
 use Rattle.fuse_plan.proofs.Windows.{shifted-bit}

@@ -1,6 +1,4 @@
--- Why `values::window` meets its contract, where that has to be said.
-use Rattle.std.proofs.Common.{ℕ, ◌+◌, ◌-◌, ◌%◌, ap, ap₂, ◌∙◌}
-use Rattle.std.specs.Prelude.{◌==◌, nat_lt, if◌then◌else◌}
+use Rattle.std.proofs.Common.{ℕ, ◌+◌, ◌-◌, ◌%◌, ap, ap₂, ◌∙◌, ◌==◌, nat_lt, if◌then◌else◌}
 use Rattle.std.specs.Int.{bit_at}
 use Rattle.fuse_plan.proofs.Windows.{window-is}
 use Rattle.fuse_plan.proofs.values.window.Goals as goal

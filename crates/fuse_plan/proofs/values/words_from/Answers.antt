@@ -1,10 +1,7 @@
--- Why `values::words_from` meets its contract, where that has to be said.
-use Rattle.std.proofs.Common.{◌≡◌, ◌<◌, ◌+◌, ℕ, length, set, subst, sym, ◌∙◌, arith}
-use Rattle.std.specs.Prelude.{◌==◌, slice_index}
+use Rattle.std.proofs.Common.{◌≡◌, ◌<◌, ◌+◌, ℕ, length, set, subst, sym, ◌∙◌, arith, ◌==◌, slice_index, length-set}
 use Rattle.std.specs.Int.{bit_at}
-use Rattle.std.proofs.lemmas.List.{length-set}
-use Rattle.fuse_image.specs.Words.{position_of_bit}
-use Rattle.fuse_plan.specs.Wishes.{is_one_from}
+use Rattle.fuse_image.specs.Prelude.{position_of_bit}
+use Rattle.fuse_plan.specs.Prelude.{is_one_from}
 use Rattle.fuse_plan.proofs.Windows.{one_word_more}
 use Rattle.fuse_plan.proofs.values.words_from.Goals as goal
 

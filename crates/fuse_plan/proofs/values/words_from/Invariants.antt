@@ -1,9 +1,7 @@
--- What the loop of `values::words_from` keeps.
-use Rattle.std.proofs.Common.{◌≡◌, ◌<◌, ℕ, length}
-use Rattle.std.specs.Prelude.{◌==◌, slice_index}
+use Rattle.std.proofs.Common.{◌≡◌, ◌<◌, ℕ, length, ◌==◌, slice_index}
 use Rattle.std.specs.Int.{bit_at}
-use Rattle.fuse_image.specs.Words.{position_of_bit}
-use Rattle.fuse_plan.specs.Wishes.{is_one_from}
+use Rattle.fuse_image.specs.Prelude.{position_of_bit}
+use Rattle.fuse_plan.specs.Prelude.{is_one_from}
 use Rattle.fuse_plan.proofs.values.words_from.Given as goal
 
 abbrev pub invariant-loop-word : goal.invariant-loop-word

@@ -1,9 +1,8 @@
--- Why `values::zeros_in` meets its contract, where that has to be said.
 use Rattle.std.proofs.Common.{ap, ap₂, ◌∙◌}
 use Rattle.std.specs.FinSet as set
 use Rattle.fusemap_core.specs.declared.pos.Pos.{Pos}
-use Rattle.fuse_image.specs.Places.{places_where}
-use Rattle.fuse_plan.specs.Wishes.{is_one_from}
+use Rattle.fuse_image.specs.Prelude.{places_where}
+use Rattle.fuse_plan.specs.Prelude.{is_one_from}
 use Rattle.fuse_plan.proofs.Windows.{zeros_are}
 use Rattle.fuse_plan.proofs.values.zeros_in.Goals as goal
 

@@ -1,6 +1,5 @@
--- What the loop of `wants::wanted_key` keeps.
 use Rattle.std.proofs.Common.{◌≡◌, drop}
-use Rattle.fuse_plan.specs.Wishes.{wanted_key}
+use Rattle.fuse_plan.specs.Prelude.{wanted_key}
 use Rattle.fuse_plan.proofs.wants.wanted_key.Given as goal
 
 abbrev pub invariant-loop-wish : goal.invariant-loop-wish

@@ -1,7 +1,6 @@
--- Why `wants::wanted_keys` meets its contract, where that has to be said.
 use Rattle.std.proofs.Common.{◌∙◌}
 use Rattle.fuse_image.proofs.Tables.{table_is}
-use Rattle.fuse_plan.specs.Wishes.{wanted_key, wanted_keys}
+use Rattle.fuse_plan.specs.Prelude.{wanted_key, wanted_keys}
 use Rattle.fuse_plan.proofs.wants.wanted_keys.Goals as goal
 
 pub returns : goal.returns

@@ -1,6 +1,5 @@
--- What the loop of `wants::wanted_ones` keeps.
 use Rattle.std.proofs.Common.{◌≡◌, take}
-use Rattle.fuse_plan.specs.Wishes.{asked_by, asks_one}
+use Rattle.fuse_plan.specs.Prelude.{asked_by, asks_one}
 use Rattle.fuse_plan.proofs.wants.wanted_ones.Given as goal
 
 abbrev pub invariant-loop-wish : goal.invariant-loop-wish

@@ -1,7 +1,6 @@
--- Why `wants::wanted_zeros` meets its contract, where that has to be said.
 use Rattle.std.proofs.Common.{ap₂, ◌∙◌}
 use Rattle.std.specs.FinSet as set
-use Rattle.fuse_plan.specs.Wishes.{asks_zero}
+use Rattle.fuse_plan.specs.Prelude.{asks_zero}
 use Rattle.fuse_plan.proofs.Asked.{asked_by-none, asked_by-more}
 use Rattle.fuse_plan.proofs.wants.wanted_zeros.Goals as goal
 

@@ -1,7 +1,6 @@
--- Why `wants::zeros_named` meets its contract, where that has to be said.
 use Rattle.std.proofs.Common.{◌-◌, ◌&&◌, not, ◌∙◌, sym}
-use Rattle.fusemap_core.specs.Map.{field_named, holds}
-use Rattle.fuse_plan.specs.Numbers.{number_has_one}
+use Rattle.fusemap_core.specs.Prelude.{field_named, holds}
+use Rattle.fuse_plan.specs.Prelude.{number_has_one}
 use Rattle.fuse_plan.proofs.Asked.{in_no_field}
 use Rattle.fuse_plan.proofs.wants.zeros_named.Goals as goal
 

@@ -1,8 +1,7 @@
--- Why `wants::zeros_of` meets its contract, where that has to be said.
 use Rattle.std.proofs.Common.{ap, ◌∙◌}
-use Rattle.fusemap_core.specs.Map.{field_named}
+use Rattle.fusemap_core.specs.Prelude.{field_named}
 use Rattle.fuse_plan.specs.declared.wish.Want.{Want}
-use Rattle.fuse_plan.specs.Wishes.{asks_zero, at_field, is_to_be_zero}
+use Rattle.fuse_plan.specs.Prelude.{asks_zero, at_field, is_to_be_zero}
 use Rattle.fuse_plan.proofs.Asked.{none_passes, never}
 use Rattle.fuse_plan.proofs.wants.zeros_of.Goals as goal
 

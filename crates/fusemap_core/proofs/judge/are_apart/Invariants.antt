@@ -1,7 +1,6 @@
--- What the loops of `judge::are_apart` keep.
 use Rattle.std.proofs.Common.{◌≡◌, drop}
 use Rattle.fusemap_core.specs.MapFaults as faults
-use Rattle.fusemap_core.specs.MapFaults.{all_pairs}
+use Rattle.fusemap_core.specs.Prelude.{all_pairs}
 use Rattle.fusemap_core.proofs.judge.are_apart.Given as goal
 
 abbrev pub invariant-loop-index : goal.invariant-loop-index

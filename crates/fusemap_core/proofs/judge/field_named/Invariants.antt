@@ -1,4 +1,3 @@
--- What the loops of `judge::field_named` keep.
 use Rattle.std.proofs.Common.{◌≡◌, drop}
 use Rattle.fusemap_core.specs.Map as map
 use Rattle.fusemap_core.proofs.judge.field_named.Given as goal

@@ -1,6 +1,5 @@
--- Why `judge::judged_map` meets its contract, where that has to be said.
 use Rattle.std.proofs.Common.{◌≡◌, sym, ap, ◌∙◌}
-use Rattle.fusemap_core.specs.Map.{Map}
+use Rattle.fusemap_core.specs.Prelude.{Map}
 use Rattle.fusemap_core.proofs.Bounds.{are_small}
 use Rattle.fusemap_core.proofs.Judged.{IsMap-from_no_fault}
 use Rattle.fusemap_core.proofs.judge.judged_map.Goals as goal

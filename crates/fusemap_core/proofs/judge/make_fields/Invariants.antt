@@ -1,4 +1,3 @@
--- What the loops of `judge::make_fields` keep.
 use Rattle.std.proofs.Common.{◌≡◌, take}
 use Rattle.fusemap_core.proofs.judge.make_fields.Given as goal
 

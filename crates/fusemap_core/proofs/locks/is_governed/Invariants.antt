@@ -1,8 +1,7 @@
--- What the loops of `locks::is_governed` keep.
 use Rattle.std.proofs.Common.{◌≡◌, ◌&&◌, ◌||◌, Bool, drop, option_and_then}
 use Rattle.std.specs.List.{list_any}
 use Rattle.fusemap_core.specs.declared.field.Field.{Field}
-use Rattle.fusemap_core.specs.Map.{holds, is_lock, lock_at}
+use Rattle.fusemap_core.specs.Prelude.{holds, is_lock, lock_at}
 use Rattle.fusemap_core.proofs.locks.is_governed.Given as goal
 
 abbrev pub invariant-loop-field : goal.invariant-loop-field

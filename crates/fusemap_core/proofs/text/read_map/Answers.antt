@@ -1,8 +1,6 @@
--- Why `text::read_map` meets its contract, where that has to be said.
-use Rattle.std.proofs.Common.{arith, sym, ◌∙◌}
-use Rattle.std.proofs.lemmas.Grind.{common_steps}
-use Rattle.text_core.specs.Answer.{GivesUnless}
-use Rattle.fusemap_core.specs.MapText.{map_read}
+use Rattle.text_core.proofs.Kit.{arith, sym, ◌∙◌, common_steps}
+use Rattle.text_core.specs.Prelude.{GivesUnless}
+use Rattle.fusemap_core.specs.Prelude.{map_read}
 use Rattle.fusemap_core.specs.declared.fault.MapFault.TheVariants.{OutOfMemory}
 use Rattle.fusemap_core.proofs.Ranges.{IsInRange-from_map_of}
 use Rattle.fusemap_core.proofs.Reading.{valid_from_exact, refused_from_exact, lowest_from_exact}

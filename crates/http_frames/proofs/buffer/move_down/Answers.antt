@@ -1,4 +1,3 @@
--- Why `buffer::move_down` meets its contract, where that has to be said.
 use Rattle.http_frames.proofs.BufferLemmas.{moved_down}
 use Rattle.http_frames.proofs.buffer.move_down.Goals as goal
 

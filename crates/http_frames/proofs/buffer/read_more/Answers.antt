@@ -1,4 +1,3 @@
--- Why `buffer::read_more` meets its contract, where that has to be said.
 use Rattle.std.proofs.Common.{arith}
 use Rattle.http_frames.proofs.BufferLemmas.{unmoved, kept}
 use Rattle.http_frames.proofs.buffer.read_more.Goals as goal

@@ -1,7 +1,5 @@
--- Why `buffer::read_request` meets its contract, where that has to be said.
 use Rattle.std.proofs.Common.{sym, subst, refl}
-use Rattle.http_frames.specs.Frames.{IsUndecided}
-use Rattle.http_frames.specs.Looks.{IsLook}
+use Rattle.http_frames.specs.Prelude.{IsUndecided, IsLook}
 use Rattle.http_frames.proofs.BufferLemmas.{cut_off}
 use Rattle.http_frames.proofs.buffer.read_request.Goals as goal
 

@@ -1,6 +1,5 @@
--- What the loops of `buffer::read_request` keep.
 use Rattle.std.proofs.Common.{◌≡◌, ◌+◌, ◌-◌, ◌≤◌}
-use Rattle.http_frames.specs.Buffers.{unread, KeepsBytes}
+use Rattle.http_frames.specs.Prelude.{unread, KeepsBytes}
 use Rattle.http_frames.proofs.buffer.read_request.Given as goal
 
 abbrev pub invariant-loop-framed : goal.invariant-loop-framed

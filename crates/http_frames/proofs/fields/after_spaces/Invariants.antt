@@ -1,6 +1,5 @@
--- What the loops of `after_spaces` keep.
 use Rattle.std.proofs.Common.{◌≡◌, length}
-use Rattle.http_frames.specs.Fields.{skip_spaces}
+use Rattle.http_frames.specs.Prelude.{skip_spaces}
 use Rattle.http_frames.proofs.fields.after_spaces.Given as goal
 
 abbrev pub invariant-loop-s : goal.invariant-loop-s

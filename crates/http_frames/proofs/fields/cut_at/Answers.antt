@@ -1,4 +1,3 @@
--- Why `cut_at` meets its contract, where that has to be said.
 use Rattle.std.proofs.Common.{rules}
 use Rattle.std.proofs.lemmas.List.{take_rest}
 use Rattle.http_frames.proofs.FieldsLemmas.{lacks, lacks-take, seam_at}

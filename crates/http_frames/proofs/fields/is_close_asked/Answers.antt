@@ -1,7 +1,5 @@
--- Why `is_close_asked` meets its contract, where that has to be said.
-use Rattle.std.proofs.Common.{◌∙◌, ap, sym, ◌&&◌}
-use Rattle.std.specs.Prelude.{codes}
-use Rattle.http_frames.specs.Fields.{is_header_named, same_ignoring_case, has_close}
+use Rattle.std.proofs.Common.{◌∙◌, ap, sym, ◌&&◌, codes}
+use Rattle.http_frames.specs.Prelude.{is_header_named, same_ignoring_case, has_close}
 use Rattle.http_frames.proofs.FieldsLemmas.{any_header_at}
 use Rattle.http_frames.proofs.fields.is_close_asked.Goals as goal
 

@@ -1,6 +1,5 @@
--- What the loops of `is_close_asked` keep.
 use Rattle.std.proofs.Common.{◌≡◌, take, false}
-use Rattle.http_frames.specs.Fields.{asks_close, headers_at}
+use Rattle.http_frames.specs.Prelude.{asks_close, headers_at}
 use Rattle.http_frames.proofs.fields.is_close_asked.Given as goal
 
 abbrev pub invariant-loop-span : goal.invariant-loop-span

@@ -1,6 +1,5 @@
--- Why `is_field_present` meets its contract, where that has to be said.
 use Rattle.std.proofs.Common.{◌∙◌, ap, sym}
-use Rattle.http_frames.specs.Fields.{is_header_named, same_ignoring_case}
+use Rattle.http_frames.specs.Prelude.{is_header_named, same_ignoring_case}
 use Rattle.http_frames.proofs.FieldsLemmas.{any_header_at}
 use Rattle.http_frames.proofs.fields.is_field_present.Goals as goal
 

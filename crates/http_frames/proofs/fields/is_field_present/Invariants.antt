@@ -1,6 +1,5 @@
--- What the loops of `is_field_present` keep.
 use Rattle.std.proofs.Common.{◌≡◌, take, false}
-use Rattle.http_frames.specs.Fields.{has_field, headers_at}
+use Rattle.http_frames.specs.Prelude.{has_field, headers_at}
 use Rattle.http_frames.proofs.fields.is_field_present.Given as goal
 
 abbrev pub invariant-loop-field : goal.invariant-loop-field

@@ -1,9 +1,8 @@
--- Why `is_same_ignoring_case` meets its contract, where that has to be said.
 use Rattle.std.proofs.Common.{map}
 use Rattle.std.specs.Char.{to_ascii_lowercase}
 use Rattle.std.proofs.lemmas.Bool.Decides.{same_from_decides}
 use Rattle.std.proofs.lemmas.Slice.Eq.{bytes_eq-Decides}
-use Rattle.http_frames.specs.Fields.{same_ignoring_case}
+use Rattle.http_frames.specs.Prelude.{same_ignoring_case}
 use Rattle.http_frames.proofs.fields.is_same_ignoring_case.Goals as goal
 
 pub returns : goal.returns

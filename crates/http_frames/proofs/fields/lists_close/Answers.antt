@@ -1,6 +1,5 @@
--- Why `lists_close` meets its contract, where that has to be said.
 use Rattle.std.proofs.Common.{◌||◌, ◌∙◌, ap, sym, subst}
-use Rattle.http_frames.specs.Fields.{has_close, IsCut}
+use Rattle.http_frames.specs.Prelude.{has_close, IsCut}
 use Rattle.http_frames.proofs.FieldsLemmas.{has_close_at, has_close_whole}
 use Rattle.http_frames.proofs.fields.lists_close.Goals as goal
 

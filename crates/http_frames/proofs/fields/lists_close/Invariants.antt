@@ -1,6 +1,5 @@
--- What the loops of `lists_close` keep.
 use Rattle.std.proofs.Common.{◌≡◌, length}
-use Rattle.http_frames.specs.Fields.{has_close}
+use Rattle.http_frames.specs.Prelude.{has_close}
 use Rattle.http_frames.proofs.fields.lists_close.Given as goal
 
 abbrev pub invariant-loop-piece : goal.invariant-loop-piece

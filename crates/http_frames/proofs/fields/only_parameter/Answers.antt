@@ -1,6 +1,5 @@
--- Why `only_parameter` meets its contract, where that has to be said.
 use Rattle.std.proofs.Common.{◌++◌, ◌∙◌, ap, sym, subst, append_assoc, List, ℕ}
-use Rattle.http_frames.specs.Fields.{IsCut, IsOccurrence, parameters_named, piece_values}
+use Rattle.http_frames.specs.Prelude.{IsCut, IsOccurrence, parameters_named, piece_values}
 use Rattle.http_frames.proofs.FieldsLemmas.{parameters_at, parameters_whole}
 use Rattle.http_frames.proofs.fields.only_parameter.Goals as goal
 

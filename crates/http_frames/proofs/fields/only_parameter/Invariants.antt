@@ -1,6 +1,5 @@
--- What the loops of `only_parameter` keep.
 use Rattle.std.proofs.Common.{◌≡◌, length, List, ℕ, ◌++◌}
-use Rattle.http_frames.specs.Fields.{IsOccurrence, parameters_named}
+use Rattle.http_frames.specs.Prelude.{IsOccurrence, parameters_named}
 use Rattle.http_frames.proofs.fields.only_parameter.Given as goal
 
 abbrev pub invariant-loop-piece : goal.invariant-loop-piece

@@ -1,6 +1,5 @@
--- Why `only_value` meets its contract, where that has to be said.
 use Rattle.std.proofs.Common.{◌∙◌, ap, subst, List, ℕ}
-use Rattle.http_frames.specs.Fields.{IsOccurrence, same_ignoring_case}
+use Rattle.http_frames.specs.Prelude.{IsOccurrence, same_ignoring_case}
 use Rattle.http_frames.proofs.FieldsLemmas.{values_named-nil, values_named_more}
 use Rattle.http_frames.proofs.fields.only_value.Goals as goal
 

@@ -1,6 +1,5 @@
--- What the loops of `only_value` keep.
 use Rattle.std.proofs.Common.{take}
-use Rattle.http_frames.specs.Fields.{IsOccurrence, values_named, headers_at}
+use Rattle.http_frames.specs.Prelude.{IsOccurrence, values_named, headers_at}
 use Rattle.http_frames.proofs.fields.only_value.Given as goal
 
 abbrev pub invariant-loop-span : goal.invariant-loop-span

@@ -1,9 +1,7 @@
--- Why `read_bearer` meets its contract, where that has to be said.
-use Rattle.std.proofs.Common.{◌≡◌, ◌<◌, ◌∙◌, ap, sym, refl, true, false, length, arith}
+use Rattle.std.proofs.Common.{◌≡◌, ◌<◌, ◌∙◌, ap, sym, refl, true, false, length, arith, eq-eqb}
 use Rattle.std.proofs.lemmas.Bool.Decides.{nat_tests}
-use Rattle.http_frames.specs.Fields.{some_token}
+use Rattle.http_frames.specs.Prelude.{some_token}
 use Rattle.std.proofs.lemmas.List.{take_rest}
-use Rattle.std.proofs.lemmas.Bool.{eq-eqb}
 use Rattle.http_frames.proofs.FieldsLemmas.{bearer_token_by, no_token_unspaced, no_token_empty, some_token_of, past_end}
 use Rattle.http_frames.proofs.fields.read_bearer.Goals as goal
 

@@ -1,4 +1,3 @@
--- Why `read_size` meets its contract, where that has to be said.
 use Rattle.std.proofs.Common.{◌≡◌, ◌∙◌, sym, true, get_or, arith}
 use Rattle.std.specs.Char.{is_ascii_digit, digit_value}
 use Rattle.std.proofs.lemmas.Bool.Decides.{nat_tests}

@@ -1,4 +1,3 @@
--- What the loops of `read_size` keep.
 use Rattle.std.proofs.Common.{◌≡◌, true, take, min}
 use Rattle.std.specs.List.{list_all}
 use Rattle.std.specs.Char.{is_ascii_digit}

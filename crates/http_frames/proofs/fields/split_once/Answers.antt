@@ -1,6 +1,5 @@
--- Why `split_once` meets its contract, where that has to be said.
 use Rattle.std.proofs.Common.{sym, subst, ap, ◌∙◌}
-use Rattle.http_frames.specs.Fields.{IsCut, before_byte, after_byte}
+use Rattle.http_frames.specs.Prelude.{IsCut, before_byte, after_byte}
 use Rattle.http_frames.proofs.FieldsLemmas.{before_at, after_at, before_whole, after_whole}
 use Rattle.http_frames.proofs.fields.split_once.Goals as goal
 

@@ -1,4 +1,3 @@
--- Why `trim` meets its contract, where that has to be said.
 use Rattle.std.proofs.Common.{ap, ◌∙◌, reverse}
 use Rattle.httparse.specs.Grammar.{trim_ows, skip_ows}
 use Rattle.http_frames.proofs.fields.trim.Goals as goal

@@ -1,4 +1,3 @@
--- What the loops of `trim_end` keep.
 use Rattle.std.proofs.Common.{◌≡◌, length, reverse}
 use Rattle.httparse.specs.Grammar.{skip_ows}
 use Rattle.http_frames.proofs.fields.trim_end.Given as goal

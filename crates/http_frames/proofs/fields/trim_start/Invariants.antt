@@ -1,4 +1,3 @@
--- What the loops of `trim_start` keep.
 use Rattle.std.proofs.Common.{◌≡◌, length}
 use Rattle.httparse.specs.Grammar.{skip_ows}
 use Rattle.http_frames.proofs.fields.trim_start.Given as goal

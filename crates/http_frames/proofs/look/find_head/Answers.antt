@@ -1,4 +1,3 @@
--- Why `look::find_head` meets its contract, where that has to be said.
 use Rattle.std.proofs.Common.{◌≡◌, ◌∙◌, ap, subst, take, length, arith}
 use Rattle.std.proofs.lemmas.List.{take_min}
 use Rattle.httparse.specs.Grammar.{HasNoRequest}

@@ -1,4 +1,3 @@
--- Why `look::look` meets its contract, where that has to be said.
 use Rattle.std.proofs.Common.{sym, ◌∙◌}
 use Rattle.http_frames.proofs.FrameLemmas.{frame_found}
 use Rattle.http_frames.proofs.look.look.Goals as goal

@@ -1,4 +1,3 @@
--- Why `head::put_number` meets its contract, where that has to be said.
 use Rattle.std.proofs.Common.{length, ap, arith}
 use Rattle.http_replies.proofs.head.put_number.Goals as goal
 

@@ -1,7 +1,5 @@
--- Why `head::reply_head` meets its contract, where that has to be said.
-use Rattle.std.proofs.Common.{◌≡◌, ◌++◌, ◌∙◌, ap, length, List, ℕ}
-use Rattle.std.specs.Prelude.{codes, decimal}
-use Rattle.http_replies.specs.Replies.{head_text, line_if, media_type_of}
+use Rattle.std.proofs.Common.{◌≡◌, ◌++◌, ◌∙◌, ap, length, List, ℕ, codes, decimal}
+use Rattle.http_replies.specs.Prelude.{head_text, line_if, media_type_of}
 use Rattle.http_replies.proofs.head.reply_head.Goals as goal
 
 -- one text behind another

@@ -1,6 +1,5 @@
--- What the loops of `send::write_all` keep.
 use Rattle.std.proofs.Common.{◌≡◌, ◌+◌, ◌-◌, ◌≤◌, ◌<◌, length, ◌⊎◌}
-use Rattle.http_serving.specs.Sends.{SendsPart}
+use Rattle.http_serving.specs.Prelude.{SendsPart}
 use Rattle.http_serving.proofs.send.write_all.Given as goal
 
 abbrev pub invariant-loop-rest : goal.invariant-loop-rest

@@ -1,5 +1,4 @@
--- Why `send::write_reply` meets its contract, where that has to be said.
-use Rattle.http_replies.specs.Replies.{bytes_of_body}
+use Rattle.http_replies.specs.Prelude.{bytes_of_body}
 use Rattle.http_serving.proofs.SendLemmas.{sending_then}
 use Rattle.http_serving.proofs.send.write_reply.Goals as goal
 

@@ -1,8 +1,6 @@
--- Why `blocks::end_of_meeting` meets its contract, where that has to be said.
-use Rattle.std.proofs.Common.{◌≡◌, inl, inr, sym, ◌∙◌, ap, arith, slice_index_or}
-use Rattle.std.proofs.lemmas.Bool.{cases_lt}
-use Rattle.std.proofs.lemmas.List.{get_or_default}
-use Rattle.id_ranges.specs.Blocks.{blocks_overlap}
+use Rattle.std.proofs.Common.{◌≡◌}
+use Rattle.text_core.proofs.Kit.{inl, inr, sym, ◌∙◌, ap, arith, slice_index_or, cases_lt, get_or_default}
+use Rattle.id_ranges.specs.Prelude.{blocks_overlap}
 use Rattle.id_ranges.proofs.FreeBlocks.{not_free_later, free_from_none, end_past_start}
 use Rattle.id_ranges.proofs.blocks.end_of_meeting.Goals as goal
 use Rattle.id_ranges.proofs.blocks.end_of_meeting.Goals.{then-meets, else-meets}

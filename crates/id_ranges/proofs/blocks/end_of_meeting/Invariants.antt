@@ -1,6 +1,5 @@
--- What the loops of `blocks::end_of_meeting` keep.
 use Rattle.std.proofs.Common.{◌≡◌, ◌<◌, ◌≤◌, ℕ, false, slice_index_or}
-use Rattle.id_ranges.specs.Blocks.{blocks_overlap, is_free}
+use Rattle.id_ranges.specs.Prelude.{blocks_overlap, is_free}
 use Rattle.id_ranges.proofs.blocks.end_of_meeting.Given as goal
 
 abbrev pub invariant-loop-interval : goal.invariant-loop-interval

@@ -1,6 +1,5 @@
--- What the loops of `blocks::reserve` keep.
 use Rattle.std.proofs.Common.{◌≡◌, drop}
-use Rattle.id_ranges.specs.Blocks.{reserved_start}
+use Rattle.id_ranges.specs.Prelude.{reserved_start}
 use Rattle.id_ranges.proofs.blocks.reserve.Given as goal
 
 abbrev pub invariant-loop-pool : goal.invariant-loop-pool

@@ -1,7 +1,6 @@
--- Why `blocks::start_in` meets its contract, where that has to be said.
 use Rattle.std.proofs.Common.{◌+◌, ◌-◌, inl, inr, sym, arith}
 use Rattle.std.proofs.lemmas.Bool.{cases_lt}
-use Rattle.id_ranges.specs.Blocks.{is_free}
+use Rattle.id_ranges.specs.Prelude.{is_free}
 use Rattle.id_ranges.proofs.Ranges.{find-range_some, find-range_none}
 use Rattle.id_ranges.proofs.blocks.start_in.Goals as goal
 

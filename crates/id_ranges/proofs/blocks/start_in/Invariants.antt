@@ -1,6 +1,5 @@
--- What the loops of `blocks::start_in` keep.
 use Rattle.std.proofs.Common.{◌+◌, ◌-◌, ◌≡◌, ◌<◌, ◌≤◌, ℕ, false}
-use Rattle.id_ranges.specs.Blocks.{is_free}
+use Rattle.id_ranges.specs.Prelude.{is_free}
 use Rattle.id_ranges.proofs.blocks.start_in.Given as goal
 
 abbrev pub invariant-loop-start : goal.invariant-loop-start

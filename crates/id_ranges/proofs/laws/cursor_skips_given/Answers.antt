@@ -1,4 +1,3 @@
--- Why `laws::cursor_skips_given` meets its contract, where that has to be said.
 use Rattle.id_ranges.proofs.NextNumbers.{cursor_skips}
 use Rattle.id_ranges.proofs.laws.cursor_skips_given.Goals as goal
 

@@ -1,4 +1,3 @@
--- Why `laws::meets_is_tested` meets its contract, where that has to be said.
 use Rattle.id_ranges.proofs.Meeting.{meets_from_test, test_from_meets}
 use Rattle.id_ranges.proofs.laws.meets_is_tested.Goals as goal
 

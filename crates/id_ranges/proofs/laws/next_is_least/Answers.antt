@@ -1,4 +1,3 @@
--- Why `laws::next_is_least` meets its contract, where that has to be said.
 use Rattle.id_ranges.proofs.NextNumbers.{least_is_next, next_is_least, next_none, none_is_left}
 use Rattle.id_ranges.proofs.laws.next_is_least.Goals as goal
 

@@ -1,4 +1,3 @@
--- Why `laws::serials_are_distinct` meets its contract, where that has to be said.
 use Rattle.id_ranges.proofs.Texts.{texts_are_serials, same_number, same_width}
 use Rattle.id_ranges.proofs.laws.serials_are_distinct.Goals as goal
 

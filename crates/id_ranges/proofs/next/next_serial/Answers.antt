@@ -1,8 +1,4 @@
--- Why `next::next_serial` meets its contract, where that has to be said.
-use Rattle.std.proofs.Common.{nat_cmp, inl, inr, ap, ◌∙◌, arith}
-use Rattle.std.specs.BTreeSet.{contains}
-use Rattle.std.specs.Cmp.Lexicographic.{slice_cmp}
-use Rattle.std.specs.Option.{ok_or}
+use Rattle.text_core.proofs.Kit.{nat_cmp, inl, inr, ap, ◌∙◌, arith, contains, slice_cmp, ok_or}
 use Rattle.id_ranges.specs.declared.fault.RangeFault.TheVariants.{Exhausted}
 use Rattle.id_ranges.proofs.NextNumbers.{cursor_skips}
 use Rattle.id_ranges.proofs.next.next_serial.Goals as goal

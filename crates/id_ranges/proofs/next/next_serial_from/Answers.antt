@@ -1,6 +1,5 @@
--- Why `next::next_serial_from` meets its contract, where that has to be said.
 use Rattle.std.proofs.Common.{◌≡◌, ◌≤◌, false, inl, refl, arith}
-use Rattle.id_ranges.specs.Range.{Has, serial_text_of}
+use Rattle.id_ranges.specs.Prelude.{Has, serial_text_of}
 use Rattle.id_ranges.proofs.NextNumbers.{next_here, next_none}
 use Rattle.id_ranges.proofs.next.next_serial_from.Goals as goal
 

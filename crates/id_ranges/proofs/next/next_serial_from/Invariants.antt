@@ -1,6 +1,5 @@
--- What the loops of `next::next_serial_from` keep.
 use Rattle.std.proofs.Common.{◌≡◌, ◌<◌, ◌≤◌, ℕ, true}
-use Rattle.id_ranges.specs.Range.{serial_text_of}
+use Rattle.id_ranges.specs.Prelude.{serial_text_of}
 use Rattle.id_ranges.proofs.next.next_serial_from.Given as goal
 
 -- each number so far, from the cursor on, is given by the state at the start

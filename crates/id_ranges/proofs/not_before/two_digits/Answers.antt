@@ -1,4 +1,3 @@
--- Why `not_before::two_digits` meets its contract, where that has to be said.
 use Rattle.std.proofs.Common.{◌+◌, get_or, arith}
 use Rattle.std.proofs.lemmas.Str.{digit_value_digit}
 use Rattle.id_ranges.proofs.Times.{digit_pair}

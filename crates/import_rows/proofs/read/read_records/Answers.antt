@@ -1,10 +1,8 @@
--- Why `read_records` meets its contract, where that has to be said.
 use Rattle.std.proofs.Common.{◌≡◌, ◌≤◌, ◌∷◌, Some, ap, arith, length, map, option_map, sym, true, ◌∙◌}
 use Rattle.std.proofs.lemmas.List.{length-map}
 use Rattle.csv.specs.Records.{fields_of}
-use Rattle.text_core.specs.Options.{all_of}
-use Rattle.import_rows.specs.Found.{found_row, with_serial}
-use Rattle.import_rows.specs.Rows.{fields_of_row, is_header, row_with_serial, import_table}
+use Rattle.text_core.specs.Prelude.{all_of}
+use Rattle.import_rows.specs.Prelude.{found_row, with_serial, fields_of_row, is_header, row_with_serial, import_table}
 use Rattle.import_rows.proofs.Tables.{rows_read, table_under}
 use Rattle.import_rows.proofs.read.read_records.Goals as goal
 

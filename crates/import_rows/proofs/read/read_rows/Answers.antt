@@ -1,10 +1,8 @@
--- Why `read_rows` meets its contract, where that has to be said.
-use Rattle.std.proofs.Common.{ap, arith, map, option_map, take, ◌∙◌}
-use Rattle.std.proofs.lemmas.Result.{IfOk-weaker}
+use Rattle.text_core.proofs.Kit.{ap, arith, map, option_map, take, ◌∙◌, IfOk-weaker}
 use Rattle.csv.specs.Reading.{default_config, records, strip_bom}
 use Rattle.csv.specs.Records.{fields_of}
-use Rattle.text_core.specs.Options.{all_of}
-use Rattle.import_rows.specs.Rows.{row_with_serial, import_rows_of, import_table}
+use Rattle.text_core.specs.Prelude.{all_of}
+use Rattle.import_rows.specs.Prelude.{row_with_serial, import_rows_of, import_table}
 use Rattle.import_rows.proofs.Tables.{table_of_first}
 use Rattle.import_rows.proofs.read.read_rows.Goals as goal
 

@@ -1,10 +1,7 @@
--- Why `read_table` meets its contract, where that has to be said.
-use Rattle.std.proofs.Common.{ap, map, option_map, sym, ◌∙◌}
-use Rattle.std.proofs.lemmas.Result.{IfOk-weaker}
+use Rattle.text_core.proofs.Kit.{ap, map, option_map, sym, ◌∙◌, IfOk-weaker}
 use Rattle.csv.specs.Records.{Row, fields_of}
 use Rattle.text_core.proofs.Lists.{all_of-map}
-use Rattle.import_rows.specs.Found.{found_row}
-use Rattle.import_rows.specs.Rows.{fields_of_row}
+use Rattle.import_rows.specs.Prelude.{found_row, fields_of_row}
 use Rattle.import_rows.proofs.Tables.{found_table}
 use Rattle.import_rows.proofs.read.read_table.Goals as goal
 

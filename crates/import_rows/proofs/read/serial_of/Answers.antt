@@ -1,4 +1,3 @@
--- Why `serial_of` meets its contract, where that has to be said.
 use Rattle.std.proofs.Common.{sym}
 use Rattle.import_rows.proofs.Tables.{none-from_not_text}
 use Rattle.import_rows.proofs.read.serial_of.Goals as goal

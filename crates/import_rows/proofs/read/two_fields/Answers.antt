@@ -1,4 +1,3 @@
--- Why `two_fields` meets its contract, where that has to be said.
 use Rattle.std.proofs.Common.{◌≡◌, length, None, Some, arith, refl}
 use Rattle.csv.specs.Records.{field_at, fields_of}
 use Rattle.import_rows.proofs.Tables.{two_fields_at}

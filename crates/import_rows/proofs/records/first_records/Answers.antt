@@ -1,4 +1,3 @@
--- Why `first_records` meets its contract, where that has to be said.
 use Rattle.std.proofs.Common.{Bor, List, ℕ, ◌+◌, ap, length-append, ◌∷◌, [], map, Some, inl, inr, refl, sym, ◌∙◌, arith}
 use Rattle.std.proofs.lemmas.List.{map-append, length-map}
 use Rattle.csv.specs.Reading.{Reached, default_config, strip_bom}

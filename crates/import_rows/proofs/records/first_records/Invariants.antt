@@ -1,4 +1,3 @@
--- What the loop of `first_records` keeps.
 use Rattle.std.proofs.Common.{◌≡◌, ℕ, List, length, map, Some}
 use Rattle.csv.specs.Reading.{Reached, Ready, default_config, source_of, strip_bom}
 use Rattle.csv.specs.Records.{fields_of}

@@ -1,4 +1,3 @@
--- Why `refusal::refusals_tell_their_numbers` meets its contract, where that has to be said.
 use Rattle.office_commands.proofs.Numbers.{number_told}
 use Rattle.office_commands.proofs.refusal.refusals_tell_their_numbers.Goals as goal
 

@@ -1,8 +1,6 @@
--- Why `step_reply::outcome_body` meets its contract, where that has to be said.
-use Rattle.std.proofs.Common.{ap, ◌∙◌}
-use Rattle.std.proofs.lemmas.Result.{IfOk-weaker}
+use Rattle.text_core.proofs.Kit.{ap, ◌∙◌, IfOk-weaker}
 use Rattle.serde_json.specs.Written.{compact_text, has_float}
-use Rattle.office_commands.specs.StepReplies.{outcome_body}
+use Rattle.office_commands.specs.Prelude.{outcome_body}
 use Rattle.office_commands.proofs.Floats.{in_outcome}
 use Rattle.office_commands.proofs.step_reply.outcome_body.Goals as goal
 

@@ -1,8 +1,6 @@
--- Why `step_reply::plan_body` meets its contract, where that has to be said.
-use Rattle.std.proofs.Common.{ap, ◌∙◌}
-use Rattle.std.proofs.lemmas.Result.{IfOk-weaker}
+use Rattle.text_core.proofs.Kit.{ap, ◌∙◌, IfOk-weaker}
 use Rattle.serde_json.specs.Written.{compact_text, has_float}
-use Rattle.office_commands.specs.StepReplies.{plan_body}
+use Rattle.office_commands.specs.Prelude.{plan_body}
 use Rattle.office_commands.proofs.Floats.{in_plan}
 use Rattle.office_commands.proofs.step_reply.plan_body.Goals as goal
 

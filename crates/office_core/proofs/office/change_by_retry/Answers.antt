@@ -1,4 +1,3 @@
--- Why `office::change_by_retry` meets its contract, where that has to be said.
 use Rattle.std.proofs.Common.{◌∙◌, sym, rules}
 use Rattle.office_core.proofs.CarriedOut.{carried_out}
 use Rattle.office_core.proofs.office.change_by_retry.Goals as goal

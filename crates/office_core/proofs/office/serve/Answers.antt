@@ -1,4 +1,3 @@
--- Why `office::serve` meets its contract, where that has to be said.
 use Rattle.std.proofs.Common.{rules}
 use Rattle.office_core.proofs.CarriedOut.{shows}
 use Rattle.office_core.proofs.office.serve.Goals as goal

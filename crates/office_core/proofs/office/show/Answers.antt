@@ -1,4 +1,3 @@
--- Why `office::show` meets its contract, where that has to be said.
 use Rattle.std.proofs.Common.{rules}
 use Rattle.office_core.proofs.office.show.Goals as goal
 

@@ -1,17 +1,14 @@
--- Why `requests::answer_all` meets its contract, where that has to be said.
-use Rattle.std.proofs.Common.{◌≡◌, ◌∙◌, ◌+◌, ◌++◌, List, [], ◌∷◌, append_assoc, map, take, refl, sym, subst, ap, arith}
-use Rattle.std.specs.Prelude.{zip}
-use Rattle.std.proofs.lemmas.List.{append-nil, length-map, map-append, take_more, take_all}
-use Rattle.http_replies.specs.Replies.{answer_of}
+use Rattle.std.proofs.Common.{◌≡◌, ◌∙◌, ◌+◌, ◌++◌, List, [], ◌∷◌, append_assoc, map, take, refl, sym, subst, ap, arith, zip, append-nil, take_all}
+use Rattle.std.proofs.lemmas.List.{length-map, map-append, take_more}
+use Rattle.http_replies.specs.Prelude.{answer_of}
 use Rattle.http_replies.specs.declared.Reply.{Reply}
-use Rattle.site_core.specs.Caller.{section_at, seat_name_at}
-use Rattle.site_core.specs.Ownership.{ownership_of}
-use Rattle.office_tables.specs.Tables.{Tables}
-use Rattle.office_rules.specs.OfficeMachine.{Step}
-use Rattle.office_laws.specs.Exchanges.{Exchange}
+use Rattle.site_core.specs.Prelude.{section_at, seat_name_at, ownership_of}
+use Rattle.office_tables.specs.Prelude.{Tables}
+use Rattle.office_rules.specs.Prelude.{Step}
+use Rattle.office_laws.specs.Prelude.{Exchange}
 use Rattle.office_laws.proofs.Leaving.{leaves_more, leaves_none}
 use Rattle.office_laws.proofs.Seats.{run_more, seats_joined_more}
-use Rattle.office_core.specs.Replaying.{call_of, calls_in}
+use Rattle.office_core.specs.Prelude.{call_of, calls_in}
 use Rattle.office_core.proofs.Replaying.{exchanges_more, lengths_more}
 use Rattle.office_core.proofs.CarriedOut.{carried_out}
 use Rattle.office_core.proofs.requests.answer_all.Goals as goal
@@ -59,7 +56,7 @@ loop-asked-preserved g c =
       was_honest = λ is. c.loop-asked.invariant.was_honest (c.answer.ensures.was_honest is);
       seats = rw calls_more
           (seats_joined_more (ownership_of site) calls (call_of site asked)
-          c.loop-asked.invariant.seats (c.seat_asks.ensures.apart, c.seat_asks.ensures.seat));
+          c.loop-asked.invariant.seats (c.fact_seat.ensures.apart, c.fact_seat.ensures.seat));
       run = (
         so_far.0 ++ reply ∷ [],
         c.in_ok-push.ensures.items ∙ (ap (λ (rs : List Reply). rs ++ reply ∷ []) so_far.1 ∙ append_assoc c.args.replies.now.items so_far.0 (reply ∷ [])),

@@ -1,14 +1,11 @@
-use Rattle.std.proofs.Common.{◌≡◌, ◌+◌, ◌≤◌, ◌++◌, List, length, map, take}
+use Rattle.std.proofs.Common.{◌≡◌, ◌+◌, ◌≤◌, ◌++◌, List, length, map, take, zip, vec_len, vec_capacity}
 use Rattle.std.specs.List.{AllByRecursion}
-use Rattle.std.specs.Prelude.{zip}
-use Rattle.std.specs.Vec.{vec_len, vec_capacity}
-use Rattle.http_replies.specs.Replies.{answer_of}
+use Rattle.http_replies.specs.Prelude.{answer_of}
 use Rattle.http_replies.specs.declared.Reply.{Reply}
-use Rattle.site_core.specs.Ownership.{ownership_of}
-use Rattle.office_tables.specs.Keeping.{Stands}
-use Rattle.office_tables.specs.Tables.{Tables}
+use Rattle.site_core.specs.Prelude.{ownership_of}
+use Rattle.office_tables.specs.Prelude.{Stands, Tables}
 use Rattle.office_laws.proofs.Seats.{IsSeatOf}
-use Rattle.office_core.specs.Replaying.{Answered, calls_in}
+use Rattle.office_core.specs.Prelude.{Answered, calls_in}
 use Rattle.office_core.proofs.requests.answer_all.Given as goal
 
 -- the requests so far with their replies are a run, and there is room for the other replies

@@ -1,6 +1,5 @@
--- What the loops of `requests::count_requests` keep.
 use Rattle.std.proofs.Common.{◌≡◌, length, take}
-use Rattle.office_core.specs.Replaying.{calls_of_parts}
+use Rattle.office_core.specs.Prelude.{calls_of_parts}
 use Rattle.office_core.proofs.requests.count_requests.Given as goal
 
 abbrev pub invariant-loop-part : goal.invariant-loop-part

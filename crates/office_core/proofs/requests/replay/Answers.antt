@@ -1,15 +1,14 @@
--- Why `requests::replay` meets its contract, where that has to be said.
 use Rattle.std.proofs.Common.{◌≡◌, ◌∙◌, ◌++◌, List, length, sym, ap}
 use Rattle.std.proofs.lemmas.List.{length-map}
 use Rattle.office_tables.proofs.Placing.{all_map}
 use Rattle.http_replies.specs.declared.Reply.{Reply}
 use Rattle.site_core.proofs.Owners.{owners_apart}
-use Rattle.site_core.specs.Ownership.{ownership_of}
+use Rattle.site_core.specs.Prelude.{ownership_of}
 use Rattle.office_laws.proofs.Promising.{promises}
 use Rattle.office_laws.proofs.Seats.{IsSeatOf, all_seats}
 use Rattle.office_laws.proofs.Stopping.{seats_grown}
-use Rattle.office_laws.specs.Growth.{IsSeat}
-use Rattle.office_core.specs.Replaying.{call_of, calls_in, exchanges_in}
+use Rattle.office_laws.specs.Prelude.{IsSeat}
+use Rattle.office_core.specs.Prelude.{call_of, calls_in, exchanges_in}
 use Rattle.office_core.proofs.Replaying.{exchanges_calls}
 use Rattle.office_core.proofs.requests.replay.Goals as goal
 

@@ -1,10 +1,8 @@
--- Why `requests::replay_parts` meets its contract, where that has to be said.
-use Rattle.std.proofs.Common.{◌≡◌, ◌∙◌, ◌+◌, ◌++◌, [], ◌∷◌, length, take, map, refl, sym, ap, arith}
-use Rattle.std.specs.Prelude.{zip}
-use Rattle.std.proofs.lemmas.List.{length-append, length-map, take_more, take_all}
-use Rattle.http_replies.specs.Replies.{answer_of}
+use Rattle.std.proofs.Common.{◌≡◌, ◌∙◌, ◌+◌, ◌++◌, [], ◌∷◌, length, take, map, refl, sym, ap, arith, zip, length-append, take_all}
+use Rattle.std.proofs.lemmas.List.{length-map, take_more}
+use Rattle.http_replies.specs.Prelude.{answer_of}
 use Rattle.office_laws.proofs.Promising.{promises}
-use Rattle.office_core.specs.Replaying.{call_of, calls_in, calls_of_parts, exchanges_of_parts, last_owners, sites_of}
+use Rattle.office_core.specs.Prelude.{call_of, calls_in, calls_of_parts, exchanges_of_parts, last_owners, sites_of}
 use Rattle.office_core.proofs.Parts.{answered_joined, exchanges_joined, has_seats_more, left_over, parts_more, seats_of_parts}
 use Rattle.office_core.proofs.Replaying.{exchanges_calls}
 use Rattle.office_core.proofs.requests.replay_parts.Goals as goal

@@ -1,10 +1,7 @@
--- What the loops of `requests::replay_parts` keep.
-use Rattle.std.proofs.Common.{◌≡◌, ◌+◌, ◌≤◌, length, drop, take}
+use Rattle.std.proofs.Common.{◌≡◌, ◌+◌, ◌≤◌, length, drop, take, vec_len, vec_capacity}
 use Rattle.std.specs.List.{AllByRecursion}
-use Rattle.std.specs.Vec.{vec_len, vec_capacity}
-use Rattle.office_tables.specs.Keeping.{Stands}
-use Rattle.office_tables.specs.Tables.{Tables}
-use Rattle.office_core.specs.Replaying.{Answered, calls_of_parts, exchanges_of_parts}
+use Rattle.office_tables.specs.Prelude.{Stands, Tables}
+use Rattle.office_core.specs.Prelude.{Answered, calls_of_parts, exchanges_of_parts}
 use Rattle.office_core.proofs.Parts.{HasSeats}
 use Rattle.office_core.proofs.requests.replay_parts.Given as goal
 

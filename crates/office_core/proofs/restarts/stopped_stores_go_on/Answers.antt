@@ -1,8 +1,5 @@
--- Why `restarts::stopped_stores_go_on` meets its contract, where that has to be said.
-use Rattle.std.proofs.Common.{◌++◌, List, [], ◌∷◌, None, refl, sym}
-use Rattle.std.proofs.lemmas.List.{append-nil}
-use Rattle.office_laws.specs.Exchanges.{Exchange}
-use Rattle.office_laws.specs.Stops.{IsStoppedRun, Leaves, Session}
+use Rattle.std.proofs.Common.{◌++◌, List, [], ◌∷◌, None, refl, sym, append-nil}
+use Rattle.office_laws.specs.Prelude.{Exchange, IsStoppedRun, Leaves, Session}
 use Rattle.office_laws.proofs.Grown.{growth_itself}
 use Rattle.office_laws.proofs.Leaving.{stop_leaves}
 use Rattle.office_laws.proofs.Promising.{promises}

@@ -1,7 +1,6 @@
--- Why `retry::commit_reply` meets its contract, where that has to be said.
 use Rattle.std.proofs.Common.{◌≡◌, ◌∙◌, refl, rules, string_bytes}
 use Rattle.office_tables.proofs.Writing.{CanWrite_push}
-use Rattle.office_commands.specs.Replies.{acceptance}
+use Rattle.office_commands.specs.Prelude.{acceptance}
 use Rattle.office_core.proofs.CarriedOut.{commits_reply, or_then}
 use Rattle.office_core.proofs.retry.commit_reply.Goals as goal
 

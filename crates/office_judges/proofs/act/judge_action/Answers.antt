@@ -1,8 +1,6 @@
--- Why `act::judge_action` meets its contract, where that has to be said.
 use Rattle.std.proofs.Common.{Err, Ok, rules}
-use Rattle.office_rules.specs.Actions.{rule_of}
-use Rattle.office_judges.specs.Acting.{IsActed}
-use Rattle.office_judges.specs.Stepping.{IsAccepted}
+use Rattle.office_rules.specs.Prelude.{rule_of}
+use Rattle.office_judges.specs.Prelude.{IsActed, IsAccepted}
 use Rattle.office_judges.proofs.Accepting.{IsFound, action_judged, action_refused, found_with}
 use Rattle.office_judges.proofs.act.judge_action.Goals as goal
 

@@ -1,10 +1,7 @@
--- Why `order::show_order` meets its contract, where that has to be said.
-use Rattle.std.proofs.Common.{◌≡◌, ◌∙◌, Some, sym, ap, rules}
-use Rattle.std.specs.Prelude.{string_bytes}
-use Rattle.office_tables.specs.Tables.{Tables, order_at}
-use Rattle.office_commands.specs.Replies.{acceptance}
-use Rattle.office_rules.specs.OfficeMachine.{next_of}
-use Rattle.office_rules.specs.Order.{body_with}
+use Rattle.std.proofs.Common.{◌≡◌, ◌∙◌, Some, sym, ap, rules, string_bytes}
+use Rattle.office_tables.specs.Prelude.{Tables, order_at}
+use Rattle.office_commands.specs.Prelude.{acceptance}
+use Rattle.office_rules.specs.Prelude.{next_of, body_with}
 use Rattle.office_judges.proofs.Judged.{order_shown}
 use Rattle.office_judges.proofs.order.show_order.Goals as goal
 

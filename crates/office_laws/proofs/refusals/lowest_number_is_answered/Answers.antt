@@ -1,6 +1,5 @@
--- Why `refusals::lowest_number_is_answered` meets its contract, where that has to be said.
 use Rattle.std.proofs.Common.{arith}
-use Rattle.office_rules.specs.Machine.{refusals}
+use Rattle.office_rules.specs.Prelude.{refusals}
 use Rattle.office_laws.proofs.Lowest.{above, lowest_of_ascending, refusals_ascend}
 use Rattle.office_laws.proofs.refusals.lowest_number_is_answered.Goals as goal
 

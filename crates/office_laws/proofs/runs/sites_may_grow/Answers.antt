@@ -1,5 +1,4 @@
--- Why `runs::sites_may_grow` meets its contract, where that has to be said.
-use Rattle.site_core.specs.Ownership.{ownership_of}
+use Rattle.site_core.specs.Prelude.{ownership_of}
 use Rattle.site_core.proofs.Kept.{owners_grown}
 use Rattle.office_laws.proofs.Grown.{growth_itself, growth_more, sound_grown}
 use Rattle.office_laws.proofs.runs.sites_may_grow.Goals as goal

@@ -1,4 +1,3 @@
--- Why `runs::stopped_runs_are_runs` meets its contract, where that has to be said.
 use Rattle.office_laws.proofs.Leaving.{stop_leaves}
 use Rattle.office_laws.proofs.Promising.{promises}
 use Rattle.office_laws.proofs.Stopping.{stopped_runs, stopped_seats}
@@ -9,7 +8,7 @@ returns-clause-run c = λ ss all t t2 run. stopped_runs ss all t t2 run
 
 pub returns-clause-promises : goal.returns-clause-promises
 returns-clause-promises c =
-    λ first ss all last t t2 sound sessions run. promises first all last t t2 sound
+    λ first last ss all t t2 sound sessions run. promises first all last t t2 sound
     (stopped_seats first ss all last t t2 sessions run) (stopped_runs ss all t t2 run)
 
 pub returns-clause-crash : goal.returns-clause-crash

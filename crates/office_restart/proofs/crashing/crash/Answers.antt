@@ -1,4 +1,3 @@
--- Why `crashing::crash` meets its contract, where that has to be said.
 use Rattle.std.proofs.Common.{subst}
 use Rattle.sqlite.specs.Files.{image_of}
 use Rattle.sqlite_wal.specs.Files.{outcomes}

@@ -1,6 +1,5 @@
--- Why `opening::adopted` meets its contract, where that has to be said.
 use Rattle.std.proofs.Common.{ap, ◌∙◌}
-use Rattle.office_sql.specs.Tables.{tables_in}
+use Rattle.office_sql.specs.Prelude.{tables_in}
 use Rattle.office_restart.proofs.opening.adopted.Goals as goal
 
 -- an open store leaves what was committed last

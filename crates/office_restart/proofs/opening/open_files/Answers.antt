@@ -1,8 +1,7 @@
--- Why `opening::open_files` meets its contract, where that has to be said.
 use Rattle.std.proofs.Common.{ap, subst, ◌∙◌}
 use Rattle.sqlite.specs.Files.{file_state}
-use Rattle.office_sql.specs.Tables.{tables_in}
-use Rattle.office_store.specs.Adopting.{TakesGrowth}
+use Rattle.office_sql.specs.Prelude.{tables_in}
+use Rattle.office_store.specs.Prelude.{TakesGrowth}
 use Rattle.office_restart.proofs.opening.open_files.Goals as goal
 
 pub returns-in-Ok-adopted-clause-tables : goal.returns-in-Ok-adopted-clause-tables

@@ -1,11 +1,8 @@
--- Why `restarted::replay_text` meets its contract, where that has to be said.
-use Rattle.std.proofs.Common.{[], ◌∷◌, IfOk, subst, sym}
-use Rattle.std.specs.List.{All, AllByRecursion}
-use Rattle.site_core.specs.Caller.{IsSeatCaller}
-use Rattle.site_core.specs.Ownership.{PoolsDisjoint, ownership_of}
-use Rattle.site_core.specs.Section.{SiteValue}
-use Rattle.office_laws.specs.Growth.{IsSeat}
-use Rattle.office_core.specs.Replaying.{KeepsPromises, calls_in, exchanges_in}
+use Rattle.std.proofs.Common.{[], ◌∷◌, IfOk, subst, sym, All}
+use Rattle.std.specs.List.{AllByRecursion}
+use Rattle.site_core.specs.Prelude.{IsSeatCaller, PoolsDisjoint, ownership_of, SiteValue}
+use Rattle.office_laws.specs.Prelude.{IsSeat}
+use Rattle.office_core.specs.Prelude.{KeepsPromises, calls_in, exchanges_in}
 use Rattle.office_restart.proofs.restarted.replay_text.Goals as goal
 
 pub replay-requires : goal.replay-requires

@@ -1,20 +1,16 @@
--- Why `restarted::replay_through_crash` meets its contract, where that has to be said.
-use Rattle.std.proofs.Common.{◌≡◌, ◌∙◌, List, [], ◌∷◌, length, map, refl, sym, subst, ap}
+use Rattle.std.proofs.Common.{◌≡◌, ◌∙◌, List, [], ◌∷◌, length, map, refl, sym, subst, ap, zip}
 use Rattle.std.specs.List.{AllByRecursion}
 use Rattle.std.proofs.Math.Logic.{∥∥₁_map}
 use Rattle.std.proofs.lemmas.List.{length-map}
-use Rattle.std.specs.Prelude.{zip}
-use Rattle.http_replies.specs.Replies.{answer_of}
+use Rattle.http_replies.specs.Prelude.{answer_of}
 use Rattle.http_replies.specs.declared.Reply.{Reply}
 use Rattle.sqlite.specs.Files.{over_files}
-use Rattle.site_core.specs.Ownership.{ownership_of}
-use Rattle.site_core.specs.Section.{SiteValue}
+use Rattle.site_core.specs.Prelude.{ownership_of, SiteValue}
 use Rattle.site_core.proofs.Kept.{owners_grown}
-use Rattle.office_laws.specs.Exchanges.{Call, calls_of}
-use Rattle.office_laws.specs.Growth.{IsSeat}
-use Rattle.office_core.specs.Replaying.{call_of, calls_in, exchanges_in}
+use Rattle.office_laws.specs.Prelude.{Call, calls_of, IsSeat}
+use Rattle.office_core.specs.Prelude.{call_of, calls_in, exchanges_in}
 use Rattle.office_core.specs.declared.requests.SeatRequest.{SeatRequest}
-use Rattle.office_store.specs.Keeping.{tables_of}
+use Rattle.office_store.specs.Prelude.{tables_of}
 use Rattle.office_restart.proofs.restarted.replay_through_crash.Goals as goal
 
 -- each call has its exchange

@@ -1,11 +1,7 @@
--- Why `growth::begins_with` meets its contract, where that has to be said.
-use Rattle.std.proofs.Common.{◌≡◌, ◌∙◌, ◌&&◌, Bool, List, [], ◌∷◌, length, take, refl, sym, ap, rules, tests}
-use Rattle.std.specs.List.{list_all, zip}
-use Rattle.std.specs.Cmp.Lexicographic.{pointwise}
-use Rattle.std.proofs.lemmas.List.{length-take-le}
-use Rattle.std.proofs.lemmas.Iterator.{YieldsList-from_slice, YieldsList-from_zip}
-use Rattle.std.proofs.lemmas.Iterator.Search.{all_from_yields_List}
-use Rattle.site_core.specs.Growth.{is_same_pool}
+use Rattle.std.proofs.Common.{◌≡◌, ◌&&◌, ◌∷◌}
+use Rattle.text_core.proofs.Kit.{◌∙◌, Bool, List, [], length, take, refl, sym, ap, rules, tests, list_all, zip, pointwise, length-take-le}
+use Rattle.text_core.proofs.Kit.{YieldsList-from_slice, YieldsList-from_zip, all_from_yields_List}
+use Rattle.site_core.specs.Prelude.{is_same_pool}
 use Rattle.site_core.proofs.growth.begins_with.Goals as goal
 
 paired : {X : Type 0} (same : X → X → Bool) (xs ys : List X) → length xs ≡ length ys → list_all (λ p. same p.0 p.1) (zip xs ys) ≡ pointwise same xs ys

@@ -1,6 +1,4 @@
--- What the loops of `judge::all_issuers` keep.
-use Rattle.std.proofs.Common.{◌≡◌, take}
-use Rattle.std.specs.List.{flat_map}
+use Rattle.std.proofs.Common.{◌≡◌, take, flat_map}
 use Rattle.site_core.proofs.judge.all_issuers.Given as goal
 
 abbrev pub invariant-loop-customer : goal.invariant-loop-customer

@@ -1,6 +1,5 @@
--- What the loops of `judge::all_tokens` keep.
 use Rattle.std.proofs.Common.{◌≡◌, map, take}
-use Rattle.site_core.specs.Section.{with_token}
+use Rattle.site_core.specs.Prelude.{with_token}
 use Rattle.site_core.proofs.judge.all_tokens.Given as goal
 
 abbrev pub invariant-loop-seat : goal.invariant-loop-seat

@@ -1,9 +1,5 @@
--- Why `judge::comes_twice` meets its contract, where that has to be said.
-use Rattle.std.proofs.Common.{rules, ◌≡◌, ◌∙◌, IfOk}
-use Rattle.std.specs.Ordering.{eq_by_cmp}
-use Rattle.std.specs.BTreeSet.{IsFromIterResult}
-use Rattle.std.specs.Set.{distinct_count}
-use Rattle.std.proofs.lemmas.Map.Views.{btree_set_len-from_list}
+use Rattle.text_core.proofs.Kit.{rules, ◌∙◌, IfOk, eq_by_cmp, IsFromIterResult, distinct_count, btree_set_len-from_list}
+use Rattle.std.proofs.Common.{◌≡◌}
 use Rattle.site_core.proofs.Pairs.{has_pair-from_count}
 use Rattle.site_core.proofs.judge.comes_twice.Goals as goal
 

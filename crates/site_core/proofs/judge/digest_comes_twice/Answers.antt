@@ -1,7 +1,4 @@
--- Why `judge::digest_comes_twice` meets its contract, where that has to be said.
-use Rattle.std.proofs.Common.{◌∙◌}
-use Rattle.std.proofs.lemmas.Result.{IfOk-weaker}
-use Rattle.std.proofs.lemmas.Map.Text.{is_eq-slice_cmp}
+use Rattle.text_core.proofs.Kit.{◌∙◌, IfOk-weaker, is_eq-slice_cmp}
 use Rattle.site_core.proofs.Pairs.{has_pair-alike}
 use Rattle.site_core.proofs.judge.digest_comes_twice.Goals as goal
 

@@ -1,7 +1,5 @@
--- What the loops of `judge::have_meeting_pools` keep.
 use Rattle.std.proofs.Common.{◌≡◌, drop}
-use Rattle.site_core.specs.Site.{pools_meet}
-use Rattle.site_core.specs.SiteFaults.{has_pair}
+use Rattle.site_core.specs.Prelude.{pools_meet, has_pair}
 use Rattle.site_core.proofs.judge.have_meeting_pools.Given as goal
 
 abbrev pub invariant-loop-index : goal.invariant-loop-index

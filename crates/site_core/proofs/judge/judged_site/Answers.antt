@@ -1,8 +1,5 @@
--- Why `judge::judged_site` meets its contract, where that has to be said.
-use Rattle.std.proofs.Common.{◌≡◌, false, sym, ◌∙◌}
-use Rattle.std.specs.List.{flat_map}
-use Rattle.site_core.specs.Site.{pools_meet}
-use Rattle.site_core.specs.SiteFaults.{has_pair}
+use Rattle.std.proofs.Common.{◌≡◌, false, sym, ◌∙◌, flat_map}
+use Rattle.site_core.specs.Prelude.{pools_meet, has_pair}
 use Rattle.site_core.proofs.Judged.{IsSite-from_tests}
 use Rattle.site_core.proofs.judge.judged_site.Goals as goal
 

@@ -1,4 +1,3 @@
--- Why `judge::make_customers` meets its contract, where that has to be said.
 use Rattle.std.proofs.Common.{◌≡◌, ◌∷◌, ◌++◌}
 use Rattle.std.specs.Vec.Iter.{into_iter_items}
 use Rattle.site_core.proofs.Judged.{fault-at, map_of_error}

@@ -1,7 +1,6 @@
--- What the loops of `judge::make_customers` keep.
 use Rattle.std.proofs.Common.{◌≡◌, ◌++◌, false}
 use Rattle.std.specs.Vec.Iter.{into_iter_items}
-use Rattle.site_core.specs.SiteFaults.{has_bad_pool}
+use Rattle.site_core.specs.Prelude.{has_bad_pool}
 use Rattle.site_core.proofs.judge.make_customers.Given as goal
 
 abbrev pub invariant-loop-draft : goal.invariant-loop-draft

@@ -1,7 +1,6 @@
--- What the loops of `judge::make_pools` keep.
 use Rattle.std.proofs.Common.{◌≡◌, false, take}
 use Rattle.std.specs.List.{list_any}
-use Rattle.site_core.specs.SiteFaults.{is_bad_pool}
+use Rattle.site_core.specs.Prelude.{is_bad_pool}
 use Rattle.site_core.proofs.judge.make_pools.Given as goal
 
 abbrev pub invariant-loop-draft : goal.invariant-loop-draft

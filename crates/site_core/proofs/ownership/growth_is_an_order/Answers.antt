@@ -1,4 +1,3 @@
--- Why `ownership::growth_is_an_order` meets its contract, where that has to be said.
 use Rattle.site_core.proofs.Ordered.{growth_again, growth_itself}
 use Rattle.site_core.proofs.ownership.growth_is_an_order.Goals as goal
 

@@ -1,4 +1,3 @@
--- Why `ownership::owners_grow_with_a_site` meets its contract, where that has to be said.
 use Rattle.site_core.proofs.Kept.{owners_grown}
 use Rattle.site_core.proofs.ownership.owners_grow_with_a_site.Goals as goal
 

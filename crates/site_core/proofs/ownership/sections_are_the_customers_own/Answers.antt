@@ -1,4 +1,3 @@
--- Why `ownership::sections_are_the_customers_own` meets its contract, where that has to be said.
 use Rattle.site_core.proofs.Owners.{section_owned, seat_owned, owners_apart}
 use Rattle.site_core.proofs.ownership.sections_are_the_customers_own.Goals as goal
 

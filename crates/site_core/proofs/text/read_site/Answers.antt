@@ -1,6 +1,4 @@
--- Why `text::read_site` meets its contract, where that has to be said.
-use Rattle.std.proofs.Common.{arith}
-use Rattle.std.proofs.lemmas.Grind.{common_steps}
+use Rattle.text_core.proofs.Kit.{arith, common_steps}
 use Rattle.site_core.proofs.Reading.{valid_from_exact, refused_from_exact, lowest_from_exact}
 use Rattle.site_core.proofs.text.read_site.Goals as goal
 

@@ -1,6 +1,4 @@
--- Why `act::act_request` meets its contract, where that has to be said.
-use Rattle.std.proofs.Common.{sym}
-use Rattle.std.specs.Prelude.{codes}
+use Rattle.std.proofs.Common.{sym, codes}
 use Rattle.serde_json.specs.View.{view}
 use Rattle.station_api.proofs.Members.{chip_member_lacks, whole_member_lacks}
 use Rattle.station_api.proofs.act.act_request.Goals as goal

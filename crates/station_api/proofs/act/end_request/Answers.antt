@@ -1,4 +1,3 @@
--- Why `act::end_request` meets its contract, where that has to be said.
 use Rattle.serde_json.specs.View.{view}
 use Rattle.station_api.proofs.Wishes.{act_members_lack}
 use Rattle.station_api.proofs.act.end_request.Goals as goal

@@ -1,17 +1,14 @@
--- Why `desk::answer_parsed` meets its contract, where that has to be said.
 use Rattle.std.proofs.Common.{◌≡◌, ◌∙◌, [], Ok, ap, refl, subst}
-use Rattle.http_replies.specs.Replies.{answer_of}
-use Rattle.site_core.specs.Caller.{seat_name_at, section_at}
-use Rattle.site_core.specs.Section.{Section}
-use Rattle.site_core.specs.declared.site.Caller.TheVariants.{Seat, Manager}
-use Rattle.yield_report.specs.Reports.{IsOrderReport, IsSiteReport, order_report_in, site_report_in}
-use Rattle.office_tables.specs.Tables.{Tables}
-use Rattle.office_rules.specs.OfficeMachine.{Step}
-use Rattle.office_laws.specs.Exchanges.{Exchange}
+use Rattle.http_replies.specs.Prelude.{answer_of}
+use Rattle.site_core.specs.Prelude.{seat_name_at, section_at, Section}
+use Rattle.station_api.proofs.Types.{Seat, Manager, Office, Report, SiteReport}
+use Rattle.yield_report.specs.Prelude.{IsOrderReport, IsSiteReport, order_report_in, site_report_in}
+use Rattle.office_tables.specs.Prelude.{Tables}
+use Rattle.office_rules.specs.Prelude.{Step}
+use Rattle.office_laws.specs.Prelude.{Exchange}
 use Rattle.office_laws.proofs.Leaving.{leaves_more, leaves_none}
 use Rattle.office_core.proofs.CarriedOut.{or_then}
-use Rattle.station_api.specs.SectionExchanges.{exchange_of}
-use Rattle.station_api.specs.declared.parse.Parsed.TheVariants.{Office, Report, SiteReport}
+use Rattle.station_api.specs.Prelude.{exchange_of}
 use Rattle.station_api.proofs.Answering.{report_answers, report_told}
 use Rattle.station_api.proofs.desk.answer_parsed.Goals as goal
 

@@ -1,4 +1,3 @@
--- Why `laws::requests_have_answers` meets its contract, where that has to be said.
 use Rattle.station_api.proofs.AlwaysAnswers.{always_answers}
 use Rattle.station_api.proofs.laws.requests_have_answers.Goals as goal
 

@@ -1,7 +1,5 @@
--- What the loop of `parse::find_among` keeps.
-use Rattle.std.proofs.Common.{◌≡◌, drop}
-use Rattle.std.specs.Prelude.{map}
-use Rattle.station_api.specs.Requests.{route_entry, route_among}
+use Rattle.std.proofs.Common.{◌≡◌, drop, map}
+use Rattle.station_api.specs.Prelude.{route_entry, route_among}
 use Rattle.station_api.proofs.parse.find_among.Given as goal
 
 abbrev pub invariant-loop-row : goal.invariant-loop-row

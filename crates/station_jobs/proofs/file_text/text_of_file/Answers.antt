@@ -1,4 +1,3 @@
--- Why `file_text::text_of_file` meets its contract, where that has to be said.
 use Rattle.std.proofs.Common.{Ok, ap, ◌∙◌}
 use Rattle.station_jobs.proofs.FileTexts.{text_of_file-text, text_of_file-no_text}
 use Rattle.station_jobs.proofs.file_text.text_of_file.Goals as goal

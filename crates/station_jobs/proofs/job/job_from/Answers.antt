@@ -1,4 +1,3 @@
--- Why `job::job_from` meets its contract, where that has to be said.
 use Rattle.station_jobs.proofs.Options.{both_parts}
 use Rattle.station_jobs.proofs.job.job_from.Goals as goal
 

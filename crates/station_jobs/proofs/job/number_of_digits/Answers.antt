@@ -1,4 +1,3 @@
--- Why `job::number_of_digits` meets its contract, where that has to be said.
 use Rattle.std.proofs.Common.{arith}
 use Rattle.station_jobs.proofs.NumberTexts.{number_of_digits-none, number_of_digits-read}
 use Rattle.station_jobs.proofs.job.number_of_digits.Goals as goal

@@ -1,4 +1,3 @@
--- Why `job::option_number` meets its contract, where that has to be said.
 use Rattle.std.proofs.Common.{Some, None, ◌∙◌}
 use Rattle.clap.specs.Words.{found_of}
 use Rattle.station_jobs.proofs.NumberTexts.{number_of_first}

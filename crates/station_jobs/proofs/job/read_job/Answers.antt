@@ -1,4 +1,3 @@
--- Why `job::read_job` meets its contract, where that has to be said.
 use Rattle.std.proofs.Common.{◌≡◌, ◌⊎◌, true, None, List, [], ◌∷◌, Option, option_and_then, inl, inr, refl, sym, ap, subst, ◌∙◌}
 use Rattle.clap.specs.Words.{App, IsAmong, Row, Text, Kinds, HasKind, kind_of, app_of, is_simple, is_simple_and_free, fault_of, subcommand_of}
 use Rattle.clap.specs.declared.error.Error.{Error}
@@ -7,7 +6,7 @@ use Rattle.clap.proofs.OnLiterals.{clap_on_literals}
 use Rattle.station_jobs.specs.declared.job.Job.{Job}
 use Rattle.station_jobs.specs.declared.job.WordsFault.{WordsFault}
 use Rattle.station_jobs.specs.declared.job.WordsFault.TheVariants.{Help, Refused, NoMemory}
-use Rattle.station_jobs.specs.CommandLine.{CanGive, IsFaultOfKind, RefusesWith, job_by, job_of, station_app, texts, job_unless_faulty}
+use Rattle.station_jobs.specs.Prelude.{CanGive, IsFaultOfKind, RefusesWith, job_by, job_of, station_app, texts, job_unless_faulty}
 use Rattle.station_jobs.proofs.job.read_job.Goals as goal
 
 simple : is_simple station_app ≡ true

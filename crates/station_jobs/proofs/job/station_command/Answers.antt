@@ -1,6 +1,5 @@
--- Why `job::station_command` meets its contract, where that has to be said.
 use Rattle.clap.specs.Words.{with_subcommand}
-use Rattle.station_jobs.specs.CommandLine.{check_map_app, replay_app, serve_app, top_app}
+use Rattle.station_jobs.specs.Prelude.{check_map_app, replay_app, serve_app, top_app}
 use Rattle.station_jobs.proofs.Options.{subcommand_added, subcommand_added_last}
 use Rattle.station_jobs.proofs.job.station_command.Goals as goal
 

@@ -1,9 +1,8 @@
--- Why `map_file::map_from` meets its contract, where that has to be said.
 use Rattle.std.proofs.Common.{refl}
-use Rattle.fusemap_core.specs.MapText.{map_read}
+use Rattle.fusemap_core.specs.Prelude.{map_read}
 use Rattle.fusemap_core.specs.declared.fault.MapFault.TheVariants.{OutOfMemory}
 use Rattle.station_jobs.proofs.FileTexts.{given_of_text}
-use Rattle.station_jobs.specs.MapFile.{map_failure}
+use Rattle.station_jobs.specs.Prelude.{map_failure}
 use Rattle.station_jobs.proofs.map_file.map_from.Goals as goal
 
 pub returns : goal.returns

@@ -1,11 +1,8 @@
--- Why `running::replay` meets its contract, where that has to be said.
 use Rattle.std.proofs.Common.{IfOk, rules, subst}
-use Rattle.site_core.specs.Ownership.{ownership_of}
-use Rattle.site_core.specs.Section.{SiteValue}
+use Rattle.site_core.specs.Prelude.{ownership_of, SiteValue}
 use Rattle.office_laws.proofs.Grown.{growth_itself}
-use Rattle.office_tables.specs.Tables.{no_rows}
-use Rattle.station_jobs.specs.Replaying.{Replays}
-use Rattle.station_jobs.specs.SiteFile.{site_in}
+use Rattle.office_tables.specs.Prelude.{no_rows}
+use Rattle.station_jobs.specs.Prelude.{Replays, site_in}
 use Rattle.station_jobs.proofs.Ending.{of_bytes, replays_no_site, replays_site}
 use Rattle.station_jobs.proofs.running.replay.Goals as goal
 
@@ -30,7 +27,7 @@ returns-clause-served g c =
     let owners = ownership_of c.site-2.result.now in
     let led = served.5 tt no_rows (λ _. c.new-keep.ensures) in
     let replayed : Replays c.site-2.result.now no_rows left_old left_new written_old written_new c.serve.result =
-    (served.0, served.1, served.2, served.3, served.4, led.0, led.1, λ sound. led.4 owners (growth_itself owners) sound) in
+    (served.0, served.1, served.2, served.3, served.4, led.0, led.1.run, λ sound. led.1.books owners (growth_itself owners) sound) in
     of_bytes c.args.file c.in_ok-bytes.bytes
     (λ bytes. IfOk (site_in c.args.name bytes.items) (λ site. Replays site no_rows left_old left_new written_old written_new c.serve.result))
     c.in_ok-bytes.ensures.read

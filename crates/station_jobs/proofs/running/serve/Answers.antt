@@ -1,4 +1,3 @@
--- Why `running::serve` meets its contract, where that has to be said.
 use Rattle.std.proofs.Common.{sym, ◌∙◌}
 use Rattle.station_jobs.proofs.Ending.{failed_reads_end, failed_writes_end, limit_end, no_memory_end}
 use Rattle.station_jobs.proofs.running.serve.Goals as goal

@@ -1,4 +1,3 @@
--- Why `serving::serve_accepted` meets its contract, where that has to be said.
 use Rattle.std.proofs.Common.{rules}
 use Rattle.station_jobs.proofs.Leading.{leads_itself, leads_both}
 use Rattle.station_jobs.proofs.serving.serve_accepted.Goals as goal
@@ -6,7 +5,7 @@ use Rattle.station_jobs.proofs.serving.serve_accepted.Goals as goal
 pub loop-turn-init : goal.loop-turn-init
 loop-turn-init g c = record {
   was_honest = λ honest. honest;
-  reaches = leads_itself g.K.Keep c.args.site.now c.args.keep.now;
+  reaches = leads_itself g.K.Keep c.args.site.now c.fact_rules.ensures c.args.keep.now;
   counted = search rules;
 }
 
@@ -17,7 +16,7 @@ loop-turn-preserved g c =
     record {
       was_honest = λ honest. seen.was_honest (turn.was_honest honest);
       reaches = leads_both g.K.Keep c.args.site.now c.args.keep.now c.loop-turn.keep
-          c.serve_client.new.keep c.customers-customers.ensures.site turn.was_honest
+          c.serve_client.new.keep c.fact_rules.ensures turn.was_honest
           seen.reaches turn.reaches;
       counted = search rules;
     }

@@ -1,6 +1,5 @@
--- What the loop of `serving::serve_accepted` keeps.
 use Rattle.std.proofs.Common.{◌≡◌, ◌+◌}
-use Rattle.station_jobs.specs.Listening.{LeadsOn}
+use Rattle.station_jobs.specs.Prelude.{LeadsOn}
 use Rattle.station_jobs.proofs.serving.serve_accepted.Given as goal
 
 abbrev pub invariant-loop-turn : goal.invariant-loop-turn

@@ -1,9 +1,8 @@
--- Why `serving::serve_client` meets its contract, where that has to be said.
 use Rattle.station_jobs.proofs.Leading.{leads_itself}
 use Rattle.station_jobs.proofs.serving.serve_client.Goals as goal
 
 pub returns-in_err-set_up-clause-reaches : goal.returns-in_err-set_up-clause-reaches
-returns-in_err-set_up-clause-reaches g c = leads_itself g.K.Keep c.args.site.now c.args.keep.now
+returns-in_err-set_up-clause-reaches g c = leads_itself g.K.Keep c.args.site.now c.fact_rules.ensures c.args.keep.now
 
 pub returns-in_err-line-clause-reaches : goal.returns-in_err-line-clause-reaches
-returns-in_err-line-clause-reaches g c = leads_itself g.K.Keep c.args.site.now c.args.keep.now
+returns-in_err-line-clause-reaches g c = leads_itself g.K.Keep c.args.site.now c.fact_rules.ensures c.args.keep.now

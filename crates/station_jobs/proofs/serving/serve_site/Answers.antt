@@ -1,7 +1,6 @@
--- Why `serving::serve_site` meets its contract, where that has to be said.
-use Rattle.std.proofs.Common.{rules, sym, ◌∙◌}
+use Rattle.std.proofs.Common.{rules}
 use Rattle.sqlite.specs.WalFiles.{image_at}
-use Rattle.station_jobs.specs.SiteFile.{site_in}
+use Rattle.station_jobs.specs.Prelude.{site_in}
 use Rattle.station_jobs.proofs.Books.{books_read, books_unread}
 use Rattle.station_jobs.proofs.serving.serve_site.Goals as goal
 
@@ -16,4 +15,4 @@ returns-clause-books g c =
     books_read (λ b. b.items) (site_in c.args.name) c.args.file c.in_ok-bytes.bytes c.in_ok-site.site (image_at g.S.Start)
     c.args.store.absent _ c.serve_store.result c.in_ok-bytes.ensures.read
     (rw c.as_slice.ensures.value at c.in_ok-site.ensures.site) (rw c.as_slice.ensures.value at c.in_ok-site.ensures.text)
-    (sym c.digest-digest.ensures.same ∙ c.digest-digest.ensures.of_text) c.serve_store.ensures.books
+    c.fact_digest.ensures c.serve_store.ensures.books

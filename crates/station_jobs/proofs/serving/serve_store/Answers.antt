@@ -1,8 +1,7 @@
--- Why `serving::serve_store` meets its contract, where that has to be said.
 use Rattle.std.proofs.Common.{◌⊎◌, inr}
-use Rattle.station_jobs.specs.Listening.{IsOfPort}
-use Rattle.station_jobs.specs.Replaying.{IsOfStore}
+use Rattle.station_jobs.specs.Prelude.{IsOfPort, IsOfStore}
 use Rattle.station_jobs.proofs.Ending.{failing}
+use Rattle.station_jobs.proofs.Leading.{leads_for}
 use Rattle.station_jobs.proofs.serving.serve_store.Goals as goal
 
 pub returns-clause-failed : goal.returns-clause-failed
@@ -17,5 +16,5 @@ returns-clause-books g c = inr (
   c.in_ok-keep.keep,
   c.serve_port-served.new.keep,
   c.in_ok-keep.ensures.opened,
-  rw c.site.ensures.same at c.serve_port-served.ensures.reaches,
+  leads_for c.site.ensures.same c.serve_port-served.ensures.reaches,
 )

@@ -1,10 +1,9 @@
--- Why `site_file::site_text_of_bytes` meets its contract, where that has to be said.
 use Rattle.std.proofs.Common.{◌≡◌, refl}
-use Rattle.text_core.specs.Answer.{result_map}
-use Rattle.site_core.specs.SiteText.{TextOfSite, site_read}
+use Rattle.text_core.specs.Prelude.{result_map}
+use Rattle.site_core.specs.Prelude.{TextOfSite, site_read}
 use Rattle.site_core.specs.declared.fault.SiteFault.TheVariants.{OutOfMemory, OverLimit}
 use Rattle.station_jobs.proofs.FileTexts.{given_of_text, part_passed, text_is_bytes, value_passed}
-use Rattle.station_jobs.specs.SiteFile.{site_failure}
+use Rattle.station_jobs.specs.Prelude.{site_failure}
 use Rattle.station_jobs.proofs.site_file.site_text_of_bytes.Goals as goal
 
 pub returns-clause-site : goal.returns-clause-site

@@ -1,7 +1,6 @@
--- Why `stored::open_limited` meets its contract, where that has to be said.
 use Rattle.std.proofs.Common.{refl, subst, sym}
 use Rattle.sqlite.specs.WalFiles.{image_at}
-use Rattle.station_jobs.specs.Storing.{IsOpening}
+use Rattle.station_jobs.specs.Prelude.{IsOpening}
 use Rattle.station_jobs.proofs.stored.open_limited.Goals as goal
 
 pub returns-in-Ok-clause-opened : goal.returns-in-Ok-clause-opened

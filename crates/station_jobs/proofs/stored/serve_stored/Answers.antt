@@ -1,7 +1,7 @@
--- Why `stored::serve_stored` meets its contract, where that has to be said.
 use Rattle.std.proofs.Common.{◌≡◌, inr}
-use Rattle.station_jobs.specs.Replaying.{IsOfStore}
+use Rattle.station_jobs.specs.Prelude.{IsOfStore}
 use Rattle.station_jobs.proofs.Ending.{fails_before, fails_behind}
+use Rattle.station_jobs.proofs.Leading.{serves_for}
 use Rattle.station_jobs.proofs.stored.serve_stored.Goals as goal
 
 pub serve_limited-served-requires-clause-limit : goal.serve_limited-served-requires-clause-limit
@@ -17,7 +17,8 @@ returns-clause-books g c = inr (
   c.in_ok-keep.keep,
   c.serve_limited-served.new.keep,
   c.in_ok-keep.ensures.opened,
-  rw c.site.ensures.same at c.serve_limited-served.ensures.served,
+  serves_for (g.R.Source.left c.args.reader.now) (g.R.Source.left c.serve_limited-served.new.reader) (g.W.Drain.written c.args.writer.now)
+      (g.W.Drain.written c.serve_limited-served.new.writer) c.site.ensures.same c.serve_limited-served.ensures.served,
 )
 
 pub returns-clause-prints_nothing : goal.returns-clause-prints_nothing

@@ -1,6 +1,5 @@
--- What the loop of `lists::seat_requests` keeps.
-use Rattle.std.specs.List.{All}
-use Rattle.site_core.specs.Caller.{IsSeatCaller}
+use Rattle.std.proofs.Common.{All}
+use Rattle.site_core.specs.Prelude.{IsSeatCaller}
 use Rattle.test_exchanges.proofs.lists.seat_requests.Given as goal
 
 abbrev pub invariant-loop-exchange : goal.invariant-loop-exchange

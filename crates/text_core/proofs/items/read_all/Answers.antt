@@ -1,6 +1,4 @@
--- Why `read_all` meets its contract, where that has to be said.
-use Rattle.std.proofs.Common.{ap, ◌∙◌}
-use Rattle.std.proofs.lemmas.Result.{IfOk-weaker}
+use Rattle.text_core.proofs.Kit.{ap, ◌∙◌, IfOk-weaker}
 use Rattle.text_core.proofs.items.read_all.Goals as goal
 
 pub returns : goal.returns

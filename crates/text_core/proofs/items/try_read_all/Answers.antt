@@ -1,4 +1,3 @@
--- Why `try_read_all` meets its contract, where that has to be said.
 use Rattle.std.proofs.Common.{◌≡◌, refl, sym, ◌∙◌}
 use Rattle.text_core.proofs.Lists.{all_of_next, all_of_end}
 use Rattle.text_core.proofs.items.try_read_all.Goals as goal

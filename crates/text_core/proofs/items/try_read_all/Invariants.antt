@@ -1,7 +1,5 @@
--- What the loops of `try_read_all` keep.
 use Rattle.std.proofs.Common.{◌≡◌, Some, Option, take}
-use Rattle.text_core.specs.Options.{all_of}
-use Rattle.text_core.specs.Readers.{ReadsOrFails}
+use Rattle.text_core.specs.Prelude.{all_of, ReadsOrFails}
 use Rattle.text_core.proofs.items.try_read_all.Given as goal
 
 abbrev pub invariant-loop-value : goal.invariant-loop-value

@@ -1,4 +1,3 @@
--- Why `devices::count_device` meets its contract, where that has to be said.
 use Rattle.std.proofs.Common.{◌<◌, ◌∙◌, ap, arith, length, rules, slice_set}
 use Rattle.std.proofs.lemmas.List.Sorted.{answers_always}
 use Rattle.yield_report.specs.declared.lines.OrderLine.{OrderLine}

@@ -1,4 +1,3 @@
--- Why `devices::count_devices` meets its contract, where that has to be said.
 use Rattle.std.proofs.Common.{rules}
 use Rattle.yield_report.proofs.Counted.{devices_counted, devices_fit}
 use Rattle.yield_report.proofs.devices.count_devices.Goals as goal

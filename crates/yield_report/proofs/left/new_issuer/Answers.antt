@@ -1,4 +1,3 @@
--- Why `left::new_issuer` meets its contract, where that has to be said.
 use Rattle.std.proofs.Common.{◌∙◌, arith, sym, true, false}
 use Rattle.yield_report.proofs.Groups.{first_issuer, issuer_after}
 use Rattle.yield_report.proofs.left.new_issuer.Goals as goal

@@ -1,8 +1,5 @@
--- Why `left::take_given` meets its contract, where that has to be said.
-use Rattle.std.proofs.Common.{refl}
-use Rattle.std.proofs.lemmas.List.Sorted.{All-permutation}
-use Rattle.yield_report.specs.Lines.{left_in, IsLine}
-use Rattle.yield_report.specs.Reports.{has_issued_in}
+use Rattle.text_core.proofs.Kit.{refl, All-permutation}
+use Rattle.yield_report.specs.Prelude.{left_in, IsLine, has_issued_in}
 use Rattle.yield_report.proofs.WholeLines.{sorted_back}
 use Rattle.yield_report.proofs.left.take_given.Goals as goal
 

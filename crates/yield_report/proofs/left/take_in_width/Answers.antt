@@ -1,8 +1,6 @@
--- Why `left::take_in_width` meets its contract, where that has to be said.
-use Rattle.std.proofs.Common.{◌-◌, ◌<◌, ◌∙◌, ap, sym, subst, arith, length, slice_set}
-use Rattle.std.proofs.lemmas.List.Elements.{All-get_or, All-set}
-use Rattle.std.proofs.lemmas.Option.{none-some}
-use Rattle.yield_report.specs.Lines.{IsLine}
+use Rattle.std.proofs.Common.{◌-◌, ◌<◌}
+use Rattle.text_core.proofs.Kit.{◌∙◌, ap, sym, subst, arith, length, slice_set, All-get_or, All-set, none-some}
+use Rattle.yield_report.specs.Prelude.{IsLine}
 use Rattle.yield_report.proofs.Widths.{has_last, none_has, one_has}
 use Rattle.yield_report.proofs.left.take_in_width.Goals as goal
 

@@ -1,4 +1,3 @@
--- Why `left::take_of_issuer` meets its contract, where that has to be said.
 use Rattle.std.proofs.Common.{rules}
 use Rattle.yield_report.proofs.Taken.{serials_fit, serials_rise, serials_taken}
 use Rattle.yield_report.proofs.left.take_of_issuer.Goals as goal

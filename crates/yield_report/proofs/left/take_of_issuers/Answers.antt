@@ -1,11 +1,7 @@
--- Why `left::take_of_issuers` meets its contract, where that has to be said.
-use Rattle.std.proofs.Common.{◌<◌, ◌∙◌, arith, rules, subst, sym, length, ap, take, List, map, None, Some, ◌≡◌}
-use Rattle.std.proofs.lemmas.List.{map-id, take_all}
+use Rattle.std.proofs.Common.{◌<◌, ◌∙◌, arith, rules, subst, sym, length, ap, take, List, map, None, Some, ◌≡◌, map-id, take_all}
 use Rattle.std.proofs.lemmas.List.Elements.{recursion_from_All}
 use Rattle.office_tables.proofs.Reading.{reads_more}
-use Rattle.yield_report.specs.Lines.{left_so_far, new_issuer, IsLine}
-use Rattle.yield_report.specs.Places.{AreApart}
-use Rattle.yield_report.specs.Reports.{has_issued_in}
+use Rattle.yield_report.specs.Prelude.{left_so_far, new_issuer, IsLine, AreApart, has_issued_in}
 use Rattle.yield_report.specs.declared.lines.OrderLine.{OrderLine}
 use Rattle.yield_report.proofs.Issuers.{left_apart, map_all_met, place_met, place_taken, said_of}
 use Rattle.yield_report.proofs.left.take_of_issuers.Goals as goal

@@ -1,9 +1,6 @@
--- What the loop of `left::take_of_issuers` keeps.
 use Rattle.std.proofs.Common.{◌≡◌, map, take, length}
-use Rattle.office_tables.specs.Keeping.{Reads}
-use Rattle.yield_report.specs.Lines.{left_so_far, AreLines}
-use Rattle.yield_report.specs.Places.{AreApart}
-use Rattle.yield_report.specs.Reports.{has_issued_in}
+use Rattle.office_tables.specs.Prelude.{Reads}
+use Rattle.yield_report.specs.Prelude.{left_so_far, AreLines, AreApart, has_issued_in}
 use Rattle.yield_report.proofs.left.take_of_issuers.Given as goal
 
 -- the keeper was only read, and what is given in the issuers of the lines so far is taken, by the tables at the start

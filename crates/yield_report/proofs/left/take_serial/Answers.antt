@@ -1,7 +1,5 @@
--- Why `left::take_serial` meets its contract, where that has to be said.
 use Rattle.std.proofs.Common.{◌∷◌, [], ◌∙◌, ap, subst, sym, arith, map}
-use Rattle.yield_report.specs.Lines.{taken_in}
-use Rattle.yield_report.specs.Places.{AreApart}
+use Rattle.yield_report.specs.Prelude.{taken_in, AreApart}
 use Rattle.yield_report.proofs.InOrder.{map_both}
 use Rattle.yield_report.proofs.Widths.{below_apart, below_more, first_width, last_width, taken_below}
 use Rattle.yield_report.proofs.left.take_serial.Goals as goal

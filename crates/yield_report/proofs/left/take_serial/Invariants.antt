@@ -1,7 +1,5 @@
--- What the loop of `left::take_serial` keeps.
 use Rattle.std.proofs.Common.{◌≡◌, map}
-use Rattle.yield_report.specs.Lines.{AreLines}
-use Rattle.yield_report.specs.Places.{AreApart}
+use Rattle.yield_report.specs.Prelude.{AreLines, AreApart}
 use Rattle.yield_report.proofs.Widths.{taken_below}
 use Rattle.yield_report.proofs.left.take_serial.Given as goal
 

@@ -1,7 +1,5 @@
--- Why `lines::order_lines` meets its contract, where that has to be said.
-use Rattle.std.proofs.Common.{rules}
-use Rattle.std.proofs.lemmas.List.Elements.{All-nil}
-use Rattle.yield_report.specs.Lines.{IsLine}
+use Rattle.text_core.proofs.Kit.{rules, All-nil}
+use Rattle.yield_report.specs.Prelude.{IsLine}
 use Rattle.yield_report.proofs.Gathered.{lines_fit, lines_gathered, lines_in_order, none_in_order}
 use Rattle.yield_report.proofs.lines.order_lines.Goals as goal
 

@@ -1,7 +1,6 @@
--- Why `names::customer_names` meets its contract, where that has to be said.
 use Rattle.std.proofs.Common.{◌∙◌, ap, ap₂, sym, List, ℕ}
-use Rattle.office_tables.specs.Tables.{with_row, text_cmp}
-use Rattle.yield_report.specs.Reports.{in_order}
+use Rattle.office_tables.specs.Prelude.{with_row, text_cmp}
+use Rattle.yield_report.specs.Prelude.{in_order}
 use Rattle.yield_report.proofs.Placed.{name_before}
 use Rattle.yield_report.proofs.names.customer_names.Goals as goal
 

@@ -1,6 +1,5 @@
--- What the loop of `names::customer_names` keeps.
 use Rattle.std.proofs.Common.{◌≡◌, ◌-◌, drop, length, map}
-use Rattle.yield_report.specs.Reports.{in_order}
+use Rattle.yield_report.specs.Prelude.{in_order}
 use Rattle.yield_report.proofs.names.customer_names.Given as goal
 
 -- the names of the last customers so far are in order

@@ -1,7 +1,6 @@
--- Why `names::place` meets its contract, where that has to be said.
 use Rattle.std.proofs.Common.{◌<◌, ◌∙◌, ap, sym, arith, length, slice_index_or, slice_set, List, ℕ}
 use Rattle.std.proofs.lemmas.List.{set_split}
-use Rattle.office_tables.specs.Tables.{text_cmp}
+use Rattle.office_tables.specs.Prelude.{text_cmp}
 use Rattle.yield_report.proofs.Placed.{placed_over}
 use Rattle.yield_report.proofs.names.place.Goals as goal
 

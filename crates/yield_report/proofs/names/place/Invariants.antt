@@ -1,6 +1,5 @@
--- What the loop of `names::place` keeps.
 use Rattle.std.proofs.Common.{◌≡◌, length}
-use Rattle.office_tables.specs.Tables.{text_cmp}
+use Rattle.office_tables.specs.Prelude.{text_cmp}
 use Rattle.yield_report.proofs.Placed.{IsPassed}
 use Rattle.yield_report.proofs.names.place.Given as goal
 

@@ -1,6 +1,5 @@
--- Why `orders::order_report` meets its contract, where that has to be said.
 use Rattle.std.proofs.Common.{◌∙◌, ap, rules}
-use Rattle.yield_report.specs.Rows.{lines_text}
+use Rattle.yield_report.specs.Prelude.{lines_text}
 use Rattle.yield_report.proofs.WholeLines.{report_of_lines}
 use Rattle.yield_report.proofs.orders.order_report.Goals as goal
 

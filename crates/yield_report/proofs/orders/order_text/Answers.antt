@@ -1,8 +1,7 @@
--- Why `orders::order_text` meets its contract, where that has to be said.
 use Rattle.std.proofs.Common.{◌≡◌, ◌+◌, ◌∷◌, [], ◌++◌, ◌∙◌, ap, sym, take, List, ℕ}
 use Rattle.std.proofs.lemmas.List.{take_more}
 use Rattle.csv.specs.Writing.{default_writer, row_text}
-use Rattle.yield_report.specs.Rows.{line_fields, lines_text}
+use Rattle.yield_report.specs.Prelude.{line_fields, lines_text}
 use Rattle.yield_report.specs.declared.lines.OrderLine.{OrderLine}
 use Rattle.yield_report.proofs.WholeLines.{lines_text_more}
 use Rattle.yield_report.proofs.orders.order_text.Goals as goal

@@ -1,6 +1,5 @@
--- What the loop of `orders::order_text` keeps.
 use Rattle.std.proofs.Common.{◌≡◌, take}
-use Rattle.yield_report.specs.Rows.{lines_text}
+use Rattle.yield_report.specs.Prelude.{lines_text}
 use Rattle.yield_report.proofs.orders.order_text.Given as goal
 
 -- the text so far is that of the lines so far

@@ -1,10 +1,7 @@
--- Why `orders::whole_lines` meets its contract, where that has to be said.
-use Rattle.std.proofs.Common.{◌∙◌, ap, map, subst, sym}
-use Rattle.std.proofs.lemmas.Result.{IfOk-weaker}
+use Rattle.text_core.proofs.Kit.{◌∙◌, ap, map, subst, sym, IfOk-weaker}
 use Rattle.office_tables.proofs.Reading.{reads_more}
-use Rattle.office_tables.specs.Tables.{rows_of}
-use Rattle.yield_report.specs.Lines.{counted, left_in, AreInOrder}
-use Rattle.yield_report.specs.Reports.{has_issued_in}
+use Rattle.office_tables.specs.Prelude.{rows_of}
+use Rattle.yield_report.specs.Prelude.{counted, left_in, AreInOrder, has_issued_in}
 use Rattle.yield_report.proofs.Counted.{counted_in_order}
 use Rattle.yield_report.proofs.WholeLines.{lines_whole}
 use Rattle.yield_report.proofs.orders.whole_lines.Goals as goal

@@ -1,7 +1,5 @@
--- Why `places::begun` meets its contract, where that has to be said.
-use Rattle.std.proofs.Common.{rules}
-use Rattle.std.proofs.lemmas.List.Sorted.{IsPartitionPoint-from_clause}
-use Rattle.yield_report.specs.Places.{is_begun}
+use Rattle.text_core.proofs.Kit.{rules, IsPartitionPoint-from_clause}
+use Rattle.yield_report.specs.Prelude.{is_begun}
 use Rattle.yield_report.proofs.Apart.{parted}
 use Rattle.yield_report.proofs.places.begun.Goals as goal
 

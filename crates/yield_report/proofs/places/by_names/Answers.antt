@@ -1,6 +1,4 @@
--- Why `places::by_names` meets its contract, where that has to be said.
-use Rattle.std.proofs.Common.{rules}
-use Rattle.std.proofs.lemmas.List.Sorted.{answers_always}
+use Rattle.text_core.proofs.Kit.{rules, answers_always}
 use Rattle.yield_report.specs.declared.lines.OrderLine.{OrderLine}
 use Rattle.yield_report.proofs.places.by_names.Goals as goal
 

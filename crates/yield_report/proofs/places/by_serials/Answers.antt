@@ -1,7 +1,5 @@
--- Why `places::by_serials` meets its contract, where that has to be said.
-use Rattle.std.proofs.Common.{rules}
-use Rattle.std.proofs.lemmas.List.Sorted.{answers_always}
-use Rattle.yield_report.specs.Places.{stands_before}
+use Rattle.text_core.proofs.Kit.{rules, answers_always}
+use Rattle.yield_report.specs.Prelude.{stands_before}
 use Rattle.yield_report.proofs.Apart.{apart_from_answer}
 use Rattle.yield_report.proofs.places.by_serials.Goals as goal
 

@@ -1,7 +1,6 @@
--- Why `places::place_in` meets its contract, where that has to be said.
 use Rattle.std.proofs.Common.{◌≡◌, ◌∙◌, ap, sym, true, ℕ, List, Some}
 use Rattle.std.proofs.lemmas.Option.{none-some, same_Some}
-use Rattle.text_core.specs.Serial.{is_serial}
+use Rattle.text_core.specs.Prelude.{is_serial}
 use Rattle.id_ranges.proofs.Texts.{serial_is_text}
 use Rattle.yield_report.specs.declared.places.Place.{Place}
 use Rattle.yield_report.proofs.Digits.{back_is, front_is, prefix_found, prefix_is_serial, value_of_text}

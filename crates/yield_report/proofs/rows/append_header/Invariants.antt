@@ -1,6 +1,5 @@
--- What the loop of `rows::append_header` keeps.
 use Rattle.std.proofs.Common.{◌≡◌, ◌++◌, map, take}
-use Rattle.yield_report.specs.Texts.{number_names}
+use Rattle.yield_report.specs.Prelude.{number_names}
 use Rattle.yield_report.proofs.rows.append_header.Given as goal
 
 -- the fields so far are those in front and the names so far, of the names of the numbers

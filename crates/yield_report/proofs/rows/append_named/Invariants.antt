@@ -1,4 +1,3 @@
--- What the loop of `rows::append_named` keeps.
 use Rattle.std.proofs.Common.{◌≡◌, ◌∷◌, map, string_bytes, take}
 use Rattle.yield_report.proofs.rows.append_named.Given as goal
 

@@ -1,4 +1,3 @@
--- What the loop of `rows::number_texts` keeps.
 use Rattle.std.proofs.Common.{◌≡◌, decimal, map, string_bytes, take}
 use Rattle.yield_report.proofs.rows.number_texts.Given as goal
 

@@ -1,4 +1,3 @@
--- Why `rows::row_bytes` meets its contract, where that has to be said.
 use Rattle.std.proofs.Common.{◌≢◌, ◌∙◌}
 use Rattle.csv.specs.declared.writer.QuoteStyle.TheVariants as style
 use Rattle.yield_report.proofs.rows.row_bytes.Goals as goal

@@ -1,6 +1,4 @@
--- Why `serials::has_serial` meets its contract, where that has to be said.
-use Rattle.std.proofs.Common.{◌∙◌, ap}
-use Rattle.std.specs.Str.{bytes_eq}
+use Rattle.std.proofs.Common.{◌∙◌, ap, bytes_eq}
 use Rattle.yield_report.proofs.Digits.{has_by, has_not}
 use Rattle.yield_report.proofs.serials.has_serial.Goals as goal
 

@@ -1,8 +1,5 @@
--- Why `serials::number_in` meets its contract, where that has to be said.
-use Rattle.std.proofs.Common.{◌≡◌, ◌∙◌, ap, sym, arith, length, take, true, Some}
-use Rattle.std.specs.Str.{bytes_eq}
-use Rattle.std.proofs.lemmas.Bool.{both_ways, not-true}
-use Rattle.std.proofs.lemmas.Slice.Eq.{bytes_eq-Decides}
+use Rattle.std.proofs.Common.{◌≡◌}
+use Rattle.text_core.proofs.Kit.{◌∙◌, ap, sym, arith, length, take, true, Some, bytes_eq, both_ways, not-true, bytes_eq-Decides}
 use Rattle.id_ranges.proofs.Texts.{length-serial_text_of}
 use Rattle.yield_report.proofs.Digits.{front_of_text, number_is}
 use Rattle.yield_report.proofs.serials.number_in.Goals as goal

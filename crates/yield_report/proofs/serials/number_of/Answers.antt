@@ -1,4 +1,3 @@
--- Why `serials::number_of` meets its contract, where that has to be said.
 use Rattle.std.proofs.Common.{◌+◌, ◌<◌, arith, refl, take}
 use Rattle.std.specs.Str.Parse.{digits_value}
 use Rattle.yield_report.proofs.Digits.{value_is_small, value_more}

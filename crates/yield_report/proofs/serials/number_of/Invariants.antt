@@ -1,4 +1,3 @@
--- What the loop of `serials::number_of` keeps.
 use Rattle.std.proofs.Common.{◌≡◌, take}
 use Rattle.std.specs.Str.Parse.{digits_value, AllDigits}
 use Rattle.yield_report.proofs.serials.number_of.Given as goal

@@ -1,8 +1,5 @@
--- Why `sites::append_line` meets its contract, where that has to be said.
 use Rattle.std.proofs.Common.{◌≡◌, ◌∙◌, ap, arith, length, List, subst, sym, rules}
-use Rattle.yield_report.specs.Counts.{total}
-use Rattle.yield_report.specs.Rows.{numbers_in}
-use Rattle.yield_report.specs.Texts.{AreStorable}
+use Rattle.yield_report.specs.Prelude.{total, numbers_in, AreStorable}
 use Rattle.yield_report.specs.declared.lines.OrderLine.{OrderLine}
 use Rattle.yield_report.proofs.SiteLines.{customer_is}
 use Rattle.yield_report.proofs.sites.append_line.Goals as goal

@@ -1,6 +1,4 @@
--- Why `sites::site_report` meets its contract, where that has to be said.
-use Rattle.std.proofs.Common.{◌≡◌, ◌∙◌, arith, subst, take}
-use Rattle.std.proofs.lemmas.List.{take_all}
+use Rattle.std.proofs.Common.{◌≡◌, ◌∙◌, arith, subst, take, take_all}
 use Rattle.office_tables.proofs.Reading.{reads_more}
 use Rattle.yield_report.proofs.SiteLines.{site_is, site_more, IsReported}
 use Rattle.yield_report.proofs.sites.site_report.Goals as goal

@@ -1,6 +1,5 @@
--- What the loop of `sites::site_report` keeps.
 use Rattle.std.proofs.Common.{take}
-use Rattle.office_tables.specs.Keeping.{Reads}
+use Rattle.office_tables.specs.Prelude.{Reads}
 use Rattle.yield_report.proofs.SiteLines.{IsReported}
 use Rattle.yield_report.proofs.sites.site_report.Given as goal
 

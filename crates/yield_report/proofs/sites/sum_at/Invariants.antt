@@ -1,7 +1,5 @@
--- What the loop of `sites::sum_at` keeps.
 use Rattle.std.proofs.Common.{◌≡◌, min, take}
-use Rattle.yield_report.specs.Counts.{sum_at}
-use Rattle.yield_report.specs.Rows.{numbers_in}
+use Rattle.yield_report.specs.Prelude.{sum_at, numbers_in}
 use Rattle.yield_report.proofs.sites.sum_at.Given as goal
 
 -- the sum so far is that of the lines so far, or the largest number there is

@@ -1,8 +1,6 @@
--- What the loop of `sites::total` keeps.
 use Rattle.std.proofs.Common.{◌≡◌, ℕ, ◌<◌, ◌≤◌, get_or, length}
-use Rattle.office_tables.specs.Numbers.{largest_number}
-use Rattle.yield_report.specs.Counts.{number_count, sum_at}
-use Rattle.yield_report.specs.Rows.{numbers_in}
+use Rattle.office_tables.specs.Prelude.{largest_number}
+use Rattle.yield_report.specs.Prelude.{number_count, sum_at, numbers_in}
 use Rattle.yield_report.proofs.sites.total.Given as goal
 
 -- the places so far have their sums, and the tables have room for them

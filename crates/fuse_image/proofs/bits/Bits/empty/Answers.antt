@@ -1,4 +1,3 @@
--- Why `bits::Bits::empty` meets its contract, where that has to be said.
 use Rattle.fuse_image.proofs.BitSets.{AreWords-zeros, positions_of-zeros}
 use Rattle.fuse_image.proofs.bits.Bits.empty.Goals as goal
 

@@ -1,7 +1,6 @@
--- Why `bits::Bits::has` meets its contract, where that has to be said.
 use Rattle.std.proofs.Common.{ap, ◌∙◌}
 use Rattle.std.specs.FinSet as set
-use Rattle.fuse_image.specs.Places.{Positions}
+use Rattle.fuse_image.specs.Prelude.{Positions}
 use Rattle.fuse_image.proofs.BitSets.{contains-shifted}
 use Rattle.fuse_image.proofs.bits.Bits.has.Goals as goal
 

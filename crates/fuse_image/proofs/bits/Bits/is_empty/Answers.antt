@@ -1,6 +1,5 @@
--- Why `bits::Bits::is_empty` meets its contract, where that has to be said.
 use Rattle.std.proofs.Common.{get_or, ap, ◌∙◌}
-use Rattle.fuse_image.specs.Places.{is_empty}
+use Rattle.fuse_image.specs.Prelude.{is_empty}
 use Rattle.fuse_image.proofs.BitSets.{AreBitsOf-words, is_empty-zeros, positions_of}
 use Rattle.fuse_image.proofs.bits.Bits.is_empty.Goals as goal
 

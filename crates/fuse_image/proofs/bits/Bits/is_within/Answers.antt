@@ -1,4 +1,3 @@
--- Why `bits::Bits::is_within` meets its contract, where that has to be said.
 use Rattle.std.proofs.Common.{ap₂, ◌∙◌}
 use Rattle.std.specs.FinSet as set
 use Rattle.fuse_image.proofs.BitSets.{is_subset-words}

@@ -1,6 +1,5 @@
--- Why `bits::Bits::sets_meet` meets its contract, where that has to be said.
 use Rattle.std.proofs.Common.{ap₂, ◌∙◌}
-use Rattle.fuse_image.specs.Places.{sets_meet}
+use Rattle.fuse_image.specs.Prelude.{sets_meet}
 use Rattle.fuse_image.proofs.BitSets.{sets_meet-words}
 use Rattle.fuse_image.proofs.bits.Bits.meets.Goals as goal
 

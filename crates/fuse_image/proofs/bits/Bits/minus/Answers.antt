@@ -1,4 +1,3 @@
--- Why `bits::Bits::minus` meets its contract, where that has to be said.
 use Rattle.std.proofs.Common.{ap₂, ◌∙◌}
 use Rattle.std.specs.FinSet as set
 use Rattle.fuse_image.proofs.BitSets.{positions_of-without}

@@ -1,8 +1,7 @@
--- Why `bits::Bits::with_bits` meets its contract, where that has to be said.
 use Rattle.std.proofs.Common.{get_or, ap, ◌∙◌}
 use Rattle.std.specs.FinSet as set
 use Rattle.fusemap_core.specs.declared.pos.Pos.{Pos}
-use Rattle.fuse_image.specs.Places.{Positions}
+use Rattle.fuse_image.specs.Prelude.{Positions}
 use Rattle.fuse_image.proofs.Sets.{union-none, union-more}
 use Rattle.fuse_image.proofs.bits.Bits.with_bits.Goals as goal
 

@@ -1,4 +1,3 @@
--- What the loops of `bits::Bits::with_bits` keep.
 use Rattle.std.proofs.Common.{◌≡◌, take}
 use Rattle.std.specs.FinSet as set
 use Rattle.fuse_image.proofs.bits.Bits.with_bits.Given as goal

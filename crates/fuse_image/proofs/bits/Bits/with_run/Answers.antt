@@ -1,8 +1,6 @@
--- Why `bits::Bits::with_run` meets its contract, where that has to be said.
 use Rattle.std.proofs.Common.{ℕ, ◌+◌, ◌*◌, get_or, bit_or, ap, ◌∙◌}
 use Rattle.std.specs.FinSet as set
-use Rattle.fuse_image.specs.Masks.{mask_of}
-use Rattle.fuse_image.specs.Places.{Positions, run}
+use Rattle.fuse_image.specs.Prelude.{mask_of, Positions, run}
 use Rattle.fuse_image.proofs.Masks.{positions_of-run}
 use Rattle.fuse_image.proofs.bits.Bits.with_run.Goals as goal
 

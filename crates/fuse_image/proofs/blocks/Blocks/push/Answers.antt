@@ -1,6 +1,4 @@
--- Why `blocks::Blocks::push` meets its contract, where that has to be said.
-use Rattle.std.proofs.Common.{◌<◌, [], length, ap, arith}
-use Rattle.std.proofs.lemmas.List.{length-take-le}
+use Rattle.std.proofs.Common.{◌<◌, [], length, ap, arith, length-take-le}
 use Rattle.fuse_image.proofs.InFront.{one_more_at_front}
 use Rattle.fuse_image.proofs.blocks.Blocks.push.Goals as goal
 

@@ -1,9 +1,7 @@
--- Why `keys::Keys::get` meets its contract, where that has to be said.
-use Rattle.std.proofs.Common.{ℕ, get_or, ap, ◌∙◌, arith}
-use Rattle.std.specs.Prelude.{None}
+use Rattle.std.proofs.Common.{ℕ, get_or, ap, ◌∙◌, arith, None}
 use Rattle.std.specs.FinMap as map
 use Rattle.std.proofs.lemmas.List.{get_or_default}
-use Rattle.fuse_image.specs.Keys.{KeyTable}
+use Rattle.fuse_image.specs.Prelude.{KeyTable}
 use Rattle.fuse_image.proofs.Tables.{get_table}
 use Rattle.fuse_image.proofs.keys.Keys.get.Goals as goal
 

@@ -1,6 +1,5 @@
--- Why `keys::Keys::is_empty` meets its contract, where that has to be said.
 use Rattle.std.proofs.Common.{ap, ◌∙◌}
-use Rattle.fuse_image.specs.Keys.{has_no_key}
+use Rattle.fuse_image.specs.Prelude.{has_no_key}
 use Rattle.fuse_image.proofs.Tables.{no_digest}
 use Rattle.fuse_image.proofs.keys.Keys.is_empty.Goals as goal
 

@@ -1,5 +1,4 @@
--- Why `keys::Keys::is_within` meets its contract, where that has to be said.
-use Rattle.fuse_image.specs.Keys.{AreAmong, table}
+use Rattle.fuse_image.specs.Prelude.{AreAmong, table}
 use Rattle.fuse_image.proofs.Tables.{AreAmong-from_each, each_among-from_tables}
 use Rattle.fuse_image.proofs.keys.Keys.is_within.Goals as goal
 

@@ -1,8 +1,6 @@
--- Why `keys::Keys::join` meets its contract, where that has to be said.
-use Rattle.std.proofs.Common.{ap₂, ◌∙◌}
-use Rattle.std.specs.Option.{option_or}
+use Rattle.text_core.proofs.Kit.{ap₂, ◌∙◌, option_or}
 use Rattle.std.specs.FinMap as map
-use Rattle.fuse_image.specs.Keys.{keys_union}
+use Rattle.fuse_image.specs.Prelude.{keys_union}
 use Rattle.fuse_image.proofs.Tables.{table_is}
 use Rattle.fuse_image.proofs.keys.Keys.join.Goals as goal
 

@@ -1,8 +1,6 @@
--- Why `keys::Keys::minus` meets its contract, where that has to be said.
-use Rattle.std.proofs.Common.{List, ℕ, ap₂, ◌∙◌}
-use Rattle.std.specs.Prelude.{Option, None, is_some, if◌then◌else◌}
+use Rattle.std.proofs.Common.{List, ℕ, ap₂, ◌∙◌, Option, None, is_some, if◌then◌else◌}
 use Rattle.std.specs.FinMap as map
-use Rattle.fuse_image.specs.Keys.{keys_without}
+use Rattle.fuse_image.specs.Prelude.{keys_without}
 use Rattle.fuse_image.proofs.Tables.{table_is}
 use Rattle.fuse_image.proofs.keys.Keys.minus.Goals as goal
 

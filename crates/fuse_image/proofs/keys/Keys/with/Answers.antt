@@ -1,9 +1,7 @@
--- Why `keys::Keys::with` meets its contract, where that has to be said.
-use Rattle.std.proofs.Common.{◌≡◌, ℕ, List, [], ◌∷◌, get_or, ap, ◌∙◌, arith}
-use Rattle.std.specs.Prelude.{Option, Some, None, ◌==◌, if◌then◌else◌}
+use Rattle.std.proofs.Common.{◌≡◌, ℕ, List, [], ◌∷◌, get_or, ap, ◌∙◌, arith, Option, Some, None, ◌==◌, if◌then◌else◌}
 use Rattle.std.specs.FinMap as map
 use Rattle.std.proofs.lemmas.List.{get_or_default}
-use Rattle.fuse_image.specs.Keys.{KeyTable, table}
+use Rattle.fuse_image.specs.Prelude.{KeyTable, table}
 use Rattle.fuse_image.proofs.Tables.{table-insert}
 use Rattle.fuse_image.proofs.keys.Keys.with.Goals as goal
 

@@ -1,6 +1,4 @@
--- What the loops of `words::BlockWords::to_words` keep.
-use Rattle.std.proofs.Common.{◌≡◌, ◌/◌, ◌%◌, ◌<◌, ℕ, [], length}
-use Rattle.std.specs.Prelude.{slice_index, slice_index_or}
+use Rattle.std.proofs.Common.{◌≡◌, ◌/◌, ◌%◌, ◌<◌, ℕ, [], length, slice_index, slice_index_or}
 use Rattle.fuse_image.proofs.words.BlockWords.to_words.Given as goal
 
 abbrev pub invariant-loop-k : goal.invariant-loop-k

@@ -1,8 +1,6 @@
--- Why `map::FuseMap::field` meets its contract, where that has to be said.
-use Rattle.std.proofs.Common.{List, Some, None, ap, ◌∙◌}
-use Rattle.std.specs.Prelude.{position}
+use Rattle.std.proofs.Common.{List, Some, None, ap, ◌∙◌, position}
 use Rattle.fusemap_core.specs.declared.field.Field.{Field}
-use Rattle.fusemap_core.specs.Map.{Map, is_field_named}
+use Rattle.fusemap_core.specs.Prelude.{Map, is_field_named}
 use Rattle.fusemap_core.proofs.Bounds.{field_of_first}
 use Rattle.fusemap_core.proofs.map.FuseMap.field.Goals as goal
 

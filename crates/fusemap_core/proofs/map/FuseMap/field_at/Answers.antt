@@ -1,8 +1,6 @@
--- Why `map::FuseMap::field_at` meets its contract, where that has to be said.
-use Rattle.std.proofs.Common.{Bool, List, Some, None, ap, ◌∙◌}
-use Rattle.std.specs.Prelude.{position}
+use Rattle.std.proofs.Common.{Bool, List, Some, None, ap, ◌∙◌, position}
 use Rattle.fusemap_core.specs.declared.field.Field.{Field}
-use Rattle.fusemap_core.specs.Map.{Map, holds}
+use Rattle.fusemap_core.specs.Prelude.{Map, holds}
 use Rattle.fusemap_core.proofs.Bounds.{field_of_first}
 use Rattle.fusemap_core.proofs.map.FuseMap.field_at.Goals as goal
 

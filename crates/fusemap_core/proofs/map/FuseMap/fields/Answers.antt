@@ -1,4 +1,3 @@
--- Why `map::FuseMap::fields` meets its contract, where that has to be said.
 use Rattle.fusemap_core.proofs.Bounds.{are_small}
 use Rattle.fusemap_core.proofs.map.FuseMap.fields.Goals as goal
 

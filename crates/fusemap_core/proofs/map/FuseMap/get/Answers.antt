@@ -1,6 +1,5 @@
--- Why `map::FuseMap::get` meets its contract, where that has to be said.
 use Rattle.std.proofs.Common.{◌<◌, length, ap}
-use Rattle.fusemap_core.specs.Map.{Map}
+use Rattle.fusemap_core.specs.Prelude.{Map}
 use Rattle.fusemap_core.proofs.Bounds.{are_small}
 use Rattle.fusemap_core.proofs.map.FuseMap.get.Goals as goal
 

@@ -1,4 +1,3 @@
--- Why `map::FuseMap::read_lock` meets its contract, where that has to be said.
 use Rattle.fusemap_core.proofs.Bounds.{read_lock_is_position, read_lock_is_small}
 use Rattle.fusemap_core.proofs.map.FuseMap.read_lock.Goals as goal
 

@@ -1,4 +1,3 @@
--- Why `map::FuseMap::write_lock` meets its contract, where that has to be said.
 use Rattle.fusemap_core.proofs.Bounds.{write_lock_is_position, write_lock_is_small}
 use Rattle.fusemap_core.proofs.map.FuseMap.write_lock.Goals as goal
 

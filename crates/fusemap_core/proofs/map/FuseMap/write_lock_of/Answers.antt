@@ -1,4 +1,3 @@
--- Why `map::FuseMap::write_lock_of` meets its contract, where that has to be said.
 use Rattle.fusemap_core.proofs.Bounds.{are_small}
 use Rattle.fusemap_core.proofs.map.FuseMap.write_lock_of.Goals as goal
 

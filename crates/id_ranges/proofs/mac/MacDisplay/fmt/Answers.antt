@@ -1,4 +1,3 @@
--- Why `mac::MacDisplay::fmt` meets its contract, where that has to be said.
 use Rattle.text_core.proofs.Padding.{padded_integral-zeros}
 use Rattle.id_ranges.proofs.mac.MacDisplay.fmt.Goals as goal
 

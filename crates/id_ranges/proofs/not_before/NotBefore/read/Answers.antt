@@ -1,6 +1,5 @@
--- Why `not_before::NotBefore::read` meets its contract, where that has to be said.
 use Rattle.std.proofs.Common.{Ok, sym, ◌∙◌, ap}
-use Rattle.id_ranges.specs.NotBefore.{has_clock, has_date}
+use Rattle.id_ranges.specs.Prelude.{has_clock, has_date}
 use Rattle.id_ranges.proofs.Times.{refused_clock, refused_date, refused_form, taken, time_is_text}
 use Rattle.id_ranges.proofs.not_before.NotBefore.read.Goals as goal
 use Rattle.id_ranges.proofs.not_before.NotBefore.read.Goals.{then-not-has_date-via-then-not-has_date}

@@ -1,7 +1,6 @@
--- Why `serial_range::SerialRange::bytes` meets its contract, where that has to be said.
-use Rattle.std.proofs.Common.{◌≡◌, ◌-◌, ℕ, List, length, take, replicate, decimal, ◌∙◌, arith}
-use Rattle.std.proofs.lemmas.List.{append_assoc, take-replicate}
-use Rattle.id_ranges.specs.Range.{Range, Has}
+use Rattle.std.proofs.Common.{◌≡◌, ◌-◌, ℕ, List, length, take, replicate, decimal, ◌∙◌, arith, append_assoc}
+use Rattle.std.proofs.lemmas.List.{take-replicate}
+use Rattle.id_ranges.specs.Prelude.{Range, Has}
 use Rattle.id_ranges.proofs.Texts.{digits_fit, texts_are_serials}
 use Rattle.id_ranges.proofs.serial_range.SerialRange.bytes.Goals as goal
 

@@ -1,4 +1,3 @@
--- Why `serial_range::SerialRange::meets` meets its contract, where that has to be said.
 use Rattle.id_ranges.proofs.Meeting.{same_test}
 use Rattle.id_ranges.proofs.serial_range.SerialRange.meets.Goals as goal
 

@@ -1,7 +1,5 @@
--- Why `serial_range::SerialRange::text` meets its contract, where that has to be said.
-use Rattle.std.proofs.Common.{◌≡◌, true, Result, Ok, Err, refl}
-use Rattle.std.specs.Result.{IsOk, MatchResult}
-use Rattle.text_core.specs.Serial.{is_serial}
+use Rattle.std.proofs.Common.{◌≡◌, true, Result, Ok, Err, refl, IsOk, MatchResult}
+use Rattle.text_core.specs.Prelude.{is_serial}
 use Rattle.id_ranges.proofs.Texts.{serial_is_text}
 use Rattle.id_ranges.proofs.serial_range.SerialRange.text.Goals as goal
 

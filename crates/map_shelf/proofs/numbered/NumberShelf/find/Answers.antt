@@ -1,6 +1,5 @@
 -- Why `NumberShelf::find` meets its contract, where that has to be said: the map of the number stands at the number's place.
-use Rattle.std.proofs.Common.{◌≡◌, List, Some, None, nat_eq, get_or, map, sym, ap, subst, ◌∙◌}
-use Rattle.std.specs.Prelude.{remove}
+use Rattle.std.proofs.Common.{◌≡◌, List, Some, None, nat_eq, get_or, map, sym, ap, subst, ◌∙◌, remove}
 use Rattle.map_shelf.specs.Numbers.{IsMapOfNumber}
 use Rattle.map_shelf.specs.Recent.{with_first}
 use Rattle.map_shelf.specs.declared.numbered.NumberedMap.{NumberedMap}

@@ -1,4 +1,3 @@
--- Why `NumberShelf::put` meets its contract, where that has to be said.
 use Rattle.map_shelf.specs.Numbers.{IsMapOfNumber}
 use Rattle.map_shelf.specs.declared.numbered.NumberedMap.{NumberedMap}
 use Rattle.map_shelf.proofs.NumberedMaps.{All-put, numbers-put}

@@ -1,6 +1,5 @@
 -- Why `MapShelf::find` meets its contract, where that has to be said: the map of the text stands at the text's place.
-use Rattle.std.proofs.Common.{◌≡◌, List, ℕ, Some, sym, ap, ◌∙◌}
-use Rattle.std.specs.Prelude.{bytes_eq, position, remove}
+use Rattle.std.proofs.Common.{◌≡◌, List, ℕ, Some, sym, ap, ◌∙◌, bytes_eq, position, remove}
 use Rattle.map_shelf.specs.Recent.{with_first}
 use Rattle.map_shelf.proofs.Places.{at_found, text_at_place}
 use Rattle.map_shelf.proofs.shelf.MapShelf.find.Goals as goal

@@ -1,7 +1,5 @@
--- Why `devices::Devices::replace` meets its contract, where that has to be said.
-use Rattle.std.proofs.Common.{◌≡◌, ◌∙◌, true, Some, sym}
-use Rattle.std.specs.Prelude.{bytes_eq, find}
-use Rattle.office_tables.specs.Tables.{is_device}
+use Rattle.std.proofs.Common.{◌≡◌, ◌∙◌, true, Some, sym, bytes_eq, find}
+use Rattle.office_tables.specs.Prelude.{is_device}
 use Rattle.office_memory.proofs.Keys.{find_device, with_other_device}
 use Rattle.office_memory.proofs.Replaced.{counted_again, room_again, same_from, there_again, with_device-back, with_device-found}
 use Rattle.office_memory.proofs.devices.Devices.replace.Goals as goal

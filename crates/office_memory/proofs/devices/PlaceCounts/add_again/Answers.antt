@@ -1,7 +1,6 @@
--- Why `devices::PlaceCounts::add_again` meets its contract, where that has to be said.
 use Rattle.std.proofs.Common.{◌≡◌, ◌+◌, Some, refl, sym}
 use Rattle.std.specs.BTreeMap.{get}
-use Rattle.office_memory.specs.Counting.{count_of_order, text_pair_cmp}
+use Rattle.office_memory.specs.Prelude.{count_of_order, text_pair_cmp}
 use Rattle.office_memory.proofs.Counted.{one_more, counted_kept}
 use Rattle.office_memory.proofs.devices.PlaceCounts.add_again.Goals as goal
 

@@ -1,8 +1,6 @@
--- Why `given::GivenIndex::add` meets its contract, where that has to be said.
-use Rattle.std.proofs.Common.{◌∙◌, None, Some, ap}
-use Rattle.std.specs.Prelude.{if◌then◌else◌}
-use Rattle.office_tables.specs.Tables.{is_bound}
-use Rattle.office_memory.specs.Indexing.{serial_of}
+use Rattle.std.proofs.Common.{◌∙◌, None, Some, ap, if◌then◌else◌}
+use Rattle.office_tables.specs.Prelude.{is_bound}
+use Rattle.office_memory.specs.Prelude.{serial_of}
 use Rattle.office_memory.proofs.Records.{free_serial, macs_put, serials_back, serials_put}
 use Rattle.office_memory.proofs.given.GivenIndex.add.Goals as goal
 

@@ -1,4 +1,3 @@
--- Why `given::GivenIndex::remove` meets its contract, where that has to be said.
 use Rattle.std.proofs.Common.{None}
 use Rattle.office_memory.proofs.Records.{macs_taken, serials_put}
 use Rattle.office_memory.proofs.given.GivenIndex.remove.Goals as goal

@@ -1,7 +1,5 @@
--- Why `given::GivenRows::add` meets its contract, where that has to be said.
-use Rattle.std.proofs.Common.{◌≡◌, None}
-use Rattle.std.specs.Prelude.{find}
-use Rattle.office_tables.specs.Tables.{is_bound, is_serial_of, IsAddressFree}
+use Rattle.std.proofs.Common.{◌≡◌, None, find}
+use Rattle.office_tables.specs.Prelude.{is_bound, is_serial_of, IsAddressFree}
 use Rattle.office_memory.proofs.Records.{indexed-placed, without-placed_given}
 use Rattle.office_memory.proofs.given.GivenRows.add.Goals as goal
 

@@ -1,7 +1,5 @@
--- Why `given::GivenRows::get` meets its contract, where that has to be said.
-use Rattle.std.proofs.Common.{◌∙◌, ap, sym}
-use Rattle.std.specs.Prelude.{find}
-use Rattle.office_tables.specs.Tables.{is_serial_of}
+use Rattle.std.proofs.Common.{◌∙◌, ap, sym, find}
+use Rattle.office_tables.specs.Prelude.{is_serial_of}
 use Rattle.office_memory.proofs.Records.{find_given, no_record, text_of}
 use Rattle.office_memory.proofs.given.GivenRows.get.Goals as goal
 

@@ -1,4 +1,3 @@
--- Why `given::GivenRows::get_by_key` meets its contract, where that has to be said.
 use Rattle.std.proofs.Common.{◌∙◌}
 use Rattle.office_memory.proofs.Records.{find_given, record_of_key}
 use Rattle.office_memory.proofs.given.GivenRows.get_by_key.Goals as goal

@@ -1,4 +1,3 @@
--- Why `given::GivenRows::remove` meets its contract, where that has to be said.
 use Rattle.std.proofs.Common.{◌∙◌, sym}
 use Rattle.office_memory.proofs.Counted.{without_none}
 use Rattle.office_memory.proofs.Records.{find_given, indexed-without, without_given}

@@ -1,7 +1,4 @@
--- Why `given::GivenRows::visit` meets its contract, where that has to be said.
-use Rattle.std.proofs.Common.{refl}
-use Rattle.std.specs.Cmp.Lexicographic.{nat_list_cmp_total}
-use Rattle.std.proofs.lemmas.Cmp.{tied_itself}
+use Rattle.text_core.proofs.Kit.{refl, nat_list_cmp_total, tied_itself}
 use Rattle.office_memory.proofs.Records.{filter_issuer}
 use Rattle.office_memory.proofs.given.GivenRows.visit.Goals as goal
 

@@ -1,9 +1,6 @@
--- Why `maps::MapRows::add` meets its contract, where that has to be said.
-use Rattle.std.proofs.Common.{◌≡◌, ◌∙◌, Some, None}
-use Rattle.std.specs.Prelude.{find}
-use Rattle.std.specs.String.{string_bytes}
+use Rattle.std.proofs.Common.{◌≡◌, ◌∙◌, Some, None, find, string_bytes}
 use Rattle.std.proofs.lemmas.Map.Text.{btree_map_updates_text}
-use Rattle.office_tables.specs.Tables.{has_body, has_id}
+use Rattle.office_tables.specs.Prelude.{has_body, has_id}
 use Rattle.office_memory.proofs.Keys.{without_map}
 use Rattle.office_memory.proofs.MapNumbers.{without-placed_map}
 use Rattle.office_memory.proofs.Texts.{found-placed, found_same, no_map, WritesAt}

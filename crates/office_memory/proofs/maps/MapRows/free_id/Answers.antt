@@ -1,6 +1,5 @@
--- Why `maps::MapRows::free_id` meets its contract, where that has to be said.
 use Rattle.std.proofs.Common.{◌∙◌, ap, sym}
-use Rattle.office_tables.specs.Numbers.{one_more}
+use Rattle.office_tables.specs.Prelude.{one_more}
 use Rattle.office_tables.specs.declared.rows.MapRow.{MapRow}
 use Rattle.office_memory.proofs.Greatest.{IfSome-one_more, no_rows}
 use Rattle.office_memory.proofs.MapNumbers.{free_of_none, free_above, last_map}

@@ -1,4 +1,3 @@
--- Why `maps::MapRows::get` meets its contract, where that has to be said.
 use Rattle.std.proofs.Common.{◌∙◌}
 use Rattle.office_memory.proofs.Keys.{find_map}
 use Rattle.office_memory.proofs.maps.MapRows.get.Goals as goal

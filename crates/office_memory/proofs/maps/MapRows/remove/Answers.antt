@@ -1,6 +1,4 @@
--- Why `maps::MapRows::remove` meets its contract, where that has to be said.
-use Rattle.std.proofs.Common.{◌∙◌, None, sym}
-use Rattle.std.proofs.lemmas.Map.Text.{btree_map_updates_text}
+use Rattle.text_core.proofs.Kit.{◌∙◌, None, sym, btree_map_updates_text}
 use Rattle.office_memory.proofs.Counted.{without_none}
 use Rattle.office_memory.proofs.Keys.{find_map, without_map}
 use Rattle.office_memory.proofs.Texts.{found-without}

@@ -1,7 +1,4 @@
--- Why `table::Table::last_between` meets its contract, where that has to be said.
-use Rattle.std.proofs.Common.{◌≡◌, ◌∙◌, false, get_or, refl, sym}
-use Rattle.std.specs.List.{All}
-use Rattle.std.specs.Ordering.{is_lt}
+use Rattle.std.proofs.Common.{◌≡◌, ◌∙◌, false, get_or, refl, sym, All, is_lt}
 use Rattle.office_memory.proofs.Placing.{filter-values, last-values, greatest-between}
 use Rattle.office_memory.proofs.table.Table.last_between.Goals as goal
 

@@ -1,7 +1,5 @@
--- Why `table::Table::replace` meets its contract, where that has to be said.
-use Rattle.std.proofs.Common.{◌≡◌, ◌∙◌, None, Some, sym}
-use Rattle.std.specs.Map.{lookup}
-use Rattle.std.specs.BTreeMap.{is_at}
+use Rattle.std.proofs.Common.{◌≡◌}
+use Rattle.text_core.proofs.Kit.{◌∙◌, None, Some, sym, lookup, is_at}
 use Rattle.office_memory.proofs.Placing.{find-values, with_other-values, with_other-free, placed-values, set_value-placed, unplaced-insert, AreKeyed-set_value}
 use Rattle.office_memory.proofs.table.Table.replace.Goals as goal
 

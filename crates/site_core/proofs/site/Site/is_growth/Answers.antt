@@ -1,4 +1,3 @@
--- Why `site::Site::is_growth` meets its contract, where that has to be said.
 use Rattle.site_core.proofs.Growing.{growth_if_managed, no_growth}
 use Rattle.site_core.proofs.site.Site.is_growth.Goals as goal
 

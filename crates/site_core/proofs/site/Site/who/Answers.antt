@@ -1,7 +1,6 @@
--- Why `site::Site::who` meets its contract, where that has to be said.
 use Rattle.std.proofs.Common.{◌≡◌, ◌∙◌, Some, is_some, ap, rules}
 use Rattle.sha2.specs.Sha256.{sha256}
-use Rattle.site_core.specs.Caller.{caller_of, seat_caller_with}
+use Rattle.site_core.specs.Prelude.{caller_of, seat_caller_with}
 use Rattle.site_core.specs.declared.site.Caller.TheVariants.{Seat}
 use Rattle.site_core.proofs.Callers.{seat_caller_with-holder, caller_of-known}
 use Rattle.site_core.proofs.site.Site.who.Goals as goal

@@ -1,7 +1,4 @@
--- Why `column::Column::append` meets its contract, where that has to be said.
-use Rattle.std.proofs.Common.{◌≡◌, ◌+◌, ◌-◌, ℕ, length, ◌++◌, take, ap, ◌∙◌, arith}
-use Rattle.std.specs.Prelude.{List}
-use Rattle.std.proofs.lemmas.List.{length-take-le}
+use Rattle.std.proofs.Common.{◌≡◌, ◌+◌, ◌-◌, ℕ, length, ◌++◌, take, ap, ◌∙◌, arith, List, length-take-le}
 use Rattle.std.proofs.lemmas.Slice.{drop-put_mid, take-put_mid}
 use Rattle.text_core.proofs.InFront.{appended_at_front}
 use Rattle.text_core.proofs.short_bytes.ShortBytes.append.Goals as goal

@@ -1,7 +1,4 @@
--- Why `short_text::ShortText::as_str` meets its contract, where that has to be said.
-use Rattle.std.proofs.Common.{Result, Ok, Err, refl}
-use Rattle.std.specs.Result.{IsOk, MatchResult}
-use Rattle.std.proofs.lemmas.Str.{IsUtf8-from_is_utf8}
+use Rattle.text_core.proofs.Kit.{Result, Ok, Err, refl, IsOk, MatchResult, IsUtf8-from_is_utf8}
 use Rattle.text_core.proofs.short_text.ShortText.as_str.Goals as goal
 
 -- a result whose error can't be is a value

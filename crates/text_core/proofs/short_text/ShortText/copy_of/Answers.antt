@@ -1,4 +1,3 @@
--- Why `short_text::ShortText::copy_of` meets its contract, where that has to be said.
 use Rattle.text_core.proofs.Shorts.{IsShortText-copied}
 use Rattle.text_core.proofs.short_text.ShortText.copy_of.Goals as goal
 

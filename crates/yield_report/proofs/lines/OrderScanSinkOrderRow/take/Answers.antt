@@ -1,7 +1,6 @@
--- Why `lines::OrderScanSinkOrderRow::take` meets its contract, where that has to be said.
 use Rattle.std.proofs.Common.{◌≡◌, ◌∷◌, ◌++◌, [], ◌∙◌, ap, rules, subst, sym, true, List}
 use Rattle.std.proofs.lemmas.List.Elements.{All-push}
-use Rattle.yield_report.specs.Lines.{first_line, name_follows, AreLines, IsLine}
+use Rattle.yield_report.specs.Prelude.{first_line, name_follows, AreLines, IsLine}
 use Rattle.yield_report.specs.declared.lines.OrderLine.{OrderLine}
 use Rattle.yield_report.proofs.Gathered.{pushed_in_order}
 use Rattle.yield_report.proofs.lines.OrderScanSinkOrderRow.take.Goals as goal
