@@ -1,16 +1,16 @@
 -- Tables of keys as bytes, and back.
-use Rattle.std.proofs.Common.{◌≡◌, ◌≢◌, ◌+◌, ◌*◌, ◌<◌, ◌≤◌, ◌&&◌, ◌∷◌, ◌++◌, get_or, drop-cons, ◌==◌, ◌||◌, if◌then◌else◌}
+use Rattle.std.proofs.Common.{◌≡◌, ◌≢◌, ◌+◌, ◌*◌, ◌<◌, ◌&&◌, ◌∷◌, ◌++◌, get_or, drop-cons, ◌==◌, ◌||◌, if◌then◌else◌}
 use Rattle.text_core.proofs.Kit.{ℕ, suc, true, false, List, [], length, take, drop, Option, Some, None, IfSome, refl, sym, ap, ◌∙◌, inl, inr, arith}
 use Rattle.text_core.proofs.Kit.{length-append, slice_index, is_some, flat_map, list_any, cases_Bool, cases_lt, cond-true, cond-false, eq-eqb, eqb-true, ne_eqb}
-use Rattle.text_core.proofs.Kit.{and_from, and_left, and_right, and_parts, or_left, or_right, false≢true, true≢false, append_assoc, length-take-le, take_all}
-use Rattle.text_core.proofs.Kit.{drop_of_length-le, take-append_seam, drop-append_seam}
+use Rattle.text_core.proofs.Kit.{and_left, and_right, and_parts, or_left, or_right, false≢true, true≢false, append_assoc, take_all}
+use Rattle.text_core.proofs.Kit.{take-append_seam, drop-append_seam}
 use Rattle.std.specs.FinMap as map
 use Rattle.fusemap_core.specs.declared.field.Field.{Field}
 use Rattle.fusemap_core.specs.Prelude.{Map}
 use Rattle.fuse_image.specs.Prelude.{HoldsDigests, KeyTable, is_key_block, AreKeys, AreKeysOf}
 use Rattle.fuse_image.proofs.Tables.{HoldsDigests-table_where, get_within, get_past, table_where-same}
 use Rattle.fuse_columns.specs.Prelude.{key_blocks, key_bytes, keys_column, key_of_bytes, key_in_bytes, keys_in}
-use Rattle.fuse_columns.proofs.KeyFields.{key_blocks-key, key_blocks-plain, key_block_is}
+use Rattle.fuse_columns.proofs.KeyFields.{key_blocks-key, key_block_is}
 
 -- what 33 bytes stand for
 pub key_of_bytes-short : (bytes : List ℕ) → length bytes < 33 → key_of_bytes (take 33 bytes) ≡ None
@@ -26,22 +26,6 @@ key_of_bytes-other (first ∷ bytes) other =
     cond-false (first == 1 && length (take 32 bytes) == 32) (Some (take 32 bytes)) None
     (and_left (first == 1) (length (take 32 bytes) == 32) (ne_eqb first 1 other))
 
-pub key_of_bytes-some : (bytes : List ℕ) → 33 ≤ length bytes → slice_index bytes 0 ≡ 1 → key_of_bytes (take 33 bytes) ≡ Some (take 32 (drop 1 bytes))
-key_of_bytes-some [] long one = absurd (omega (arith, long))
-key_of_bytes-some (first ∷ bytes) long one =
-    cond-true (first == 1 && length (take 32 bytes) == 32) (Some (take 32 bytes)) None
-    (and_from (first == 1) (length (take 32 bytes) == 32) (eq-eqb first 1 one)
-    (eq-eqb (length (take 32 bytes)) 32 (length-take-le 32 bytes (omega (arith, long)))))
-
--- one field more
-pub key_in_bytes-plain : (fields : List Field) (i : ℕ) (f : Field) (rest : List ℕ) (block : ℕ) → i < length fields → f ≡ get_or fields i f → f.key ≡ false
-    → key_in_bytes (key_blocks (drop i fields)) rest block ≡ key_in_bytes (key_blocks (drop (i + 1) fields)) rest block
-key_in_bytes-plain fields i f rest block low at plain =
-    let next : suc i ≡ i + 1 = omega arith in
-    ap (λ fs. key_in_bytes (key_blocks fs) rest block) (drop-cons fields i f low ∙ ap (λ (g : Field). g ∷ drop (suc i) fields) (sym at))
-    ∙ (ap (λ bs. key_in_bytes bs rest block) (key_blocks-plain f (drop (suc i) fields) plain)
-    ∙ ap (λ k. key_in_bytes (key_blocks (drop k fields)) rest block) next)
-
 with_key : (fields : List Field) (i : ℕ) (f : Field) (rest : List ℕ) (block : ℕ) → i < length fields → f ≡ get_or fields i f → f.key ≡ true
     → key_in_bytes (key_blocks (drop i fields)) rest block ≡ (if f.block == block then key_of_bytes (take 33 rest)
     else key_in_bytes (key_blocks (drop (i + 1) fields)) (drop 33 rest) block)
@@ -50,28 +34,6 @@ with_key fields i f rest block low at key =
     ap (λ fs. key_in_bytes (key_blocks fs) rest block) (drop-cons fields i f low ∙ ap (λ (g : Field). g ∷ drop (suc i) fields) (sym at))
     ∙ (ap (λ bs. key_in_bytes bs rest block) (key_blocks-key f (drop (suc i) fields) key)
     ∙ ap (λ k. if f.block == block then key_of_bytes (take 33 rest) else key_in_bytes (key_blocks (drop k fields)) (drop 33 rest) block) next)
-
-pub key_in_bytes-here : (fields : List Field) (i : ℕ) (f : Field) (rest : List ℕ) (block : ℕ) → i < length fields → f ≡ get_or fields i f → f.key ≡ true
-    → f.block ≡ block
-    → key_in_bytes (key_blocks (drop i fields)) rest block ≡ key_of_bytes (take 33 rest)
-key_in_bytes-here fields i f rest block low at key here =
-    with_key fields i f rest block low at key
-    ∙ cond-true (f.block == block) (key_of_bytes (take 33 rest))
-    (key_in_bytes (key_blocks (drop (i + 1) fields)) (drop 33 rest) block)
-    (eq-eqb f.block block here)
-
-pub key_in_bytes-other : (fields : List Field) (i : ℕ) (f : Field) (rest : List ℕ) (block : ℕ) → i < length fields → f ≡ get_or fields i f → f.key ≡ true
-    → f.block ≢ block
-    → key_in_bytes (key_blocks (drop i fields)) rest block ≡ key_in_bytes (key_blocks (drop (i + 1) fields)) (drop 33 rest) block
-key_in_bytes-other fields i f rest block low at key other =
-    with_key fields i f rest block low at key
-    ∙ cond-false (f.block == block) (key_of_bytes (take 33 rest))
-    (key_in_bytes (key_blocks (drop (i + 1) fields)) (drop 33 rest) block)
-    (ne_eqb f.block block other)
-
-pub key_in_bytes-none : (fields : List Field) (i : ℕ) (rest : List ℕ) (block : ℕ)
-    → length fields ≤ i → key_in_bytes (key_blocks (drop i fields)) rest block ≡ None
-key_in_bytes-none fields i rest block past = ap (λ fs. key_in_bytes (key_blocks fs) rest block) (drop_of_length-le fields past)
 
 -- a key as bytes, and back
 length-key_bytes : (o : Option (List ℕ)) → IfSome o (λ digest. length digest ≡ 32) → length (key_bytes o) ≡ 33

@@ -52,11 +52,6 @@ AreKeys-shown m blocks b some = elim (cases_lt b 4) as (λ _. (b < 4) × (is_key
   | inr high ↦ absurd (false≢true (ap is_some (sym (get_past (shown_key m blocks) b (λ low. omega (arith, low, high)))) ∙ some))
 ]
 
--- the same of what redaction gives
-pub AreOutsideKeys-redacted : (m : Map) (blocks : List (List ℕ)) → AreOutsideKeys m (redacted m blocks).ones
-unfolding redacted
-AreOutsideKeys-redacted m blocks = AreOutsideKeys-plain_ones m blocks
-
 pub AreKeys-redacted : (m : Map) (blocks : List (List ℕ)) → AreKeys m (redacted m blocks).shown
 unfolding redacted
 AreKeys-redacted m blocks = AreKeys-shown m blocks

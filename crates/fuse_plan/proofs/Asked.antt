@@ -1,12 +1,12 @@
 -- Sets of positions by tests, and what wishes ask for, one wish after another.
 use Rattle.std.proofs.Common.{◌≡◌, ◌+◌, ◌<◌, ◌&&◌, ◌||◌, get_or, ◌==◌}
 use Rattle.text_core.proofs.Kit.{ℕ, Bool, true, false, not, List, [], length, take, refl, sym, ap, ap₂, ◌∙◌, arith, nat_le, nat_lt, Option, Some, None}
-use Rattle.text_core.proofs.Kit.{option_and_then, list_any, option_map_or, and_right, eqb-true, eq-eqb, lt-ltb, le-leb, leb-true, ltb-true, and_parts, and_from}
+use Rattle.text_core.proofs.Kit.{list_any, option_map_or, and_right, eqb-true, eq-eqb, lt-ltb, le-leb, leb-true, ltb-true, and_parts, and_from}
 use Rattle.text_core.proofs.Kit.{list_any_more}
 use Rattle.std.specs.FinSet as set
 use Rattle.fuse_plan.proofs.Types.{Field, Pos, Wish}
 use Rattle.fusemap_core.specs.Prelude.{is_lock}
-use Rattle.fuse_image.specs.Prelude.{Positions, pos_cmp, pos_total, pos_exact, is_place, places_where, contains-places_where, run, same_bool}
+use Rattle.fuse_image.specs.Prelude.{pos_cmp, pos_total, pos_exact, is_place, places_where, contains-places_where, run, same_bool}
 use Rattle.fuse_image.proofs.Sets.{union-empty}
 use Rattle.fuse_plan.specs.Prelude.{asked_by}
 
@@ -60,20 +60,10 @@ asked_by-more asks ws i w low e =
     ∙ same_test (λ p. list_any (asks p) (take i ws) || asks p w) (λ p. list_any (asks p) (take (i + 1) ws)) (λ p.
     ap (λ (x : Wish). list_any (asks p) (take i ws) || asks p x) e ∙ sym (list_any_more (asks p) ws i w low))
 
--- a position that is found by a field, if there is the field
-pub lock_in : (g : Field → Option Pos) (o : Option Field) (p : Pos) → is_lock (option_and_then g o) p ≡ option_map_or (λ f. is_lock (g f) p) o false
-lock_in g None p = refl
-lock_in g (Some f) p = refl
-
 -- a field of which nothing is asked
 pub never : (o : Option Field) → option_map_or (λ f. false) o false ≡ false
 never None = refl
 never (Some f) = refl
-
--- a test of a field, in sets
-pub in_field : (test : Field → Pos → Bool) (o : Option Field) → (s : Positions) → (f : Field) → o ≡ Some f → s ≡ places_where (test f) → s ≡ places_where (λ p.
-    option_map_or (λ g. test g p) o false)
-in_field test o s f e h = h ∙ ap (λ (x : Option Field). places_where (λ p. option_map_or (λ g. test g p) x false)) (sym e)
 
 pub in_no_field : (test : Field → Pos → Bool) (o : Option Field) → o ≡ None → set.empty ≡ places_where (λ p. option_map_or (λ g. test g p) o false)
 in_no_field test o e = none_passes (λ p. option_map_or (λ g. test g p) o false) (λ p. ap (λ (x : Option Field). option_map_or (λ g. test g p) x false) e)

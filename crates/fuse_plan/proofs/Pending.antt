@@ -13,13 +13,14 @@ use Rattle.fuse_image.specs.Prelude.{KeyTable, get-table_where, has_no_key, keys
 use Rattle.fuse_image.specs.Prelude.{is_empty, is_place, sets_meet, pos_cmp, pos_total, pos_exact, places_where, contains-places_where, AreKeys, some_key}
 use Rattle.fuse_image.proofs.Sets.{none_in}
 use Rattle.fuse_plan.specs.Prelude.{image_after, is_bad_key, lost, short_bits, short_keys, short_or_match, stray, verdict_of, batches, faults_with}
-use Rattle.fuse_plan.specs.Prelude.{has_key_where, is_hidden_in, lock_positions, pending_or_fault, FirstRestLaw, PendingFitsImage, PlanLaw, RestLaw}
+use Rattle.fuse_plan.specs.Prelude.{has_key_where, is_hidden_in, lock_positions, pending_or_fault, FirstBatchLaw, FirstRestLaw, PendingFitsImage, PlanLaw}
+use Rattle.fuse_plan.specs.Prelude.{RestLaw, SecondBatchLaw}
 use Rattle.fuse_plan.specs.Prelude.{SecondRestLaw, is_no_fault, rest_of, rest_of_first, asks_one, key_of_want, key_of_wish, missing, wanted_key, wanted_keys}
 use Rattle.fuse_plan.specs.Prelude.{wanted_ones, wants_of}
 use Rattle.fuse_plan.specs.declared.verdict.ChipFault.TheVariants as chip
-use Rattle.fuse_plan.proofs.Law.{test_of_key}
+use Rattle.fuse_plan.proofs.Law.{match_law, test_of_key}
 use Rattle.fuse_plan.proofs.Compared.{in_retain}
-use Rattle.fuse_plan.proofs.Shown.{IsPlain, same_hidden, same_hidden_key}
+use Rattle.fuse_plan.proofs.Shown.{IsPlain, locks_show, same_hidden, same_hidden_key}
 
 -- ---- a plan
 not_then : (c : Bool) (fault : PlanFault) (rest : Option PlanFault) → (if c then Some fault else rest) ≡ None → (c ≡ false) × (rest ≡ None)
@@ -349,3 +350,15 @@ rest_law m a batch asked r h =
     let after = set.union a.burnt r.ones in
     rest_told (is_empty (lost m after a.burnt r.ones)) (is_empty (stray m after a.burnt batch r.ones)) (some_key m (is_bad_key m after a.keys asked r.shown))
     (record { burnt = short_bits batch r.ones; keys = short_keys a.keys asked r.shown }) h
+
+-- ---- a read-back of what is pending
+pub first_batch_law : FirstBatchLaw
+first_batch_law m a w r known shown pending = match_law m a w.first w.keys r known pending.keys shown pending.in_sight
+
+pub second_batch_law : SecondBatchLaw
+second_batch_law m is a w r known shown pending =
+    match_law m a w.second map.empty r known (λ b h. absurd (no_key b h)) shown
+    (record {
+      bits = λ q h. locks_show m is (set.union a.burnt w.second) q (pending.locks q h);
+      keys = λ b h new. absurd (no_key b h);
+    })

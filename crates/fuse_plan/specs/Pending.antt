@@ -1,5 +1,5 @@
 -- What is still to be burnt on a chip, from the plan on, as read-backs come in.
-use Rattle.std.specs.Prelude.{◌≡◌, ℕ, Bool, true, false, List, Ok, is_some}
+use Rattle.std.specs.Prelude.{◌≡◌, ◌↔◌, ℕ, Bool, true, false, List, Ok, is_some}
 use Rattle.std.specs.FinSet as set
 use Rattle.std.specs.FinMap as map
 use Rattle.fusemap_core.specs.declared.pos.Pos.{Pos}
@@ -9,10 +9,10 @@ use Rattle.fuse_image.specs.declared.image.Image.{Image}
 use Rattle.fuse_image.specs.declared.pending.Pending.{Pending}
 use Rattle.fuse_image.specs.declared.redaction.ReadBack.{ReadBack}
 use Rattle.fuse_plan.specs.declared.verdict.Verdict.{Verdict}
-use Rattle.fuse_plan.specs.declared.verdict.Verdict.TheVariants.{Short, Fault}
+use Rattle.fuse_plan.specs.declared.verdict.Verdict.TheVariants.{Short, Fault, Match}
 use Rattle.fuse_plan.specs.declared.wish.Wish.{Wish}
-use Rattle.fuse_plan.specs.Law.{StaysReadable}
-use Rattle.fuse_plan.specs.Outcome.{image_after, short_bits, short_keys, verdict_of}
+use Rattle.fuse_plan.specs.Law.{StaysReadable, with_batch}
+use Rattle.fuse_plan.specs.Outcome.{image_after, seen, short_bits, short_keys, verdict_of}
 use Rattle.fuse_plan.specs.Plans.{lock_positions, plan_of}
 
 -- what is to be burnt isn't yet, the second batch lies in the lock fields (WR_DIS and RD_DIS) and the first outside them, keys are those of key blocks, and the
@@ -68,3 +68,16 @@ SecondRestLaw = (m : Map) (a : Image) (w : Pending) (r : ReadBack) → PendingFi
 -- what is left to be burnt lies in the map where the plan does
 abbrev pub RestsInMap : Type 0
 RestsInMap = (m : Map) (a : Image) (w : Pending) (r : ReadBack) → IsPending m w → IsPending m (rest_of_first w a r) × IsPending m (rest_of_second w r)
+
+-- where keys are those of key blocks alone, a read-back of the first batch of what is pending
+-- matches exactly where the chip shows what it would with all of that batch burnt
+abbrev pub FirstBatchLaw : Type 0
+FirstBatchLaw = (m : Map) (a : Image) (w : Pending) (r : ReadBack)
+    → AreKeys m a.keys → AreKeys m r.shown → PendingFitsImage m a w
+    → (verdict_of m a w.first w.keys r ≡ Match) ↔ (r ≡ seen m (with_batch a w.first w.keys))
+
+-- and so does one of the second batch, which has no keys
+abbrev pub SecondBatchLaw : Type 0
+SecondBatchLaw = (m : Map) → IsMap m → (a : Image) (w : Pending) (r : ReadBack)
+    → AreKeys m a.keys → AreKeys m r.shown → PendingFitsImage m a w
+    → (verdict_of m a w.second map.empty r ≡ Match) ↔ (r ≡ seen m (with_batch a w.second map.empty))

@@ -4,8 +4,8 @@ pub use Rattle.fuse_plan.specs.Numbers.{digit_value, is_number, number_has_one, 
 unfoldable pub use Rattle.fuse_plan.specs.Numbers.{digits_value, number_word}
 pub use Rattle.fuse_plan.specs.Outcome.{image_after, is_digest, is_other, seen, short_or_match, verdict_of, verdict_under}
 unfoldable pub use Rattle.fuse_plan.specs.Outcome.{is_bad_key, lost, short_bits, short_keys, stray}
-pub use Rattle.fuse_plan.specs.Pending.{FirstRestLaw, is_no_fault, LocksShow, PendingFitsImage, PlanLaw, rest_of, rest_of_first, rest_of_second, RestLaw}
-pub use Rattle.fuse_plan.specs.Pending.{RestsInMap, SecondRestLaw}
+pub use Rattle.fuse_plan.specs.Pending.{FirstBatchLaw, FirstRestLaw, is_no_fault, LocksShow, PendingFitsImage, PlanLaw, rest_of, rest_of_first, rest_of_second}
+pub use Rattle.fuse_plan.specs.Pending.{RestLaw, RestsInMap, SecondBatchLaw, SecondRestLaw}
 pub use Rattle.fuse_plan.specs.Plans.{are_two_keys, are_wrong, ask_two_keys, asks_another_key, batches, coding_positions, contradict, faults, faults_with}
 pub use Rattle.fuse_plan.specs.Plans.{has_key_where, is_hidden_in, is_other_key, is_past, is_protected_in, is_wide, is_wrong, lacks_lock, lock_positions}
 pub use Rattle.fuse_plan.specs.Plans.{lowest_plan_fault, names_no_field, pending_or_fault, plan_fault_number, plan_of, positions_named}

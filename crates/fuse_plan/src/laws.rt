@@ -1,5 +1,5 @@
 // What holds of plans and read-backs.
-ghost use Rattle.fuse_plan.specs.Prelude.{MatchLaw, FirstRestLaw, LocksShow, PlanLaw, RestLaw, RestsInMap, SecondRestLaw};
+ghost use Rattle.fuse_plan.specs.Prelude.{MatchLaw, FirstBatchLaw, FirstRestLaw, LocksShow, PlanLaw, RestLaw, RestsInMap, SecondBatchLaw, SecondRestLaw};
 
 /// A read-back matches exactly where it is what the chip shows when all of the batch is burnt and
 /// nothing else, for a batch that stays readable.
@@ -39,4 +39,12 @@ pub fn rest_law()
 /// What a read-back leaves to be burnt lies in the map where the plan does.
 pub fn rests_in_map()
     ensures { RestsInMap }
+{}
+
+/// A read-back of a batch that is pending matches exactly where it is what the chip shows when all
+/// of that batch is burnt and nothing else.
+#[tactic(auto, using(crate::proofs::Pending::first_batch_law, crate::proofs::Pending::second_batch_law))]
+pub fn batch_laws()
+    ensures first { FirstBatchLaw }
+    ensures second { SecondBatchLaw }
 {}

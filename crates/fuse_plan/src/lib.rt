@@ -19,7 +19,8 @@ pub use comparison::compare;
 pub use fault::PlanFault;
 pub use fuse_image::{ReadBack, fits, has_coding_scheme, redact, shows_what_is_hidden};
 pub use laws::{
-    first_rest_law, locks_show, match_law, plan_law, rest_law, rests_in_map, second_rest_law,
+    batch_laws, first_rest_law, locks_show, match_law, plan_law, rest_law, rests_in_map,
+    second_rest_law,
 };
 pub use number::Number;
 pub use planner::plan;

@@ -28,13 +28,3 @@ sending_then None middle new head body result first second = first
 sending_then (Some before) None new head body result first second = absurd first
 sending_then (Some before) (Some middle) None head body result first second = second
 sending_then (Some before) (Some middle) (Some after) head body result first second = sends_then before middle after head body result first second
-
-pub sending_fault : (old new : Option (List ℕ)) (head more : List ℕ) → Sending old new head Fault → Sending old new (head ++ more) Fault
-sending_fault None new head more first = first
-sending_fault (Some before) None head more first = first
-sending_fault (Some before) (Some after) head more first = (first.0, first.1 ++ more, ap (λ s. s ++ more) first.2 ∙ append_assoc first.0 first.1 more, first.3)
-
-pub sending_limit : (old new : Option (List ℕ)) (head more : List ℕ) → Sending old new head TurnLimit → Sending old new (head ++ more) TurnLimit
-sending_limit None new head more first = first
-sending_limit (Some before) None head more first = first
-sending_limit (Some before) (Some after) head more first = (first.0, first.1 ++ more, ap (λ s. s ++ more) first.2 ∙ append_assoc first.0 first.1 more, first.3)
