@@ -1,7 +1,7 @@
 // The records of serial numbers, over all customers.
 ghost use Rattle.std.specs.Prelude.{◌≡◌, ◌&&◌, ◌||◌, not, ℕ, List, [], Some, None, true, false, filter, find, if◌then◌else◌, OnOk, OnErr, option_copied};
 ghost use Rattle.text_core.specs.Prelude.{is_serial};
-ghost use Rattle.office_tables.specs.Prelude.{Visits, given_cmp, is_address, is_bound, is_serial_of, is_of_issuer, with_row, IsAddressFree};
+ghost use Rattle.office_tables.specs.Prelude.{Visits, given_cmp, is_address, is_bound, is_serial_of, is_of_issuer, with_row, IsAddressFree, IsInOrder};
 ghost use Rattle.office_memory.specs.Indexing.{has_mac, serial_of};
 ghost use Rattle.office_memory.specs.Unplaced.{without};
 
@@ -113,6 +113,13 @@ impl GivenRows {
                 macs: BTreeSet::new(alloc),
             },
         }
+    }
+
+    /// The records stand in the order of their keys. It does nothing.
+    pub(crate) fn fact_in_order(&self)
+        ensures { IsInOrder given_cmp self.now }
+    {
+        self.rows.fact_in_order();
     }
 
     /// The record of a serial number of an issuer. There is none where the text is no serial

@@ -1,6 +1,6 @@
 // The maps, found by their numbers and by their texts.
 ghost use Rattle.std.specs.Prelude.{◌≡◌, ◌≤◌, [], None, find, map, option_map, IfOk, IfSome, OnErr, option_copied};
-ghost use Rattle.office_tables.specs.Prelude.{largest_number, one_more, greatest, has_body, has_id, map_cmp, with_row};
+ghost use Rattle.office_tables.specs.Prelude.{largest_number, one_more, greatest, has_body, has_id, map_cmp, with_row, IsInOrder};
 ghost use Rattle.office_memory.specs.Unplaced.{without};
 
 use crate::table::Table;
@@ -38,6 +38,13 @@ impl MapRows {
             rows: Table::new(alloc),
             ids: BTreeMap::new(alloc),
         }
+    }
+
+    /// The maps stand in the order of their keys. It does nothing.
+    pub(crate) fn fact_in_order(&self)
+        ensures { IsInOrder map_cmp self.now }
+    {
+        self.rows.fact_in_order();
     }
 
     /// The map with a number.

@@ -23,7 +23,7 @@ use Rattle.office_sql.proofs.Inserting.{IsInsert}
 use Rattle.office_sql.proofs.Kept.{found}
 use Rattle.office_sql.proofs.Keyed.{Apart}
 use Rattle.office_sql.proofs.Missing.{text_cast, text_back}
-use Rattle.office_sql.proofs.Offices.{both_changed, told_stays}
+use Rattle.office_sql.proofs.Offices.{both_changed, both_started, told_stays}
 use Rattle.office_sql.proofs.Reading.{IsJoined}
 use Rattle.office_sql.proofs.Stepping.{cast_null}
 use Rattle.office_sql.proofs.StartedRows.{started_more}
@@ -109,7 +109,7 @@ add_terms = lit Null ∷ col 0 0 ∷ col 0 1 ∷ col 0 2 ∷ col 0 3 ∷ col 0 4
 
 pub add_insert : IsInsert office_schema add_text given add_terms 8
 unfolding understood everything
-add_insert = record { is = refl; plain = (refl, refl); there = refl; uncounted = refl; unstamped = refl; one = λ params. refl }
+add_insert = record { means = record { is = refl; plain = (refl, refl); there = refl; uncounted = refl; unstamped = refl }; one = λ params. refl }
 
 pub add_casts : (g : OfCustomer Given) → cast_row given_table (Null ∷ given_columns g) ≡ Null ∷ given_columns g
 add_casts g = rw (cast_null, text_cast g.row.chip, text_cast (option_map mac_text g.row.mac)) refl
@@ -124,7 +124,7 @@ start_terms = lit Null ∷ col 0 0 ∷ col 0 1 ∷ col 0 2 ∷ []
 
 pub start_insert : IsInsert office_schema start_text given_starts start_terms 4
 unfolding understood everything
-start_insert = record { is = refl; plain = (refl, refl); there = refl; uncounted = refl; unstamped = refl; one = λ params. refl }
+start_insert = record { means = record { is = refl; plain = (refl, refl); there = refl; uncounted = refl; unstamped = refl }; one = λ params. refl }
 
 pub start_casts : (g : OfCustomer Given) → cast_row given_start_table (Null ∷ given_start_columns g) ≡ Null ∷ given_start_columns g
 start_casts g = rw (cast_null, text_cast g.row.not_before) refl
@@ -183,7 +183,7 @@ module _ (g : OfCustomer Given) (address : option_and_then mac_of_text (option_m
       starts.row ∙ ap (λ l. put_row (Int (next_rowid l) ∷ given_start_columns g) l) beside in
       let it = both_changed old new office starts.schema starts.sound given given_starts mid.trees adds.others
       starts.others (subst (AreRows IsGivenRow given_cmp given_in_row) (sym adds.row) more.are) tt
-      (office.orders_started, subst₂ (AreStarted starts_given given_in_row) (sym adds.row) (sym after) more.started) in
+      ((both_started old office).0, subst₂ (AreStarted starts_given given_in_row) (sym adds.row) (sym after) more.started) in
       let all = ap₂ (λ l k. map (with_given_start k) (sort_by given_cmp (map given_in_row l))) adds.row after
       ∙ more.placed_is
       ∙ ap (λ x. with_row given_cmp x (tables_in old.trees).given) (given_back id own) in

@@ -44,7 +44,6 @@ mod GivenWrites
 mod GivenFound
 mod SeatWrites
 pub mod OrderReads
-pub mod StartsFilled
 mod ColumnKinds
 mod OrderWrites
 pub mod Missing

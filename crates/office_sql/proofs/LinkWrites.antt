@@ -26,7 +26,7 @@ add_terms = lit Null ∷ col 0 0 ∷ col 0 1 ∷ col 0 2 ∷ []
 
 pub add_insert : IsInsert office_schema add_text links add_terms 4
 unfolding understood everything
-add_insert = record { is = refl; plain = (refl, refl); there = refl; uncounted = refl; unstamped = refl; one = λ params. refl }
+add_insert = record { means = record { is = refl; plain = (refl, refl); there = refl; uncounted = refl; unstamped = refl }; one = λ params. refl }
 
 pub add_casts : (l : OfCustomer Link) → cast_row link_table (eval_all add_terms (link_columns l ∷ [])) ≡ Null ∷ link_columns l
 add_casts l = rw (cast_null, cast_int (pos l.row.map)) refl

@@ -29,7 +29,7 @@ add_terms = lit Null ∷ lit Null ∷ col 0 0 ∷ col 0 1 ∷ []
 
 pub add_insert : IsInsert office_schema add_text maps add_terms 4
 unfolding understood everything
-add_insert = record { is = refl; plain = (refl, refl); there = refl; uncounted = refl; unstamped = refl; one = λ params. refl }
+add_insert = record { means = record { is = refl; plain = (refl, refl); there = refl; uncounted = refl; unstamped = refl }; one = λ params. refl }
 
 pub add_casts : (m : OfCustomer NewMap) → cast_row map_table (eval_all add_terms (map_columns m ∷ [])) ≡ Null ∷ Null ∷ map_columns m
 add_casts m = rw cast_null refl

@@ -4,14 +4,14 @@ use Rattle.text_core.proofs.Kit.{ℕ, List, [], codes, refl, sym, ap, ap₂, ◌
 use Rattle.text_core.proofs.Kit.{then_total, nat_list_cmp_total, is_eq-slice_cmp}
 use Rattle.sqlite.specs.declared.types.Value.TheVariants.{Text as Words}
 use Rattle.office_sql.proofs.Kit.{Row, column, Term, col, is_true, Eq, Compare, key_cmp, IsAnswer, inner, end, Join, Trees, Binary, Key, ascending}
-use Rattle.office_sql.proofs.Kit.{value_cmp_total, then-Equal, sort_by}
+use Rattle.office_sql.proofs.Kit.{value_cmp_total, then-Equal, Database, overlay}
 use Rattle.sqlite.specs.Ops.{binary}
 use Rattle.sqlite.specs.Listing.{understood}
 use Rattle.sqlite_tied.specs.Compute.{everything}
 use Rattle.office_sql.proofs.Types.{OfCustomer, Order}
 use Rattle.office_tables.specs.Prelude.{order_cmp, is_of, is_order}
 use Rattle.office_sql.specs.Prelude.{orders, order_starts, office_schema, rows_in, tree_of, order_in_row, starts_order, with_order_start, joined_order}
-use Rattle.office_sql.specs.Prelude.{is_parameter, passes, over, is_same, passes_join, first_that, AreRows, AreStarted, IsOrderRow, IsStartRow, text_if}
+use Rattle.office_sql.specs.Prelude.{is_parameter, passes, over, is_same, passes_join, first_that, IsOffice, IsOrderRow, IsStartRow, tables_in, text_if}
 use Rattle.office_sql.proofs.Kept.{shows_joined, start_is}
 use Rattle.office_sql.proofs.Reading.{IsJoined}
 use Rattle.office_sql.proofs.Values.{text_is, texts_cmp, and_true}
@@ -94,27 +94,24 @@ with_row s o = record o { row = record o.row { not_before = text_if (column s 3)
 starts : (l : List Row) (all : List (OfCustomer Order)) → map (λ o. with_row (first_that (starts_order o) l) o) all ≡ map (with_order_start l) all
 starts l all = ap (λ (f : OfCustomer Order → OfCustomer Order). map f all) (λ i o. record o { row = record o.row { not_before = start_is starts_order l o i } })
 
-pub one_shown : (c n : List ℕ) (db : Trees) (rows : List Row)
-    → AreRows IsOrderRow order_cmp order_in_row (rows_in db orders)
-    → AreStarted starts_order order_in_row (rows_in db orders) (rows_in db order_starts)
-    → IsAnswer (over with_starts (on_start ++ one_tests) shown by_key) db (Words c ∷ Words n ∷ []) rows
-    → map joined_order rows ≡ filter (is_order c n)
-    (map (with_order_start (rows_in db order_starts)) (sort_by order_cmp (map order_in_row (rows_in db orders))))
-one_shown c n db rows are started a =
-    shows_joined IsOrderRow order_cmp order_total order_in_row by_name by_name_total by_is (is_order c n) one_tests (Words c ∷ Words n ∷ []) (passes_order c n)
-    IsStartRow starts_order on_start (fits (Words c ∷ Words n
-    ∷ [])) shown by_key joined_order with_row (λ s o. refl) (λ r s. refl) (λ r s.
-    refl) (λ a b s t. refl)
-    db (tree_of orders) (tree_of order_starts) rows are started.typed started.one a
-    ∙ ap (filter (is_order c n)) (starts (rows_in db order_starts) _)
+module _ (c : List ℕ) (db : Database) (office : IsOffice db) where
+  abbrev seen : Trees
+  seen = overlay db.trees []
 
-pub own_shown : (c : List ℕ) (db : Trees) (rows : List Row)
-    → AreRows IsOrderRow order_cmp order_in_row (rows_in db orders)
-    → AreStarted starts_order order_in_row (rows_in db orders) (rows_in db order_starts)
-    → IsAnswer (over with_starts (on_start ++ own_tests) shown by_key) db (Words c ∷ []) rows
-    → map joined_order rows ≡ filter (is_of c) (map (with_order_start (rows_in db order_starts)) (sort_by order_cmp (map order_in_row (rows_in db orders))))
-own_shown c db rows are started a =
-    shows_joined IsOrderRow order_cmp order_total order_in_row by_name by_name_total by_is (is_of c) own_tests (Words c ∷ []) (passes_customer c)
-    IsStartRow starts_order on_start (fits (Words c ∷ [])) shown by_key joined_order with_row (λ s o. refl) (λ r s. refl) (λ r s. refl) (λ a b s t. refl)
-    db (tree_of orders) (tree_of order_starts) rows are started.typed started.one a
-    ∙ ap (filter (is_of c)) (starts (rows_in db order_starts) _)
+  pub one_shown : (n : List ℕ) (rows : List Row) → IsAnswer (over with_starts (on_start ++ one_tests) shown by_key) seen (Words c ∷ Words n ∷ []) rows
+      → map joined_order rows ≡ filter (is_order c n) (tables_in db.trees).orders
+  one_shown n rows a =
+      shows_joined IsOrderRow order_cmp order_total order_in_row by_name by_name_total by_is (is_order c n) one_tests (Words c ∷ Words n ∷ [])
+      (passes_order c n) IsStartRow starts_order on_start (fits (Words c ∷ Words n
+      ∷ [])) shown by_key joined_order with_row (λ s o. refl) (λ r s. refl) (λ r s.
+      refl) (λ a b s t. refl)
+      seen (tree_of orders) (tree_of order_starts) rows (office.rows orders) office.orders_started.typed office.orders_started.one a
+      ∙ ap (filter (is_order c n)) (starts (rows_in seen order_starts) _)
+
+  pub own_shown : (rows : List Row) → IsAnswer (over with_starts (on_start ++ own_tests) shown by_key) seen (Words c ∷ []) rows
+      → map joined_order rows ≡ filter (is_of c) (tables_in db.trees).orders
+  own_shown rows a =
+      shows_joined IsOrderRow order_cmp order_total order_in_row by_name by_name_total by_is (is_of c) own_tests (Words c ∷ []) (passes_customer c)
+      IsStartRow starts_order on_start (fits (Words c ∷ [])) shown by_key joined_order with_row (λ s o. refl) (λ r s. refl) (λ r s. refl) (λ a b s t. refl)
+      seen (tree_of orders) (tree_of order_starts) rows (office.rows orders) office.orders_started.typed office.orders_started.one a
+      ∙ ap (filter (is_of c)) (starts (rows_in seen order_starts) _)

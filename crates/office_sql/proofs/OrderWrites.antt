@@ -35,7 +35,7 @@ add_terms = lit Null ∷ col 0 0 ∷ col 0 1 ∷ col 0 2 ∷ col 0 3 ∷ col 0 4
 
 pub add_insert : IsInsert office_schema add_text orders add_terms 11
 unfolding understood everything
-add_insert = record { is = refl; plain = (refl, refl); there = refl; uncounted = refl; unstamped = refl; one = λ params. refl }
+add_insert = record { means = record { is = refl; plain = (refl, refl); there = refl; uncounted = refl; unstamped = refl }; one = λ params. refl }
 
 pub add_casts : (o : OfCustomer Order) → cast_row orders_table (Null ∷ order_columns o) ≡ Null ∷ order_columns o
 add_casts o =
@@ -111,7 +111,7 @@ start_terms = lit Null ∷ col 0 0 ∷ col 0 1 ∷ col 0 2 ∷ []
 
 pub start_insert : IsInsert office_schema start_text order_starts start_terms 4
 unfolding understood everything
-start_insert = record { is = refl; plain = (refl, refl); there = refl; uncounted = refl; unstamped = refl; one = λ params. refl }
+start_insert = record { means = record { is = refl; plain = (refl, refl); there = refl; uncounted = refl; unstamped = refl }; one = λ params. refl }
 
 pub start_casts : (o : OfCustomer Order) → cast_row order_start_table (Null ∷ order_start_columns o) ≡ Null ∷ order_start_columns o
 start_casts o = rw (cast_null, text_cast o.row.not_before) refl

@@ -66,7 +66,8 @@ module _ (text : List ℕ) (its : OfficeTable) (tests shown : List Term) (update
   puts : (limit : Option ℕ) (old : Database) (out : Tally × Database) → IsDatabase out.1
       → (kept : List Row) → passing tests params (rows_in old.trees its) ≡ kept
       → ((l : List Row) → IsPermutation kept l → l ≡ kept)
-      → OnRows (task_on limit params table) enforced None command old.trees (Ok out) → Updates (map (λ r. eval_all shown (env params r)) kept) old out.1 out.0
+      → OnRows (task_on office_schema limit params table) enforced None command old.trees (Ok out)
+      → Updates (map (λ r. eval_all shown (env params r)) kept) old out.1 out.0
   puts limit old out sound kept passed alone does =
       let db = old.trees in
       let done = went does in
@@ -110,7 +111,8 @@ module _ (text : List ℕ) (table : OfficeTable) (tests shown : List Term)
       let does = subst (λ s. Does old.step_limit (mode_of old) params (record old.now { schema = s }) words None it (Ok (w.tally, new.now))) has w.changed in (
         w.tally,
         puts text table tests shown update params old.step_limit old.now (w.tally, new.now) w.sound kept passed alone
-            (subst (λ o. AtPlace (λ t. OnRows (task_on old.step_limit params t) enforced None it old.now.trees) o (Ok (w.tally, new.now))) update.there does),
+            (subst (λ o.
+            AtPlace (λ t. OnRows (task_on office_schema old.step_limit params t) enforced None it old.now.trees) o (Ok (w.tally, new.now))) update.there does),
         w.counted,
       )
 

@@ -1,7 +1,7 @@
 -- What a read leaves of a connection that was ready.
 use Rattle.std.proofs.Common.{◌≡◌, inl, inr, [], sym, ap, subst, ◌∙◌, IsTrue}
 use Rattle.office_sql.proofs.Kit.{Database, State, IsUnchanged}
-use Rattle.office_sql.specs.Prelude.{IsMade, IsUndone, Rests, IsReady, IsOffice, tables_in, told_in}
+use Rattle.office_sql.specs.Prelude.{IsMade, Rests, IsReady, IsOffice, tables_in, told_in}
 
 pub same_now : (old new : State) → IsReady old → Rests old new → IsTrue new.is_open → new.now ≡ old.now
 same_now old new rest r up = elim (r.now up) [ inl e ↦ e | inr e ↦ e ∙ sym (rest.shows_committed (r.was_open up)) ]
@@ -19,11 +19,4 @@ none_made old new ready same = record {
     told = ap (λ (d : Database). told_in d.trees) same.0.now_is;
   };
   committed = same.0.committed_is ∙ sym (ready.shows_committed same.0.was_open) ∙ sym same.0.now_is;
-}
-
-pub rest_undone : (old new : State) → IsReady old → Rests old new → IsUndone old new
-rest_undone old new ready r = record {
-  was_open = r.was_open;
-  now = λ up. same_now old new ready r up ∙ ready.shows_committed (r.was_open up);
-  committed = r.committed;
 }

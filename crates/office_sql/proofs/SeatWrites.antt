@@ -30,7 +30,7 @@ add_terms = lit Null ∷ col 0 0 ∷ col 0 1 ∷ col 0 2 ∷ col 0 3 ∷ col 0 4
 
 pub add_insert : IsInsert office_schema add_text seats add_terms 6
 unfolding understood everything
-add_insert = record { is = refl; plain = (refl, refl); there = refl; uncounted = refl; unstamped = refl; one = λ params. refl }
+add_insert = record { means = record { is = refl; plain = (refl, refl); there = refl; uncounted = refl; unstamped = refl }; one = λ params. refl }
 
 pub add_casts : (s : OfCustomer SeatState) → cast_row seat_table (Null ∷ seat_columns s) ≡ Null ∷ seat_columns s
 add_casts s = rw (cast_null, cast_int (pos s.row.last)) refl

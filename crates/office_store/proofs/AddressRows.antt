@@ -20,7 +20,7 @@ use Rattle.office_sql.proofs.Kept.{narrowed}
 use Rattle.office_sql.proofs.LedgerAsked.{IsReadAs}
 use Rattle.office_sql.proofs.Scan.{Scanned, scanned}
 use Rattle.office_sql.proofs.Values.{and_true, texts_cmp}
-use Rattle.office_store.proofs.Types.{Version, Earliest, Early, First, Second, Third}
+use Rattle.office_store.proofs.Types.{Version, Earliest}
 use Rattle.office_store.specs.Prelude.{address_texts, HasApartAddresses, HasNoRepeat, schema_of}
 
 -- ---- the text
@@ -41,10 +41,7 @@ addresses_body = scan (tree_of given) (is_there ∷ []) (col 1 6 ∷ []) by_addr
 pub addresses_read : (version : Version) → IsReadAs (schema_of version) addresses_text addresses_body
 unfolding understood everything
 addresses_read Earliest = record { names = codes "mac" ∷ []; is = refl; plain = (refl, refl); unlisted = refl; bare = λ schema base. refl }
-addresses_read Early = record { names = codes "mac" ∷ []; is = refl; plain = (refl, refl); unlisted = refl; bare = λ schema base. refl }
-addresses_read First = record { names = codes "mac" ∷ []; is = refl; plain = (refl, refl); unlisted = refl; bare = λ schema base. refl }
-addresses_read Second = record { names = codes "mac" ∷ []; is = refl; plain = (refl, refl); unlisted = refl; bare = λ schema base. refl }
-addresses_read Third = record { names = codes "mac" ∷ []; is = refl; plain = (refl, refl); unlisted = refl; bare = λ schema base. refl }
+addresses_read _ = record { names = codes "mac" ∷ []; is = refl; plain = (refl, refl); unlisted = refl; bare = λ schema base. refl }
 
 -- ---- the rows that pass have a text
 

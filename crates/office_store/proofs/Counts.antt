@@ -1,24 +1,27 @@
--- How many tables a version has.
-use Rattle.std.proofs.Common.{◌≢◌, ◌<◌, arith, refl, subst}
-use Rattle.office_sql.specs.Prelude.{OfficeTable, texts, place_of}
-use Rattle.office_store.proofs.Types.{Version, Earliest, Early, First, Second, Third}
-use Rattle.office_store.specs.Prelude.{count_of}
+-- How many tables a version has, and what becomes of the first tables of a schema.
+use Rattle.std.proofs.Common.{◌≡◌, ℕ, ◌≢◌, ◌<◌, arith, refl, subst}
+use Rattle.office_sql.proofs.Kit.{Trees}
+use Rattle.office_sql.proofs.Inserting.{OthersStay}
+use Rattle.office_sql.proofs.Names.{first_by_name, same_table}
+use Rattle.office_sql.specs.Prelude.{OfficeTable, texts, place_of, tree_of}
+use Rattle.office_store.proofs.Types.{Version, Earliest, Third}
+use Rattle.office_store.specs.Prelude.{KeepsFirstBut, count_of, first_tables}
 
 -- each has the first eight
 pub first_eight : (version : Version) → 7 < count_of version
 first_eight Earliest = omega arith
-first_eight Early = omega arith
-first_eight First = omega arith
-first_eight Second = omega arith
-first_eight Third = omega arith
+first_eight _ = omega arith
 
 -- and an earlier one not that of the site's text
 pub not_texts : (version : Version) → version ≢ Third → (table : OfficeTable) → place_of table < count_of version → table ≢ texts
 not_texts version earlier table low is = omega (arith, at_most version earlier, subst (λ t. place_of t < count_of version) is low)
   where
     at_most : (version : Version) → version ≢ Third → count_of version < 11
-    at_most Earliest earlier = omega arith
-    at_most Early earlier = omega arith
-    at_most First earlier = omega arith
-    at_most Second earlier = omega arith
     at_most Third earlier = absurd (earlier refl)
+    at_most _ earlier = omega arith
+
+-- where each of the first tables but one has the rows that it had
+pub first_but : (count indexes : ℕ) (changed : OfficeTable) (old new : Trees)
+    → OthersStay (first_tables count indexes) changed old new → KeepsFirstBut changed count old new
+first_but count indexes changed old new others table low other =
+    first_by_name (λ t. t.tree ≢ tree_of changed → new t.tree ≡ old t.tree) count others table low (λ same. other (same_table table changed same))

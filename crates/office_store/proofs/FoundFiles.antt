@@ -10,11 +10,10 @@ use Rattle.sqlite_store.specs.Listing.{all_shapes, all_reals, file_trees, IsOurs
 use Rattle.sqlite_store.specs.Listed.{catalog_rows, is_listed}
 use Rattle.sqlite_store.proofs.ListingLemmas.{all_ordered}
 use Rattle.office_sql.proofs.Names.{tree_low}
-use Rattle.office_sql.specs.Prelude.{OfficeTable, orders, given, order_starts, given_starts, no_schema, rows_in, tree_of, order_in_row, given_in_row}
-use Rattle.office_sql.specs.Prelude.{starts_order, starts_given}
-use Rattle.office_store.proofs.Types.{Version, Earliest, Early, First, Second, Third}
-use Rattle.office_store.specs.Prelude.{schema_of, CanPrepareTables, AreAllStarted, AreStartsFound, HasWhole, IsFound, HasNothing, IsNoStore}
-use Rattle.office_store.proofs.FoundNothing.{no_office_rows, no_starts, nothing_found, has_nothing}
+use Rattle.office_sql.specs.Prelude.{OfficeTable, no_schema, rows_in, tree_of}
+use Rattle.office_store.proofs.Types.{Version}
+use Rattle.office_store.specs.Prelude.{schema_of, CanPrepareTables, HasWhole, IsFound, HasNothing, IsNoStore}
+use Rattle.office_store.proofs.FoundNothing.{no_office_rows, none_found, nothing_found, has_nothing}
 use Rattle.office_store.proofs.FoundVersion.{over, version_found}
 
 -- the trees have the shapes that their list gives
@@ -33,22 +32,13 @@ file_order size wanted pages ours = (
 no_row_in : (db : Trees) → IsEmpty db → (table : OfficeTable) → rows_in db table ≡ []
 no_row_in db none table = none.0 (tree_of table) (omega (arith, tree_low table))
 
-none_started : (db : Trees) → IsEmpty db → AreAllStarted db
-none_started db none = record {
-  orders = no_starts starts_order order_in_row (rows_in db orders) (rows_in db order_starts) (no_row_in db none orders) (no_row_in db none order_starts);
-  given = no_starts starts_given given_in_row (rows_in db given) (rows_in db given_starts) (no_row_in db none given) (no_row_in db none given_starts);
-}
-
 empty_found : (version : Version) (db : Trees) → IsSound (schema_of version) db → IsEmpty db → IsFound version (over version db)
-empty_found version db sound none =
-    record { schema = refl; sound = sound; rows = no_office_rows db (λ table _ _. no_row_in db none table); starts = starts version }
-  where
-    starts : (version : Version) → AreStartsFound version (over version db)
-    starts Earliest = (no_row_in db none order_starts, no_row_in db none given_starts)
-    starts Early = (no_row_in db none order_starts, no_row_in db none given_starts)
-    starts First = (no_row_in db none order_starts, no_row_in db none given_starts)
-    starts Second = λ _. none_started db none
-    starts Third = λ _. none_started db none
+empty_found version db sound none = record {
+  schema = refl;
+  sound = sound;
+  rows = no_office_rows db (λ table _ _. no_row_in db none table);
+  starts = none_found version (over version db) (no_row_in db none);
+}
 
 empty_nothing : (db : Trees) → IsEmpty db → HasNothing db
 empty_nothing db none = has_nothing db (no_row_in db none)

@@ -1,16 +1,17 @@
--- A database without tables has nothing, and of a version with the number 1 no starts.
+-- A database without tables has nothing, one of a version with the number 1 no starts, and one without rows what its version has without them.
 use Rattle.std.proofs.Common.{◌≡◌, ℕ, ◌≢◌, ◌==◌, Bool, true, false, true≢false, List, [], map, refl, ap, subst, sym, ◌∙◌, inl, inr, Ordering, arith}
 use Rattle.std.specs.List.{list_any}
 use Rattle.office_sql.proofs.Kit.{Row, Trees, IsShaped, IsOrdered, Shape, catalog_tree, version_tree, IsListed, IsSound, named_tree, sort_by, Index, Schema}
-use Rattle.office_sql.proofs.Kit.{Table, Has, some_from}
+use Rattle.office_sql.proofs.Kit.{Database, IsDatabase, Table, Has, some_from}
 use Rattle.sqlite_trees.specs.declared.store.Shape.TheVariants as shape
 use Rattle.office_tables.specs.Prelude.{no_rows, seat_cmp, order_cmp, map_cmp, link_cmp, device_cmp, given_cmp, entry_cmp}
 use Rattle.office_sql.proofs.Names.{tree_low}
 use Rattle.office_sql.specs.Prelude.{OfficeTable, meta, seats, maps, links, orders, devices, given, ledger, order_starts, given_starts, texts, no_schema}
 use Rattle.office_sql.specs.Prelude.{rows_in, tree_of, seat_in_row, map_in_row, link_in_row, order_in_row, device_in_row, given_in_row, entry_in_row}
-use Rattle.office_sql.specs.Prelude.{with_order_start, with_given_start, AreOfficeRows, AreRows, AreStarted, tables_in}
-use Rattle.office_store.specs.declared.version.Version.TheVariants.{Earliest, Early, First}
-use Rattle.office_store.specs.Prelude.{TellsNoStart, meta_in, HasNothing, schema_of}
+use Rattle.office_sql.specs.Prelude.{with_order_start, with_given_start, AreOfficeRows, AreRows, AreStarted, IsOffice, office_schema, starts_given}
+use Rattle.office_sql.specs.Prelude.{starts_order, tables_in}
+use Rattle.office_store.proofs.Types.{Version, Earliest, Early, First, Second, Third}
+use Rattle.office_store.specs.Prelude.{AreAllStarted, AreStartsFound, TellsNoStart, meta_in, HasNothing, number_of_version, schema_of}
 
 no_row : {A : Type 0} (Typed : Row → Type 0) (cmp : A → A → Ordering) (value : Row → A) (rows : List Row) → rows ≡ [] → AreRows Typed cmp value rows
 no_row Typed cmp value rows none = subst (AreRows Typed cmp value) (sym none) (record { rising = tt; numbered = tt; typed = tt; keyed = tt })
@@ -29,9 +30,7 @@ no_office_rows db none orders = no_row _ _ _ _ (none orders (λ e. cc) (λ e. cc
 no_office_rows db none devices = no_row _ _ _ _ (none devices (λ e. cc) (λ e. cc))
 no_office_rows db none given = no_row _ _ _ _ (none given (λ e. cc) (λ e. cc))
 no_office_rows db none ledger = no_row _ _ _ _ (none ledger (λ e. cc) (λ e. cc))
-no_office_rows db none order_starts = tt
-no_office_rows db none given_starts = tt
-no_office_rows db none texts = tt
+no_office_rows db none _ = tt
 
 -- and are the tables of an office without a row
 pub no_rows_in : (db : Trees) → HasNoRow db → tables_in db ≡ no_rows
@@ -64,6 +63,31 @@ no_starts is_for value rows starts no_row none =
       for_one = tt;
     }))
 
+-- an office whose tables have no row, but for those by which it tells of itself
+pub empty_office : (db : Database) → db.schema ≡ office_schema → IsDatabase db → HasNoRow db.trees → IsOffice db
+empty_office db schema sound none = record {
+  schema = schema;
+  sound = sound;
+  rows = no_office_rows db.trees none;
+  orders_started = no_starts starts_order order_in_row _ _ (none orders (λ e. cc) (λ e. cc)) (none order_starts (λ e. cc) (λ e. cc));
+  given_started = no_starts starts_given given_in_row _ _ (none given (λ e. cc) (λ e. cc)) (none given_starts (λ e. cc) (λ e. cc));
+}
+
+-- in tables without a row beginnings of validity are as each version has them
+pub none_found : (version : Version) (db : Database) → ((table : OfficeTable) → rows_in db.trees table ≡ []) → AreStartsFound version db
+none_found version db none = found version
+  where
+    all : AreAllStarted db.trees
+    all = record {
+      orders = no_starts starts_order order_in_row _ _ (none orders) (none order_starts);
+      given = no_starts starts_given given_in_row _ _ (none given) (none given_starts);
+    }
+
+    found : (version : Version) → AreStartsFound version db
+    found Second = λ _. all
+    found Third = λ _. all
+    found _ = (none order_starts, none given_starts)
+
 module _ (schema : Schema) (shapes : ℕ → Shape) (reals : ℕ → ℕ) (trees : Trees)
     (sound : IsSound schema trees) (listed : IsListed (trees catalog_tree) shapes reals) (ordered : IsOrdered shapes trees) where
   rising : IsShaped shape.Table (trees catalog_tree)
@@ -94,20 +118,27 @@ module _ (shapes : ℕ → Shape) (reals : ℕ → ℕ) (trees : Trees) (listed 
       (λ e. omega (arith, tree_low table, e)) (λ e. omega (arith, tree_low table, e)) refl refl refl)
 
   -- and the versions with the number 1 list no starts
-  pub earliest_unstarted : IsSound (schema_of Earliest) trees → TellsNoStart trees
+  earliest_unstarted : IsSound (schema_of Earliest) trees → TellsNoStart trees
   earliest_unstarted sound = (
     empty_at (schema_of Earliest) shapes reals trees sound listed ordered (tree_of order_starts) (λ e. cc) (λ e. cc) refl refl refl,
     empty_at (schema_of Earliest) shapes reals trees sound listed ordered (tree_of given_starts) (λ e. cc) (λ e. cc) refl refl refl,
   )
 
-  pub early_unstarted : IsSound (schema_of Early) trees → TellsNoStart trees
+  early_unstarted : IsSound (schema_of Early) trees → TellsNoStart trees
   early_unstarted sound = (
     empty_at (schema_of Early) shapes reals trees sound listed ordered (tree_of order_starts) (λ e. cc) (λ e. cc) refl refl refl,
     empty_at (schema_of Early) shapes reals trees sound listed ordered (tree_of given_starts) (λ e. cc) (λ e. cc) refl refl refl,
   )
 
-  pub first_unstarted : IsSound (schema_of First) trees → TellsNoStart trees
+  first_unstarted : IsSound (schema_of First) trees → TellsNoStart trees
   first_unstarted sound = (
     empty_at (schema_of First) shapes reals trees sound listed ordered (tree_of order_starts) (λ e. cc) (λ e. cc) refl refl refl,
     empty_at (schema_of First) shapes reals trees sound listed ordered (tree_of given_starts) (λ e. cc) (λ e. cc) refl refl refl,
   )
+
+  pub unstarted_found : (version : Version) → number_of_version version ≡ 1 → IsSound (schema_of version) trees → TellsNoStart trees
+  unstarted_found Second one sound = absurd (omega (arith, one))
+  unstarted_found Third one sound = absurd (omega (arith, one))
+  unstarted_found Earliest one sound = earliest_unstarted sound
+  unstarted_found Early one sound = early_unstarted sound
+  unstarted_found First one sound = first_unstarted sound

@@ -9,7 +9,7 @@ use Rattle.sqlite.specs.Order.{value_cmp}
 use Rattle.sqlite_trees.specs.declared.store.Shape.TheVariants as shape
 use Rattle.sqlite_trees.proofs.ListLemmas.{all_weaker}
 use Rattle.office_tables.specs.Prelude.{seat_cmp, order_cmp, map_cmp, link_cmp, device_cmp, given_cmp, entry_cmp}
-use Rattle.office_sql.specs.Prelude.{meta, seats, maps, links, orders, devices, given, ledger, order_starts, given_starts, texts, seat_table, map_table}
+use Rattle.office_sql.specs.Prelude.{meta, seats, maps, links, orders, devices, given, ledger, seat_table, map_table}
 use Rattle.office_sql.specs.Prelude.{link_table, orders_table, device_table, given_table, ledger_table, rows_in, seat_in_row, map_in_row, link_in_row}
 use Rattle.office_sql.specs.Prelude.{order_in_row, device_in_row, given_in_row, entry_in_row, AreOfficeRows, AreRows, IsText, IsWhole, IsSeatRow, IsMapRow}
 use Rattle.office_sql.specs.Prelude.{IsLinkRow, IsOrderRow, IsDeviceRow, IsGivenRow, IsEntryRow}
@@ -171,6 +171,4 @@ module _ (one two three : List ℕ) (keyed : (P : List ℕ → Type 0) → P one
     rows_of_office devices = devices_found
     rows_of_office given = given_found
     rows_of_office ledger = ledger_found
-    rows_of_office order_starts = tt
-    rows_of_office given_starts = tt
-    rows_of_office texts = tt
+    rows_of_office _ = tt

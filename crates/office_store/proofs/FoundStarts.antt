@@ -1,11 +1,11 @@
 -- The starts of a sound database of a schema that begins with the second version's tables, whose trees are in order: each is
--- one of an order or a record, and where none of these lacks one, each has exactly one.
+-- one of an order or a record, and where none of these lacks one, each has exactly one. And what is so of them by the version.
 use Rattle.std.proofs.Common.{◌≡◌, ℕ, List, [], ◌∷◌, ◌&&◌, ◌||◌, codes, map, filter, find, Bool, true, false, Some, refl, sym, ap, subst, ◌∙◌, inl, inr}
-use Rattle.std.proofs.Common.{Ordering, is_eq, true≢false, slice_get, is_some}
+use Rattle.std.proofs.Common.{◌≢◌, arith, None, Ordering, is_eq, true≢false, slice_get, is_some}
 use Rattle.std.specs.List.{AllByRecursion}
 use Rattle.office_sql.proofs.Kit.{Null, Row, column, Trees, IsAscending, IsOrdered, Shape, catalog_tree, IsListed, IsSound, ForeignKey, Unique, Index}
 use Rattle.office_sql.proofs.Kit.{Reference, Table, agree, clashes, has_null, is_held, parent_key, plain, Has, has_filtered, slice_get-filter}
-use Rattle.office_sql.proofs.Kit.{ascending_from_map, all_both}
+use Rattle.office_sql.proofs.Kit.{ascending_from_map, all_both, all_of, all-map, sort_by, Database}
 use Rattle.sqlite.specs.declared.types.Value.TheVariants.{Text as Words}
 use Rattle.sqlite_schema.specs.Names.{same_name}
 use Rattle.sqlite_value.specs.Keys.{joined}
@@ -13,14 +13,17 @@ use Rattle.sqlite_trees.proofs.ListLemmas.{all_weaker, ascending-filter}
 use Rattle.office_tables.specs.Prelude.{order_cmp, given_cmp}
 use Rattle.office_sql.specs.Prelude.{orders, given, order_starts, given_starts, order_in_row, given_in_row, starts_order, starts_given, order_start_table}
 use Rattle.office_sql.specs.Prelude.{given_start_table, index_at, to, rows_in, tree_of, AreKeyed, AreOfficeRows, AreRows, AreStarted, HasOne, IsGivenRow}
-use Rattle.office_sql.specs.Prelude.{IsOrderRow, IsStartRow, IsText}
+use Rattle.office_sql.specs.Prelude.{IsOffice, IsOrderRow, IsStartRow, IsText, site_text_table, start_in_rows, tables_in, with_order_start, with_given_start}
 use Rattle.office_sql.proofs.Values.{and_true}
 use Rattle.office_sql.proofs.OrderReads.{order_tied}
 use Rattle.office_sql.proofs.GivenReads.{given_tied}
-use Rattle.office_store.specs.Prelude.{AreAllStarted, HasStarts, HaveStarts}
+use Rattle.office_store.proofs.Types.{Version, First, Second, Third}
+use Rattle.office_store.specs.Prelude.{AreAllStarted, AreStartsFound, AreUnstarted, HasMeta, HasStarts, HaveStarts, IsFound, StaysUnstarted, schema_of}
 use Rattle.office_store.proofs.FoundLacks.{started, order_starts_typed, given_starts_typed}
+use Rattle.office_store.proofs.FoundNothing.{unstarted_found}
 use Rattle.office_store.proofs.FoundOffice.{shaped}
 use Rattle.office_store.proofs.FoundRows.{both_true, not_true, texts_tie, then_ties, last_ties, rows_found}
+use Rattle.office_store.proofs.Telling.{told_once}
 use Rattle.office_store.proofs.StartKeys.{agrees_its, any_found, is_its, its_twice}
 
 -- ---- starts of which no two have one key
@@ -145,3 +148,41 @@ module _ (more : List Table) (shapes : ℕ → Shape) (reals : ℕ → ℕ) (tre
         ∙ its_twice (key_of a.row.issuer a.row.serial) s t e f) (rows_in trees given) (rows_in trees given_starts)
         starts_of_given has.given given_back;
   }
+
+-- ---- by the version
+
+-- beginnings of validity are as the version has them
+pub starts_found : (version : Version) (shapes : ℕ → Shape) (reals : ℕ → ℕ) (trees : Trees) → IsSound (schema_of version) trees
+    → IsListed (trees catalog_tree) shapes reals → IsOrdered shapes trees → AreOfficeRows trees
+    → AreStartsFound version (record { schema = schema_of version; trees = trees })
+starts_found Second shapes reals trees sound listed ordered rows = all_started [] shapes reals trees sound listed ordered rows
+starts_found Third shapes reals trees sound listed ordered rows = all_started (site_text_table ∷ []) shapes reals trees sound listed ordered rows
+starts_found version shapes reals trees sound listed ordered rows = unstarted_found shapes reals trees listed ordered version refl sound
+
+-- with no starts no beginning of validity is told
+unstarted : (db : Trees) → (rows_in db order_starts ≡ []) × (rows_in db given_starts ≡ []) → AreUnstarted (tables_in db)
+unstarted db none = (
+  all-map (λ o. o.row.not_before ≡ None) (with_order_start (rows_in db order_starts)) (sort_by order_cmp (map order_in_row (rows_in db orders)))
+      (all_of (λ o. start_in_rows starts_order (rows_in db order_starts) o
+      ≡ None) (λ o.
+      ap (λ l. start_in_rows starts_order l o) none.0)
+      (sort_by order_cmp (map order_in_row (rows_in db orders)))),
+  all-map (λ o. o.row.not_before ≡ None) (with_given_start (rows_in db given_starts)) (sort_by given_cmp (map given_in_row (rows_in db given)))
+      (all_of (λ o. start_in_rows starts_given (rows_in db given_starts) o
+      ≡ None) (λ o.
+      ap (λ l. start_in_rows starts_given l o) none.1)
+      (sort_by given_cmp (map given_in_row (rows_in db given)))),
+)
+
+-- so it is in a store that tells a version with the number 1, as the first
+pub starts_of : (version : Version) (site : List ℕ) (db : Database) → IsFound version db
+    → version ≢ Third → HasMeta version site db.trees → StaysUnstarted db.trees (tables_in db.trees)
+starts_of Second site db found earlier told other is = absurd (omega (arith, told_once First Second other site db.trees is told))
+starts_of Third site db found earlier told other is = absurd (earlier refl)
+starts_of version site db found earlier told other is = unstarted db.trees found.starts
+
+-- a database of the third version in which no beginning of validity lacks is the office's
+pub office_of : (db : Database) → IsFound Third db → HasStarts db.trees → IsOffice db
+office_of db found has =
+    let started = found.starts has in
+    record { schema = found.schema; sound = found.sound; rows = found.rows; orders_started = started.orders; given_started = started.given }

@@ -6,6 +6,7 @@ mod MadeAnswers
 mod Numbers
 mod DevicesPut
 mod MapsStay
+mod KeyOrder
 mod Committed
 mod FoundRows
 mod FoundOffice
@@ -25,13 +26,11 @@ mod AddressWalk
 mod CreateSteps
 mod CreateTexts
 mod CreateStarts
-mod CreateInsert
 mod CreateRow
 mod MetaShows
 mod TextShows
 mod Schemas
 mod Counts
-mod FirstTables
 mod StartsMade
 mod Steps
 mod Raising

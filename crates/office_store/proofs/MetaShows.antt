@@ -9,7 +9,7 @@ use Rattle.sqlite_tied.specs.Compute.{everything}
 use Rattle.sqlite_trees.proofs.ListLemmas.{map-map}
 use Rattle.office_sql.specs.OfficeTable as table
 use Rattle.office_sql.specs.Prelude.{env, passes, scan, meta_table, rows_in, tree_of, IsBlob}
-use Rattle.office_store.proofs.Types.{Version, Earliest, Early, First, Second, Third, Meta}
+use Rattle.office_store.proofs.Types.{Version, Earliest, Meta}
 use Rattle.office_store.specs.Prelude.{IsFound, meta_in, meta_of, meta_of_version, metas_in, IsMetaOf, ShowMeta, TellNoSite, schema_of}
 use Rattle.office_store.proofs.FoundRows.{blob_at}
 use Rattle.office_sql.proofs.LedgerAsked.{IsReadAs}
@@ -27,10 +27,7 @@ row_order = (col 1 0, ascending Binary) ∷ []
 pub row_read : (version : Version) → IsReadAs (schema_of version) row_text (scan (tree_of table.meta) [] row_shown row_order)
 unfolding understood everything
 row_read Earliest = record { names = codes "id" ∷ codes "schema" ∷ codes "site" ∷ []; is = refl; plain = (refl, refl); unlisted = refl; bare = λ schema base. refl }
-row_read Early = record { names = codes "id" ∷ codes "schema" ∷ codes "site" ∷ []; is = refl; plain = (refl, refl); unlisted = refl; bare = λ schema base. refl }
-row_read First = record { names = codes "id" ∷ codes "schema" ∷ codes "site" ∷ []; is = refl; plain = (refl, refl); unlisted = refl; bare = λ schema base. refl }
-row_read Second = record { names = codes "id" ∷ codes "schema" ∷ codes "site" ∷ []; is = refl; plain = (refl, refl); unlisted = refl; bare = λ schema base. refl }
-row_read Third = record { names = codes "id" ∷ codes "schema" ∷ codes "site" ∷ []; is = refl; plain = (refl, refl); unlisted = refl; bare = λ schema base. refl }
+row_read _ = record { names = codes "id" ∷ codes "schema" ∷ codes "site" ∷ []; is = refl; plain = (refl, refl); unlisted = refl; bare = λ schema base. refl }
 
 -- meta, in some order
 shows_metas : (all rows : List Row) → Scanned [] row_shown row_order [] all rows → IsPermutation (map meta_in all) (map meta_of rows)
@@ -46,21 +43,9 @@ sites_are_blobs Earliest db sound =
     all_both _ _ (IsBlob 3) (λ r d n.
     blob_at (schema_of Earliest) db meta_table r d n 2 (refl, refl, refl) (refl, refl)) (rows_in db table.meta)
     (sound.obeys.rules Datatype).0 (sound.obeys.rules NotNull).0
-sites_are_blobs Early db sound =
+sites_are_blobs version db sound =
     all_both _ _ (IsBlob 3) (λ r d n.
-    blob_at (schema_of Early) db meta_table r d n 2 (refl, refl, refl) (refl, refl)) (rows_in db table.meta)
-    (sound.obeys.rules Datatype).0 (sound.obeys.rules NotNull).0
-sites_are_blobs First db sound =
-    all_both _ _ (IsBlob 3) (λ r d n.
-    blob_at (schema_of First) db meta_table r d n 2 (refl, refl, refl) (refl, refl)) (rows_in db table.meta)
-    (sound.obeys.rules Datatype).0 (sound.obeys.rules NotNull).0
-sites_are_blobs Second db sound =
-    all_both _ _ (IsBlob 3) (λ r d n.
-    blob_at (schema_of Second) db meta_table r d n 2 (refl, refl, refl) (refl, refl)) (rows_in db table.meta)
-    (sound.obeys.rules Datatype).0 (sound.obeys.rules NotNull).0
-sites_are_blobs Third db sound =
-    all_both _ _ (IsBlob 3) (λ r d n.
-    blob_at (schema_of Third) db meta_table r d n 2 (refl, refl, refl) (refl, refl)) (rows_in db table.meta)
+    blob_at (schema_of version) db meta_table r d n 2 (refl, refl, refl) (refl, refl)) (rows_in db table.meta)
     (sound.obeys.rules Datatype).0 (sound.obeys.rules NotNull).0
 
 -- and so is each that is shown

@@ -1,21 +1,22 @@
 -- How a connection is settled: its tables are made, upgraded or found, or it is refused.
-use Rattle.std.proofs.Common.{◌≡◌, ◌≢◌, ◌↔◌, inl, inr, ℕ, Bool, false, List, [], map, None, Result, Ok, Err, OnOk, IfErr, IsTrue, refl, sym, ap, subst, ◌∙◌}
+use Rattle.std.proofs.Common.{◌≡◌, ◌≢◌, ◌↔◌, inl, inr, ℕ, Bool, false, List, Result, Ok, Err, OnOk, IfErr, IsTrue, sym, ap, subst, ◌∙◌}
 use Rattle.sha2.specs.Sha256.{sha256}
 use Rattle.site_core.specs.Prelude.{SiteValue, TextOfSite}
 use Rattle.office_sql.proofs.Kit.{Database, Held, state, State, HasCleanDisk, IsUnchanged, KeepsCommit, Survives, Trees, survives_then, survives_weaker}
-use Rattle.office_sql.proofs.Kit.{sort_by, all_of, all-map, Error}
+use Rattle.office_sql.proofs.Kit.{Error}
 use Rattle.sqlite.specs.Store.{Ghosts}
-use Rattle.office_tables.specs.Prelude.{order_cmp, given_cmp, Tables}
-use Rattle.office_sql.specs.Prelude.{orders, given, order_starts, given_starts, IsUndone, order_in_row, given_in_row, start_in_rows, starts_order, starts_given}
-use Rattle.office_sql.specs.Prelude.{with_order_start, with_given_start, no_schema, rows_in, IsOffice, office_over, tables_in}
-use Rattle.office_store.proofs.Types.{OpenFault, Failed, Version, Earliest, Early, First, Second, Third}
+use Rattle.office_tables.specs.Prelude.{Tables}
+use Rattle.office_sql.specs.Prelude.{IsUndone}
+use Rattle.office_sql.specs.Prelude.{no_schema, IsOffice, office_over, tables_in}
+use Rattle.office_store.proofs.Types.{OpenFault, Failed, Version, First, Third}
 use Rattle.office_store.specs.Prelude.{HasApartAddresses, AreUnstarted, CanPrepareTables, CanTake, Examines, IsApartAt, IsFoundAt, IsGrowable, IsOtherSchema}
-use Rattle.office_store.specs.Prelude.{IsRefusedFor, IsPreparedFor, LeavesAtMost, PreparesTables, StaysUnstarted, TakesGrowth, TakesOwn, HasStarts, IsFound}
+use Rattle.office_store.specs.Prelude.{IsRefusedFor, IsPreparedFor, LeavesAtMost, PreparesTables, StaysUnstarted, TakesGrowth, TakesOwn, IsFound}
 use Rattle.office_store.specs.Prelude.{Tests, HasGrown, IsGrown, HoldsSite, IsBegun, IsCreated, HasMeta, HasSchema, IsNoStore, IsStore, IsStoreOrNone}
 use Rattle.office_store.specs.Prelude.{HoldsText, IsGrownFrom, IsUpgrade, IsUpgraded, schema_of}
 use Rattle.office_sql.proofs.Asked.{was_clean}
+use Rattle.office_store.proofs.FoundStarts.{office_of, starts_of}
 use Rattle.office_store.proofs.AddressKept.{apart_grown, apart_if_none, apart_upgraded}
-use Rattle.office_store.proofs.Telling.{not_silent, not_third, site_once, told_once}
+use Rattle.office_store.proofs.Telling.{not_silent, not_third, site_once}
 use Rattle.office_store.proofs.TextShows.{one_text}
 
 -- a failure is no fault of a site or of tables, and comes with the schema that was there
@@ -28,21 +29,6 @@ failed site s has = record {
 
 undone_keeps : (old new : State) → IsUndone old new → KeepsCommit old new
 undone_keeps old new undone = record { was_open = undone.was_open; committed = undone.committed }
-
--- with no starts no beginning of validity is told
-pub unstarted : (db : Trees) → (rows_in db order_starts ≡ []) × (rows_in db given_starts ≡ []) → AreUnstarted (tables_in db)
-unstarted db none = (
-  all-map (λ o. o.row.not_before ≡ None) (with_order_start (rows_in db order_starts)) (sort_by order_cmp (map order_in_row (rows_in db orders)))
-      (all_of (λ o. start_in_rows starts_order (rows_in db order_starts) o
-      ≡ None) (λ o.
-      ap (λ l. start_in_rows starts_order l o) none.0)
-      (sort_by order_cmp (map order_in_row (rows_in db orders)))),
-  all-map (λ o. o.row.not_before ≡ None) (with_given_start (rows_in db given_starts)) (sort_by given_cmp (map given_in_row (rows_in db given)))
-      (all_of (λ o. start_in_rows starts_given (rows_in db given_starts) o
-      ≡ None) (λ o.
-      ap (λ l. start_in_rows starts_given l o) none.1)
-      (sort_by given_cmp (map given_in_row (rows_in db given)))),
-)
 
 -- a refusal, whatever its fault
 pub unprepared : {S : Type 0} (g : Ghosts S) (site : TextOfSite) (old new : Held S)
@@ -65,12 +51,6 @@ unprepared g site old new fault mode refused unchanged crash = record {
   unchanged = unchanged;
   crash = crash;
 }
-
--- a database of the third version in which no beginning of validity lacks is the office's
-pub office_of : (db : Database) → IsFound Third db → HasStarts db.trees → IsOffice db
-office_of db found has =
-    let started = found.starts has in
-    record { schema = found.schema; sound = found.sound; rows = found.rows; orders_started = started.orders; given_started = started.given }
 
 -- a store that tells of a text takes a growth of its site alone
 takes : (site : SiteValue) (db : Trees) → CanTake site db → TakesGrowth site db
@@ -132,15 +112,6 @@ leaves_grown site old new found can other survives = survives_weaker _ _ _ _ (λ
       subst (λ t. ¬ HoldsText site.text t) same (other calm),
       subst (λ t. IsGrown site.text t (office_over db)) same made.1,
     ))) survives
-
--- no beginning of validity is told in a store of the first version
-starts_of : (version : Version) (site : List ℕ) (db : Database) → IsFound version db
-    → version ≢ Third → HasMeta version site db.trees → StaysUnstarted db.trees (tables_in db.trees)
-starts_of Earliest site db found earlier told other is = unstarted db.trees found.starts
-starts_of Early site db found earlier told other is = unstarted db.trees found.starts
-starts_of First site db found earlier told other is = unstarted db.trees found.starts
-starts_of Second site db found earlier told other is = let e : ◌≡◌ {A = ℕ} 1 2 = told_once First Second other site db.trees is told in absurd (cc)
-starts_of Third site db found earlier told other is = absurd (earlier refl)
 
 module _ {S : Type 0} (g : Ghosts S) (site : TextOfSite) (old new : Held S) (calm : IsTrue (state g new).is_open → HasCleanDisk (state g new)) where
   module _ (can : CanPrepareTables (state g old)) (bare : (state g old).now.schema ≡ no_schema) (mode : new.in_transaction ≡ false)

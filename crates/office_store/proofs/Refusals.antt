@@ -6,10 +6,10 @@ use Rattle.sha2.specs.Sha256.{sha256}
 use Rattle.site_core.specs.Prelude.{TextOfSite}
 use Rattle.office_sql.proofs.Kit.{Row, Database, Held, state, HasCleanDisk, IsUnchanged, Trees, Error, survives_then}
 use Rattle.sqlite.specs.Store.{Ghosts}
-use Rattle.office_store.proofs.Types.{OpenFault, OtherSite, OtherTables, Failed, Meta, Version, Earliest, Early, First, Second, Third}
+use Rattle.office_store.proofs.Types.{OpenFault, OtherSite, OtherTables, Failed, Meta, Version, Earliest, Early, First, Third}
 use Rattle.office_store.specs.Prelude.{AreStartsAsked, CanTake, Examines, HasOtherTables, IsFoundAt, IsOfOtherSite, IsOther, IsShownText, TellsOther}
 use Rattle.office_store.specs.Prelude.{HasApartAddresses, HasStarts, HasWhole, IsFound, Tests, meta_of_version, metas_in, IsMetaOf, HasMeta, IsGrownFrom}
-use Rattle.office_store.specs.Prelude.{ShowTexts, schema_of}
+use Rattle.office_store.specs.Prelude.{ShowTexts, number_of_version, schema_of}
 use Rattle.office_sql.proofs.Asked.{was_clean}
 use Rattle.office_store.proofs.FoundAsked.{rests_then, still_found, unchanged_then}
 use Rattle.office_store.proofs.MetaShows.{no_site}
@@ -24,11 +24,17 @@ is_err X (Err told) fault is x = subst (λ f. X (Err f)) (sym is) x
 
 -- a store of an earlier version that tells another site is another site's
 is_other : (site : TextOfSite) (version : Version) (db : Trees) → version ≢ Third → TellsOther version (sha256 site.text) db → IsOther site version db
-is_other site Earliest db earlier other = other
-is_other site Early db earlier other = other
-is_other site First db earlier other = other
-is_other site Second db earlier other = other
 is_other site Third db earlier other = absurd (earlier refl)
+is_other site _ db earlier other = other
+
+-- in a store of an earlier version and this site in which beginnings of validity are told, they are asked for
+pub are_asked : (site : List ℕ) (version : Version) (db : Trees) → version ≢ Third → number_of_version version ≢ 1
+    → HasMeta version site db → AreStartsAsked site version db
+are_asked site Earliest db earlier later told = absurd (later refl)
+are_asked site Early db earlier later told = absurd (later refl)
+are_asked site First db earlier later told = absurd (later refl)
+are_asked site Third db earlier later told = absurd (earlier refl)
+are_asked site _ db earlier later told = told
 
 -- what was found is there after a test
 pub found_after : {S : Type 0} (g : Ghosts S) (site : TextOfSite) (old mid : Held S)
@@ -83,6 +89,18 @@ module _ {S : Type 0} (g : Ghosts S) (site : TextOfSite) where
   pub says_nothing : (old new : Held S) (fault : OpenFault) (P Q : Database → Type 0)
       → Examines g site old new (Err fault) P → Examines g site old new (Err fault) Q
   says_nothing old new fault P Q it = record { answer = λ clean. tt; same = it.same; rests = it.rests; mode = it.mode; refused = it.refused; crash = it.crash }
+
+  -- and one that is passed what follows
+  pub examines_weaker : (old new : Held S) (P Q : Database → Type 0) → Examines g site old new (Ok tt) P
+      → (HasCleanDisk (state g old) → P (state g old).now → Q (state g old).now) → Examines g site old new (Ok tt) Q
+  examines_weaker old new P Q it says = record {
+    answer = λ clean. says (was_clean (state g old) (state g new) _ it.crash clean) (it.answer clean);
+    same = it.same;
+    rests = it.rests;
+    mode = it.mode;
+    refused = it.refused;
+    crash = it.crash;
+  }
 
 -- ---- tests of a connection at rest to a database whose schema is a version's
 

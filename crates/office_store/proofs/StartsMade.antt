@@ -1,20 +1,38 @@
 -- What is left of the starts by the texts that fill them, in a database of the second version.
 use Rattle.std.proofs.Common.{◌≡◌, ◌∷◌, Ordering}
-use Rattle.text_core.proofs.Kit.{ℕ, ℤ, Bool, List, [], Ok, refl, sym, subst, append-nil, AllByRecursion, IsTotalOrder, is_eq, IsPermutation-trans}
-use Rattle.office_sql.proofs.Kit.{Null, Int, Row, column, Term, lit, col, eval_all, inner, end, Collation, Binary, Database, State, Executes, cast_row}
+use Rattle.text_core.proofs.Kit.{ℕ, ℤ, Bool, true, false, cond, Some, None, find, option_and_then, ap, codes, List, [], Ok, refl, sym, subst, append-nil}
+use Rattle.text_core.proofs.Kit.{AllByRecursion, IsTotalOrder, is_eq, IsPermutation-trans}
+use Rattle.office_sql.proofs.Kit.{Null, Int, Row, column, Term, lit, col, eval_all, Collation, Binary, Database, State, Executes, cast_row}
 use Rattle.office_sql.proofs.Kit.{IsPermutation-same}
 use Rattle.sqlite.specs.Listing.{understood}
+use Rattle.sqlite.specs.Source.TheVariants.{Query as Selected}
 use Rattle.sqlite_tied.specs.Compute.{everything}
 use Rattle.office_tables.specs.Prelude.{order_cmp, given_cmp}
-use Rattle.office_sql.specs.Prelude.{OfficeTable, orders, given, order_starts, given_starts, order_start_table, given_start_table, rows_in, tree_of, env}
-use Rattle.office_sql.specs.Prelude.{over_by, order_in_row, given_in_row, starts_order, starts_given, AreRows, AreStarted, IsText, IsOrderRow, IsGivenRow}
+use Rattle.office_sql.specs.Prelude.{OfficeTable, orders, given, order_starts, given_starts, order_start_table, given_start_table, rows_in, start_in_rows}
+use Rattle.office_sql.specs.Prelude.{text_if, env}
+use Rattle.office_sql.specs.Prelude.{order_in_row, given_in_row, starts_order, starts_given, AreRows, AreStarted, IsText, IsOrderRow, IsGivenRow}
 use Rattle.office_sql.proofs.Filled.{news_of, numbered_made, grows, started, each_made}
 use Rattle.office_sql.proofs.OrderReads.{order_total, order_tied}
 use Rattle.office_sql.proofs.GivenReads.{given_total, given_tied}
-use Rattle.office_sql.proofs.StartsFilled.{start_columns, order_fill_text, given_fill_text}
+use Rattle.office_sql.proofs.Filling.{Fills, fills, shown_of}
+use Rattle.office_sql.proofs.Inserting.{IsInsertOf}
 use Rattle.office_sql.proofs.Stepping.{cast_null}
-use Rattle.office_store.specs.Prelude.{GainsNone, LacksOrderStarts, LacksGivenStarts}
-use Rattle.office_store.proofs.FirstTables.{FillsIn, IsFillIn, fills_in}
+use Rattle.office_store.specs.Prelude.{GainsNone, LacksOrderStarts, LacksGivenStarts, schema_of}
+use Rattle.office_store.specs.declared.version.Version.TheVariants.{Second}
+use Rattle.office_store.proofs.Counts.{first_but}
+
+-- starts that say nothing give none
+pub silent_start : {A : Type 0} (is_for : A → Row → Bool) (starts : List Row) (x : A)
+    → AllByRecursion (λ s. column s 3 ≡ Null) starts → start_in_rows is_for starts x ≡ None
+silent_start is_for [] x silent = refl
+silent_start is_for (s ∷ starts) x silent =
+    elim (is_for x s) as (λ b.
+    option_and_then (λ r. text_if (column r 3)) (cond b (Some s) (find (is_for x) starts))
+    ≡ None) [ true ↦ ap text_if silent.0 | false ↦ silent_start is_for starts x silent.1 ]
+
+-- the key of a row, and no beginning of validity
+abbrev pub start_columns : Row → Row
+start_columns r = column r 1 ∷ column r 2 ∷ Null ∷ []
 
 abbrev fill_shown : List Term
 fill_shown = lit Null ∷ col 1 1 ∷ col 1 2 ∷ lit Null ∷ []
@@ -26,7 +44,7 @@ plainly = Binary ∷ Binary ∷ Binary ∷ Binary ∷ []
 filled : {A : Type 0} (Typed : Row → Type 0) (cmp : A → A → Ordering) (total : IsTotalOrder cmp) (value : Row → A) (is_for : A → Row → Bool)
     → ((a : A) (id : ℤ) (r : Row) → Typed r → is_for a (Int id ∷ start_columns r) ≡ is_eq (cmp a (value r))) → ((r : Row) → Typed r → IsText 1 r × IsText 2 r)
     → (table side : OfficeTable) (old new : Database) → AreRows Typed cmp value (rows_in old.trees table)
-    → FillsIn 10 11 start_columns table side old new → GainsNone is_for value table side old new
+    → Fills (schema_of Second) start_columns table side old new → GainsNone is_for value table side old new
 filled Typed cmp total value is_for tied texts table side old new are it =
     let news = news_of start_columns [] it.kept in
     let grown = grows start_columns it.kept [] tt tt in
@@ -42,12 +60,15 @@ filled Typed cmp total value is_for tied texts table side old new are it =
       silent = subst (AllByRecursion (λ s. column s 3
           ≡ Null)) (sym it.rows) (each_made start_columns (λ s. column s 3
           ≡ Null) it.kept news _ made same (λ id r. refl));
-      others = it.others;
+      others = first_but 10 11 side old.trees new.trees it.others;
     }
 
 -- ---- the starts of orders
 
-order_fill : IsFillIn 10 11 order_fill_text order_starts (over_by plainly (inner (tree_of orders) end) [] fill_shown [])
+abbrev pub order_fill_text : List ℕ
+order_fill_text = codes "INSERT INTO order_start (customer, ord, not_before) SELECT customer, name, NULL FROM orders"
+
+order_fill : IsInsertOf (schema_of Second) order_fill_text order_starts (Selected (shown_of orders plainly fill_shown))
 unfolding understood everything
 order_fill = record { is = refl; plain = (refl, refl); there = refl; uncounted = refl; unstamped = refl }
 
@@ -59,12 +80,15 @@ pub orders_filled : (old new : State) (count : ℕ) → LacksOrderStarts old.now
 orders_filled old new count lacks ran =
     filled IsOrderRow order_cmp order_total order_in_row starts_order (λ a id r e.
     sym (order_tied a (order_in_row r))) (λ r e. (e.0, e.1)) orders order_starts old.now new.now lacks.rows
-    (fills_in 10 11 order_fill_text order_starts orders plainly fill_shown order_fill (λ db.
+    (fills (schema_of Second) order_fill_text order_starts orders plainly fill_shown order_fill (λ db.
     refl) [] IsOrderRow start_columns order_casts old new count lacks.schema lacks.none lacks.rows.typed ran)
 
 -- ---- the starts of records
 
-given_fill : IsFillIn 10 11 given_fill_text given_starts (over_by plainly (inner (tree_of given) end) [] fill_shown [])
+abbrev pub given_fill_text : List ℕ
+given_fill_text = codes "INSERT INTO given_start (issuer, serial, not_before) SELECT issuer, serial, NULL FROM given"
+
+given_fill : IsInsertOf (schema_of Second) given_fill_text given_starts (Selected (shown_of given plainly fill_shown))
 unfolding understood everything
 given_fill = record { is = refl; plain = (refl, refl); there = refl; uncounted = refl; unstamped = refl }
 
@@ -76,5 +100,5 @@ pub given_filled : (old new : State) (count : ℕ) → LacksGivenStarts old.now 
 given_filled old new count lacks ran =
     filled IsGivenRow given_cmp given_total given_in_row starts_given (λ a id r e.
     sym (given_tied a (given_in_row r))) (λ r e. (e.0, e.1)) given given_starts old.now new.now lacks.rows
-    (fills_in 10 11 given_fill_text given_starts given plainly fill_shown given_fill (λ db.
+    (fills (schema_of Second) given_fill_text given_starts given plainly fill_shown given_fill (λ db.
     refl) [] IsGivenRow start_columns given_casts old new count lacks.schema lacks.none lacks.rows.typed ran)

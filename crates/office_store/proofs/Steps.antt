@@ -8,7 +8,7 @@ use Rattle.office_sql.specs.Prelude.{OfficeTable, meta, seats, maps, links, orde
 use Rattle.office_sql.specs.Prelude.{map_in_row, link_in_row, order_in_row, device_in_row, given_in_row, entry_in_row, starts_order, starts_given}
 use Rattle.office_sql.specs.Prelude.{with_order_start, with_given_start, rows_in, place_of, AreOfficeRows, AreRows, AreStarted, tables_in}
 use Rattle.office_sql.specs.Prelude.{IsSeatRow, IsMapRow, IsLinkRow, IsOrderRow, IsDeviceRow, IsGivenRow, IsEntryRow}
-use Rattle.office_sql.proofs.StartsFilled.{silent_start}
+use Rattle.office_store.proofs.StartsMade.{silent_start}
 use Rattle.office_store.proofs.Types.{Version, Earliest, Early, First, Second, Third}
 use Rattle.office_store.specs.Prelude.{CanUpgrade, GainsNone, GainsNoStart, GainsStarts, GainsText, IsAt, IsEarly, IsFilled, IsFound, IsRaised, IsRemade}
 use Rattle.office_store.specs.Prelude.{IsStep, KeepsFirst, LacksGivenStarts, LacksOrderStarts, Sees, TellsNoStart, count_of, next_version, rows_at, tables_at}
@@ -30,9 +30,7 @@ module _ (old new : Trees) (same : KeepsFirst 8 old new) where
   office_rows rows devices = subst (AreRows IsDeviceRow device_cmp device_in_row) (sym (same devices (omega arith))) (rows devices)
   office_rows rows given = subst (AreRows IsGivenRow given_cmp given_in_row) (sym (same given (omega arith))) (rows given)
   office_rows rows ledger = subst (AreRows IsEntryRow entry_cmp entry_in_row) (sym (same ledger (omega arith))) (rows ledger)
-  office_rows rows order_starts = tt
-  office_rows rows given_starts = tt
-  office_rows rows texts = tt
+  office_rows rows _ = tt
 
   same_at : (version later : Version) (table : OfficeTable) → place_of table < 8 → rows_at later new table ≡ rows_at version old table
   same_at version later table low =
@@ -79,9 +77,7 @@ module _ (x y : Database) (rows : AreOfficeRows x.trees) (it : IsRemade x y) whe
     rows = it.rows;
     none = λ _. refl;
   })
-  early_step First early = absurd early
-  early_step Second early = absurd early
-  early_step Third early = absurd early
+  early_step _ early = absurd early
 
 -- ---- from the first
 
@@ -221,11 +217,8 @@ no_next None none = refl
 no_next (Some version) none = absurd (none version refl)
 
 pub is_last : (version : Version) → next_version version ≡ None → version ≡ Third
-is_last Earliest none = absurd (let e = none in cc)
-is_last Early none = absurd (let e = none in cc)
-is_last First none = absurd (let e = none in cc)
-is_last Second none = absurd (let e = none in cc)
 is_last Third none = refl
+is_last _ none = absurd (let e = none in cc)
 
 pub raised_on : (version at next : Version) → count_of version ≤ count_of at → (x y z : Database) → IsRaised version at x y → IsRaised at next y z
     → IsRaised version next x z
@@ -240,19 +233,13 @@ raised_on version at next fewer x y z first second = record {
 
 -- one that can be upgraded is of its version
 pub is_at : (version : Version) (s : State) → CanUpgrade version s → Sees (IsAt version) s
-is_at Earliest s can up =
-    let found = can.found up in
-    record { schema = found.schema; sound = found.sound; rows = found.rows; starts = tt }
-is_at Early s can up =
-    let found = can.found up in
-    record { schema = found.schema; sound = found.sound; rows = found.rows; starts = tt }
-is_at First s can up =
-    let found = can.found up in
-    record { schema = found.schema; sound = found.sound; rows = found.rows; starts = tt }
 is_at Second s can up =
     let found = can.found up in
     record { schema = found.schema; sound = found.sound; rows = found.rows; starts = found.starts (can.started (λ e. omega (arith, e)) up) }
 is_at Third s can up = absurd (can.earlier refl)
+is_at version s can up =
+    let found = can.found up in
+    record { schema = found.schema; sound = found.sound; rows = found.rows; starts = tt }
 
 -- where no beginning of validity is told, the tables of a version with the number 1 say what those of the office do
 untold : (db : Trees) → TellsNoStart db → tables_at First db ≡ tables_in db
@@ -267,19 +254,14 @@ untold db none i = record {
 }
 
 found_tables : (version : Version) (x : Database) → IsFound version x → tables_at version x.trees ≡ tables_in x.trees
-found_tables Earliest x found = untold x.trees found.starts
-found_tables Early x found = untold x.trees found.starts
-found_tables First x found = untold x.trees found.starts
 found_tables Second x found = refl
 found_tables Third x found = refl
+found_tables version x found = untold x.trees found.starts
 
 -- an earlier version has no text of the site
 no_texts : (version : Version) → version ≢ Third → (db : Trees) → rows_at version db texts ≡ []
-no_texts Earliest earlier db = refl
-no_texts Early earlier db = refl
-no_texts First earlier db = refl
-no_texts Second earlier db = refl
 no_texts Third earlier db = absurd (earlier refl)
+no_texts _ earlier db = refl
 
 -- all is as the office has it, and says what it said
 pub filled : (version : Version) → version ≢ Third → (x z : Database) → IsFound version x → IsRaised version Third x z → IsFilled version x z

@@ -1,9 +1,9 @@
 -- What a store tells of itself it tells once.
-use Rattle.std.proofs.Common.{◌≡◌, ◌≢◌, ℕ, List, [], ◌∷◌, Option, Some, None, refl, sym, ap, subst, ◌∙◌}
+use Rattle.std.proofs.Common.{◌≡◌, ◌≢◌, ℕ, List, [], ◌∷◌, Option, Some, None, refl, sym, ap, subst, ◌∙◌, arith}
 use Rattle.sha2.specs.Sha256.{sha256}
 use Rattle.sha2.proofs.Facts256.{length-sha256}
 use Rattle.office_sql.proofs.Kit.{Row, Trees}
-use Rattle.office_store.proofs.Types.{Meta, Version, Earliest, Early, First, Second, Third}
+use Rattle.office_store.proofs.Types.{Meta, Version, Third}
 use Rattle.office_store.specs.Prelude.{IsShownText, metas_in, new_meta, HoldsSite, IsMetaOf, HasMeta, ShowTexts, number_of_version}
 use Rattle.office_store.proofs.TextShows.{shown_text}
 
@@ -29,11 +29,8 @@ site_once version version2 site other db one two = ap site_in (sym one ∙ two)
 
 -- a store of an earlier version isn't of the third
 pub not_third : (version : Version) (site other : List ℕ) (db : Trees) → version ≢ Third → HasMeta version site db → HasMeta Third other db → ⊥
-not_third Earliest site other db earlier one two = let e : ◌≡◌ {A = ℕ} 1 3 = told_once Earliest Third site other db one two in absurd (cc)
-not_third Early site other db earlier one two = let e : ◌≡◌ {A = ℕ} 1 3 = told_once Early Third site other db one two in absurd (cc)
-not_third First site other db earlier one two = let e : ◌≡◌ {A = ℕ} 1 3 = told_once First Third site other db one two in absurd (cc)
-not_third Second site other db earlier one two = let e : ◌≡◌ {A = ℕ} 2 3 = told_once Second Third site other db one two in absurd (cc)
 not_third Third site other db earlier one two = earlier refl
+not_third version site other db earlier one two = omega (arith, told_once version Third site other db one two)
 
 -- and no version where there is no row
 pub not_silent : (version : Version) (site : List ℕ) (db : Trees) → metas_in db ≡ [] → HasMeta version site db → ⊥

@@ -26,7 +26,7 @@ use Rattle.office_store.specs.Stores.{HasSchema, IsNoStore, IsStore, IsStoreOrNo
 use Rattle.office_store.specs.Texts.{HoldsText, IsGrownFrom, IsOnlyText}
 use Rattle.office_store.specs.declared.meta.Meta.{Meta}
 use Rattle.office_store.specs.Upgrading.{IsUpgrade}
-use Rattle.office_store.specs.Versions.{schema_of, IsOfNoVersion}
+use Rattle.office_store.specs.Versions.{number_of_version, schema_of, IsOfNoVersion}
 
 -- a database whose schema is a version's is of that version, if no number of its is below zero
 abbrev pub FindsVersion : Database → Type 0
@@ -54,6 +54,12 @@ IsApartAt s = HasCleanDisk s → HasApartAddresses s.now.trees
 -- a database of a version, in which no two records have one address
 abbrev pub IsFoundApart : Version → Database → Type 0
 IsFoundApart version db = IsFound version db × HasApartAddresses db.trees
+
+-- what is tested of a store of an earlier version: no two records have one address, it tells this site,
+-- and where its version tells beginnings of validity, none lacks
+abbrev pub IsTestedFor : List ℕ → Version → Database → Type 0
+IsTestedFor site version db =
+    IsFoundApart version db × HasMeta version site db.trees × (number_of_version version ≢ 1 → HasStarts db.trees)
 
 -- the store tells of a text that has this SHA-256
 pub record IsOurs (site : List ℕ) (db : Trees) : Type 0 where

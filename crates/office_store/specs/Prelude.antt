@@ -3,6 +3,7 @@ pub use Rattle.office_store.specs.Addresses.{address_texts, HasApartAddresses, H
 pub use Rattle.office_store.specs.Adopting.{AreStartsAsked, AreUnstarted, CanPrepareTables, CanTake, Examines, FindsVersion, HandedKeeps, HandedLeaves}
 pub use Rattle.office_store.specs.Adopting.{HasOtherRows, HasOtherTables, HoldsOther, IsApartAt, IsFoundApart, IsFoundAt, IsGrowable, IsGrownFor, IsHandedFor}
 pub use Rattle.office_store.specs.Adopting.{IsMadeFor, IsOfOtherSite, IsOfSite, IsOther, IsOtherSchema, IsOurs, IsPreparedFor, IsRefusedFor, IsShownText}
+pub use Rattle.office_store.specs.Adopting.{IsTestedFor}
 pub use Rattle.office_store.specs.Adopting.{IsUpgradedFor, LacksStarts, LacksText, LeavesAtMost, PreparesTables, StaysUnstarted, TakesGrowth, TakesOwn}
 pub use Rattle.office_store.specs.Adopting.{TellsOther}
 pub use Rattle.office_store.specs.Calls.{KeepsLimit, LooksUpBySql}

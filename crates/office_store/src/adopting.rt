@@ -6,9 +6,9 @@ ghost use Rattle.office_sql.specs.Prelude.{no_schema, tables_in};
 ghost use Rattle.office_store.specs.Prelude.{AreStartsAsked, CanPrepareTables, CanTake, Examines, HandedKeeps, HandedLeaves, IsFoundAt, IsGrowable, IsApartAt};
 ghost use Rattle.office_store.specs.Prelude.{IsFoundApart, IsHandedFor, IsOurs, IsShownText, LeavesAtMost, PreparesTables, StaysUnstarted, TakesGrowth};
 ghost use Rattle.office_store.specs.Prelude.{TakesOwn, HasApartAddresses, HasStarts, IsFound, meta_of_version, new_meta, HasMeta, IsStoreOrNone, HoldsText};
-ghost use Rattle.office_store.specs.Prelude.{IsGrownFrom, CanUpgrade, number_of_version, schema_of};
+ghost use Rattle.office_store.specs.Prelude.{IsGrownFrom, CanUpgrade, IsTestedFor, number_of_version, schema_of};
 ghost use Rattle.office_store.specs.declared.fault.OpenFault.TheVariants.{OtherSite as TheSite, OtherTables as TheTables};
-ghost use Rattle.office_store.specs.declared.version.Version.TheVariants.{Second, Third};
+ghost use Rattle.office_store.specs.declared.version.Version.TheVariants.{Third};
 ghost use Rattle.office_store.specs.declared.version.Version.{Version as TheVersion};
 ghost use Rattle.sha2.specs.Sha256.{sha256};
 ghost use Rattle.site_core.specs.Prelude.{TextOfSite};
@@ -260,29 +260,39 @@ fn upgrade<S: Alter>(
     }
 }
 
-/// Tests and upgrades a store whose version has the number 1.
-fn find_first<S: Alter>(
+/// Tests a store that has the tables of an earlier version: its rows, whose site it is of, and its
+/// beginnings of validity, if it tells any.
+fn test_earlier<S: Alter>(
     conn: &mut Connection<S>,
     site: &SiteText,
     version: Version,
 ) -> Result<(), OpenFault>
-    requires first { number_of_version version ≡ 1 }
+    requires earlier { version ≢ Third }
+    requires can { CanPrepareTables (state S.Store conn.old) }
+    requires has { (state S.Store conn.old).now.schema ≡ schema_of version }
+    ensures { Examines S.Store site.now conn.old conn.new result
+        (IsTestedFor (sha256 site.now.text) version) }
+{
+    test_tables(conn, site, version)?;
+    if version.tells_no_start() {
+        return Ok(());
+    }
+    test_starts(conn)
+}
+
+/// Tests and upgrades a store of an earlier version.
+fn find_earlier<S: Alter>(
+    conn: &mut Connection<S>,
+    site: &SiteText,
+    version: Version,
+) -> Result<(), OpenFault>
+    requires earlier { version ≢ Third }
     requires can { CanPrepareTables (state S.Store conn.old) }
     requires has { (state S.Store conn.old).now.schema ≡ schema_of version }
     ensures { PreparesTables S.Store site.now conn.old conn.new result }
 {
-    test_tables(conn, site, version)?;
+    test_earlier(conn, site, version)?;
     upgrade(conn, site, version)
-}
-
-fn find_second<S: Alter>(conn: &mut Connection<S>, site: &SiteText) -> Result<(), OpenFault>
-    requires can { CanPrepareTables (state S.Store conn.old) }
-    requires has { (state S.Store conn.old).now.schema ≡ schema_of Second }
-    ensures { PreparesTables S.Store site.now conn.old conn.new result }
-{
-    test_tables(conn, site, Version::Second)?;
-    test_starts(conn)?;
-    upgrade(conn, site, Version::Second)
 }
 
 /// Tests a store of the third version: its rows, its beginnings of validity, and that the site is
@@ -343,9 +353,8 @@ fn find<S: Alter>(
     ensures { PreparesTables S.Store site.now conn.old conn.new result }
 {
     match version {
-        Version::Earliest | Version::Early | Version::First => find_first(conn, site, version),
-        Version::Second => find_second(conn, site),
         Version::Third => find_third(alloc, conn, site),
+        _ => find_earlier(conn, site, version),
     }
 }
 

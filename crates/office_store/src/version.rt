@@ -1,5 +1,5 @@
 // The schemas that a database of the office may have.
-ghost use Rattle.std.specs.Prelude.{◌≡◌};
+ghost use Rattle.std.specs.Prelude.{◌≡◌, ◌↔◌, IsTrue};
 ghost use Rattle.office_store.specs.Prelude.{next_version, number_of_version};
 
 /// A schema that a database of the office may have.
@@ -29,6 +29,14 @@ impl Version {
             Version::Third => 3,
         }
     }
+
+    /// Whether no beginning of validity is told in it.
+    pub(crate) fn tells_no_start(self) -> bool
+        ensures { IsTrue result ↔ (number_of_version self ≡ 1) }
+    {
+        self.number() == 1
+    }
+
     /// The version behind it, to which a store of it is brought first.
     pub(crate) fn next(self) -> Option<Version>
         ensures { result ≡ next_version self }

@@ -57,14 +57,6 @@ pub at_order : (d : OfCustomer Device) (customer order : List ℕ) → is_at (te
     ≡ (is_of customer d && bytes_eq order d.row.order)
 at_order d customer order = at_key d.customer d.row.order customer order
 
--- no place is taken by one that is given up
-pub given_up_takes_none : (customer order : List ℕ) (d : OfCustomer Device) → (state_row d.row.state).is_given_up ≡ true → place_of_device customer order d ≡ 0
-given_up_takes_none customer order d gone =
-    rw gone (elim (is_of customer d) as (λ is. ◌≡◌ {A = ℕ} (cond (is && (bytes_eq order d.row.order && false)) 1 0) 0) [
-      | true ↦ elim (bytes_eq order d.row.order) as (λ is. ◌≡◌ {A = ℕ} (cond (is && false) 1 0) 0) [ true ↦ refl | false ↦ refl ]
-      | false ↦ refl
-    ])
-
 -- one that isn't given up takes one of its order
 pub takes_its_place : (d : OfCustomer Device) → (state_row d.row.state).is_given_up ≡ false → place_of_device d.customer d.row.order d ≡ 1
 takes_its_place d stays = rw (stays, (bytes_eq-Decides d.customer d.customer).1 refl, (bytes_eq-Decides d.row.order d.row.order).1 refl) refl

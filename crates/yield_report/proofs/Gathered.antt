@@ -1,17 +1,16 @@
 -- The lines of a customer's orders.
-use Rattle.std.proofs.Common.{◌≡◌, ◌+◌, ◌-◌, ◌<◌, ◌∷◌, ◌++◌, get_or}
-use Rattle.text_core.proofs.Kit.{true, false, List, [], Some, inl, inr, map, length, refl, sym, ap, ap₂, ◌∙◌, subst, arith, length-append, option_map}
-use Rattle.text_core.proofs.Kit.{slice_get, cases_lt, append_assoc, append-nil, get_or_append_left, get_or_default, get_or_push, sorted_from_all_adjacent}
-use Rattle.text_core.proofs.Kit.{Less-from_sorted, slice_get_read}
+use Rattle.std.proofs.Common.{◌≡◌, ◌∷◌, ◌++◌, Equal, Less}
+use Rattle.text_core.proofs.Kit.{true, false, ℕ, List, [], map, refl, sym, ap, ap₂, ◌∙◌, append_assoc, append-nil, bytes_eq-Decides, nat_list_cmp_total}
+use Rattle.text_core.proofs.Kit.{tied_itself, AllByRecursion}
 use Rattle.std.specs.List.Sorted.{IsStrictlySortedBy}
-use Rattle.office_tables.specs.Prelude.{text_cmp, Visits}
+use Rattle.office_tables.specs.Prelude.{is_of, order_cmp, rows_of, text_cmp, IsInOrder, Visits}
 use Rattle.office_tables.specs.declared.rows.Order.{Order}
 use Rattle.office_tables.specs.declared.rows.OfCustomer.{OfCustomer}
-use Rattle.yield_report.specs.Prelude.{first_line, name_follows, names_cmp, AreInOrder, AreLines, GathersOrder, follows}
+use Rattle.office_tables.proofs.Placing.{own_in_order}
+use Rattle.yield_report.specs.Prelude.{first_line, names_cmp, AreInOrder, AreLines, GathersOrder}
 use Rattle.yield_report.specs.declared.lines.OrderScan.{OrderScan}
 use Rattle.yield_report.specs.declared.lines.OrderLine.{OrderLine}
-use Rattle.yield_report.proofs.Apart.{names_total}
-use Rattle.yield_report.proofs.InOrder.{kept_on_walk, lt_is_less}
+use Rattle.yield_report.proofs.InOrder.{kept_on_walk}
 
 abbrev lines_in : List (OfCustomer Order) → List OrderLine
 lines_in rows = map first_line (map (λ o. o.row) rows)
@@ -33,33 +32,27 @@ lines_fit =
     kept_on_walk GathersOrder (λ s. AreLines s.lines.items) (λ s. s.is_stopped) (λ s r t taken. taken.are_lines refl)
     (λ s r t taken. taken.stopped refl)
 
--- a line whose name follows those of the others
-pub pushed_in_order : (lines pushed : List OrderLine) (line : OrderLine) → pushed ≡ lines ++ line ∷ [] → name_follows lines line.name ≡ true
-    → AreInOrder lines → AreInOrder pushed
-pushed_in_order lines pushed line is comes ordered =
-    subst AreInOrder (sym is) (sorted_from_all_adjacent names_total (lines ++ line ∷ []) line (λ k low.
-    let size = length-append lines (line ∷ []) in
-    let within : k < length lines = omega (arith, low, size) in
-    let one : get_or (lines ++ line ∷ []) k line ≡ get_or lines k line = get_or_append_left lines (line ∷ []) line k within in
-    elim (cases_lt (k + 1) (length lines)) [
-      | inl inside ↦
-          ap₂ names_cmp one (get_or_append_left lines (line ∷ []) line (k + 1) inside)
-          ∙ Less-from_sorted names_cmp lines k (k + 1) line ordered (omega arith) inside
-      | inr end ↦
-          let last : OrderLine = get_or lines k line in
-          let at : length lines - 1 ≡ k = omega arith in
-          let there : slice_get lines (length lines - 1) ≡ Some last =
-          ap (slice_get lines) at ∙ slice_get_read lines (length lines) k last refl within (get_or_default lines k line last within) in
-          ap₂ names_cmp one (get_or_push lines line line (k + 1) (omega arith))
-          ∙ lt_is_less (text_cmp last.name line.name) (sym (ap (λ o. follows (option_map (λ (l : OrderLine). l.name) o) line.name) there) ∙ comes)
-    ]))
+-- the orders of a customer are in the order of their names
+same_customer : (customer : List ℕ) (a b : OfCustomer Order) → is_of customer a ≡ true → is_of customer b ≡ true
+    → order_cmp a b ≡ text_cmp a.row.name b.row.name
+same_customer customer a b one other =
+    let equal : text_cmp a.customer b.customer ≡ Equal =
+    ap₂ text_cmp (sym ((bytes_eq-Decides customer a.customer).0 one)) (sym ((bytes_eq-Decides customer b.customer).0 other))
+    ∙ tied_itself nat_list_cmp_total customer in
+    rw equal refl
 
-pub none_in_order : AreInOrder []
+lines_below : (o : Order) (orders : List Order) → AllByRecursion (λ p. text_cmp o.name p.name ≡ Less) orders
+    → AllByRecursion (λ l. names_cmp (first_line o) l ≡ Less) (map first_line orders)
+lines_below o [] below = tt
+lines_below o (p ∷ ps) below = (below.0, lines_below o ps below.1)
+
+lines_rise : (orders : List Order) → IsInOrder (λ a b. text_cmp a.name b.name) orders → AreInOrder (map first_line orders)
 unfolding IsStrictlySortedBy
-none_in_order = tt
+lines_rise [] up = tt
+lines_rise (o ∷ orders) up = (lines_below o orders up.0, lines_rise orders up.1)
 
-pub lines_in_order : (old : OrderScan) (rows : List (OfCustomer Order)) (new : OrderScan) → Visits GathersOrder old rows new → new.is_stopped ≡ false
-    → AreInOrder old.lines.items → AreInOrder new.lines.items
-lines_in_order =
-    kept_on_walk GathersOrder (λ s. AreInOrder s.lines.items) (λ s. s.is_stopped) (λ s r t taken. taken.in_order refl)
-    (λ s r t taken. taken.stopped refl)
+-- and so are their lines
+pub lines_in_order : (customer : List ℕ) (rows : List (OfCustomer Order)) → IsInOrder order_cmp rows → AreInOrder (map first_line (rows_of customer rows))
+lines_in_order customer rows up =
+    lines_rise (rows_of customer rows)
+    (own_in_order customer order_cmp (λ a b. text_cmp a.name b.name) (same_customer customer) rows up)

@@ -1,13 +1,14 @@
 -- How many serial numbers of a range are left, where the given ones rise.
 use Rattle.std.proofs.Common.{◌≡◌, ◌+◌, ◌<◌, ◌≤◌, ◌∷◌, ◌||◌}
-use Rattle.text_core.proofs.Kit.{ℕ, zero, suc, Bool, true, false, not, List, [], length, Option, Some, inl, inr, refl, sym, ap, ◌∙◌, arith, cond, filter, find}
+use Rattle.text_core.proofs.Kit.{ℕ, zero, suc, Bool, true, false, not, List, [], length, Option, None, Some, inl, inr, refl, sym, ap, ap₂, ◌∙◌, arith, cond}
+use Rattle.text_core.proofs.Kit.{filter, find}
 use Rattle.text_core.proofs.Kit.{is_some, list_any, range_with_len, is_eq, is_lt, bytes_eq, cases_Bool, or_from, false_from_ne_true, nat_tests}
-use Rattle.text_core.proofs.Kit.{nat_list_cmp_total, nat_list_eq_equiv, is_eq-slice_cmp, bytes_eq-Decides}
+use Rattle.text_core.proofs.Kit.{nat_list_cmp_total, nat_list_eq_equiv, is_eq-slice_cmp, bytes_eq-Decides, tied_itself, AllByRecursion, Equal, Less}
 use Rattle.id_ranges.specs.Prelude.{Range, IsRange, numbers, serial_text_of}
 use Rattle.id_ranges.proofs.Texts.{same_number}
 use Rattle.office_tables.specs.declared.rows.Given.{Given}
 use Rattle.office_tables.specs.declared.rows.OfCustomer.{OfCustomer}
-use Rattle.office_tables.specs.Prelude.{is_serial_of, is_of_issuer, text_cmp}
+use Rattle.office_tables.specs.Prelude.{given_cmp, is_serial_of, is_of_issuer, text_cmp, IsInOrder}
 use Rattle.yield_report.specs.Prelude.{has_serial, serials_in, AreRising}
 use Rattle.yield_report.proofs.InOrder.{lt_is_less}
 
@@ -107,3 +108,34 @@ pub given_is_listed : (issuer serial : List ℕ) (rows : List (OfCustomer Given)
     → is_some (find (is_serial_of issuer serial) rows) ≡ list_any (bytes_eq serial) (serials_in (filter (is_of_issuer issuer) rows))
 given_is_listed issuer serial [] = refl
 given_is_listed issuer serial (row ∷ rows) = grind (arith, nat_tests, given_is_listed issuer serial rows)
+
+-- of two records of an issuer in order the first has the lesser serial number
+serials_less : (issuer : List ℕ) (a b : OfCustomer Given) → is_of_issuer issuer a ≡ true → is_of_issuer issuer b ≡ true → given_cmp a b ≡ Less
+    → text_cmp a.row.serial b.row.serial ≡ Less
+serials_less issuer a b one other less =
+    let equal : text_cmp a.row.issuer b.row.issuer ≡ Equal =
+    ap₂ text_cmp (sym ((bytes_eq-Decides issuer a.row.issuer).0 one)) (sym ((bytes_eq-Decides issuer b.row.issuer).0 other))
+    ∙ tied_itself nat_list_cmp_total issuer in
+    rw equal at less
+
+rise_after : (issuer : List ℕ) (last : OfCustomer Given) (rows : List (OfCustomer Given)) → is_of_issuer issuer last ≡ true
+    → AllByRecursion (λ row. given_cmp last row ≡ Less) rows → IsInOrder given_cmp rows
+    → AreRising (Some last.row.serial) (serials_in (filter (is_of_issuer issuer) rows))
+rise_after issuer last [] mine below up = tt
+rise_after issuer last (row ∷ rows) mine below up =
+    elim (is_of_issuer issuer row) as (λ b. is_of_issuer issuer row ≡ b
+    → AreRising (Some last.row.serial) (serials_in (cond b (row ∷ filter (is_of_issuer issuer) rows) (filter (is_of_issuer issuer) rows)))) [
+      | true ↦ λ theirs. (ap is_lt (serials_less issuer last row mine theirs below.0), rise_after issuer row rows theirs up.0 up.1)
+      | false ↦ λ _. rise_after issuer last rows mine below.1 up.1
+    ] refl
+
+-- the serial numbers of an issuer's records rise where the records are in order
+pub rise_in_order : (issuer : List ℕ) (rows : List (OfCustomer Given)) → IsInOrder given_cmp rows
+    → AreRising None (serials_in (filter (is_of_issuer issuer) rows))
+rise_in_order issuer [] up = tt
+rise_in_order issuer (row ∷ rows) up =
+    elim (is_of_issuer issuer row) as (λ b. is_of_issuer issuer row ≡ b
+    → AreRising None (serials_in (cond b (row ∷ filter (is_of_issuer issuer) rows) (filter (is_of_issuer issuer) rows)))) [
+      | true ↦ λ mine. (refl, rise_after issuer row rows mine up.0 up.1)
+      | false ↦ λ _. rise_in_order issuer rows up.1
+    ] refl

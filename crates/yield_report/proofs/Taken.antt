@@ -6,11 +6,10 @@ use Rattle.office_tables.specs.declared.rows.Given.{Given}
 use Rattle.office_tables.specs.declared.rows.OfCustomer.{OfCustomer}
 use Rattle.office_tables.specs.Prelude.{Visits}
 use Rattle.yield_report.specs.Prelude.{left_place, with_less, Yield, count_of_range, less, taken, AreLines, TakesSerial, AreApart, has_serial, serials_in}
-use Rattle.yield_report.specs.Prelude.{AreRising}
 use Rattle.yield_report.specs.declared.left.GivenScan.{GivenScan}
 use Rattle.yield_report.specs.declared.lines.OrderLine.{OrderLine}
 use Rattle.yield_report.proofs.Apart.{apart_map}
-use Rattle.yield_report.proofs.InOrder.{either, kept_on_walk, map_both}
+use Rattle.yield_report.proofs.InOrder.{either, map_both}
 
 -- nothing is taken
 pub less_none : (line : OrderLine) → less 0 line ≡ line
@@ -51,36 +50,24 @@ taken_more issuer s ss line =
       | false ↦ λ e. rw e refl
     ] refl
 
-unordered_since : (mid new : GivenScan) → new ≡ mid → mid.is_unordered ≡ true → new.is_unordered ≡ false → true ≡ false
-unordered_since mid new same one other = sym one ∙ (sym (ap (λ (s : GivenScan). s.is_unordered) same) ∙ other)
-
--- a walk that wasn't broken off met serial numbers that rise
-pub serials_rise : (old : GivenScan) (rows : List (OfCustomer Given)) (new : GivenScan) → Visits TakesSerial old rows new → new.is_unordered ≡ false
-    → AreRising old.last (serials_in rows)
-serials_rise old [] new v ordered = tt
-serials_rise old (row ∷ rows) new (true, mid, takes, later) ordered =
-    (takes.rises refl, subst (λ last. AreRising last (serials_in rows)) (takes.last refl) (serials_rise mid rows new later ordered))
-serials_rise old (row ∷ rows) new (false, mid, takes, later) ordered = let e = unordered_since mid new later (takes.unordered refl) ordered in absurd (cc e)
-
-pub serials_fit : (old : GivenScan) (rows : List (OfCustomer Given)) (new : GivenScan) → Visits TakesSerial old rows new → new.is_unordered ≡ false
+pub serials_fit : (old : GivenScan) (rows : List (OfCustomer Given)) (new : GivenScan) → Visits TakesSerial old rows new
     → AreLines old.lines.items → AreLines new.lines.items
-serials_fit =
-    kept_on_walk TakesSerial (λ s. AreLines s.lines.items) (λ s. s.is_unordered) (λ s r t takes. takes.are_lines refl)
-    (λ s r t takes. takes.unordered refl)
+serials_fit old [] new v are = subst (λ (s : GivenScan). AreLines s.lines.items) (sym v) are
+serials_fit old (row ∷ rows) new (true, mid, takes, later) are = serials_fit mid rows new later (takes.are_lines are)
+serials_fit old (row ∷ rows) new (false, mid, takes, later) are = let e = takes.on in absurd (cc e)
 
--- and took all of them, of lines that are apart
-pub serials_taken : (old : GivenScan) (rows : List (OfCustomer Given)) (new : GivenScan) → Visits TakesSerial old rows new → new.is_unordered ≡ false
+-- a walk takes all serial numbers, of lines that are apart
+pub serials_taken : (old : GivenScan) (rows : List (OfCustomer Given)) (new : GivenScan) → Visits TakesSerial old rows new
     → AreLines old.lines.items → AreApart old.lines.items → new.lines.items ≡ map (taken old.issuer (serials_in rows)) old.lines.items
-serials_taken old [] new v ordered are apart =
+serials_taken old [] new v are apart =
     let none = (λ i. map (λ l. taken_none old.issuer l i) old.lines.items) ∙ map-id old.lines.items in
     ap (λ (s : GivenScan). s.lines.items) v ∙ sym none
-serials_taken old (row ∷ rows) new (true, mid, takes, later) ordered are apart =
-    let here = takes.lines refl are apart in
+serials_taken old (row ∷ rows) new (true, mid, takes, later) are apart =
+    let here = takes.lines are apart in
     let stays : AreApart mid.lines.items = subst AreApart (sym here)
     (apart_map (taken old.issuer (row.row.serial ∷ [])) (issuer_taken old.issuer (row.row.serial ∷ [])) (range_taken old.issuer (row.row.serial ∷ []))
     old.lines.items apart) in
-    let rest = rw (takes.issuer refl, here) at (serials_taken mid rows new later ordered (takes.are_lines refl are) stays) in
+    let rest = rw (takes.issuer, here) at (serials_taken mid rows new later (takes.are_lines are) stays) in
     rest ∙ map_both (taken old.issuer (serials_in rows)) (taken old.issuer (row.row.serial ∷ [])) _
     (taken_more old.issuer row.row.serial (serials_in rows)) old.lines.items
-serials_taken old (row ∷ rows) new (false, mid, takes, later) ordered are apart =
-    let e = unordered_since mid new later (takes.unordered refl) ordered in absurd (cc e)
+serials_taken old (row ∷ rows) new (false, mid, takes, later) are apart = let e = takes.on in absurd (cc e)

@@ -13,7 +13,7 @@ use Rattle.office_tables.specs.declared.rows.Given.{Given}
 use Rattle.yield_report.specs.Counting.{with_device, with_device_counted, with_less}
 use Rattle.yield_report.specs.Counts.{HasIssued, devices_of, yield_of, yield_with}
 use Rattle.yield_report.specs.Places.{AreApart}
-use Rattle.yield_report.specs.Serials.{follows, has_serial}
+use Rattle.yield_report.specs.Serials.{has_serial}
 use Rattle.yield_report.specs.Texts.{AreStorable}
 use Rattle.yield_report.specs.declared.lines.OrderLine.{OrderLine}
 use Rattle.yield_report.specs.declared.lines.OrderScan.{OrderScan}
@@ -40,15 +40,10 @@ names_cmp a b = text_cmp a.name b.name
 abbrev pub AreInOrder : List OrderLine → Type 0
 AreInOrder lines = IsStrictlySortedBy names_cmp lines
 
--- the name is greater than that of the last line, if there is one
-abbrev pub name_follows : List OrderLine → List ℕ → Bool
-name_follows lines name = follows (option_map (λ line. line.name) (slice_get lines (length lines - 1))) name
-
--- its line is added; or memory ran out or its name isn't greater than the last one, and the walk ends
+-- its line is added; or memory ran out, and the walk ends
 pub record GathersOrder (old : OrderScan) (row : OfCustomer Order) (goes_on : Bool) (new : OrderScan) : Type 0 where
   pub lines : goes_on ≡ true → new.lines.items ≡ old.lines.items ++ first_line row.row ∷ []
   pub are_lines : goes_on ≡ true → AreLines old.lines.items → AreLines new.lines.items
-  pub in_order : goes_on ≡ true → AreInOrder old.lines.items → AreInOrder new.lines.items
   pub same : goes_on ≡ true → new.is_stopped ≡ old.is_stopped
   pub stopped : goes_on ≡ false → new.is_stopped ≡ true
 
@@ -89,17 +84,13 @@ taken issuer serials line = if bytes_eq line.issuer issuer then less (count_of_r
 abbrev pub taken_in : ℕ → List ℕ → List (List ℕ) → OrderLine → OrderLine
 taken_in width issuer serials line = if line.range.width == width then taken issuer serials line else line
 
--- the serial number is taken from each line of its issuer whose range has it; or it isn't greater than the last one, and the walk ends
+-- the serial number is taken from each line of its issuer whose range has it, and the walk goes on
 pub record TakesSerial (old : GivenScan) (row : OfCustomer Given) (goes_on : Bool) (new : GivenScan) : Type 0 where
-  pub rises : goes_on ≡ true → follows old.last row.row.serial ≡ true
-  pub last : goes_on ≡ true → new.last ≡ Some row.row.serial
-  pub issuer : goes_on ≡ true → new.issuer ≡ old.issuer
-  pub lines : goes_on ≡ true → AreLines old.lines.items → AreApart old.lines.items
+  pub on : goes_on ≡ true
+  pub issuer : new.issuer ≡ old.issuer
+  pub lines : AreLines old.lines.items → AreApart old.lines.items
       → new.lines.items ≡ map (taken old.issuer (row.row.serial ∷ [])) old.lines.items
-  pub are_lines : goes_on ≡ true → AreLines old.lines.items → AreLines new.lines.items
-  pub same : goes_on ≡ true → new.is_unordered ≡ old.is_unordered
-  pub falls : goes_on ≡ false → follows old.last row.row.serial ≡ false
-  pub unordered : goes_on ≡ false → new.is_unordered ≡ true
+  pub are_lines : AreLines old.lines.items → AreLines new.lines.items
 
 -- how many of a line's serial numbers are given
 abbrev pub issued_count : HasIssued → OrderLine → ℕ

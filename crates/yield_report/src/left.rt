@@ -1,7 +1,7 @@
 // The serial numbers that are left of each order.
 ghost use Rattle.std.specs.Prelude.{◌≡◌, ◌≤◌, ◌∷◌, [], map, None};
 ghost use Rattle.office_tables.specs.Prelude.{ReadsOnly};
-ghost use Rattle.yield_report.specs.Prelude.{left_in, new_issuer, taken, taken_in, AreInOrder, AreLines, IsLine, TakesSerial, AreApart, has_issued_in, follows};
+ghost use Rattle.yield_report.specs.Prelude.{left_in, new_issuer, taken, taken_in, AreInOrder, AreLines, IsLine, TakesSerial, AreApart, has_issued_in};
 ghost use Rattle.yield_report.specs.Prelude.{serials_of, AreRising};
 
 use crate::lines::OrderLine;
@@ -16,33 +16,14 @@ use text_core::{Name, Serial};
 struct GivenScan {
     lines: Vec<OrderLine>,
     issuer: Name,
-    /// The serial number that was met last.
-    last: Option<Serial>,
-    /// A serial number came that wasn't greater than the one before.
-    is_unordered: bool,
 }
 
 impl Sink<GivenRow> for GivenScan {
     ghost takes = { TakesSerial };
 
     fn take(&mut self, row: &GivenRow) -> bool {
-        if !follows(&self.last, &row.row.serial) {
-            self.is_unordered = true;
-            return false;
-        }
-        self.last = Some(row.row.serial);
         take_serial(&mut self.lines, &self.issuer, &row.row.serial);
         true
-    }
-}
-
-/// Whether a serial number is greater than the last one, if there was one.
-fn follows(last: &Option<Serial>, serial: &Serial) -> bool
-    ensures { result ≡ follows last.now serial.now }
-{
-    match last {
-        Some(last) => last < serial,
-        None => true,
     }
 }
 
@@ -101,16 +82,12 @@ fn take_of_issuer<K: Keep>(
         → left.items ≡ map (taken issuer.now (serials_of issuer.now t)) lines.items)
         × (AreLines lines.items → AreLines left.items)) }
 {
+    keep.fact_in_order();
     let mut scan = GivenScan {
         lines,
         issuer: *issuer,
-        last: None,
-        is_unordered: false,
     };
     keep.visit_given(issuer, &mut scan)?;
-    if scan.is_unordered {
-        return Err(Unkept);
-    }
     Ok(scan.lines)
 }
 
@@ -131,7 +108,6 @@ fn new_issuer(lines: &[OrderLine], place: usize) -> Option<Name>
 
 /// The lines without the serial numbers that are given, by one walk over the records of each
 /// issuer.
-/// `Err` also where the records of an issuer aren't in the order of their serial numbers.
 fn take_of_issuers<K: Keep>(keep: &mut K, lines: Vec<OrderLine>) -> Result<Vec<OrderLine>, Unkept>
     requires { K.is_honest keep.old → K.is_open keep.old }
     ensures { ReadsOnly K.Keep keep.old keep.new result (λ t left.
@@ -150,8 +126,7 @@ fn take_of_issuers<K: Keep>(keep: &mut K, lines: Vec<OrderLine>) -> Result<Vec<O
 
 /// The lines without the serial numbers that are given. They stand in the order of their serial
 /// numbers meanwhile.
-/// `Err` also where the records of an issuer aren't in the order of their serial numbers, or two
-/// orders of an issuer have a serial number in common.
+/// `Err` also where two orders of an issuer have a serial number in common.
 pub(crate) fn take_given<K: Keep>(
     keep: &mut K,
     lines: Vec<OrderLine>,

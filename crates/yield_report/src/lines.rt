@@ -1,7 +1,7 @@
 // The lines of a report, one for each order.
 ghost use Rattle.std.specs.Prelude.{◌≡◌, map};
 ghost use Rattle.office_tables.specs.Prelude.{rows_of, ReadsOnly};
-ghost use Rattle.yield_report.specs.Prelude.{first_line, name_follows, AreInOrder, AreLines, GathersOrder, IsLine};
+ghost use Rattle.yield_report.specs.Prelude.{first_line, AreInOrder, AreLines, GathersOrder, IsLine};
 
 use crate::yields::{NUMBERS, QUANTITY, SERIALS_LEFT, Yield};
 use id_ranges::SerialRange;
@@ -22,7 +22,7 @@ pub(crate) struct OrderLine {
 #[derive(Drop)]
 struct OrderScan {
     lines: Vec<OrderLine>,
-    /// There was no memory for a line, or an order came whose name isn't greater than the one before.
+    /// There was no memory for a line.
     is_stopped: bool,
 }
 
@@ -30,22 +30,11 @@ impl Sink<OrderRow> for OrderScan {
     ghost takes = { GathersOrder };
 
     fn take(&mut self, row: &OrderRow) -> bool {
-        let line = first_line(&row.row);
-        if !follows(self.lines.as_slice(), &line.name) || self.lines.push(line).is_err() {
+        if self.lines.push(first_line(&row.row)).is_err() {
             self.is_stopped = true;
             return false;
         }
         true
-    }
-}
-
-/// Whether a name is greater than that of the last line, if there is one.
-fn follows(lines: &[OrderLine], name: &Name) -> bool
-    ensures { result ≡ name_follows lines.now name.now }
-{
-    match lines.last() {
-        Some(last) => last.name < *name,
-        None => true,
     }
 }
 
@@ -67,7 +56,6 @@ fn first_line(order: &Order) -> OrderLine
 }
 
 /// A line for each of a customer's orders, in the order of their names.
-/// `Err` also where the orders don't come in that order, or one comes twice.
 pub(crate) fn order_lines<K: Keep>(
     alloc: Global,
     keep: &mut K,
@@ -77,6 +65,7 @@ pub(crate) fn order_lines<K: Keep>(
         (lines.items ≡ map first_line (rows_of customer.now t.orders))
         × AreLines lines.items × AreInOrder lines.items) }
 {
+    keep.fact_in_order();
     let mut scan = OrderScan {
         lines: Vec::new(alloc),
         is_stopped: false,

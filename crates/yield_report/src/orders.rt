@@ -42,10 +42,8 @@ fn order_text(alloc: Global, lines: &[OrderLine]) -> Result<Vec<u8>, AllocError>
 /// state and how many of its serial numbers are left. The keeper is read one row at a time; what is
 /// held are the lines, about 300 bytes an order, and the text.
 ///
-/// `Err` is want of memory, a keeper's fault, orders that aren't in the order of their names, or of
-/// which two of one issuer have a serial number in common, written in one prefix and width, records
-/// of an issuer that aren't in the order of their serial numbers, or a number past
-/// 9223372036854775807, and nothing else.
+/// `Err` is want of memory, a keeper's fault, two orders of one issuer that have a serial number in
+/// common, written in one prefix and width, or a number past 9223372036854775807, and nothing else.
 pub fn order_report<K: Keep>(
     alloc: Global,
     keep: &mut K,

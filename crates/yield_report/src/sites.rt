@@ -79,10 +79,9 @@ fn append_line<K: Keep>(
 /// of the numbers of its orders. The keeper is read one row at a time; what is held are the lines of
 /// one customer, about 300 bytes an order, and the text.
 ///
-/// `Err` is want of memory, a keeper's fault, orders of a customer that aren't in the order of their
-/// names, or of which two of one issuer have a serial number in common, written in one prefix and
-/// width, records of an issuer that aren't in the order of their serial numbers, or a number past
-/// 9223372036854775807, and nothing else.
+/// `Err` is want of memory, a keeper's fault, two orders of a customer in one issuer that have a
+/// serial number in common, written in one prefix and width, or a number past 9223372036854775807,
+/// and nothing else.
 pub fn site_report<K: Keep>(alloc: Global, keep: &mut K, site: &Site) -> Result<Vec<u8>, Unkept>
     ensures { ReadsOnly K.Keep keep.old keep.new result (λ t text.
         IsSiteReport site.now t text.items) }

@@ -1,8 +1,8 @@
 use Rattle.std.proofs.Common.{rules, [], ◌∷◌, ◌++◌, filter}
 use Rattle.sqlite.specs.declared.types.Value.TheVariants.{Text}
-use Rattle.office_sql.proofs.Kit.{state, overlay}
+use Rattle.office_sql.proofs.Kit.{state}
 use Rattle.office_tables.specs.Prelude.{is_of}
-use Rattle.office_sql.specs.Prelude.{orders, joined_order}
+use Rattle.office_sql.specs.Prelude.{joined_order}
 use Rattle.office_sql.proofs.OrderReads.{own_text, on_start, own_tests, shown, by_key, own_read, own_shown, with_starts}
 use Rattle.office_sql.proofs.Visiting.{bare_returns, visits_joined}
 use Rattle.office_sql.proofs.orders.visit_orders.Goals as goal
@@ -17,5 +17,5 @@ returns g c =
     ++ own_tests) shown by_key own_read _ (Text customer
     ∷ []) (search rules) c.args.conn.now c.visit_rows.new.conn
     g.K.Sink.takes joined_order c.visit_rows.result c.args.sink.now c.visit_rows.new.sink (λ t. filter (is_of customer) t.orders) c.requires
-    (λ rows office a. own_shown customer (overlay (state g.S.Store c.args.conn.now).now.trees []) rows (office.rows orders) office.orders_started a)
+    (λ rows office a. own_shown customer (state g.S.Store c.args.conn.now).now office rows a)
     c.visit_rows.ensures.visited c.visit_rows.ensures.same c.visit_rows.ensures.rests c.visit_rows.ensures.mode c.visit_rows.ensures.crash

@@ -2,9 +2,8 @@ use Rattle.std.proofs.Common.{rules, [], Ok}
 use Rattle.sqlite.specs.Held.{state}
 use Rattle.office_sql.specs.Prelude.{given, given_starts, given_in_row, starts_given}
 use Rattle.office_sql.proofs.Inserting.{changed, done}
-use Rattle.office_sql.proofs.StartsFilled.{given_fill_text}
 use Rattle.office_store.specs.Prelude.{GainsNone}
-use Rattle.office_store.proofs.StartsMade.{given_filled}
+use Rattle.office_store.proofs.StartsMade.{given_fill_text, given_filled}
 use Rattle.office_store.proofs.upgrade.fill_given_starts.Goals as goal
 
 pub returns-clause-changes : goal.returns-clause-changes

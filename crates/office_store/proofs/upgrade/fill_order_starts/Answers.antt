@@ -2,9 +2,8 @@ use Rattle.std.proofs.Common.{rules, [], Ok}
 use Rattle.sqlite.specs.Held.{state}
 use Rattle.office_sql.specs.Prelude.{orders, order_starts, order_in_row, starts_order}
 use Rattle.office_sql.proofs.Inserting.{changed, done}
-use Rattle.office_sql.proofs.StartsFilled.{order_fill_text}
 use Rattle.office_store.specs.Prelude.{GainsNone}
-use Rattle.office_store.proofs.StartsMade.{orders_filled}
+use Rattle.office_store.proofs.StartsMade.{order_fill_text, orders_filled}
 use Rattle.office_store.proofs.upgrade.fill_order_starts.Goals as goal
 
 pub returns-clause-changes : goal.returns-clause-changes

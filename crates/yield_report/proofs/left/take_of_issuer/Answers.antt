@@ -1,5 +1,6 @@
 use Rattle.std.proofs.Common.{rules}
-use Rattle.yield_report.proofs.Taken.{serials_fit, serials_rise, serials_taken}
+use Rattle.yield_report.proofs.RisingSerials.{rise_in_order}
+use Rattle.yield_report.proofs.Taken.{serials_fit, serials_taken}
 use Rattle.yield_report.proofs.left.take_of_issuer.Goals as goal
 
 pub returns : goal.returns
@@ -8,5 +9,6 @@ returns g c = record {
   stays_open = search rules;
   answer = λ is.
       let visits = c.in_ok-visit_given.ensures.answer is in
-      (serials_rise _ _ _ visits c.if-scan.false, λ are apart. serials_taken _ _ _ visits c.if-scan.false are apart, serials_fit _ _ _ visits c.if-scan.false);
+      let ordered = c.fact_in_order.ensures (c.visit_given.ensures.read_only.was_open is) in
+      (rise_in_order c.args.issuer.now _ ordered.given, λ are apart. serials_taken _ _ _ visits are apart, serials_fit _ _ _ visits);
 }
