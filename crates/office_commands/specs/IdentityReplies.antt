@@ -1,4 +1,4 @@
--- What an identity, a shipped or scrapped device and an import are answered, as JSON values (RFC 8259).
+-- What an identity, the end of a device and an import are answered, as JSON values (RFC 8259).
 use Rattle.std.specs.Prelude.{ℕ, List, [], ◌∷◌, codes}
 use Rattle.serde_json.specs.Data.{Data, string, object}
 use Rattle.serde_json.specs.Written.{compact_text}

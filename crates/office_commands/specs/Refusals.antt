@@ -53,26 +53,37 @@ pub record TellsNumber (body : List ℕ) (number : ℕ) : Type 0 where
   pub told : body ≡ front ++ (codes "\"no\":" ++ (decimal number ++ next ∷ rest))
   pub ends : (next ≡ 44) ⊎ (next ≡ 125)
 
--- the status of a refusal: where it isn't told here, the books as they are stand against the request
+-- the status of a refusal: Conflict where the books as they are stand against the request
 abbrev pub refusal_status : Refusal → Status
 refusal_status UnknownToken = Unauthorized
 refusal_status UnknownPath = NotFound
 refusal_status WrongCaller = Forbidden
 refusal_status BadJson = BadRequest
 refusal_status BadMember = BadRequest
+refusal_status (WrongNumber expected) = Conflict
+refusal_status OtherBody = Conflict
 refusal_status UnknownMap = NotFound
 refusal_status UnknownOrder = NotFound
 refusal_status UnknownDevice = NotFound
+refusal_status Exists = Conflict
+refusal_status WrongState = Conflict
+refusal_status QuantityReached = Conflict
 refusal_status (BadPlan fault) = Unprocessable
 refusal_status (BadMap fault) = Unprocessable
 refusal_status BadSerial = Unprocessable
 refusal_status NumberTooWide = Unprocessable
+refusal_status Exhausted = Conflict
+refusal_status NoMacRoom = Conflict
+refusal_status RangeOverlap = Conflict
+refusal_status KeyBound = Conflict
 refusal_status CodingScheme = Unprocessable
 refusal_status ForeignIssuer = Unprocessable
+refusal_status (ImportConflict serial) = Conflict
+refusal_status MapDigestTaken = Conflict
+refusal_status Limit = Conflict
 refusal_status BadReadback = Unprocessable
 refusal_status BadNotBefore = Unprocessable
 refusal_status Unkept = Unavailable
-refusal_status _ = Conflict
 
 -- the faults of wishes have the numbers from 19 on
 abbrev pub plan_fault_body : PlanFault → List ℕ

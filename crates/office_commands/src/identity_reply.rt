@@ -1,4 +1,4 @@
-// What answers an identity, a shipped or scrapped device and an import.
+// What answers an identity, the end of a device and an import.
 ghost use Rattle.std.specs.Prelude.{◌≡◌, IfOk, string_bytes};
 ghost use Rattle.serde_json.specs.View.{view};
 ghost use Rattle.office_commands.specs.IdentityReplies as replies;

@@ -5,13 +5,13 @@ use Rattle.http_replies.specs.declared.Reply.{Reply}
 use Rattle.site_core.specs.Prelude.{section_at, seat_name_at, IsGrowth, Ownership, OwnershipGrows, ownership_of, SiteValue}
 use Rattle.office_tables.specs.Prelude.{Stands, Tables}
 use Rattle.office_tables.specs.declared.keep.Keep.{Ghosts}
-use Rattle.office_laws.specs.Prelude.{IsSound, Call, Exchange, IsRun, asks, Promises, LeavesAfter}
+use Rattle.office_laws.specs.Prelude.{IsSound, Call, call_by, Exchange, IsRun, Promises, LeavesAfter}
 use Rattle.office_core.specs.declared.requests.Part.{Part}
 use Rattle.office_core.specs.declared.requests.SeatRequest.{SeatRequest}
 
 -- the call of a request, with the site's section of its customer
 abbrev pub call_of : SiteValue → SeatRequest → Call
-call_of site asked = record { section = section_at site asked.caller; seat = seat_name_at site asked.caller; wanted = asks asked.request }
+call_of site asked = call_by (section_at site asked.caller) (seat_name_at site asked.caller) asked.request
 
 -- the calls of requests, in turn
 abbrev pub calls_in : SiteValue → List SeatRequest → List Call

@@ -6,9 +6,10 @@ use Rattle.fusemap_core.specs.Prelude.{IsMap, Map}
 use Rattle.fuse_image.specs.Prelude.{ReadBackInMap, WordsFitMap, redacted}
 use Rattle.fuse_image.proofs.InMap.{read_backs_in_map}
 use Rattle.office_tables.specs.Prelude.{is_one_of, state_row}
-use Rattle.office_laws.proofs.Types.{Device, DeviceState, AwaitingFirst, AwaitingSecond, Settled, Registered, OfCustomer, Action, Plan, Ship, Scrap}
+use Rattle.office_laws.proofs.Types.{Device, DeviceState, Settled, OfCustomer, Action}
+use Rattle.office_commands.specs.declared.command.Action.TheVariants.{Plan, Scrap, Ship, ReadBack}
+use Rattle.office_tables.specs.declared.rows.DeviceState.TheVariants.{AwaitingFirst, AwaitingSecond, Registered}
 use Rattle.office_commands.specs.Prelude.{IsAction}
-use Rattle.office_commands.specs.declared.command.Action.TheVariants.{ReadBack}
 use Rattle.office_rules.specs.Prelude.{action_refusals, rule_of, known_of}
 use Rattle.office_rules.proofs.Refusing.{first_is_false, later_is_none}
 use Rattle.office_laws.specs.Prelude.{SerialIsOfIdentified}

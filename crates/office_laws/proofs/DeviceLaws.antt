@@ -2,7 +2,7 @@
 -- customers.
 use Rattle.std.proofs.Common.{◌≡◌, ◌+◌, ◌++◌, ◌∷◌, Ordering}
 use Rattle.text_core.proofs.Kit.{ℕ, arith, true, false, List, [], length, map, Some, None, Equal, refl, sym, ap, ◌∙◌, subst, bytes_eq, filter, find, is_some}
-use Rattle.text_core.proofs.Kit.{AllByRecursion, nat_cmp, ordering_then, IsTotalOrder, and_parts, and_from, nat_cmp_total, on_total, then_total}
+use Rattle.text_core.proofs.Kit.{Option, AllByRecursion, nat_cmp, ordering_then, IsTotalOrder, and_parts, and_from, nat_cmp_total, on_total, then_total}
 use Rattle.text_core.proofs.Kit.{nat_list_cmp_total, tied_itself}
 use Rattle.site_core.specs.Prelude.{Ownership}
 use Rattle.office_laws.proofs.Types.{OfCustomer, Device, Entry, NewEntry, DeviceStep}
@@ -14,12 +14,13 @@ use Rattle.office_tables.proofs.Placing.{all_map, all_placed, placed_in_order}
 use Rattle.office_rules.specs.Prelude.{entry_of, map_named}
 use Rattle.office_rules.proofs.Ties.{first_equal, same_place, same_text, second_equal, text_itself}
 use Rattle.office_laws.proofs.OwnPlaces.{solo_device_cmp}
-use Rattle.office_laws.specs.Prelude.{AreNumberedFrom, AreSoundDevices, HasLedger, FitsFuseMap, IsReferred, MapOf, SerialIsOfIdentified, IsRecordOf, IsSound}
+use Rattle.office_laws.specs.Prelude.{AreNumberedFrom, AreSoundDevices, HasLedger, FitsFuseMap, IsReferred, SerialIsOfIdentified, IsRecordOf, IsSound}
 use Rattle.office_laws.proofs.Appended.{all_below, appended, last_of_numbered, numbered_appended}
 use Rattle.office_laws.proofs.DeviceRows.{ids_apart_placed}
 use Rattle.office_laws.proofs.Placed.{all_placed_apart}
 use Rattle.office_laws.proofs.Readings.{find_holds}
 use Rattle.office_laws.proofs.RecordRows.{Follows, each_device, own_device, record_after_device, tied_device}
+use Rattle.office_laws.proofs.SoundRows.{owned_placed}
 
 pub devices_total : IsTotalOrder device_cmp
 devices_total =
@@ -88,13 +89,15 @@ module _ {owners : Ownership} {t : Tables} (sound : IsSound owners t) (c seat : 
   abbrev pub after : Tables
   after = with_new_entry its_entry id (with_device d t)
 
-  abbrev named : MapOf
+  abbrev named : List ℕ → List ℕ → Option Map
   named = λ customer digest. map_named customer digest t
 
-  -- what a step asks for: its customer is the site's, its order and its map are there, its entry's
-  -- number is new, it follows the device that was there, and its ledger is what its map asks for
+  -- what a step asks for: its customer is the site's, and its seat the customer's, its order and its
+  -- map are there, its entry's number is new, it follows the device that was there, and its ledger is
+  -- what its map asks for
   pub record IsLawful : Type 0 where
     pub mine : owners.customer c ≡ true
+    pub is_seat : owners.seat seat ≡ Some c
     pub order : is_some (order_at c step.device.order t) ≡ true
     pub link : is_some (link_at c step.device.map t) ≡ true
     pub new_id : entry_with id t ≡ None
@@ -167,8 +170,7 @@ module _ {owners : Ownership} {t : Tables} (sound : IsSound owners t) (c seat : 
   devices_after lawful = record {
     devices_in_order = placed_in_order device_cmp devices_total d t.devices
         sound.devices.devices_in_order;
-    ledger_in_order = placed_in_order entry_cmp entries_total entry t.ledger
-        sound.devices.ledger_in_order;
+    entries = owned_placed sound.devices.entries entry lawful.is_seat entries_total;
     ids_apart = ids_apart_placed entry t.ledger
         (none_passes (has_entry_id id) t.ledger lawful.new_id) sound.devices.ids_apart;
     customers = all_placed (λ o. owners.customer o.customer ≡ true) device_cmp d t.devices
@@ -259,7 +261,7 @@ module _ {owners : Ownership} {t : Tables} (sound : IsSound owners t) (c seat : 
       let last : last_number c step.device.chip t ≡ length es = last_of_numbered es was_numbered in
       let grown : filter (is_entry_of c step.device.chip) after.ledger ≡ es ++ entry ∷ [] =
       appended entry (own_device d) (λ x y. entries_total.trans entry x y) t.ledger
-      sound.devices.ledger_in_order
+      sound.devices.entries.in_order
       (all_below c step.device.chip t.ledger (last_number c step.device.chip t + 1)
       (omega arith)) in
       record {

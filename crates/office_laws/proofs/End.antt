@@ -5,7 +5,9 @@ use Rattle.fuse_image.specs.Prelude.{no_pending}
 use Rattle.fuse_columns.specs.Prelude.{todo_column, pending_in}
 use Rattle.fuse_columns.proofs.LawProofs.{work_comes_back}
 use Rattle.office_tables.specs.Prelude.{is_one_of, state_row}
-use Rattle.office_laws.proofs.Types.{Batches, Neither, Device, DeviceState, Settled, Identified, Shipped, Scrapped, Entry, OfCustomer, Ship}
+use Rattle.office_laws.proofs.Types.{Batches, Neither, Device, DeviceState, Settled, Entry, OfCustomer}
+use Rattle.office_commands.specs.declared.command.Action.TheVariants.{Ship}
+use Rattle.office_tables.specs.declared.rows.DeviceState.TheVariants.{Identified, Scrapped, Shipped}
 use Rattle.office_tables.specs.declared.rows.Event.TheVariants as event
 use Rattle.office_rules.specs.Prelude.{identified_from, rule_of, scraps, ships, step_of_identity, known_of}
 use Rattle.fuse_plan.specs.Prelude.{PendingFitsImage}

@@ -11,7 +11,7 @@ use Rattle.office_tables.specs.Prelude.{with_given}
 use Rattle.office_tables.proofs.Finding.{none_passes, other_placed, still_there}
 use Rattle.office_tables.proofs.Placing.{all_map, all_placed}
 use Rattle.office_rules.proofs.Ties.{first_equal, same_place, same_text, second_equal, text_itself}
-use Rattle.office_laws.specs.Prelude.{Grows, IsSound, AreAddressesApart, AreKeysApart, HasOther, IsIssuedBelow, IsRecordOf}
+use Rattle.office_laws.specs.Prelude.{Grows, IsSound, AreAddressesApart, AreKeysApart, IsIssuedBelow, IsRecordOf}
 use Rattle.office_laws.proofs.Placed.{found_replaced, others_fail}
 use Rattle.office_laws.proofs.SoundRows.{owned_placed}
 
@@ -99,6 +99,10 @@ keys_apart_placed g (y ∷ ys) all apart =
         keys_apart_placed g ys all.1 apart.1,
       )
     ]
+
+-- the record hasn't this address
+abbrev HasOther : Option ℕ → OfCustomer Given → Type 0
+HasOther mac other = IfSome mac (λ its. has_address its other ≡ false)
 
 -- a record that hasn't the address of another: the other hasn't its address
 address_turned : (a b : OfCustomer Given) (of_a of_b : Option ℕ) → a.row.mac ≡ of_a → b.row.mac ≡ of_b

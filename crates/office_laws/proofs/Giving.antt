@@ -2,27 +2,25 @@
 use Rattle.std.proofs.Common.{◌≡◌, ◌+◌, ◌==◌, ◌⊎◌, ◌∷◌, ◌&&◌}
 use Rattle.text_core.proofs.Kit.{◌∙◌, ℕ, inl, inr, arith, Bool, true, false, cond, List, [], Option, Some, None, refl, sym, ap, subst, bytes_eq, filter}
 use Rattle.text_core.proofs.Kit.{is_some, nat_lt, not, IfSome, MatchBool, AllByRecursion, and_parts, nat_tests}
-use Rattle.http_replies.specs.Prelude.{Answer, code_of, is_unavailable}
-use Rattle.id_ranges.specs.Prelude.{Idevid}
-use Rattle.site_core.specs.Prelude.{Ownership, Section}
-use Rattle.office_laws.proofs.Types.{Given, OfCustomer, SeatState, Identify, Command, NewIdentity, Refusal, Unkept, Repeats}
+use Rattle.http_replies.specs.Prelude.{code_of, is_unavailable}
+use Rattle.site_core.specs.Prelude.{Ownership}
+use Rattle.office_laws.proofs.Types.{Given, OfCustomer, SeatState, NewIdentity, Unkept}
 use Rattle.office_tables.specs.Prelude.{Tables, given_at, is_serial_of}
-use Rattle.office_commands.specs.Prelude.{identity_body, acceptance, refusal}
-use Rattle.office_commands.specs.declared.command.Command.TheVariants.{Change}
-use Rattle.office_rules.specs.Prelude.{Put, row_of, Response, reply_only, Step, asks_identity, office_sight, retry_at, retry_of}
+use Rattle.office_commands.specs.Prelude.{refusal}
+use Rattle.office_rules.specs.Prelude.{row_of}
 use Rattle.office_rules.proofs.Ties.{same_text}
-use Rattle.office_laws.specs.Prelude.{BlocksDisjoint, IsFreshRecord, addresses_of, Grows, SoloState, seat_named, IsSound, view, Exchange, IsRun, FulfilsWanted}
+use Rattle.office_laws.specs.Prelude.{BlocksDisjoint, IsFreshRecord, addresses_of, Grows, SoloState, IsSound, view, Exchange, IsRun, FulfilsWanted}
 use Rattle.office_laws.specs.Prelude.{Passes, Wanted, asks, reports, refused, calls_of, AreSeats, IsSeat, is_own, AreGifts, IssuesOnce, IsGift}
-use Rattle.office_laws.specs.Prelude.{identity_of_command, identity_wanted, is_new_identity, last_number_of_seat, is_accepted, is_again}
+use Rattle.office_laws.specs.Prelude.{identity_wanted, is_new_identity, last_number_of_seat, is_accepted, is_again}
 use Rattle.office_laws.specs.Prelude.{number_of_wanted, once, writes}
-use Rattle.office_laws.proofs.Obeying.{step_anew}
-use Rattle.office_laws.proofs.Readings.{find_holds, seat_own}
+use Rattle.office_laws.proofs.Fresh.{Shows}
+use Rattle.office_laws.proofs.Issuing.{identity_shows as request_shows}
+use Rattle.office_laws.proofs.Readings.{find_holds}
 use Rattle.office_laws.proofs.RecordAddresses.{addresses_apart, addresses_begin}
 use Rattle.office_laws.proofs.Acting.{accepts, last_at, last_is, unaccepted}
 use Rattle.office_laws.proofs.Grown.{sound_grown}
-use Rattle.office_laws.proofs.OwnRetries.{Accepts, not_success, retry_repeats}
+use Rattle.office_laws.proofs.OwnRetries.{Accepts}
 use Rattle.office_laws.proofs.Passing.{Serves as IsServed}
-use Rattle.office_laws.proofs.Responses.{of_change}
 use Rattle.office_laws.proofs.RunLaws.{run_grows, run_sound, serves_grown}
 
 -- a number comes after a seat's last one
@@ -32,65 +30,6 @@ is_after seat s number = nat_lt (last_at seat s) number
 -- the exchange's number does
 abbrev is_past : SoloState → Exchange → Bool
 is_past s x = is_after x.0.seat s (number_of_wanted x.0.wanted)
-
--- an answer that is a refusal isn't 200
-refused_is_not : {A : Type 0} (reply : Answer) (reason : Refusal) → reply ≡ refusal reason
-    → (code_of reply.status == 200) ≡ true → A
-refused_is_not reply reason e is =
-    let same : (code_of reply.status == 200) ≡ false =
-    ap (λ (a : Answer). code_of a.status == 200) e ∙ not_success reason in
-    cc (same, is)
-
-some_is : {A : Type 0} {x y : A} → Some x ≡ Some y → x ≡ y
-some_is e = cc
-
--- the identity's reply shows a record that is new
-abbrev Shows : Section → NewIdentity → Tables → Answer → Tables → Type 0
-Shows s i t reply mid =
-    (record_of : Idevid) × (record_of.key ≡ i.key)
-    × (reply ≡ acceptance (identity_body i.chip record_of))
-    × IsFreshRecord t mid (record { customer = s.name; row = row_of record_of (Some i.chip) })
-
-module _ {site : Ownership} (t mid : Tables) (sound : IsSound site t) (later : IsSound site mid)
-    (s : Section) (seat : List ℕ) (mine : site.seat seat ≡ Some s.name) (reply : Answer)
-    (accepted : (code_of reply.status == 200) ≡ true) where
-  -- what the machine responds is replied
-  abbrev Responds : Option Response → Type 0
-  Responds made = (puts : List Put) × (made ≡ Some (record { reply = reply; puts = puts }))
-
-  is_refused : {A : Type 0} (reason : Refusal) → Responds (Some (reply_only (refusal reason))) → A
-  is_refused reason (puts, is) =
-      refused_is_not reply reason (sym (ap (λ (p : Response). p.reply) (some_is is))) accepted
-
-  of_identity : (number : ℕ) (digest : List ℕ) (i : NewIdentity)
-      → is_after seat (view s.name t) number ≡ true
-      → Step s seat t (asks_identity number digest i) reply mid → Shows s i t reply mid
-  of_identity number digest i past step =
-      of_change s seat (office_sight s seat t) (asks_identity number digest i)
-      (λ made. Responds made → Shows s i t reply mid) (Identify i) (λ body is _. repeats body is)
-      (λ reason _ responds. is_refused reason responds)
-      (λ next free _. step_anew sound s seat number digest i reply mid later step next free)
-      (step.0, step.1)
-    where
-      repeats : {A : Type 0} (body : List ℕ)
-          → retry_at seat (asks_identity number digest i) t ≡ Repeats body → A
-      repeats body is =
-          let own : retry_of (seat_named seat (view s.name t)) number digest ≡ Repeats body =
-          ap (λ (found : Option SeatState). retry_of found number digest)
-          (sym (seat_own sound s.name seat mine)) ∙ is in
-          let kept = retry_repeats (seat_named seat (view s.name t)) number digest body own in
-          let last : last_at seat (view s.name t) ≡ number = ap last_number_of_seat kept.1 ∙ kept.2 in
-          absurd (grind (arith, nat_tests, last, past))
-
-  of_command : (number : ℕ) (digest : List ℕ) (command : Command) (i : NewIdentity)
-      → identity_of_command command ≡ Some i
-      → is_after seat (view s.name t) number ≡ true
-      → Step s seat t (record { number = number; digest = digest; command = command }) reply mid
-      → Shows s i t reply mid
-  of_command number digest (Change (Identify j)) i is past step =
-      let same : j ≡ i = cc in
-      subst (λ (i : NewIdentity). Shows s i t reply mid) same (of_identity number digest j past step)
-  of_command number digest _ i is past step = cc
 
 -- an accepted identity that is no repeat shows a record that is new
 module _ {site : Ownership} (t mid : Tables) (sound : IsSound site t) (later : IsSound site mid)
@@ -108,15 +47,15 @@ module _ {site : Ownership} (t mid : Tables) (sound : IsSound site t) (later : I
 
   of_wanted : (w : Wanted) (i : NewIdentity) → identity_wanted w ≡ Some i
       → is_after x.0.seat (view x.0.section.name t) (number_of_wanted w) ≡ true
-      → FulfilsWanted x.0 w t x.1 mid → Shows x.0.section i t x.1 mid
+      → FulfilsWanted x.0 w t x.1 mid → Shows x.0.section x.0.seat t i x.1 mid
   of_wanted (refused reason) i is past made = cc
   of_wanted reports i is past made = cc
   of_wanted (asks r) i is past made =
-      of_command t mid sound later x.0.section x.0.seat seat.seat x.1 accepted r.number r.digest
+      request_shows t mid sound later x.0.section x.0.seat seat.seat x.1 accepted r.number r.digest
       r.command i is past made
 
   pub identity_shows : (i : NewIdentity) → identity_wanted x.0.wanted ≡ Some i
-      → is_past (view x.0.section.name t) x ≡ true → Shows x.0.section i t x.1 mid
+      → is_past (view x.0.section.name t) x ≡ true → Shows x.0.section x.0.seat t i x.1 mid
   identity_shows i wanted past = of_wanted x.0.wanted i wanted past meets
 
 -- what is past a number and isn't it
@@ -394,7 +333,7 @@ module _ {site last : Ownership} (x : Exchange) (xs : List Exchange) (t mid t2 :
   }
 
   with_gift : new_identities t (x ∷ xs) ≡ x ∷ new_identities mid xs → (i : NewIdentity)
-      → identity_wanted x.0.wanted ≡ Some i → Shows x.0.section i t x.1 mid
+      → identity_wanted x.0.wanted ≡ Some i → Shows x.0.section x.0.seat t i x.1 mid
       → IssuesOnce (x ∷ xs) t t2
   with_gift same i wanted shows =
       let g : OfCustomer Given =

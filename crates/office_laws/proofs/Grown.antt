@@ -70,7 +70,8 @@ sound_grown old new t growth sound = record {
   };
   devices = record {
     devices_in_order = sound.devices.devices_in_order;
-    ledger_in_order = sound.devices.ledger_in_order;
+    entries = owned_grown (λ e. old.seat e.seat) (λ e. new.seat e.seat)
+        (λ e customer is. growth.seats e.seat customer is) sound.devices.entries;
     ids_apart = sound.devices.ids_apart;
     customers = all_map (λ d. old.customer d.customer ≡ true) (λ d. new.customer d.customer ≡ true)
         (λ d is. growth.customers d.customer is) t.devices sound.devices.customers;

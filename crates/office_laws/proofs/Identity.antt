@@ -6,7 +6,8 @@ use Rattle.fusemap_core.specs.Prelude.{Map}
 use Rattle.id_ranges.specs.Prelude.{with_text, Range, serial_text_of, IsLeastUnused}
 use Rattle.id_ranges.proofs.NextNumbers.{next_is_least}
 use Rattle.site_core.specs.Prelude.{Section}
-use Rattle.office_laws.proofs.Types.{Device, Order, OfCustomer, NewIdentity, Exhausted, KeyBound}
+use Rattle.office_laws.proofs.Types.{Device, Order, OfCustomer, NewIdentity}
+use Rattle.office_commands.specs.declared.refusal.Refusal.TheVariants.{Exhausted, KeyBound}
 use Rattle.office_tables.specs.Prelude.{Tables, device_at, order_at}
 use Rattle.office_commands.specs.Prelude.{identity_body}
 use Rattle.office_rules.specs.Prelude.{identified_from, state_refusal, Effect, number_put, step_put, step_of_identity, identity_effect}

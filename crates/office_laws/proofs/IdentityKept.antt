@@ -32,7 +32,7 @@ use Rattle.office_laws.proofs.StepKept.{step_kept, step_made, stepped}
 module _ {owners : Ownership} {t : Tables} (sound : IsSound owners t) (s : Section)
     (section : IsSection owners s) where
   -- a device with its fuse map and its order, the order's next number, and a key that is nobody's
-  module _ (seat : List ℕ) (n : NewIdentity) (old : OfCustomer Device) (m : Map) (o : OfCustomer Order)
+  module _ (seat : List ℕ) (is_seat : owners.seat seat ≡ Some s.name) (n : NewIdentity) (old : OfCustomer Device) (m : Map) (o : OfCustomer Order)
       (next : ℕ × List ℕ) (there : device_at s.name n.chip t ≡ Some old)
       (known : map_named s.name old.row.map t ≡ Some m)
       (in_order : order_at s.name old.row.order t ≡ Some o)
@@ -148,20 +148,20 @@ module _ {owners : Ownership} {t : Tables} (sound : IsSound owners t) (s : Secti
         let change = step_made s seat t step first step_is in
         let id = change.0 in
         let same : first ≡ stepped s seat t step id = change.2 in
-        let one = step_kept sound s section seat n.chip old m step id there known keeps change.1 in
+        let one = step_kept sound s section seat is_seat n.chip old m step id there known keeps change.1 in
         let free : IsAddressFree g.row.mac t.given =
         subst (IsAddressFree g.row.mac) (ap (λ (x : Tables). x.given) same) free in
         lasts_named (last ∙ (number_is ∙ ap (λ x. with_cursor cursor (with_given g x)) same))
         (number_kept id one free)
 
-  pub identity_kept : (seat : List ℕ) (n : NewIdentity) (e : Effect) (mid : Tables)
+  pub identity_kept : (seat : List ℕ) → owners.seat seat ≡ Some s.name → (n : NewIdentity) (e : Effect) (mid : Tables)
       → first_that_holds (identity_refusals (office_sight s seat t) n) ≡ None
       → identity_effect seat (office_sight s seat t) n ≡ Some e → MakesPuts s e.puts t mid
       → Lasts owners t mid
-  identity_kept seat n e mid free is puts =
+  identity_kept seat is_seat n e mid free is puts =
       let f = identity_found s seat t n e is in
       let none =
       identity_free s seat t n f.old f.fuse_map f.order f.there f.known f.in_order free in
-      numbered_kept seat n f.old f.fuse_map f.order f.next f.there f.known f.in_order
+      numbered_kept seat is_seat n f.old f.fuse_map f.order f.next f.there f.known f.in_order
       f.is_next (none_from_test _ none.1.1.0) (not-false _ none.0) mid
       (subst (λ (x : Effect). MakesPuts s x.puts t mid) (sym f.is) puts)

@@ -3,11 +3,13 @@ pub mod Acting
 mod Actions
 mod Additions
 mod Addresses
+mod Anew
 mod Appended
 pub mod CursorLaws
 mod DeviceLaws
 mod DeviceRows
 pub mod End
+mod Existing
 pub mod Fresh
 pub mod GivenLaws
 pub mod Giving
@@ -16,6 +18,7 @@ pub mod Grown
 mod Identity
 mod IdentityKept
 mod ImportKept
+pub mod Issuing
 mod Keeping
 mod Kept
 mod Lasting
@@ -26,6 +29,7 @@ mod Machine
 mod MapKept
 mod MapLaws
 mod MapRows
+pub mod Matching
 pub mod Moments
 mod NamedMaps
 pub mod Obeying

@@ -6,8 +6,9 @@ use Rattle.sha2.specs.Sha256.{sha256}
 use Rattle.text_core.specs.Prelude.{first_that_holds}
 use Rattle.fusemap_core.specs.Prelude.{Map}
 use Rattle.site_core.specs.Prelude.{Section}
-use Rattle.office_laws.proofs.Types.{Device, Action, Ship, MakeOrder, ImportMap, RegisterDevice, Act, Identify, Import, Refusal, BadMap, ImportConflict, Unkept}
-use Rattle.office_laws.proofs.Types.{Change, FoundDevice}
+use Rattle.office_laws.proofs.Types.{Device, Action, MakeOrder, ImportMap, RegisterDevice, Act, Identify, Import, Refusal, BadMap, Unkept, Change, FoundDevice}
+use Rattle.office_commands.specs.declared.command.Action.TheVariants.{Plan}
+use Rattle.office_commands.specs.declared.refusal.Refusal.TheVariants.{ImportConflict}
 use Rattle.office_commands.specs.Prelude.{refusal_number}
 use Rattle.office_rules.specs.Prelude.{action_refusals, merged_rows, refusals, map_fault, text_refusals, readback_refusals, OrderSight}
 use Rattle.office_rules.specs.Prelude.{Refusals, Sight, device_in_sight, map_in_sight, refused_for, step_refusals}
@@ -94,7 +95,7 @@ step_ascends against each (Some found) = with_map found.map found.device
 
 -- those of each action
 action_ascends : (a : Action) (m : Map) (d : Device) → ascends 12 (action_refusals a m d) ≡ true
-action_ascends Ship m d = refl
+action_ascends (Plan wishes) m d = refl
 action_ascends _ m d = refl
 
 identity_ascends : (key : List ℕ) (d : Device) (order : Option OrderSight)

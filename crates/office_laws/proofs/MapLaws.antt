@@ -1,14 +1,15 @@
 -- A new map and a new link keep the tables sound, and how links lie with their customers.
 use Rattle.std.proofs.Common.{◌≡◌, ◌∷◌, Ordering}
-use Rattle.text_core.proofs.Kit.{ℕ, true, List, [], None, Equal, sym, ap, ◌∙◌, subst, AllByRecursion, ordering_then, IsTotalOrder, on_total, then_total}
+use Rattle.text_core.proofs.Kit.{ℕ, true, List, [], Option, None, Equal, sym, ap, ◌∙◌, subst, AllByRecursion, ordering_then, IsTotalOrder, on_total, then_total}
 use Rattle.text_core.proofs.Kit.{nat_list_cmp_total, tied_itself}
+use Rattle.fusemap_core.specs.Prelude.{Map}
 use Rattle.site_core.specs.Prelude.{Ownership}
 use Rattle.office_laws.proofs.Types.{OfCustomer, Link, MapRow}
 use Rattle.office_tables.specs.Prelude.{Tables, is_of, link_at, link_cmp, map_at, map_cmp, map_with, with_row, text_cmp, with_link, with_map}
 use Rattle.office_tables.proofs.Placing.{all_map, all_placed, placed_in_order}
 use Rattle.office_rules.specs.Prelude.{map_named}
 use Rattle.office_rules.proofs.Ties.{first_equal, same_place, same_text}
-use Rattle.office_laws.specs.Prelude.{AreSoundMaps, IsLinked, IsSound, MapOf}
+use Rattle.office_laws.specs.Prelude.{AreSoundMaps, IsLinked, IsSound}
 use Rattle.office_laws.proofs.MapRows.{body_is_new, linked_after, maps_total, texts_apart_placed}
 use Rattle.office_laws.proofs.NamedMaps.{named_after_link, named_after_map}
 use Rattle.office_laws.proofs.DeviceRows.{ledgers_kept, referred_after_link}
@@ -64,7 +65,7 @@ module _ {owners : Ownership} (t : Tables) (sound : AreSoundMaps owners t.maps t
       }
 
 module _ {owners : Ownership} {t : Tables} (sound : IsSound owners t) where
-  abbrev named : Tables → MapOf
+  abbrev named : Tables → List ℕ → List ℕ → Option Map
   named t = λ customer digest. map_named customer digest t
 
   pub link_sound : (l : OfCustomer Link) → owners.customer l.customer ≡ true → IsLinked t.maps l

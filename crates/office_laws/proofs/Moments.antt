@@ -5,10 +5,11 @@ use Rattle.site_core.specs.Prelude.{Ownership}
 use Rattle.office_tables.specs.Prelude.{Tables, device_at, given_at, is_serial_of, order_at}
 use Rattle.office_laws.proofs.Types.{Device, Given, Order, OfCustomer}
 use Rattle.office_rules.specs.Prelude.{map_named, block_from}
-use Rattle.office_laws.specs.Prelude.{addresses_for, addresses_in, addresses_of, addresses_with, Grows, DeviceStays, IsSound, IsOfDevice, IsOfOrder, IsRecordOf}
+use Rattle.office_laws.specs.Prelude.{addresses_of, Grows, DeviceStays, IsSound, IsOfDevice, IsOfOrder, IsRecordOf}
 use Rattle.office_laws.specs.Prelude.{Call, Exchange, IsCut, SeatRun, calls_of, AreNotImported, AreSeats}
 use Rattle.office_laws.proofs.Growing.{OrderStays}
 use Rattle.office_laws.proofs.Readings.{find_holds}
+use Rattle.office_laws.proofs.RecordAddresses.{addresses_for, addresses_in, addresses_with}
 use Rattle.office_laws.proofs.Grown.{growth_itself}
 use Rattle.office_laws.proofs.Stopping.{calls_joined}
 use Rattle.office_laws.proofs.RunLaws.{run_grows, run_sound}

@@ -6,10 +6,9 @@ use Rattle.http_replies.specs.Prelude.{Answer}
 use Rattle.site_core.specs.Prelude.{PoolsDisjoint, IsSection, Ownership, Section}
 use Rattle.office_tables.specs.Prelude.{Tables}
 use Rattle.office_commands.specs.Prelude.{IsAsked, refusal}
-use Rattle.office_laws.proofs.Types.{Request, Unkept, NewIdentity}
-use Rattle.office_rules.specs.Prelude.{Step, asks_identity}
-use Rattle.office_laws.specs.Prelude.{IssuesFresh, Grows, SoloState, solo, IsSound, view}
-use Rattle.office_laws.proofs.Fresh.{gives_anew}
+use Rattle.office_laws.proofs.Types.{Request, Unkept}
+use Rattle.office_rules.specs.Prelude.{Step}
+use Rattle.office_laws.specs.Prelude.{Grows, SoloState, solo, IsSound, view}
 use Rattle.office_laws.proofs.Machine.{step_own}
 use Rattle.office_laws.proofs.StepLasts.{step_lasts}
 use Rattle.office_laws.proofs.Steps.{step_exists}
@@ -28,19 +27,13 @@ module _ {owners : Ownership} {t : Tables} (sound : IsSound owners t) (s : Secti
       → Obeys owners s.name t reply t2 (solo s seat (view s.name t) r)
   step_obeys apart section r reply t2 asked mine step =
       let views = step_own sound s section seat mine r reply t2 step in
-      let lasts = step_lasts sound apart s section seat r mine t2 reply asked step in
+      let lasts = step_lasts sound apart s section seat mine r t2 reply asked step in
       record {
         sound = lasts.sound;
         grows = lasts.grows;
         own = sym (ap (λ made. option_map_or (λ x. x) made (refusal Unkept, view s.name t)) views.0);
         other = views.1;
       }
-
-  pub step_anew : (number : ℕ) (digest : List ℕ) (i : NewIdentity) (reply : Answer) (t2 : Tables)
-      → IsSound owners t2 → Step s seat t (asks_identity number digest i) reply t2
-      → IssuesFresh s seat number digest i t reply t2
-  step_anew number digest i reply t2 later step =
-      gives_anew s seat t i number digest reply t2 later step
 
   pub step_always : (r : Request) → (reply : Answer) × (t2 : Tables) × Step s seat t r reply t2
   step_always r = step_exists sound s seat r

@@ -5,7 +5,8 @@ use Rattle.text_core.proofs.Kit.{MatchBool, option_and_then, option_map, result_
 use Rattle.sha2.specs.Sha256.{sha256}
 use Rattle.http_replies.specs.Prelude.{Answer, code_of}
 use Rattle.office_laws.proofs.Types.{ImportRow, SeatState, Change as Changing, MakeOrder, ImportMap, RegisterDevice, Act, Identify, Import, Command, Request}
-use Rattle.office_laws.proofs.Types.{Refusal, Unkept, Show, Repeats, Differs, Next, Skips}
+use Rattle.office_laws.proofs.Types.{Refusal, Unkept, Show, Repeats, Next}
+use Rattle.office_rules.specs.declared.retry.Retry.TheVariants.{Differs, Skips}
 use Rattle.site_core.specs.Prelude.{Section}
 use Rattle.office_tables.specs.Prelude.{with_row}
 use Rattle.office_tables.proofs.Finding.{other_placed}

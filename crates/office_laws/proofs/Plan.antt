@@ -6,8 +6,10 @@ use Rattle.std.specs.FinMap as table
 use Rattle.std.specs.FinSet as set
 use Rattle.text_core.specs.Prelude.{first_that_holds}
 use Rattle.fusemap_core.specs.Prelude.{IsMap, Map, field_named}
-use Rattle.office_laws.proofs.Types.{Field, Image, Pending, Want, Bit, Value, WriteLock, ReadLock, Key, PlanFault, Wish, Device, DeviceState, AwaitingFirst}
-use Rattle.office_laws.proofs.Types.{AwaitingSecond, Settled, OfCustomer, BadPlan}
+use Rattle.office_laws.proofs.Types.{Field, Image, Pending, Want, PlanFault, Wish, Device, DeviceState, Settled, OfCustomer}
+use Rattle.fuse_plan.specs.declared.wish.Want.TheVariants.{Bit, Key, ReadLock, Value, WriteLock}
+use Rattle.office_commands.specs.declared.refusal.Refusal.TheVariants.{BadPlan}
+use Rattle.office_tables.specs.declared.rows.DeviceState.TheVariants.{AwaitingFirst, AwaitingSecond}
 use Rattle.fuse_image.specs.Prelude.{HoldsDigests, KeyTable, get-table_where, has_no_key, table_where, keys_without, Positions, is_empty, IsPending}
 use Rattle.fuse_columns.specs.Prelude.{todo_column, pending_in}
 use Rattle.fuse_columns.proofs.LawProofs.{work_comes_back}

@@ -1,13 +1,16 @@
 -- A read-back keeps of its device what its map asks for.
-use Rattle.std.proofs.Common.{◌≡◌, ◌∙◌, ℕ, Bool, true, false, List, Option, Some, None, refl, sym, ap, subst, ◌&&◌, ◌||◌, not, if◌then◌else◌, is_some}
+use Rattle.std.proofs.Common.{◌≡◌, ◌∙◌, ◌++◌, ℕ, Bool, true, false, List, [], ◌∷◌, Option, Some, None, refl, sym, ap, subst, ◌&&◌, ◌||◌, not, is_some}
+use Rattle.std.proofs.Common.{if◌then◌else◌}
+use Rattle.std.specs.List.{AllByRecursion}
 use Rattle.std.specs.Option.{option_or}
 use Rattle.std.specs.FinMap as table
 use Rattle.std.specs.FinSet as set
 use Rattle.fusemap_core.specs.Prelude.{IsMap, Map}
 use Rattle.fuse_image.specs.Image as image
 use Rattle.fuse_image.specs.Prelude.{IsImageWithin, KeyTable, table_where, keys_without, Positions, pos_exact, pos_total, AreBits, AreKeysOf, IsPending}
-use Rattle.office_laws.proofs.Types.{Image, ReadBack, Pending, Verdict, Match, Short, Fault, Batches, Both, Neither, Second, Device, DeviceState, Entry}
-use Rattle.office_laws.proofs.Types.{OfCustomer}
+use Rattle.office_laws.proofs.Types.{Image, ReadBack, Pending, Verdict, Batches, Neither, Device, DeviceState, Entry, OfCustomer}
+use Rattle.fuse_plan.specs.declared.verdict.Verdict.TheVariants.{Fault, Match, Short}
+use Rattle.office_tables.specs.declared.rows.Batches.TheVariants.{Both, Second}
 use Rattle.fuse_image.specs.Keys as keys
 use Rattle.fuse_image.proofs.Tables.{get_within, same_table}
 use Rattle.fuse_columns.specs.Prelude.{bits_column, image_in, keys_column, todo_column, pending_in}
@@ -17,6 +20,7 @@ use Rattle.fuse_plan.specs.Prelude.{image_after, short_bits, short_keys, verdict
 use Rattle.fuse_plan.proofs.InMap.{rests_in_map}
 use Rattle.fuse_plan.proofs.Pending.{first_rest_law, rest_law, second_rest_law}
 use Rattle.office_tables.specs.Prelude.{state_row}
+use Rattle.office_tables.proofs.Placing.{all_map}
 use Rattle.office_rules.specs.Prelude.{known_of, next_batch, pending_after, reads_redacted, state_after, verdict_of_read_back, with_rest}
 use Rattle.office_laws.specs.Prelude.{IsAwaited, IsOfBatches, AreColumns}
 use Rattle.office_laws.proofs.Additions.{all_added_with}
@@ -24,7 +28,7 @@ use Rattle.office_laws.proofs.Plan.{of_its_state}
 use Rattle.office_laws.proofs.Unread.{all_with}
 use Rattle.office_laws.proofs.Registration.{no_work_lies, nothing_pending}
 use Rattle.office_laws.proofs.Keeping.{Keeps}
-use Rattle.office_laws.proofs.Within.{within_after}
+use Rattle.office_laws.proofs.Within.{left_within, within_after, within_both}
 
 -- what is known, with what a read-back added to it, is what is known after it
 or_added : (a b : Bool) → (a || ((a || b) && not a)) ≡ (a || b)
@@ -137,6 +141,17 @@ module _ (m : Map) (is : IsMap m) (d : Device) (r : ReadBack) where
                 bits_back = ap (bits_column m) (bits_come_back m is (set.difference b.burnt a.burnt) new_bits);
                 keys_back = ap (keys_column m) (keys_come_back m (keys_without b.keys a.keys) new_keys);
               }));
+          within =
+              let before : IsImageWithin a b = within_after m a r (keys_lie_in_map m d.keys) in
+              let new : IsImageWithin (record { burnt = set.difference b.burnt a.burnt; keys = keys_without b.keys a.keys }) b = left_within b a.burnt a.keys in
+              let old : AllByRecursion (λ (x : OfCustomer Entry). IsImageWithin (image_in m x.row.bits x.row.keys) b) es =
+              all_map (λ (x : OfCustomer Entry). IsImageWithin (image_in m x.row.bits x.row.keys) a)
+              (λ (x : OfCustomer Entry). IsImageWithin (image_in m x.row.bits x.row.keys) b)
+              (λ x is. within_both (image_in m x.row.bits x.row.keys) a b is before) es was.within in
+              let one : IsImageWithin (image_in m e.row.bits e.row.keys) b =
+              rw (same_bits, same_keys) (subst (λ (x : Image). IsImageWithin x b) (sym added) new) in
+              subst (λ (now : Image). AllByRecursion (λ (x : OfCustomer Entry). IsImageWithin (image_in m x.row.bits x.row.keys) now) (es ++ e ∷ []))
+              (sym back) (all_with (λ (x : OfCustomer Entry). IsImageWithin (image_in m x.row.bits x.row.keys) b) es e old one);
           added =
               let one : image_in m e.row.bits e.row.keys ≡ record { burnt = set.difference b.burnt a.burnt; keys = keys_without b.keys a.keys } =
               rw (same_bits, same_keys) added in

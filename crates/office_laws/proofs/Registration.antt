@@ -2,7 +2,8 @@
 use Rattle.std.proofs.Common.{◌≡◌, ◌∙◌, ℕ, List, [], ◌∷◌, Option, Some, None, Ok, Err, refl, sym, ap, subst, is_some, option_and_then, Result, nat_cmp}
 use Rattle.std.specs.FinMap as table
 use Rattle.std.specs.FinSet as set
-use Rattle.office_laws.proofs.Types.{MapFault, Image, ReadBack, OfCustomer, Entry, Registered, NewDevice}
+use Rattle.office_laws.proofs.Types.{MapFault, Image, ReadBack, OfCustomer, Entry, NewDevice}
+use Rattle.office_tables.specs.declared.rows.DeviceState.TheVariants.{Registered}
 use Rattle.fusemap_core.specs.Prelude.{IsMap, Map, map_in, map_or_none, map_read}
 use Rattle.fusemap_core.proofs.Reading.{IsMapText-from_read}
 use Rattle.fuse_image.specs.Prelude.{pos_cmp, WordsFitMap, redacted, ReadBackInMap, IsPending, no_pending}
@@ -13,6 +14,7 @@ use Rattle.office_rules.specs.Prelude.{device_of_registration}
 use Rattle.fuse_plan.specs.Prelude.{PendingFitsImage}
 use Rattle.office_laws.specs.Prelude.{IsAwaited, AreColumns, FitsFuseMap}
 use Rattle.office_laws.proofs.DeviceRows.{columns_alone}
+use Rattle.office_laws.proofs.Within.{within_itself}
 
 -- the fuse map of a text is a map
 read_is_map : (text : List ℕ) (m : Map) (read : Result Map MapFault) → map_read text ≡ read → map_or_none read ≡ Some m → IsMap m
@@ -61,6 +63,7 @@ registered_kept m is d fit e same_bits same_keys =
       columns = columns;
       todo_back = ap (todo_column m) work;
       entries_columns = (rw (same_bits, same_keys) columns, tt);
+      within = (rw (same_bits, same_keys) (within_itself (image_in m (bits_column m r.ones) (keys_column m r.shown))), tt);
       added = rw (same_bits, same_keys) (columns_alone m (bits_column m r.ones) (keys_column m r.shown));
       pending =
           subst (IsAwaited m (image_in m (bits_column m r.ones) (keys_column m r.shown)) Registered) (sym work)

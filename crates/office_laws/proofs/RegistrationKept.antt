@@ -31,7 +31,7 @@ fits_from m blocks none =
     by false hidden e = cc
 
 module _ {owners : Ownership} {t : Tables} (sound : IsSound owners t) (s : Section)
-    (section : IsSection owners s) (seat : List ℕ) where
+    (section : IsSection owners s) (seat : List ℕ) (is_seat : owners.seat seat ≡ Some s.name) where
   abbrev v : Sight
   v = office_sight s seat t
 
@@ -63,6 +63,7 @@ module _ {owners : Ownership} {t : Tables} (sound : IsSound owners t) (s : Secti
       lasts_named (puts.2 ∙ change.2) (record {
         sound = step_sound sound s.name seat step id (record {
           mine = section.customer;
+          is_seat = is_seat;
           order = order;
           link = map_is_linked (link_at s.name n.map t) t m known;
           new_id = change.1;

@@ -4,7 +4,9 @@ use Rattle.text_core.specs.Prelude.{first_that_holds}
 use Rattle.http_replies.specs.Prelude.{Answer}
 use Rattle.site_core.specs.Prelude.{Section}
 use Rattle.office_commands.specs.Prelude.{refusal_number, acceptance, refusal}
-use Rattle.office_laws.proofs.Types.{Command, Request, Refusal, OtherBody, Unkept, WrongNumber, Change as Changing, Show, Retry, Repeats, Differs, Next, Skips}
+use Rattle.office_laws.proofs.Types.{Command, Request, Refusal, Unkept, Change as Changing, Show, Retry, Repeats, Next}
+use Rattle.office_commands.specs.declared.refusal.Refusal.TheVariants.{OtherBody, WrongNumber}
+use Rattle.office_rules.specs.declared.retry.Retry.TheVariants.{Differs, Skips}
 use Rattle.office_commands.specs.declared.command.Command.TheVariants.{Change}
 use Rattle.office_rules.specs.Prelude.{Response, accept, decide, effect, refusals, reply_only, respond_by_retry, respond_to, show_reply, retry_of, Sight}
 use Rattle.office_laws.proofs.Lowest.{found_below, refusals_ascend}

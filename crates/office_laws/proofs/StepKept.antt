@@ -41,7 +41,7 @@ module _ (s : Section) (seat : List ℕ) (t : Tables) where
   )
 
 module _ {owners : Ownership} {t : Tables} (sound : IsSound owners t) (s : Section)
-    (section : IsSection owners s) (seat : List ℕ) where
+    (section : IsSection owners s) (seat : List ℕ) (is_seat : owners.seat seat ≡ Some s.name) where
   abbrev v : Sight
   v = office_sight s seat t
 
@@ -61,6 +61,7 @@ module _ {owners : Ownership} {t : Tables} (sound : IsSound owners t) (s : Secti
       record {
         sound = step_sound sound s.name seat step id (record {
           mine = section.customer;
+          is_seat = is_seat;
           order = rw (keeps.order, owner) found.0.order;
           link = rw (keeps.map, owner) found.0.map;
           new_id = fresh;

@@ -45,7 +45,8 @@ first_puts s (q ∷ qs) p t t2 (next, put, later) =
     let rest = first_puts s qs p next t2 later in (rest.0, (next, put, rest.1), rest.2)
 
 module _ {owners : Ownership} {t : Tables} (sound : IsSound owners t) (apart : PoolsDisjoint owners)
-    (s : Section) (section : IsSection owners s) (seat : List ℕ) where
+    (s : Section) (section : IsSection owners s) (seat : List ℕ)
+    (mine : owners.seat seat ≡ Some s.name) where
   abbrev v : Sight
   v = office_sight s seat t
 
@@ -58,15 +59,15 @@ module _ {owners : Ownership} {t : Tables} (sound : IsSound owners t) (apart : P
   command_kept (ImportMap text) e mid asked free is puts =
       map_kept sound s section seat text mid free (puts_of s t mid is puts)
   command_kept (RegisterDevice n) e mid asked free is puts =
-      registration_kept sound s section seat n e mid free is puts
+      registration_kept sound s section seat mine n e mid free is puts
   command_kept (Act chip action) e mid asked free is puts =
-      action_kept sound s section seat chip action e mid asked free is puts
+      action_kept sound s section seat mine chip action e mid asked free is puts
   command_kept (Identify n) e mid asked free is puts =
-      identity_kept sound s section seat n e mid free is puts
+      identity_kept sound s section seat mine n e mid free is puts
   command_kept (Import n) e mid asked free is puts =
       import_kept sound s section seat n e mid is puts
 
-  module _ (r : Request) (mine : owners.seat seat ≡ Some s.name) (t2 : Tables) where
+  module _ (r : Request) (t2 : Tables) where
     -- the puts of a response keep the tables sound, and forget nothing
     abbrev AreKept : Option Response → Type 0
     AreKept made = (p : Response) → made ≡ Some p → MakesPuts s p.puts t t2 → Lasts owners t t2

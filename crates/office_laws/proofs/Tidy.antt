@@ -41,7 +41,7 @@ sound_is_tidy sound = record {
   given = sound.given.rows;
   maps = sound.maps;
   devices = sound.devices.devices_in_order;
-  ledger = sound.devices.ledger_in_order;
+  ledger = sound.devices.entries.in_order;
 }
 
 -- what a put asks for: its seat, its issuer, is the customer's, its order has its cursor at its

@@ -26,6 +26,11 @@ pub record Call : Type 0 where
   pub seat : List ℕ
   pub wanted : Wanted
 
+-- the call in which a seat makes a request of the office
+abbrev pub call_by : Section → List ℕ → Request → Call
+call_by section seat request =
+    record { section = section; seat = seat; wanted = asks request }
+
 -- a call and its reply
 abbrev pub Exchange : Type 0
 Exchange = Call × Answer

@@ -1,11 +1,10 @@
 -- What the identities of a run give.
-use Rattle.std.specs.Prelude.{◌≡◌, ◌&&◌, nat_lt, ℕ, Bool, false, List, [], ◌∷◌, filter, Option}
-use Rattle.std.specs.Prelude.{Some, None, is_some, IfSome}
+use Rattle.std.specs.Prelude.{◌≡◌, ◌&&◌, Bool, true, false, ℕ, List, [], ◌∷◌, filter, Option, Some}
+use Rattle.std.specs.Prelude.{None, is_some, IfSome}
 use Rattle.std.specs.List.{AllByRecursion}
 use Rattle.id_ranges.specs.Prelude.{Idevid}
 use Rattle.office_tables.specs.declared.rows.Given.{Given}
 use Rattle.office_tables.specs.declared.rows.OfCustomer.{OfCustomer}
-use Rattle.office_tables.specs.declared.rows.SeatState.{SeatState}
 use Rattle.office_tables.specs.Prelude.{Tables, given_at, is_serial_of}
 use Rattle.office_commands.specs.Prelude.{identity_body, acceptance}
 use Rattle.office_commands.specs.declared.command.Command.{Command}
@@ -14,15 +13,8 @@ use Rattle.office_commands.specs.declared.new_identity.NewIdentity.{NewIdentity}
 use Rattle.office_commands.specs.declared.command.Command.TheVariants.{Change}
 use Rattle.office_rules.specs.Prelude.{row_of}
 use Rattle.office_laws.specs.Fresh.{BlocksDisjoint, IsFreshRecord, addresses_of}
-use Rattle.office_laws.specs.SoloMachine.{seat_named}
-use Rattle.office_laws.specs.View.{view}
 use Rattle.office_laws.specs.Exchanges.{Exchange, Wanted, asks}
-use Rattle.office_laws.specs.Once.{number_of_wanted, once}
-
--- the number of a seat's last accepted command, and 0 before the first
-abbrev pub last_number_of_seat : Option SeatState → ℕ
-last_number_of_seat None = 0
-last_number_of_seat (Some seat) = seat.last
+use Rattle.office_laws.specs.Once.{is_accepted, is_no_repeat, once}
 
 -- the identity that a command asks for, if that is what it asks for
 abbrev pub identity_of_command : Command → Option NewIdentity
@@ -34,12 +26,9 @@ abbrev pub identity_wanted : Wanted → Option NewIdentity
 identity_wanted (asks request) = identity_of_command request.command
 identity_wanted other = None
 
--- the exchange is that of an identity that is no repeat of one before the run: its number comes
--- after its seat's last one then
+-- the exchange is that of an identity that is no repeat of one before the run
 abbrev pub is_new_identity : Tables → Exchange → Bool
-is_new_identity t x = is_some (identity_wanted x.0.wanted)
-    && nat_lt (last_number_of_seat (seat_named x.0.seat (view x.0.section.name t)))
-    (number_of_wanted x.0.wanted)
+is_new_identity t x = is_some (identity_wanted x.0.wanted) && is_no_repeat t x
 
 -- the record that the identity's reply shows
 abbrev pub IsGift : Exchange → OfCustomer Given → Type 0
@@ -48,6 +37,12 @@ IsGift x g = (i : NewIdentity) × (record_of : Idevid)
     × (record_of.key ≡ i.key)
     × (x.1 ≡ acceptance (identity_body i.chip record_of))
     × (g ≡ record { customer = x.0.section.name; row = row_of record_of (Some i.chip) })
+
+-- where an accepted exchange is that of an identity that is no repeat, its reply shows a record
+-- that is new
+abbrev pub IssuesFresh : Exchange → Tables → Tables → Type 0
+IssuesFresh x t t2 = is_accepted x ≡ true → is_new_identity t x ≡ true
+    → (g : OfCustomer Given) × IsGift x g × IsFreshRecord t t2 g
 
 -- the records that these identities' replies show, one for each
 abbrev pub AreGifts : List Exchange → List (OfCustomer Given) → Type 0

@@ -9,7 +9,7 @@ use Rattle.office_commands.specs.declared.command.Request.{Request}
 use Rattle.office_rules.specs.Prelude.{Step, words_fit_map}
 use Rattle.office_laws.specs.Sound.{IsSound}
 use Rattle.office_laws.specs.View.{view}
-use Rattle.office_laws.specs.Exchanges.{Exchange, IsRun, calls_of, replies_of}
+use Rattle.office_laws.specs.Exchanges.{Exchange, IsRun, call_by, calls_of, replies_of}
 use Rattle.office_laws.specs.Growth.{AreSeats}
 use Rattle.office_laws.specs.Alone.{exchanges_of}
 
@@ -26,6 +26,10 @@ pub record SeatStep : Type 0 where
   pub is_seat : owners.seat seat ≡ Some section.name
   pub is_sound : IsSound owners old
   pub is_step : Step section seat old request reply new
+
+-- the request with its reply
+abbrev pub exchange_of_step : SeatStep → Exchange
+exchange_of_step x = (call_by x.section x.seat x.request, x.reply)
 
 -- exchanges with seats of a site, which may grow between them, make a run, from tables that are
 -- sound for the site as it was at first

@@ -9,6 +9,7 @@ pub mod LawfulRuns
 pub mod Once
 pub mod Pending
 pub mod Promises
+pub mod ReadBacks
 pub mod SoloMachine
 pub mod SoundDevices
 pub mod SoundRecords

@@ -1,11 +1,14 @@
 -- A request that comes again acts once.
 use Rattle.std.specs.Prelude.{◌≡◌, ◌==◌, ◌&&◌, ℕ, Bool, true, false, not, bytes_eq, List, [], ◌∷◌}
-use Rattle.std.specs.Prelude.{filter}
+use Rattle.std.specs.Prelude.{filter, nat_lt, Option}
+use Rattle.std.specs.Option.{option_map_or}
 use Rattle.std.specs.List.{AllByRecursion}
 use Rattle.http_replies.specs.Prelude.{code_of}
+use Rattle.office_tables.specs.declared.rows.SeatState.{SeatState}
 use Rattle.office_tables.specs.Prelude.{Tables}
 use Rattle.office_commands.specs.declared.command.Command.{Command}
 use Rattle.office_commands.specs.declared.command.Command.TheVariants.{Change, Show}
+use Rattle.office_laws.specs.SoloMachine.{seat_named}
 use Rattle.office_laws.specs.View.{view}
 use Rattle.office_laws.specs.Exchanges.{Exchange, Wanted, asks, calls_of}
 use Rattle.office_laws.specs.Alone.{exchanges_of, solo_state}
@@ -24,6 +27,16 @@ writes other = false
 abbrev pub number_of_wanted : Wanted → ℕ
 number_of_wanted (asks request) = request.number
 number_of_wanted other = 0
+
+-- the number of a seat's last accepted command, and 0 before the first
+abbrev pub last_number_of_seat : Option SeatState → ℕ
+last_number_of_seat found = option_map_or (λ seat. seat.last) found 0
+
+-- the exchange is no repeat of one before these tables: its number comes after its seat's last one
+-- there
+abbrev pub is_no_repeat : Tables → Exchange → Bool
+is_no_repeat t x = nat_lt (last_number_of_seat (seat_named x.0.seat (view x.0.section.name t)))
+    (number_of_wanted x.0.wanted)
 
 -- the exchange is that of a command that writes, and was answered 200
 abbrev pub is_accepted : Exchange → Bool

@@ -1,17 +1,19 @@
 // Laws of the office, over its definitions alone.
-ghost use Rattle.std.specs.Prelude.{◌≡◌, false, List, ℕ, Some, bytes_eq};
+ghost use Rattle.std.specs.Prelude.{◌≡◌, ◌↔◌, true, false, List, ℕ, Some, bytes_eq};
 ghost use Rattle.http_replies.specs.Prelude.{Answer};
 ghost use Rattle.site_core.specs.Prelude.{PoolsDisjoint, Ownership, Section};
 ghost use Rattle.office_tables.specs.Prelude.{Tables, device_at, no_rows};
 ghost use Rattle.office_tables.specs.declared.rows.Device.{Device};
 ghost use Rattle.office_tables.specs.declared.rows.OfCustomer.{OfCustomer};
 ghost use Rattle.fusemap_core.specs.Prelude.{Map};
+ghost use Rattle.fuse_image.specs.Prelude.{redacted};
+ghost use Rattle.fuse_plan.specs.declared.verdict.Verdict.TheVariants.{Match};
 ghost use Rattle.office_commands.specs.Prelude.{IsAsked};
 ghost use Rattle.office_commands.specs.declared.new_device.NewDevice.{NewDevice};
 ghost use Rattle.office_commands.specs.declared.command.Request.{Request};
-ghost use Rattle.office_commands.specs.declared.new_identity.NewIdentity.{NewIdentity};
-ghost use Rattle.office_rules.specs.Prelude.{Step, asks_identity, map_named, reads_back, registers};
-ghost use Rattle.office_laws.specs.Prelude.{IssuesFresh, Grows, SeatStep, ShowAlike, StepsAlike, solo_step, view, IsSound};
+ghost use Rattle.office_rules.specs.Prelude.{Step, map_named, reads_back, registers, verdict_of_read_back, words_fit_map};
+ghost use Rattle.office_laws.specs.Prelude.{exchange_of_step, Grows, IssuesFresh, IsSound, MatchesWhereSeen, SeatStep, seen_with_batch, ShowAlike, solo_step};
+ghost use Rattle.office_laws.specs.Prelude.{StepsAlike, view};
 
 /// A step of a customer's seat, from sound tables, acts on the customer's view as the customer's own
 /// machine does, which knows of nobody else; it leaves each other customer's view; the tables stay
@@ -27,9 +29,22 @@ pub fn steps_are_the_customers_own()
         → PoolsDisjoint x.owners → IsAsked x.request → IsSound x.owners x.new }
     ensures grows { (x : SeatStep)
         → PoolsDisjoint x.owners → IsAsked x.request → Grows x.old x.new }
-    ensures fresh { (x : SeatStep) (number : ℕ) (digest : List ℕ) (i : NewIdentity)
-        → PoolsDisjoint x.owners → x.request ≡ asks_identity number digest i
-        → IssuesFresh x.section x.seat number digest i x.old x.reply x.new }
+    ensures fresh { (x : SeatStep)
+        → PoolsDisjoint x.owners → IssuesFresh (exchange_of_step x) x.old x.new }
+{}
+
+/// A read-back of a device of sound tables, whose words fit its fuse map, matches exactly where the
+/// chip shows what it would with the whole batch burnt that is burnt next, and nothing else; and where
+/// one that is no repeat is answered 200, its reply tells a match exactly there. No premise says that
+/// the batch is readable: what is pending on a device of sound tables is.
+pub fn a_batch_matches_where_it_is_seen()
+    ensures verdict { (owners : Ownership) (t : Tables) (customer chip : List ℕ)
+        (d : OfCustomer Device) (m : Map) (words : List (List ℕ))
+        → IsSound owners t → device_at customer chip t ≡ Some d
+        → map_named customer d.row.map t ≡ Some m → words_fit_map m words ≡ true
+        → (verdict_of_read_back (redacted m words) m d.row ≡ Match)
+        ↔ (redacted m words ≡ seen_with_batch m d.row) }
+    ensures reply { (x : SeatStep) → MatchesWhereSeen (exchange_of_step x) x.old }
 {}
 
 /// No rows are sound, so each store begins with sound tables.

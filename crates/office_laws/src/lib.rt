@@ -9,10 +9,12 @@ mod refusals;
 mod runs;
 
 pub use isolation::{
-    always_a_step, no_rows_are_sound, only_the_redaction_is_kept, steps_are_the_customers_own,
+    a_batch_matches_where_it_is_seen, always_a_step, no_rows_are_sound, only_the_redaction_is_kept,
+    steps_are_the_customers_own,
 };
 pub use refusals::lowest_number_is_answered;
 pub use runs::{
     identities_give_once, other_calls_make_no_difference, repeats_act_once,
-    runs_are_the_customers_own, runs_keep_the_promises, sites_may_grow, stopped_runs_are_runs,
+    runs_are_the_customers_own, runs_exist, runs_keep_the_promises, sites_may_grow,
+    stopped_runs_are_runs,
 };

@@ -1,11 +1,15 @@
 // Laws of whole runs, over the definitions alone.
-ghost use Rattle.std.specs.Prelude.{◌≡◌, List, Some, ℕ};
+ghost use Rattle.std.specs.Prelude.{◌≡◌, List, Some, true, ℕ};
+ghost use Rattle.std.specs.List.{AllByRecursion};
+ghost use Rattle.http_replies.specs.Prelude.{is_unavailable};
 ghost use Rattle.site_core.specs.Prelude.{IsGrowth, Ownership, OwnershipGrows, ownership_of, SiteValue, IsSite};
+ghost use Rattle.office_commands.specs.declared.refusal.Refusal.TheVariants.{Unkept};
 ghost use Rattle.office_tables.specs.Prelude.{Tables, given_at};
 ghost use Rattle.office_tables.specs.declared.rows.Given.{Given};
 ghost use Rattle.office_tables.specs.declared.rows.OfCustomer.{OfCustomer};
-ghost use Rattle.office_laws.specs.Prelude.{addresses_of, Grows, IsSound, Exchange, IsRun, IsIsolated, SeatRun, IsCut, StartAlike, EndAlike};
-ghost use Rattle.office_laws.specs.Prelude.{AreNotImported, IssuesOnce, ActsOnce, Promises, AreSessions, IsInDoubt, IsLeft, IsStoppedRun, Leaves, Session};
+ghost use Rattle.office_laws.specs.Prelude.{addresses_of, AreNotImported, AreSeats, Call, calls_of, Exchange, Grows, IsCut, IsIsolated, IsRun, IsSound};
+ghost use Rattle.office_laws.specs.Prelude.{ActsOnce, AreSessions, EndAlike, IsInDoubt, IsLeft, IsStoppedRun, IssuesOnce, Leaves, Promises, refused};
+ghost use Rattle.office_laws.specs.Prelude.{SeatRun, Session, StartAlike};
 
 /// A run from sound tables: the tables stay sound, though the site grew; each customer's replies
 /// and rows are those of the customer's own machine, run on the customer's own calls alone; and
@@ -44,6 +48,16 @@ pub fn identities_give_once()
         (g : OfCustomer Given) → IsCut r front middle back
         → given_at g.row.issuer g.row.serial middle ≡ Some g
         → addresses_of r.new g ≡ addresses_of middle g }
+{}
+
+/// Any calls have a run: from sound tables, where the calls are those of seats of a site, which may
+/// grow between them, one in which each is answered, and none with 503, but what was refused with it
+/// as it came.
+pub fn runs_exist()
+    ensures { (first last : Ownership) (cs : List Call) (t : Tables)
+        → IsSound first t → AreSeats first cs last
+        → (xs : List Exchange) × (t2 : Tables) × (calls_of xs ≡ cs) × IsRun xs t t2
+        × AllByRecursion (λ x. is_unavailable x.1.status ≡ true → x.0.wanted ≡ refused Unkept) xs }
 {}
 
 /// All that is promised of a run from sound tables.

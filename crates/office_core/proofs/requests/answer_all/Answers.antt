@@ -72,7 +72,7 @@ loop-asked-preserved g c =
                     (g.K.Keep.may_leave c.args.keep.now) (g.K.Keep.may_leave c.loop-asked.keep)
                     (g.K.Keep.may_leave c.answer.new.keep) (g.K.Keep.is_open c.answer.new.keep)
                     refl step.1 first.1.crash (c.answer.ensures.stays_open is)
-                    (λ opened left leaves. g.met.K.Keep.only_committed c.answer.new.keep left opened leaves ∙ step.5 opened)
+                    (λ opened left leaves. g.met.K.Keep.only_committed c.answer.new.keep left opened leaves ∙ step.6 opened)
                     (λ left leaves. carried_out (c.answer.ensures.crash is left leaves) (λ old. old)
                     (λ made. (
                       made.1,
@@ -80,7 +80,7 @@ loop-asked-preserved g c =
                           Step (section_at site asked.caller) (seat_name_at site asked.caller) m
                           asked.request made.1 left) (first.1.stands made.0) made.2,
                     ))));
-                stands = step.5;
+                stands = step.6;
               },
             ),
       );
