@@ -1,18 +1,22 @@
 -- What a crash leaves of files is what the store that had them allows.
-use Rattle.std.proofs.Common.{◌≡◌, Bool, ◌&&◌, IsTrue}
-use Rattle.std.proofs.lemmas.Bool.{and_from, and_parts}
+use Rattle.std.proofs.Common.{◌≡◌, List, subst}
 use Rattle.sqlite_disk.specs.declared.Disk.{Ghosts}
+use Rattle.sqlite_disk.specs.declared.Files.{Files}
 use Rattle.sqlite_wal.specs.Files.{outcomes}
 use Rattle.sqlite_wal.specs.Reads.{AreClean}
-use Rattle.sqlite_wal.specs.Recovery.{Image}
 use Rattle.sqlite_pool.specs.Pool.{files, state}
 use Rattle.sqlite_pool.specs.declared.pool.Pool.{Pool}
 use Rattle.sqlite_trees.proofs.Doubt.{no_doubt}
-use Rattle.sqlite_trees.specs.View.{doubt}
-
--- two that follow from two that are true are true
-pub both_before : (a b c d : Bool) → (IsTrue c → IsTrue a) → (IsTrue d → IsTrue b) → IsTrue (c && d) → IsTrue (a && b)
-both_before a b c d first second both = let parts = and_parts c d both in and_from a b (first parts.0) (second parts.1)
+use Rattle.sqlite_trees.specs.View.{doubt, IsClean}
+use Rattle.sqlite_store.specs.FileStore as store
+use Rattle.sqlite_store.specs.declared.store.FileStore.{FileStore}
+use Rattle.sqlite.specs.Files.{HoldsDatabase}
+use Rattle.sqlite.specs.Recovery.{Image}
+use Rattle.sqlite.specs.Tree.{Trees}
+use Rattle.std.specs.Prelude.{ℕ}
+use Rattle.office_tables.specs.Prelude.{Tables}
+use Rattle.office_store.specs.Prelude.{IsOfSite, HasTablesOf}
+use Rattle.office_restart.specs.Crashing.{LeaveStore}
 
 module _ {D : Type 0} {g : Ghosts D} (it : Pool D g) (clean : AreClean g (files it).0 (files it).1) where
   pub is_clean : doubt (state it).is_clean ≡ 0
@@ -22,3 +26,22 @@ module _ {D : Type 0} {g : Ghosts D} (it : Pool D g) (clean : AreClean g (files 
   pub leaves : (left : Image) → outcomes g (files it).0 (files it).1 left → (state it).may_leave left
   unfolding state files
   leaves left outcome = (clean, outcome)
+
+-- whatever a crash leaves of the files of a store that was ended is what the store could leave
+pub left_of_store : {D : Type 0} {g : Ghosts D} (it : FileStore D g) (stopped : Files D) (site : List ℕ) (may_leave : Tables → Type 0)
+    → (stopped.log, stopped.db) ≡ store.files it
+    → (IsClean (store.view it) → (left : Image) → (store.state it).may_leave left
+    → ∥ ((db : Trees) × HoldsDatabase left db × IsOfSite site db) ∥₁)
+    → (IsClean (store.view it) → (left : Image) → (store.state it).may_leave left
+    → (tables : Tables) → HasTablesOf left tables → ∥ may_leave tables ∥₁)
+    → AreClean g stopped.log stopped.db → LeaveStore g stopped site may_leave
+left_of_store {D} {g} it stopped site may_leave same held found calm =
+    let was = subst (λ p. AreClean g p.0 p.1) same calm in
+    record {
+      held = λ image may.
+          held (is_clean it.pool was) image
+          (leaves it.pool was image (subst (λ p. outcomes g p.0 p.1 image) same may));
+      found = λ image may.
+          found (is_clean it.pool was) image
+          (leaves it.pool was image (subst (λ p. outcomes g p.0 p.1 image) same may));
+    }

@@ -1,1 +1,2 @@
 mod Crashed
+mod OneRun

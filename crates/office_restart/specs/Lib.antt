@@ -1,2 +1,3 @@
 -- What the contracts of this crate are made of.
+pub mod Crashing
 pub mod Restarting

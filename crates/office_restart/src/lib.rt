@@ -1,10 +1,10 @@
-//! A store in files that crashes, is opened again and goes on.
+//! A store in files that answers requests, crashes, is opened again and goes on.
 #![tactic(auto)]
 
 mod crashing;
 mod opening;
 mod restarted;
 
-pub use crashing::crash;
+pub use crashing::{Crashable, crash, crash_files};
 pub use opening::open_files;
-pub use restarted::{Restarted, Unserved, replay_through_crash};
+pub use restarted::{Restarted, Stopped, Unserved, replay_through_crash, replay_until_stop};

@@ -5,17 +5,18 @@ ghost use Rattle.sqlite.specs.Files.{over_files};
 ghost use Rattle.site_core.specs.Prelude.{IsSeatCaller, IsGrowth, PoolsDisjoint, ownership_of, IsSite};
 ghost use Rattle.office_laws.specs.Prelude.{IsSeat};
 ghost use Rattle.office_core.specs.Prelude.{KeepsPromises, calls_in, exchanges_in};
+ghost use Rattle.sqlite_wal.specs.Reads.{AreClean};
 ghost use Rattle.office_store.specs.Prelude.{is_honest_at};
-ghost use Rattle.office_restart.specs.Restarting.{GoesOn};
+ghost use Rattle.office_restart.specs.Restarting.{GoesOn, IsStopped};
 
-use crate::crashing::crash;
+use crate::crashing::{Crashable, crash, crash_files};
 use crate::opening::open_files;
 use http_replies::Reply;
-use office_core::{Keep, SeatRequest, Unkept, replay, stopped_stores_go_on};
-use office_store::{OpenFault, SqlKeep};
+use office_core::{Keep, SeatRequest, Unkept, replay};
+use office_store::{OpenFault, SqlKeep, into_store};
 use site_core::SiteText;
 use sqlite::{FileStore, Files, Options};
-use sqlite_disk::{Crash, Disk};
+use sqlite_disk::Disk;
 use std::alloc::Global;
 use thiserror::Error;
 
@@ -34,6 +35,14 @@ impl From<Unkept> for Unserved {
     fn from(_: Unkept) -> Self {
         Unserved::NoRoom
     }
+}
+
+/// What requests got, and the files as the store left them.
+pub struct Stopped<D: Disk> {
+    /// The replies.
+    pub replies: Vec<Reply>,
+    /// The files, whose store is ended.
+    pub files: Files<D>,
 }
 
 /// What requests got, and the store after them.
@@ -67,6 +76,43 @@ fn replay_text<K: Keep>(
     replay(alloc, keep, site.site(), requests)
 }
 
+/// Answers requests of a site's seats over the store in files, and hands back the files, as a stop
+/// behind the last of them finds them.
+///
+/// Where the disks return what was written, what was answered is there whatever a crash leaves of the
+/// files, and so may be one step more, of a request that was answered 503 since the last one that wasn't.
+///
+/// # Errors
+///
+/// The store isn't opened, or there is no memory for the replies. The files are closed then.
+pub fn replay_until_stop<D: Disk + Drop>(
+    alloc: Global,
+    files: Files<D>,
+    options: Options,
+    site: &SiteText,
+    requests: &[SeatRequest],
+) -> Result<Stopped<D>, Unserved>
+    requires log { IsTrue (D.Disk.is_usable files.log) }
+    requires db { IsTrue (D.Disk.is_usable files.db) }
+    requires callers { All (λ asked. IsSeatCaller site.now.site asked.caller) requests.now }
+    ensures count { IfOk result (λ done. length done.replies.items ≡ length requests.now) }
+    ensures site { IfOk result (λ _. IsSite site.now.site) }
+    ensures apart { IfOk result (λ _. PoolsDisjoint (ownership_of site.now.site)) }
+    ensures seats { IfOk result (λ _.
+        AllByRecursion (IsSeat (ownership_of site.now.site)) (calls_in site.now.site requests.now)) }
+    ensures run { IfOk result (λ done. AreClean D.Disk done.files.log done.files.db
+        → IsStopped D.Disk (ownership_of site.now.site) files
+        (exchanges_in site.now.site requests.now done.replies.items) done.files) }
+{
+    let mut keep = open_files(alloc, files, options, site)?;
+    let replies = replay_text(alloc, &mut keep, site, requests);
+    let files = into_store(keep).close();
+    match replies {
+        Ok(replies) => Ok(Stopped { replies, files }),
+        Err(_) => Err(Unserved::NoRoom),
+    }
+}
+
 /// Answers requests of a site's seats over the store in files, until these crash; opens what is left
 /// for the site as it stands then, which may have grown, and answers more requests over it.
 ///
@@ -82,7 +128,7 @@ fn replay_text<K: Keep>(
 ///
 /// The store isn't opened, before or after the crash, or there is no memory for the replies. The files
 /// are closed then.
-pub fn replay_through_crash<D: Crash + Drop>(
+pub fn replay_through_crash<D: Crashable + Drop>(
     alloc: Global,
     files: Files<D>,
     options: Options,
@@ -99,24 +145,19 @@ pub fn replay_through_crash<D: Crash + Drop>(
     ensures count { IfOk result (λ done. (length done.before.items ≡ length first.now)
         × (length done.after.items ≡ length second.now)) }
     ensures run { IfOk result (λ done. is_honest_at over_files done.keep.conn
-        → ∥ GoesOn D.Disk (ownership_of site.now.site) (ownership_of grown.now.site) files
+        → ∥ GoesOn D.Disk D.Crashable.crashed site.now grown.now files
         (exchanges_in site.now.site first.now done.before.items)
-        (exchanges_in grown.now.site second.now done.after.items) done.keep.conn ∥₁) }
+        (exchanges_in grown.now.site second.now done.after.items) done.keep ∥₁) }
 {
-    let mut opened = open_files(alloc, files, options, site)?;
-    let before = replay_text(alloc, &mut opened, site, first);
-    let left = crash(opened);
-    let before = before?;
+    let Stopped { replies, files } = replay_until_stop(alloc, files, options, site, first)?;
+    let left = crash_files(files);
     let mut keep = open_files(alloc, left, options, grown)?;
     match replay_text(alloc, &mut keep, grown, second) {
-        Ok(after) => {
-            stopped_stores_go_on::<SqlKeep<FileStore<D>>, SqlKeep<FileStore<D>>>();
-            Ok(Restarted {
-                before,
-                after,
-                keep,
-            })
-        }
+        Ok(after) => Ok(Restarted {
+            before: replies,
+            after,
+            keep,
+        }),
         Err(_) => {
             drop(crash(keep));
             Err(Unserved::NoRoom)

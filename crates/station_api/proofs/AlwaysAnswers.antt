@@ -3,7 +3,8 @@ use Rattle.std.proofs.Common.{◌≡◌, false, Option, Some, None, refl, Result
 use Rattle.http_frames.specs.Prelude.{Request as HttpRequest}
 use Rattle.http_replies.specs.Prelude.{Answer, is_unavailable}
 use Rattle.site_core.specs.Prelude.{seat_name_at, section_at, ownership_of, SiteValue}
-use Rattle.station_api.proofs.Types.{Caller, Seat, Manager, SeatCaller, Refusal, UnknownToken, Parsed, Office, Report, SiteReport}
+use Rattle.station_api.proofs.Types.{Caller, Seat, Manager, SeatCaller, Refusal, Parsed, Office, Report, SiteReport}
+use Rattle.office_commands.specs.declared.refusal.Refusal.TheVariants.{UnknownToken}
 use Rattle.office_tables.specs.Prelude.{Tables}
 use Rattle.office_commands.specs.Prelude.{refusal}
 use Rattle.office_laws.proofs.Served.{step_is_served}

@@ -4,10 +4,12 @@ use Rattle.std.specs.List.{AllByRecursion}
 use Rattle.http_frames.specs.Prelude.{Request as HttpRequest}
 use Rattle.http_replies.specs.Prelude.{Answer, is_unavailable}
 use Rattle.site_core.specs.Prelude.{seat_name_at, section_at, SiteValue}
-use Rattle.station_api.proofs.Types.{Caller, Seat, Manager, Ghosts, Refusal, UnknownToken, UnknownPath, WrongCaller, BadJson, BadMember, WrongNumber, OtherBody}
-use Rattle.station_api.proofs.Types.{UnknownMap, UnknownOrder, UnknownDevice, WrongState, BadPlan, QuantityReached, CodingScheme, BadReadback, BadNotBefore}
-use Rattle.station_api.proofs.Types.{Exists, BadMap, BadSerial, NumberTooWide, Exhausted, NoMacRoom, RangeOverlap, KeyBound, ForeignIssuer, ImportConflict}
-use Rattle.station_api.proofs.Types.{MapDigestTaken, Limit, Unkept, Parsed}
+use Rattle.station_api.proofs.Types.{Caller, Seat, Manager, Ghosts, Refusal, Parsed}
+use Rattle.office_commands.specs.declared.refusal.Refusal.TheVariants.{BadJson, BadMap, BadMember, BadNotBefore, BadPlan, BadReadback, BadSerial, CodingScheme}
+use Rattle.office_commands.specs.declared.refusal.Refusal.TheVariants.{Exhausted, Exists, ForeignIssuer, ImportConflict, KeyBound, Limit, MapDigestTaken}
+use Rattle.office_commands.specs.declared.refusal.Refusal.TheVariants.{NoMacRoom, NumberTooWide, OtherBody, QuantityReached, RangeOverlap, Unkept}
+use Rattle.office_commands.specs.declared.refusal.Refusal.TheVariants.{UnknownDevice, UnknownMap, UnknownOrder, UnknownPath, UnknownToken, WrongCaller}
+use Rattle.office_commands.specs.declared.refusal.Refusal.TheVariants.{WrongNumber, WrongState}
 use Rattle.office_tables.specs.Prelude.{Tables, ReadsOnly}
 use Rattle.office_tables.specs.declared.keep.Unkept.{Unkept as NoAnswer}
 use Rattle.office_commands.specs.Prelude.{refusal_status, refusal}

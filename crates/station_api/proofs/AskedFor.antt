@@ -13,8 +13,11 @@ use Rattle.json_members.specs.Prelude.{chip_member, digest_member, json_of, name
 use Rattle.http_frames.specs.Prelude.{path_of, query_of, Request as HttpRequest}
 use Rattle.http_replies.specs.Prelude.{is_unavailable}
 use Rattle.fuse_plan.specs.Prelude.{number_of_text}
-use Rattle.station_api.proofs.Types.{Want, Wish, Action, Plan, ReadBack, Scrap, Ship, Request, Refusal, BadJson, BadMember, Show, Parsed, Office, Report}
-use Rattle.station_api.proofs.Types.{SiteReport, Posted, Route, Posts, Shows, Reports, ReportsSite, Kind, Bit, Value, Key, WriteLock, ReadLock}
+use Rattle.station_api.proofs.Types.{Want, Wish, Action, Request, Refusal, Show, Parsed, Office, Report, SiteReport, Posted, Route, Kind}
+use Rattle.office_commands.specs.declared.command.Action.TheVariants.{Plan, ReadBack, Scrap, Ship}
+use Rattle.office_commands.specs.declared.refusal.Refusal.TheVariants.{BadJson, BadMember}
+use Rattle.station_api.specs.declared.parse.Route.TheVariants.{Posts, Reports, ReportsSite, Shows}
+use Rattle.station_api.specs.declared.plan.Kind.TheVariants.{Bit, Key, ReadLock, Value, WriteLock}
 use Rattle.fuse_plan.specs.declared.wish.Want.TheVariants as want
 use Rattle.office_commands.specs.Prelude.{HasDigest, IsAction, IsAsked, refusal_status, IsNewOrder, largest_whole}
 use Rattle.station_api.specs.Prelude.{act_members, act_of, blocks_member, new_device_of, register_device_of, with_block_digests, identify_of, new_identity_of}

@@ -6,7 +6,8 @@ use Rattle.http_replies.specs.Prelude.{Answer, is_unavailable}
 use Rattle.text_core.specs.Prelude.{Runs}
 use Rattle.text_core.proofs.MachineLemmas.{runs_both}
 use Rattle.site_core.specs.Prelude.{Ownership, seat_name_at, section_at, section_in, ownership_of, SiteValue, IsSite}
-use Rattle.station_api.proofs.Types.{Caller, Seat, Manager, SeatCaller, Refusal, Unkept, Parsed, Office, Report, SiteReport}
+use Rattle.station_api.proofs.Types.{Caller, Seat, Manager, SeatCaller, Refusal, Parsed, Office, Report, SiteReport}
+use Rattle.office_commands.specs.declared.refusal.Refusal.TheVariants.{Unkept}
 use Rattle.site_core.proofs.Owners.{owners_apart, seat_owned, section_owned}
 use Rattle.office_tables.specs.Prelude.{Stands, Tables}
 use Rattle.office_tables.specs.declared.keep.Keep.{Ghosts}
@@ -61,7 +62,7 @@ exchange_runs site (Some (Seat caller)) r t reply t2 made =
     (t2, seat_passes site caller (parse_request of_seat r) t reply t2 made, refl)
 
 -- and what all are answered is a run
-run_of : (site : SiteValue) (exchanges : List (HttpRequest × Answer)) (t t2 : Tables)
+pub run_of : (site : SiteValue) (exchanges : List (HttpRequest × Answer)) (t t2 : Tables)
     → Runs (AnswersHttp site) t exchanges t2 → IsRun (exchanges_with_seats site exchanges) t t2
 run_of site [] t t2 run = run
 run_of site (exchange ∷ exchanges) t t2 run =
@@ -99,7 +100,7 @@ module _ (site : SiteValue) (w : IsSite site) where
         tt,
       )
 
-  seats_of : (exchanges : List (HttpRequest × Answer))
+  pub seats_of : (exchanges : List (HttpRequest × Answer))
       → AllByRecursion (IsSeatOf (ownership_of site)) (calls_of (exchanges_with_seats site exchanges))
   seats_of [] = tt
   seats_of (exchange ∷ exchanges) =
@@ -127,7 +128,7 @@ run_kept r =
     kept r.site r.is_site r.exchanges r.old r.new
     (sound_grown r.first (ownership_of r.site) r.old r.grew r.is_sound) r.is_run
 
-seats_alone : (site : Ownership) (cs : List Call) → AllByRecursion (IsSeatOf site) cs → AllByRecursion (IsSeat site) cs
+pub seats_alone : (site : Ownership) (cs : List Call) → AllByRecursion (IsSeatOf site) cs → AllByRecursion (IsSeat site) cs
 seats_alone site [] all = tt
 seats_alone site (c ∷ cs) all = (all.0.1, seats_alone site cs all.1)
 

@@ -4,6 +4,7 @@ mod Answering
 mod AskedFor
 mod Identities
 pub mod KeptRuns
+pub mod Living
 mod Members
 mod NameTexts
 mod OwnCalls

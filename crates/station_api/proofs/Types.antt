@@ -2,7 +2,6 @@
 pub use Rattle.fuse_plan.specs.declared.wish.Want.{Want}
 pub use Rattle.fuse_plan.specs.declared.wish.Wish.{Wish}
 pub use Rattle.office_commands.specs.declared.command.Action.{Action}
-pub use Rattle.office_commands.specs.declared.command.Action.TheVariants.{Plan, ReadBack, Scrap, Ship}
 pub use Rattle.office_commands.specs.declared.command.Request.{Request}
 pub use Rattle.office_commands.specs.declared.command.Show.{Show}
 pub use Rattle.office_commands.specs.declared.new_device.NewDevice.{NewDevice}
@@ -10,11 +9,6 @@ pub use Rattle.office_commands.specs.declared.new_identity.NewIdentity.{NewIdent
 pub use Rattle.office_commands.specs.declared.new_identity.NewImport.{NewImport}
 pub use Rattle.office_commands.specs.declared.new_order.NewOrder.{NewOrder}
 pub use Rattle.office_commands.specs.declared.refusal.Refusal.{Refusal}
-pub use Rattle.office_commands.specs.declared.refusal.Refusal.TheVariants.{BadJson, BadMap, BadMember, BadNotBefore, BadPlan, BadReadback, BadSerial}
-pub use Rattle.office_commands.specs.declared.refusal.Refusal.TheVariants.{CodingScheme, Exhausted, Exists, ForeignIssuer, ImportConflict, KeyBound, Limit}
-pub use Rattle.office_commands.specs.declared.refusal.Refusal.TheVariants.{MapDigestTaken, NoMacRoom, NumberTooWide, OtherBody, QuantityReached, RangeOverlap}
-pub use Rattle.office_commands.specs.declared.refusal.Refusal.TheVariants.{Unkept, UnknownDevice, UnknownMap, UnknownOrder, UnknownPath, UnknownToken}
-pub use Rattle.office_commands.specs.declared.refusal.Refusal.TheVariants.{WrongCaller, WrongNumber, WrongState}
 pub use Rattle.office_tables.specs.declared.keep.Keep.{Ghosts}
 pub use Rattle.site_core.specs.declared.site.Caller.{Caller}
 pub use Rattle.site_core.specs.declared.site.Caller.TheVariants.{Manager, Seat}
@@ -23,6 +17,4 @@ pub use Rattle.station_api.specs.declared.parse.Parsed.{Parsed}
 pub use Rattle.station_api.specs.declared.parse.Parsed.TheVariants.{Office, Report, SiteReport}
 pub use Rattle.station_api.specs.declared.parse.Posted.{Posted}
 pub use Rattle.station_api.specs.declared.parse.Route.{Route}
-pub use Rattle.station_api.specs.declared.parse.Route.TheVariants.{Posts, Reports, ReportsSite, Shows}
 pub use Rattle.station_api.specs.declared.plan.Kind.{Kind}
-pub use Rattle.station_api.specs.declared.plan.Kind.TheVariants.{Bit, Key, ReadLock, Value, WriteLock}

@@ -14,4 +14,5 @@ pub mod HttpAnswers
 pub mod SectionExchanges
 pub mod Books
 pub mod SiteRuns
+pub mod Lives
 pub mod Prelude

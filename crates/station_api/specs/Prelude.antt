@@ -11,6 +11,7 @@ pub use Rattle.station_api.specs.Identity.{identity_digest, identity_members, ke
 unfoldable pub use Rattle.station_api.specs.Identity.{identify_of, new_identity_of}
 pub use Rattle.station_api.specs.Import.{import_digest, import_members}
 unfoldable pub use Rattle.station_api.specs.Import.{import_of, new_import_of}
+pub use Rattle.station_api.specs.Lives.{AreLives, exchanges_of_lives, IsLifeOf, Life, ServedStore, sites_of_lives}
 pub use Rattle.station_api.specs.Map.{map_digest, map_members}
 unfoldable pub use Rattle.station_api.specs.Map.{import_map_of}
 pub use Rattle.station_api.specs.Number.{number_member}

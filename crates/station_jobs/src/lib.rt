@@ -7,6 +7,7 @@ mod ends;
 mod failure;
 mod file_text;
 mod job;
+mod lives;
 mod map_file;
 mod patience;
 mod private;
@@ -18,6 +19,7 @@ mod stored;
 
 pub use failure::Failure;
 pub use job::{Job, StoreName, WordsFault, job_from_env, read_job};
+pub use lives::served_files_have_lives;
 pub use patience::Bounds;
 pub use reporting::report;
 pub use running::run;

@@ -1,37 +1,30 @@
 use Rattle.std.proofs.Common.{subst}
-use Rattle.sqlite.specs.Files.{image_of}
-use Rattle.sqlite_wal.specs.Files.{outcomes}
 use Rattle.sqlite_wal.specs.Reads.{AreClean}
-use Rattle.office_restart.proofs.Crashed.{both_before, is_clean, leaves}
+use Rattle.office_store.specs.Prelude.{may_leave_at}
+use Rattle.sqlite.specs.Files.{over_files}
+use Rattle.office_restart.proofs.Crashed.{is_clean, left_of_store}
 use Rattle.office_restart.proofs.crashing.crash.Goals as goal
 
 pub returns-clause-was_honest : goal.returns-clause-was_honest
 returns-clause-was_honest g c = λ clean.
-    let back = both_before (g.D.Disk.is_clean c.close-files.result.log)
-    (g.D.Disk.is_clean c.close-files.result.db) (g.D.Disk.is_clean c.crash.new.self)
-    (g.D.Disk.is_clean c.crash-2.new.self) c.crash.ensures.clean c.crash-2.ensures.clean clean
-    in
-    let was = subst (λ p. AreClean g.D.Disk p.0 p.1) c.close-files.ensures back in
+    let was = subst (λ p. AreClean g.D.Disk p.0 p.1) c.close-stopped.ensures (c.crash_files.ensures.was_honest clean) in
     c.into_store.ensures.was_honest (is_clean c.into_store.result.pool was)
 
-pub returns-clause-held : goal.returns-clause-held
-returns-clause-held g c = λ clean.
-    let back = both_before (g.D.Disk.is_clean c.close-files.result.log)
-    (g.D.Disk.is_clean c.close-files.result.db) (g.D.Disk.is_clean c.crash.new.self)
-    (g.D.Disk.is_clean c.crash-2.new.self) c.crash.ensures.clean c.crash-2.ensures.clean clean
-    in
-    let was = subst (λ p. AreClean g.D.Disk p.0 p.1) c.close-files.ensures back in
-    let image = image_of g.D.Disk (record { log = c.crash.new.self; db = c.crash-2.new.self }) in
-    let left = subst (λ p. outcomes g.D.Disk p.0 p.1 image) c.close-files.ensures (c.crash.ensures.left, c.crash-2.ensures.left) in
-    c.into_store.ensures.held (is_clean c.into_store.result.pool was) image (leaves c.into_store.result.pool was image left)
+pub returns-clause-crashed : goal.returns-clause-crashed
+returns-clause-crashed g c = record {
+  stopped = c.close-stopped.result;
+  are_crashed = c.crash_files.ensures.crashed;
+  leaves = λ clean.
+      left_of_store c.into_store.result c.close-stopped.result c.args.keep.site (may_leave_at over_files c.args.keep.conn)
+      c.close-stopped.ensures c.into_store.ensures.held c.into_store.ensures.found (c.crash_files.ensures.was_honest clean);
+}
 
-pub returns-clause-found : goal.returns-clause-found
-returns-clause-found g c = λ clean.
-    let back = both_before (g.D.Disk.is_clean c.close-files.result.log)
-    (g.D.Disk.is_clean c.close-files.result.db) (g.D.Disk.is_clean c.crash.new.self)
-    (g.D.Disk.is_clean c.crash-2.new.self) c.crash.ensures.clean c.crash-2.ensures.clean clean
+pub returns-clause-leaves : goal.returns-clause-leaves
+returns-clause-leaves g c = λ clean.
+    let stopped = left_of_store c.into_store.result c.close-stopped.result c.args.keep.site (may_leave_at over_files c.args.keep.conn)
+    c.close-stopped.ensures c.into_store.ensures.held c.into_store.ensures.found (c.crash_files.ensures.was_honest clean)
     in
-    let was = subst (λ p. AreClean g.D.Disk p.0 p.1) c.close-files.ensures back in
-    let image = image_of g.D.Disk (record { log = c.crash.new.self; db = c.crash-2.new.self }) in
-    let left = subst (λ p. outcomes g.D.Disk p.0 p.1 image) c.close-files.ensures (c.crash.ensures.left, c.crash-2.ensures.left) in
-    c.into_store.ensures.found (is_clean c.into_store.result.pool was) image (leaves c.into_store.result.pool was image left)
+    record {
+      held = λ image may. stopped.held image (c.crash_files.ensures.no_more image may);
+      found = λ image may. stopped.found image (c.crash_files.ensures.no_more image may);
+    }

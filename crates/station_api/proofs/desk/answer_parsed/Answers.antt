@@ -29,10 +29,10 @@ returns-in-Seat-Office g c =
             leaves_more [] x request t t over.0 (g.K.Keep.may_leave c.args.keep.now) (g.K.Keep.may_leave c.args.keep.now)
                 (g.K.Keep.may_leave c.answer.new.keep) (g.K.Keep.is_open c.answer.new.keep) refl over.1
                 (leaves_none (g.K.Keep.may_leave c.args.keep.now) t) (c.answer.ensures.stays_open honest)
-                (λ opened left leaves. g.met.K.Keep.only_committed c.answer.new.keep left opened leaves ∙ over.5 opened)
+                (λ opened left leaves. g.met.K.Keep.only_committed c.answer.new.keep left opened leaves ∙ over.6 opened)
                 (λ left leaves. or_then (c.answer.ensures.crash honest left leaves)
                 (λ made. (made.1, subst (λ (m : Tables). Step (section_at site seat) (seat_name_at site seat) m request made.1 left) (stands made.0) made.2))),
-            over.5,
+            over.6,
           );
     })
 

@@ -1,0 +1,10 @@
+use Rattle.station_api.proofs.Living.{open_life, stopped_life}
+use Rattle.station_api.proofs.laws.served_stores_have_lives.Goals as goal
+
+pub returns-clause-stopped : goal.returns-clause-stopped
+returns-clause-stopped g c = λ s left honest may.
+    stopped_life g.K.Keep s (λ up. s.fresh (g.K.Keep.tables s.opened) (g.met.K.Keep.stands s.opened up)) honest left may
+
+pub returns-clause-in_order : goal.returns-clause-in_order
+returns-clause-in_order g c = λ s up.
+    open_life g.K.Keep s (λ begun. s.fresh (g.K.Keep.tables s.opened) (g.met.K.Keep.stands s.opened begun)) (g.met.K.Keep.clean s.ended up) up
