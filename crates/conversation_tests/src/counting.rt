@@ -65,6 +65,10 @@ impl Keep for CountingKeep {
 
     ghost may_leave = { λ k. ⟦<MemKeep as Keep>⟧.may_leave k.keep };
 
+    fn fact_in_order(&self) {
+        self.keep.fact_in_order();
+    }
+
     fn seat(&mut self, name: &Name) -> Result<Option<SeatRow>, Unkept> {
         self.keep.seat(name)
     }
