@@ -28,6 +28,7 @@ from wanekupo_station import (
     commands,
     key,
     rlock,
+    rows_of,
     value,
     wlock,
 )
@@ -109,8 +110,30 @@ def _settle(station: Station, args: argparse.Namespace) -> Any:
     return station.get("/v1/device", chip=args.chip)
 
 
-def _import(station: Station, args: argparse.Namespace) -> None:
-    station.post("/v1/import", {"issuer": args.issuer, "csv": _text_of(args.file)})
+class Progress:
+    """How far long work is: a line on standard error, where that is a terminal."""
+
+    def __init__(self, what: str):
+        self.what, self.is_shown = what, False
+
+    def __call__(self, done: int, of: int) -> None:
+        if sys.stderr.isatty():
+            print(f"\r{self.what}: {done} of {of}", end="", file=sys.stderr, flush=True)
+            self.is_shown = True
+
+    def __enter__(self) -> Progress:
+        return self
+
+    def __exit__(self, *_: Any) -> None:
+        if self.is_shown:
+            print(file=sys.stderr)
+
+
+def _import(station: Station, args: argparse.Namespace) -> Any:
+    rows = rows_of(_text_of(args.file))
+    with Progress("rows") as told:
+        done, before = station.import_all(args.issuer, rows, told)
+    return {"added": done.added, "before": before, "present": done.present}
 
 
 def _finish(station: Station, _: argparse.Namespace) -> Any:
@@ -125,7 +148,8 @@ def _number(station: Station, args: argparse.Namespace) -> Any:
 
 
 def _restore(station: Station, args: argparse.Namespace) -> Any:
-    return restore(station, args.journals)
+    with Progress("requests, serial numbers and devices") as told:
+        return restore(station, args.journals, told)
 
 
 def _issued(args: argparse.Namespace) -> str:
@@ -185,7 +209,7 @@ COMMANDS: list[tuple[str, str, Callable[..., Any], str]] = [
     ),
     ("ship", "chip", lambda it, args: it.ship(args.chip) and None, "ship a device"),
     ("scrap", "chip", lambda it, args: it.scrap(args.chip) and None, "scrap a device"),
-    ("import", "issuer file", _import, "import serial numbers"),
+    ("import", "issuer file", _import, "import serial numbers, any number of rows, in parts of 500; begun again it goes on"),
     ("show-order", "name", lambda it, args: it.get("/v1/order", name=args.name), "show an order"),
     ("device", "chip", lambda it, args: it.get("/v1/device", chip=args.chip), "show a device"),
     ("ledger", "chip", lambda it, args: it.get("/v1/ledger", chip=args.chip), "show a device's ledger"),

@@ -39,9 +39,15 @@ except ImportError:  # Windows, where nothing keeps two processes from one state
 # What a chip shows: its blocks, each a list of words of eight hexadecimal digits, block 0 and word 0 first.
 Blocks = list[list[str]]
 
+# Serial numbers, each with the SHA-256 of its key.
+Rows = list[tuple[str, str]]
+
 # The longest body that the server reads, and a number that no seat comes to.
 LONGEST_BODY = 65_536
 FAR = 2**53 - 1
+
+# The most rows of an import, and of its body's bytes those that they may have.
+MOST_ROWS, LONGEST_ROWS = 500, LONGEST_BODY - 1_024
 
 # The status of a reply that says that nothing was done, for now: the request is sent again, as for no reply. The pauses
 # between, in seconds, double.
@@ -327,6 +333,38 @@ def checked(chip: str, blocks: Blocks) -> Blocks:
 def bytes_of(block: Sequence[str]) -> bytes:
     """A block's bytes, the lowest of each word first."""
     return b"".join(bytes.fromhex(word)[::-1] for word in block)
+
+
+def csv_of(rows: Iterable[tuple[str, str]]) -> str:
+    """Serial numbers with the SHA-256 of their keys as an import has them."""
+    return "\n".join(["serial,key_sha256", *(f"{serial},{digest}" for serial, digest in rows), ""])
+
+
+def rows_of(text: str) -> Rows:
+    """The rows of such a text, of any length. A U+FEFF in front and blank lines are passed over."""
+    reader = csv.reader(io.StringIO(text.removeprefix("\ufeff")))
+    lines = [(reader.line_num, fields) for fields in reader if fields]
+    if not lines or lines[0][1] != ["serial", "key_sha256"]:
+        raise ValueError("the first line isn't serial,key_sha256")
+    for number, row in lines:
+        if len(row) != 2:
+            raise ValueError(f"line {number} has {len(row)} fields, and not 2")
+    return [(serial, digest) for _, (serial, digest) in lines[1:]]
+
+
+def parts_of(rows: Iterable[tuple[str, str]]) -> Iterator[Rows]:
+    """The rows in parts that an import takes, by their number and their length."""
+    part: Rows = []
+    length = 0
+    for serial, digest in rows:
+        more = len(json.dumps(f"{serial},{digest}\n"))
+        if part and (len(part) == MOST_ROWS or length + more > LONGEST_ROWS):
+            yield part
+            part, length = [], 0
+        part.append((serial, digest))
+        length += more
+    if part:
+        yield part
 
 
 def shows(blocks: Blocks, work: Work) -> bool:
@@ -680,11 +718,13 @@ class Station:
     @_in_turn
     def resynchronize(self) -> None:
         """Forgets the request under way, and goes on with the number that is expected: after a restore of the store, or
-        where a person knows why the seat was out of step. Whether that request was done, its device says."""
+        where a person knows why the seat was out of step. Whether that request was done, its device says. Where the
+        server expects a number that was already accepted, the last request is forgotten too: the store is an older one."""
         number = self.expected_number()
         if self._journal:
             self._journal.resynchronized(number)
-        self._keep(next=number, under_way=None)
+        is_older = number < (self._state["next"] or 0)
+        self._keep(next=number, under_way=None, last=None if is_older else self._state["last"])
 
     # Commands.
 
@@ -731,8 +771,35 @@ class Station:
 
     def import_serials(self, issuer: str, rows: Iterable[tuple[str, str]]) -> Imported:
         """Serial numbers that were handed out elsewhere, with the SHA-256 of their keys; 500 at the most."""
-        lines = ["serial,key_sha256", *(f"{serial},{digest}" for serial, digest in rows), ""]
-        return _made(Imported, self.post("/v1/import", {"issuer": issuer, "csv": "\n".join(lines)}))
+        return _made(Imported, self.post("/v1/import", {"issuer": issuer, "csv": csv_of(rows)}))
+
+    def import_all(
+        self, issuer: str, rows: Iterable[tuple[str, str]], told: Callable[[int, int], None] = lambda done, of: None
+    ) -> tuple[Imported, int]:
+        """Any number of such rows, in parts, and how many of the first ones an earlier call had sent. It may be stopped
+        anywhere and called again with the same rows: the part under way, or the one behind the last, is gone on with.
+        `told` gets how many rows are done, of how many."""
+        parts = list(parts_of(rows))
+        of, done, added, present = sum(map(len, parts)), 0, 0, 0
+        begin = self._part_to_begin(issuer, parts)
+        before = sum(map(len, parts[:begin]))
+        for part in parts[begin:]:
+            told(before + done, of)
+            reply = self.import_serials(issuer, part)
+            done, added, present = done + len(part), added + reply.added, present + reply.present
+        told(of, of)
+        return Imported(added, present), before
+
+    def _part_to_begin(self, issuer: str, parts: Sequence[Rows]) -> int:
+        """The place of the part under way, or of the one behind the last that was accepted; 0 where there is none."""
+        texts = [csv_of(part) for part in parts]
+        for name, more in (("under_way", 0), ("last", 1)):
+            asked = self._state[name]
+            if asked and asked["path"] == "/v1/import":
+                members = _members_of(asked)
+                if members["issuer"] == issuer and members["csv"] in texts:
+                    return (texts.index(members["csv"]) + more) % len(texts)
+        return 0
 
     def order(self, name: str) -> Order:
         """An order, which is refused as 14 where there is none."""

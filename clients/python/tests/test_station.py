@@ -86,6 +86,13 @@ def rows(text):
     return [(serial, hashlib.sha256(serial.encode()).hexdigest()) for serial in text.split()]
 
 
+class Terminal(io.StringIO):
+    """What is written to a terminal."""
+
+    def isatty(self):
+        return True
+
+
 class Commands(StationCase):
     def test_the_life_of_a_chip(self):
         """Each reply is as FORMATS says, over a chip behind the words of espefuse."""
@@ -206,6 +213,44 @@ class Commands(StationCase):
         life(station, self.chip())
         self.assertEqual(station.device(MAC).serial, "A999")
         self.assertIsNone(station.order("o1").next)
+
+    def test_long_imports(self):
+        """Any number of rows go in parts. One that was stopped goes on: with the part under way, or behind the last."""
+        given, sent = rows(" ".join(f"L{row}" for row in range(1201))), []
+
+        def cut(done, of):
+            sent.append((done, of))
+            if len(sent) == 3:
+                raise KeyboardInterrupt
+
+        station = self.station()
+        with self.assertRaises(KeyboardInterrupt):
+            station.import_all("acme-ca", given, cut)
+        self.assertEqual(sent, [(0, 1201), (500, 1201), (1000, 1201)])
+        self.assertEqual(station.import_all("acme-ca", given), (Imported(201, 0), 1000))
+        self.assertEqual(station.import_all("acme-ca", given), (Imported(0, 1201), 0))
+        station.close()
+        more, proxy = rows(" ".join(f"M{row}" for row in range(600))), self.proxy(["lost reply"] * 9)
+        station = self.station(proxy.url, patience=0)
+        with self.assertRaises(NoReply):
+            station.import_all("acme-ca", more)
+        proxy.faults.clear()
+        self.assertEqual(station.import_all("acme-ca", more), (Imported(600, 0), 0))
+        self.assertEqual(station.import_all("acme-ca", []), (Imported(0, 0), 0))
+        longest = [(f"{row:064}", "0" * 64) for row in range(600)]
+        self.assertEqual([len(part) for part in client.parts_of(longest)], [485, 115])
+
+    def test_a_long_import_after_a_restore(self):
+        """The last part that was accepted isn't in an older store, so it goes on from the beginning."""
+        given = rows(" ".join(f"L{row}" for row in range(700)))
+        station = self.station()
+        station.import_map(MAP)
+        with mock.patch.object(client.Station, "expected_number", lambda it: 1):
+            with self.assertRaises(KeyboardInterrupt):
+                station.import_all("acme-ca", given, mock.Mock(side_effect=[None, KeyboardInterrupt]))
+            station.resynchronize()
+        station.resynchronize()
+        self.assertEqual(station.import_all("acme-ca", given), (Imported(200, 500), 0))
 
     def test_a_long_ledger_is_shown_whole(self):
         station = self.station()
@@ -615,6 +660,20 @@ class Words(StationCase):
         self.assertIn("CERTIFICATE_VERIFY_FAILED", err)
         told = (0, '{"expected":1,"own":null}\n', "")
         self.assertEqual(self.ran("--ca", str(self.folder / "ca.pem"), *words, url=proxy.url), told)
+
+    def test_an_import_of_a_file(self):
+        """Its rows in parts, with a line that says how far it is where standard error is a terminal."""
+        file = self.folder / "serials.csv"
+        lines = [f"{serial},{digest}\n" for serial, digest in rows(" ".join(f"L{row}" for row in range(501)))]
+        file.write_text("\ufeffserial,key_sha256\n\n" + "".join(lines), encoding="utf-8")
+        words = ["import", "acme-ca", str(file)]
+        self.assertEqual(self.ran(*words), (0, '{"added":501,"before":0,"present":0}\n', ""))
+        with mock.patch.object(io, "StringIO", Terminal):
+            told = "\rrows: 0 of 501\rrows: 500 of 501\rrows: 501 of 501\n"
+            self.assertEqual(self.ran(*words), (0, '{"added":0,"before":0,"present":501}\n', told))
+        for text, told in (("serial,key\n", "the first line isn't serial,key_sha256"), ("serial,key_sha256\n\nL1\n", "line 3 has 1 fields, and not 2")):
+            file.write_text(text, encoding="utf-8")
+            self.assertEqual(self.ran(*words)[::2], (2, f"ValueError: {told}\n"))
 
     def test_statuses(self):
         order = ["order", "o1", "acme-ca", "A", "--width", "3", "--first", "998", "--quantity", "2"]
