@@ -1,4 +1,4 @@
-"""The life of a chip as in docs/WALK.md, and the books after each of its requests, for refuse, powercut and grow.
+"""The life of a chip as in docs/WALK.md, and the books after each of its requests.
 
 One seat imports a map, makes an order with a hardware address for each serial number, registers a chip, plans,
 reads back twice, gives it an identity and ships it. The replies and the books are those of a run that nobody
