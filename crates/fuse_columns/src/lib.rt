@@ -1,6 +1,13 @@
-//! A chip's fuses as columns of bytes, the forms in which the tables of devices and of ledger entries
-//! keep them. By the chip's fuse map a set of positions, a table of keys or pending work becomes a
-//! column, and comes back from it as it was. Nothing here takes memory.
+//! A chip's fuses as columns of bytes, the forms in which the tables of devices and of ledger
+//! entries keep them. By the chip's fuse map a set of positions, a table of keys or pending work
+//! becomes a column, and comes back from it as it was. Nothing here takes memory.
+//!
+//! `encode_bits`, `encode_keys` and `encode_todo` give the bytes of the formats by the chip's map,
+//! and `decode_bits`, `decode_keys` and `decode_todo` what any bytes stand for, without a premise
+//! on them. Laws: what was encoded comes back as it was (`come_back`); what is decoded lies in the
+//! map's blocks outside key fields, its digests at key fields (`lie_in_map`); bytes of the right
+//! form come back from what they stand for, so no two of them stand for the same
+//! (`bytes_come_back`).
 #![tactic(auto)]
 
 mod bits;

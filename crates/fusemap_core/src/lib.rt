@@ -1,5 +1,15 @@
 //! Fuse maps: the blocks of a chip's one-time programmable fuses (eFuses), the fields in them, and
 //! the locks of the fields, as a text gives them.
+//!
+//! `read_map` gives the fuse map of a text, or the lowest of the faults 1 to 8, or want of memory:
+//! it accepts exactly the texts of valid maps (`exact`, `valid`, `refused`), and tells a text over
+//! its limit by its fault, never by want of memory (`too_long`). The fault of a text with all its
+//! members is that of a broken rule, and no rule with a lower number is broken (`lowest`).
+//!
+//! In a `FuseMap` each field lies in its block, no two fields share a name or a position, the lock
+//! fields can be it, each lock is a bit of its lock field, and a key field is a whole block with
+//! both locks. The readers (`field`, `field_at`, `write_lock`, `read_lock`, `is_governed`, ..) are
+//! those of the definitions, without memory.
 #![tactic(auto)]
 
 mod draft;

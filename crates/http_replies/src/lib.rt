@@ -1,4 +1,8 @@
-//! Replies of an HTTP/1.1 server with a body of JSON or CSV, and the bytes in front of their bodies (RFC 9110, RFC 9112).
+//! Replies of an HTTP/1.1 server with a body of JSON or CSV, and the bytes in front of their bodies
+//! (RFC 9110, RFC 9112).
+//!
+//! `reply_head` writes exactly the status line and fields of a reply into 256 bytes, without
+//! memory.
 #![tactic(auto)]
 
 ghost use Rattle.std.specs.Prelude.{◌≡◌, ◌<◌, ◌≤◌, length};

@@ -1,4 +1,23 @@
 //! Hardware addresses, ranges of serial numbers, key digests and records of identities.
+//!
+//! `Mac` reads and prints twelve hexadecimal digits. A `MacPool` is 1 to 2^24 individual addresses.
+//! `reserve` gives the lowest free block of the first pool that has one, and refuses only where
+//! each block of each pool meets a reserved interval; it takes no memory.
+//!
+//! `SerialRange::new` gives the range of a prefix, a width and consecutive numbers, or the lower of
+//! its two faults; `text` is the prefix with the padded number, and `meets` is true exactly where
+//! two ranges of one prefix and width share a number. Each number has a serial number of its own,
+//! and ranges of one prefix and two widths have none in common (`serials_are_distinct`).
+//!
+//! `next_serial_from` gives the least number that isn't below a cursor and whose serial number
+//! isn't given, by look-ups in any state that they are lent; `Exhausted` where there is none,
+//! `Unread` only where a look-up had no answer. Where nothing is free below the cursor that is the
+//! least of all (`cursor_skips_given`, `next_is_least`).
+//!
+//! An `IdevidRecord` has a serial number that is one, and no end of validity. `NotBefore::read`
+//! takes exactly the texts of 14 digits and a `Z` whose day the Gregorian calendar has (written out
+//! in `specs/Calendar`) and whose hour, minute and second are those of a day; it takes no memory. A
+//! `KeyDigest` is SHA-256 of a key's bytes.
 #![tactic(auto)]
 
 mod blocks;

@@ -1,4 +1,7 @@
 //! Bodies as JSON, and the members of a JSON value.
+//!
+//! `read_json` gives the JSON value of a body, or that there is none, or want of memory. Each
+//! reader of a member (`whole_member`, `text_member`, ..) is a function of that value.
 #![tactic(auto)]
 
 ghost use Rattle.std.specs.Prelude.{◌≡◌, ◌≤◌, IfOk, IfSome, Option, map, option_map};

@@ -1,4 +1,10 @@
 //! What a seat can ask for, and what it is answered.
+//!
+//! The body and the status of each refusal, and the JSON texts of an order, a map, a device, a
+//! plan, a verdict and a ledger, an identity, a state and an import, are exactly those of the
+//! formats. Each refusal's body tells its number (`Refusal::number`,
+//! `refusals_tell_their_numbers`). A request's number is 1 to 9007199254740991 by its type
+//! (`RequestNumber`).
 #![tactic(auto)]
 
 mod command;

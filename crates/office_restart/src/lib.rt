@@ -1,4 +1,18 @@
 //! A store in files that answers requests, crashes, is opened again and goes on.
+//!
+//! Over files of any disk that can crash `open_files` makes a keeper whose tables are those that
+//! the files hold (`tables`), and of which a crash leaves nothing else yet (`only_committed`).
+//! `crash_files` says that the files crashed (`crashed`, of which code over any disk knows nothing
+//! else), that what they hold then is one of the images that they could leave (`image`), and that a
+//! further crash leaves no other (`no_more`). `crash` ends a keeper before it does so: whatever a
+//! crash could leave of the files, and whatever a further one leaves (`crashed`, `leaves`), holds a
+//! store of the keeper's site (`held` of `LeaveStore`), and whoever opens it finds tables that the
+//! keeper could leave (`found`).
+//!
+//! `replay_until_stop` answers requests and hands back the files: of every image that a crash may
+//! leave of them it says what is found in it (`run`, `IsStopped`). `replay_through_crash` puts them
+//! together with two lists of requests (`run`, `GoesOn`). Not said: that the keeper is of the same
+//! site after the requests as when it was opened, since what any keeper says knows no site.
 #![tactic(auto)]
 
 mod crashing;

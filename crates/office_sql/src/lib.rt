@@ -1,4 +1,11 @@
 //! The tables of all customers in SQL: one function for each fixed statement.
+//!
+//! Over any store of the kit's `sqlite` each read answers the rows of the tables that it is for, or
+//! a fault, and changes nothing; a visit hands them on one at a time. `commit` makes all of its
+//! writes in one transaction, exactly, or none: the tables, the columns of each row to the byte
+//! (`WritesRows`), `meta` as it was, and a database that obeys its schema. Of what a crash leaves
+//! it says the same (`LeavesMade`). Texts of requests come into statements as parameters alone. The
+//! meaning of a database as tables is `specs/Rows` and `specs/Tables`.
 #![tactic(auto)]
 
 mod address;

@@ -1,4 +1,62 @@
 //! The keeper of the tables over SQL.
+//!
+//! `SqlKeep` meets every clause of `Keep`, that on crashes included, over any store of the kit's
+//! `sqlite` whose connection is ready.
+//!
+//! `adopt` makes such a connection of any: it reads the store anew, makes the eleven tables of an
+//! empty one in one transaction, and tests those of another. These are its schema column by column
+//! (`version_of`, exact: that of schema 1, 2 or 3), numbers below zero, one address in two records,
+//! the one row of `meta`, that each order and each record of schema 2 and 3 has its row of
+//! `order_start` or `given_start`, and of schema 3 that the one row of `site_text` has a text whose
+//! SHA-256 `meta` tells. A store of schema 1 or 2 has to tell the SHA-256 of this text, and is
+//! brought to schema 3, in one transaction; in one of schema 3 this text takes the place of the one
+//! that is held, with its SHA-256, in one transaction too.
+//!
+//! A keeper that it answers is open and ready on a clean disk, is of schema 3 and this site
+//! (`same_site`), and holds its text (`text`), which is a growth of the one that was held (`grown`)
+//! and in schema 1 and 2 has the SHA-256 that was told (`own`). What was committed was a database
+//! with no schema and nothing in it, or had the schema of a version and the one row of `meta` that
+//! tells it (`was`). The keeper has the tables that the connection had last committed (`tables`),
+//! which of a store of schema 1 have no beginning of validity (`unstarted`), and in which no two
+//! records have one address (`apart`).
+//!
+//! At a fault the connection or its store comes back (`refused`) with the tables that it had
+//! (`unchanged`). The fault of another site comes only with a held text of which this site is no
+//! growth or, in schema 1 and 2, with one row of `meta` that tells another SHA-256. That of other
+//! tables comes only with other tables (`HasOtherTables`), and always where the connection has
+//! another schema. Other tables are a schema that is neither empty nor of a version, a number of a
+//! map or of an entry below zero, one address in two records, a `meta` that hasn't one row of this
+//! version with the 32 bytes of a site, a start that lacks, or in schema 3 no one text in UTF-8
+//! that `meta` names. A store of which no connection can be had gets the fault of a failure.
+//!
+//! At each exit a crash leaves what the connection could leave before, or a whole store of schema 3
+//! and of this text with the tables of before (`crash`, `crash_left`): made of a database without a
+//! schema, upgraded from the schema of a version, or with another text than it held, so that a text
+//! which is held writes nothing.
+//!
+//! `open` opens a file by `open_from` of the kit and tests what it found, without a second audit.
+//! Its keeper has the tables of the database that the files held, or none where they held none
+//! (`tables`), without beginnings where that was of schema 1 (`unstarted`), with addresses that are
+//! apart (`apart`). It is open and of this site (`open`, `same_site`, `site`), and holds its text,
+//! a growth of the one that the files held (`text`, `grown`, `own`). They held a store of a
+//! version, or none where one is to be made (`was`); one that is made has no sums on its pages
+//! (`taken`).
+//!
+//! Where `open` answers a fault (`refused`), no file was opened, or a connection that was found in
+//! the files was turned away: where no store is to be made and there is no schema, for other tables
+//! and as it was; else for what it shows, as `adopt` says it, with the rows that were committed,
+//! and a crash leaves as little (`IsTurnedAway`). The connection is gone then, so that clause tells
+//! of one that there was.
+//!
+//! While a keeper lives, whatever a crash leaves is a store of its site that holds a text of that
+//! SHA-256 (`RemembersRight.left`, said by `into_connection`). Where it ends by `into_store`, the
+//! files hold such a store (`held`), and who opens them finds tables that the keeper could leave
+//! (`found`). `set_steps` sets the limit of steps and nothing else, and no other call changes it
+//! (`limit`).
+//!
+//! Not said: that fault 3 comes only where the store or memory failed; that nothing is made at a
+//! path with no file, or one of no bytes, where no store is to be made; that a keeper reads less
+//! than it might.
 #![tactic(auto)]
 
 mod addresses;

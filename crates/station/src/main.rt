@@ -1,4 +1,6 @@
 //! The server behind programming stations, as a program of the command line.
+//!
+//! It reads its words to a job, which `run` does, or `report`s why they are none.
 #![tactic(auto)]
 
 use sqlite_disk::Unknown;

@@ -1,4 +1,10 @@
 //! Small texts, columns of bytes, values in place and the reading of arrays, for each crate above.
+//!
+//! `Name`, `Prefix`, `Serial`, `Chip` and `Digest` are exactly the texts of their alphabets and
+//! lengths (`parse`), lie in place and take no memory; names, chips and digests are ordered as
+//! their bytes. A `ShortBytes` is up to so many bytes in place. `read_all` and `try_read_all` are
+//! the one loop over the items of an array: what a reader makes of each, or that it makes nothing
+//! of one.
 #![tactic(auto)]
 
 mod chip;

@@ -1,4 +1,7 @@
 //! Texts as TOML documents, and the members of their tables.
+//!
+//! `read_document` gives the TOML document of a text, or that it is none, or want of memory. Each
+//! reader of a member is a function of that document.
 #![tactic(auto)]
 
 ghost use Rattle.std.specs.Prelude.{◌≡◌, ◌≤◌, IfOk, IfSome, Option, map, option_map};
