@@ -1,7 +1,6 @@
 //! Tests of the server by conversations, over both keepers: each request gets its reply, whatever
-//! other customers ask, in streams and in lists. And those of stores in memory, which conversations
-//! are held over, too: which are adopted, what stands in their columns, what is served over those
-//! whose site grew and those of earlier schemas, and what few steps leave.
+//! other customers ask, in streams and in lists, and what few steps leave. And those of streams: where
+//! they end, in what pieces they come, and readers and writers that fail.
 #![tactic(auto)]
 
 #[cfg(test)]
@@ -13,8 +12,6 @@ mod counting;
 #[cfg(test)]
 mod digests;
 #[cfg(test)]
-mod grown_stores;
-#[cfg(test)]
 mod growths;
 #[cfg(test)]
 mod isolation;
@@ -25,9 +22,9 @@ mod parts;
 #[cfg(test)]
 mod seats;
 #[cfg(test)]
-mod stores;
+mod steps;
 #[cfg(test)]
-mod upgrades;
+mod streams;
 #[cfg(test)]
 mod visits;
 #[cfg(test)]

@@ -1,5 +1,6 @@
 //! A store's files with their bytes changed, and what is served over them.
-use crate::disks::{FilesCase, InFiles, NO_STOP, Store, opened_whole, over_files};
+use crate::disks::{FilesCase, InFiles, NO_STOP, Store, held_over, over_files};
+use crate::stops::killed_behind;
 use std::alloc::Global;
 use std::str;
 use std::test::Fail;
@@ -59,16 +60,13 @@ fn streams_of_conversation(alloc: Global, conversation: &str) -> Result<(Vec<u8>
 
 /// Makes a store of a device, which is closed or killed at the end.
 fn made_store<K: InFiles>(alloc: Global, is_closed: bool) -> Result<Store, Fail> {
-    let (stream, _) = streams_of_conversation(alloc, MADE_BY)?;
-    let mut keep: K = opened_whole(alloc, &Store::new(alloc))?;
-    let served = serve(alloc, &mut keep, stream.as_slice(), 4096);
-    let left = if is_closed {
-        keep.closed(alloc)
-    } else {
-        keep.stopped(alloc, false)
-    };
-    served?;
-    Ok(left.ok_or("the store isn't closed")?)
+    let making = exchanges(alloc, MADE_BY)?;
+    let new = Store::new(alloc);
+    if is_closed {
+        let (_, store) = held_over::<K>(alloc, &new, SITE, making.as_slice())?;
+        return Ok(store);
+    }
+    killed_behind::<K>(alloc, &new, SITE, making.as_slice())
 }
 
 /// What is written over a store for the requests of [`ASKED`], or nothing where it isn't opened.

@@ -8,8 +8,8 @@ use sqlite::{Alter, Connection, FileStore, Files, Options};
 use sqlite_disk::{Crash, Disk, Fuse, Memory};
 use std::alloc::Global;
 use std::test::Fail;
-use test_exchanges::conversation::difference_over;
-use test_exchanges::stores::telling;
+use test_exchanges::conversation::first_difference_for;
+use test_exchanges::stores::{rows_of, tell_of};
 use test_texts::conversations::plans::PLANS;
 use test_texts::conversations::{Exchange, exchanges};
 use test_texts::samples::SITE;
@@ -50,8 +50,13 @@ impl Store {
         }
     }
 
+    /// Whether another store has the same bytes.
+    pub fn is_same(&self, other: &Store) -> bool {
+        self.file.as_slice() == other.file.as_slice() && self.log.as_slice() == other.log.as_slice()
+    }
+
     /// The bytes of files, or none where there is no memory.
-    fn of(alloc: Global, files: &Files<Fuse<Memory>>) -> Option<Store> {
+    pub fn of(alloc: Global, files: &Files<Fuse<Memory>>) -> Option<Store> {
         Some(Store {
             file: files.db.inner().bytes().to_vec(alloc).ok()?,
             log: files.log.inner().bytes().to_vec(alloc).ok()?,
@@ -106,14 +111,9 @@ pub trait InFiles: Keep {
         stop: Stop,
     ) -> Result<Result<Self, Unopened>, Fail>;
 
-    /// The number that a query tells of files of these bytes once they are changed by SQL, and the bytes
-    /// that they leave where they are closed. Nothing else opens them.
-    fn changed(
-        alloc: Global,
-        store: &Store,
-        change: &str,
-        query: &str,
-    ) -> Result<(i64, Store), Fail>;
+    /// All that stands in files of these bytes once they are changed by SQL, as a text, and the bytes that
+    /// they leave where they are closed. Nothing else opens them.
+    fn changed(alloc: Global, store: &Store, change: &str) -> Result<(String, Store), Fail>;
 
     /// The bytes that it leaves where it is closed, or none where that fails.
     fn closed(self, alloc: Global) -> Option<Store>;
@@ -133,14 +133,14 @@ pub fn over_files<C: FilesCase>(alloc: Global) -> Result<String, Fail> {
     C::first_difference::<SqlFiles>(alloc)
 }
 
-/// The number that a query tells of a database once it is changed by SQL.
-fn number_after<S: Alter>(
+/// All that stands in a database once it is changed by SQL.
+fn rows_after<S: Alter>(
+    alloc: Global,
     conn: &mut Connection<S>,
     change: &str,
-    query: &str,
-) -> Result<i64, Fail> {
+) -> Result<String, Fail> {
     conn.execute_batch(change)?;
-    Ok(conn.query_row(query, &[])?.get(0)?)
+    rows_of(alloc, conn)
 }
 
 /// What is left of a store to which no keeper is had.
@@ -184,12 +184,7 @@ impl InFiles for SqlFiles {
         }))
     }
 
-    fn changed(
-        alloc: Global,
-        store: &Store,
-        change: &str,
-        query: &str,
-    ) -> Result<(i64, Store), Fail> {
+    fn changed(alloc: Global, store: &Store, change: &str) -> Result<(String, Store), Fail> {
         let files = Files {
             log: file_of(alloc, store.log.as_slice(), NO_STOP.log_calls)?,
             db: file_of(alloc, store.file.as_slice(), NO_STOP.file_calls)?,
@@ -197,12 +192,12 @@ impl InFiles for SqlFiles {
         let Ok(mut conn) = Connection::open_files(alloc, files, Options::new(7)) else {
             return Err(Fail::from("the files aren't opened"));
         };
-        let number = number_after(&mut conn, change, query);
+        let rows = rows_after(alloc, &mut conn, change);
         let left = match conn.close_files() {
             Ok(files) => Store::of(alloc, &files),
             Err((_, store)) => Store::of(alloc, &store.close()),
         };
-        Ok((number?, left.ok_or("no memory for what is left")?))
+        Ok((rows?, left.ok_or("no memory for what is left")?))
     }
 
     fn closed(self, alloc: Global) -> Option<Store> {
@@ -221,37 +216,58 @@ impl InFiles for SqlFiles {
     }
 }
 
-/// Whether a store in files tells of a text.
-pub fn is_told<K: InFiles>(alloc: Global, store: &Store, text: &str) -> Result<bool, Fail> {
-    let query = telling(alloc, text)?;
-    let (count, _) = K::changed(alloc, store, "", query.as_str())?;
-    Ok(count == 1)
+/// All that stands in a store in files, as a text.
+pub fn rows_in<K: InFiles>(alloc: Global, store: &Store) -> Result<String, Fail> {
+    let (rows, _) = K::changed(alloc, store, "")?;
+    Ok(rows)
 }
 
-/// The keeper over files of these bytes for the site of a text, without a stop.
-pub fn opened_for<K: InFiles>(alloc: Global, store: &Store, site: &str) -> Result<K, Fail> {
+/// Whether a store in files tells of a text.
+pub fn is_told<K: InFiles>(alloc: Global, store: &Store, text: &str) -> Result<bool, Fail> {
+    let rows = rows_in::<K>(alloc, store)?;
+    tell_of(alloc, rows.as_str(), text)
+}
+
+/// Opens a store for the site of a text and closes it: the number of the fault, or 0, and what is left.
+pub fn opened_and_closed<K: InFiles>(
+    alloc: Global,
+    store: &Store,
+    site: &str,
+) -> Result<(u8, Store), Fail> {
     match K::opened(alloc, store, site, NO_STOP)? {
-        Ok(keep) => Ok(keep),
-        Err(_) => Err(Fail::from("the store isn't opened")),
+        Ok(keep) => Ok((0, keep.closed(alloc).ok_or("the store isn't closed")?)),
+        Err(unopened) => Ok((unopened.fault, unopened.left)),
     }
 }
 
-/// The same for the sample site.
-pub fn opened_whole<K: InFiles>(alloc: Global, store: &Store) -> Result<K, Fail> {
-    opened_for(alloc, store, SITE)
-}
-
-/// What a request gets over a store where it isn't the reply that it must get, and the bytes that are
-/// left.
-fn difference_in_files<K: InFiles>(
+/// Opens a store for the site of a text without a stop, makes exchanges and closes it: what differs first, and
+/// what is left.
+pub fn held_over<K: InFiles>(
     alloc: Global,
     store: &Store,
-    exchange: Exchange<'_>,
+    site: &str,
+    exchanges: &[Exchange<'_>],
 ) -> Result<(String, Store), Fail> {
-    let mut keep: K = opened_whole(alloc, store)?;
-    let found = difference_over(alloc, &mut keep, exchange);
-    let left = keep.closed(alloc);
-    Ok((found?, left.ok_or("the store isn't closed")?))
+    let Ok(mut keep) = K::opened(alloc, store, site, NO_STOP)? else {
+        return Err(Fail::from("the store isn't opened"));
+    };
+    let found = first_difference_for(alloc, &mut keep, site, exchanges);
+    let closed = keep.closed(alloc);
+    Ok((found?, closed.ok_or("the store isn't closed")?))
+}
+
+/// All that stands in a store in files behind exchanges that each get their reply, where nothing stops them.
+pub fn undisturbed<K: InFiles>(
+    alloc: Global,
+    store: &Store,
+    site: &str,
+    exchanges: &[Exchange<'_>],
+) -> Result<String, Fail> {
+    let (found, left) = held_over::<K>(alloc, store, site, exchanges)?;
+    if !found.is_empty() {
+        return Err(Fail::from(found));
+    }
+    rows_in::<K>(alloc, &left)
 }
 
 /// Holds a conversation over a store that is closed after each request and opened for the next one:
@@ -262,7 +278,7 @@ fn first_difference_opened_anew<K: InFiles>(
 ) -> Result<String, Fail> {
     let mut store = Store::new(alloc);
     for exchange in exchanges(alloc, conversation)? {
-        let (found, left) = difference_in_files::<K>(alloc, &store, exchange)?;
+        let (found, left) = held_over::<K>(alloc, &store, SITE, &[exchange])?;
         if !found.is_empty() {
             return Ok(found);
         }

@@ -1,11 +1,12 @@
 //! Stores in files of a site whose text is another when they are next opened: which texts are
 //! taken, what is served then, and what a stop in between leaves.
-use crate::disks::{FilesCase, InFiles, NO_STOP, Store, is_told, opened_for, over_files};
-use crate::stops::{CALL_LIMIT, Counted, stop_after, stopped_in};
+use crate::disks::{
+    FilesCase, InFiles, Store, held_over, is_told, opened_and_closed, over_files, undisturbed,
+};
+use crate::stops::first_lost;
 use std::alloc::{AllocError, Global};
 use std::test::Fail;
-use test_exchanges::conversation::first_difference_for;
-use test_exchanges::stores::told_then;
+use test_exchanges::stores::{tell_of, told_then};
 use test_texts::conversations::growths::{GROWTHS, Growth};
 use test_texts::conversations::runs::{BOOKS, RUN};
 use test_texts::conversations::{Exchange, exchanges};
@@ -13,18 +14,6 @@ use test_texts::samples::{NEXT_TEXTS, SITE, SITE_WITH_A_CUSTOMER, SITE_WITH_A_PO
 
 /// The texts of the sites that grew from the sample.
 const GROWN_SITES: &[&str] = &[SITE_WITH_A_POOL, SITE_WITH_A_CUSTOMER];
-
-/// Opens a store for the site of a text and closes it: the number of the fault, or 0, and what is left.
-fn opened_and_closed<K: InFiles>(
-    alloc: Global,
-    store: &Store,
-    site: &str,
-) -> Result<(u8, Store), Fail> {
-    match K::opened(alloc, store, site, NO_STOP)? {
-        Ok(keep) => Ok((0, keep.closed(alloc).ok_or("the store isn't closed")?)),
-        Err(unopened) => Ok((unopened.fault, unopened.left)),
-    }
-}
 
 /// Opens a store, in which something stands, for the text of a row: what differs, the number of the
 /// fault, the text that the store tells of then, or what it shows.
@@ -44,19 +33,6 @@ fn difference_of_row<K: InFiles>(
     }
     let (found, _) = held_over::<K>(alloc, &left, told, exchanges(alloc, BOOKS)?.as_slice())?;
     Ok(found)
-}
-
-/// Opens a store for the site of a text, makes exchanges and closes it: what differs first, and what is left.
-fn held_over<K: InFiles>(
-    alloc: Global,
-    store: &Store,
-    site: &str,
-    exchanges: &[Exchange<'_>],
-) -> Result<(String, Store), Fail> {
-    let mut keep: K = opened_for(alloc, store, site)?;
-    let found = first_difference_for(alloc, &mut keep, site, exchanges);
-    let closed = keep.closed(alloc);
-    Ok((found?, closed.ok_or("the store isn't closed")?))
 }
 
 /// The store of the sample site behind the run.
@@ -136,24 +112,26 @@ fn first_difference_over_grown<K: InFiles>(alloc: Global) -> Result<String, Fail
     Ok(String::new(alloc))
 }
 
-/// Holds what is said before the site grew over files, and what is said after that over the same
-/// files, which are closed in between and opened for the text that grew: what differs first.
-fn difference_of_growth<K: InFiles>(alloc: Global, growth: &Growth) -> Result<String, Fail> {
+/// Holds what is said before the site grew over files, and what is said after that over the same files, which
+/// are closed in between and opened for the text that grew: what differs first, and what is left.
+pub fn held_over_growth<K: InFiles>(
+    alloc: Global,
+    growth: &Growth,
+) -> Result<(String, Store), Fail> {
     let before = exchanges(alloc, growth.before)?;
     let after = exchanges(alloc, growth.after)?;
     let new = Store::new(alloc);
     let (found, store) = held_over::<K>(alloc, &new, SITE, before.as_slice())?;
     if !found.is_empty() {
-        return Ok(found);
+        return Ok((found, store));
     }
-    let (found, _) = held_over::<K>(alloc, &store, growth.site, after.as_slice())?;
-    Ok(found)
+    held_over::<K>(alloc, &store, growth.site, after.as_slice())
 }
 
 /// The first difference among the growths of the sample site, behind the name of its growth.
 fn first_difference_of_stores<K: InFiles>(alloc: Global) -> Result<String, Fail> {
     for growth in GROWTHS {
-        let found = difference_of_growth::<K>(alloc, growth)?;
+        let (found, _) = held_over_growth::<K>(alloc, growth)?;
         if !found.is_empty() {
             return Ok(format!(in alloc; "{}: {found}", growth.name)?);
         }
@@ -161,55 +139,16 @@ fn first_difference_of_stores<K: InFiles>(alloc: Global) -> Result<String, Fail>
     Ok(String::new(alloc))
 }
 
-/// Opens what a stop left for the text that grew, shows the books and closes it: what differs first, or that
-/// what was left tells of neither text, or of the old one after it.
-fn difference_behind<K: InFiles>(
-    alloc: Global,
-    left: &Store,
-    books: &[Exchange<'_>],
-) -> Result<String, Fail> {
-    let old = is_told::<K>(alloc, left, SITE)?;
-    let new = is_told::<K>(alloc, left, SITE_WITH_A_POOL)?;
-    if old == new {
-        return Ok(String::from_str(alloc, "neither text is told of")?);
-    }
-    let (found, closed) = held_over::<K>(alloc, left, SITE_WITH_A_POOL, books)?;
-    if !is_told::<K>(alloc, &closed, SITE_WITH_A_POOL)? {
+/// Stops the growth at each call of either file, and shows the books behind each stop: what differs first, or
+/// that the store doesn't tell of the text that grew then.
+fn first_lost_in_growth<K: InFiles>(alloc: Global, loses_unsynced: bool) -> Result<String, Fail> {
+    let (store, books) = (store_of_run::<K>(alloc)?, exchanges(alloc, BOOKS)?);
+    let site = SITE_WITH_A_POOL;
+    let rows = undisturbed::<K>(alloc, &store, site, &[])?;
+    if !tell_of(alloc, rows.as_str(), site)? {
         return Ok(String::from_str(alloc, "the old text is told of")?);
     }
-    Ok(found)
-}
-
-/// Stops the growth of a store at each call of a file, until it makes fewer: the first stop behind which the
-/// store isn't whole, with the old text or the new one, or shows something else.
-fn first_lost_at<K: InFiles>(
-    alloc: Global,
-    store: &Store,
-    stops: (Counted, bool),
-) -> Result<String, Fail> {
-    let books = exchanges(alloc, BOOKS)?;
-    for calls in 0..CALL_LIMIT {
-        let stop = stop_after(calls, stops.0, stops.1);
-        let stopped = stopped_in::<K>(alloc, store, SITE_WITH_A_POOL, &[], stop)?;
-        let found = difference_behind::<K>(alloc, &stopped.left, books.as_slice())?;
-        if !found.is_empty() {
-            return Ok(format!(in alloc; "behind {calls} calls: {found}")?);
-        }
-        if stopped.is_opened {
-            return Ok(String::new(alloc));
-        }
-    }
-    Ok(String::from_str(alloc, "a growth without an end")?)
-}
-
-/// Stops the growth at each call of either file: what is lost first.
-fn first_lost_in_growth<K: InFiles>(alloc: Global, loses_unsynced: bool) -> Result<String, Fail> {
-    let store = store_of_run::<K>(alloc)?;
-    let found = first_lost_at::<K>(alloc, &store, (Counted::Log, loses_unsynced))?;
-    if !found.is_empty() {
-        return Ok(format!(in alloc; "the log: {found}")?);
-    }
-    first_lost_at::<K>(alloc, &store, (Counted::File, loses_unsynced))
+    first_lost::<K>(alloc, &store, site, books.as_slice(), 0, loses_unsynced)
 }
 
 /// Texts for which a store is next opened.
@@ -278,8 +217,8 @@ fn sites_grow_between_openings(rt: HostRuntime) -> Result<(), Fail> {
     Ok(())
 }
 
-/// A growth is stopped at each call of either file: the store tells of the old text or of the new one, and
-/// the next opening takes the new one, with the same books.
+/// A growth is stopped at each call of either file: the store is as it was or as the growth leaves it, and the
+/// next opening takes the new text, with the same books.
 #[test]
 fn a_killed_growth_goes_on(rt: HostRuntime) -> Result<(), Fail> {
     assert_eq!(rt; over_files::<KilledGrowth>(rt.alloc())?.as_str(), "");

@@ -1,5 +1,5 @@
-//! Tests of stores in files, which are in memory: opened anew, stopped, crashed, grown, upgraded
-//! and damaged.
+//! Tests of stores in files, which are in memory: which are opened, what stands in their columns, and
+//! what becomes of those that are opened anew, stopped, crashed, grown, upgraded and damaged.
 #![tactic(auto)]
 
 #[cfg(test)]
@@ -12,5 +12,7 @@ mod grown;
 mod restarts;
 #[cfg(test)]
 mod stops;
+#[cfg(test)]
+mod stores;
 #[cfg(test)]
 mod upgrades;

@@ -1,27 +1,27 @@
 //! A store in files that crashes between two lists of requests, and whose site may grow there.
 
-use crate::disks::{NO_STOP, file_of};
-use crate::stops::rest_of;
+use crate::disks::{FilesCase, InFiles, NO_STOP, Store, file_of, over_files, rows_in, undisturbed};
+use crate::grown::held_over_growth;
+use crate::stops::run_and_books;
 use office_restart::{Restarted, crash, replay_through_crash};
 use site_core::read_site_text;
 use sqlite::{Files, Options};
 use std::alloc::Global;
 use std::test::Fail;
 use test_exchanges::lists::{first_difference_among, seat_requests};
-use test_texts::conversations::growths::GROWTHS;
-use test_texts::conversations::runs::{BOOKS, RUN};
+use test_texts::conversations::growths::{GROWTHS, Growth};
 use test_texts::conversations::{Exchange, exchanges};
 use test_texts::samples::SITE;
 
 /// Asks what is asked in exchanges, has the files in memory lose what wasn't synced, and asks for more
 /// for the site of a text that is the sample's or grew from it: the first request that doesn't get its
-/// reply, and what it got.
-fn first_difference_through_crash(
+/// reply, and what it got, and what another crash leaves at the end.
+fn held_through_crash(
     alloc: Global,
     before: &[Exchange<'_>],
     next: &str,
     after: &[Exchange<'_>],
-) -> Result<String, Fail> {
+) -> Result<(String, Store), Fail> {
     let (site, grown) = (read_site_text(alloc, SITE)?, read_site_text(alloc, next)?);
     let first = seat_requests(alloc, site.site(), before)?;
     let second = seat_requests(alloc, grown.site(), after)?;
@@ -46,43 +46,76 @@ fn first_difference_through_crash(
         after: more,
         keep,
     } = done;
-    drop(crash(keep));
+    let left = Store::of(alloc, &crash(keep)).ok_or("no memory for what is left")?;
     let found = first_difference_among(alloc, before, replies.as_slice())?;
+    if !found.is_empty() {
+        return Ok((found, left));
+    }
+    Ok((first_difference_among(alloc, after, more.as_slice())?, left))
+}
+
+/// The same: what differs first, in a reply or in what stands in the store at the end, which must be this.
+fn difference_through_crash<K: InFiles>(
+    alloc: Global,
+    before: &[Exchange<'_>],
+    next: &str,
+    after: &[Exchange<'_>],
+    wanted: &str,
+) -> Result<String, Fail> {
+    let (found, left) = held_through_crash(alloc, before, next, after)?;
     if !found.is_empty() {
         return Ok(found);
     }
-    first_difference_among(alloc, after, more.as_slice())
+    let rows = rows_in::<K>(alloc, &left)?;
+    if rows.as_str() != wanted {
+        return Ok(format!(in alloc; "{wanted} -> {rows}")?);
+    }
+    Ok(found)
 }
 
-/// A run with a crash behind each of its requests, which is sent again after it: the first request that
-/// doesn't get the reply of the undisturbed run, and what it got.
-fn first_difference_at_crashes(alloc: Global) -> Result<String, Fail> {
-    let run = exchanges(alloc, RUN)?;
-    let books = exchanges(alloc, BOOKS)?;
-    for sent in 0..run.len() {
-        let count = sent + 1;
-        let (before, _) = run.as_slice().split_at(count);
-        let rest = rest_of(alloc, run.as_slice(), sent, books.as_slice())?;
-        let found = first_difference_through_crash(alloc, before, SITE, rest.as_slice())?;
-        if !found.is_empty() {
-            return Ok(format!(in alloc; "behind {count} requests: {found}")?);
+/// A run with a crash behind each of its requests, which is sent again after it, with no other and with those
+/// that show the books: what differs first from the run that nothing stops.
+fn first_difference_at_crashes<K: InFiles>(alloc: Global) -> Result<String, Fail> {
+    let (all, run) = run_and_books(alloc)?;
+    let all = all.as_slice();
+    for count in 1..run + 1 {
+        let (before, _) = all.split_at(count);
+        let (_, again) = all.split_at(count - 1);
+        for after in [again.split_at(1).0, again] {
+            let whole = count - 1 + after.len();
+            let wanted = undisturbed::<K>(alloc, &Store::new(alloc), SITE, all.split_at(whole).0)?;
+            let found = difference_through_crash::<K>(alloc, before, SITE, after, wanted.as_str())?;
+            if !found.is_empty() {
+                return Ok(format!(in alloc; "behind {count} requests: {found}")?);
+            }
         }
     }
     Ok(String::new(alloc))
 }
 
-/// The same with a growth of the sample site behind the crash, of each: what differs first, behind the name
-/// of its growth.
-fn first_difference_at_growths(alloc: Global) -> Result<String, Fail> {
+/// A growth of the sample site behind a crash: what differs first from a store that is closed where the other
+/// crashes.
+fn difference_at_growth<K: InFiles>(alloc: Global, growth: &Growth) -> Result<String, Fail> {
+    let (found, closed) = held_over_growth::<K>(alloc, growth)?;
+    if !found.is_empty() {
+        return Ok(found);
+    }
+    let before = exchanges(alloc, growth.before)?;
+    let after = exchanges(alloc, growth.after)?;
+    let wanted = rows_in::<K>(alloc, &closed)?;
+    difference_through_crash::<K>(
+        alloc,
+        before.as_slice(),
+        growth.site,
+        after.as_slice(),
+        wanted.as_str(),
+    )
+}
+
+/// Of each growth: what differs first, behind its name.
+fn first_difference_at_growths<K: InFiles>(alloc: Global) -> Result<String, Fail> {
     for growth in GROWTHS {
-        let before = exchanges(alloc, growth.before)?;
-        let after = exchanges(alloc, growth.after)?;
-        let found = first_difference_through_crash(
-            alloc,
-            before.as_slice(),
-            growth.site,
-            after.as_slice(),
-        )?;
+        let found = difference_at_growth::<K>(alloc, growth)?;
         if !found.is_empty() {
             return Ok(format!(in alloc; "{}: {found}", growth.name)?);
         }
@@ -90,17 +123,35 @@ fn first_difference_at_growths(alloc: Global) -> Result<String, Fail> {
     Ok(String::new(alloc))
 }
 
+/// A run with a crash behind each of its requests.
+struct CrashedRun;
+
+impl FilesCase for CrashedRun {
+    fn first_difference<K: InFiles>(alloc: Global) -> Result<String, Fail> {
+        first_difference_at_crashes::<K>(alloc)
+    }
+}
+
+/// Growths behind a crash.
+struct CrashedGrowths;
+
+impl FilesCase for CrashedGrowths {
+    fn first_difference<K: InFiles>(alloc: Global) -> Result<String, Fail> {
+        first_difference_at_growths::<K>(alloc)
+    }
+}
+
 /// A list of requests, a crash of the files and a list that begins with the last request again: what was
-/// replied is there, and the repeat gets its reply.
+/// replied is there, the repeat gets its reply, and the tables are those of a run that nothing stops.
 #[test]
 fn lists_go_on_behind_a_crash(rt: HostRuntime) -> Result<(), Fail> {
-    assert_eq!(rt; first_difference_at_crashes(rt.alloc())?.as_str(), "");
+    assert_eq!(rt; over_files::<CrashedRun>(rt.alloc())?.as_str(), "");
     Ok(())
 }
 
 /// The same, where the site grew behind the crash.
 #[test]
 fn grown_sites_go_on_behind_a_crash(rt: HostRuntime) -> Result<(), Fail> {
-    assert_eq!(rt; first_difference_at_growths(rt.alloc())?.as_str(), "");
+    assert_eq!(rt; over_files::<CrashedGrowths>(rt.alloc())?.as_str(), "");
     Ok(())
 }

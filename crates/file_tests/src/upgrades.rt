@@ -1,82 +1,107 @@
 //! Stores of earlier schemas in files, whose upgrade is stopped: what it leaves.
-use crate::disks::{FilesCase, InFiles, Store, is_told, opened_whole, over_files};
-use crate::stops::{CALL_LIMIT, Counted, stop_after, stopped_in};
+use crate::disks::{
+    FilesCase, InFiles, Store, held_over, opened_and_closed, over_files, undisturbed,
+};
+use crate::stops::first_lost;
 use std::alloc::Global;
 use std::test::Fail;
-use test_exchanges::conversation::first_difference_of;
-use test_texts::conversations::{Exchange, exchanges};
+use test_exchanges::stores::tell_of;
+use test_texts::conversations::exchanges;
 use test_texts::earlier::{Earlier, sql_of};
-use test_texts::early::{EARLIEST, EARLY};
+use test_texts::early::{CHANGED_EARLY, EARLIEST, EARLY};
 use test_texts::samples::SITE;
-use test_texts::schema_one::ONE;
-use test_texts::schema_two::TWO;
+use test_texts::schema_one::{CHANGED_ONE, ONE};
+use test_texts::schema_two::{CHANGED_TWO, TWO};
 
-/// The number of the schema of a store in files.
-fn schema_of<K: InFiles>(alloc: Global, store: &Store) -> Result<i64, Fail> {
-    let (number, _) = K::changed(alloc, store, "", "SELECT schema FROM meta")?;
-    Ok(number)
+/// The store of an earlier schema in files.
+fn store_of<K: InFiles>(alloc: Global, earlier: &Earlier) -> Result<Store, Fail> {
+    let sql = sql_of(alloc, earlier)?;
+    let (_, store) = K::changed(alloc, &Store::new(alloc), sql.as_str())?;
+    Ok(store)
 }
 
-/// Opens what a stop left, holds the conversation and closes it: what differs first, or that the store doesn't
-/// tell of the site's text in schema 3 then.
-fn difference_behind<K: InFiles>(
-    alloc: Global,
-    left: &Store,
-    schema: i64,
-    shown: &[Exchange<'_>],
-) -> Result<String, Fail> {
-    let number = schema_of::<K>(alloc, left)?;
-    if number != schema && number != 3 {
-        return Ok(format!(in alloc; "schema {number}")?);
-    }
-    let mut keep: K = opened_whole(alloc, left)?;
-    let found = first_difference_of(alloc, &mut keep, shown);
-    let closed = keep.closed(alloc);
-    let found = found?;
-    let closed = closed.ok_or("the store isn't closed")?;
-    if !is_told::<K>(alloc, &closed, SITE)? {
-        return Ok(format!(in alloc; "schema {number} is not upgraded")?);
-    }
-    Ok(found)
-}
-
-/// Stops the upgrade of a store at each call of a file, until it makes fewer: the first stop behind which the
-/// store isn't whole, in its schema or in schema 3, or shows something else.
-fn first_lost_at<K: InFiles>(
-    alloc: Global,
-    store: &Store,
-    earlier: &Earlier,
-    stops: (Counted, bool),
-) -> Result<String, Fail> {
-    let shown = exchanges(alloc, earlier.shown)?;
-    for calls in 0..CALL_LIMIT {
-        let stop = stop_after(calls, stops.0, stops.1);
-        let stopped = stopped_in::<K>(alloc, store, SITE, &[], stop)?;
-        let found = difference_behind::<K>(alloc, &stopped.left, earlier.schema, shown.as_slice())?;
-        if !found.is_empty() {
-            return Ok(format!(in alloc; "behind {calls} calls: {found}")?);
-        }
-        if stopped.is_opened {
-            return Ok(String::new(alloc));
-        }
-    }
-    Ok(String::from_str(alloc, "an upgrade without an end")?)
-}
-
-/// Stops the upgrade of a store at each call of either file: what is lost first.
+/// Stops the upgrade of a store at each call of either file, and holds the conversation behind each stop: what
+/// differs first, or that the store doesn't tell of the site's text in schema 3 then.
 fn first_lost_in_upgrade<K: InFiles>(
     alloc: Global,
     earlier: &Earlier,
     loses_unsynced: bool,
 ) -> Result<String, Fail> {
-    let sql = sql_of(alloc, earlier)?;
-    let none = Store::new(alloc);
-    let (_, store) = K::changed(alloc, &none, sql.as_str(), "SELECT schema FROM meta")?;
-    let found = first_lost_at::<K>(alloc, &store, earlier, (Counted::Log, loses_unsynced))?;
-    if !found.is_empty() {
-        return Ok(format!(in alloc; "the log: {found}")?);
+    let shown = exchanges(alloc, earlier.shown)?;
+    let store = store_of::<K>(alloc, earlier)?;
+    let rows = undisturbed::<K>(alloc, &store, SITE, &[])?;
+    if !tell_of(alloc, rows.as_str(), SITE)? {
+        return Ok(String::from_str(alloc, "the store is not upgraded")?);
     }
-    first_lost_at::<K>(alloc, &store, earlier, (Counted::File, loses_unsynced))
+    first_lost::<K>(alloc, &store, SITE, shown.as_slice(), 0, loses_unsynced)
+}
+
+/// Holds conversations over a store, which is opened before each: the first request that doesn't get its reply,
+/// and what it got.
+fn first_difference_in_life<K: InFiles>(alloc: Global, earlier: &Earlier) -> Result<String, Fail> {
+    let mut store = store_of::<K>(alloc, earlier)?;
+    for conversation in earlier.life {
+        let exchanges = exchanges(alloc, conversation)?;
+        let (found, left) = held_over::<K>(alloc, &store, SITE, exchanges.as_slice())?;
+        if !found.is_empty() {
+            return Ok(found);
+        }
+        store = left;
+    }
+    Ok(String::new(alloc))
+}
+
+/// Opens a store that was changed by the SQL of each row for the site of a text: the first with another fault
+/// than that of the row.
+fn first_other_fault<K: InFiles>(
+    alloc: Global,
+    earlier: &Earlier,
+    rows: &[(&str, &str, u8)],
+) -> Result<String, Fail> {
+    let store = store_of::<K>(alloc, earlier)?;
+    for row in rows {
+        let (_, changed) = K::changed(alloc, &store, row.0)?;
+        let (fault, _) = opened_and_closed::<K>(alloc, &changed, row.1)?;
+        if fault != row.2 {
+            return Ok(format!(in alloc; "{}: {} -> {fault}", row.0, row.2)?);
+        }
+    }
+    Ok(String::new(alloc))
+}
+
+/// Each store of an earlier schema that goes on.
+struct Lives;
+
+impl FilesCase for Lives {
+    fn first_difference<K: InFiles>(alloc: Global) -> Result<String, Fail> {
+        for earlier in [&ONE, &EARLIEST, &EARLY, &TWO] {
+            let found = first_difference_in_life::<K>(alloc, earlier)?;
+            if !found.is_empty() {
+                return Ok(found);
+            }
+        }
+        Ok(String::new(alloc))
+    }
+}
+
+/// Each that was changed.
+struct ChangedStores;
+
+impl FilesCase for ChangedStores {
+    fn first_difference<K: InFiles>(alloc: Global) -> Result<String, Fail> {
+        for (earlier, rows) in [
+            (&ONE, CHANGED_ONE),
+            (&EARLIEST, CHANGED_EARLY),
+            (&EARLY, CHANGED_EARLY),
+            (&TWO, CHANGED_TWO),
+        ] {
+            let found = first_other_fault::<K>(alloc, earlier, rows)?;
+            if !found.is_empty() {
+                return Ok(format!(in alloc; "schema {}: {found}", earlier.schema)?);
+            }
+        }
+        Ok(String::new(alloc))
+    }
 }
 
 /// An upgrade of schema 1 that is killed.
@@ -124,8 +149,23 @@ impl FilesCase for StoppedUpgradesOfEarly {
     }
 }
 
-/// Their upgrade is stopped at each call of either file: the store has its schema or schema 3, and the next
-/// opening ends in schema 3, with the same books.
+/// A store of schema 1 is taken to schema 3: its books show what they showed, without a beginning, its kept
+/// replies are as they were kept, and it goes on. So are those of schema 1 in whose `given` an address is a key
+/// for itself, in either form, and one of schema 2, with the beginnings that it has.
+#[test]
+fn stores_of_earlier_schemas_go_on(rt: HostRuntime) -> Result<(), Fail> {
+    assert_eq!(rt; over_files::<Lives>(rt.alloc())?.as_str(), "");
+    Ok(())
+}
+
+#[test]
+fn changed_stores_of_earlier_schemas_are_refused(rt: HostRuntime) -> Result<(), Fail> {
+    assert_eq!(rt; over_files::<ChangedStores>(rt.alloc())?.as_str(), "");
+    Ok(())
+}
+
+/// Their upgrade is stopped at each call of either file: the store is as it was or as the upgrade leaves it, and
+/// the next opening ends in schema 3, with the same books.
 #[test]
 fn a_killed_upgrade_goes_on(rt: HostRuntime) -> Result<(), Fail> {
     assert_eq!(rt; over_files::<KilledUpgrade>(rt.alloc())?.as_str(), "");

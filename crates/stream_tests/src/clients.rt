@@ -1,8 +1,12 @@
 //! Simulated clients: connections to a listener, over which time passes where something is waited for.
+use crate::connections::served_over_memory;
+use station_jobs::{Bounds, Failure};
+use std::alloc::Global;
 use std::cell::{Cell, RefCell};
 use std::io;
 use std::io::{ErrorKind, Read, Write};
 use std::net::{OpenListener, OpenStream, SocketAddr};
+use std::test::Fail;
 use std::time::{Clock, Duration};
 
 /// A time in milliseconds, that passes where something is waited for.
@@ -169,12 +173,12 @@ impl Write for Client<'_> {
 
 /// A listener to which clients come in the order of their scripts. Where no more come, waiting fails.
 #[derive(Drop)]
-pub struct Clients<'a> {
-    pub time: &'a Time,
-    pub scripts: &'a [Script],
-    pub outcomes: &'a [Outcome],
-    pub come: Cell<usize>,
-    pub blocks: Cell<bool>,
+struct Clients<'a> {
+    time: &'a Time,
+    scripts: &'a [Script],
+    outcomes: &'a [Outcome],
+    come: Cell<usize>,
+    blocks: Cell<bool>,
 }
 
 impl<'a> OpenListener for Clients<'a> {
@@ -211,4 +215,28 @@ impl<'a> OpenListener for Clients<'a> {
         self.blocks.set(!nonblocking);
         Ok(())
     }
+}
+
+/// Serves simulated clients for the site of a text, over memory without rows, at the bounds of the program:
+/// how many were accepted where so many are waited for, or the failure, and what each got.
+pub fn served_clients(
+    alloc: Global,
+    site: &str,
+    scripts: &[Script],
+    count: u32,
+) -> Result<(Result<u32, Failure<'static>>, Vec<Outcome>), Fail> {
+    let mut outcomes = Vec::new(alloc);
+    for _script in scripts {
+        outcomes.push(Outcome::new(Vec::new(alloc)))?;
+    }
+    let time = Time::new();
+    let clients = Clients {
+        time: &time,
+        scripts,
+        outcomes: outcomes.as_slice(),
+        come: Cell::new(0),
+        blocks: Cell::new(true),
+    };
+    let accepted = served_over_memory(&time, alloc, site, &clients, Bounds::of_program(), count)?;
+    Ok((accepted, outcomes))
 }

@@ -1,16 +1,16 @@
 //! Connections to a port of this machine.
 use crate::serving::{SHOWN, UNKNOWN};
-use crate::streams::{BAD_HEAD, LONG_HEAD, ORDER};
 use office_core::MemKeep;
 use site_core::read_site;
-use station_jobs::{Bounds, listen, serve_connections};
+use station_jobs::{Bounds, Failure, listen, serve_connections};
 use std::alloc::Global;
 use std::io;
-use std::io::Write;
-use std::net::{SocketAddr, TcpListener, TcpStream};
+use std::io::{Read, Write};
+use std::net::{OpenListener, OpenStream, SocketAddr, TcpStream};
 use std::test::Fail;
-use std::time::Duration;
+use std::time::{Clock, Duration};
 use test_texts::samples::SITE;
+use test_texts::streams::{BAD_HEAD, LONG_HEAD, ORDER};
 
 /// The reply to the order on a connection that ends with it.
 const ORDERED_LAST: &str =
@@ -32,14 +32,23 @@ fn bounds() -> Bounds {
     }
 }
 
-/// Serves two connections for the sample site, over memory without rows.
-fn serve_two(rt: &HostRuntime, alloc: Global, listener: &TcpListener) -> Result<(), Fail> {
-    let site = read_site(alloc, SITE)?;
+/// Serves so many connections for the site of a text, over memory without rows: how many were accepted, or the
+/// failure. It alone names the server, since each call of it costs the prover a minute.
+pub fn served_over_memory<R: Clock, S, L>(
+    clock: &R,
+    alloc: Global,
+    site: &str,
+    listener: &L,
+    bounds: Bounds,
+    count: u32,
+) -> Result<Result<u32, Failure<'static>>, Fail>
+where
+    S: Read + Write + OpenStream + Drop,
+    L: OpenListener<Stream = S>,
+{
+    let site = read_site(alloc, site)?;
     let mut keep = MemKeep::new(alloc);
-    serve_connections(rt, alloc, &mut keep, &site, listener, bounds(), 2).map_err(
-        |_| "no connection",
-    )?;
-    Ok(())
+    Ok(serve_connections(clock, alloc, &mut keep, &site, listener, bounds, count))
 }
 
 /// Makes two connections, the first with some bytes and the second with an order that ends its
@@ -58,7 +67,7 @@ fn replies_in_turn(
     let address = listener.local_addr()?;
     let first = written_to(rt, address, bytes)?;
     let second = written_to(rt, address, last.as_bytes())?;
-    serve_two(rt, alloc, &listener)?;
+    served_over_memory(rt, alloc, SITE, &listener, bounds(), 2)?.map_err(|_| "no connection")?;
     let first = io::read_to_string(alloc, first)?;
     Ok((first, io::read_to_string(alloc, second)?))
 }

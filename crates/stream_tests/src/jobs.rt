@@ -1,6 +1,5 @@
 //! The program's command line, and its jobs over files, readers and writers.
 use crate::replays::make_folder;
-use crate::streams::ORDER;
 use sqlite_disk::Unknown;
 use station_jobs::{Job, StoreName, WordsFault, read_job, run};
 use std::alloc::{AllocError, Global};
@@ -8,6 +7,7 @@ use std::io::{Read, Write};
 use std::test::Fail;
 use std::{fs, io};
 use test_texts::samples::{MAP, SITE};
+use test_texts::streams::ORDER;
 use text_core::Text;
 
 /// Lines of words, and what becomes of each: the job and the names that it has, help, whose text says

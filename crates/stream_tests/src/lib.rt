@@ -1,4 +1,4 @@
-//! Tests of streams and connections, and of the program's words, files and runs.
+//! Tests of connections, and of the program's words, files and runs.
 #![tactic(auto)]
 
 #[cfg(test)]
@@ -15,7 +15,5 @@ mod refused;
 mod replays;
 #[cfg(test)]
 mod serving;
-#[cfg(test)]
-mod streams;
 #[cfg(test)]
 mod words;

@@ -1,11 +1,7 @@
 //! How long a connection holds up the others: clients that say nothing, that are kept, that drip, that
 //! take nothing, and those that come behind them, at the bounds of the program.
-use crate::clients::{Clients, Outcome, Script, Time};
-use office_core::MemKeep;
-use site_core::read_site;
-use station_jobs::{Bounds, serve_connections};
+use crate::clients::{Script, served_clients};
 use std::alloc::Global;
-use std::cell::Cell;
 use std::test::Fail;
 use test_texts::samples::SITE;
 
@@ -212,35 +208,14 @@ const CLIENTS: &[(&str, &[Script], &str)] = &[
     ),
 ];
 
-/// Serves simulated clients for the sample site, over memory without rows: of each how many replies
-/// it took, and when its connection was closed.
-fn outcomes(alloc: Global, scripts: &[Script]) -> Result<Vec<Outcome>, Fail> {
-    let mut outcomes = Vec::new(alloc);
-    for _script in scripts {
-        outcomes.push(Outcome::new(Vec::new(alloc)))?;
-    }
-    let time = Time::new();
-    let clients = Clients {
-        time: &time,
-        scripts,
-        outcomes: outcomes.as_slice(),
-        come: Cell::new(0),
-        blocks: Cell::new(true),
-    };
-    let site = read_site(alloc, SITE)?;
-    let mut keep = MemKeep::new(alloc);
-    let bounds = Bounds::of_program();
-    let count = u32::try_from(scripts.len()).map_err(|_| "too many clients")?;
-    serve_connections(&time, alloc, &mut keep, &site, &clients, bounds, count).map_err(
-        |_| "no connection",
-    )?;
-    Ok(outcomes)
-}
-
 /// What became of simulated clients, as a text.
 fn told(alloc: Global, scripts: &[Script]) -> Result<String, Fail> {
-    let outcomes = outcomes(alloc, scripts)?;
+    let count = u32::try_from(scripts.len()).map_err(|_| "too many clients")?;
+    let (accepted, outcomes) = served_clients(alloc, SITE, scripts, count)?;
     let mut text = String::new(alloc);
+    if accepted.is_err() {
+        text.push_str("no connection, ")?;
+    }
     for outcome in outcomes.iter() {
         let comma = if text.is_empty() { "" } else { ", " };
         let one = format!(in alloc; "{comma}{} until {}", outcome.replies(), outcome.closed())?;

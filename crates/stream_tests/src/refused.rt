@@ -1,7 +1,6 @@
 //! Stores in files that the program refuses, with each row as it was before, and stores that it
 //! takes: one of an earlier schema, and one of a long text of the site.
 use crate::jobs::written_by;
-use crate::streams::{ORDER, ORDERED};
 use office_store::{Absent, open};
 use site_core::read_site_text;
 use sqlite::{Alter, Connection};
@@ -11,10 +10,12 @@ use std::alloc::Global;
 use std::fs;
 use std::test::Fail;
 use test_exchanges::conversation::streams_of;
+use test_exchanges::stores::rows_of;
 use test_texts::conversations::exchanges;
 use test_texts::earlier::{Earlier, sql_of};
 use test_texts::samples::SITE;
 use test_texts::schema_one::ONE;
+use test_texts::streams::{ORDER, ORDERED};
 
 /// The name of the file with the sample site's text.
 const REFUSED_SITE: &str = "refused_site.toml";
@@ -50,26 +51,10 @@ const NOT_MADE: &[(&str, u8)] = &[
     ("file:refused_missing.db", 3),
 ];
 
-/// All rows of a table.
-fn rows_of<S: Alter>(alloc: Global, conn: &mut Connection<S>, table: &str) -> Result<String, Fail> {
-    let query = format!(in alloc; "SELECT * FROM {table} ORDER BY rowid")?;
-    let rows = conn.query_all(query.as_str(), &[])?;
-    Ok(format!(in alloc; "{table} {rows:?}\n")?)
-}
-
-/// Changes a database by SQL: its listing, and all rows of each of its tables then.
+/// Changes a database by SQL: all that stands in it then, as a text.
 fn all_rows<S: Alter>(alloc: Global, conn: &mut Connection<S>, sql: &str) -> Result<String, Fail> {
     conn.execute_batch(sql)?;
-    let mut shown = rows_of(alloc, conn, "sqlite_schema")?;
-    let names = conn.query_all(
-        "SELECT name FROM sqlite_schema WHERE type = 'table' ORDER BY rowid",
-        &[],
-    )?;
-    for row in names {
-        let name: String = row.get(0)?;
-        shown.push_str(rows_of(alloc, conn, name.as_str())?.as_str())?;
-    }
-    Ok(shown)
+    rows_of(alloc, conn)
 }
 
 /// The same of the database in the file of a name, which is closed.

@@ -1,13 +1,13 @@
 //! Replays over files of the disk: what the program writes with a store and without, and the stores
 //! that it refuses.
 use crate::jobs::written_by;
-use crate::streams::{CHUNKS_REFUSED, CUT_ORDER, IN_CHUNKS, with_orders};
 use station_jobs::{Job, StoreName};
 use std::alloc::Global;
 use std::fs;
 use std::test::Fail;
 use test_texts::full_site::full_site;
 use test_texts::samples::{SITE, SITE_WITH_A_CUSTOMER};
+use test_texts::streams::{CHUNKS_REFUSED, CUT_ORDER, IN_CHUNKS, with_orders};
 use text_core::Text;
 
 /// The name of the file with the sample site's text.

@@ -1,18 +1,16 @@
 //! The job of a port: what the program serves over a file, twice, and where it fails.
-use crate::clients::{Clients, Outcome, Script, Time};
-use crate::streams::{ORDER, ORDERED};
-use office_core::MemKeep;
-use site_core::read_site;
+use crate::clients::{Script, served_clients};
 use sqlite_disk::Unknown;
-use station_jobs::{Bounds, listen, read_job, run, serve_connections};
+use station_jobs::{Job, listen, read_job, run};
 use std::alloc::Global;
-use std::cell::{Cell, RefCell};
+use std::cell::RefCell;
 use std::io::{ErrorKind, Write};
 use std::net::{Ipv4Addr, SocketAddrV4, TcpStream};
 use std::os::unix::fs::PermissionsExt;
 use std::test::Fail;
 use std::{fs, io};
 use test_texts::samples::SITE;
+use test_texts::streams::{ORDER, ORDERED};
 
 /// A request that shows the order, and the reply where there is none.
 pub const SHOWN: &str = "GET /v1/order?name=o1 HTTP/1.1\r\nAuthorization: Bearer abc\r\n\r\n";
@@ -69,6 +67,30 @@ impl Write for Callers<'_, '_, '_, '_, '_> {
     }
 }
 
+/// The job of a port over a store with these words.
+fn job_of(alloc: Global, port: u16, store: &str, count: usize) -> Result<Job, Fail> {
+    let line = format!(in alloc;
+        "station serve --site served.toml --port {port} --connections {count} {store}"
+    )?;
+    let words: Vec<&str> = line.split_whitespace().collect(alloc)?;
+    read_job(alloc, words.as_slice()).map_err(|_| Fail::from("no job"))
+}
+
+/// The lines on both outputs, and what connections got behind each other.
+fn joined(
+    alloc: Global,
+    written: Vec<u8>,
+    err: Vec<u8>,
+    streams: Vec<TcpStream>,
+) -> Result<String, Fail> {
+    let mut text = String::from_utf8(written).map_err(|_| "no text")?;
+    text.push_str(String::from_utf8(err).map_err(|_| "no text")?.as_str())?;
+    for stream in streams {
+        text.push_str(io::read_to_string(alloc, stream)?.as_str())?;
+    }
+    Ok(text)
+}
+
 /// What the program writes and what each connection gets, in a run of its port over a store with these
 /// words: the lines on both outputs, and the replies behind each other.
 fn served(
@@ -78,12 +100,7 @@ fn served(
     store: &str,
     requests: &[&str],
 ) -> Result<String, Fail> {
-    let count = requests.len();
-    let line = format!(in alloc;
-        "station serve --site served.toml --port {port} --connections {count} {store}"
-    )?;
-    let words: Vec<&str> = line.split_whitespace().collect(alloc)?;
-    let job = read_job(alloc, words.as_slice()).map_err(|_| "no job")?;
+    let job = job_of(alloc, port, store, requests.len())?;
     let streams = RefCell::new(Vec::new(alloc));
     let written = RefCell::new(Vec::new(alloc));
     let callers = Callers {
@@ -95,12 +112,7 @@ fn served(
     };
     let mut err = Vec::new(alloc);
     run(rt, alloc, &job, b"".as_slice(), callers, &mut err, Unknown);
-    let mut text = String::from_utf8(written.into_inner()).map_err(|_| "no text")?;
-    text.push_str(String::from_utf8(err).map_err(|_| "no text")?.as_str())?;
-    for stream in streams.into_inner() {
-        text.push_str(io::read_to_string(alloc, stream)?.as_str())?;
-    }
-    Ok(text)
+    joined(alloc, written.into_inner(), err, streams.into_inner())
 }
 
 /// A port of this machine that nothing listens on.
@@ -167,23 +179,11 @@ fn failures_of_a_port_are_told_behind_those_of_the_store(rt: HostRuntime) -> Res
 /// how many replies they took, or the line of the failure.
 fn replies_to_many(alloc: Global, count: u32, come: usize) -> Result<String, Fail> {
     let mut scripts = Vec::new(alloc);
-    let mut outcomes = Vec::new(alloc);
     for _client in 0..come {
         scripts.push(ONE)?;
-        outcomes.push(Outcome::new(Vec::new(alloc)))?;
     }
-    let time = Time::new();
-    let clients = Clients {
-        time: &time,
-        scripts: scripts.as_slice(),
-        outcomes: outcomes.as_slice(),
-        come: Cell::new(0),
-        blocks: Cell::new(true),
-    };
-    let site = read_site(alloc, SITE_ALONE)?;
-    let mut keep = MemKeep::new(alloc);
-    let bounds = Bounds::of_program();
-    match serve_connections(&time, alloc, &mut keep, &site, &clients, bounds, count) {
+    let (accepted, outcomes) = served_clients(alloc, SITE_ALONE, scripts.as_slice(), count)?;
+    match accepted {
         Ok(accepted) => {
             let replies = outcomes
                 .iter()

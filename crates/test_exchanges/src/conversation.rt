@@ -1,14 +1,30 @@
 //! Conversations that are held with the server over a keeper.
-ghost use Rattle.std.specs.Prelude.{◌<◌};
+ghost use Rattle.std.specs.Prelude.{◌<◌, ◌+◌, ◌^◌};
 
 use http_frames::memory::{Pieces, Written};
 use office_core::Keep;
 use site_core::read_site;
-use station_api::{Served, serve_stream};
+use station_api::{Drain, Served, Source, serve_stream};
 use std::alloc::Global;
 use std::test::Fail;
 use test_texts::conversations::{Exchange, difference, exchanges, is_unanswered, reply, request};
 use test_texts::samples::SITE;
+
+/// Serves a stream for the site of a text: how it ended. It alone names the server, since each call of it
+/// costs the prover half a minute.
+pub fn served_by<K: Keep, R: Source, W: Drain>(
+    alloc: Global,
+    keep: &mut K,
+    site: &str,
+    reader: &mut R,
+    writer: &mut W,
+) -> Result<Served, Fail>
+    requires reader { R.calls reader.old + 2 ^ 25 < 2 ^ 64 }
+    requires writer { W.calls writer.old + 2 ^ 25 < 2 ^ 64 }
+{
+    let site = read_site(alloc, site)?;
+    Ok(serve_stream(alloc, keep, &site, reader, writer))
+}
 
 /// Serves a stream that comes in pieces of `step` bytes for the site of a text: how it ended, and what
 /// was written.
@@ -21,10 +37,9 @@ pub fn serve_for<K: Keep>(
 ) -> Result<(Served, Written), Fail>
     requires { 0 < step }
 {
-    let site = read_site(alloc, site)?;
     let mut reader = Pieces::new(stream, step);
     let mut writer = Written::new(Vec::new(alloc), 4096);
-    let served = serve_stream(alloc, keep, &site, &mut reader, &mut writer);
+    let served = served_by(alloc, keep, site, &mut reader, &mut writer)?;
     Ok((served, writer))
 }
 

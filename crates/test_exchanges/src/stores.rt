@@ -1,23 +1,75 @@
-//! Which text of its site a store tells of: the one that it holds, with its SHA-256.
-use sqlite::{Connection, MemStore};
+//! What stands in a store: the rows of all its tables as a text, and which text of its site it tells of.
+use sqlite::types::ValueRef;
+use sqlite::{Alter, Connection, Row};
 use std::alloc::Global;
+use std::str;
 use std::test::Fail;
 use test_texts::samples::SITE;
 use text_core::Digest;
 
-/// The SQL that counts the rows by which a store of schema 3 tells of a text, in which no quotation mark is.
-pub fn telling(alloc: Global, text: &str) -> Result<String, Fail> {
-    let digest = Digest::of(text.as_bytes());
-    Ok(format!(in alloc;
-        "SELECT count(*) FROM site_text JOIN meta ON meta.id = site_text.id WHERE site_text.id = 1 AND body = '{text}' AND schema = 3 AND site = x'{digest}'"
-    )?)
+/// The tables and indexes of a database, with the SQL that made them.
+const SCHEMA: &str = "SELECT name, sql FROM sqlite_schema ORDER BY name";
+
+/// The names of the tables.
+const NAMES: &str = "SELECT name FROM sqlite_schema WHERE type = 'table' ORDER BY name";
+
+/// Puts a value at the end of a text, behind a bar: a blob by its digits, and a text as it is.
+fn push_value(text: &mut String, value: ValueRef<'_>) -> Result<(), Fail> {
+    match value {
+        ValueRef::Null => text.push_str("|NULL")?,
+        ValueRef::Int(number) => write!(text, "|{number}")?,
+        ValueRef::Real(_) => return Err(Fail::from("a number that isn't whole")),
+        ValueRef::Text(bytes) => write!(text, "|'{}'", str::from_utf8(bytes).unwrap_or("no text"))?,
+        ValueRef::Blob(bytes) => {
+            text.push_str("|")?;
+            for byte in bytes {
+                write!(text, "{byte:02x}")?;
+            }
+        }
+    }
+    Ok(())
 }
 
-/// Whether a store in memory tells of a text.
-pub fn tells(alloc: Global, conn: &mut Connection<MemStore>, text: &str) -> Result<bool, Fail> {
-    let query = telling(alloc, text)?;
-    let count: i64 = conn.query_row(query.as_str(), &[])?.get(0)?;
-    Ok(count == 1)
+/// Puts rows at the end of a text, a line each that begins with a name.
+fn push_rows(text: &mut String, name: &str, rows: &[Row]) -> Result<(), Fail> {
+    for row in rows {
+        text.push_str(name)?;
+        for place in 0..row.column_count() {
+            push_value(text, row.get_ref(place)?)?;
+        }
+        text.push_str("\n")?;
+    }
+    Ok(())
+}
+
+/// The rows that a query shows of a database.
+fn shown<S: Alter>(conn: &mut Connection<S>, query: &str) -> Result<Vec<Row>, Fail> {
+    Ok(conn.query_all(query, &[])?)
+}
+
+/// All that stands in a database, as a text: the SQL of its tables and indexes, and each row of each table.
+pub fn rows_of<S: Alter>(alloc: Global, conn: &mut Connection<S>) -> Result<String, Fail> {
+    let mut text = String::new(alloc);
+    push_rows(&mut text, "schema", shown(conn, SCHEMA)?.as_slice())?;
+    for row in shown(conn, NAMES)? {
+        let name: String = row.get(0)?;
+        let query = format!(in alloc; "SELECT * FROM {name}")?;
+        push_rows(
+            &mut text,
+            name.as_str(),
+            shown(conn, query.as_str())?.as_slice(),
+        )?;
+    }
+    Ok(text)
+}
+
+/// Whether the rows of a store, as a text, are of schema 3 and tell of a text of its site: that one, and its
+/// SHA-256.
+pub fn tell_of(alloc: Global, rows: &str, text: &str) -> Result<bool, Fail> {
+    let digest = Digest::of(text.as_bytes());
+    let meta = format!(in alloc; "meta|1|3|{digest}\n")?;
+    let body = format!(in alloc; "site_text|1|'{text}'\n")?;
+    Ok(rows.contains(meta.as_str()) && rows.contains(body.as_str()))
 }
 
 /// The text that the store of the sample site tells of once it was opened for another text, by the fault.

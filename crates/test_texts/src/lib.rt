@@ -10,3 +10,4 @@ pub mod numbered;
 pub mod samples;
 pub mod schema_one;
 pub mod schema_two;
+pub mod streams;

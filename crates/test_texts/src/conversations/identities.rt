@@ -162,7 +162,7 @@ a1 POST /v1/identity {"nr":8,"chip":"00000000000b","public_key":"01"}
 "#;
 
 /// The next serial number is the least that nobody gave.
-const SKIPPED: &str = r#"
+pub const SKIPPED: &str = r#"
 a1 POST /v1/order {"nr":1,"name":"q","issuer":"acme-ca","prefix":"A","width":3,"first":1,"quantity":3,"macs":0}
 200 {"first":1,"issuer":"acme-ca","mac":null,"macs":0,"name":"q","next":"A001","not_before":null,
   "prefix":"A","quantity":3,"width":3}

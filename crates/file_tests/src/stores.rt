@@ -1,18 +1,17 @@
-//! What a store is when it is adopted, and what stands in its columns.
-use office_store::adopt;
-use site_core::read_site_text;
-use sqlite::{Connection, MemStore};
+//! What a store is when it is opened, and what stands in its columns.
+use crate::disks::{
+    FilesCase, InFiles, Store, held_over, opened_and_closed, over_files, undisturbed,
+};
 use std::alloc::Global;
 use std::test::Fail;
-use test_exchanges::conversation::{difference_over, first_difference};
-use test_exchanges::keepers::{Fresh, SqlMemory, adopted};
 use test_texts::conversations::beginnings::RECORD;
-use test_texts::conversations::plans::{A_BIT_AND_ITS_LOCK, PLANS};
-use test_texts::conversations::{exchanges, is_unanswered};
+use test_texts::conversations::exchanges;
+use test_texts::conversations::identities::SKIPPED;
+use test_texts::conversations::plans::A_BIT_AND_ITS_LOCK;
 use test_texts::samples::{OTHER_SITE, SITE, SITE_WITH_A_CUSTOMER, SITE_WITH_A_POOL};
 
-/// Changes of a store that was adopted for the sample site, by SQL, the text of the site for which it
-/// is adopted then, and the number of the fault, 0 where there is none.
+/// Changes of a store that was opened for the sample site, by SQL, the text of the site for which it is
+/// opened then, and the number of the fault, 0 where there is none.
 const CHANGED: &[(&str, &str, u8)] = &[
     ("", SITE, 0),
     ("", SITE_WITH_A_POOL, 0),
@@ -137,27 +136,6 @@ const CHANGED: &[(&str, &str, u8)] = &[
 const TELLS_OF_NO_CUSTOMER: &str =
     "UPDATE site_text SET body = 'customer = []'; UPDATE meta SET site = X'4afd80a9e9f71f065bdf0a550f7df08c7dce5a3f3e2ac971913906375d9fecbb'";
 
-/// How many starts stand in a store after the conversation on records, and how many of them say nothing.
-const STARTS: &[(&str, i64)] = &[
-    (
-        "SELECT count(*) FROM order_start WHERE not_before = '20240229120000Z'",
-        1,
-    ),
-    (
-        "SELECT count(*) FROM order_start WHERE not_before IS NULL",
-        1,
-    ),
-    (
-        "SELECT count(*) FROM given_start WHERE not_before = '20240229120000Z'",
-        2,
-    ),
-    // An identity under the other order, and an import.
-    (
-        "SELECT count(*) FROM given_start WHERE not_before IS NULL",
-        2,
-    ),
-];
-
 /// Stores that no keeper made, by the SQL that makes them: each is of other tables.
 const FOREIGN: &[&str] = &[
     "CREATE TABLE meta (x INTEGER) STRICT",
@@ -166,129 +144,153 @@ const FOREIGN: &[&str] = &[
     "CREATE TABLE other (x)",
 ];
 
-/// The number of the fault with which a connection is adopted for the site of a text, or 0.
-pub fn fault_of_adopting(
+/// Conversations, and what stands in rows then: how a row begins, how it ends, and how many there are of such.
+const ROWS: &[(&str, &str, &str, usize)] = &[
+    // Orders and records with a beginning of validity and without one: one of the records without is of an
+    // identity under the other order, and one is imported.
+    (RECORD, "order_start|", "|'20240229120000Z'", 1),
+    (RECORD, "order_start|", "|NULL", 1),
+    (RECORD, "given_start|", "|'20240229120000Z'", 2),
+    (RECORD, "given_start|", "|NULL", 2),
+];
+
+/// How the row of a settled device ends whose chip has bit 14 of block 0's word 0 and bit 6 of its word 6 burnt:
+/// `bits`, 31 words with the lowest byte first; `keys`, two that aren't there; `todo`, work in which there is
+/// none; and no serial number.
+fn settled_columns(alloc: Global) -> Result<String, Fail> {
+    let (some, rest) = ("00".repeat(alloc, 22)?, "00".repeat(alloc, 99)?);
+    let (keys, todo) = ("00".repeat(alloc, 66)?, "00".repeat(alloc, 314)?);
+    Ok(format!(in alloc; "|0040{some}40{rest}|{keys}|{todo}|NULL")?)
+}
+
+/// How many rows begin and end with these.
+fn count_of_rows(rows: &str, start: &str, end: &str) -> usize {
+    rows.lines()
+        .filter(|row| row.starts_with(start) && row.ends_with(end))
+        .count()
+}
+
+/// Opens a store that was changed by SQL for the site of a text: the number of the fault, or 0.
+fn fault_after<K: InFiles>(
     alloc: Global,
-    conn: Connection<MemStore>,
+    store: &Store,
+    sql: &str,
     site: &str,
 ) -> Result<u8, Fail> {
-    let site = read_site_text(alloc, site)?;
-    match adopt(alloc, conn, &site) {
-        Ok(_) => Ok(0),
-        Err((fault, _)) => Ok(fault.number()),
-    }
+    let (_, changed) = K::changed(alloc, store, sql)?;
+    let (fault, _) = opened_and_closed::<K>(alloc, &changed, site)?;
+    Ok(fault)
 }
 
-/// The number of the fault where the store of the sample site is changed by SQL and then adopted, or 0.
-fn fault_after(alloc: Global, sql: &str, site: &str) -> Result<u8, Fail> {
-    let mut conn = SqlMemory::fresh(alloc)?.into_connection();
-    conn.execute_batch(sql)?;
-    fault_of_adopting(alloc, conn, site)
-}
-
-/// The number of the fault where an empty store is changed by SQL and then adopted, or 0.
-fn fault_of_foreign(alloc: Global, sql: &str) -> Result<u8, Fail> {
-    let mut conn = Connection::open_in_memory(alloc)?;
-    conn.execute_batch(sql)?;
-    fault_of_adopting(alloc, conn, SITE)
-}
-
-/// Holds a conversation over a store that may first take one step a statement, and is adopted anew
-/// after each request: the first request that gets neither its reply nor 503, or whose repeat doesn't
-/// get its reply once the store may take a million steps, and what it got.
-fn first_difference_in_few_steps(alloc: Global, conversation: &str) -> Result<String, Fail> {
-    let mut keep = SqlMemory::fresh(alloc)?;
-    for exchange in exchanges(alloc, conversation)? {
-        keep.set_steps(1);
-        let found = difference_over(alloc, &mut keep, exchange)?;
-        if !found.is_empty() && !is_unanswered(found.as_str()) {
-            return Ok(found);
+/// Changes the sample site's store and opens it, and opens stores that no keeper made: the first with another
+/// fault.
+fn first_other_fault<K: InFiles>(alloc: Global) -> Result<String, Fail> {
+    let new = Store::new(alloc);
+    let (_, own) = held_over::<K>(alloc, &new, SITE, &[])?;
+    for row in CHANGED {
+        let fault = fault_after::<K>(alloc, &own, row.0, row.1)?;
+        if fault != row.2 {
+            return Ok(format!(in alloc; "{}: {} -> {fault}", row.0, row.2)?);
         }
-        keep.set_steps(1_000_000);
-        let found = difference_over(alloc, &mut keep, exchange)?;
-        if !found.is_empty() {
-            return Ok(found);
-        }
-        keep = adopted(alloc, keep.into_connection(), SITE)?;
     }
-    Ok(String::new(alloc))
-}
-
-/// Holds the conversation on records, and counts the starts in the store: the first request that doesn't get
-/// its reply, or the first other count.
-fn first_other_start(alloc: Global) -> Result<String, Fail> {
-    let mut keep = SqlMemory::fresh(alloc)?;
-    let found = first_difference(alloc, &mut keep, RECORD)?;
-    if !found.is_empty() {
-        return Ok(found);
-    }
-    let mut conn = keep.into_connection();
-    for row in STARTS {
-        let number: i64 = conn.query_row(row.0, &[])?.get(0)?;
-        if number != row.1 {
-            return Ok(format!(in alloc; "{}: {number}", row.0)?);
+    for sql in FOREIGN {
+        let fault = fault_after::<K>(alloc, &new, sql, SITE)?;
+        if fault != 2 {
+            return Ok(format!(in alloc; "{sql}: {fault}")?);
         }
     }
     Ok(String::new(alloc))
 }
 
-/// The bytes that stand for a settled device, whose chip has bit 6 of block 0's word 6 and bit 14 of
-/// its word 0 burnt, as the columns `bits`, `keys` and `todo`: 31 words, the lowest byte first, two
-/// keys that aren't there, and work in which there is none.
-fn settled_columns(alloc: Global) -> Result<(Vec<u8>, Vec<u8>, Vec<u8>), Fail> {
-    let mut bits = [0u8; 124];
-    bits[1] = 0x40;
-    bits[24] = 0x40;
-    Ok((
-        bits.to_vec(alloc)?,
-        [0u8; 66].to_vec(alloc)?,
-        [0u8; 314].to_vec(alloc)?,
-    ))
+/// All that stands in a new store behind a conversation.
+fn rows_behind<K: InFiles>(alloc: Global, conversation: &str) -> Result<String, Fail> {
+    let exchanges = exchanges(alloc, conversation)?;
+    undisturbed::<K>(alloc, &Store::new(alloc), SITE, exchanges.as_slice())
 }
 
-/// What stands in these columns after the conversation in which the bit and its lock are burnt.
-fn columns_of_device(alloc: Global) -> Result<(Vec<u8>, Vec<u8>, Vec<u8>), Fail> {
-    let mut keep = SqlMemory::fresh(alloc)?;
-    let found = first_difference(alloc, &mut keep, A_BIT_AND_ITS_LOCK)?;
-    if !found.is_empty() {
-        return Err(Fail::from(found));
+/// Holds conversations and looks at the rows: the first that are others.
+fn first_other_rows<K: InFiles>(alloc: Global) -> Result<String, Fail> {
+    for row in ROWS {
+        let rows = rows_behind::<K>(alloc, row.0)?;
+        if count_of_rows(rows.as_str(), row.1, row.2) != row.3 {
+            return Ok(format!(in alloc; "{}..{}: {rows}", row.1, row.2)?);
+        }
     }
-    let mut conn = keep.into_connection();
-    let row = conn.query_row("SELECT bits, keys, todo FROM device", &[])?;
-    Ok((row.get(0)?, row.get(1)?, row.get(2)?))
+    let rows = rows_behind::<K>(alloc, A_BIT_AND_ITS_LOCK)?;
+    let columns = settled_columns(alloc)?;
+    if count_of_rows(rows.as_str(), "device|", columns.as_str()) != 1 {
+        return Ok(rows);
+    }
+    Ok(String::new(alloc))
+}
+
+/// Holds the conversation on numbers that are skipped, up to each identity: each serial number that it gives, and
+/// the cursor in the row of the order then.
+fn cursors_behind_serials<K: InFiles>(alloc: Global) -> Result<String, Fail> {
+    let all = exchanges(alloc, SKIPPED)?;
+    let mut cursors = String::new(alloc);
+    for (place, exchange) in all.iter().enumerate() {
+        if let Some((_, serial)) = exchange.wanted.split_once("\"serial\":\"") {
+            let (made, _) = all.as_slice().split_at(place + 1);
+            let rows = undisturbed::<K>(alloc, &Store::new(alloc), SITE, made)?;
+            let (_, row) = rows
+                .as_str()
+                .split_once("\norders|'acme'|'q'|")
+                .ok_or("no order")?;
+            let (row, _) = row.split_once("\n").ok_or("no row")?;
+            let (_, cursor) = row.rsplit_once("|").ok_or("no cursor")?;
+            let serial = serial.strip_suffix("\"}").unwrap_or(serial);
+            write!(cursors, "{serial} {cursor};")?;
+        }
+    }
+    Ok(cursors)
+}
+
+/// Stores that were changed, and those of others.
+struct OtherStores;
+
+impl FilesCase for OtherStores {
+    fn first_difference<K: InFiles>(alloc: Global) -> Result<String, Fail> {
+        first_other_fault::<K>(alloc)
+    }
+}
+
+/// Rows behind conversations.
+struct Rows;
+
+impl FilesCase for Rows {
+    fn first_difference<K: InFiles>(alloc: Global) -> Result<String, Fail> {
+        first_other_rows::<K>(alloc)
+    }
+}
+
+/// Cursors behind identities.
+struct Cursors;
+
+impl FilesCase for Cursors {
+    fn first_difference<K: InFiles>(alloc: Global) -> Result<String, Fail> {
+        cursors_behind_serials::<K>(alloc)
+    }
 }
 
 #[test]
 fn stores_of_others_are_refused(rt: HostRuntime) -> Result<(), Fail> {
-    for row in CHANGED {
-        assert_eq!(rt; fault_after(rt.alloc(), row.0, row.1)?, row.2, "{}", row.0);
-    }
-    for sql in FOREIGN {
-        assert_eq!(rt; fault_of_foreign(rt.alloc(), sql)?, 2, "{sql}");
-    }
+    assert_eq!(rt; over_files::<OtherStores>(rt.alloc())?.as_str(), "");
     Ok(())
 }
 
 #[test]
-fn starts_stand_beside_their_rows(rt: HostRuntime) -> Result<(), Fail> {
-    assert_eq!(rt; first_other_start(rt.alloc())?.as_str(), "");
+fn columns_have_their_values(rt: HostRuntime) -> Result<(), Fail> {
+    assert_eq!(rt; over_files::<Rows>(rt.alloc())?.as_str(), "");
     Ok(())
 }
 
-/// What a limit of steps interrupts is answered 503 and changes nothing. The store is adopted anew
-/// after each request.
+/// The cursor is behind the number that was given, also where numbers are skipped.
 #[test]
-fn few_steps_change_nothing_or_serve(rt: HostRuntime) -> Result<(), Fail> {
-    for row in PLANS {
-        let found = first_difference_in_few_steps(rt.alloc(), row.1)?;
-        assert_eq!(rt; found.as_str(), "", "{}", row.0);
-    }
-    Ok(())
-}
-
-#[test]
-fn columns_of_a_device_are_its_bytes(rt: HostRuntime) -> Result<(), Fail> {
-    let alloc = rt.alloc();
-    assert!(rt; columns_of_device(alloc)? == settled_columns(alloc)?);
+fn cursors_stand_behind_the_numbers_given(rt: HostRuntime) -> Result<(), Fail> {
+    assert_eq!(rt;
+        over_files::<Cursors>(rt.alloc())?.as_str(),
+        "A001 2;A003 4;"
+    );
     Ok(())
 }

@@ -2,36 +2,16 @@
 //! writers that are interrupted or fail.
 ghost use Rattle.std.specs.Prelude.{◌<◌, None};
 
-use http_frames::memory::{Failing, Interrupted, Pieces, Written};
-use office_core::MemKeep;
-use site_core::read_site;
-use station_api::{Counted, Served, Source, Transfer, serve_stream};
+use station_api::{Counted, Failing, Interrupted, Pieces, Served, Source, Transfer, Written};
 use std::alloc::Global;
 use std::str;
 use std::test::Fail;
-use test_exchanges::conversation::{first_difference, serve};
-use test_exchanges::keepers::{Fresh, SqlMemory};
-use test_texts::conversations::filled;
+use test_exchanges::conversation::{first_difference, serve, served_by};
+use test_exchanges::keepers::{Fresh, KeeperCase, over_database, over_each, over_memory};
 use test_texts::samples::SITE;
-
-/// A request for an order, which comes in an empty store.
-pub const ORDER: &str =
-    "POST /v1/order HTTP/1.1\r\nAuthorization: Bearer abc\r\nContent-Length: 96\r\n\r\n{\"nr\":1,\"name\":\"o1\",\"issuer\":\"acme-ca\",\"prefix\":\"A\",\"width\":3,\"first\":998,\"quantity\":2,\"macs\":0}";
-
-/// The reply to it.
-pub const ORDERED: &str =
-    "HTTP/1.1 200 OK\r\nContent-Type: application/json\r\nContent-Length: 132\r\n\r\n{\"first\":998,\"issuer\":\"acme-ca\",\"mac\":null,\"macs\":0,\"name\":\"o1\",\"next\":\"A998\",\"not_before\":null,\"prefix\":\"A\",\"quantity\":2,\"width\":3}";
-
-/// The request without its last byte.
-pub const CUT_ORDER: &str =
-    "POST /v1/order HTTP/1.1\r\nAuthorization: Bearer abc\r\nContent-Length: 96\r\n\r\n{\"nr\":1,\"name\":\"o1\",\"issuer\":\"acme-ca\",\"prefix\":\"A\",\"width\":3,\"first\":998,\"quantity\":2,\"macs\":0";
-
-/// The head of a request whose body comes in chunks.
-pub const IN_CHUNKS: &str = "POST /v1/order HTTP/1.1\r\nTransfer-Encoding: chunked\r\n\r\n";
-
-/// The reply to it.
-pub const CHUNKS_REFUSED: &str =
-    "HTTP/1.1 501 Not Implemented\r\nContent-Type: application/json\r\nContent-Length: 26\r\nConnection: close\r\n\r\n{\"error\":\"chunked\",\"no\":4}";
+use test_texts::streams::{
+    BAD_HEAD, CHUNKS_REFUSED, CUT_ORDER, IN_CHUNKS, LONG_HEAD, ORDER, ORDERED, with_orders,
+};
 
 /// Streams over an empty store, in which `$ORDER` stands for the order and `$ORDERED` for its reply:
 /// what is written, and how the stream ends.
@@ -85,13 +65,6 @@ a1 POST /v1/order {"nr":1,"name":"o1","issuer":"acme-ca","prefix":"A","width":3,
   "prefix":"A","quantity":2,"width":3}
 "#;
 
-/// The text of a stream or of what is written.
-pub fn with_orders(alloc: Global, text: &str) -> Result<String, Fail> {
-    let text = text.replace(alloc, "$ORDERED", ORDERED)?;
-    let text = text.as_str().replace(alloc, "$ORDER", ORDER)?;
-    filled(alloc, text.as_str())
-}
-
 /// What differs where a stream ended with this written: its end or what was written. Nothing where
 /// neither does.
 fn difference_of_end(
@@ -136,23 +109,26 @@ fn first_difference_in_pieces<K: Fresh>(
     Ok(String::new(alloc))
 }
 
-#[test]
-fn streams_end_as_they_must(rt: HostRuntime) -> Result<(), Fail> {
-    for row in STREAMS {
-        let found = first_difference_in_pieces::<MemKeep>(rt.alloc(), row)?;
-        assert_eq!(rt; found.as_str(), "", "{}", row.0);
-        let found = first_difference_in_pieces::<SqlMemory>(rt.alloc(), row)?;
-        assert_eq!(rt; found.as_str(), "", "{} over SQL", row.0);
+/// Streams in pieces.
+struct Ends;
+
+impl KeeperCase for Ends {
+    fn first_difference<K: Fresh>(&self, alloc: Global) -> Result<String, Fail> {
+        for row in STREAMS {
+            let found = first_difference_in_pieces::<K>(alloc, row)?;
+            if !found.is_empty() {
+                return Ok(format!(in alloc; "{}: {found}", row.0)?);
+            }
+        }
+        Ok(String::new(alloc))
     }
-    Ok(())
 }
 
-/// The reply to a head that is longer than a head may be.
-pub const BAD_HEAD: &str =
-    "HTTP/1.1 400 Bad Request\r\nContent-Type: application/json\r\nContent-Length: 27\r\nConnection: close\r\n\r\n{\"error\":\"bad_head\",\"no\":1}";
-
-/// How many bytes there are of a head that is none.
-pub const LONG_HEAD: usize = 8192;
+#[test]
+fn streams_end_as_they_must(rt: HostRuntime) -> Result<(), Fail> {
+    assert_eq!(rt; over_each(rt.alloc(), &Ends)?.as_str(), "");
+    Ok(())
+}
 
 /// The request that shows the order where there is none, with its reply.
 const NO_ORDER: &str = r#"
@@ -180,20 +156,28 @@ fn difference_of_long_head<K: Fresh>(alloc: Global) -> Result<String, Fail> {
     difference_in_pieces::<K>(alloc, &(stream.as_str(), BAD_HEAD, Served::Closed), 4096)
 }
 
+/// The order without its end, of each so many bytes that the number divides, and a head that doesn't end.
+struct Cuts(usize);
+
+impl KeeperCase for Cuts {
+    fn first_difference<K: Fresh>(&self, alloc: Global) -> Result<String, Fail> {
+        for count in 1..ORDER.len() {
+            if count % self.0.max(1) == 0 {
+                let found = difference_of_cut::<K>(alloc, count)?;
+                if !found.is_empty() {
+                    return Ok(format!(in alloc; "{count} bytes: {found}")?);
+                }
+            }
+        }
+        difference_of_long_head::<K>(alloc)
+    }
+}
+
 /// Wherever the order ends before its end; over SQL at every 16th place. And a head that doesn't end.
 #[test]
 fn requests_without_their_ends_are_cut_or_refused(rt: HostRuntime) -> Result<(), Fail> {
-    let alloc = rt.alloc();
-    for count in 1..ORDER.len() {
-        let found = difference_of_cut::<MemKeep>(alloc, count)?;
-        assert_eq!(rt; found.as_str(), "", "{count}");
-        if count % 16 == 0 {
-            let found = difference_of_cut::<SqlMemory>(alloc, count)?;
-            assert_eq!(rt; found.as_str(), "", "{count} over SQL");
-        }
-    }
-    assert_eq!(rt; difference_of_long_head::<MemKeep>(alloc)?.as_str(), "");
-    assert_eq!(rt; difference_of_long_head::<SqlMemory>(alloc)?.as_str(), "");
+    assert_eq!(rt; over_memory(rt.alloc(), &Cuts(1))?.as_str(), "");
+    assert_eq!(rt; over_database(rt.alloc(), &Cuts(16))?.as_str(), "");
     Ok(())
 }
 
@@ -219,59 +203,55 @@ impl Source for Disturbed {
 /// How many calls a stream may make.
 const CALLS: u64 = 16_777_216;
 
-/// Serves a stream whose reader is interrupted at each call: what differs where it ends after so
-/// many calls as one may make.
-fn difference_at_the_limit<K: Fresh>(alloc: Global) -> Result<String, Fail> {
-    let site = read_site(alloc, SITE)?;
-    let mut keep = K::fresh(alloc)?;
-    let mut reader = Disturbed { calls: 0 };
-    let mut writer = Written::new(Vec::new(alloc), 4096);
-    let served = serve_stream(alloc, &mut keep, &site, &mut reader, &mut writer);
-    if reader.calls != CALLS {
-        return Ok(format!(in alloc; "{CALLS} calls -> {}", reader.calls)?);
+/// A stream whose reader is interrupted at each call, which ends after so many calls as one may make.
+struct CallLimit;
+
+impl KeeperCase for CallLimit {
+    fn first_difference<K: Fresh>(&self, alloc: Global) -> Result<String, Fail> {
+        let mut keep = K::fresh(alloc)?;
+        let mut reader = Disturbed { calls: 0 };
+        let mut writer = Written::new(Vec::new(alloc), 4096);
+        let served = served_by(alloc, &mut keep, SITE, &mut reader, &mut writer)?;
+        if reader.calls != CALLS {
+            return Ok(format!(in alloc; "{CALLS} calls -> {}", reader.calls)?);
+        }
+        difference_of_end(alloc, (Served::TurnLimit, b""), (served, writer.bytes()))
     }
-    difference_of_end(alloc, (Served::TurnLimit, b""), (served, writer.bytes()))
 }
 
 #[test]
 fn readers_that_never_read_end_at_the_limit(rt: HostRuntime) -> Result<(), Fail> {
-    assert_eq!(rt;
-        difference_at_the_limit::<MemKeep>(rt.alloc())?.as_str(),
-        ""
-    );
+    assert_eq!(rt; over_memory(rt.alloc(), &CallLimit)?.as_str(), "");
     Ok(())
 }
 
 /// Serves an order though reader and writer are interrupted at every second call: what differs.
 fn difference_after_interruptions<K: Fresh>(alloc: Global) -> Result<String, Fail> {
-    let site = read_site(alloc, SITE)?;
     let mut keep = K::fresh(alloc)?;
     let mut reader = Interrupted::new(Pieces::new(ORDER.as_bytes(), 10));
     let mut writer = Interrupted::new(Written::new(Vec::new(alloc), 10));
-    let served = serve_stream(alloc, &mut keep, &site, &mut reader, &mut writer);
+    let served = served_by(alloc, &mut keep, SITE, &mut reader, &mut writer)?;
     let got = (served, writer.inner().bytes());
     difference_of_end(alloc, (Served::Ended, ORDERED.as_bytes()), got)
 }
 
 /// Serves an order whose reader fails inside of it: what differs where nothing is written.
 fn difference_where_the_reader_fails<K: Fresh>(alloc: Global) -> Result<String, Fail> {
-    let site = read_site(alloc, SITE)?;
     let mut keep = K::fresh(alloc)?;
     let mut reader = Failing::new(Pieces::new(ORDER.as_bytes(), 1), 100);
     let mut writer = Written::new(Vec::new(alloc), 4096);
-    let served = serve_stream(alloc, &mut keep, &site, &mut reader, &mut writer);
+    let served = served_by(alloc, &mut keep, SITE, &mut reader, &mut writer)?;
     difference_of_end(alloc, (Served::ReadFault, b""), (served, writer.bytes()))
 }
 
 /// Serves an order to a writer that takes ten bytes and then none, with no error: what differs
 /// where it has the first of the reply.
 fn difference_at_a_full_writer<K: Fresh>(alloc: Global) -> Result<String, Fail> {
-    let site = read_site(alloc, SITE)?;
     let mut keep = K::fresh(alloc)?;
     let mut room = [0u8; 10];
     let mut reader = Pieces::new(ORDER.as_bytes(), 4096);
     let mut writer = Counted::new(room.as_mut_slice());
-    let served = serve_stream(alloc, &mut keep, &site, &mut reader, &mut writer);
+    let served = served_by(alloc, &mut keep, SITE, &mut reader, &mut writer)?;
     let wanted = ORDERED.as_bytes().get(..10).ok_or("no such front")?;
     difference_of_end(
         alloc,
@@ -283,11 +263,10 @@ fn difference_at_a_full_writer<K: Fresh>(alloc: Global) -> Result<String, Fail> 
 /// Serves an order to a writer that takes so many bytes and then fails, over a keeper without rows:
 /// what differs where it has these of the reply, and the order stands then.
 fn difference_where_the_writer_fails<K: Fresh>(alloc: Global, taken: u32) -> Result<String, Fail> {
-    let site = read_site(alloc, SITE)?;
     let mut keep = K::fresh(alloc)?;
     let mut reader = Pieces::new(ORDER.as_bytes(), 4096);
     let mut writer = Failing::new(Written::new(Vec::new(alloc), 1), taken);
-    let served = serve_stream(alloc, &mut keep, &site, &mut reader, &mut writer);
+    let served = served_by(alloc, &mut keep, SITE, &mut reader, &mut writer)?;
     let wanted = ORDERED
         .as_bytes()
         .get(..taken as usize)
@@ -300,34 +279,29 @@ fn difference_where_the_writer_fails<K: Fresh>(alloc: Global, taken: u32) -> Res
     first_difference(alloc, &mut keep, STANDING)
 }
 
-/// Meets failures of readers and writers over keepers of one kind: what differs first.
-fn first_difference_in_failures<K: Fresh>(alloc: Global) -> Result<String, Fail> {
-    let found = difference_after_interruptions::<K>(alloc)?;
-    if !found.is_empty() {
-        return Ok(found);
-    }
-    let found = difference_where_the_reader_fails::<K>(alloc)?;
-    if !found.is_empty() {
-        return Ok(found);
-    }
-    let found = difference_at_a_full_writer::<K>(alloc)?;
-    if !found.is_empty() {
-        return Ok(found);
-    }
-    for taken in TAKEN {
-        let found = difference_where_the_writer_fails::<K>(alloc, *taken)?;
-        if !found.is_empty() {
-            return Ok(format!(in alloc; "{taken} bytes: {found}")?);
+/// Readers and writers that fail.
+struct Failures;
+
+impl KeeperCase for Failures {
+    fn first_difference<K: Fresh>(&self, alloc: Global) -> Result<String, Fail> {
+        let mut found = difference_after_interruptions::<K>(alloc)?;
+        if found.is_empty() {
+            found = difference_where_the_reader_fails::<K>(alloc)?;
         }
+        if found.is_empty() {
+            found = difference_at_a_full_writer::<K>(alloc)?;
+        }
+        for taken in TAKEN {
+            if found.is_empty() {
+                found = difference_where_the_writer_fails::<K>(alloc, *taken)?;
+            }
+        }
+        Ok(found)
     }
-    Ok(String::new(alloc))
 }
 
 #[test]
 fn readers_and_writers_may_fail(rt: HostRuntime) -> Result<(), Fail> {
-    let found = first_difference_in_failures::<MemKeep>(rt.alloc())?;
-    assert_eq!(rt; found.as_str(), "");
-    let found = first_difference_in_failures::<SqlMemory>(rt.alloc())?;
-    assert_eq!(rt; found.as_str(), "", "over SQL");
+    assert_eq!(rt; over_each(rt.alloc(), &Failures)?.as_str(), "");
     Ok(())
 }

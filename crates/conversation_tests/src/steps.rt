@@ -1,0 +1,40 @@
+//! What few steps leave of a store.
+use std::alloc::Global;
+use std::test::Fail;
+use test_exchanges::conversation::difference_over;
+use test_exchanges::keepers::{Fresh, SqlMemory, adopted};
+use test_texts::conversations::plans::PLANS;
+use test_texts::conversations::{exchanges, is_unanswered};
+use test_texts::samples::SITE;
+
+/// Holds a conversation over a store that may first take one step a statement, and is adopted anew
+/// after each request: the first request that gets neither its reply nor 503, or whose repeat doesn't
+/// get its reply once the store may take a million steps, and what it got.
+fn first_difference_in_few_steps(alloc: Global, conversation: &str) -> Result<String, Fail> {
+    let mut keep = SqlMemory::fresh(alloc)?;
+    for exchange in exchanges(alloc, conversation)? {
+        keep.set_steps(1);
+        let found = difference_over(alloc, &mut keep, exchange)?;
+        if !found.is_empty() && !is_unanswered(found.as_str()) {
+            return Ok(found);
+        }
+        keep.set_steps(1_000_000);
+        let found = difference_over(alloc, &mut keep, exchange)?;
+        if !found.is_empty() {
+            return Ok(found);
+        }
+        keep = adopted(alloc, keep.into_connection(), SITE)?;
+    }
+    Ok(String::new(alloc))
+}
+
+/// What a limit of steps interrupts is answered 503 and changes nothing. The store is adopted anew
+/// after each request.
+#[test]
+fn few_steps_change_nothing_or_serve(rt: HostRuntime) -> Result<(), Fail> {
+    for row in PLANS {
+        let found = first_difference_in_few_steps(rt.alloc(), row.1)?;
+        assert_eq!(rt; found.as_str(), "", "{}", row.0);
+    }
+    Ok(())
+}
