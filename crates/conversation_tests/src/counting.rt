@@ -65,6 +65,10 @@ impl Keep for CountingKeep {
 
     ghost may_leave = { λ k. ⟦<MemKeep as Keep>⟧.may_leave k.keep };
 
+    ghost commits = { λ k. k.commits };
+
+    ghost has_just_committed = { λ _. Unit {0} };
+
     fn fact_in_order(&self) {
         self.keep.fact_in_order();
     }

@@ -1,5 +1,5 @@
-//! Which requests walk over rows: a conversation in parts, each with the visits that were made up to
-//! its end. What a part doesn't visit it reads by keys.
+//! Which requests walk over rows, and which commit: a conversation in parts, each with the visits and
+//! the commits that were made up to its end. What a part doesn't visit it reads by keys.
 use crate::counting::CountingKeep;
 use office_core::{Keep, Sink};
 use std::alloc::Global;
@@ -8,15 +8,17 @@ use test_exchanges::conversation::{difference_over, first_difference};
 use test_texts::conversations::{exchanges, is_unanswered};
 use text_core::{Chip, Name};
 
-/// The parts, each under its name.
-const VISITS: &[(&str, &str, u64)] = &[
+/// The parts, each under its name, with the visits and the commits.
+const VISITS: &[(&str, &str, u64, u64)] = &[
     (
         "an order walks over orders, and a map over links",
         BEGINNING,
         2,
+        2,
     ),
-    ("devices are found by their chips", BY_KEYS, 2),
-    ("a ledger is walked over", LEDGER, 3),
+    ("devices are found by their chips", BY_KEYS, 2, 9),
+    ("a ledger is walked over", LEDGER, 3, 9),
+    ("what isn't accepted commits nothing", REFUSED, 3, 9),
 ];
 
 /// An order, which is compared with the customer's other orders, and a map, which is counted among
@@ -66,6 +68,18 @@ a1 GET /v1/ledger?chip=00000000000b
   {"bits":[],"event":"scrapped","keys":{},"n":2,"note":"","seat":"a1"}]}
 "#;
 
+/// Another body of the last number, a number that skips one, a device that isn't there, and a repeat.
+const REFUSED: &str = r#"
+a1 POST /v1/ship {"nr":9,"chip":"00000000000b"}
+409 {"error":"other_body","no":12}
+a1 POST /v1/ship {"nr":11,"chip":"00000000000b"}
+409 {"error":"wrong_number","expected":10,"no":11}
+a1 POST /v1/ship {"nr":10,"chip":"00000000000c"}
+404 {"error":"unknown_device","no":15}
+a1 POST /v1/scrap {"nr":9,"chip":"00000000000b"}
+200 {"chip":"00000000000b","state":"scrapped"}
+"#;
+
 /// Holds a conversation in which an allocation may be refused: the first request that is answered
 /// with 503, or by the stream's end, though something was committed, or that doesn't get its reply
 /// when it is sent again.
@@ -113,7 +127,7 @@ fn visits_of_each_kind(alloc: Global) -> Result<u64, Fail> {
 }
 
 /// One request after another over one keeper: an order, a map and a ledger are walked for, and nothing
-/// else is.
+/// else is. What is accepted commits once, and nothing else commits.
 #[test]
 fn only_orders_maps_and_ledgers_are_walked_for(rt: HostRuntime) -> Result<(), Fail> {
     let mut keep = CountingKeep::new(rt.alloc());
@@ -121,6 +135,7 @@ fn only_orders_maps_and_ledgers_are_walked_for(rt: HostRuntime) -> Result<(), Fa
         let found = first_difference(rt.alloc(), &mut keep, row.1)?;
         assert_eq!(rt; found.as_str(), "", "{}", row.0);
         assert_eq!(rt; keep.visits(), row.2, "{}", row.0);
+        assert_eq!(rt; keep.commits(), row.3, "{}", row.0);
     }
     Ok(())
 }

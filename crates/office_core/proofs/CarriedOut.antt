@@ -1,5 +1,6 @@
 -- A judgement that is carried out, with its reply kept.
-use Rattle.std.proofs.Common.{◌≡◌, ◌⊎◌, inl, inr, ℕ, List, [], ◌∷◌, ◌++◌, Some, sym, ◌∙◌, ap, subst, IfOk, MatchResult, Result, Ok, Err, string_bytes}
+use Rattle.std.proofs.Common.{◌≡◌, ◌≤◌, ◌+◌, ◌⊎◌, inl, inr, ℕ, List, [], ◌∷◌, ◌++◌, length, Some, sym, ◌∙◌, ap, subst}
+use Rattle.std.proofs.Common.{IfOk, MatchResult, Result, Ok, Err, string_bytes, arith, length-append}
 use Rattle.text_core.specs.Prelude.{first_that_holds}
 use Rattle.http_replies.specs.Prelude.{Answer, answer_of}
 use Rattle.http_replies.specs.declared.Reply.{Reply}
@@ -8,6 +9,7 @@ use Rattle.office_tables.specs.declared.rows.OfCustomer.{OfCustomer}
 use Rattle.office_tables.specs.declared.rows.SeatState.{SeatState}
 use Rattle.office_tables.specs.declared.rows.Write.TheVariants.{PutSeat}
 use Rattle.office_tables.specs.Prelude.{Tables, Written, with_seat}
+use Rattle.office_tables.specs.declared.keep.Keep.{Ghosts}
 use Rattle.office_tables.specs.declared.keep.Unkept.{Unkept}
 use Rattle.office_tables.proofs.Writing.{Written_last}
 use Rattle.office_commands.specs.declared.command.Request.{Request}
@@ -19,9 +21,10 @@ use Rattle.office_commands.specs.declared.command.Show.{Show as Showing}
 use Rattle.office_judges.specs.declared.judgement.Accepted.{Accepted}
 use Rattle.office_judges.specs.declared.judgement.Judgement.TheVariants.{Accepted as Accepts, Refused as Refuses}
 use Rattle.office_judges.specs.Prelude.{IsJudged}
-use Rattle.office_rules.specs.Prelude.{seat_put, decide, effect, refusals, reply_only, show_reply, Performs, Step, office_sight, seat_row_after, kept_of}
+use Rattle.office_rules.specs.Prelude.{seat_put, decide, effect, refusals, reply_only, response, show_reply, office_sight, seat_row_after, kept_of}
+use Rattle.office_rules.specs.Prelude.{Performs, Step}
 use Rattle.office_rules.proofs.Fulfilled.{last_put, puts_made}
-use Rattle.office_core.specs.Prelude.{CommitsReply}
+use Rattle.office_core.specs.Prelude.{CommitsReply, IsLastCall, PutsSome}
 
 -- the row of a seat whose request has this number and this reply
 abbrev row_with : List ℕ → List ℕ → Request → ℕ → List ℕ → OfCustomer SeatState
@@ -117,3 +120,34 @@ or_then (inr b) f = inr (f b)
 pub carried_out : {A B C D : Type 0} → A ⊎ B → (A → C) → (B → D) → C ⊎ D
 carried_out (inl a) f h = inl (f a)
 carried_out (inr b) f h = inr (h b)
+
+-- what is accepted puts something into the books
+pub decides_puts : (s : Section) (seat : List ℕ) (r : Request) (t : Tables) (c : Change)
+    (a : Accepted) → IsJudged s seat t c (Accepts a)
+    → PutsSome (decide seat r (first_that_holds (refusals s (office_sight s seat t) c))
+    (effect s seat (office_sight s seat t) c))
+decides_puts s seat r t c a (free, can, made, is, body, writes) =
+    let enough : 1 ≤ length (made.puts ++ seat_put (kept_of seat r made.body) ∷ []) =
+    omega (arith, length-append made.puts (seat_put (kept_of seat r made.body) ∷ [])) in
+    rw (free, is) enough
+
+-- a commit behind reads
+pub last_behind : {K : Type 0} (k : Ghosts K) (old mid new : K) (Puts PutsFirst : Tables → Type 0)
+    → k.commits mid ≡ k.commits old → IsLastCall k mid new Puts
+    → (k.is_open mid → Puts (k.tables mid) → k.is_open old × PutsFirst (k.tables old))
+    → IsLastCall k old new PutsFirst
+last_behind k old mid new Puts PutsFirst same (inl none) before = inl (none ∙ same)
+last_behind k old mid new Puts PutsFirst same (inr made) before = inr (record {
+  once = subst (λ (n : ℕ). k.commits new ≤ n + 1) same made.once;
+  last = made.last;
+  puts = λ honest. let put = made.puts honest in before put.0 put.1;
+})
+
+-- what a seat puts by other names
+pub last_of_caller : {K : Type 0} (k : Ghosts K) {s s2 : Section} {seat seat2 : List ℕ} (old new : K)
+    (r : Request) → s ≡ s2 → seat ≡ seat2
+    → IsLastCall k old new (λ t. PutsSome (response s seat (office_sight s seat t) r))
+    → IsLastCall k old new (λ t. PutsSome (response s2 seat2 (office_sight s2 seat2 t) r))
+last_of_caller k {s} {s2} {seat} {seat2} old new r is same last =
+    subst (λ (name : List ℕ). IsLastCall k old new (λ t. PutsSome (response s2 name (office_sight s2 name t) r))) same
+    (subst (λ (c : Section). IsLastCall k old new (λ t. PutsSome (response c seat (office_sight c seat t) r))) is last)

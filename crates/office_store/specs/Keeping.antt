@@ -1,5 +1,5 @@
 -- What a connection says to the clauses of a keeper.
-use Rattle.std.specs.Prelude.{◌≡◌, IsTrue}
+use Rattle.std.specs.Prelude.{◌≡◌, ℕ, IsTrue}
 use Rattle.sqlite.specs.Store.{Ghosts}
 use Rattle.sqlite.specs.Tree.{Trees}
 use Rattle.sqlite.specs.State.{HasCleanDisk}
@@ -21,3 +21,7 @@ module _ {S : Type 0} (g : Ghosts S) where
   -- what a crash may leave, as tables
   abbrev pub may_leave_at : Held S → Tables → Type 0
   may_leave_at h t = (db : Trees) × (state g h).may_leave db × (t ≡ tables_in db)
+
+-- commits aren't counted
+abbrev pub commits_at : {S : Type 0} → Held S → ℕ
+commits_at h = 0

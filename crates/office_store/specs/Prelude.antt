@@ -13,7 +13,7 @@ pub use Rattle.office_store.specs.Faults.{open_fault_number}
 pub use Rattle.office_store.specs.Found.{AreAllStarted, AreStartsFound, HasStart, HasStarts, HasVersionSchema, HasWhole, HaveStarts, is_below, IsFound}
 pub use Rattle.office_store.specs.Found.{IsFoundLater, IsNotBelow, Sees, TellsNoStart, Tests}
 pub use Rattle.office_store.specs.Growing.{CanGrow, HasGrown, IsGrown, ReplacesName}
-pub use Rattle.office_store.specs.Keeping.{is_honest_at, is_open_at, may_leave_at, tables_of}
+pub use Rattle.office_store.specs.Keeping.{commits_at, is_honest_at, is_open_at, may_leave_at, tables_of}
 pub use Rattle.office_store.specs.Kept.{Kept, kept_code}
 pub use Rattle.office_store.specs.Meta.{half_schema, HasEmptyTables, HasMeta, HasNothing, HasRun, HoldsSite, IsBegun, IsCreated, IsFresh, IsMetaOf, meta_in}
 pub use Rattle.office_store.specs.Meta.{meta_of, meta_of_version, metas_in, new_meta, ShowMeta, TellNoSite}

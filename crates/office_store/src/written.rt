@@ -6,7 +6,8 @@ ghost use Rattle.office_tables.specs.declared.rows.OfCustomer.{OfCustomer};
 ghost use Rattle.office_tables.specs.declared.rows.Device.{Device};
 ghost use Rattle.office_tables.specs.Prelude.{Reads, is_device};
 ghost use Rattle.office_sql.specs.Prelude.{IsReady};
-ghost use Rattle.office_store.specs.Prelude.{is_honest_at, is_open_at, may_leave_at, tables_of, IsAnswer, device_written, ArePut, AreTold, IsReplaced};
+ghost use Rattle.office_store.specs.Prelude.{commits_at, is_honest_at, is_open_at, may_leave_at, tables_of};
+ghost use Rattle.office_store.specs.Prelude.{IsAnswer, device_written, ArePut, AreTold, IsReplaced};
 
 use office_sql as sql;
 use office_tables::{DeviceRow, Write};
@@ -111,7 +112,7 @@ pub(crate) fn replaced_device<S: Alter>(
         → IsAnswer answer.now (tables_of S.Store conn.old).devices }
     ensures ready { IsReady (state S.Store conn.new) }
     ensures read_only { Reads (is_open_at S.Store) (is_honest_at S.Store) (may_leave_at S.Store)
-        (tables_of S.Store) conn.old conn.new }
+        (tables_of S.Store) commits_at conn.old conn.new }
     ensures left { is_honest_at S.Store conn.new → (db : Trees)
         → (state S.Store conn.new).may_leave db → (state S.Store conn.old).may_leave db }
     ensures answer { is_open_at S.Store conn.new

@@ -1,5 +1,5 @@
 use Rattle.std.proofs.Common.{◌∙◌, sym, rules}
-use Rattle.office_core.proofs.CarriedOut.{carried_out}
+use Rattle.office_core.proofs.CarriedOut.{carried_out, last_behind}
 use Rattle.office_core.proofs.office.change_by_retry.Goals as goal
 
 pub returns-in-Next : goal.returns-in-Next
@@ -19,4 +19,10 @@ returns-in-Next g c = record {
       (λ made.
       let next = sym (c.in_ok-body.ensures.answer made.0) ∙ c.in-Next.is in
       (reads.was_open made.0, made.1, rw (next, ← reads.same made.0) made.2));
+  commits =
+      let reads = c.find_retry.ensures.read_only in
+      last_behind g.K.Keep _ _ _ _ _ reads.uncommitted c.make.ensures.commits
+      (λ is puts.
+      let next = sym (c.in_ok-body.ensures.answer is) ∙ c.in-Next.is in
+      (reads.was_open is, rw (next, ← reads.same is) puts));
 }

@@ -1,4 +1,4 @@
-use Rattle.std.proofs.Common.{rules}
+use Rattle.std.proofs.Common.{inl, rules}
 use Rattle.office_core.proofs.CarriedOut.{shows}
 use Rattle.office_core.proofs.office.serve.Goals as goal
 
@@ -12,4 +12,5 @@ returns-in-Show g c = record {
       c.args.request.now c.in-Show.asked c.show.result c.in-Show.is
       (c.show.ensures.read_only.same is) (c.show.ensures.answer is);
   crash = search rules;
+  commits = inl c.show.ensures.read_only.uncommitted;
 }
