@@ -744,7 +744,10 @@ export class Station {
     return this.post("/v1/readback", { chip, blocks: checked(chip, blocks) });
   }
 
-  /** `publicKey` is bytes, and never their digits. The record is to be kept before the next request. */
+  /**
+   * `publicKey` is bytes, and never their digits. The record is to be kept before the next request, for the day on which
+   * the store is lost; while the store is there `identity` shows it again.
+   */
   async identify(chip, publicKey) {
     if (!(publicKey instanceof Uint8Array)) throw new TypeError("a public key is bytes, as in a Buffer, and no text");
     return this.post("/v1/identity", { chip, public_key: Buffer.from(publicKey).toString("hex") });
@@ -780,6 +783,11 @@ export class Station {
       if (error.no === UNKNOWN_DEVICE) return null;
       throw error;
     }
+  }
+
+  /** The identity of a device, as `identify` gave it; refused as 17 where it has none. */
+  identity(chip) {
+    return this.get("/v1/identity", { chip });
   }
 
   ledger(chip) {

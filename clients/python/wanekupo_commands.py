@@ -213,6 +213,7 @@ COMMANDS: list[tuple[str, str, Callable[..., Any], str]] = [
     ("show-order", "name", lambda it, args: it.get("/v1/order", name=args.name), "show an order"),
     ("device", "chip", lambda it, args: it.get("/v1/device", chip=args.chip), "show a device"),
     ("ledger", "chip", lambda it, args: it.get("/v1/ledger", chip=args.chip), "show a device's ledger"),
+    ("show-identity", "chip", lambda it, args: it.get("/v1/identity", chip=args.chip), "show a device's identity again"),
     ("report", "", lambda it, _: it.get("/v1/report"), "show the customer's report"),
     ("site-report", "", lambda it, _: it.get("/v1/site/report"), "show the site's report, with the manager's token"),
     ("finish", "", _finish, "send what is under way again, and show the last request's reply"),

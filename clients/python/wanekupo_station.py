@@ -817,6 +817,10 @@ class Station:
                 return None
             raise
 
+    def identity(self, chip: str) -> Identity:
+        """The identity of a device, as `identify` gave it; refused as 17 where it has none."""
+        return identity_of(self.get("/v1/identity", chip=chip))
+
     def ledger(self, chip: str) -> list[Entry]:
         entries = self.get("/v1/ledger", chip=chip)["entries"]
         return [_made(Entry, entry, added=work_of(entry)) for entry in entries]

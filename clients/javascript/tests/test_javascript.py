@@ -206,6 +206,7 @@ class JavaScript(StationCase):
         driven = self.driven(journal=str(journal))
         driven.ask("importMap", MAP + "# \u00b5\n")
         driven.ask("life", self.life_of(MAC, PUBLIC_KEY))
+        self.assertEqual([driven.ask("identity", MAC)[member] for member in ("chip", "serial")], [MAC, "A001"])
         lines = [json.loads(line) for line in journal.read_text(encoding="ascii").splitlines()]
         told = [line for line in lines if "asked" in line]
         for line in told:

@@ -115,6 +115,7 @@ class Commands(StationCase):
         record = station.identify(MAC, PUBLIC_KEY)
         key = "06e3fd8fda29bb60ab59557de61edb0aecdb231134be30e75b455f8e1b792fa9"
         self.assertEqual(record, Identity(MAC, "acme-ca", "A998", key, "020000000010", "99991231235959Z"))
+        self.assertEqual(station.identity(MAC), record)
         self.assertEqual(station.order("o1").next, "A999")
         self.assertEqual(station.ship(MAC), "shipped")
         added = [BLANK, NOTHING, FIRST, SECOND, NOTHING, NOTHING]
@@ -185,6 +186,8 @@ class Commands(StationCase):
             (lambda: station.register(other, "o2", DIGEST, others), 14, "unknown_order", 404, {}),
             (lambda: station.register(other, "o1", DIGEST, others[:3]), 41, "bad_readback", 422, {}),
             (lambda: station.ledger(other), 15, "unknown_device", 404, {}),
+            (lambda: station.identity(other), 15, "unknown_device", 404, {}),
+            (lambda: station.identity(MAC), 17, "wrong_state", 409, {}),
             (lambda: station.ship(MAC), 17, "wrong_state", 409, {}),
             (lambda: station.plan(MAC, [client.bit("NONE", 0)]), 19, "unknown_field", 422, {}),
             (lambda: station.import_map(overlapping), 29, "bad_map", 422, {"fault": 5}),

@@ -2,13 +2,13 @@
 
 use crate::replies::difference;
 use fuse_plan::PlanFault;
-use id_ranges::{IdevidRecord, KeyDigest, Mac, NotBefore, SerialRange};
+use id_ranges::{KeyDigest, Mac, NotBefore, SerialRange};
 use office_commands::{Refusal, identity_body, import_body, order_body, refused, state_body};
-use office_tables::{DeviceState, Order};
+use office_tables::{DeviceState, Given, Order};
 use std::alloc::Global;
 use std::str;
 use std::test::Fail;
-use text_core::{Chip, Name, Serial};
+use text_core::{Chip, Name, Serial, Time};
 
 /// The numbers of refusals, with their status and their body.
 const REFUSALS: &[(u8, u16, &str)] = &[
@@ -134,10 +134,17 @@ fn difference_of_orders(alloc: Global) -> Result<String, Fail> {
     difference(alloc, FULL_ORDER, body.as_str())
 }
 
-/// The record of an identity.
-fn record(mac: Option<Mac>, not_before: Option<NotBefore>) -> Option<IdevidRecord> {
-    let issuer = Name::parse("acme-ca")?;
-    IdevidRecord::new(issuer, "A998", KeyDigest::of(b"abc"), mac, not_before).ok()
+/// The row of an identity's record.
+fn given(mac: Option<Mac>, not_before: Option<NotBefore>) -> Option<Given> {
+    Some(Given {
+        issuer: Name::parse("acme-ca")?,
+        serial: Serial::parse("A998")?,
+        key: KeyDigest::of(b"abc"),
+        chip: Chip::parse("00000000000a"),
+        mac,
+        not_after: Time::no_end(),
+        not_before,
+    })
 }
 
 /// What differs where an identity is shown.
@@ -147,9 +154,9 @@ fn difference_of_identity(
     not_before: Option<NotBefore>,
     wanted: &str,
 ) -> Result<String, Fail> {
-    let record = record(mac, not_before).ok_or("no record")?;
+    let given = given(mac, not_before).ok_or("no record")?;
     let chip = Chip::parse("00000000000a").ok_or("no chip")?;
-    let body = identity_body(alloc, &chip, &record)?;
+    let body = identity_body(alloc, &chip, &given)?;
     difference(alloc, wanted, body.as_str())
 }
 

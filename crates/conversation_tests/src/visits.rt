@@ -55,6 +55,10 @@ a1 GET /v1/device?chip=00000000000a
 200 {"bits":[{"block":0,"mask":"00000040","word":6}],"chip":"00000000000a","keys":{},
   "map":"$DIGEST","order":"o1","pending":{"batch1":$NONE,"batch2":$NONE},"reason":null,
   "serial":"A998","state":"shipped"}
+a1 GET /v1/identity?chip=00000000000a
+200 {"chip":"00000000000a","issuer":"acme-ca",
+  "key_sha256":"ba7816bf8f01cfea414140de5dae2223b00361a396177a9cb410ff61f20015ad","mac":null,
+  "not_after":"99991231235959Z","not_before":null,"serial":"A998"}
 a1 GET /v1/order?name=o1
 200 {"first":998,"issuer":"acme-ca","mac":null,"macs":0,"name":"o1","next":"A999","not_before":null,
   "prefix":"A","quantity":2,"width":3}

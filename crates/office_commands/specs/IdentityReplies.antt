@@ -6,7 +6,19 @@ use Rattle.hex.specs.Hex.{encode_lower}
 use Rattle.id_ranges.specs.Prelude.{Idevid}
 use Rattle.office_tables.specs.Prelude.{state_row}
 use Rattle.office_tables.specs.declared.rows.DeviceState.{DeviceState}
+use Rattle.office_tables.specs.declared.rows.Given.{Given}
 use Rattle.office_commands.specs.Replies.{mac_data, members_of, text_data, whole_data}
+
+-- the record of an identity that a row keeps
+abbrev pub idevid_in : Given → Idevid
+idevid_in g = record {
+  issuer = g.issuer;
+  serial = g.serial;
+  key = g.key;
+  mac = g.mac;
+  not_after = g.not_after;
+  not_before = g.not_before;
+}
 
 -- the record of a device's identity (IEEE 802.1AR), its members in byte order
 abbrev pub identity_data : List ℕ → Idevid → Data

@@ -46,6 +46,8 @@ pub enum Show {
     Device(Chip),
     /// The ledger of a device, by its chip.
     Ledger(Chip),
+    /// The identity of a device, by its chip.
+    Identity(Chip),
 }
 
 /// A command of a seat.

@@ -2,43 +2,39 @@
 ghost use Rattle.std.specs.Prelude.{◌≡◌, IfOk, string_bytes};
 ghost use Rattle.serde_json.specs.View.{view};
 ghost use Rattle.office_commands.specs.IdentityReplies as replies;
-ghost use Rattle.office_commands.specs.Prelude.{identity_data, import_data, state_data};
+ghost use Rattle.office_commands.specs.Prelude.{idevid_in, identity_data, import_data, state_data};
 
 use crate::reply::{mac_value, start_value};
-use id_ranges::IdevidRecord;
-use office_tables::DeviceState;
+use office_tables::{DeviceState, Given};
 use serde_json::{Value, json};
 use std::alloc::{AllocError, Global};
 use text_core::Chip;
 
-fn identity_value(alloc: Global, chip: &Chip, idevid: &IdevidRecord) -> Result<Value, AllocError>
-    ensures { IfOk result (λ v. view v ≡ identity_data chip.now idevid.now) }
+fn identity_value(alloc: Global, chip: &Chip, given: &Given) -> Result<Value, AllocError>
+    ensures { IfOk result (λ v. view v ≡ identity_data chip.now (idevid_in given.now)) }
 {
-    let mac = mac_value(alloc, idevid.mac())?;
-    let key = idevid.key().to_string(alloc)?;
-    let start = start_value(alloc, idevid.not_before())?;
+    let mac = mac_value(alloc, given.mac)?;
+    let key = given.key.to_string(alloc)?;
+    let start = start_value(alloc, given.not_before)?;
     json!(in alloc; {
         "chip": chip.as_str(),
-        "issuer": idevid.issuer().as_str(),
+        "issuer": given.issuer.as_str(),
         "key_sha256": key.as_str(),
         "mac": mac,
-        "not_after": idevid.not_after().as_str(),
+        "not_after": given.not_after.as_str(),
         "not_before": start,
-        "serial": idevid.serial().as_str()
+        "serial": given.serial.as_str()
     })
 }
 
-/// The body that answers an identity: the record of the device (IEEE 802.1AR). It fails where there
-/// is no memory.
+/// The body that answers an identity, and that shows it again: the record of the device (IEEE
+/// 802.1AR), by its row. It fails where there is no memory.
 #[tactic(auto, unfolding(crate::specs::IdentityReplies::identity_body))]
-pub fn identity_body(
-    alloc: Global,
-    chip: &Chip,
-    idevid: &IdevidRecord,
-) -> Result<String, AllocError>
-    ensures { IfOk result (λ body. string_bytes body ≡ replies.identity_body chip.now idevid.now) }
+pub fn identity_body(alloc: Global, chip: &Chip, given: &Given) -> Result<String, AllocError>
+    ensures { IfOk result (λ body. string_bytes body
+        ≡ replies.identity_body chip.now (idevid_in given.now)) }
 {
-    identity_value(alloc, chip, idevid)?.to_string(alloc)
+    identity_value(alloc, chip, given)?.to_string(alloc)
 }
 
 fn state_value(alloc: Global, chip: &Chip, state: DeviceState) -> Result<Value, AllocError>

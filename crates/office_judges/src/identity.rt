@@ -142,14 +142,12 @@ fn accept_identity<K: Keep>(
     ensures { ReadsOnly K.Keep keep.old keep.new result (λ t accepted.
         IsIdentified customer.now seat.now t map.now device.now next.now accepted) }
 {
-    let body = identity_body(alloc, &device.chip, &next.idevid)?;
+    let row = row_of(&next.idevid, Some(device.chip));
+    let body = identity_body(alloc, &device.chip, &row)?;
     let step = step_of_identity(map, device, next.idevid.serial());
     let Accepted { body, mut writes } = accept_step(alloc, keep, customer, seat, &step, body)?;
     let customer = customer.name();
-    writes.push(Write::AddGiven(OfCustomer {
-        customer,
-        row: row_of(&next.idevid, Some(device.chip)),
-    }))?;
+    writes.push(Write::AddGiven(OfCustomer { customer, row }))?;
     writes.push(Write::SetCursor(OfCustomer {
         customer,
         row: next.cursor,

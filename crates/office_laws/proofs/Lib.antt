@@ -53,6 +53,7 @@ pub mod RunsAlone
 pub mod Seats
 mod Seen
 pub mod Served
+mod Shown
 mod SoundRows
 pub mod Sounding
 mod StepKept

@@ -8,7 +8,7 @@ use Rattle.office_rules.specs.Prelude.{at_first, issued_in, office_order_sight, 
 use Rattle.office_rules.proofs.Refusing.{is_some_map}
 use Rattle.office_laws.specs.Prelude.{SoloState, solo_issued_in, solo_order_sight, solo_sight, IsSound, solo_map, view}
 use Rattle.office_laws.proofs.Readings.{bound_own, device_own, entries_own, given_in_own, issuer_owner, map_map, map_own, order_issuer}
-use Rattle.office_laws.proofs.Readings.{order_next_own, order_own, seat_own}
+use Rattle.office_laws.proofs.Readings.{order_next_own, order_own, record_own, seat_own}
 
 module _ {owners : Ownership} {t : Tables} (sound : IsSound owners t) (s : Section) (section : IsSection owners s) where
   abbrev v : SoloState
@@ -24,6 +24,8 @@ module _ {owners : Ownership} {t : Tables} (sound : IsSound owners t) (s : Secti
     is_bound = λ key.
         (sym (is_some_map (λ g. g.row) (given_by_key o.row.issuer key t))
         ∙ ap is_some (bound_own sound s.name o.row.issuer (order_issuer sound s.name name o e) key)) i;
+    record_of = λ serial.
+        record_own sound s.name o.row.issuer (order_issuer sound s.name name o e) serial i;
   })
 
   order_seen : (name : List ℕ) → (office_sight s name t).order name ≡ (solo_sight s name v).order name

@@ -70,6 +70,7 @@ solo_order_sight s o = record {
   next = next_serial (is_issued s o.issuer) o.range;
   places = places_taken o.name s.devices;
   is_bound = λ key. is_some (record_of_key o.issuer key s);
+  record_of = λ serial. record_of_serial o.issuer serial s;
 }
 
 -- what is given in an issuer: the key of each serial number, and the number of each key

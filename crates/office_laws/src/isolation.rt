@@ -2,16 +2,18 @@
 ghost use Rattle.std.specs.Prelude.{◌≡◌, ◌↔◌, true, false, List, ℕ, Some, bytes_eq};
 ghost use Rattle.http_replies.specs.Prelude.{Answer};
 ghost use Rattle.site_core.specs.Prelude.{PoolsDisjoint, Ownership, Section};
-ghost use Rattle.office_tables.specs.Prelude.{Tables, device_at, no_rows};
+ghost use Rattle.office_tables.specs.Prelude.{Tables, device_at, given_at, no_rows};
 ghost use Rattle.office_tables.specs.declared.rows.Device.{Device};
+ghost use Rattle.office_tables.specs.declared.rows.Given.{Given};
 ghost use Rattle.office_tables.specs.declared.rows.OfCustomer.{OfCustomer};
 ghost use Rattle.fusemap_core.specs.Prelude.{Map};
 ghost use Rattle.fuse_image.specs.Prelude.{redacted};
 ghost use Rattle.fuse_plan.specs.declared.verdict.Verdict.TheVariants.{Match};
-ghost use Rattle.office_commands.specs.Prelude.{IsAsked};
+ghost use Rattle.office_commands.specs.Prelude.{IsAsked, acceptance, idevid_in, identity_body};
 ghost use Rattle.office_commands.specs.declared.new_device.NewDevice.{NewDevice};
 ghost use Rattle.office_commands.specs.declared.command.Request.{Request};
-ghost use Rattle.office_rules.specs.Prelude.{Step, map_named, reads_back, registers, verdict_of_read_back, words_fit_map};
+ghost use Rattle.office_commands.specs.declared.command.Show.TheVariants.{Identity};
+ghost use Rattle.office_rules.specs.Prelude.{Step, map_named, office_sight, reads_back, registers, show_reply, verdict_of_read_back, words_fit_map};
 ghost use Rattle.office_laws.specs.Prelude.{exchange_of_step, Grows, IssuesFresh, IsSound, MatchesWhereSeen, SeatStep, seen_with_batch, ShowAlike, solo_step};
 ghost use Rattle.office_laws.specs.Prelude.{StepsAlike, view};
 
@@ -45,6 +47,18 @@ pub fn a_batch_matches_where_it_is_seen()
         → (verdict_of_read_back (redacted m words) m d.row ≡ Match)
         ↔ (redacted m words ≡ seen_with_batch m d.row) }
     ensures reply { (x : SeatStep) → MatchesWhereSeen (exchange_of_step x) x.old }
+{}
+
+/// Over sound tables a seat is shown the record of each device of its customer's that has one, byte
+/// for byte what the identity was answered: an identity is answered by the record that stands then
+/// (`IssuesFresh`), and a record that stands goes on to (`Grows`).
+pub fn identities_are_shown()
+    ensures { (owners : Ownership) (t : Tables) (s : Section) (seat chip : List ℕ)
+        (g : OfCustomer Given) → IsSound owners t
+        → given_at g.row.issuer g.row.serial t ≡ Some g
+        → s.name ≡ g.customer → g.row.chip ≡ Some chip
+        → show_reply (office_sight s seat t) (Identity chip)
+        ≡ acceptance (identity_body chip (idevid_in g.row)) }
 {}
 
 /// No rows are sound, so each store begins with sound tables.

@@ -17,11 +17,14 @@
 //! `a_batch_matches_where_it_is_seen`: of a device of sound tables a read-back whose words fit its
 //! map matches exactly where the chip shows what it would with the whole batch burnt that is burnt
 //! next (`verdict`), and the reply to one that isn't a repeat and is answered 200 tells a match
-//! exactly there (`reply`). `only_the_redaction_is_kept`: registrations that show the same have the
-//! same steps, whatever their words, and so have read-backs. `always_a_step`: from sound tables
-//! each request has a step, so no key of a stranger's row stands in its way.
-//! `lowest_number_is_answered`: of the refusals of a command that hold, the one that is answered
-//! has the lowest number, above those of the retry rule. `no_rows_are_sound`.
+//! exactly there (`reply`). `identities_are_shown`: over sound tables the identity of each device
+//! that has a record is shown as that record, to the seats of its customer; so what an identity was
+//! answered is shown for as long as its record stands (`IssuesFresh`, `Grows`).
+//! `only_the_redaction_is_kept`: registrations that show the same have the same steps, whatever
+//! their words, and so have read-backs. `always_a_step`: from sound tables each request has a step,
+//! so no key of a stranger's row stands in its way. `lowest_number_is_answered`: of the refusals of
+//! a command that hold, the one that is answered has the lowest number, above those of the retry
+//! rule. `no_rows_are_sound`.
 //!
 //! A run is a list of calls of seats, each with its reply, where each is a step of the office, the
 //! report of the seat's customer, a refusal of what came, or 503, of which the last three change
@@ -53,8 +56,8 @@ mod refusals;
 mod runs;
 
 pub use isolation::{
-    a_batch_matches_where_it_is_seen, always_a_step, no_rows_are_sound, only_the_redaction_is_kept,
-    steps_are_the_customers_own,
+    a_batch_matches_where_it_is_seen, always_a_step, identities_are_shown, no_rows_are_sound,
+    only_the_redaction_is_kept, steps_are_the_customers_own,
 };
 pub use refusals::lowest_number_is_answered;
 pub use runs::{

@@ -144,6 +144,10 @@ a1 GET /v1/order?name=o1
   "not_before":"20240229120000Z","prefix":"A","quantity":2,"width":3}
 a1 POST /v1/scrap {"nr":10,"chip":"00000000000a"}
 200 {"chip":"00000000000a","state":"scrapped"}
+a1 GET /v1/identity?chip=00000000000a
+200 {"chip":"00000000000a","issuer":"acme-ca",
+  "key_sha256":"6e340b9cffb37a989ca544e6bb780a2c78901d3fb33738768511a30617afa01d","mac":null,
+  "not_after":"99991231235959Z","not_before":"20240229120000Z","serial":"A998"}
 # its serial number is given still, to its key
 a1 POST /v1/import {"nr":11,"issuer":"acme-ca","csv":"serial,key_sha256\nA998,6e340b9cffb37a989ca544e6bb780a2c78901d3fb33738768511a30617afa01d\nZ1,ba7816bf8f01cfea414140de5dae2223b00361a396177a9cb410ff61f20015ad\n"}
 200 {"added":1,"present":1}

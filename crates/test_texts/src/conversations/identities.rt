@@ -3,6 +3,7 @@
 /// The conversations, each under its name.
 pub const IDENTITIES: &[(&str, &str)] = &[
     ("an identity, and its key on another device", AN_IDENTITY),
+    ("an identity is shown again", SHOWN),
     ("a scrapped device keeps its serial number", SCRAPPED),
     ("the addresses of devices", ADDRESSES),
     ("numbers that an import gave are skipped", SKIPPED),
@@ -76,6 +77,86 @@ a1 GET /v1/ledger?chip=00000000000a
   {"bits":[],"event":"planned","keys":{},"n":2,"note":"","seat":"a1"},
   {"bits":[],"event":"identified","keys":{},"n":3,"note":"A998","seat":"a1"},
   {"bits":[],"event":"shipped","keys":{},"n":4,"note":"","seat":"a1"}]}
+"#;
+
+/// An identity is shown as it was given, whatever became of its device then. Another customer's device
+/// has the same chip, and the same serial number of another issuer.
+const SHOWN: &str = r#"
+@ map
+a1 GET /v1/identity?chip=00000000000a
+404 {"error":"unknown_device","no":15}
+a1 POST /v1/device {"nr":3,"chip":"00000000000a","order":"o1","map":"$DIGEST","blocks":<>}
+200 {"bits":[],"chip":"00000000000a","keys":{},"map":"$DIGEST","order":"o1",
+  "pending":{"batch1":$NONE,"batch2":$NONE},"reason":null,"serial":null,"state":"registered"}
+a1 GET /v1/identity?chip=00000000000a
+409 {"error":"wrong_state","no":17}
+a1 POST /v1/plan {"nr":4,"chip":"00000000000a","wishes":[]}
+200 {"batch1":$NONE,"batch2":$NONE,"state":"settled"}
+a1 GET /v1/identity?chip=00000000000a
+409 {"error":"wrong_state","no":17}
+a1 POST /v1/identity {"nr":5,"chip":"00000000000a","public_key":"616263"}
+200 {"chip":"00000000000a","issuer":"acme-ca",
+  "key_sha256":"ba7816bf8f01cfea414140de5dae2223b00361a396177a9cb410ff61f20015ad","mac":null,
+  "not_after":"99991231235959Z","not_before":null,"serial":"A998"}
+a1 GET /v1/identity?chip=00000000000a
+200 {"chip":"00000000000a","issuer":"acme-ca",
+  "key_sha256":"ba7816bf8f01cfea414140de5dae2223b00361a396177a9cb410ff61f20015ad","mac":null,
+  "not_after":"99991231235959Z","not_before":null,"serial":"A998"}
+b1 GET /v1/identity?chip=00000000000a
+404 {"error":"unknown_device","no":15}
+b1 POST /v1/order {"nr":1,"name":"o1","issuer":"bolt-ca","prefix":"A","width":3,"first":998,"quantity":2,"macs":0}
+200 {"first":998,"issuer":"bolt-ca","mac":null,"macs":0,"name":"o1","next":"A998","not_before":null,
+  "prefix":"A","quantity":2,"width":3}
+b1 POST /v1/map {"nr":2,"text":"$MAP"}
+200 {"map":"$DIGEST"}
+b1 POST /v1/device {"nr":3,"chip":"00000000000a","order":"o1","map":"$DIGEST","blocks":<>}
+200 {"bits":[],"chip":"00000000000a","keys":{},"map":"$DIGEST","order":"o1",
+  "pending":{"batch1":$NONE,"batch2":$NONE},"reason":null,"serial":null,"state":"registered"}
+b1 GET /v1/identity?chip=00000000000a
+409 {"error":"wrong_state","no":17}
+b1 POST /v1/plan {"nr":4,"chip":"00000000000a","wishes":[]}
+200 {"batch1":$NONE,"batch2":$NONE,"state":"settled"}
+b1 POST /v1/identity {"nr":5,"chip":"00000000000a","public_key":"01"}
+200 {"chip":"00000000000a","issuer":"bolt-ca",
+  "key_sha256":"4bf5122f344554c53bde2ebb8cd2b7e3d1600ad631c385a5d7cce23c7785459a","mac":null,
+  "not_after":"99991231235959Z","not_before":null,"serial":"A998"}
+b1 GET /v1/identity?chip=00000000000a
+200 {"chip":"00000000000a","issuer":"bolt-ca",
+  "key_sha256":"4bf5122f344554c53bde2ebb8cd2b7e3d1600ad631c385a5d7cce23c7785459a","mac":null,
+  "not_after":"99991231235959Z","not_before":null,"serial":"A998"}
+a1 POST /v1/ship {"nr":6,"chip":"00000000000a"}
+200 {"chip":"00000000000a","state":"shipped"}
+b1 POST /v1/scrap {"nr":6,"chip":"00000000000a"}
+200 {"chip":"00000000000a","state":"scrapped"}
+a1 GET /v1/identity?chip=00000000000a
+200 {"chip":"00000000000a","issuer":"acme-ca",
+  "key_sha256":"ba7816bf8f01cfea414140de5dae2223b00361a396177a9cb410ff61f20015ad","mac":null,
+  "not_after":"99991231235959Z","not_before":null,"serial":"A998"}
+b1 GET /v1/identity?chip=00000000000a
+200 {"chip":"00000000000a","issuer":"bolt-ca",
+  "key_sha256":"4bf5122f344554c53bde2ebb8cd2b7e3d1600ad631c385a5d7cce23c7785459a","mac":null,
+  "not_after":"99991231235959Z","not_before":null,"serial":"A998"}
+# scrapped without an identity
+a1 POST /v1/device {"nr":7,"chip":"00000000000b","order":"o1","map":"$DIGEST","blocks":<>}
+200 {"bits":[],"chip":"00000000000b","keys":{},"map":"$DIGEST","order":"o1",
+  "pending":{"batch1":$NONE,"batch2":$NONE},"reason":null,"serial":null,"state":"registered"}
+a1 POST /v1/scrap {"nr":8,"chip":"00000000000b"}
+200 {"chip":"00000000000b","state":"scrapped"}
+a1 GET /v1/identity?chip=00000000000b
+409 {"error":"wrong_state","no":17}
+# other forms of the request
+a1 GET /v1/identity
+400 {"error":"bad_member","no":10}
+a1 GET /v1/identity?chip=00000000000A
+400 {"error":"bad_member","no":10}
+a1 GET /v1/identity?chip=00000000000a&chip=00000000000a
+400 {"error":"bad_member","no":10}
+a1 GET /v1/identity?serial=A998
+400 {"error":"bad_member","no":10}
+a1 PUT /v1/identity
+404 {"error":"unknown_path","no":7}
+manager GET /v1/identity?chip=00000000000a
+403 {"error":"wrong_caller","no":8}
 "#;
 
 /// A scrapped device keeps its serial number and gives its place back.
@@ -156,6 +237,10 @@ a1 POST /v1/identity {"nr":7,"chip":"00000000000a","public_key":"00"}
   "key_sha256":"6e340b9cffb37a989ca544e6bb780a2c78901d3fb33738768511a30617afa01d",
   "mac":"020000000010","not_after":"99991231235959Z","not_before":null,"serial":"P001"}
 a1 POST /v1/identity {"nr":8,"chip":"00000000000b","public_key":"01"}
+200 {"chip":"00000000000b","issuer":"acme-ca",
+  "key_sha256":"4bf5122f344554c53bde2ebb8cd2b7e3d1600ad631c385a5d7cce23c7785459a",
+  "mac":"020000000012","not_after":"99991231235959Z","not_before":null,"serial":"P002"}
+a1 GET /v1/identity?chip=00000000000b
 200 {"chip":"00000000000b","issuer":"acme-ca",
   "key_sha256":"4bf5122f344554c53bde2ebb8cd2b7e3d1600ad631c385a5d7cce23c7785459a",
   "mac":"020000000012","not_after":"99991231235959Z","not_before":null,"serial":"P002"}

@@ -21,3 +21,10 @@ returns-in-Ledger g c = record {
   stays_open = search rules;
   answer = λ is. rw c.in-Ledger.is (c.show_ledger.ensures.answer is);
 }
+
+pub returns-in-Identity : goal.returns-in-Identity
+returns-in-Identity g c = record {
+  read_only = search rules;
+  stays_open = search rules;
+  answer = λ is. rw c.in-Identity.is (c.show_identity.ensures.answer is);
+}
