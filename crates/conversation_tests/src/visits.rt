@@ -117,9 +117,8 @@ impl<R> Sink<R> for Nothing {
     }
 }
 
-/// How many visits are counted after one of each of the five kinds.
-fn visits_of_each_kind(alloc: Global) -> Result<u64, Fail> {
-    let mut keep = CountingKeep::new(alloc);
+/// Makes a visit of each of the five kinds.
+fn visit_each<K: Keep>(keep: &mut K) -> Result<(), Fail> {
     let name = Name::parse("acme").ok_or("no name")?;
     let chip = Chip::parse("00000000000a").ok_or("no chip")?;
     keep.visit_orders(&name, &mut Nothing)?;
@@ -127,7 +126,29 @@ fn visits_of_each_kind(alloc: Global) -> Result<u64, Fail> {
     keep.visit_devices(&name, &mut Nothing)?;
     keep.visit_given(&name, &mut Nothing)?;
     keep.visit_ledger(&name, &chip, &mut Nothing)?;
+    Ok(())
+}
+
+/// How many visits are counted after one of each of the five kinds.
+fn visits_of_each_kind(alloc: Global) -> Result<u64, Fail> {
+    let mut keep = CountingKeep::new(alloc);
+    visit_each(&mut keep)?;
     Ok(keep.visits())
+}
+
+/// Holds the parts over one keeper: the first with another reply, or with other visits or commits.
+fn first_other_count(alloc: Global, keep: &mut CountingKeep) -> Result<String, Fail> {
+    for row in VISITS {
+        let found = first_difference(alloc, keep, row.1)?;
+        if !found.is_empty() {
+            return Ok(found);
+        }
+        let (visits, commits) = (keep.visits(), keep.commits());
+        if visits != row.2 || commits != row.3 {
+            return Ok(format!(in alloc; "{}: {visits} visits, {commits} commits", row.0)?);
+        }
+    }
+    Ok(String::new(alloc))
 }
 
 /// One request after another over one keeper: an order, a map and a ledger are walked for, and nothing
@@ -135,12 +156,8 @@ fn visits_of_each_kind(alloc: Global) -> Result<u64, Fail> {
 #[test]
 fn only_orders_maps_and_ledgers_are_walked_for(rt: HostRuntime) -> Result<(), Fail> {
     let mut keep = CountingKeep::new(rt.alloc());
-    for row in VISITS {
-        let found = first_difference(rt.alloc(), &mut keep, row.1)?;
-        assert_eq!(rt; found.as_str(), "", "{}", row.0);
-        assert_eq!(rt; keep.visits(), row.2, "{}", row.0);
-        assert_eq!(rt; keep.commits(), row.3, "{}", row.0);
-    }
+    let found = first_other_count(rt.alloc(), &mut keep)?;
+    assert_eq!(rt; found.as_str(), "");
     Ok(())
 }
 

@@ -16,7 +16,7 @@ use test_texts::samples::SITE;
 
 /// The keeper over a database in files in memory. [`over_files`] alone names it beside the methods that
 /// have one: each call that names it costs the prover half a minute.
-type SqlFiles = SqlKeep<FileStore<Fuse<Memory>>>;
+pub type SqlFiles = SqlKeep<FileStore<Fuse<Memory>>>;
 
 /// When a store is stopped: how many calls its file and its log answer before they fail each further
 /// one, and whether what wasn't synced is lost then, as where the power fails.

@@ -1,17 +1,79 @@
 //! A store in files that crashes between two lists of requests, and whose site may grow there.
+ghost use Rattle.std.specs.Prelude.{All};
+ghost use Rattle.site_core.specs.Prelude.{IsGrowth, IsSeatCaller};
 
-use crate::disks::{FilesCase, InFiles, NO_STOP, Store, file_of, over_files, rows_in, undisturbed};
+use crate::disks::{
+    FilesCase, InFiles, NO_STOP, SqlFiles, Store, file_of, over_files, rows_in, undisturbed,
+};
 use crate::grown::held_over_growth;
-use crate::stops::run_and_books;
+use crate::stops::{cut_at, run_and_books};
+use office_core::{Reply, SeatRequest};
 use office_restart::{Restarted, crash, replay_through_crash};
-use site_core::read_site_text;
+use site_core::{SiteText, read_site_text};
 use sqlite::{Files, Options};
+use sqlite_disk::{Fuse, Memory};
 use std::alloc::Global;
 use std::test::Fail;
 use test_exchanges::lists::{first_difference_among, seat_requests};
 use test_texts::conversations::growths::{GROWTHS, Growth};
 use test_texts::conversations::{Exchange, exchanges};
 use test_texts::samples::SITE;
+
+/// What a crash leaves of a store.
+fn left_by(alloc: Global, keep: SqlFiles) -> Option<Store> {
+    Store::of(alloc, &crash(keep))
+}
+
+/// The first request of two lists that didn't get its reply, and what it got, and what is left.
+fn first_difference_in_both(
+    alloc: Global,
+    asked: (&[Exchange<'_>], &[Exchange<'_>]),
+    replies: (&[Reply], &[Reply]),
+    left: Option<Store>,
+) -> Result<(String, Store), Fail> {
+    let left = left.ok_or("no memory for what is left")?;
+    let found = first_difference_among(alloc, asked.0, replies.0)?;
+    if !found.is_empty() {
+        return Ok((found, left));
+    }
+    Ok((first_difference_among(alloc, asked.1, replies.1)?, left))
+}
+
+/// Crashes at the end of two lists of requests: the first that didn't get its reply, and what it got, and what
+/// is left.
+fn ended(
+    alloc: Global,
+    asked: (&[Exchange<'_>], &[Exchange<'_>]),
+    done: Restarted<Fuse<Memory>>,
+) -> Result<(String, Store), Fail> {
+    let Restarted {
+        before,
+        after,
+        keep,
+    } = done;
+    let left = left_by(alloc, keep);
+    first_difference_in_both(alloc, asked, (before.as_slice(), after.as_slice()), left)
+}
+
+/// Makes requests over new files in memory, crashes, and makes more over what is left.
+fn restarted(
+    alloc: Global,
+    site: &SiteText,
+    first: &[SeatRequest],
+    grown: &SiteText,
+    second: &[SeatRequest],
+) -> Result<Restarted<Fuse<Memory>>, Fail>
+    requires first { All (λ asked. IsSeatCaller site.now.site asked.caller) first.now }
+    requires second { All (λ asked. IsSeatCaller grown.now.site asked.caller) second.now }
+    requires grown { IsGrowth site.now.site grown.now.site }
+{
+    let files = Files {
+        log: file_of(alloc, &[], NO_STOP.log_calls)?,
+        db: file_of(alloc, &[], NO_STOP.file_calls)?,
+    };
+    let options = Options::new(7);
+    Ok(replay_through_crash(alloc, files, options, site, first, grown, second)?)
+}
 
 /// Asks what is asked in exchanges, has the files in memory lose what wasn't synced, and asks for more
 /// for the site of a text that is the sample's or grew from it: the first request that doesn't get its
@@ -28,30 +90,8 @@ fn held_through_crash(
     if !site.site().is_growth(grown.site()) {
         return Err(Fail::from("no growth"));
     }
-    let files = Files {
-        log: file_of(alloc, &[], NO_STOP.log_calls)?,
-        db: file_of(alloc, &[], NO_STOP.file_calls)?,
-    };
-    let done = replay_through_crash(
-        alloc,
-        files,
-        Options::new(7),
-        &site,
-        first.as_slice(),
-        &grown,
-        second.as_slice(),
-    )?;
-    let Restarted {
-        before: replies,
-        after: more,
-        keep,
-    } = done;
-    let left = Store::of(alloc, &crash(keep)).ok_or("no memory for what is left")?;
-    let found = first_difference_among(alloc, before, replies.as_slice())?;
-    if !found.is_empty() {
-        return Ok((found, left));
-    }
-    Ok((first_difference_among(alloc, after, more.as_slice())?, left))
+    let done = restarted(alloc, &site, first.as_slice(), &grown, second.as_slice())?;
+    ended(alloc, (before, after), done)
 }
 
 /// The same: what differs first, in a reply or in what stands in the store at the end, which must be this.
@@ -78,12 +118,13 @@ fn difference_through_crash<K: InFiles>(
 fn first_difference_at_crashes<K: InFiles>(alloc: Global) -> Result<String, Fail> {
     let (all, run) = run_and_books(alloc)?;
     let all = all.as_slice();
-    for count in 1..run + 1 {
-        let (before, _) = all.split_at(count);
-        let (_, again) = all.split_at(count - 1);
-        for after in [again.split_at(1).0, again] {
-            let whole = count - 1 + after.len();
-            let wanted = undisturbed::<K>(alloc, &Store::new(alloc), SITE, all.split_at(whole).0)?;
+    for sent in 0..run {
+        let count = sent.saturating_add(1);
+        let (before, _) = cut_at(all, count);
+        let (_, again) = cut_at(all, sent);
+        for after in [cut_at(again, 1).0, again] {
+            let (whole, _) = cut_at(all, sent.saturating_add(after.len()));
+            let wanted = undisturbed::<K>(alloc, &Store::new(alloc), SITE, whole)?;
             let found = difference_through_crash::<K>(alloc, before, SITE, after, wanted.as_str())?;
             if !found.is_empty() {
                 return Ok(format!(in alloc; "behind {count} requests: {found}")?);

@@ -89,9 +89,17 @@ fn answered<K: Keep>(
     Ok((run.len(), String::new(alloc)))
 }
 
+/// The first of exchanges, so many or all, and the others.
+pub fn cut_at<'b, 'a>(
+    exchanges: &'b [Exchange<'a>],
+    count: usize,
+) -> (&'b [Exchange<'a>], &'b [Exchange<'a>]) {
+    exchanges.split_at(count.min(exchanges.len()))
+}
+
 /// Opens the store of a run with a stop to come, makes its first exchanges, and stops it behind them.
 fn stopped_in<K: InFiles>(alloc: Global, run: Run<'_>, stop: Stop) -> Result<Stopped, Fail> {
-    let (first, _) = run.exchanges.split_at(run.stopped.min(run.exchanges.len()));
+    let (first, _) = cut_at(run.exchanges, run.stopped);
     match K::opened(alloc, run.store, run.site, stop)? {
         Ok(mut keep) => {
             let answers = answered(alloc, &mut keep, run.site, first);
@@ -159,8 +167,8 @@ fn difference_in_rest<K: InFiles>(
     left: &Store,
 ) -> Result<String, Fail> {
     let sent = place.saturating_sub(1);
-    let (_, again) = run.exchanges.split_at(sent.min(run.exchanges.len()));
-    let (first, rest) = again.split_at(again.len().min(1));
+    let (_, again) = cut_at(run.exchanges, sent);
+    let (first, rest) = cut_at(again, 1);
     let wanted = run.rows_at(sent.saturating_add(2))?;
     let (found, store) = difference_up_to::<K>(alloc, left, run.site, first, wanted)?;
     if !found.is_empty() {
