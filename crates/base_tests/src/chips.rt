@@ -103,12 +103,17 @@ pub fn chip(
     block1: [u32; 8],
     block3: [u32; 8],
 ) -> Option<BlockWords> {
-    BlockWords::new(&[
-        Vec::from_array(alloc, [first, 0, 0, 0, 0, 0, last]).ok()?,
-        Vec::from_array(alloc, block1).ok()?,
-        Vec::from_array(alloc, ZEROS).ok()?,
-        Vec::from_array(alloc, block3).ok()?,
-    ])
+    let block0 = [first, 0, 0, 0, 0, 0, last];
+    let mut blocks = Vec::new(alloc);
+    for words in &[
+        block0.as_slice(),
+        block1.as_slice(),
+        ZEROS.as_slice(),
+        block3.as_slice(),
+    ] {
+        blocks.push(words.to_vec(alloc).ok()?).ok()?;
+    }
+    BlockWords::new(blocks.as_slice())
 }
 
 /// Whether blocks of zeros, of so many words, are taken, and whether they fit the map.

@@ -121,7 +121,9 @@ fn is_governed(map: &FuseMap, row: &(Place, Place, bool)) -> bool {
 #[test]
 fn shows_the_sample(rt: HostRuntime) -> Result<(), Fail> {
     let map = read_map(rt.alloc(), MAP)?;
-    for map in [&map, &map.copy()?] {
+    let copy = map.copy()?;
+    for map in &[&map, &copy] {
+        let map = *map;
         assert!(rt; is_sample(map));
         for row in FIELDS {
             assert!(rt; is_field(map, row), "{}", row.0);

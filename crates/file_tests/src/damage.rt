@@ -1,5 +1,5 @@
 //! A store's files with their bytes changed, and what is served over them.
-use crate::disks::{FilesCase, InFiles, NO_STOP, Store, held_over, over_files};
+use crate::disks::{Ending, FilesCase, InFiles, NO_STOP, Store, held_over, over_files};
 use crate::stops::killed_behind;
 use std::alloc::Global;
 use std::str;
@@ -75,7 +75,7 @@ fn written_over<K: InFiles>(alloc: Global, store: &Store) -> Result<Option<Vec<u
     match K::opened(alloc, store, SITE, NO_STOP)? {
         Ok(mut keep) => {
             let served = serve(alloc, &mut keep, stream.as_slice(), 4096);
-            let _ = keep.closed(alloc);
+            let _ = keep.ended(alloc, Ending::Closed);
             let (_, writer) = served?;
             Ok(Some(writer.bytes().to_vec(alloc)?))
         }

@@ -27,6 +27,15 @@ pub struct Stop {
     pub loses_unsynced: bool,
 }
 
+impl Stop {
+    /// How a keeper ends that is stopped so.
+    pub fn ending(self) -> Ending {
+        Ending::Stopped {
+            loses_unsynced: self.loses_unsynced,
+        }
+    }
+}
+
 /// No stop.
 pub const NO_STOP: Stop = Stop {
     file_calls: u64::MAX,
@@ -99,6 +108,30 @@ pub struct Unopened {
     pub left: Store,
 }
 
+/// How a keeper over files ends.
+#[derive(Clone, Copy)]
+pub enum Ending {
+    /// It is closed.
+    Closed,
+    /// It is stopped: all that was written is left, or what was synced alone.
+    Stopped { loses_unsynced: bool },
+}
+
+impl Ending {
+    /// Whether it is closed.
+    fn is_closed(self) -> bool {
+        matches!(self, Ending::Closed)
+    }
+
+    /// Whether what wasn't synced is lost.
+    fn loses_unsynced(self) -> bool {
+        match self {
+            Ending::Closed => false,
+            Ending::Stopped { loses_unsynced } => loses_unsynced,
+        }
+    }
+}
+
 /// A keeper over the files of a store. It has no drop, so that nothing proves again how each part of a
 /// database in files is dropped.
 pub trait InFiles: Keep {
@@ -115,11 +148,8 @@ pub trait InFiles: Keep {
     /// they leave where they are closed. Nothing else opens them.
     fn changed(alloc: Global, store: &Store, change: &str) -> Result<(String, Store), Fail>;
 
-    /// The bytes that it leaves where it is closed, or none where that fails.
-    fn closed(self, alloc: Global) -> Option<Store>;
-
-    /// The bytes that it leaves where it is stopped, all that was written or what was synced alone.
-    fn stopped(self, alloc: Global, loses_unsynced: bool) -> Option<Store>;
+    /// The bytes that it leaves where it ends, or none where it can't be closed.
+    fn ended(self, alloc: Global, ending: Ending) -> Option<Store>;
 }
 
 /// A case of stores in files.
@@ -143,17 +173,50 @@ fn rows_after<S: Alter>(
     rows_of(alloc, conn)
 }
 
-/// What is left of a store to which no keeper is had.
-fn handed_back(
+/// A database in files in memory.
+type InMemory = Connection<FileStore<Fuse<Memory>>>;
+
+/// The database in files of these bytes, with a stop to come, or what the opening left.
+fn connected(
     alloc: Global,
-    handed: Handed<FileStore<Fuse<Memory>>>,
-    loses_unsynced: bool,
-) -> Option<Store> {
-    let store = match handed {
+    store: &Store,
+    stop: Stop,
+) -> Result<Result<InMemory, Option<Store>>, Fail> {
+    let files = Files {
+        log: file_of(alloc, store.log.as_slice(), stop.log_calls)?,
+        db: file_of(alloc, store.file.as_slice(), stop.file_calls)?,
+    };
+    match Connection::open_files(alloc, files, Options::new(7)) {
+        Ok(conn) => Ok(Ok(conn)),
+        Err((_, left)) => Ok(Err(Store::left_of(alloc, left.into_files(), stop.loses_unsynced))),
+    }
+}
+
+/// The files of a database that is closed, or is left as it stands, and whether that went well.
+fn files_of(conn: InMemory, is_closed: bool) -> (Files<Fuse<Memory>>, bool) {
+    if !is_closed {
+        return (conn.into_store().close(), true);
+    }
+    match conn.close_files() {
+        Ok(files) => (files, true),
+        Err((_, store)) => (store.close(), false),
+    }
+}
+
+/// The store of what is handed back where no keeper is had.
+fn store_of(handed: Handed<FileStore<Fuse<Memory>>>) -> FileStore<Fuse<Memory>> {
+    match handed {
         Handed::Connection(conn) => conn.into_store(),
         Handed::Store(store) => store,
-    };
-    Store::left_of(alloc, store.close(), loses_unsynced)
+    }
+}
+
+/// A store that isn't opened, by its fault and what is left of it.
+fn not_opened(fault: OpenFault, left: Option<Store>) -> Result<Unopened, Fail> {
+    Ok(Unopened {
+        fault: fault.number(),
+        left: left.ok_or("no memory for what is left")?,
+    })
 }
 
 impl InFiles for SqlFiles {
@@ -164,55 +227,36 @@ impl InFiles for SqlFiles {
         stop: Stop,
     ) -> Result<Result<SqlFiles, Unopened>, Fail> {
         let site = read_site_text(alloc, site)?;
-        let files = Files {
-            log: file_of(alloc, store.log.as_slice(), stop.log_calls)?,
-            db: file_of(alloc, store.file.as_slice(), stop.file_calls)?,
+        let conn = match connected(alloc, store, stop)? {
+            Ok(conn) => conn,
+            Err(left) => return Ok(Err(not_opened(OpenFault::Failed, left)?)),
         };
-        let (fault, left) = match Connection::open_files(alloc, files, Options::new(7)) {
-            Ok(conn) => match adopt(alloc, conn, &site) {
-                Ok(keep) => return Ok(Ok(keep)),
-                Err((fault, handed)) => (fault, handed_back(alloc, handed, stop.loses_unsynced)),
-            },
-            Err((_, left)) => (
-                OpenFault::Failed,
-                Store::left_of(alloc, left.into_files(), stop.loses_unsynced),
-            ),
-        };
-        Ok(Err(Unopened {
-            fault: fault.number(),
-            left: left.ok_or("no memory for what is left")?,
-        }))
-    }
-
-    fn changed(alloc: Global, store: &Store, change: &str) -> Result<(String, Store), Fail> {
-        let files = Files {
-            log: file_of(alloc, store.log.as_slice(), NO_STOP.log_calls)?,
-            db: file_of(alloc, store.file.as_slice(), NO_STOP.file_calls)?,
-        };
-        let Ok(mut conn) = Connection::open_files(alloc, files, Options::new(7)) else {
-            return Err(Fail::from("the files aren't opened"));
-        };
-        let rows = rows_after(alloc, &mut conn, change);
-        let left = match conn.close_files() {
-            Ok(files) => Store::of(alloc, &files),
-            Err((_, store)) => Store::of(alloc, &store.close()),
-        };
-        Ok((rows?, left.ok_or("no memory for what is left")?))
-    }
-
-    fn closed(self, alloc: Global) -> Option<Store> {
-        match self.into_connection().close_files() {
-            Ok(files) => Store::of(alloc, &files),
-            Err((_, store)) => {
-                drop(store.close());
-                None
+        match adopt(alloc, conn, &site) {
+            Ok(keep) => Ok(Ok(keep)),
+            Err((fault, handed)) => {
+                let files = store_of(handed).close();
+                let left = Store::left_of(alloc, files, stop.loses_unsynced);
+                Ok(Err(not_opened(fault, left)?))
             }
         }
     }
 
-    fn stopped(self, alloc: Global, loses_unsynced: bool) -> Option<Store> {
-        let files = self.into_connection().into_store().close();
-        Store::left_of(alloc, files, loses_unsynced)
+    fn changed(alloc: Global, store: &Store, change: &str) -> Result<(String, Store), Fail> {
+        let Ok(mut conn) = connected(alloc, store, NO_STOP)? else {
+            return Err(Fail::from("the files aren't opened"));
+        };
+        let rows = rows_after(alloc, &mut conn, change);
+        let (files, _) = files_of(conn, true);
+        let left = Store::left_of(alloc, files, false);
+        Ok((rows?, left.ok_or("no memory for what is left")?))
+    }
+
+    fn ended(self, alloc: Global, ending: Ending) -> Option<Store> {
+        let (files, is_well) = files_of(self.into_connection(), ending.is_closed());
+        if !is_well {
+            return None;
+        }
+        Store::left_of(alloc, files, ending.loses_unsynced())
     }
 }
 
@@ -235,7 +279,11 @@ pub fn opened_and_closed<K: InFiles>(
     site: &str,
 ) -> Result<(u8, Store), Fail> {
     match K::opened(alloc, store, site, NO_STOP)? {
-        Ok(keep) => Ok((0, keep.closed(alloc).ok_or("the store isn't closed")?)),
+        Ok(keep) => Ok((
+            0,
+            keep.ended(alloc, Ending::Closed)
+                .ok_or("the store isn't closed")?,
+        )),
         Err(unopened) => Ok((unopened.fault, unopened.left)),
     }
 }
@@ -252,7 +300,7 @@ pub fn held_over<K: InFiles>(
         return Err(Fail::from("the store isn't opened"));
     };
     let found = first_difference_for(alloc, &mut keep, site, exchanges);
-    let closed = keep.closed(alloc);
+    let closed = keep.ended(alloc, Ending::Closed);
     Ok((found?, closed.ok_or("the store isn't closed")?))
 }
 

@@ -122,7 +122,8 @@ fn first_difference_at_crashes<K: InFiles>(alloc: Global) -> Result<String, Fail
         let count = sent.saturating_add(1);
         let (before, _) = cut_at(all, count);
         let (_, again) = cut_at(all, sent);
-        for after in [cut_at(again, 1).0, again] {
+        for after in &[cut_at(again, 1).0, again] {
+            let after = *after;
             let (whole, _) = cut_at(all, sent.saturating_add(after.len()));
             let wanted = undisturbed::<K>(alloc, &Store::new(alloc), SITE, whole)?;
             let found = difference_through_crash::<K>(alloc, before, SITE, after, wanted.as_str())?;

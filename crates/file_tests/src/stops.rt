@@ -103,7 +103,7 @@ fn stopped_in<K: InFiles>(alloc: Global, run: Run<'_>, stop: Stop) -> Result<Sto
     match K::opened(alloc, run.store, run.site, stop)? {
         Ok(mut keep) => {
             let answers = answered(alloc, &mut keep, run.site, first);
-            let left = keep.stopped(alloc, stop.loses_unsynced);
+            let left = keep.ended(alloc, stop.ending());
             let (replies, found) = answers?;
             Ok(Stopped {
                 place: replies.saturating_add(1),

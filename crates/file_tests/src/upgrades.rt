@@ -74,8 +74,8 @@ struct Lives;
 
 impl FilesCase for Lives {
     fn first_difference<K: InFiles>(alloc: Global) -> Result<String, Fail> {
-        for earlier in [&ONE, &EARLIEST, &EARLY, &TWO] {
-            let found = first_difference_in_life::<K>(alloc, earlier)?;
+        for earlier in &[&ONE, &EARLIEST, &EARLY, &TWO] {
+            let found = first_difference_in_life::<K>(alloc, *earlier)?;
             if !found.is_empty() {
                 return Ok(found);
             }
@@ -89,15 +89,15 @@ struct ChangedStores;
 
 impl FilesCase for ChangedStores {
     fn first_difference<K: InFiles>(alloc: Global) -> Result<String, Fail> {
-        for (earlier, rows) in [
+        for row in &[
             (&ONE, CHANGED_ONE),
             (&EARLIEST, CHANGED_EARLY),
             (&EARLY, CHANGED_EARLY),
             (&TWO, CHANGED_TWO),
         ] {
-            let found = first_other_fault::<K>(alloc, earlier, rows)?;
+            let found = first_other_fault::<K>(alloc, row.0, row.1)?;
             if !found.is_empty() {
-                return Ok(format!(in alloc; "schema {}: {found}", earlier.schema)?);
+                return Ok(format!(in alloc; "schema {}: {found}", row.0.schema)?);
             }
         }
         Ok(String::new(alloc))

@@ -11,7 +11,33 @@ use std::str;
 use std::test::Fail;
 use test_texts::conversations::{Exchange, filled, joined, request, told};
 
-/// What a seat of the site asks by a line, which is read through a buffer with no unread byte.
+/// What a seat of the site asks by the bytes of a request, which are read through a buffer with no unread
+/// byte, or why it asks nothing.
+fn asked_by(
+    alloc: Global,
+    site: &Site,
+    buffer: &mut Buffer,
+    bytes: &[u8],
+) -> Result<SeatRequest, &'static str>
+    ensures { IfOk result (λ asked. IsSeatCaller site.now asked.caller) }
+{
+    let mut reader = Pieces::new(bytes, 4096);
+    let Framed::Request(frame) = read_request(&mut reader, buffer) else {
+        return Err("no request");
+    };
+    let Some(token) = frame.token(buffer) else {
+        return Err("no token");
+    };
+    let Some(Caller::Seat(caller)) = site.who(token) else {
+        return Err("no seat");
+    };
+    match parse_command(alloc, Caller::Seat(caller), frame, buffer) {
+        Ok(Parsed::Office(request)) => Ok(SeatRequest { caller, request }),
+        _ => Err("no request to the office"),
+    }
+}
+
+/// What a seat of the site asks by a line.
 fn seat_request(
     alloc: Global,
     site: &Site,
@@ -21,20 +47,7 @@ fn seat_request(
     ensures { IfOk result (λ asked. IsSeatCaller site.now asked.caller) }
 {
     let bytes = request(alloc, line)?;
-    let mut reader = Pieces::new(bytes.as_slice(), 4096);
-    let Framed::Request(frame) = read_request(&mut reader, buffer) else {
-        return Err(Fail::from("no request"));
-    };
-    let Some(token) = frame.token(buffer) else {
-        return Err(Fail::from("no token"));
-    };
-    let Some(Caller::Seat(caller)) = site.who(token) else {
-        return Err(Fail::from("no seat"));
-    };
-    match parse_command(alloc, Caller::Seat(caller), frame, buffer) {
-        Ok(Parsed::Office(request)) => Ok(SeatRequest { caller, request }),
-        _ => Err(Fail::from("no request to the office")),
-    }
+    Ok(asked_by(alloc, site, buffer, bytes.as_slice())?)
 }
 
 /// What seats of the site ask in exchanges, one after another.

@@ -42,23 +42,36 @@ fn push_rows(text: &mut String, name: &str, rows: &[Row]) -> Result<(), Fail> {
     Ok(())
 }
 
-/// The rows that a query shows of a database.
-fn shown<S: Alter>(conn: &mut Connection<S>, query: &str) -> Result<Vec<Row>, Fail> {
-    Ok(conn.query_all(query, &[])?)
+/// Puts the rows that a query shows of a database at the end of a text, a line each that begins with a name.
+fn push_shown<S: Alter>(
+    text: &mut String,
+    conn: &mut Connection<S>,
+    name: &str,
+    query: &str,
+) -> Result<(), Fail> {
+    let rows = conn.query_all(query, &[])?;
+    push_rows(text, name, rows.as_slice())
+}
+
+/// Puts the rows of the table that a row names at the end of a text.
+fn push_table<S: Alter>(
+    alloc: Global,
+    text: &mut String,
+    conn: &mut Connection<S>,
+    row: &Row,
+) -> Result<(), Fail> {
+    let name: String = row.get(0)?;
+    let query = format!(in alloc; "SELECT * FROM {name}")?;
+    push_shown(text, conn, name.as_str(), query.as_str())
 }
 
 /// All that stands in a database, as a text: the SQL of its tables and indexes, and each row of each table.
 pub fn rows_of<S: Alter>(alloc: Global, conn: &mut Connection<S>) -> Result<String, Fail> {
     let mut text = String::new(alloc);
-    push_rows(&mut text, "schema", shown(conn, SCHEMA)?.as_slice())?;
-    for row in shown(conn, NAMES)? {
-        let name: String = row.get(0)?;
-        let query = format!(in alloc; "SELECT * FROM {name}")?;
-        push_rows(
-            &mut text,
-            name.as_str(),
-            shown(conn, query.as_str())?.as_slice(),
-        )?;
+    push_shown(&mut text, conn, "schema", SCHEMA)?;
+    let tables = conn.query_all(NAMES, &[])?;
+    for row in tables.as_slice() {
+        push_table(alloc, &mut text, conn, row)?;
     }
     Ok(text)
 }

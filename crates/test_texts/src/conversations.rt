@@ -151,51 +151,83 @@ fn name_of_prelude(conversation: &str) -> &str {
     ""
 }
 
-/// Puts the exchanges of a text behind others. A line that names a prelude may stand in front of
-/// all that it asks for.
+/// Whether a line is a request, or the first line of a reply.
+fn is_said(line: &str) -> bool {
+    !is_silent(line) && !line.starts_with(" ") && !line.starts_with("@ ")
+}
+
+/// Why a text has no exchanges, or nothing where it has. A line that names a prelude may stand in
+/// front of all that it asks for, and in no prelude.
+fn fault_of(prelude: &str, text: &str) -> &'static str {
+    let mut is_begun = !prelude.is_empty();
+    let mut is_asked = false;
+    let mut may_go_on = false;
+    for line in text.split("\n") {
+        if line.starts_with(" ") {
+            if !may_go_on {
+                return "no reply goes on";
+            }
+        } else if is_silent(line) {
+            may_go_on = false;
+        } else if line.starts_with("@ ") {
+            if is_begun {
+                return "a prelude behind the beginning";
+            }
+            is_begun = true;
+        } else {
+            may_go_on = is_asked;
+            is_asked = !is_asked;
+            is_begun = true;
+        }
+    }
+    if is_asked {
+        "a request without a reply"
+    } else {
+        ""
+    }
+}
+
+/// The reply that begins at a place of a text: its line, and those with which it goes on.
+fn reply_at(text: &str, start: usize) -> Option<&str> {
+    let mut end = start;
+    for line in text.get(start..)?.split("\n") {
+        if start < end && !line.starts_with(" ") {
+            break;
+        }
+        end = end.saturating_add(line.len()).saturating_add(1);
+    }
+    text.get(start..end.saturating_sub(1))
+}
+
+/// Puts the exchanges of a text behind others.
 fn push_exchanges<'a>(
     exchanges: &mut Vec<Exchange<'a>>,
     prelude: &'a str,
     text: &'a str,
 ) -> Result<(), Fail> {
+    let fault = fault_of(prelude, text);
+    if !fault.is_empty() {
+        return Err(Fail::from(fault));
+    }
     let mut asked = None;
-    let mut reply_start = None;
-    let mut is_begun = false;
     let mut start = 0usize;
     for (index, line) in text.split("\n").enumerate() {
-        let end = start.saturating_add(line.len());
-        if line.starts_with(" ") {
-            let from: usize = reply_start.ok_or("no reply goes on")?;
-            let mut last = exchanges.pop().ok_or("no reply goes on")?;
-            last.wanted = text.get(from..end).ok_or("no reply goes on")?;
-            exchanges.push(last)?;
-        } else if is_silent(line) {
-            reply_start = None;
-        } else if line.starts_with("@ ") {
-            if is_begun || !prelude.is_empty() {
-                return Err(Fail::from("a prelude behind the beginning"));
+        if is_said(line) {
+            if let Some((line_asked, request)) = asked {
+                exchanges.push(Exchange {
+                    prelude,
+                    line: line_asked,
+                    asked: request,
+                    wanted: reply_at(text, start).unwrap_or(line),
+                })?;
+                asked = None;
+            } else {
+                asked = Some((index.saturating_add(1), line));
             }
-            is_begun = true;
-        } else if let Some((line_asked, request)) = asked {
-            exchanges.push(Exchange {
-                prelude,
-                line: line_asked,
-                asked: request,
-                wanted: line,
-            })?;
-            asked = None;
-            reply_start = Some(start);
-        } else {
-            asked = Some((index.saturating_add(1), line));
-            reply_start = None;
-            is_begun = true;
         }
-        start = end.saturating_add(1);
+        start = start.saturating_add(line.len()).saturating_add(1);
     }
-    match asked {
-        Some(_) => Err(Fail::from("a request without a reply")),
-        None => Ok(()),
-    }
+    Ok(())
 }
 
 /// The requests of a conversation, each with its reply, those of its prelude first.

@@ -14,23 +14,35 @@ use crate::samples::MAP;
 use std::alloc::{AllocError, Global};
 use std::test::Fail;
 
-/// The SHA-256 of the sample map's text.
-const MAP_DIGEST: &str = "453e1a59aaf4956999cac589cf209d34bfa882946bada4f1aa5199c4256c4fab";
+/// What stands for texts that never differ: the SHA-256 of the sample map's text, that of its text
+/// where the coding field has a read lock, and work in which there is none.
+const CONSTANTS: &[(&str, &str)] = &[
+    (
+        "$DIGEST",
+        "453e1a59aaf4956999cac589cf209d34bfa882946bada4f1aa5199c4256c4fab",
+    ),
+    (
+        "$LOCKED",
+        "e96d07bc3b7df96f50dff86c928556204aa1af88fc584d41f0698c5182763676",
+    ),
+    ("$NONE", r#"{"bits":[],"keys":{}}"#),
+];
 
-/// The SHA-256 of its text where the coding field has a read lock.
-const LOCKED_DIGEST: &str = "e96d07bc3b7df96f50dff86c928556204aa1af88fc584d41f0698c5182763676";
-
-/// Work in which there is none.
-const NO_WORK: &str = r#"{"bits":[],"keys":{}}"#;
+/// The text with the constants in place of what stands for them.
+fn with_constants(alloc: Global, text: &str) -> Result<String, AllocError> {
+    let mut filled = String::from_str(alloc, text)?;
+    for row in CONSTANTS {
+        filled = filled.as_str().replace(alloc, row.0, row.1)?;
+    }
+    Ok(filled)
+}
 
 /// The text with what each placeholder stands for in its place.
 pub fn filled(alloc: Global, text: &str) -> Result<String, Fail> {
-    let text = text.replace(alloc, "$DIGEST", MAP_DIGEST)?;
-    let text = text.as_str().replace(alloc, "$LOCKED", LOCKED_DIGEST)?;
-    let text = text.as_str().replace(alloc, "$NONE", NO_WORK)?;
-    let text = with_blocks(alloc, text.as_str())?;
-    let text = with_repeated(alloc, text.as_str())?;
-    with_map(alloc, text.as_str())
+    let mut filled = with_constants(alloc, text)?;
+    filled = with_blocks(alloc, filled.as_str())?;
+    filled = with_repeated(alloc, filled.as_str())?;
+    with_map(alloc, filled.as_str())
 }
 
 /// The bytes of the text with what each placeholder stands for in its place.
@@ -50,14 +62,25 @@ fn with_map(alloc: Global, text: &str) -> Result<String, Fail> {
     let Some((before, after)) = text.split_once("$MAP") else {
         return Ok(String::from_str(alloc, text)?);
     };
-    let map = MAP.replace(alloc, "\"", "\\\"")?;
-    let map = map.as_str().replace(alloc, "\n", "\\n")?;
-    let Some(change) = after.strip_prefix("~") else {
-        return Ok(format!(in alloc; "{before}{map}{after}")?);
-    };
-    let (old, new, after) = two_parts(change).ok_or("no change of the map")?;
-    let map = map.as_str().replace(alloc, old, new)?;
+    let (old, new, after) = change_of_map(after).ok_or("no change of the map")?;
+    let map = map_with(alloc, old, new)?;
     Ok(format!(in alloc; "{before}{map}{after}")?)
+}
+
+/// What is changed of the map by what stands behind its placeholder, and what is behind that. A line
+/// feed, which isn't in the text, stands for no change.
+fn change_of_map(after: &str) -> Option<(&str, &str, &str)> {
+    match after.strip_prefix("~") {
+        Some(change) => two_parts(change),
+        None => Some(("\n", "", after)),
+    }
+}
+
+/// The sample map's text as JSON has it, with another part in place of one.
+fn map_with(alloc: Global, old: &str, new: &str) -> Result<String, AllocError> {
+    let mut map = MAP.replace(alloc, "\"", "\\\"")?;
+    map = map.as_str().replace(alloc, "\n", "\\n")?;
+    map.as_str().replace(alloc, old, new)
 }
 
 /// Two parts, each with its end, and what is behind them.
