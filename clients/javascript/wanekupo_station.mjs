@@ -57,6 +57,7 @@ const REPLIES = {
   "/v1/scrap": ["chip", "state"],
   "/v1/import": ["added", "present"],
   "/v1/ledger": ["chip", "entries"],
+  "/v1/devices": ["devices", "next"],
 };
 const ECHOED = ["chip", "name"];
 
@@ -792,6 +793,18 @@ export class Station {
 
   ledger(chip) {
     return this.get("/v1/ledger", { chip });
+  }
+
+  /**
+   * The customer's devices in the order of their chips, those behind a chip where one is named, each as a list shows it.
+   * A page of them is asked for when it is come to.
+   */
+  async *devices(after = "") {
+    for (let behind = after; behind !== null; ) {
+      const page = await this.get("/v1/devices", { after: behind });
+      yield* page.devices;
+      behind = page.next;
+    }
   }
 
   /** The report's text. */

@@ -187,6 +187,14 @@ def _lost(args: argparse.Namespace) -> str:
     return lost_text(lines)
 
 
+def _devices(station: Station, args: argparse.Namespace) -> str:
+    """A line for each device, printed as its page comes."""
+    for it in station.devices(args.after):
+        if args.of_state in ("", it.state):
+            print(",".join((it.chip, it.order, it.state, it.reason or "", it.serial or "")))
+    return ""
+
+
 # Each command with its words, what it does, and what is said of it. One that answers nothing has its reply printed.
 COMMANDS: list[tuple[str, str, Callable[..., Any], str]] = [
     ("order", "name issuer prefix", _order, "make an order"),
@@ -214,6 +222,7 @@ COMMANDS: list[tuple[str, str, Callable[..., Any], str]] = [
     ("device", "chip", lambda it, args: it.get("/v1/device", chip=args.chip), "show a device"),
     ("ledger", "chip", lambda it, args: it.get("/v1/ledger", chip=args.chip), "show a device's ledger"),
     ("show-identity", "chip", lambda it, args: it.get("/v1/identity", chip=args.chip), "show a device's identity again"),
+    ("devices", "", _devices, "list the customer's devices: chip, order, state, reason and serial number, a line each"),
     ("report", "", lambda it, _: it.get("/v1/report"), "show the customer's report"),
     ("site-report", "", lambda it, _: it.get("/v1/site/report"), "show the site's report, with the manager's token"),
     ("finish", "", _finish, "send what is under way again, and show the last request's reply"),
@@ -244,7 +253,7 @@ MORE = {
 
 
 # What must be given with some, in place of the seat's token and its state file.
-NEEDED = {"issued": (), "yield": (), "lost": (), "watch": ("token",), "site-report": ("token",)}
+NEEDED = {"issued": (), "yield": (), "lost": (), "watch": ("token",), "site-report": ("token",), "devices": ("token",)}
 
 
 def _parser() -> argparse.ArgumentParser:
@@ -277,6 +286,8 @@ def _parser() -> argparse.ArgumentParser:
         made[name].add_argument("--key", action="append", default=[], type=_key_file, metavar=form, help=said)
     for name in ("burn", "settle"):
         made[name].add_argument("--tool", default="espefuse.py", help="espefuse's command, with its port")
+    made["devices"].add_argument("--state", dest="of_state", default="", metavar="STATE", help="those in this state alone")
+    made["devices"].add_argument("--after", default="", metavar="CHIP", help="those whose chips come behind this one")
     made["number"].add_argument("--resynchronize", action="store_true", help="forget what is under way, and go on")
     return parser
 

@@ -77,6 +77,7 @@ REPLIES = {
     "/v1/scrap": ("chip", "state"),
     "/v1/import": ("added", "present"),
     "/v1/ledger": ("chip", "entries"),
+    "/v1/devices": ("devices", "next"),
 }
 ECHOED = ("chip", "name")
 
@@ -177,6 +178,17 @@ class Device:
     burnt: Work
     batch1: Work
     batch2: Work
+
+
+@dataclass(frozen=True)
+class Listed:
+    """A device as a list shows it; what is burnt of it is shown of one device alone."""
+
+    chip: str
+    order: str
+    state: str
+    reason: Optional[str]
+    serial: Optional[str]
 
 
 @dataclass(frozen=True)
@@ -824,6 +836,15 @@ class Station:
     def ledger(self, chip: str) -> list[Entry]:
         entries = self.get("/v1/ledger", chip=chip)["entries"]
         return [_made(Entry, entry, added=work_of(entry)) for entry in entries]
+
+    def devices(self, after: str = "") -> Iterator[Listed]:
+        """The customer's devices in the order of their chips, those behind a chip where one is named. A page of them is
+        asked for when it is come to, so a device that comes meanwhile is there if its chip is still to come."""
+        behind: Optional[str] = after
+        while behind is not None:
+            page = self.get("/v1/devices", after=behind)
+            yield from (_made(Listed, device) for device in page["devices"])
+            behind = page["next"]
 
     def report(self, path: str = "/v1/report") -> dict[str, dict[str, int]]:
         """The counts of each order, by its name."""

@@ -98,11 +98,22 @@ async function told(call) {
   }
 }
 
-/** A chip's life, calls side by side, the station's own number, a function of the module, or a call of the station. */
+/** All that an asynchronous iterator gives. */
+async function listed(iterator) {
+  const all = [];
+  for await (const one of iterator) all.push(one);
+  return all;
+}
+
+/**
+ * A chip's life, calls side by side, the station's own number, a list of devices, a function of the module, or a call
+ * of the station.
+ */
 function called(station, [name, ...words]) {
   if (name === "together") return Promise.all(words.map((call) => told(() => called(station, call))));
   if (name === "life") return life(station, words[0]);
   if (name === "ownNumber") return station.ownNumber;
+  if (name === "devices") return listed(station.devices(...words));
   return name in client ? client[name](...words) : station[name](...words);
 }
 

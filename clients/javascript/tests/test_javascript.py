@@ -149,6 +149,18 @@ class JavaScript(StationCase):
         done = subprocess.run([NODE, "life.mjs"], **run)
         self.assertEqual((done.returncode, done.stderr), (1, "240ac4000002 isn't shipped: quarantined stray\n"))
 
+    def test_javascript_devices_are_listed(self):
+        self.begun(2)
+        driven, macs = self.driven(), [MAC, "240ac4000002"]
+        self.assertEqual(driven.ask("devices"), [])
+        for place, mac in enumerate(macs, 1):
+            driven.ask("life", self.life_of(mac, bytes([place])))
+        of_all = {"order": "o1", "reason": None, "state": "shipped"}
+        listed = [{"chip": mac, "serial": f"A{place:03}", **of_all} for place, mac in enumerate(macs, 1)]
+        self.assertEqual(driven.ask("devices"), listed)
+        self.assertEqual(driven.ask("devices", MAC), listed[1:])
+        self.assertEqual(driven.close(), 0)
+
     def test_javascript_each_fault_at_each_request(self):
         self.begun(len(Proxy.FAULTS))
         for place, fault in enumerate(Proxy.FAULTS, 1):

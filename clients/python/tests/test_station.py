@@ -54,6 +54,7 @@ from wanekupo_station import (
     Espefuse,
     Identity,
     Imported,
+    Listed,
     NoReply,
     NotTheServer,
     Order,
@@ -125,6 +126,24 @@ class Commands(StationCase):
         done = station.finish()
         self.assertEqual((done.path, done.members), ("/v1/ship", {"chip": MAC}))
         self.assertEqual(done.reply, {"chip": MAC, "state": "shipped"})
+
+    def test_devices_are_listed(self):
+        """In the order of their chips, by the method and as lines, and those behind a chip."""
+        station = self.station()
+        self.assertEqual(list(station.devices()), [])
+        station.make_order(**ORDER)
+        station.import_map(MAP)
+        chips = ["240ac4000002", MAC]
+        for chip in chips:
+            station.register(chip, "o1", DIGEST, self.chip(chip).read())
+        station.scrap(MAC)
+        listed = [Listed(MAC, "o1", "scrapped", None, None), Listed(chips[0], "o1", "registered", None, None)]
+        self.assertEqual(list(station.devices()), listed)
+        self.assertEqual(list(station.devices(MAC)), listed[1:])
+        self.assertEqual(list(station.devices(chips[0])), [])
+        with self.assertRaises(Refused) as raised:
+            list(station.devices("240AC4000002"))
+        self.assertEqual(raised.exception.no, 10)
 
     def test_the_life_in_the_readme(self):
         """The script as it stands, where `espefuse.py` is the simulated chip; run again it changes nothing. Of a chip
@@ -711,6 +730,10 @@ class Words(StationCase):
         rest = '"rest":{"bits":[],"keys":{}}'
         quarantined = f'{{"outcome":"stray",{rest},"state":"quarantined"}}\n'
         self.assertEqual(self.ran("readback", MAC, str(dump))[:2], (4, quarantined))
+        for words in ([], ["--state", "quarantined"], ["--after", "000000000000"]):
+            self.assertEqual(self.ran("devices", *words)[:2], (0, f"{MAC},o1,quarantined,stray,\n"))
+        for words in (["--state", "shipped"], ["--after", MAC]):
+            self.assertEqual(self.ran("devices", *words)[:2], (0, ""))
 
 
 if __name__ == "__main__":

@@ -6,7 +6,7 @@ use std::test::Fail;
 use test_exchanges::conversation::first_difference;
 use test_exchanges::keepers::{Fresh, KeeperCase, over_each};
 use test_texts::conversations::devices::READ_BACKS;
-use text_core::Name;
+use text_core::{Chip, Name};
 
 /// The chips in their order, with a semicolon behind each.
 const CHIPS: &str = "00000000000a;00000000000b;";
@@ -25,9 +25,16 @@ impl Sink<DeviceRow> for Chips {
     }
 }
 
+/// The chips behind the first of them, and behind one that isn't there.
+const BEHIND: &str = "00000000000b;|00000000000a;00000000000b;|";
+
 /// A visit of a customer's devices after the conversation about read-backs, over a keeper without
 /// rows, that must find the chips both, in their order.
 struct Visit;
+
+/// Visits behind the first chip and behind one that isn't there, after the same conversation, each
+/// with a stroke behind its chips.
+struct VisitBehind;
 
 impl KeeperCase for Visit {
     fn first_difference<K: Fresh>(&self, alloc: Global) -> Result<String, Fail> {
@@ -45,6 +52,35 @@ impl KeeperCase for Visit {
         }
         Ok(format!(in alloc; "{CHIPS} -> {}", chips.found)?)
     }
+}
+
+impl KeeperCase for VisitBehind {
+    fn first_difference<K: Fresh>(&self, alloc: Global) -> Result<String, Fail> {
+        let mut keep = K::fresh(alloc)?;
+        let found = first_difference(alloc, &mut keep, READ_BACKS)?;
+        if !found.is_empty() {
+            return Ok(found);
+        }
+        let mut chips = Chips {
+            found: String::new(alloc),
+        };
+        let customer = Name::parse("acme").ok_or("no name")?;
+        for text in ["00000000000a", "000000000009"] {
+            let chip = Chip::parse(text).ok_or("no chip")?;
+            keep.visit_devices_behind(&customer, &chip, &mut chips)?;
+            chips.found.push_str("|")?;
+        }
+        if chips.found.as_str() == BEHIND {
+            return Ok(String::new(alloc));
+        }
+        Ok(format!(in alloc; "{BEHIND} -> {}", chips.found)?)
+    }
+}
+
+#[test]
+fn devices_are_visited_behind_a_chip(rt: HostRuntime) -> Result<(), Fail> {
+    assert_eq!(rt; over_each(rt.alloc(), &VisitBehind)?.as_str(), "");
+    Ok(())
 }
 
 #[test]

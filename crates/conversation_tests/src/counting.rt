@@ -144,6 +144,16 @@ impl Keep for CountingKeep {
         self.keep.visit_devices(customer, sink)
     }
 
+    fn visit_devices_behind<S: Sink<DeviceRow>>(
+        &mut self,
+        customer: &Name,
+        chip: &Chip,
+        sink: &mut S,
+    ) -> Result<(), Unkept> {
+        self.count();
+        self.keep.visit_devices_behind(customer, chip, sink)
+    }
+
     fn visit_given<S: Sink<GivenRow>>(
         &mut self,
         issuer: &Name,

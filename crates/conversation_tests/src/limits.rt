@@ -97,6 +97,37 @@ csv order,quantity,registered,planned,settled,identified,shipped,quarantined,scr
   o1,10000,10000,0,0,0,0,0,1,10000|
 "#;
 
+/// How the first device is listed.
+const LISTED_FIRST: &str =
+    "{\"chip\":\"00000000000a\",\"order\":\"o1\",\"reason\":null,\"serial\":null,\"state\":\"registered\"}";
+
+/// How a device behind it is listed, with a comma in front; `#` stands for its chip's last digits.
+const LISTED: &str =
+    ",{\"chip\":\"000000000#\",\"order\":\"o1\",\"reason\":null,\"serial\":null,\"state\":\"registered\"}";
+
+/// The request for the first page of devices, with its reply up to the devices.
+const FIRST_PAGE: &str = "a1 GET /v1/devices?after=\n200 {\"devices\":[";
+
+/// Behind a full page one device more.
+const ONE_MORE: &str = r#"
+a1 POST /v1/device {"nr":4,"chip":"000000000599","order":"o1","map":"$DIGEST","blocks":<>}
+200 {"bits":[],"chip":"000000000599","keys":{},"map":"$DIGEST","order":"o1",
+  "pending":{"batch1":$NONE,"batch2":$NONE},"reason":null,"serial":null,"state":"registered"}
+"#;
+
+/// The page behind a full one, and those behind the last device and in front of it.
+const NEXT_PAGE: &str = r#"
+a1 GET /v1/devices?after=000000000598
+200 {"devices":[
+  {"chip":"000000000599","order":"o1","reason":null,"serial":null,"state":"registered"}],"next":null}
+a1 GET /v1/devices?after=000000000599
+200 {"devices":[],"next":null}
+a1 GET /v1/devices?after=000000000597
+200 {"devices":[
+  {"chip":"000000000598","order":"o1","reason":null,"serial":null,"state":"registered"},
+  {"chip":"000000000599","order":"o1","reason":null,"serial":null,"state":"registered"}],"next":null}
+"#;
+
 /// What an import of acme's begins with; `#` stands for its number.
 const IMPORT: &str =
     "a1 POST /v1/import {\"nr\":#,\"issuer\":\"acme-ca\",\"csv\":\"serial,key_sha256\\n";
@@ -252,6 +283,8 @@ enum Rows {
     Orders,
     /// 9,998 devices behind the first.
     Devices,
+    /// 499 devices behind the first: a page that is exactly full.
+    Page,
 }
 
 /// A conversation for a site in two parts, between which rows are put into the tables.
@@ -330,6 +363,17 @@ fn add_devices<K: Keep>(alloc: Global, keep: &mut K) -> Result<(), Fail> {
     Ok(())
 }
 
+/// Puts 499 devices beside the first, whose chips come behind it.
+fn add_page<K: Keep>(alloc: Global, keep: &mut K) -> Result<(), Fail> {
+    let customer = Name::parse("acme").ok_or("no name")?;
+    let chip = Chip::parse("00000000000a").ok_or("no chip")?;
+    let first = keep.device(&customer, &chip)?.ok_or("no device")?;
+    for number in 100..599 {
+        add_device(alloc, keep, &first, number)?;
+    }
+    Ok(())
+}
+
 impl Limit<'_> {
     /// Holds a part of the conversation: what differs first.
     fn first_in_part<K: Keep>(
@@ -354,6 +398,7 @@ impl KeeperCase for Limit<'_> {
             Rows::None => {}
             Rows::Orders => add_orders(alloc, &mut keep)?,
             Rows::Devices => add_devices(alloc, &mut keep)?,
+            Rows::Page => add_page(alloc, &mut keep)?,
         }
         self.first_in_part(alloc, &mut keep, self.rest)
     }
@@ -363,6 +408,14 @@ impl KeeperCase for Limit<'_> {
 fn last_orders(alloc: Global) -> Result<String, AllocError> {
     let lines = numbered(alloc, ORDER_LINE, "#", 1001, 5097)?;
     format!(in alloc; "{LAST_ORDER}{REPORT}{lines}\n")
+}
+
+/// A page of 500 devices behind which there are none; and with one more, that page and the next.
+fn full_pages(alloc: Global) -> Result<String, AllocError> {
+    let listed = numbered(alloc, LISTED, "#", 100, 599)?;
+    format!(in alloc;
+        "{FIRST_PAGE}{LISTED_FIRST}{listed}],\"next\":null}}\n{ONE_MORE}{FIRST_PAGE}{LISTED_FIRST}{listed}],\"next\":\"000000000598\"}}\n{NEXT_PAGE}"
+    )
 }
 
 /// All but the last of 10,000 numbers, imported in parts of up to 500, and what comes then.
@@ -432,6 +485,19 @@ fn devices_are_registered_to_the_limit(rt: HostRuntime) -> Result<(), Fail> {
         first: FIRST_DEVICE,
         rows: Rows::Devices,
         rest: LAST_DEVICE,
+    };
+    assert_eq!(rt; over_each(rt.alloc(), &limit)?.as_str(), "");
+    Ok(())
+}
+
+#[test]
+fn a_full_page_tells_of_more_where_there_are_more(rt: HostRuntime) -> Result<(), Fail> {
+    let rest = full_pages(rt.alloc())?;
+    let limit = Limit {
+        site: SITE,
+        first: FIRST_DEVICE,
+        rows: Rows::Page,
+        rest: rest.as_str(),
     };
     assert_eq!(rt; over_each(rt.alloc(), &limit)?.as_str(), "");
     Ok(())

@@ -18,7 +18,8 @@ const VISITS: &[(&str, &str, u64, u64)] = &[
     ),
     ("devices are found by their chips", BY_KEYS, 2, 9),
     ("a ledger is walked over", LEDGER, 3, 9),
-    ("what isn't accepted commits nothing", REFUSED, 3, 9),
+    ("a page of devices is one walk", PAGE, 5, 9),
+    ("what isn't accepted commits nothing", REFUSED, 5, 9),
 ];
 
 /// An order, which is compared with the customer's other orders, and a map, which is counted among
@@ -72,6 +73,17 @@ a1 GET /v1/ledger?chip=00000000000b
   {"bits":[],"event":"scrapped","keys":{},"n":2,"note":"","seat":"a1"}]}
 "#;
 
+/// The first page of devices, and the one behind the first device.
+const PAGE: &str = r#"
+a1 GET /v1/devices?after=
+200 {"devices":[
+  {"chip":"00000000000a","order":"o1","reason":null,"serial":"A998","state":"shipped"},
+  {"chip":"00000000000b","order":"o1","reason":null,"serial":null,"state":"scrapped"}],"next":null}
+a1 GET /v1/devices?after=00000000000a
+200 {"devices":[
+  {"chip":"00000000000b","order":"o1","reason":null,"serial":null,"state":"scrapped"}],"next":null}
+"#;
+
 /// Another body of the last number, a number that skips one, a device that isn't there, and a repeat.
 const REFUSED: &str = r#"
 a1 POST /v1/ship {"nr":9,"chip":"00000000000b"}
@@ -117,19 +129,20 @@ impl<R> Sink<R> for Nothing {
     }
 }
 
-/// Makes a visit of each of the five kinds.
+/// Makes a visit of each of the six kinds.
 fn visit_each<K: Keep>(keep: &mut K) -> Result<(), Fail> {
     let name = Name::parse("acme").ok_or("no name")?;
     let chip = Chip::parse("00000000000a").ok_or("no chip")?;
     keep.visit_orders(&name, &mut Nothing)?;
     keep.visit_links(&name, &mut Nothing)?;
     keep.visit_devices(&name, &mut Nothing)?;
+    keep.visit_devices_behind(&name, &chip, &mut Nothing)?;
     keep.visit_given(&name, &mut Nothing)?;
     keep.visit_ledger(&name, &chip, &mut Nothing)?;
     Ok(())
 }
 
-/// How many visits are counted after one of each of the five kinds.
+/// How many visits are counted after one of each of the six kinds.
 fn visits_of_each_kind(alloc: Global) -> Result<u64, Fail> {
     let mut keep = CountingKeep::new(alloc);
     visit_each(&mut keep)?;
@@ -151,10 +164,10 @@ fn first_other_count(alloc: Global, keep: &mut CountingKeep) -> Result<String, F
     Ok(String::new(alloc))
 }
 
-/// One request after another over one keeper: an order, a map and a ledger are walked for, and nothing
-/// else is. What is accepted commits once, and nothing else commits.
+/// One request after another over one keeper: an order, a map, a ledger and a page of
+/// devices are walked for, and nothing else is. What is accepted commits once, and nothing else commits.
 #[test]
-fn only_orders_maps_and_ledgers_are_walked_for(rt: HostRuntime) -> Result<(), Fail> {
+fn only_orders_maps_ledgers_and_pages_are_walked_for(rt: HostRuntime) -> Result<(), Fail> {
     let mut keep = CountingKeep::new(rt.alloc());
     let found = first_other_count(rt.alloc(), &mut keep)?;
     assert_eq!(rt; found.as_str(), "");
@@ -163,7 +176,7 @@ fn only_orders_maps_and_ledgers_are_walked_for(rt: HostRuntime) -> Result<(), Fa
 
 #[test]
 fn each_kind_of_visit_counts(rt: HostRuntime) -> Result<(), Fail> {
-    assert_eq!(rt; visits_of_each_kind(rt.alloc())?, 5);
+    assert_eq!(rt; visits_of_each_kind(rt.alloc())?, 6);
     Ok(())
 }
 

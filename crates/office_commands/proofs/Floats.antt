@@ -1,4 +1,4 @@
--- Nothing that is shown of a device has a float.
+-- Nothing that is shown of devices has a float.
 use Rattle.std.proofs.Common.{◌≡◌, ◌==◌, ◌∷◌, Ordering, if◌then◌else◌}
 use Rattle.text_core.proofs.Kit.{ℕ, suc, Bool, true, false, List, [], map, Option, Some, None, Less, Equal, Greater, refl, or_from, or_parts, match_ordering}
 use Rattle.std.specs.FinMap as table
@@ -18,6 +18,7 @@ use Rattle.office_tables.specs.declared.rows.Reason.{Reason}
 use Rattle.office_tables.specs.declared.rows.Reason.TheVariants.{Lost, Stray, Key}
 use Rattle.office_commands.specs.Prelude.{text_data, outcome_data, plan_data, items_of, word_data, word_list, bits_data, key_at, with_digest, with_key_members}
 use Rattle.office_commands.specs.Prelude.{keys_data, batch_data, reason_data, device_data, entry_by, entry_data, fields_of, image_by, ledger_data}
+use Rattle.office_commands.specs.Prelude.{devices_data, listed_data}
 
 in_words_shown : (is_zero : Bool) (d : Data) (ds : List Data) → has_float d ≡ false → items_have_float (items_of ds) ≡ false
     → items_have_float (items_of (if is_zero then ds else d ∷ ds)) ≡ false
@@ -85,6 +86,16 @@ in_entries m (e ∷ es) = or_from _ _ (in_entry (fields_of m) (image_by m e.bits
 
 pub in_ledger : (m : Option Map) (chip : List ℕ) (entries : List NewEntry) → has_float (ledger_data m chip entries) ≡ false
 in_ledger m chip entries = or_from _ _ (in_entries m entries) refl
+
+in_listed : (d : Device) → has_float (listed_data d) ≡ false
+in_listed d = or_from _ _ (in_reason (state_row d.state).reason) (or_from _ _ (in_text d.serial) refl)
+
+in_list : (devices : List Device) → items_have_float (items_of (map listed_data devices)) ≡ false
+in_list [] = refl
+in_list (d ∷ ds) = or_from _ _ (in_listed d) (in_list ds)
+
+pub in_devices : (devices : List Device) (next : Option (List ℕ)) → has_float (devices_data devices next) ≡ false
+in_devices devices next = or_from _ _ (in_list devices) (or_from _ _ (in_text next) refl)
 
 pub in_plan : (fields : List Field) (work : Pending) (state : DeviceState) → has_float (plan_data fields work state) ≡ false
 in_plan fields work state = or_from _ _ (in_work fields work.first work.keys) (or_from _ _ (in_work fields work.second table.empty) refl)

@@ -48,6 +48,8 @@ pub enum Show {
     Ledger(Chip),
     /// The identity of a device, by its chip.
     Identity(Chip),
+    /// A page of the customer's devices: those behind a chip, or the first ones.
+    Devices(Option<Chip>),
 }
 
 /// A command of a seat.

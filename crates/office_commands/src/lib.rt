@@ -1,8 +1,8 @@
 //! What a seat can ask for, and what it is answered.
 //!
 //! The body and the status of each refusal, and the JSON texts of an order, a map, a device, a
-//! plan, a verdict and a ledger, an identity, a state and an import, are exactly those of the
-//! formats. Each refusal's body tells its number (`Refusal::number`,
+//! plan, a verdict, a ledger and a list of devices, an identity, a state and an import, are exactly
+//! those of the formats. Each refusal's body tells its number (`Refusal::number`,
 //! `refusals_tell_their_numbers`). A request's number is 1 to 9007199254740991 by its type
 //! (`RequestNumber`).
 #![tactic(auto)]
@@ -20,7 +20,7 @@ mod step_reply;
 mod wishes;
 
 pub use command::{Action, Change, Command, Request, Show};
-pub use device_reply::{device_body, ledger_body};
+pub use device_reply::{device_body, devices_body, ledger_body};
 pub use identity_reply::{identity_body, import_body, state_body};
 pub use new_device::NewDevice;
 pub use new_identity::{NewIdentity, NewImport};

@@ -7,6 +7,7 @@ mod Anew
 mod Appended
 pub mod CursorLaws
 mod DeviceLaws
+mod DevicePages
 mod DeviceRows
 pub mod End
 mod Existing

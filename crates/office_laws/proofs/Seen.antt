@@ -49,6 +49,7 @@ module _ {owners : Ownership} {t : Tables} (sound : IsSound owners t) (s : Secti
     issuer = λ issuer. issuer_seen issuer i;
     maps = sym (length-map (rows_of s.name t.links) (solo_map t)) i;
     text = λ digest. text_seen digest i;
+    devices = rows_of s.name t.devices;
     device = λ chip. device_own s.name chip t i;
     ledger = λ chip. entries_own s.name chip t.ledger i;
   }

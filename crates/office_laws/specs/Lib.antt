@@ -7,6 +7,7 @@ pub mod Grows
 pub mod Growth
 pub mod LawfulRuns
 pub mod Once
+pub mod Pages
 pub mod Pending
 pub mod Promises
 pub mod ReadBacks

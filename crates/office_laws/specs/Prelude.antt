@@ -16,6 +16,7 @@ pub use Rattle.office_laws.specs.LawfulRuns.{ShowAlike, StartAlike, StepsAlike}
 pub use Rattle.office_laws.specs.Once.{ActsOnce, AgreeWithFirst, firsts, is_accepted, is_again}
 pub use Rattle.office_laws.specs.Once.{is_change, is_no_repeat, last_number_of_seat}
 pub use Rattle.office_laws.specs.Once.{number_of_wanted, once, writes}
+pub use Rattle.office_laws.specs.Pages.{on_pages}
 pub use Rattle.office_laws.specs.Pending.{IsAwaited, IsOfBatches}
 pub use Rattle.office_laws.specs.Promises.{Promises}
 pub use Rattle.office_laws.specs.ReadBacks.{MatchesWhereSeen, seen_with_batch, TellsMatch}

@@ -89,6 +89,7 @@ solo_sight c seat s = record {
   issuer = λ issuer. if has_issuer c issuer then Some (solo_issued_in issuer s) else None;
   maps = length s.maps;
   text = λ digest. option_map (λ m. m.text) (find (λ m. bytes_eq digest m.digest) s.maps);
+  devices = s.devices;
   device = λ chip. find (λ d. bytes_eq chip d.chip) s.devices;
   ledger = λ chip. filter (λ e. bytes_eq chip e.chip) s.ledger;
 }

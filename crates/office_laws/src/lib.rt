@@ -24,7 +24,9 @@
 //! their words, and so have read-backs. `always_a_step`: from sound tables each request has a step,
 //! so no key of a stranger's row stands in its way. `lowest_number_is_answered`: of the refusals of
 //! a command that hold, the one that is answered has the lowest number, above those of the retry
-//! rule. `no_rows_are_sound`.
+//! rule. `pages_show_each_device_once`: pages of the same devices of a customer, each behind the
+//! end of the one before, show each once, in the order of the chips, and no other; in tables that
+//! are in the order of their keys, sound or not. `no_rows_are_sound`.
 //!
 //! A run is a list of calls of seats, each with its reply, where each is a step of the office, the
 //! report of the seat's customer, a refusal of what came, or 503, of which the last three change
@@ -52,6 +54,7 @@
 #![tactic(auto)]
 
 mod isolation;
+mod pages;
 mod refusals;
 mod runs;
 
@@ -59,6 +62,7 @@ pub use isolation::{
     a_batch_matches_where_it_is_seen, always_a_step, identities_are_shown, no_rows_are_sound,
     only_the_redaction_is_kept, steps_are_the_customers_own,
 };
+pub use pages::pages_show_each_device_once;
 pub use refusals::lowest_number_is_answered;
 pub use runs::{
     identities_give_once, other_calls_make_no_difference, repeats_act_once,

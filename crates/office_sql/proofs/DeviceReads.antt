@@ -8,14 +8,15 @@ use Rattle.sqlite.specs.declared.types.Value.TheVariants.{Text as Words}
 use Rattle.sqlite.specs.Listing.{understood}
 use Rattle.sqlite_tied.specs.Compute.{everything}
 use Rattle.sqlite_trees.proofs.ListLemmas.{map-map}
-use Rattle.office_tables.specs.Prelude.{device_cmp, is_device, is_of}
+use Rattle.office_tables.specs.Prelude.{device_cmp, is_device, is_device_behind, is_of}
 pub use Rattle.office_tables.proofs.Places.{device_total}
 use Rattle.office_sql.specs.Prelude.{devices, office_schema, device_in_row, scan, is_parameter, env, passes, order_state, order_state_in, AreRows, IsDeviceRow}
+use Rattle.office_sql.specs.Prelude.{is_above_parameter}
 use Rattle.office_sql.proofs.Kept.{shows_kept, kept_is}
 use Rattle.office_sql.proofs.Lists.{sorted_kept}
 use Rattle.office_sql.proofs.Reading.{IsRead}
 use Rattle.office_sql.proofs.Scan.{Scanned}
-use Rattle.office_sql.proofs.Values.{text_is, texts_cmp, and_true}
+use Rattle.office_sql.proofs.Values.{text_above, text_is, texts_cmp, and_true}
 
 abbrev pub one_text : List ℕ
 one_text = codes "SELECT customer, chip, ord, map, state, reason, bits, keys, todo, serial FROM device WHERE customer = ?1 AND chip = ?2 ORDER BY customer, chip"
@@ -23,11 +24,18 @@ one_text = codes "SELECT customer, chip, ord, map, state, reason, bits, keys, to
 abbrev pub own_text : List ℕ
 own_text = codes "SELECT customer, chip, ord, map, state, reason, bits, keys, todo, serial FROM device WHERE customer = ?1 ORDER BY customer, chip"
 
+abbrev pub behind_text : List ℕ
+behind_text = codes "SELECT customer, chip, ord, map, state, reason, bits, keys, todo, serial FROM device WHERE customer = ?1 AND chip > ?2 ORDER BY customer, chip"
+
 abbrev pub states_text : List ℕ
 states_text = codes "SELECT ord, state, reason FROM device WHERE customer = ?1 ORDER BY customer, chip"
 
 abbrev pub shown : List Term
 shown = col 1 1 ∷ col 1 2 ∷ col 1 3 ∷ col 1 4 ∷ col 1 5 ∷ col 1 6 ∷ col 1 7 ∷ col 1 8 ∷ col 1 9 ∷ col 1 10 ∷ []
+
+-- the customer is the first parameter, and the chip is greater than the second
+abbrev pub behind_tests : List Term
+behind_tests = is_parameter 1 0 ∷ is_above_parameter 2 1 ∷ []
 
 abbrev pub states_shown : List Term
 states_shown = col 1 3 ∷ col 1 5 ∷ col 1 6 ∷ []
@@ -45,6 +53,10 @@ one_read = record { names = names; is = refl; plain = (refl, refl); unlisted = r
 pub own_read : IsRead office_schema own_text devices (is_parameter 1 0 ∷ []) shown by_key
 unfolding understood everything
 own_read = record { names = names; is = refl; plain = (refl, refl); unlisted = refl; bare = λ schema base. refl; there = λ db. refl }
+
+pub behind_read : IsRead office_schema behind_text devices behind_tests shown by_key
+unfolding understood everything
+behind_read = record { names = names; is = refl; plain = (refl, refl); unlisted = refl; bare = λ schema base. refl; there = λ db. refl }
 
 pub states_read : IsRead office_schema states_text devices (is_parameter 1 0 ∷ []) states_shown by_key
 unfolding understood everything
@@ -73,6 +85,9 @@ passes_device c n r e = ap₂ ◌&&◌ (text_is (column r 1) c e.0) (and_true _ 
 pub passes_own : (c : List ℕ) (r : Row) → IsDeviceRow r → passes (is_parameter 1 0 ∷ []) (Words c ∷ []) r ≡ is_of c (device_in_row r)
 passes_own c r e = and_true _ ∙ text_is (column r 1) c e.0
 
+pub passes_behind : (c n : List ℕ) (r : Row) → IsDeviceRow r → passes behind_tests (Words c ∷ Words n ∷ []) r ≡ is_device_behind c n (device_in_row r)
+passes_behind c n r e = ap₂ ◌&&◌ (text_is (column r 1) c e.0) (and_true _ ∙ text_above (column r 2) n e.1)
+
 pub one_shown : (c n : List ℕ) (all rows : List Row)
     → AreRows IsDeviceRow device_cmp device_in_row all
     → Scanned (is_parameter 1 0 ∷ is_parameter 2 1 ∷ []) shown by_key (Words c ∷ Words n
@@ -91,6 +106,15 @@ pub own_shown : (c : List ℕ) (all rows : List Row)
 own_shown c all rows are s =
     shows_kept IsDeviceRow device_cmp device_total device_in_row by_chip by_chip_total chips_order
     (is_of c) (is_parameter 1 0 ∷ []) (Words c ∷ []) (passes_own c)
+    shown by_key (λ r. device_in_row (Null ∷ r)) (λ r. refl) (λ a b. refl) all rows are s
+
+pub behind_shown : (c n : List ℕ) (all rows : List Row)
+    → AreRows IsDeviceRow device_cmp device_in_row all
+    → Scanned behind_tests shown by_key (Words c ∷ Words n ∷ []) all rows
+    → map (λ r. device_in_row (Null ∷ r)) rows ≡ filter (is_device_behind c n) (sort_by device_cmp (map device_in_row all))
+behind_shown c n all rows are s =
+    shows_kept IsDeviceRow device_cmp device_total device_in_row by_chip by_chip_total chips_order
+    (is_device_behind c n) behind_tests (Words c ∷ Words n ∷ []) (passes_behind c n)
     shown by_key (λ r. device_in_row (Null ∷ r)) (λ r. refl) (λ a b. refl) all rows are s
 
 pub states_shown_are : (c : List ℕ) (all rows : List Row)

@@ -82,7 +82,7 @@ pub use Rattle.sqlite_schema.specs.declared.schema.Index.{Index}
 pub use Rattle.sqlite_schema.specs.declared.schema.Keys.TheVariants.{Enforced}
 pub use Rattle.sqlite_schema.specs.declared.schema.Reference.{Reference}
 pub use Rattle.sqlite_sql.specs.declared.ops.BinaryOp.TheVariants.{Compare, Is}
-pub use Rattle.sqlite_sql.specs.declared.ops.CompareOp.TheVariants.{Eq, Ge, Lt, Ne}
+pub use Rattle.sqlite_sql.specs.declared.ops.CompareOp.TheVariants.{Eq, Ge, Gt, Lt, Ne}
 pub use Rattle.sqlite_syntax.specs.declared.statement.Parsed.{Parsed}
 pub use Rattle.sqlite_trees.specs.declared.store.Shape.{Shape}
 pub use Rattle.sqlite_value.specs.declared.keys.Key.{Key}

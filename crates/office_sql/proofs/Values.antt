@@ -1,8 +1,9 @@
 -- The tests of SQL on columns of one kind, and their order.
-use Rattle.std.proofs.Common.{◌≡◌, ◌&&◌}
+use Rattle.std.proofs.Common.{◌≡◌, ◌&&◌, Ordering}
 use Rattle.text_core.proofs.Kit.{ℕ, ℤ, Bool, true, false, List, refl, ap, ap₂, ◌∙◌, is_eq, Some, bytes_eq, nat_cmp, slice_cmp, nat_list_eq_equiv, tied_itself}
+use Rattle.text_core.proofs.Kit.{Less, Equal, Greater, is_gt, is_lt, nat_list_cmp_total, ordering_reverse}
 use Rattle.text_core.proofs.Kit.{is_eq-slice_cmp}
-use Rattle.office_sql.proofs.Kit.{Value, Null, Int, bytes, is_true, from_truth, Eq, Compare, Is, Binary, value_cmp_total, value_cmp-apart, value_cmp-Text}
+use Rattle.office_sql.proofs.Kit.{Value, Null, Int, bytes, is_true, from_truth, Eq, Gt, Compare, Is, Binary, value_cmp_total, value_cmp-apart, value_cmp-Text}
 use Rattle.office_sql.proofs.Kit.{value_cmp-Blob}
 use Rattle.sqlite.specs.declared.types.Value.TheVariants.{Text as Words, Blob as Bytes}
 use Rattle.sqlite.specs.Order.{value_cmp}
@@ -19,6 +20,19 @@ words_are s t = told _ ∙ ap is_eq (value_cmp-Text s t) ∙ is_eq-slice_cmp s t
 blobs_are : (s t : List ℕ) → is_true (binary (Compare Eq Binary) (Bytes s) (Bytes t)) ≡ bytes_eq t s
 unfolding binary
 blobs_are s t = told _ ∙ ap is_eq (value_cmp-Blob s t) ∙ is_eq-slice_cmp s t ∙ nat_list_eq_equiv.symm s t
+
+reversed : (o : Ordering) → is_gt (ordering_reverse o) ≡ is_lt o
+reversed Less = refl
+reversed Equal = refl
+reversed Greater = refl
+
+words_above : (s t : List ℕ) → is_true (binary (Compare Gt Binary) (Words s) (Words t)) ≡ is_lt (slice_cmp nat_cmp t s)
+unfolding binary
+words_above s t = told _ ∙ ap is_gt (value_cmp-Text s t ∙ nat_list_cmp_total.antisymm s t) ∙ reversed (slice_cmp nat_cmp t s)
+
+-- a column that is a text is greater than a text where that comes before its bytes
+pub text_above : (v : Value) (t : List ℕ) → v ≡ Words (bytes v) → is_true (binary (Compare Gt Binary) v (Words t)) ≡ is_lt (slice_cmp nat_cmp t (bytes v))
+text_above v t e = ap (λ w. is_true (binary (Compare Gt Binary) w (Words t))) e ∙ words_above (bytes v) t
 
 -- a column that is a text equals a text where its bytes do
 pub text_is : (v : Value) (t : List ℕ) → v ≡ Words (bytes v) → is_true (binary (Compare Eq Binary) v (Words t)) ≡ bytes_eq t (bytes v)

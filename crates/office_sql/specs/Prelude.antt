@@ -13,7 +13,7 @@ pub use Rattle.office_sql.specs.Rows.{columns_with_cursor, device_columns, devic
 pub use Rattle.office_sql.specs.Rows.{given_start_columns, joined_given, joined_order, link_columns, link_in_row, map_columns, map_in_row, order_columns}
 pub use Rattle.office_sql.specs.Rows.{order_in_row, order_start_columns, seat_columns, seat_in_row, start_in_rows, starts_given, starts_order, with_given_start}
 pub use Rattle.office_sql.specs.Rows.{with_order_start}
-pub use Rattle.office_sql.specs.Scan.{env, is_parameter, passes, passing, scan}
+pub use Rattle.office_sql.specs.Scan.{env, is_above_parameter, is_parameter, passes, passing, scan}
 pub use Rattle.office_sql.specs.Schema.{blob, column, device_table, given_start_table, given_table, index_at, ledger_table, link_table, map_table, meta_table}
 pub use Rattle.office_sql.specs.Schema.{no_schema, office_schema, order_start_table, orders_table, place_of, rows_in, seat_table, site_text_table, table_at}
 pub use Rattle.office_sql.specs.Schema.{table_of, text, to, tree_of, whole, with_meta}

@@ -5,7 +5,7 @@ use Rattle.sqlite.specs.declared.types.Value.TheVariants.{Int}
 use Rattle.sqlite_value.specs.declared.keys.Key.{Key}
 use Rattle.sqlite.specs.Collation.TheVariants.{Binary}
 use Rattle.sqlite.specs.Order.{Row}
-use Rattle.sqlite_sql.specs.declared.ops.CompareOp.TheVariants.{Eq}
+use Rattle.sqlite_sql.specs.declared.ops.CompareOp.TheVariants.{Eq, Gt}
 use Rattle.sqlite_sql.specs.declared.ops.BinaryOp.TheVariants.{Compare}
 use Rattle.sqlite.specs.Term.{Term, Env, lit, col, op2, holds}
 use Rattle.sqlite.specs.Query.{Query, inner, end}
@@ -27,6 +27,10 @@ scan tree tests shown order = record {
 -- the column is the parameter
 abbrev pub is_parameter : ℕ → ℕ → Term
 is_parameter place param = op2 (Compare Eq Binary) (col 1 place) (col 0 param)
+
+-- the column is greater than the parameter
+abbrev pub is_above_parameter : ℕ → ℕ → Term
+is_above_parameter place param = op2 (Compare Gt Binary) (col 1 place) (col 0 param)
 
 -- what terms see: the parameters, and a row
 abbrev pub env : Row → Row → Env

@@ -4,7 +4,7 @@ ghost use Rattle.sqlite.specs.declared.types.Value.TheVariants.{Null};
 ghost use Rattle.sqlite.specs.Held.{state};
 ghost use Rattle.sqlite.specs.Order.{column, bytes};
 ghost use Rattle.sqlite.specs.Values.{bound};
-ghost use Rattle.office_tables.specs.Prelude.{state_row, Visits, is_of, is_device, device_at, IsFree, reason_text};
+ghost use Rattle.office_tables.specs.Prelude.{state_row, Visits, is_of, is_device, is_device_behind, device_at, IsFree, reason_text};
 ghost use Rattle.office_tables.specs.declared.rows.Write.TheVariants.{AddDevice as TheNewDevice, PutDevice as TheDevice};
 ghost use Rattle.office_sql.specs.Prelude.{SqlReads, SqlWrites, HasOffice, Wrote, order_state, order_state_in, device_in_row, device_columns, tables_in};
 ghost use Rattle.office_sql.specs.Prelude.{state_in, text_if};
@@ -148,6 +148,27 @@ pub fn visit_devices<S: Alter, K: Sink<DeviceRow>>(
         conn,
         "SELECT customer, chip, ord, map, state, reason, bits, keys, todo, serial FROM device WHERE customer = ?1 ORDER BY customer, chip",
         params![customer.as_str()],
+        sink,
+    )
+}
+
+/// Hands those of a customer's devices whose chips come behind one to the sink, by chip, while it
+/// goes on.
+pub fn visit_devices_behind<S: Alter, K: Sink<DeviceRow>>(
+    conn: &mut Connection<S>,
+    customer: &Name,
+    chip: &Chip,
+    sink: &mut K,
+) -> Result<(), Error>
+    requires { HasOffice (state S.Store conn.old) }
+    ensures { SqlReads S.Store conn.old conn.new result (λ t _.
+        Visits K.takes sink.old (filter (is_device_behind customer.now chip.now) t.devices)
+        sink.new) }
+{
+    visit_rows::<S, DeviceRow, K>(
+        conn,
+        "SELECT customer, chip, ord, map, state, reason, bits, keys, todo, serial FROM device WHERE customer = ?1 AND chip > ?2 ORDER BY customer, chip",
+        params![customer.as_str(), chip.as_str()],
         sink,
     )
 }

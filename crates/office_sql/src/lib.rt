@@ -24,7 +24,7 @@ mod visit;
 mod write;
 
 pub use ask::ask_open;
-pub use devices::{OrderState, device_row, order_states, visit_devices};
+pub use devices::{OrderState, device_row, order_states, visit_devices, visit_devices_behind};
 pub use given::{given_by_key, given_row, visit_given};
 pub use ledger::{last_entry, visit_ledger};
 pub use links::{link_row, visit_links};

@@ -1,5 +1,5 @@
 -- The requests about devices, from what was read of a body or a query.
-use Rattle.std.specs.Prelude.{ℕ, List, [], ◌∷◌, codes, map, Option, Some, option_and_then, option_map}
+use Rattle.std.specs.Prelude.{ℕ, List, [], ◌∷◌, ◌==◌, codes, if◌then◌else◌, length, map, Option, Some, None, option_and_then, option_map}
 use Rattle.std.specs.Int.{from_be_bytes, w32}
 use Rattle.std.specs.Result.{result_ok}
 use Rattle.hex.specs.Hex.{decode_sized, encode_lower}
@@ -70,3 +70,11 @@ register_device_of d = do
 -- the chip that a query gives
 abbrev pub chip_parameter : List ℕ → Option (List ℕ)
 chip_parameter query = option_and_then chip_of_text (only_value (parameters_named (codes "chip") query))
+
+-- where a list of devices begins: at the first one where the text is empty, or behind a chip
+abbrev pub start_of_text : List ℕ → Option (Option (List ℕ))
+start_of_text text = if length text == 0 then Some None else option_map Some (chip_of_text text)
+
+-- where the list begins that a query asks for
+abbrev pub after_parameter : List ℕ → Option (Option (List ℕ))
+after_parameter query = option_and_then start_of_text (only_value (parameters_named (codes "after") query))

@@ -2,6 +2,7 @@
 pub use Rattle.station_api.specs.Act.{act_members, end_of}
 unfoldable pub use Rattle.station_api.specs.Act.{act_of}
 pub use Rattle.station_api.specs.Books.{IsLed, Leads, StreamKeepsPromises}
+pub use Rattle.station_api.specs.Device.{after_parameter, start_of_text}
 pub use Rattle.station_api.specs.Device.{block_digest, block_in, chip_parameter, device_digest, device_members, with_block_digests, word_of_data, word_of_text}
 unfoldable pub use Rattle.station_api.specs.Device.{blocks_member, new_device_of, register_device_of}
 pub use Rattle.station_api.specs.Digest.{LacksFloat, named_members, request_digest, with_found}

@@ -7,6 +7,8 @@ pub const DEVICES: &[(&str, &str)] = &[
     ("blocks that are none", BAD_BLOCKS),
     ("a registration and its repeat", REPEAT),
     ("requests that are refused unread", UNREAD),
+    ("pages of devices", PAGES),
+    ("queries that begin no page", BAD_PAGES),
 ];
 
 /// A seat's order, its map, a blank chip, and then the chip's ledger.
@@ -152,11 +154,15 @@ a1 GET /v1/ledger?chip=00000000000a
 const UNREAD: &str = r#"
 a1 POST /v1/ledger
 404 {"error":"unknown_path","no":7}
+a1 POST /v1/devices
+404 {"error":"unknown_path","no":7}
 a1 PUT /v1/device
 404 {"error":"unknown_path","no":7}
 manager GET /v1/device?chip=00000000000a
 403 {"error":"wrong_caller","no":8}
 manager GET /v1/ledger?chip=00000000000a
+403 {"error":"wrong_caller","no":8}
+manager GET /v1/devices?after=
 403 {"error":"wrong_caller","no":8}
 manager POST /v1/device
 403 {"error":"wrong_caller","no":8}
@@ -174,4 +180,98 @@ a1 GET /v1/device?chip=00000000000a
 404 {"error":"unknown_device","no":15}
 a1 GET /v1/ledger?chip=00000000000a
 404 {"error":"unknown_device","no":15}
+"#;
+
+/// Pages of two customers' devices, whose chips lie between each other's: each customer sees its
+/// own. A page may begin behind a chip that isn't there, or is another's.
+const PAGES: &str = r#"
+@ chip
+b1 GET /v1/devices?after=
+200 {"devices":[],"next":null}
+a1 GET /v1/devices?after=
+200 {"devices":[
+  {"chip":"00000000000a","order":"o1","reason":null,"serial":null,"state":"registered"}],"next":null}
+b1 POST /v1/order {"nr":1,"name":"o1","issuer":"bolt-ca","prefix":"B","width":3,"first":998,"quantity":2,"macs":0}
+200 {"first":998,"issuer":"bolt-ca","mac":null,"macs":0,"name":"o1","next":"B998","not_before":null,
+  "prefix":"B","quantity":2,"width":3}
+b1 POST /v1/map {"nr":2,"text":"$MAP"}
+200 {"map":"$DIGEST"}
+b1 POST /v1/device {"nr":3,"chip":"00000000000b","order":"o1","map":"$DIGEST","blocks":<>}
+200 {"bits":[],"chip":"00000000000b","keys":{},"map":"$DIGEST","order":"o1",
+  "pending":{"batch1":$NONE,"batch2":$NONE},"reason":null,"serial":null,"state":"registered"}
+b1 POST /v1/device {"nr":4,"chip":"00000000000d","order":"o1","map":"$DIGEST","blocks":<>}
+200 {"bits":[],"chip":"00000000000d","keys":{},"map":"$DIGEST","order":"o1",
+  "pending":{"batch1":$NONE,"batch2":$NONE},"reason":null,"serial":null,"state":"registered"}
+a1 POST /v1/device {"nr":4,"chip":"00000000000c","order":"o1","map":"$DIGEST","blocks":<>}
+200 {"bits":[],"chip":"00000000000c","keys":{},"map":"$DIGEST","order":"o1",
+  "pending":{"batch1":$NONE,"batch2":$NONE},"reason":null,"serial":null,"state":"registered"}
+a1 POST /v1/plan {"nr":5,"chip":"00000000000a","wishes":[]}
+200 {"batch1":$NONE,"batch2":$NONE,"state":"settled"}
+a1 POST /v1/identity {"nr":6,"chip":"00000000000a","public_key":"616263"}
+200 {"chip":"00000000000a","issuer":"acme-ca",
+  "key_sha256":"ba7816bf8f01cfea414140de5dae2223b00361a396177a9cb410ff61f20015ad","mac":null,
+  "not_after":"99991231235959Z","not_before":null,"serial":"A998"}
+a1 POST /v1/plan {"nr":7,"chip":"00000000000c","wishes":[{"kind":"bit","field":"JTAG_DISABLE","index":0}]}
+200 {"batch1":{"bits":[{"block":0,"mask":"00000040","word":6}],"keys":{}},"batch2":$NONE,
+  "state":"awaiting1"}
+a1 POST /v1/readback {"nr":8,"chip":"00000000000c","blocks":<0.6=00000044>}
+200 {"outcome":"stray","rest":$NONE,"state":"quarantined"}
+a1 GET /v1/devices?after=
+200 {"devices":[
+  {"chip":"00000000000a","order":"o1","reason":null,"serial":"A998","state":"identified"},
+  {"chip":"00000000000c","order":"o1","reason":"stray","serial":null,"state":"quarantined"}],
+  "next":null}
+a1 GET /v1/devices?after=00000000000a
+200 {"devices":[
+  {"chip":"00000000000c","order":"o1","reason":"stray","serial":null,"state":"quarantined"}],
+  "next":null}
+a1 GET /v1/devices?after=00000000000b
+200 {"devices":[
+  {"chip":"00000000000c","order":"o1","reason":"stray","serial":null,"state":"quarantined"}],
+  "next":null}
+a1 GET /v1/devices?after=00000000000c
+200 {"devices":[],"next":null}
+a1 GET /v1/devices?after=ffffffffffff
+200 {"devices":[],"next":null}
+b1 GET /v1/devices?after=
+200 {"devices":[
+  {"chip":"00000000000b","order":"o1","reason":null,"serial":null,"state":"registered"},
+  {"chip":"00000000000d","order":"o1","reason":null,"serial":null,"state":"registered"}],
+  "next":null}
+b1 GET /v1/devices?after=00000000000c
+200 {"devices":[
+  {"chip":"00000000000d","order":"o1","reason":null,"serial":null,"state":"registered"}],
+  "next":null}
+# other parameters are passed over, and a name alone has no text
+b1 GET /v1/devices?chip=00000000000a&after&limit=1
+200 {"devices":[
+  {"chip":"00000000000b","order":"o1","reason":null,"serial":null,"state":"registered"},
+  {"chip":"00000000000d","order":"o1","reason":null,"serial":null,"state":"registered"}],
+  "next":null}
+"#;
+
+/// Queries that don't say once where a page begins: at the first device, or behind a chip.
+const BAD_PAGES: &str = r#"
+a1 GET /v1/devices
+400 {"error":"bad_member","no":10}
+a1 GET /v1/devices?
+400 {"error":"bad_member","no":10}
+a1 GET /v1/devices?chip=00000000000a
+400 {"error":"bad_member","no":10}
+a1 GET /v1/devices?after=&after=
+400 {"error":"bad_member","no":10}
+a1 GET /v1/devices?after=&after=00000000000a
+400 {"error":"bad_member","no":10}
+a1 GET /v1/devices?after=00000000000A
+400 {"error":"bad_member","no":10}
+a1 GET /v1/devices?after=0000000000a
+400 {"error":"bad_member","no":10}
+a1 GET /v1/devices?after=00000000000a0
+400 {"error":"bad_member","no":10}
+a1 GET /v1/devices?after=00:00:00:00:0a
+400 {"error":"bad_member","no":10}
+a1 GET /v1/devices?after=00000000000%61
+400 {"error":"bad_member","no":10}
+a1 GET /v1/devices?after=
+200 {"devices":[],"next":null}
 "#;

@@ -28,3 +28,10 @@ returns-in-Identity g c = record {
   stays_open = search rules;
   answer = λ is. rw c.in-Identity.is (c.show_identity.ensures.answer is);
 }
+
+pub returns-in-Devices : goal.returns-in-Devices
+returns-in-Devices g c = record {
+  read_only = search rules;
+  stays_open = search rules;
+  answer = λ is. rw c.in-Devices.is (c.show_devices.ensures.answer is);
+}

@@ -1,0 +1,71 @@
+-- What a page holds once a list of devices was met.
+use Rattle.std.proofs.Common.{◌≡◌, ◌<◌, ◌≤◌, ◌+◌, ◌++◌, ◌∷◌}
+use Rattle.text_core.proofs.Kit.{ℕ, suc, true, false, List, [], map, Option, Some, None, refl, sym, ap, ◌∙◌, length, take, take_all, subst, arith}
+use Rattle.text_core.proofs.Kit.{take-append_seam, append-nil, append_assoc, length-append, nat_lt, nat_tests}
+use Rattle.office_judges.proofs.Types.{OfCustomer, Device, PageScan}
+use Rattle.office_tables.specs.Prelude.{rows_of, text_cmp, Visits}
+use Rattle.office_tables.proofs.Placing.{filter_own}
+use Rattle.office_rules.specs.Prelude.{devices_behind, page_limit}
+use Rattle.office_judges.specs.Prelude.{visited_behind, GathersPage}
+use Rattle.std.specs.Ordering.{is_lt}
+
+abbrev devices_in : List (OfCustomer Device) → List Device
+devices_in rows = map (λ o. o.row) rows
+
+-- the rows that are met are the customer's devices behind the chip
+pub met : (customer : List ℕ) (after : Option (List ℕ)) (rows : List (OfCustomer Device))
+    → devices_in (visited_behind customer after rows) ≡ devices_behind after (rows_of customer rows)
+met customer None rows = refl
+met customer (Some chip) rows = filter_own customer (λ d. is_lt (text_cmp chip d.chip)) rows
+
+not_below : (n limit : ℕ) → n ≤ limit → nat_lt limit n ≡ false
+not_below n limit low = grind (arith, nat_tests, low)
+
+below : (n limit : ℕ) → limit < n → nat_lt limit n ≡ true
+below n limit low = grind (arith, nat_tests, low)
+
+-- a list that is as long as a page, and more behind it
+pub page_full : {A : Type 0} (limit : ℕ) (xs ys : List A) → length xs ≤ limit → limit ≤ length xs → take limit (xs ++ ys) ≡ xs
+page_full limit xs ys low high =
+    let same : length xs ≡ limit = omega (arith, low, high) in
+    subst (λ n. take n (xs ++ ys) ≡ xs) same (take-append_seam xs ys)
+
+-- a walk that didn't run out of memory has filled the page
+pub page_shown : (old : PageScan) (rows : List (OfCustomer Device)) (new : PageScan) → Visits GathersPage old rows new → new.is_full ≡ false
+    → length old.devices.items ≤ page_limit
+    → new.devices.items ≡ take page_limit (old.devices.items ++ devices_in rows)
+page_shown old [] new v room low =
+    let short : length (old.devices.items ++ []) ≤ page_limit = subst (λ l. length l ≤ page_limit) (sym (append-nil old.devices.items)) low in
+    ap (λ (s : PageScan). s.devices.items) v ∙ sym (append-nil old.devices.items) ∙ sym (take_all page_limit (old.devices.items ++ []) short)
+page_shown old (row ∷ rows) new (true, mid, taken, later) room low =
+    let place : length (old.devices.items ++ row.row ∷ []) ≡ length old.devices.items + 1 = length-append old.devices.items (row.row ∷ []) in
+    let free = taken.room refl in
+    let short : length mid.devices.items ≤ page_limit = subst (λ l. length l ≤ page_limit) (sym (taken.devices refl)) (omega (arith, place, free)) in
+    page_shown mid rows new later room short
+    ∙ ap (take page_limit) (ap (λ l. l ++ devices_in rows) (taken.devices refl) ∙ append_assoc old.devices.items (row.row ∷ []) (devices_in rows))
+page_shown old (row ∷ rows) new (false, mid, taken, later) room low =
+    let fits = sym (ap (λ (s : PageScan). s.is_full) later) ∙ room in
+    ap (λ (s : PageScan). s.devices.items) later ∙ taken.kept refl fits
+    ∙ sym (page_full page_limit old.devices.items (devices_in (row ∷ rows)) low (taken.full refl fits))
+
+-- and knows whether it leaves some
+pub page_left : (old : PageScan) (rows : List (OfCustomer Device)) (new : PageScan) → Visits GathersPage old rows new → new.is_full ≡ false
+    → length old.devices.items ≤ page_limit → old.has_more ≡ false
+    → new.has_more ≡ nat_lt page_limit (length (old.devices.items ++ devices_in rows))
+page_left old [] new v room low none =
+    let short : length (old.devices.items ++ []) ≤ page_limit = subst (λ l. length l ≤ page_limit) (sym (append-nil old.devices.items)) low in
+    ap (λ (s : PageScan). s.has_more) v ∙ none ∙ sym (not_below (length (old.devices.items ++ [])) page_limit short)
+page_left old (row ∷ rows) new (true, mid, taken, later) room low none =
+    let place : length (old.devices.items ++ row.row ∷ []) ≡ length old.devices.items + 1 = length-append old.devices.items (row.row ∷ []) in
+    let free = taken.room refl in
+    let short : length mid.devices.items ≤ page_limit = subst (λ l. length l ≤ page_limit) (sym (taken.devices refl)) (omega (arith, place, free)) in
+    page_left mid rows new later room short (taken.same refl ∙ none)
+    ∙ ap (λ l. nat_lt page_limit (length l)) (ap (λ l. l ++ devices_in rows) (taken.devices refl)
+    ∙ append_assoc old.devices.items (row.row ∷ []) (devices_in rows))
+page_left old (row ∷ rows) new (false, mid, taken, later) room low none =
+    let fits = sym (ap (λ (s : PageScan). s.is_full) later) ∙ room in
+    let place : length (old.devices.items ++ devices_in (row ∷ rows)) ≡ length old.devices.items + suc (length (devices_in rows)) =
+    length-append old.devices.items (devices_in (row ∷ rows)) in
+    let high = taken.full refl fits in
+    let past : page_limit < length (old.devices.items ++ devices_in (row ∷ rows)) = omega (arith, place, high) in
+    ap (λ (s : PageScan). s.has_more) later ∙ taken.more refl fits ∙ sym (below _ page_limit past)

@@ -1,0 +1,22 @@
+use Rattle.std.proofs.Common.{◌≤◌, ◌∙◌, ap, length, rules, lit≤, refl}
+use Rattle.text_core.proofs.Kit.{nat_lt, take}
+use Rattle.office_rules.specs.Prelude.{page_limit}
+use Rattle.office_judges.proofs.Pages.{met, page_left, page_shown}
+use Rattle.office_judges.proofs.page.gather_page.Goals as goal
+
+pub returns : goal.returns
+returns g c = record {
+  read_only = search rules;
+  stays_open = search rules;
+  answer = λ is.
+      let rows = (g.K.Keep.tables c.args.keep.now).devices in
+      let visits = c.in_ok-fill_page.ensures.answer is in
+      let from = met c.args.customer.now c.args.after rows in
+      let room : length c.new.result.items ≤ page_limit = rw c.new.ensures.items (lit≤ tt) in
+      let shown = rw c.new.ensures.items at (page_shown _ _ _ visits c.if-scan.false room) in
+      let left = rw c.new.ensures.items at (page_left _ _ _ visits c.if-scan.false room refl) in
+      record {
+        shown = shown ∙ ap (take page_limit) from;
+        left = left ∙ ap (λ l. nat_lt page_limit (length l)) from;
+      };
+}
