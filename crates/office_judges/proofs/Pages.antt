@@ -1,7 +1,8 @@
 -- What a page holds once a list of devices was met.
 use Rattle.std.proofs.Common.{◌≡◌, ◌<◌, ◌≤◌, ◌+◌, ◌++◌, ◌∷◌}
+use Rattle.std.proofs.lemmas.List.{take-append-le}
 use Rattle.text_core.proofs.Kit.{ℕ, suc, true, false, List, [], map, Option, Some, None, refl, sym, ap, ◌∙◌, length, take, take_all, subst, arith}
-use Rattle.text_core.proofs.Kit.{take-append_seam, append-nil, append_assoc, length-append, nat_lt, nat_tests}
+use Rattle.text_core.proofs.Kit.{append-nil, append_assoc, length-append, nat_lt, le-ltb, lt-ltb}
 use Rattle.office_judges.proofs.Types.{OfCustomer, Device, PageScan}
 use Rattle.office_tables.specs.Prelude.{rows_of, text_cmp, Visits}
 use Rattle.office_tables.proofs.Placing.{filter_own}
@@ -17,18 +18,6 @@ pub met : (customer : List ℕ) (after : Option (List ℕ)) (rows : List (OfCust
     → devices_in (visited_behind customer after rows) ≡ devices_behind after (rows_of customer rows)
 met customer None rows = refl
 met customer (Some chip) rows = filter_own customer (λ d. is_lt (text_cmp chip d.chip)) rows
-
-not_below : (n limit : ℕ) → n ≤ limit → nat_lt limit n ≡ false
-not_below n limit low = grind (arith, nat_tests, low)
-
-below : (n limit : ℕ) → limit < n → nat_lt limit n ≡ true
-below n limit low = grind (arith, nat_tests, low)
-
--- a list that is as long as a page, and more behind it
-pub page_full : {A : Type 0} (limit : ℕ) (xs ys : List A) → length xs ≤ limit → limit ≤ length xs → take limit (xs ++ ys) ≡ xs
-page_full limit xs ys low high =
-    let same : length xs ≡ limit = omega (arith, low, high) in
-    subst (λ n. take n (xs ++ ys) ≡ xs) same (take-append_seam xs ys)
 
 -- a walk that didn't run out of memory has filled the page
 pub page_shown : (old : PageScan) (rows : List (OfCustomer Device)) (new : PageScan) → Visits GathersPage old rows new → new.is_full ≡ false
@@ -46,7 +35,8 @@ page_shown old (row ∷ rows) new (true, mid, taken, later) room low =
 page_shown old (row ∷ rows) new (false, mid, taken, later) room low =
     let fits = sym (ap (λ (s : PageScan). s.is_full) later) ∙ room in
     ap (λ (s : PageScan). s.devices.items) later ∙ taken.kept refl fits
-    ∙ sym (page_full page_limit old.devices.items (devices_in (row ∷ rows)) low (taken.full refl fits))
+    ∙ sym (take-append-le page_limit old.devices.items (devices_in (row ∷ rows)) (taken.full refl fits)
+    ∙ take_all page_limit old.devices.items low)
 
 -- and knows whether it leaves some
 pub page_left : (old : PageScan) (rows : List (OfCustomer Device)) (new : PageScan) → Visits GathersPage old rows new → new.is_full ≡ false
@@ -54,7 +44,7 @@ pub page_left : (old : PageScan) (rows : List (OfCustomer Device)) (new : PageSc
     → new.has_more ≡ nat_lt page_limit (length (old.devices.items ++ devices_in rows))
 page_left old [] new v room low none =
     let short : length (old.devices.items ++ []) ≤ page_limit = subst (λ l. length l ≤ page_limit) (sym (append-nil old.devices.items)) low in
-    ap (λ (s : PageScan). s.has_more) v ∙ none ∙ sym (not_below (length (old.devices.items ++ [])) page_limit short)
+    ap (λ (s : PageScan). s.has_more) v ∙ none ∙ sym (le-ltb page_limit (length (old.devices.items ++ [])) short)
 page_left old (row ∷ rows) new (true, mid, taken, later) room low none =
     let place : length (old.devices.items ++ row.row ∷ []) ≡ length old.devices.items + 1 = length-append old.devices.items (row.row ∷ []) in
     let free = taken.room refl in
@@ -68,4 +58,4 @@ page_left old (row ∷ rows) new (false, mid, taken, later) room low none =
     length-append old.devices.items (devices_in (row ∷ rows)) in
     let high = taken.full refl fits in
     let past : page_limit < length (old.devices.items ++ devices_in (row ∷ rows)) = omega (arith, place, high) in
-    ap (λ (s : PageScan). s.has_more) later ∙ taken.more refl fits ∙ sym (below _ page_limit past)
+    ap (λ (s : PageScan). s.has_more) later ∙ taken.more refl fits ∙ sym (lt-ltb page_limit _ past)

@@ -77,7 +77,7 @@ again_same x s mid a old = by a.before
     by (inr next) = absurd (omega (arith, next, old))
 
 -- a filter of what holds of each
-filter_all : {A : Type 0} (P : A → Type 0) (p : A → Bool) (xs : List A) → AllByRecursion P xs
+pub filter_all : {A : Type 0} (P : A → Type 0) (p : A → Bool) (xs : List A) → AllByRecursion P xs
     → AllByRecursion P (filter p xs)
 filter_all P p [] all = tt
 filter_all P p (x ∷ xs) all =

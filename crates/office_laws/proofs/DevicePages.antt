@@ -8,6 +8,7 @@ use Rattle.office_tables.specs.Prelude.{rows_of, text_cmp, AreInKeyOrder, IsInOr
 use Rattle.office_tables.proofs.Placing.{all_map, own_in_order}
 use Rattle.office_rules.specs.Prelude.{devices_behind, last_chip, next_page, on_page, page_limit}
 use Rattle.office_laws.specs.Prelude.{by_text, on_pages}
+use Rattle.office_laws.proofs.Acting.{filter_all}
 use Rattle.office_laws.proofs.DeviceLaws.{device_agree}
 use Rattle.office_laws.proofs.Looking.{some_is}
 
@@ -30,21 +31,12 @@ all_taken P zero xs all = tt
 all_taken P (suc n) [] all = tt
 all_taken P (suc n) (x ∷ xs) all = (all.0, all_taken P n xs all.1)
 
-all_filtered : {A : Type 0} (P : A → Type 0) (p : A → Bool) (xs : List A) → AllByRecursion P xs
-    → AllByRecursion P (filter p xs)
-all_filtered P p [] all = tt
-all_filtered P p (x ∷ xs) all =
-    elim (p x) as (λ b. AllByRecursion P (cond b (x ∷ filter p xs) (filter p xs))) [
-      | true ↦ (all.0, all_filtered P p xs all.1)
-      | false ↦ all_filtered P p xs all.1
-    ]
-
 filtered_in_order : {A : Type 0} (cmp : A → A → Ordering) (p : A → Bool) (xs : List A)
     → IsInOrder cmp xs → IsInOrder cmp (filter p xs)
 filtered_in_order cmp p [] up = tt
 filtered_in_order cmp p (x ∷ xs) up =
     elim (p x) as (λ b. IsInOrder cmp (cond b (x ∷ filter p xs) (filter p xs))) [
-      | true ↦ (all_filtered (λ y. cmp x y ≡ Less) p xs up.0, filtered_in_order cmp p xs up.1)
+      | true ↦ (filter_all (λ y. cmp x y ≡ Less) p xs up.0, filtered_in_order cmp p xs up.1)
       | false ↦ filtered_in_order cmp p xs up.1
     ]
 
