@@ -6,7 +6,7 @@ use Rattle.http_replies.specs.Prelude.{answer_of}
 use Rattle.http_replies.specs.declared.Reply.{Reply}
 use Rattle.text_core.proofs.MachineLemmas.{runs_both}
 use Rattle.site_core.specs.Prelude.{Ownership, ownership_of, IsSite}
-use Rattle.site_core.proofs.Kept.{owners_grown}
+use Rattle.site_growth.proofs.Kept.{owners_grown}
 use Rattle.office_tables.specs.Prelude.{Tables}
 use Rattle.office_tables.specs.declared.keep.Keep.{Ghosts}
 use Rattle.office_laws.specs.Prelude.{Call, Exchange, Passes, AreSeats}

@@ -2,7 +2,8 @@
 use Rattle.std.specs.Prelude.{List, [], ◌∷◌, map, zip, flat_map}
 use Rattle.http_replies.specs.Prelude.{answer_of}
 use Rattle.http_replies.specs.declared.Reply.{Reply}
-use Rattle.site_core.specs.Prelude.{section_at, seat_name_at, IsGrowth, Ownership, OwnershipGrows, ownership_of, SiteValue}
+use Rattle.site_core.specs.Prelude.{section_at, seat_name_at, Ownership, OwnershipGrows, ownership_of, SiteValue}
+use Rattle.site_growth.specs.Prelude.{IsGrowth}
 use Rattle.office_tables.specs.Prelude.{Stands, Tables}
 use Rattle.office_tables.specs.declared.keep.Keep.{Ghosts}
 use Rattle.office_laws.specs.Prelude.{IsSound, Call, call_by, Exchange, IsRun, Promises, LeavesAfter}

@@ -2,14 +2,15 @@
 ghost use Rattle.std.specs.Prelude.{◌≡◌, List, Some, true, ℕ};
 ghost use Rattle.std.specs.List.{AllByRecursion};
 ghost use Rattle.http_replies.specs.Prelude.{is_unavailable};
-ghost use Rattle.site_core.specs.Prelude.{IsGrowth, Ownership, OwnershipGrows, ownership_of, SiteValue, IsSite};
+ghost use Rattle.site_core.specs.Prelude.{Ownership, OwnershipGrows, ownership_of, SiteValue, IsSite};
+ghost use Rattle.site_growth.specs.Prelude.{IsGrowth};
 ghost use Rattle.office_commands.specs.declared.refusal.Refusal.TheVariants.{Unkept};
 ghost use Rattle.office_tables.specs.Prelude.{Tables, given_at};
 ghost use Rattle.office_tables.specs.declared.rows.Given.{Given};
 ghost use Rattle.office_tables.specs.declared.rows.OfCustomer.{OfCustomer};
 ghost use Rattle.office_laws.specs.Prelude.{addresses_of, AreNotImported, AreSeats, Call, calls_of, Exchange, Grows, IsCut, IsIsolated, IsRun, IsSound};
-ghost use Rattle.office_laws.specs.Prelude.{ActsOnce, AreSessions, EndAlike, IsInDoubt, IsLeft, IsStoppedRun, IssuesOnce, Leaves, Promises, refused};
-ghost use Rattle.office_laws.specs.Prelude.{SeatRun, Session, StartAlike};
+ghost use Rattle.office_laws.specs.Prelude.{ActsOnce, AreSessions, EndAlike, IsInDoubt, IsLeft, IsStoppedRun, IssuesOnce, Leaves, Promises, refused, SeatRun};
+ghost use Rattle.office_laws.specs.Prelude.{Session, StartAlike};
 
 /// A run from sound tables: the tables stay sound, though the site grew; each customer's replies
 /// and rows are those of the customer's own machine, run on the customer's own calls alone; and

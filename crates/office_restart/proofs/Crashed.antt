@@ -15,7 +15,8 @@ use Rattle.sqlite.specs.Recovery.{Image}
 use Rattle.sqlite.specs.Tree.{Trees}
 use Rattle.std.specs.Prelude.{ℕ}
 use Rattle.office_tables.specs.Prelude.{Tables}
-use Rattle.office_store.specs.Prelude.{IsOfSite, HasTablesOf}
+use Rattle.office_store.specs.Prelude.{HasTablesOf}
+use Rattle.office_found.specs.Prelude.{IsOfSite}
 use Rattle.office_restart.specs.Crashing.{LeaveStore}
 
 module _ {D : Type 0} {g : Ghosts D} (it : Pool D g) (clean : AreClean g (files it).0 (files it).1) where

@@ -8,7 +8,8 @@ use Rattle.sqlite_disk.specs.declared.Files.{Files}
 use Rattle.sqlite_wal.specs.Files.{outcomes}
 use Rattle.sqlite_wal.specs.Reads.{AreClean}
 use Rattle.office_tables.specs.Prelude.{Tables}
-use Rattle.office_store.specs.Prelude.{IsOfSite, HasTablesOf}
+use Rattle.office_store.specs.Prelude.{HasTablesOf}
+use Rattle.office_found.specs.Prelude.{IsOfSite}
 
 -- What the kit says of a crash of a file: what a read returns after it is one of the contents that it
 -- could leave, a further crash can leave no other, and the file may be used. All of it is so of a file

@@ -10,7 +10,9 @@ use Rattle.sqlite.specs.Recovery.{Image}
 use Rattle.site_core.specs.Prelude.{Ownership, OwnershipGrows, ownership_of, TextOfSite}
 use Rattle.office_tables.specs.Prelude.{Stands, Tables}
 use Rattle.office_laws.specs.Prelude.{IsSound, Exchange, IsRun, Promises, IsLeft, IsUnanswered, Leaves}
-use Rattle.office_store.specs.Prelude.{is_open_at, may_leave_at, tables_of, HasTablesOf, HoldsText, Kept}
+use Rattle.office_store.specs.Prelude.{HasTablesOf}
+use Rattle.office_keep.specs.Prelude.{is_open_at, may_leave_at, tables_of, Kept}
+use Rattle.office_found.specs.Prelude.{HoldsText}
 use Rattle.office_restart.specs.Crashing.{AreCrashed, LeaveStore}
 
 -- The files held the first tables, and these exchanges led from them to those that stood as the files

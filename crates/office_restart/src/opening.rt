@@ -6,7 +6,9 @@ ghost use Rattle.sqlite.specs.State.{HasCleanDisk};
 ghost use Rattle.sqlite.specs.Tree.{Trees};
 ghost use Rattle.sqlite_wal.specs.Reads.{AreClean};
 ghost use Rattle.office_tables.specs.Prelude.{Tables};
-ghost use Rattle.office_store.specs.Prelude.{TakesGrowth, is_honest_at, is_open_at, may_leave_at, tables_of, HasTablesOf, HoldsText};
+ghost use Rattle.office_store.specs.Prelude.{TakesGrowth, HasTablesOf};
+ghost use Rattle.office_keep.specs.Prelude.{is_honest_at, is_open_at, may_leave_at, tables_of};
+ghost use Rattle.office_found.specs.Prelude.{HoldsText};
 
 use office_store::{Handed, OpenFault, SqlKeep, adopt};
 use site_core::SiteText;

@@ -2,11 +2,12 @@
 ghost use Rattle.std.specs.Prelude.{◌≡◌, ◌∷◌, [], All, length, IsTrue, IfOk};
 ghost use Rattle.std.specs.List.{AllByRecursion};
 ghost use Rattle.sqlite.specs.Files.{over_files};
-ghost use Rattle.site_core.specs.Prelude.{IsSeatCaller, IsGrowth, PoolsDisjoint, ownership_of, IsSite};
+ghost use Rattle.site_core.specs.Prelude.{IsSeatCaller, PoolsDisjoint, ownership_of, IsSite};
+ghost use Rattle.site_growth.specs.Prelude.{IsGrowth};
 ghost use Rattle.office_laws.specs.Prelude.{IsSeat};
 ghost use Rattle.office_core.specs.Prelude.{KeepsPromises, calls_in, exchanges_in};
 ghost use Rattle.sqlite_wal.specs.Reads.{AreClean};
-ghost use Rattle.office_store.specs.Prelude.{is_honest_at};
+ghost use Rattle.office_keep.specs.Prelude.{is_honest_at};
 ghost use Rattle.office_restart.specs.Restarting.{GoesOn, IsStopped};
 
 use crate::crashing::{Crashable, crash, crash_files};

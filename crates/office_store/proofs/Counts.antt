@@ -5,7 +5,7 @@ use Rattle.office_sql.proofs.Inserting.{OthersStay}
 use Rattle.office_sql.proofs.Names.{first_by_name, same_table}
 use Rattle.office_sql.specs.Prelude.{OfficeTable, texts, place_of, tree_of}
 use Rattle.office_store.proofs.Types.{Version, Earliest, Third}
-use Rattle.office_store.specs.Prelude.{KeepsFirstBut, count_of, first_tables}
+use Rattle.office_found.specs.Prelude.{KeepsFirstBut, count_of, first_tables}
 
 -- each has the first eight
 pub first_eight : (version : Version) → 7 < count_of version

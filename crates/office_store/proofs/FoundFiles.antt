@@ -12,7 +12,8 @@ use Rattle.sqlite_store.proofs.ListingLemmas.{all_ordered}
 use Rattle.office_sql.proofs.Names.{tree_low}
 use Rattle.office_sql.specs.Prelude.{OfficeTable, no_schema, rows_in, tree_of}
 use Rattle.office_store.proofs.Types.{Version}
-use Rattle.office_store.specs.Prelude.{schema_of, CanPrepareTables, HasWhole, IsFound, HasNothing, IsNoStore}
+use Rattle.office_store.specs.Prelude.{CanPrepareTables, HasNothing, IsNoStore}
+use Rattle.office_found.specs.Prelude.{schema_of, HasWhole, IsFound}
 use Rattle.office_store.proofs.FoundNothing.{no_office_rows, none_found, nothing_found, has_nothing}
 use Rattle.office_store.proofs.FoundVersion.{over, version_found}
 

@@ -11,7 +11,8 @@ use Rattle.office_sql.specs.Prelude.{rows_in, tree_of, seat_in_row, map_in_row, 
 use Rattle.office_sql.specs.Prelude.{with_order_start, with_given_start, AreOfficeRows, AreRows, AreStarted, IsOffice, office_schema, starts_given}
 use Rattle.office_sql.specs.Prelude.{starts_order, tables_in}
 use Rattle.office_store.proofs.Types.{Version, Earliest, Early, First, Second, Third}
-use Rattle.office_store.specs.Prelude.{AreAllStarted, AreStartsFound, TellsNoStart, meta_in, HasNothing, number_of_version, schema_of}
+use Rattle.office_store.specs.Prelude.{HasNothing}
+use Rattle.office_found.specs.Prelude.{AreAllStarted, AreStartsFound, TellsNoStart, meta_in, number_of_version, schema_of}
 
 no_row : {A : Type 0} (Typed : Row → Type 0) (cmp : A → A → Ordering) (value : Row → A) (rows : List Row) → rows ≡ [] → AreRows Typed cmp value rows
 no_row Typed cmp value rows none = subst (AreRows Typed cmp value) (sym none) (record { rising = tt; numbered = tt; typed = tt; keyed = tt })

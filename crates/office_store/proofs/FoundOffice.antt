@@ -9,15 +9,15 @@ use Rattle.sqlite.specs.Order.{value_cmp}
 use Rattle.sqlite_trees.specs.declared.store.Shape.TheVariants as shape
 use Rattle.sqlite_trees.proofs.ListLemmas.{all_weaker}
 use Rattle.office_tables.specs.Prelude.{seat_cmp, order_cmp, map_cmp, link_cmp, device_cmp, given_cmp, entry_cmp}
-use Rattle.office_sql.specs.Prelude.{meta, seats, maps, links, orders, devices, given, ledger, seat_table, map_table}
-use Rattle.office_sql.specs.Prelude.{link_table, orders_table, device_table, given_table, ledger_table, rows_in, seat_in_row, map_in_row, link_in_row}
-use Rattle.office_sql.specs.Prelude.{order_in_row, device_in_row, given_in_row, entry_in_row, AreOfficeRows, AreRows, IsText, IsWhole, IsSeatRow, IsMapRow}
-use Rattle.office_sql.specs.Prelude.{IsLinkRow, IsOrderRow, IsDeviceRow, IsGivenRow, IsEntryRow}
-use Rattle.office_store.specs.Prelude.{HasWhole, IsNotBelow, given_keyed, schema_keyed}
+use Rattle.office_sql.specs.Prelude.{meta, seats, maps, links, orders, devices, given, ledger, seat_table, map_table, link_table, orders_table, device_table}
+use Rattle.office_sql.specs.Prelude.{given_table, ledger_table, rows_in, seat_in_row, map_in_row, link_in_row, order_in_row, device_in_row, given_in_row}
+use Rattle.office_sql.specs.Prelude.{entry_in_row, AreOfficeRows, AreRows, IsText, IsWhole, IsSeatRow, IsMapRow, IsLinkRow, IsOrderRow, IsDeviceRow, IsGivenRow}
+use Rattle.office_sql.specs.Prelude.{IsEntryRow}
+use Rattle.office_found.specs.Prelude.{HasWhole, IsNotBelow, given_keyed, schema_keyed}
 use Rattle.office_sql.proofs.Kept.{narrowed}
 use Rattle.office_sql.proofs.MapValues.{wholes_cmp}
-use Rattle.office_store.proofs.FoundRows.{both_true, not_true, text_at, blob_at, int_at, text_if_at, whole_of, texts_tie, blobs_tie, wholes_tie}
-use Rattle.office_store.proofs.FoundRows.{then_ties, entry_ties, last_ties, rows_found}
+use Rattle.office_found.proofs.FoundRows.{both_true, not_true, text_at, blob_at, int_at, text_if_at, whole_of, texts_tie, blobs_tie, wholes_tie, then_ties}
+use Rattle.office_found.proofs.FoundRows.{entry_ties, last_ties, rows_found}
 
 -- ids that are whole numbers are in the order of the rowids
 maps_apart : (a b : Row) → IsMapRow a → IsMapRow b → value_cmp (rowid a) (rowid b) ≡ Less → is_eq (map_cmp (map_in_row a) (map_in_row b)) ≡ false

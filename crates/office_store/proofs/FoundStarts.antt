@@ -1,7 +1,7 @@
 -- The starts of a sound database of a schema that begins with the second version's tables, whose trees are in order: each is
 -- one of an order or a record, and where none of these lacks one, each has exactly one. And what is so of them by the version.
-use Rattle.std.proofs.Common.{◌≡◌, ℕ, List, [], ◌∷◌, ◌&&◌, ◌||◌, codes, map, filter, find, Bool, true, false, Some, refl, sym, ap, subst, ◌∙◌, inl, inr}
-use Rattle.std.proofs.Common.{◌≢◌, arith, None, Ordering, is_eq, true≢false, slice_get, is_some}
+use Rattle.std.proofs.Common.{◌≡◌, ℕ, List, [], ◌∷◌, ◌&&◌, ◌||◌, codes, map, filter, find, Bool, true, false, Some, refl, sym, ap, subst, ◌∙◌, inl, inr, ◌≢◌}
+use Rattle.std.proofs.Common.{arith, None, Ordering, is_eq, true≢false, slice_get, is_some}
 use Rattle.std.specs.List.{AllByRecursion}
 use Rattle.office_sql.proofs.Kit.{Null, Row, column, Trees, IsAscending, IsOrdered, Shape, catalog_tree, IsListed, IsSound, ForeignKey, Unique, Index}
 use Rattle.office_sql.proofs.Kit.{Reference, Table, agree, clashes, has_null, is_held, parent_key, plain, Has, has_filtered, slice_get-filter}
@@ -18,13 +18,14 @@ use Rattle.office_sql.proofs.Values.{and_true}
 use Rattle.office_sql.proofs.OrderReads.{order_tied}
 use Rattle.office_sql.proofs.GivenReads.{given_tied}
 use Rattle.office_store.proofs.Types.{Version, First, Second, Third}
-use Rattle.office_store.specs.Prelude.{AreAllStarted, AreStartsFound, AreUnstarted, HasMeta, HasStarts, HaveStarts, IsFound, StaysUnstarted, schema_of}
-use Rattle.office_store.proofs.FoundLacks.{started, order_starts_typed, given_starts_typed}
+use Rattle.office_store.specs.Prelude.{AreUnstarted, StaysUnstarted}
+use Rattle.office_found.specs.Prelude.{AreAllStarted, AreStartsFound, HasMeta, HasStarts, HaveStarts, IsFound, schema_of}
+use Rattle.office_found.proofs.FoundLacks.{started, order_starts_typed, given_starts_typed}
 use Rattle.office_store.proofs.FoundNothing.{unstarted_found}
 use Rattle.office_store.proofs.FoundOffice.{shaped}
-use Rattle.office_store.proofs.FoundRows.{both_true, not_true, texts_tie, then_ties, last_ties, rows_found}
+use Rattle.office_found.proofs.FoundRows.{both_true, not_true, texts_tie, then_ties, last_ties, rows_found}
 use Rattle.office_store.proofs.Telling.{told_once}
-use Rattle.office_store.proofs.StartKeys.{agrees_its, any_found, is_its, its_twice}
+use Rattle.office_found.proofs.StartKeys.{agrees_its, any_found, is_its, its_twice}
 
 -- ---- starts of which no two have one key
 

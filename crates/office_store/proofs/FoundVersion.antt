@@ -3,7 +3,7 @@ use Rattle.std.proofs.Common.{ℕ, [], ◌∷◌, drop, refl}
 use Rattle.office_sql.proofs.Kit.{Database, Trees, IsOrdered, Shape, catalog_tree, IsListed, IsSound}
 use Rattle.office_sql.specs.Prelude.{AreOfficeRows}
 use Rattle.office_store.proofs.Types.{Version, Earliest, Early}
-use Rattle.office_store.specs.Prelude.{HasWhole, IsFound, schema_of}
+use Rattle.office_found.specs.Prelude.{HasWhole, IsFound, schema_of}
 use Rattle.office_store.proofs.FoundOffice.{rows_of_office}
 use Rattle.office_store.proofs.FoundStarts.{starts_found}
 

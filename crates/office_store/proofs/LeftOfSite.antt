@@ -3,7 +3,7 @@ use Rattle.std.proofs.Common.{◌≡◌, ℕ, List, sym, ap, subst, ◌∙◌, I
 use Rattle.office_sql.proofs.Kit.{Database, Held, state, Trees}
 use Rattle.sqlite.specs.Store.{Ghosts}
 use Rattle.office_sql.specs.Prelude.{IsReady, IsOffice, office_over}
-use Rattle.office_store.specs.Prelude.{IsOfSite, IsOurs}
+use Rattle.office_found.specs.Prelude.{IsOfSite, IsOurs}
 
 -- it is a store of the site, since it is what the connection shows
 pub left_of_site : {S : Type 0} (g : Ghosts S) (site : List ℕ) (conn : Held S)

@@ -2,22 +2,20 @@
 use Rattle.std.proofs.Common.{◌≡◌, ◌≢◌, ◌↔◌, inl, inr, ℕ, Bool, false, List, Result, Ok, Err, OnOk, IfErr, IsTrue, sym, ap, subst, ◌∙◌}
 use Rattle.sha2.specs.Sha256.{sha256}
 use Rattle.site_core.specs.Prelude.{SiteValue, TextOfSite}
-use Rattle.office_sql.proofs.Kit.{Database, Held, state, State, HasCleanDisk, IsUnchanged, KeepsCommit, Survives, Trees, survives_then, survives_weaker}
-use Rattle.office_sql.proofs.Kit.{Error}
+use Rattle.office_sql.proofs.Kit.{Database, Held, state, State, HasCleanDisk, IsUnchanged, KeepsCommit, Survives, Trees, survives_then, survives_weaker, Error}
 use Rattle.sqlite.specs.Store.{Ghosts}
 use Rattle.office_tables.specs.Prelude.{Tables}
-use Rattle.office_sql.specs.Prelude.{IsUndone}
-use Rattle.office_sql.specs.Prelude.{no_schema, IsOffice, office_over, tables_in}
+use Rattle.office_sql.specs.Prelude.{IsUndone, no_schema, IsOffice, office_over, tables_in}
 use Rattle.office_store.proofs.Types.{OpenFault, Failed, Version, First, Third}
-use Rattle.office_store.specs.Prelude.{HasApartAddresses, AreUnstarted, CanPrepareTables, CanTake, Examines, IsApartAt, IsFoundAt, IsGrowable, IsOtherSchema}
-use Rattle.office_store.specs.Prelude.{IsRefusedFor, IsPreparedFor, LeavesAtMost, PreparesTables, StaysUnstarted, TakesGrowth, TakesOwn, IsFound}
-use Rattle.office_store.specs.Prelude.{Tests, HasGrown, IsGrown, HoldsSite, IsBegun, IsCreated, HasMeta, HasSchema, IsNoStore, IsStore, IsStoreOrNone}
-use Rattle.office_store.specs.Prelude.{HoldsText, IsGrownFrom, IsUpgrade, IsUpgraded, schema_of}
+use Rattle.office_store.specs.Prelude.{AreUnstarted, CanPrepareTables, CanTake, Examines, IsApartAt, IsFoundAt, IsGrowable, IsOtherSchema, IsRefusedFor}
+use Rattle.office_store.specs.Prelude.{IsPreparedFor, LeavesAtMost, PreparesTables, StaysUnstarted, TakesGrowth, TakesOwn, HasGrown, IsGrown, IsBegun}
+use Rattle.office_store.specs.Prelude.{IsCreated, HasSchema, IsNoStore, IsStore, IsStoreOrNone, IsGrownFrom, IsUpgrade, IsUpgraded}
+use Rattle.office_found.specs.Prelude.{HasApartAddresses, IsFound, Tests, HoldsSite, HasMeta, HoldsText, schema_of}
 use Rattle.office_sql.proofs.Asked.{was_clean}
 use Rattle.office_store.proofs.FoundStarts.{office_of, starts_of}
 use Rattle.office_store.proofs.AddressKept.{apart_grown, apart_if_none, apart_upgraded}
 use Rattle.office_store.proofs.Telling.{not_silent, not_third, site_once}
-use Rattle.office_store.proofs.TextShows.{one_text}
+use Rattle.office_found.proofs.TextShows.{one_text}
 
 -- a failure is no fault of a site or of tables, and comes with the schema that was there
 failed : (site : TextOfSite) (s : State) → (IsTrue s.is_open → ¬ IsOtherSchema s.now.schema) → IsRefusedFor site s Failed

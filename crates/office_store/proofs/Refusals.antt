@@ -8,11 +8,12 @@ use Rattle.office_sql.proofs.Kit.{Row, Database, Held, state, HasCleanDisk, IsUn
 use Rattle.sqlite.specs.Store.{Ghosts}
 use Rattle.office_store.proofs.Types.{OpenFault, OtherSite, OtherTables, Failed, Meta, Version, Earliest, Early, First, Third}
 use Rattle.office_store.specs.Prelude.{AreStartsAsked, CanTake, Examines, HasOtherTables, IsFoundAt, IsOfOtherSite, IsOther, IsShownText, TellsOther}
-use Rattle.office_store.specs.Prelude.{HasApartAddresses, HasStarts, HasWhole, IsFound, Tests, meta_of_version, metas_in, IsMetaOf, HasMeta, IsGrownFrom}
-use Rattle.office_store.specs.Prelude.{ShowTexts, number_of_version, schema_of}
+use Rattle.office_store.specs.Prelude.{IsGrownFrom}
+use Rattle.office_found.specs.Prelude.{HasApartAddresses, HasStarts, HasWhole, IsFound, Tests, meta_of_version, metas_in, IsMetaOf, HasMeta, ShowTexts}
+use Rattle.office_found.specs.Prelude.{number_of_version, schema_of}
 use Rattle.office_sql.proofs.Asked.{was_clean}
-use Rattle.office_store.proofs.FoundAsked.{rests_then, still_found, unchanged_then}
-use Rattle.office_store.proofs.MetaShows.{no_site}
+use Rattle.office_found.proofs.FoundAsked.{rests_then, still_found, unchanged_then}
+use Rattle.office_found.proofs.MetaShows.{no_site}
 use Rattle.office_store.proofs.Telling.{shown_tells, tells_shown}
 
 -- what holds of an error holds of a result that is it

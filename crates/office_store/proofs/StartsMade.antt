@@ -2,23 +2,22 @@
 use Rattle.std.proofs.Common.{◌≡◌, ◌∷◌, Ordering}
 use Rattle.text_core.proofs.Kit.{ℕ, ℤ, Bool, true, false, cond, Some, None, find, option_and_then, ap, codes, List, [], Ok, refl, sym, subst, append-nil}
 use Rattle.text_core.proofs.Kit.{AllByRecursion, IsTotalOrder, is_eq, IsPermutation-trans}
-use Rattle.office_sql.proofs.Kit.{Null, Int, Row, column, Term, lit, col, eval_all, Collation, Binary, Database, State, Executes, cast_row}
-use Rattle.office_sql.proofs.Kit.{IsPermutation-same}
+use Rattle.office_sql.proofs.Kit.{Null, Int, Row, column, Term, lit, col, eval_all, Collation, Binary, Database, State, Executes, cast_row, IsPermutation-same}
 use Rattle.sqlite.specs.Listing.{understood}
 use Rattle.sqlite.specs.Source.TheVariants.{Query as Selected}
 use Rattle.sqlite_tied.specs.Compute.{everything}
 use Rattle.office_tables.specs.Prelude.{order_cmp, given_cmp}
 use Rattle.office_sql.specs.Prelude.{OfficeTable, orders, given, order_starts, given_starts, order_start_table, given_start_table, rows_in, start_in_rows}
-use Rattle.office_sql.specs.Prelude.{text_if, env}
-use Rattle.office_sql.specs.Prelude.{order_in_row, given_in_row, starts_order, starts_given, AreRows, AreStarted, IsText, IsOrderRow, IsGivenRow}
+use Rattle.office_sql.specs.Prelude.{text_if, env, order_in_row, given_in_row, starts_order, starts_given, AreRows, AreStarted, IsText, IsOrderRow, IsGivenRow}
 use Rattle.office_sql.proofs.Filled.{news_of, numbered_made, grows, started, each_made}
 use Rattle.office_sql.proofs.OrderReads.{order_total, order_tied}
 use Rattle.office_sql.proofs.GivenReads.{given_total, given_tied}
 use Rattle.office_sql.proofs.Filling.{Fills, fills, shown_of}
 use Rattle.office_sql.proofs.Inserting.{IsInsertOf}
 use Rattle.office_sql.proofs.Stepping.{cast_null}
-use Rattle.office_store.specs.Prelude.{GainsNone, LacksOrderStarts, LacksGivenStarts, schema_of}
-use Rattle.office_store.specs.declared.version.Version.TheVariants.{Second}
+use Rattle.office_store.specs.Prelude.{GainsNone, LacksOrderStarts, LacksGivenStarts}
+use Rattle.office_found.specs.Prelude.{schema_of}
+use Rattle.office_found.specs.declared.version.Version.TheVariants.{Second}
 use Rattle.office_store.proofs.Counts.{first_but}
 
 -- starts that say nothing give none

@@ -6,12 +6,13 @@ use Rattle.office_tables.specs.Prelude.{seat_cmp, order_cmp, map_cmp, link_cmp, 
 use Rattle.office_sql.proofs.Names.{first_by_name}
 use Rattle.office_sql.specs.Prelude.{OfficeTable, meta, seats, maps, links, orders, devices, given, ledger, order_starts, given_starts, texts, seat_in_row}
 use Rattle.office_sql.specs.Prelude.{map_in_row, link_in_row, order_in_row, device_in_row, given_in_row, entry_in_row, starts_order, starts_given}
-use Rattle.office_sql.specs.Prelude.{with_order_start, with_given_start, rows_in, place_of, AreOfficeRows, AreRows, AreStarted, tables_in}
-use Rattle.office_sql.specs.Prelude.{IsSeatRow, IsMapRow, IsLinkRow, IsOrderRow, IsDeviceRow, IsGivenRow, IsEntryRow}
+use Rattle.office_sql.specs.Prelude.{with_order_start, with_given_start, rows_in, place_of, AreOfficeRows, AreRows, AreStarted, tables_in, IsSeatRow, IsMapRow}
+use Rattle.office_sql.specs.Prelude.{IsLinkRow, IsOrderRow, IsDeviceRow, IsGivenRow, IsEntryRow}
 use Rattle.office_store.proofs.StartsMade.{silent_start}
 use Rattle.office_store.proofs.Types.{Version, Earliest, Early, First, Second, Third}
-use Rattle.office_store.specs.Prelude.{CanUpgrade, GainsNone, GainsNoStart, GainsStarts, GainsText, IsAt, IsEarly, IsFilled, IsFound, IsRaised, IsRemade}
-use Rattle.office_store.specs.Prelude.{IsStep, KeepsFirst, LacksGivenStarts, LacksOrderStarts, Sees, TellsNoStart, count_of, next_version, rows_at, tables_at}
+use Rattle.office_store.specs.Prelude.{CanUpgrade, GainsNone, GainsNoStart, GainsStarts, GainsText, IsAt, IsFilled, IsRaised, IsRemade, IsStep}
+use Rattle.office_store.specs.Prelude.{LacksGivenStarts, LacksOrderStarts, tables_at}
+use Rattle.office_found.specs.Prelude.{IsEarly, IsFound, KeepsFirst, Sees, TellsNoStart, count_of, next_version, rows_at}
 use Rattle.office_store.proofs.Counts.{first_eight}
 
 -- the rows of a table that a version has are those of the database

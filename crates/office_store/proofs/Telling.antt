@@ -4,8 +4,9 @@ use Rattle.sha2.specs.Sha256.{sha256}
 use Rattle.sha2.proofs.Facts256.{length-sha256}
 use Rattle.office_sql.proofs.Kit.{Row, Trees}
 use Rattle.office_store.proofs.Types.{Meta, Version, Third}
-use Rattle.office_store.specs.Prelude.{IsShownText, metas_in, new_meta, HoldsSite, IsMetaOf, HasMeta, ShowTexts, number_of_version}
-use Rattle.office_store.proofs.TextShows.{shown_text}
+use Rattle.office_store.specs.Prelude.{IsShownText, new_meta}
+use Rattle.office_found.specs.Prelude.{metas_in, HoldsSite, IsMetaOf, HasMeta, ShowTexts, number_of_version}
+use Rattle.office_found.proofs.TextShows.{shown_text}
 
 schema_in : List Meta → ℕ
 schema_in [] = 0

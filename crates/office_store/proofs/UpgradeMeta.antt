@@ -7,7 +7,8 @@ use Rattle.sqlite.specs.Order.{value_cmp}
 use Rattle.office_sql.specs.Prelude.{meta, texts, office_schema, rows_in, number_in_cell}
 use Rattle.office_sql.proofs.Told.{tell_text, told, name_text, named, write_text, written}
 use Rattle.office_store.proofs.Types.{Meta, Version, Third}
-use Rattle.office_store.specs.Prelude.{ReplacesName, meta_in, meta_of_version, HasMeta, HoldsText, PutsText, TellsItself, TellsThird}
+use Rattle.office_store.specs.Prelude.{ReplacesName, PutsText, TellsItself, TellsThird}
+use Rattle.office_found.specs.Prelude.{meta_in, meta_of_version, HasMeta, HoldsText}
 
 -- the row that is there alone
 abbrev IsAlone : List Row → Meta → Type 0

@@ -5,7 +5,8 @@ use Rattle.office_sql.specs.Prelude.{meta, texts, rows_in, IsOffice}
 use Rattle.office_sql.proofs.Offices.{table_changed, both_started}
 use Rattle.sha2.specs.Sha256.{sha256}
 use Rattle.office_store.proofs.Types.{Version, Third}
-use Rattle.office_store.specs.Prelude.{IsGrown, ReplacesName, meta_in, HasMeta, IsOnlyText, IsFilled, IsUpgrade, PutsText, TellsItself, TellsThird}
+use Rattle.office_store.specs.Prelude.{IsGrown, ReplacesName, IsFilled, IsUpgrade, PutsText, TellsItself, TellsThird}
+use Rattle.office_found.specs.Prelude.{meta_in, HasMeta, IsOnlyText}
 use Rattle.office_store.proofs.Counts.{first_eight, not_texts}
 
 -- ---- what the store tells of itself

@@ -11,22 +11,23 @@ use Rattle.sqlite.specs.Store.{Ghosts}
 use Rattle.sqlite.specs.Held.{Held, state}
 use Rattle.sqlite.specs.State.{State, HasCleanDisk, IsUnchanged, KeepsCommit, Survives}
 use Rattle.office_tables.specs.Prelude.{Tables}
-use Rattle.office_sql.specs.Prelude.{Rests, IsReady, no_schema, IsOffice, office_over, tables_in}
+use Rattle.office_sql.specs.Prelude.{Rests, IsReady, no_schema, office_over, tables_in}
 use Rattle.office_store.specs.declared.adopting.Handed.{Handed}
 use Rattle.office_store.specs.declared.adopting.Handed.TheVariants as handed
 use Rattle.office_store.specs.declared.fault.OpenFault.{OpenFault}
 use Rattle.office_store.specs.declared.fault.OpenFault.TheVariants.{OtherSite, OtherTables, Failed}
-use Rattle.office_store.specs.declared.version.Version.{Version}
-use Rattle.office_store.specs.declared.version.Version.TheVariants.{First, Second, Third}
-use Rattle.office_store.specs.Addresses.{HasApartAddresses}
-use Rattle.office_store.specs.Found.{HasStarts, HasWhole, IsFound}
-use Rattle.office_store.specs.Meta.{metas_in, HoldsSite, IsBegun, HasMeta, TellNoSite, new_meta}
-use Rattle.office_store.specs.Growing.{IsGrown}
+use Rattle.office_found.specs.declared.version.Version.{Version}
+use Rattle.office_found.specs.declared.version.Version.TheVariants.{First, Second, Third}
+use Rattle.office_found.specs.Addresses.{HasApartAddresses}
+use Rattle.office_found.specs.Found.{HasStarts, HasWhole, IsFound}
+use Rattle.office_found.specs.Meta.{metas_in, HoldsSite, HasMeta, TellNoSite}
+use Rattle.office_store.specs.Making.{IsBegun, new_meta}
+use Rattle.office_store.specs.Growing.{IsGrown, IsGrownFrom}
 use Rattle.office_store.specs.Stores.{HasSchema, IsNoStore, IsStore, IsStoreOrNone}
-use Rattle.office_store.specs.Texts.{HoldsText, IsGrownFrom, IsOnlyText}
-use Rattle.office_store.specs.declared.meta.Meta.{Meta}
+use Rattle.office_found.specs.Texts.{HoldsText, IsOnlyText}
+use Rattle.office_found.specs.declared.meta.Meta.{Meta}
 use Rattle.office_store.specs.Upgrading.{IsUpgrade}
-use Rattle.office_store.specs.Versions.{number_of_version, schema_of, IsOfNoVersion}
+use Rattle.office_found.specs.Versions.{number_of_version, schema_of, IsOfNoVersion}
 
 -- a database whose schema is a version's is of that version, if no number of its is below zero
 abbrev pub FindsVersion : Database → Type 0
@@ -60,16 +61,6 @@ IsFoundApart version db = IsFound version db × HasApartAddresses db.trees
 abbrev pub IsTestedFor : List ℕ → Version → Database → Type 0
 IsTestedFor site version db =
     IsFoundApart version db × HasMeta version site db.trees × (number_of_version version ≢ 1 → HasStarts db.trees)
-
--- the store tells of a text that has this SHA-256
-pub record IsOurs (site : List ℕ) (db : Trees) : Type 0 where
-  pub text : List ℕ
-  pub tells : HoldsSite text db
-  pub named : sha256 text ≡ site
-
--- a store of the site: a database of the office, with its row of meta and its text
-abbrev pub IsOfSite : List ℕ → Trees → Type 0
-IsOfSite site db = IsOffice (office_over db) × IsOurs site db
 
 -- meta tells this version and another site, which is 32 bytes too
 abbrev pub TellsOther : Version → List ℕ → Trees → Type 0

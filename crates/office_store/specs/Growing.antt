@@ -1,11 +1,13 @@
 -- How a store comes to hold the text of a site that grew, in one transaction.
-use Rattle.std.specs.Prelude.{◌≡◌, ◌≢◌, ℕ, List, IsTrue}
+use Rattle.std.specs.Prelude.{◌≡◌, ◌≢◌, ℕ, List, IsTrue, Ok}
 use Rattle.sqlite.specs.Tree.{Trees}
 use Rattle.sqlite.specs.Effect.{Database, IsDatabase}
 use Rattle.sqlite.specs.State.{State}
 use Rattle.office_sql.specs.Prelude.{OfficeTable, meta, texts, SameBut, office_schema, rows_in, IsOffice, tables_in}
-use Rattle.office_store.specs.declared.version.Version.TheVariants.{Third}
-use Rattle.office_store.specs.Meta.{HoldsSite, HasMeta}
+use Rattle.office_found.specs.declared.version.Version.TheVariants.{Third}
+use Rattle.office_found.specs.Meta.{HoldsSite, HasMeta}
+use Rattle.site_core.specs.Prelude.{SiteValue, site_read}
+use Rattle.site_growth.specs.Prelude.{IsGrowth}
 
 -- another site is told, and no other table changes
 pub record ReplacesName (site : List ℕ) (old new : Database) : Type 0 where
@@ -33,3 +35,7 @@ pub record HasGrown (text : List ℕ) (old new : State) : Type 0 where
   pub is_open : IsTrue new.is_open
   pub grown : IsGrown text old.now.trees new.now
   pub committed : new.committed ≡ new.now
+
+-- the site is a growth of the one that a text is
+abbrev pub IsGrownFrom : List ℕ → SiteValue → Type 0
+IsGrownFrom text site = (older : SiteValue) × (site_read text ≡ Ok older) × IsGrowth older site

@@ -1,20 +1,9 @@
 -- What the contracts of this crate are made of.
-pub mod Kept
-pub mod Keeping
-pub mod Calls
-pub mod Counting
-pub mod Remembering
-pub mod Written
 pub mod Faults
 pub mod Adopting
-pub mod Found
-pub mod Addresses
-pub mod Versions
-pub mod Texts
 pub mod Growing
-pub mod Meta
+pub mod Making
 pub mod Stores
-pub mod Described
 pub mod Opening
 pub mod Steps
 pub mod Upgrading

@@ -19,7 +19,7 @@ use Rattle.office_store.specs.declared.fault.OpenFault.TheVariants.{OtherTables,
 use Rattle.office_store.specs.declared.opening.Absent.{Absent}
 use Rattle.office_store.specs.declared.opening.Absent.TheVariants.{Make, Refuse}
 use Rattle.office_store.specs.Adopting.{IsPreparedFor, IsRefusedFor}
-use Rattle.office_store.specs.Kept.{Kept}
+use Rattle.office_keep.specs.Kept.{Kept}
 use Rattle.office_store.specs.Stores.{IsStore, IsStoreOrNone}
 
 -- these are the tables of the database that the files held, and of one that they recover to or, where they held none, of an empty one

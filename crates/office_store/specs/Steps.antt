@@ -4,10 +4,10 @@ use Rattle.sqlite.specs.Tree.{Trees}
 use Rattle.sqlite.specs.Effect.{Database, IsDatabase}
 use Rattle.office_tables.specs.Prelude.{Tables}
 use Rattle.office_sql.specs.Prelude.{AreOfficeRows, tables_of, texts}
-use Rattle.office_store.specs.declared.version.Version.{Version}
-use Rattle.office_store.specs.declared.version.Version.TheVariants.{Second, Third}
-use Rattle.office_store.specs.Found.{AreAllStarted}
-use Rattle.office_store.specs.Versions.{count_of, next_version, rows_at, schema_of, KeepsFirst}
+use Rattle.office_found.specs.declared.version.Version.{Version}
+use Rattle.office_found.specs.declared.version.Version.TheVariants.{Second, Third}
+use Rattle.office_found.specs.Found.{AreAllStarted}
+use Rattle.office_found.specs.Versions.{count_of, next_version, rows_at, schema_of, KeepsFirst}
 
 -- in a version that has beginnings of validity each order and each record has exactly one
 abbrev pub AreStartedAt : Version → Trees → Type 0

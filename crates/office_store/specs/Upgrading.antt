@@ -11,12 +11,12 @@ use Rattle.sqlite.specs.State.{State}
 use Rattle.office_tables.specs.Prelude.{order_cmp, given_cmp}
 use Rattle.office_sql.specs.Prelude.{OfficeTable, meta, orders, given, order_starts, given_starts, texts, SameBut, office_schema, place_of, rows_in}
 use Rattle.office_sql.specs.Prelude.{order_in_row, given_in_row, starts_order, starts_given, AreRows, AreStarted, IsGivenRow, IsOffice, IsOrderRow, tables_in}
-use Rattle.office_store.specs.declared.version.Version.{Version}
-use Rattle.office_store.specs.declared.version.Version.TheVariants.{First, Second, Third}
-use Rattle.office_store.specs.Found.{HasStarts, IsFound, Sees}
-use Rattle.office_store.specs.Meta.{HasMeta}
-use Rattle.office_store.specs.Texts.{HoldsText}
-use Rattle.office_store.specs.Versions.{count_of, number_of_version, schema_of, KeepsFirst, KeepsFirstBut}
+use Rattle.office_found.specs.declared.version.Version.{Version}
+use Rattle.office_found.specs.declared.version.Version.TheVariants.{First, Second, Third}
+use Rattle.office_found.specs.Found.{HasStarts, IsFound, Sees}
+use Rattle.office_found.specs.Meta.{HasMeta}
+use Rattle.office_found.specs.Texts.{HoldsText}
+use Rattle.office_found.specs.Versions.{count_of, number_of_version, schema_of, KeepsFirst, KeepsFirstBut}
 
 -- the tables of beginnings of validity are made, with no row, and each other table stays
 pub record GainsStarts (old new : Database) : Type 0 where

@@ -4,27 +4,27 @@ ghost use Rattle.sqlite.specs.State.{HasCleanDisk};
 ghost use Rattle.sqlite.specs.Held.{state};
 ghost use Rattle.office_sql.specs.Prelude.{no_schema, tables_in};
 ghost use Rattle.office_store.specs.Prelude.{AreStartsAsked, CanPrepareTables, CanTake, Examines, HandedKeeps, HandedLeaves, IsFoundAt, IsGrowable, IsApartAt};
-ghost use Rattle.office_store.specs.Prelude.{IsFoundApart, IsHandedFor, IsOurs, IsShownText, LeavesAtMost, PreparesTables, StaysUnstarted, TakesGrowth};
-ghost use Rattle.office_store.specs.Prelude.{TakesOwn, HasApartAddresses, HasStarts, IsFound, meta_of_version, new_meta, HasMeta, IsStoreOrNone, HoldsText};
-ghost use Rattle.office_store.specs.Prelude.{IsGrownFrom, CanUpgrade, IsTestedFor, number_of_version, schema_of};
+ghost use Rattle.office_store.specs.Prelude.{IsFoundApart, IsHandedFor, IsShownText, LeavesAtMost, PreparesTables, StaysUnstarted, TakesGrowth, TakesOwn};
+ghost use Rattle.office_store.specs.Prelude.{new_meta, IsStoreOrNone, IsGrownFrom, CanUpgrade, IsTestedFor};
+ghost use Rattle.office_found.specs.Prelude.{IsOurs, HasApartAddresses, HasStarts, IsFound, meta_of_version, HasMeta, HoldsText, number_of_version, schema_of};
 ghost use Rattle.office_store.specs.declared.fault.OpenFault.TheVariants.{OtherSite as TheSite, OtherTables as TheTables};
-ghost use Rattle.office_store.specs.declared.version.Version.TheVariants.{Third};
-ghost use Rattle.office_store.specs.declared.version.Version.{Version as TheVersion};
+ghost use Rattle.office_found.specs.declared.version.Version.TheVariants.{Third};
+ghost use Rattle.office_found.specs.declared.version.Version.{Version as TheVersion};
 ghost use Rattle.sha2.specs.Sha256.{sha256};
 ghost use Rattle.site_core.specs.Prelude.{TextOfSite};
 
-use crate::addresses::has_apart_addresses;
 use crate::create::make_tables;
 use crate::fault::OpenFault;
-use crate::found::{has_starts, has_whole_numbers, reread};
 use crate::grow::grow_text;
-use crate::keep::SqlKeep;
-use crate::meta::{META_ID, Meta, meta_row};
-use crate::schema::{is_empty_schema, version_of};
-use crate::site_text::{has_text, only_text, told_rows};
+use crate::reread::reread;
 use crate::upgrade::upgrade_tables;
-use crate::version::Version;
+use office_found::{
+    META_ID, Meta, Version, has_apart_addresses, has_starts, has_text, has_whole_numbers,
+    is_empty_schema, meta_row, only_text, told_rows, version_of,
+};
+use office_keep::SqlKeep;
 use site_core::{Site, SiteFault, SiteText, read_site};
+use site_growth::is_growth;
 use sqlite::{Alter, Connection, Row};
 use std::alloc::Global;
 use text_core::Digest;
@@ -135,7 +135,7 @@ fn judge_growth(alloc: Global, held: &str, site: &Site) -> Result<(), OpenFault>
     ensures other_tables { IfErr result (λ fault. fault ≢ TheTables) }
 {
     match read_site(alloc, held) {
-        Ok(older) if older.is_growth(site) => Ok(()),
+        Ok(older) if is_growth(&older, site) => Ok(()),
         Err(SiteFault::OutOfMemory) => Err(OpenFault::Failed),
         _ => Err(OpenFault::OtherSite),
     }

@@ -5,9 +5,11 @@ ghost use Rattle.sqlite.specs.Tree.{Trees};
 ghost use Rattle.sqlite.specs.View.{IsClean};
 ghost use Rattle.sqlite_store.specs.FileStore as files;
 ghost use Rattle.office_tables.specs.Prelude.{Tables};
-ghost use Rattle.office_store.specs.Prelude.{IsOfSite, is_honest_at, may_leave_at, HasTablesOf};
+ghost use Rattle.office_store.specs.Prelude.{HasTablesOf};
+ghost use Rattle.office_keep.specs.Prelude.{is_honest_at, may_leave_at};
+ghost use Rattle.office_found.specs.Prelude.{IsOfSite};
 
-use crate::keep::SqlKeep;
+use office_keep::SqlKeep;
 use sqlite::FileStore;
 use sqlite_disk::Disk;
 

@@ -3,8 +3,9 @@ ghost use Rattle.std.specs.Prelude.{◌≡◌, ℕ, List, false, IsTrue, OnOk, O
 ghost use Rattle.sqlite.specs.State.{HasCleanDisk, Survives};
 ghost use Rattle.sqlite.specs.Held.{state};
 ghost use Rattle.office_sql.specs.Prelude.{SqlWrites, IsUndone, office_schema, office_over};
-ghost use Rattle.office_store.specs.Prelude.{Sees, CanGrow, HasGrown, IsGrown, ReplacesName, HasMeta, HoldsText, PutsText};
-ghost use Rattle.office_store.specs.declared.version.Version.TheVariants.{Third};
+ghost use Rattle.office_store.specs.Prelude.{CanGrow, HasGrown, IsGrown, ReplacesName, PutsText};
+ghost use Rattle.office_found.specs.Prelude.{Sees, HasMeta, HoldsText};
+ghost use Rattle.office_found.specs.declared.version.Version.TheVariants.{Third};
 
 use site_core::SiteText;
 use sqlite::{Alter, Connection, Error, Transaction, params};

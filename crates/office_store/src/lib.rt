@@ -1,16 +1,14 @@
-//! The keeper of the tables over SQL.
+//! How a store of the office comes to have a keeper, and how that keeper ends.
 //!
-//! `SqlKeep` meets every clause of `Keep`, that on crashes included, over any store of the kit's
-//! `sqlite` whose connection is ready.
-//!
-//! `adopt` makes such a connection of any: it reads the store anew, makes the eleven tables of an
-//! empty one in one transaction, and tests those of another. These are its schema column by column
-//! (`version_of`, exact: that of schema 1, 2 or 3), numbers below zero, one address in two records,
-//! the one row of `meta`, that each order and each record of schema 2 and 3 has its row of
-//! `order_start` or `given_start`, and of schema 3 that the one row of `site_text` has a text whose
-//! SHA-256 `meta` tells. A store of schema 1 or 2 has to tell the SHA-256 of this text, and is
-//! brought to schema 3, in one transaction; in one of schema 3 this text takes the place of the one
-//! that is held, with its SHA-256, in one transaction too.
+//! A keeper wants a connection that is ready (`SqlKeep::over`). `adopt` makes such a one of any: it
+//! reads the store anew, makes the eleven tables of an empty one in one transaction, and tests those
+//! of another, by what it is asked in office_found. These are its schema column by column (exact:
+//! that of schema 1, 2 or 3), numbers below zero, one address in two records, the one row of `meta`,
+//! that each order and each record of schema 2 and 3 has its row of `order_start` or `given_start`,
+//! and of schema 3 that the one row of `site_text` has a text whose SHA-256 `meta` tells. A store of
+//! schema 1 or 2 has to tell the SHA-256 of this text, and is brought to schema 3, in one
+//! transaction; in one of schema 3 this text takes the place of the one that is held, with its
+//! SHA-256, in one transaction too.
 //!
 //! A keeper that it answers is open and ready on a clean disk, is of schema 3 and this site
 //! (`same_site`), and holds its text (`text`), which is a growth of the one that was held (`grown`)
@@ -48,39 +46,25 @@
 //! and a crash leaves as little (`IsTurnedAway`). The connection is gone then, so that clause tells
 //! of one that there was.
 //!
-//! While a keeper lives, whatever a crash leaves is a store of its site that holds a text of that
-//! SHA-256 (`RemembersRight.left`, said by `into_connection`). Where it ends by `into_store`, the
-//! files hold such a store (`held`), and who opens them finds tables that the keeper could leave
-//! (`found`). `set_steps` sets the limit of steps and nothing else, and no other call changes it
-//! (`limit`).
+//! Where a keeper ends by `into_store`, the files hold a store of its site that holds a text of that
+//! SHA-256 (`held`), and who opens them finds tables that the keeper could leave (`found`).
 //!
 //! Not said: that fault 3 comes only where the store or memory failed; that nothing is made at a
-//! path with no file, or one of no bytes, where no store is to be made; that a keeper reads less
-//! than it might.
+//! path with no file, or one of no bytes, where no store is to be made.
 #![tactic(auto)]
 
-mod addresses;
 mod adopting;
 mod create;
 mod ending;
 mod fault;
-mod found;
 mod grow;
-mod keep;
-mod maps;
-mod meta;
 mod opening;
-mod places;
 mod remake;
-mod remembered;
-mod schema;
-mod site_text;
+mod reread;
 mod upgrade;
-mod version;
-mod written;
 
 pub use adopting::{Handed, adopt};
 pub use ending::into_store;
 pub use fault::OpenFault;
-pub use keep::SqlKeep;
+pub use office_keep::SqlKeep;
 pub use opening::{Absent, open};

@@ -5,14 +5,15 @@ ghost use Rattle.sqlite.specs.State.{HasCleanDisk, Survives};
 ghost use Rattle.sqlite.specs.Held.{state};
 ghost use Rattle.office_sql.specs.Prelude.{SqlWrites, IsUndone, order_in_row, given_in_row, starts_order, starts_given, orders, given, order_starts};
 ghost use Rattle.office_sql.specs.Prelude.{given_starts, office_schema, office_over};
-ghost use Rattle.office_store.specs.Prelude.{IsAt, IsStep, Sees, CanUpgrade, GainsNone, GainsNoStart, IsFilled, IsUpgrade, IsUpgraded, LacksGivenStarts};
-ghost use Rattle.office_store.specs.Prelude.{LacksOrderStarts, TellsItself, TellsThird, IsEarly};
-ghost use Rattle.office_store.specs.declared.version.Version.{Version as TheVersion};
-ghost use Rattle.office_store.specs.declared.version.Version.TheVariants.{First, Second, Third};
+ghost use Rattle.office_store.specs.Prelude.{IsAt, IsStep, CanUpgrade, GainsNone, GainsNoStart, IsFilled, IsUpgrade, IsUpgraded, LacksGivenStarts};
+ghost use Rattle.office_store.specs.Prelude.{LacksOrderStarts, TellsItself, TellsThird};
+ghost use Rattle.office_found.specs.Prelude.{Sees, IsEarly};
+ghost use Rattle.office_found.specs.declared.version.Version.{Version as TheVersion};
+ghost use Rattle.office_found.specs.declared.version.Version.TheVariants.{First, Second, Third};
 
 use crate::create::{add_text, make_starts, make_text};
 use crate::remake::remake_tables;
-use crate::version::Version;
+use office_found::Version;
 use sqlite::{Alter, Connection, Error, Transaction};
 
 /// Tells of each order that it has no beginning of validity.

@@ -11,8 +11,9 @@ use Rattle.office_laws.proofs.Served.{step_is_served}
 use Rattle.office_laws.specs.Prelude.{IsSound, report_reply}
 use Rattle.office_laws.proofs.Obeying.{step_always}
 use Rattle.yield_report.specs.Prelude.{order_report_in, site_report_in}
-use Rattle.station_api.specs.Prelude.{AnswersAnyCaller, ParsedOrUnkept, AnswersParsed, AnswersHttp, caller_at, parse_request, of_manager, of_seat}
-use Rattle.station_api.proofs.AskedFor.{IsWithin, asked_within}
+use Rattle.station_api.specs.Prelude.{AnswersAnyCaller, ParsedOrUnkept, AnswersParsed, AnswersHttp, caller_at}
+use Rattle.station_requests.specs.Prelude.{parse_request, of_manager, of_seat}
+use Rattle.station_requests.proofs.AskedFor.{IsWithin, asked_within}
 
 -- what is done, and no 503, is an answer
 answers : (site : SiteValue) (caller : Caller) (wanted : Result Parsed Refusal) (t : Tables) (reply : Answer) (t2 : Tables)

@@ -17,8 +17,9 @@ use Rattle.office_laws.proofs.Grown.{growth_itself, sound_grown}
 use Rattle.office_laws.proofs.Promising.{promises}
 use Rattle.office_laws.proofs.Seats.{IsSeatOf, all_seats}
 use Rattle.station_api.specs.Prelude.{IsLed, StreamKeepsPromises, SiteRun, AnswersAnyCaller, ParsedOrUnkept, AnswersParsed, AnswersHttp, caller_at}
-use Rattle.station_api.specs.Prelude.{exchange_any, exchange_in, exchange_of, exchanges_with_seats, wanted_of, parse_request, of_manager, of_seat}
-use Rattle.station_api.proofs.AskedFor.{IsWithin, asked_within}
+use Rattle.station_api.specs.Prelude.{exchange_any, exchange_in, exchange_of, exchanges_with_seats, wanted_of}
+use Rattle.station_requests.specs.Prelude.{parse_request, of_manager, of_seat}
+use Rattle.station_requests.proofs.AskedFor.{IsWithin, asked_within}
 use Rattle.station_api.proofs.OwnCalls.{own_are}
 use Rattle.station_api.proofs.OwnTokens.{caller_one}
 

@@ -1,7 +1,7 @@
 -- The lives of a store, one after another, are one run.
 use Rattle.std.proofs.Common.{◌≡◌, List, [], ◌∷◌, None, append_assoc, map, refl, subst}
 use Rattle.site_core.specs.Prelude.{Ownership, ownership_of, SiteValue}
-use Rattle.site_core.proofs.Kept.{owners_grown}
+use Rattle.site_growth.proofs.Kept.{owners_grown}
 use Rattle.site_core.proofs.Owners.{owners_apart}
 use Rattle.office_tables.specs.Prelude.{Tables}
 use Rattle.office_tables.specs.declared.keep.Keep.{Ghosts}

@@ -9,7 +9,8 @@ use Rattle.station_api.proofs.Types.{Caller, Seat, Manager, Refusal, Parsed}
 use Rattle.office_rules.proofs.Ties.{text_itself}
 use Rattle.office_laws.specs.Prelude.{is_own, exchanges_of, Exchange}
 use Rattle.station_api.specs.Prelude.{caller_at, exchange_any, exchange_in, exchange_of, exchanges_with_seats, section_exchange, section_exchanges}
-use Rattle.station_api.specs.Prelude.{seat_of_token, parse_request, of_seat}
+use Rattle.station_api.specs.Prelude.{seat_of_token}
+use Rattle.station_requests.specs.Prelude.{parse_request, of_seat}
 use Rattle.station_api.proofs.OwnTokens.{other_caller, own_caller, seat_name}
 
 -- the exchange wasn't answered 503

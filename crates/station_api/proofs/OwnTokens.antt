@@ -15,7 +15,7 @@ use Rattle.site_core.proofs.Callers.{caller_of-one}
 use Rattle.site_core.proofs.Owners.{IsDistinct-by_key, apart_in_pieces}
 use Rattle.office_rules.proofs.Ties.{same_text}
 use Rattle.station_api.specs.Prelude.{caller_at, seat_of_token}
-use Rattle.station_api.proofs.Members.{bound}
+use Rattle.station_requests.proofs.Members.{bound}
 
 -- a request carries the token of one of the customer's seats
 abbrev pub has_seat : Section → HttpRequest → Bool

@@ -1,20 +1,8 @@
 -- The types that code declares and proofs here name, passed on from one place. Declares nothing.
-pub use Rattle.fuse_plan.specs.declared.wish.Want.{Want}
-pub use Rattle.fuse_plan.specs.declared.wish.Wish.{Wish}
-pub use Rattle.office_commands.specs.declared.command.Action.{Action}
-pub use Rattle.office_commands.specs.declared.command.Request.{Request}
-pub use Rattle.office_commands.specs.declared.command.Show.{Show}
-pub use Rattle.office_commands.specs.declared.new_device.NewDevice.{NewDevice}
-pub use Rattle.office_commands.specs.declared.new_identity.NewIdentity.{NewIdentity}
-pub use Rattle.office_commands.specs.declared.new_identity.NewImport.{NewImport}
-pub use Rattle.office_commands.specs.declared.new_order.NewOrder.{NewOrder}
 pub use Rattle.office_commands.specs.declared.refusal.Refusal.{Refusal}
 pub use Rattle.office_tables.specs.declared.keep.Keep.{Ghosts}
 pub use Rattle.site_core.specs.declared.site.Caller.{Caller}
 pub use Rattle.site_core.specs.declared.site.Caller.TheVariants.{Manager, Seat}
 pub use Rattle.site_core.specs.declared.site.SeatCaller.{SeatCaller}
-pub use Rattle.station_api.specs.declared.parse.Parsed.{Parsed}
-pub use Rattle.station_api.specs.declared.parse.Parsed.TheVariants.{Office, Report, SiteReport}
-pub use Rattle.station_api.specs.declared.parse.Posted.{Posted}
-pub use Rattle.station_api.specs.declared.parse.Route.{Route}
-pub use Rattle.station_api.specs.declared.plan.Kind.{Kind}
+pub use Rattle.station_requests.specs.declared.parse.Parsed.{Parsed}
+pub use Rattle.station_requests.specs.declared.parse.Parsed.TheVariants.{Office, Report, SiteReport}

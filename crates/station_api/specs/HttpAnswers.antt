@@ -14,9 +14,9 @@ use Rattle.office_commands.specs.Prelude.{refusal}
 use Rattle.office_rules.specs.Prelude.{Step}
 use Rattle.office_laws.specs.Prelude.{Exchange, report_reply, LeavesAfter}
 use Rattle.yield_report.specs.Prelude.{order_report_in, site_report_in}
-use Rattle.station_api.specs.Requests.{parse_request, kind_of_caller}
-use Rattle.station_api.specs.declared.parse.Parsed.{Parsed}
-use Rattle.station_api.specs.declared.parse.Parsed.TheVariants.{Office, Report, SiteReport}
+use Rattle.station_requests.specs.Requests.{parse_request, kind_of_caller}
+use Rattle.station_requests.specs.declared.parse.Parsed.{Parsed}
+use Rattle.station_requests.specs.declared.parse.Parsed.TheVariants.{Office, Report, SiteReport}
 
 -- the caller whose token a request carries
 abbrev pub caller_at : SiteValue → HttpRequest → Option Caller

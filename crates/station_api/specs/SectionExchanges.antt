@@ -10,9 +10,9 @@ use Rattle.office_commands.specs.declared.refusal.Refusal.{Refusal}
 use Rattle.office_commands.specs.declared.refusal.Refusal.TheVariants.{WrongCaller}
 use Rattle.office_laws.specs.Prelude.{Exchange, Wanted, asks, reports, refused}
 use Rattle.station_api.specs.HttpAnswers.{caller_at}
-use Rattle.station_api.specs.Requests.{parse_request, kind_of_caller, of_seat}
-use Rattle.station_api.specs.declared.parse.Parsed.{Parsed}
-use Rattle.station_api.specs.declared.parse.Parsed.TheVariants.{Office, Report, SiteReport}
+use Rattle.station_requests.specs.Requests.{parse_request, kind_of_caller, of_seat}
+use Rattle.station_requests.specs.declared.parse.Parsed.{Parsed}
+use Rattle.station_requests.specs.declared.parse.Parsed.TheVariants.{Office, Report, SiteReport}
 
 -- what is wanted by what a seat asks for: the manager's report is no seat's
 abbrev pub wanted_of : Result Parsed Refusal → Wanted

@@ -10,7 +10,9 @@ use Rattle.sqlite_store.specs.declared.store.FileStore.{FileStore}
 use Rattle.sha2.specs.Sha256.{sha256}
 use Rattle.site_core.specs.Prelude.{SiteValue, TextOfSite}
 use Rattle.office_sql.specs.Prelude.{tables_in}
-use Rattle.office_store.specs.Prelude.{HasApartAddresses, IsOurs, StaysUnstarted, TakesGrowth, TakesOwn, Kept, FilesHeld, HasTablesOf, IsTaken, HoldsText}
+use Rattle.office_store.specs.Prelude.{StaysUnstarted, TakesGrowth, TakesOwn, FilesHeld, HasTablesOf, IsTaken}
+use Rattle.office_keep.specs.Prelude.{Kept}
+use Rattle.office_found.specs.Prelude.{IsOurs, HasApartAddresses, HoldsText}
 use Rattle.office_store.specs.declared.opening.Absent.{Absent}
 
 -- what the opening of a site's store says of its connection, by what the files held, where the disk

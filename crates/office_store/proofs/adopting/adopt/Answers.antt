@@ -2,8 +2,9 @@ use Rattle.std.proofs.Common.{rules, subst, sym, IsTrue}
 use Rattle.office_sql.proofs.Kit.{state, HasCleanDisk, clean_if_open}
 use Rattle.office_sql.specs.Prelude.{IsReady}
 use Rattle.office_sql.proofs.Asked.{was_clean}
-use Rattle.office_store.specs.Prelude.{HoldsSite, HasMeta, IsStoreOrNone}
-use Rattle.office_store.proofs.Answers.{ready_if_open}
+use Rattle.office_store.specs.Prelude.{IsStoreOrNone}
+use Rattle.office_found.specs.Prelude.{HoldsSite, HasMeta}
+use Rattle.office_keep.proofs.Answers.{ready_if_open}
 use Rattle.office_store.proofs.LeftOfSite.{left_of_site}
 use Rattle.office_store.proofs.Preparing.{left_anew}
 use Rattle.office_store.proofs.adopting.adopt.Goals as goal

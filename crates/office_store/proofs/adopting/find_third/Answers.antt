@@ -1,5 +1,5 @@
 use Rattle.office_sql.proofs.Kit.{Database, clean_if_open}
-use Rattle.office_store.specs.declared.version.Version.TheVariants.{Third}
+use Rattle.office_found.specs.declared.version.Version.TheVariants.{Third}
 use Rattle.office_store.specs.Prelude.{IsFoundApart, IsGrowable, PreparesTables}
 use Rattle.office_store.proofs.Refusals.{found_after, is_err, says_of}
 use Rattle.office_store.proofs.Preparing.{refused, prepared_after}

@@ -4,7 +4,8 @@ use Rattle.site_core.specs.Prelude.{TextOfSite}
 use Rattle.sqlite.specs.Held.{Held, state}
 use Rattle.sqlite.specs.Store.{Ghosts}
 use Rattle.office_sql.specs.Prelude.{no_schema}
-use Rattle.office_store.specs.Prelude.{PreparesTables, IsOfNoVersion}
+use Rattle.office_store.specs.Prelude.{PreparesTables}
+use Rattle.office_found.specs.Prelude.{IsOfNoVersion}
 use Rattle.office_store.specs.declared.fault.OpenFault.TheVariants.{OtherTables}
 use Rattle.office_store.proofs.Preparing.{unprepared}
 use Rattle.office_store.proofs.adopting.prepare_tables.Goals as goal

@@ -1,5 +1,5 @@
 use Rattle.office_sql.proofs.Kit.{Database, clean_if_open}
-use Rattle.office_store.specs.Prelude.{HasApartAddresses}
+use Rattle.office_found.specs.Prelude.{HasApartAddresses}
 use Rattle.office_store.proofs.Refusals.{passed, twice_found, unread}
 use Rattle.office_store.proofs.adopting.test_addresses.Goals as goal
 

@@ -4,7 +4,8 @@ use Rattle.sqlite.specs.Store.{Ghosts}
 use Rattle.sha2.specs.Sha256.{sha256}
 use Rattle.site_core.specs.Prelude.{TextOfSite}
 use Rattle.office_store.proofs.Types.{Version, Third}
-use Rattle.office_store.specs.Prelude.{AreStartsAsked, Examines, IsFoundApart, IsTestedFor, HasMeta, HasStarts, number_of_version, schema_of}
+use Rattle.office_store.specs.Prelude.{AreStartsAsked, Examines, IsFoundApart, IsTestedFor}
+use Rattle.office_found.specs.Prelude.{HasMeta, HasStarts, number_of_version, schema_of}
 use Rattle.office_store.proofs.Refusals.{are_asked, examines_then, examines_weaker, found_after, is_err, says_nothing, says_of}
 use Rattle.office_store.proofs.adopting.test_earlier.Goals as goal
 

@@ -1,5 +1,5 @@
 use Rattle.sqlite.proofs.StateLemmas.{clean_if_open}
-use Rattle.office_store.specs.Prelude.{IsFound}
+use Rattle.office_found.specs.Prelude.{IsFound}
 use Rattle.office_store.proofs.Refusals.{low_found, passed, unread}
 use Rattle.office_store.proofs.adopting.test_numbers.Goals as goal
 

@@ -1,7 +1,8 @@
 use Rattle.std.proofs.Common.{[], None}
 use Rattle.site_core.specs.Prelude.{TextOfSite}
 use Rattle.sqlite.specs.Effect.{Database}
-use Rattle.office_store.specs.Prelude.{HasApartAddresses, Examines, IsFoundApart, IsFound}
+use Rattle.office_store.specs.Prelude.{Examines, IsFoundApart}
+use Rattle.office_found.specs.Prelude.{HasApartAddresses, IsFound}
 use Rattle.office_store.proofs.Refusals.{examines_then, found_after, is_err, says_nothing}
 use Rattle.office_store.proofs.adopting.test_rows.Goals as goal
 

@@ -1,6 +1,6 @@
 use Rattle.office_sql.proofs.Kit.{Database, clean_if_open}
 use Rattle.sha2.specs.Sha256.{sha256}
-use Rattle.office_store.specs.Prelude.{HasMeta}
+use Rattle.office_found.specs.Prelude.{HasMeta}
 use Rattle.office_store.proofs.Refusals.{judged_as, unread}
 use Rattle.office_store.proofs.adopting.test_site.Goals as goal
 

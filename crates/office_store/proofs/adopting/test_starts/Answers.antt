@@ -1,5 +1,5 @@
 use Rattle.office_sql.proofs.Kit.{Database, clean_if_open}
-use Rattle.office_store.specs.Prelude.{HasStarts}
+use Rattle.office_found.specs.Prelude.{HasStarts}
 use Rattle.office_store.proofs.Refusals.{lack_found, passed, unread}
 use Rattle.office_store.proofs.adopting.test_starts.Goals as goal
 

@@ -1,6 +1,7 @@
 use Rattle.sqlite.specs.Effect.{Database}
 use Rattle.sha2.specs.Sha256.{sha256}
-use Rattle.office_store.specs.Prelude.{Examines, IsFoundApart, HasMeta}
+use Rattle.office_store.specs.Prelude.{Examines, IsFoundApart}
+use Rattle.office_found.specs.Prelude.{HasMeta}
 use Rattle.office_store.proofs.Refusals.{examines_then, found_after, is_err, says_nothing}
 use Rattle.office_store.proofs.adopting.test_tables.Goals as goal
 

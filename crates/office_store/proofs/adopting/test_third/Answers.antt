@@ -1,8 +1,9 @@
 use Rattle.std.proofs.Common.{Ok}
 use Rattle.sqlite.specs.Effect.{Database}
 use Rattle.site_core.specs.Prelude.{TextOfSite}
-use Rattle.office_store.specs.declared.version.Version.TheVariants.{Third}
-use Rattle.office_store.specs.Prelude.{CanTake, Examines, IsFoundApart, IsGrowable, HasStarts}
+use Rattle.office_found.specs.declared.version.Version.TheVariants.{Third}
+use Rattle.office_store.specs.Prelude.{CanTake, Examines, IsFoundApart, IsGrowable}
+use Rattle.office_found.specs.Prelude.{HasStarts}
 use Rattle.office_store.proofs.Refusals.{examines_then, found_after, is_err, says_nothing, says_of}
 use Rattle.office_store.proofs.adopting.test_third.Goals as goal
 

@@ -2,7 +2,7 @@ use Rattle.std.proofs.Common.{ℕ, List, IsTrue, subst}
 use Rattle.office_sql.proofs.Kit.{Held, state, HasCleanDisk, Survives, clean_if_open}
 use Rattle.sqlite.specs.Store.{Ghosts}
 use Rattle.office_sql.specs.Prelude.{office_over}
-use Rattle.office_store.specs.declared.version.Version.{Version}
+use Rattle.office_found.specs.declared.version.Version.{Version}
 use Rattle.office_store.specs.Prelude.{IsUpgrade, IsUpgraded}
 use Rattle.office_store.proofs.Preparing.{not_upgraded, upgraded}
 use Rattle.office_store.proofs.adopting.upgrade.Goals as goal

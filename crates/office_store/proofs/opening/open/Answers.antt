@@ -1,8 +1,9 @@
 use Rattle.std.proofs.Common.{ap, inr, subst, sym, ◌∙◌}
 use Rattle.office_sql.proofs.Kit.{file_state, over_files, Database, image_at}
 use Rattle.office_sql.specs.Prelude.{tables_in}
-use Rattle.office_store.specs.Prelude.{IsTaken, IsTurnedAway, HoldsSite, HasMeta}
-use Rattle.office_store.specs.declared.version.Version.TheVariants.{First}
+use Rattle.office_store.specs.Prelude.{IsTaken, IsTurnedAway}
+use Rattle.office_found.specs.Prelude.{HoldsSite, HasMeta}
+use Rattle.office_found.specs.declared.version.Version.TheVariants.{First}
 use Rattle.office_store.proofs.FoundFiles.{can_prepare}
 use Rattle.office_store.proofs.opening.open.Goals as goal
 

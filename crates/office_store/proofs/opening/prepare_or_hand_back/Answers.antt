@@ -1,8 +1,8 @@
 use Rattle.std.proofs.Common.{◌≡◌, ◌∙◌, ap, rules, subst, sym, true≢false, IsTrue}
 use Rattle.office_sql.proofs.Kit.{Database, HasCleanDisk, Trees, state, clean_if_open}
 use Rattle.office_sql.specs.Prelude.{IsReady}
-use Rattle.office_store.specs.Prelude.{HoldsSite}
-use Rattle.office_store.proofs.Answers.{ready_if_open}
+use Rattle.office_found.specs.Prelude.{HoldsSite}
+use Rattle.office_keep.proofs.Answers.{ready_if_open}
 use Rattle.office_store.proofs.LeftOfSite.{left_of_site}
 use Rattle.office_store.proofs.Opened.{taken}
 use Rattle.office_store.proofs.opening.prepare_or_hand_back.Goals as goal

@@ -1,8 +1,9 @@
 use Rattle.std.proofs.Common.{◌≡◌}
 use Rattle.sqlite.proofs.StateLemmas.{clean_if_open}
 use Rattle.office_sql.proofs.MapChanges.{changes_then}
-use Rattle.office_store.specs.declared.version.Version.TheVariants.{First}
-use Rattle.office_store.specs.Prelude.{GainsNoStart, GainsStarts, IsAt, IsStep, schema_of}
+use Rattle.office_found.specs.declared.version.Version.TheVariants.{First}
+use Rattle.office_store.specs.Prelude.{GainsNoStart, GainsStarts, IsAt, IsStep}
+use Rattle.office_found.specs.Prelude.{schema_of}
 use Rattle.office_store.proofs.Changing.{said_if_open}
 use Rattle.office_store.proofs.Steps.{first_step, lacks_given, lacks_orders}
 use Rattle.office_store.proofs.upgrade.raise_first.Goals as goal

@@ -1,6 +1,7 @@
 use Rattle.std.proofs.Common.{◌≡◌}
-use Rattle.office_store.specs.declared.version.Version.TheVariants.{Second}
-use Rattle.office_store.specs.Prelude.{GainsText, IsAt, IsStep, schema_of}
+use Rattle.office_found.specs.declared.version.Version.TheVariants.{Second}
+use Rattle.office_store.specs.Prelude.{GainsText, IsAt, IsStep}
+use Rattle.office_found.specs.Prelude.{schema_of}
 use Rattle.office_store.proofs.Changing.{said_if_open, says_more}
 use Rattle.office_store.proofs.Steps.{second_step}
 use Rattle.office_store.proofs.upgrade.raise_second.Goals as goal

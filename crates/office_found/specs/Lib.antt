@@ -1,0 +1,8 @@
+-- What the contracts of this crate are made of.
+pub mod Found
+pub mod Addresses
+pub mod Versions
+pub mod Texts
+pub mod Meta
+pub mod Described
+pub mod Prelude

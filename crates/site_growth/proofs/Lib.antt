@@ -1,0 +1,4 @@
+-- The lemmas of this crate.
+pub mod Growing
+pub mod Kept
+pub mod Ordered

@@ -1,0 +1,225 @@
+-- The named members, one name after another, and that none of a request's is a float.
+use Rattle.std.proofs.Common.{◌≡◌, ◌∷◌, ◌||◌}
+use Rattle.text_core.proofs.Kit.{ℕ, List, [], Bool, true, false, Option, Some, None, Less, Equal, Greater, refl, fold, IfSome, codes, map, option_and_then}
+use Rattle.text_core.proofs.Kit.{nat_cmp, match_ordering, slice_cmp, AllByRecursion}
+use Rattle.serde_json.specs.Data.{Data, null, boolean, number, string, array, object, Num, unsigned, negative, float, Members, no_members, member, put}
+use Rattle.serde_json.specs.Find.{get, as_str, as_number, as_u64}
+use Rattle.serde_json.specs.Written.{has_float, items_have_float, members_have_float}
+use Rattle.json_members.specs.Prelude.{number_within, whole_member, text_member, text_if_member, text_or_null, name_member, digest_member, chip_member}
+use Rattle.text_core.specs.Prelude.{chip_of_text, digest_of_text, name_of_text, ◌>>=◌}
+use Rattle.station_requests.proofs.Types.{NewDevice, NewOrder}
+use Rattle.office_commands.specs.Prelude.{items_of}
+use Rattle.station_requests.specs.Prelude.{block_digest, blocks_member, device_members, new_device_of, LacksFloat, with_found, named_members, map_members}
+use Rattle.station_requests.specs.Prelude.{new_order_of, order_members}
+
+or_left : (a b : Bool) → (a || b) ≡ false → a ≡ false
+or_left true b e = e
+or_left false b e = refl
+
+or_right : (a b : Bool) → (a || b) ≡ false → b ≡ false
+or_right true b e = cc
+or_right false b e = e
+
+-- a member that is no float leaves none
+pub put_no_float : (name : List ℕ) (d : Data) (members : Members) → has_float d ≡ false
+    → members_have_float members ≡ false → members_have_float (put name d members) ≡ false
+put_no_float name d no_members e all = rw e refl
+put_no_float name d (member l v ms) e all =
+    elim (slice_cmp nat_cmp name l) as (λ o.
+    members_have_float
+    (match_ordering o (member name d (member l v ms)) (member l d ms)
+    (member l v (put name d ms))) ≡ false) [
+      | Less ↦ rw e all
+      | Equal ↦ rw e (or_right (has_float v) (members_have_float ms) all)
+      | Greater ↦ rw (or_left (has_float v) (members_have_float ms) all) (put_no_float name d ms e (or_right (has_float v) (members_have_float ms) all))
+    ]
+
+found_no_float : (name : List ℕ) (found : Option Data) (ms : Members)
+    → IfSome found (λ v. has_float v ≡ false) → members_have_float ms ≡ false
+    → members_have_float (with_found name found ms) ≡ false
+found_no_float name None ms lacks all = all
+found_no_float name (Some v) ms lacks all = put_no_float name v ms lacks all
+
+pub all_no_float : (names : List (List ℕ)) (d : Data) (ms : Members) → AllByRecursion (LacksFloat d) names → members_have_float ms ≡ false
+    → members_have_float (fold (λ found n. with_found n (get n d) found) ms names) ≡ false
+all_no_float [] d ms lacks all = all
+all_no_float (name ∷ names) d ms lacks all = all_no_float names d (with_found name (get name d) ms) lacks.1 (found_no_float name (get name d) ms lacks.0 all)
+
+text_lacks : (v : Data) (x : List ℕ) → as_str v ≡ Some x → has_float v ≡ false
+text_lacks null x e = refl
+text_lacks (boolean b) x e = refl
+text_lacks (number n) x e = cc
+text_lacks (string s) x e = refl
+text_lacks (array ds) x e = cc
+text_lacks (object ms) x e = cc
+
+text_found : (found : Option Data) (x : List ℕ) → option_and_then as_str found ≡ Some x → IfSome found (λ v. has_float v ≡ false)
+text_found None x e = tt
+text_found (Some v) x e = text_lacks v x e
+
+-- what is read of a text is read of one that is there
+read_found : (read : List ℕ → Option (List ℕ)) (found : Option (List ℕ)) (x : List ℕ)
+    → option_and_then read found ≡ Some x → (text : List ℕ) × (found ≡ Some text)
+read_found read None x e = cc
+read_found read (Some text) x e = (text, refl)
+
+pub text_member_lacks : (name : List ℕ) (d : Data) (x : List ℕ) → text_member name d ≡ Some x → LacksFloat d name
+text_member_lacks name d x e = text_found (get name d) x e
+
+-- nor is a text that may be missing
+text_if_found : (found : Option Data) (x : Option (List ℕ)) → text_or_null found ≡ Some x → IfSome found (λ v. has_float v ≡ false)
+text_if_found None x e = tt
+text_if_found (Some null) x e = refl
+text_if_found (Some (boolean b)) x e = cc
+text_if_found (Some (number n)) x e = cc
+text_if_found (Some (string s)) x e = refl
+text_if_found (Some (array ds)) x e = cc
+text_if_found (Some (object ms)) x e = cc
+
+pub text_if_member_lacks : (name : List ℕ) (d : Data) (x : Option (List ℕ)) → text_if_member name d ≡ Some x → LacksFloat d name
+text_if_member_lacks name d x e = text_if_found (get name d) x e
+
+pub name_member_lacks : (name : List ℕ) (d : Data) (x : List ℕ) → name_member name d ≡ Some x → LacksFloat d name
+name_member_lacks name d x e = let found = read_found name_of_text (text_member name d) x e in text_member_lacks name d found.0 found.1
+
+pub chip_member_lacks : (name : List ℕ) (d : Data) (x : List ℕ) → chip_member name d ≡ Some x → LacksFloat d name
+chip_member_lacks name d x e = let found = read_found chip_of_text (text_member name d) x e in text_member_lacks name d found.0 found.1
+
+pub digest_member_lacks : (name : List ℕ) (d : Data) (x : List ℕ) → digest_member name d ≡ Some x → LacksFloat d name
+digest_member_lacks name d x e = let found = read_found digest_of_text (text_member name d) x e in text_member_lacks name d found.0 found.1
+
+number_lacks : (n : Num) (least greatest x : ℕ) → option_and_then (number_within least greatest) (as_u64 n) ≡ Some x → has_float (number n) ≡ false
+number_lacks (unsigned n) least greatest x e = refl
+number_lacks (negative z) least greatest x e = refl
+number_lacks (float f) least greatest x e = cc
+
+whole_lacks : (v : Data) (least greatest x : ℕ)
+    → option_and_then (number_within least greatest) (option_and_then as_u64 (as_number v)) ≡ Some x
+    → has_float v ≡ false
+whole_lacks null least greatest x e = refl
+whole_lacks (boolean b) least greatest x e = refl
+whole_lacks (number n) least greatest x e = number_lacks n least greatest x e
+whole_lacks (string s) least greatest x e = refl
+whole_lacks (array ds) least greatest x e = cc
+whole_lacks (object ms) least greatest x e = cc
+
+whole_found : (found : Option Data) (least greatest x : ℕ)
+    → option_and_then (number_within least greatest)
+    (option_and_then as_u64 (option_and_then as_number found)) ≡ Some x
+    → IfSome found (λ v. has_float v ≡ false)
+whole_found None least greatest x e = tt
+whole_found (Some v) least greatest x e = whole_lacks v least greatest x e
+
+pub whole_member_lacks : (name : List ℕ) (least greatest : ℕ) (d : Data) (x : ℕ) → whole_member name least greatest d ≡ Some x → LacksFloat d name
+whole_member_lacks name least greatest d x e = whole_found (get name d) least greatest x e
+
+pub bound : {A B : Type 0} (o : Option A) (f : A → Option B) (y : B) → (o >>= f) ≡ Some y → (x : A) × (o ≡ Some x) × (f x ≡ Some y)
+bound None f y e = cc
+bound (Some x) f y e = (x, refl, e)
+
+-- what is left of an order's members, once so many are read
+abbrev after_macs : Data → List ℕ → List ℕ → List ℕ → ℕ → ℕ → ℕ → ℕ → Option NewOrder
+after_macs d name issuer prefix width first quantity macs = text_if_member (codes "not_before") d >>= (λ not_before.
+    Some (record { name = name; issuer = issuer; prefix = prefix; width = width; first = first; quantity = quantity; macs = macs; not_before = not_before }))
+
+abbrev after_quantity : Data → List ℕ → List ℕ → List ℕ → ℕ → ℕ → ℕ → Option NewOrder
+after_quantity d name issuer prefix width first quantity = whole_member (codes "macs") 0 4 d >>= after_macs d name issuer prefix width first quantity
+
+abbrev after_first : Data → List ℕ → List ℕ → List ℕ → ℕ → ℕ → Option NewOrder
+after_first d name issuer prefix width first = whole_member (codes "quantity") 1 9007199254740991 d >>= after_quantity d name issuer prefix width first
+
+abbrev after_width : Data → List ℕ → List ℕ → List ℕ → ℕ → Option NewOrder
+after_width d name issuer prefix width = whole_member (codes "first") 0 9007199254740991 d >>= after_first d name issuer prefix width
+
+abbrev after_prefix : Data → List ℕ → List ℕ → List ℕ → Option NewOrder
+after_prefix d name issuer prefix = whole_member (codes "width") 1 9 d >>= after_width d name issuer prefix
+
+abbrev after_issuer : Data → List ℕ → List ℕ → Option NewOrder
+after_issuer d name issuer = text_member (codes "prefix") d >>= after_prefix d name issuer
+
+abbrev after_name : Data → List ℕ → Option NewOrder
+after_name d name = name_member (codes "issuer") d >>= after_issuer d name
+
+-- the named members of an order's request are no floats
+pub order_lacks_float : (d : Data) (n : ℕ) (o : NewOrder) → whole_member (codes "nr") 1 9007199254740991 d ≡ Some n → new_order_of d ≡ Some o
+    → has_float (object (named_members order_members d)) ≡ false
+unfolding new_order_of
+order_lacks_float d n o nr order =
+    let name = bound (name_member (codes "name") d) (after_name d) o order in
+    let issuer = bound (name_member (codes "issuer") d) (after_issuer d name.0) o name.2 in
+    let prefix = bound (text_member (codes "prefix") d) (after_prefix d name.0 issuer.0) o issuer.2 in
+    let width = bound (whole_member (codes "width") 1 9 d) (after_width d name.0 issuer.0 prefix.0) o prefix.2 in
+    let first = bound (whole_member (codes "first") 0 9007199254740991 d) (after_first d name.0 issuer.0 prefix.0 width.0) o width.2 in
+    let quantity = bound (whole_member (codes "quantity") 1 9007199254740991 d) (after_quantity d name.0 issuer.0 prefix.0 width.0 first.0) o first.2 in
+    let macs = bound (whole_member (codes "macs") 0 4 d) (after_macs d name.0 issuer.0 prefix.0 width.0 first.0 quantity.0) o quantity.2 in
+    let start = bound (text_if_member (codes "not_before") d)
+    (λ not_before.
+    Some (record {
+      name = name.0;
+      issuer = issuer.0;
+      prefix = prefix.0;
+      width = width.0;
+      first =
+          first.0;
+      quantity = quantity.0;
+      macs = macs.0;
+      not_before = not_before;
+    })) o macs.2 in
+    all_no_float order_members d no_members (
+      whole_member_lacks (codes "first") 0 9007199254740991 d first.0 first.1,
+      (
+        name_member_lacks (codes "issuer") d issuer.0 issuer.1,
+        (
+          whole_member_lacks (codes "macs") 0 4 d macs.0 macs.1,
+          (
+            name_member_lacks (codes "name") d name.0 name.1,
+            (
+              text_if_member_lacks (codes "not_before") d start.0 start.1,
+              (
+                whole_member_lacks (codes "nr") 1 9007199254740991 d n nr,
+                (
+                  text_member_lacks (codes "prefix") d prefix.0 prefix.1,
+                  (whole_member_lacks (codes "quantity") 1 9007199254740991 d quantity.0 quantity.1, (whole_member_lacks (codes "width") 1 9 d width.0 width.1, tt)),
+                ),
+              ),
+            ),
+          ),
+        ),
+      ),
+    ) refl
+
+-- and neither are those of a map's import
+pub map_lacks_float : (d : Data) (n : ℕ) (text : List ℕ) → whole_member (codes "nr") 1 9007199254740991 d ≡ Some n → text_member (codes "text") d ≡ Some text
+    → has_float (object (named_members map_members d)) ≡ false
+map_lacks_float d n text nr is = all_no_float map_members d no_members (whole_member_lacks (codes "nr") 1 9007199254740991 d n nr, (text_member_lacks (codes "text") d text is, tt)) refl
+
+-- what is left of a device's members, once so many are read
+abbrev after_map : Data → List ℕ → List ℕ → List ℕ → Option NewDevice
+after_map d chip order digest = blocks_member (codes "blocks") d >>= (λ blocks. Some (record { chip = chip; order = order; map = digest; blocks = blocks }))
+
+abbrev after_order : Data → List ℕ → List ℕ → Option NewDevice
+after_order d chip order = digest_member (codes "map") d >>= after_map d chip order
+
+abbrev after_chip : Data → List ℕ → Option NewDevice
+after_chip d chip = name_member (codes "order") d >>= after_order d chip
+
+pub digests_lack_float : (blocks : List (List ℕ)) → items_have_float (items_of (map block_digest blocks)) ≡ false
+digests_lack_float [] = refl
+digests_lack_float (block ∷ blocks) = digests_lack_float blocks
+
+-- and neither are those of a registration, with the digests of its blocks in their place
+pub device_lacks_float : (d : Data) (n : ℕ) (o : NewDevice) → whole_member (codes "nr") 1 9007199254740991 d ≡ Some n → new_device_of d ≡ Some o
+    → has_float (object (put (codes "blocks") (array (items_of (map block_digest o.blocks))) (named_members device_members d))) ≡ false
+unfolding new_device_of
+device_lacks_float d n o nr device =
+    let chip = bound (chip_member (codes "chip") d) (after_chip d) o device in
+    let order = bound (name_member (codes "order") d) (after_order d chip.0) o chip.2 in
+    let digest = bound (digest_member (codes "map") d) (after_map d chip.0 order.0) o order.2 in
+    let others = all_no_float device_members d no_members (
+      chip_member_lacks (codes "chip") d chip.0 chip.1,
+      (
+        digest_member_lacks (codes "map") d digest.0 digest.1,
+        (whole_member_lacks (codes "nr") 1 9007199254740991 d n nr, (name_member_lacks (codes "order") d order.0 order.1, tt)),
+      ),
+    ) refl in
+    put_no_float (codes "blocks") (array (items_of (map block_digest o.blocks))) (named_members device_members d) (digests_lack_float o.blocks) others

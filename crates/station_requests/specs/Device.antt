@@ -1,0 +1,80 @@
+-- The requests about devices, from what was read of a body or a query.
+use Rattle.std.specs.Prelude.{ℕ, List, [], ◌∷◌, ◌==◌, codes, if◌then◌else◌, length, map, Option, Some, None, option_and_then, option_map}
+use Rattle.std.specs.Int.{from_be_bytes, w32}
+use Rattle.std.specs.Result.{result_ok}
+use Rattle.hex.specs.Hex.{decode_sized, encode_lower}
+use Rattle.serde_json.specs.Data.{Data, array, object, string, put}
+use Rattle.serde_json.specs.Find.{as_array, as_str, get}
+use Rattle.sha2.specs.Sha256.{sha256}
+use Rattle.text_core.specs.Prelude.{chip_of_text, ◌>>=◌, all_of}
+use Rattle.json_members.specs.Prelude.{chip_member, digest_member, list_of, name_member}
+use Rattle.station_requests.specs.Number.{number_member}
+use Rattle.fuse_image.specs.Prelude.{blocks_of, bytes_of_block}
+use Rattle.http_frames.specs.Prelude.{parameters_named}
+use Rattle.office_commands.specs.declared.new_device.NewDevice.{NewDevice}
+use Rattle.office_commands.specs.declared.command.Request.{Request}
+use Rattle.office_commands.specs.declared.command.Change.TheVariants.{RegisterDevice}
+use Rattle.office_commands.specs.Prelude.{items_of}
+use Rattle.office_commands.specs.declared.command.Command.TheVariants.{Change}
+use Rattle.station_requests.specs.Digest.{named_members, request_digest}
+use Rattle.station_requests.specs.Order.{only_value}
+
+-- the word of eight hexadecimal digits of either case, the highest first
+abbrev pub word_of_text : List ℕ → Option ℕ
+word_of_text text = option_map (from_be_bytes w32) (result_ok (decode_sized text 4))
+
+-- and of a JSON value that is such a text
+abbrev pub word_of_data : Data → Option ℕ
+word_of_data d = option_and_then word_of_text (as_str d)
+
+-- the words of a block
+abbrev pub block_in : Data → Option (List ℕ)
+block_in d = option_map list_of (as_array d) >>= all_of word_of_data
+
+-- a member that is an array of 1 to 4 blocks of 1 to 8 words
+unfoldable pub blocks_member : List ℕ → Data → Option (List (List ℕ))
+blocks_member name d = option_map list_of (option_and_then as_array (get name d)) >>= all_of block_in >>= blocks_of
+
+-- the digest of a block's bytes
+abbrev pub block_digest : List ℕ → Data
+block_digest block = string (encode_lower (sha256 (bytes_of_block block)))
+
+-- the named members of a registration but its blocks, as they were read
+abbrev pub device_members : List (List ℕ)
+device_members = codes "chip" ∷ codes "map" ∷ codes "nr" ∷ codes "order" ∷ []
+
+-- the named members of a JSON value, and the digests of blocks among them
+abbrev pub with_block_digests : List (List ℕ) → Data → List (List ℕ) → Data
+with_block_digests names d blocks = object (put (codes "blocks") (array (items_of (map block_digest blocks))) (named_members names d))
+
+-- what a repeated registration is known by
+abbrev pub device_digest : Data → List (List ℕ) → List ℕ
+device_digest d blocks = request_digest (codes "/v1/device") (with_block_digests device_members d blocks)
+
+-- the device of a JSON value, if its members are of their forms
+unfoldable pub new_device_of : Data → Option NewDevice
+new_device_of d = do
+  chip ← chip_member (codes "chip") d
+  order ← name_member (codes "order") d
+  digest ← digest_member (codes "map") d
+  blocks ← blocks_member (codes "blocks") d
+  Some (record { chip = chip; order = order; map = digest; blocks = blocks })
+
+-- the request that a body asks for: its number, its digest and the device
+unfoldable pub register_device_of : Data → Option Request
+register_device_of d = do
+  number ← number_member d
+  device ← new_device_of d
+  Some (record { number = number; digest = device_digest d device.blocks; command = Change (RegisterDevice device) })
+
+-- the chip that a query gives
+abbrev pub chip_parameter : List ℕ → Option (List ℕ)
+chip_parameter query = option_and_then chip_of_text (only_value (parameters_named (codes "chip") query))
+
+-- where a list of devices begins: at the first one where the text is empty, or behind a chip
+abbrev pub start_of_text : List ℕ → Option (Option (List ℕ))
+start_of_text text = if length text == 0 then Some None else option_map Some (chip_of_text text)
+
+-- where the list begins that a query asks for
+abbrev pub after_parameter : List ℕ → Option (Option (List ℕ))
+after_parameter query = option_and_then start_of_text (only_value (parameters_named (codes "after") query))

@@ -1,0 +1,41 @@
+-- The request for a device's identity, from what was read of a body.
+use Rattle.std.specs.Prelude.{ℕ, ◌&&◌, nat_le, if◌then◌else◌, List, [], ◌∷◌, codes, length, Option, Some, None, option_map}
+use Rattle.std.specs.Result.{result_ok}
+use Rattle.hex.specs.Hex.{decode_of}
+use Rattle.sha2.specs.Sha256.{sha256}
+use Rattle.serde_json.specs.Data.{Data, object}
+use Rattle.text_core.specs.Prelude.{◌>>=◌}
+use Rattle.station_requests.specs.Number.{number_member}
+use Rattle.json_members.specs.Prelude.{chip_member, text_member}
+use Rattle.office_commands.specs.declared.new_identity.NewIdentity.{NewIdentity}
+use Rattle.office_commands.specs.declared.command.Request.{Request}
+use Rattle.office_commands.specs.declared.command.Change.TheVariants.{Identify}
+use Rattle.office_commands.specs.declared.command.Command.TheVariants.{Change}
+use Rattle.station_requests.specs.Digest.{named_members, request_digest}
+
+-- SHA-256 of a key's bytes, by its text: two hexadecimal digits of either case for each byte, of 1 to 1,024 bytes
+abbrev pub key_of_text : List ℕ → Option (List ℕ)
+key_of_text text = if nat_le 2 (length text) && nat_le (length text) 2048 then option_map sha256 (result_ok (decode_of text)) else None
+
+-- the identity of a JSON value, if its members are of their forms
+unfoldable pub new_identity_of : Data → Option NewIdentity
+new_identity_of d = do
+  chip ← chip_member (codes "chip") d
+  text ← text_member (codes "public_key") d
+  key ← key_of_text text
+  Some (record { chip = chip; key = key })
+
+-- the named members of a request for an identity
+abbrev pub identity_members : List (List ℕ)
+identity_members = codes "chip" ∷ codes "nr" ∷ codes "public_key" ∷ []
+
+-- what a repeated request for an identity is known by
+abbrev pub identity_digest : Data → List ℕ
+identity_digest d = request_digest (codes "/v1/identity") (object (named_members identity_members d))
+
+-- the request that a body asks for: its number, its digest and the identity
+unfoldable pub identify_of : Data → Option Request
+identify_of d = do
+  number ← number_member d
+  identity ← new_identity_of d
+  Some (record { number = number; digest = identity_digest d; command = Change (Identify identity) })

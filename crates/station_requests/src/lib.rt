@@ -1,0 +1,21 @@
+//! What a request asks for: the caller's kind, the request's head and its body, as read.
+//!
+//! `parse_command` is a function of the kind of a caller and of a request's head and body, with the
+//! lowest refusal of path, method, caller, JSON and members: the manager is refused on each path of
+//! a seat, and a seat on the manager's. The digest of a request is SHA-256 of its path, a line feed
+//! and its named members as read.
+#![tactic(auto)]
+
+mod act;
+mod device;
+mod digest;
+mod identity;
+mod import;
+mod map;
+mod number;
+mod order;
+mod parse;
+mod plan;
+mod read_back;
+
+pub use parse::{Parsed, parse_command};

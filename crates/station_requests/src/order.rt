@@ -1,0 +1,113 @@
+// The requests about orders.
+ghost use Rattle.std.specs.Prelude.{◌≡◌, IfOk, option_map};
+ghost use Rattle.serde_json.specs.View.{view};
+ghost use Rattle.station_requests.specs.Prelude.{make_order_of, new_order_of, name_parameter};
+
+use crate::digest::{named_members, request_digest};
+use crate::number::number_member;
+use http_frames::fields::{Occurrence, only_parameter};
+use json_members::{name_member, text_if_member, text_member, whole_member};
+use office_commands::{AskedOrder, Change, Command, NewOrder, Request};
+use serde_json::Value;
+use std::alloc::{AllocError, Global};
+use std::str;
+use text_core::{LARGEST_WHOLE, Name, Text};
+
+/// The path of orders.
+pub const ORDER_PATH: &str = "/v1/order";
+
+/// The named members of an order.
+const ORDER_MEMBERS: [&str; 9] = [
+    "first",
+    "issuer",
+    "macs",
+    "name",
+    "not_before",
+    "nr",
+    "prefix",
+    "quantity",
+    "width",
+];
+
+/// A copy of a text that may be missing.
+fn copied(alloc: Global, text: Option<&str>) -> Result<Option<Text>, AllocError>
+    ensures { IfOk result (λ copy. copy ≡ option_map (λ t. t.now) text.entry) }
+{
+    match text {
+        Some(text) => Ok(Some(Text::copy_of(alloc, text)?)),
+        None => Ok(None),
+    }
+}
+
+/// The order that a body asks for, if its members are of their forms.
+#[tactic(auto, unfolding(crate::specs::Order::new_order_of))]
+fn new_order(alloc: Global, value: &Value) -> Result<Option<AskedOrder>, AllocError>
+    ensures { IfOk result (λ order. order ≡ new_order_of (view value.now)) }
+{
+    let Some(name) = name_member(value, "name") else {
+        return Ok(None);
+    };
+    let Some(issuer) = name_member(value, "issuer") else {
+        return Ok(None);
+    };
+    let Some(prefix) = text_member(value, "prefix") else {
+        return Ok(None);
+    };
+    let Some(width) = whole_member(value, "width", 1, 9) else {
+        return Ok(None);
+    };
+    let Some(first) = whole_member(value, "first", 0, LARGEST_WHOLE) else {
+        return Ok(None);
+    };
+    let Some(quantity) = whole_member(value, "quantity", 1, LARGEST_WHOLE) else {
+        return Ok(None);
+    };
+    let Some(macs) = whole_member(value, "macs", 0, 4) else {
+        return Ok(None);
+    };
+    let Some(not_before) = text_if_member(value, "not_before") else {
+        return Ok(None);
+    };
+    Ok(Some(AskedOrder::new(NewOrder {
+        name,
+        issuer,
+        prefix: Text::copy_of(alloc, prefix)?,
+        width: width as u8,
+        first,
+        quantity,
+        macs: macs as u8,
+        not_before: copied(alloc, not_before)?,
+    })))
+}
+
+/// The request that the body of `POST /v1/order` asks for, if its members are of their forms.
+#[tactic(auto, unfolding(crate::specs::Order::make_order_of))]
+pub fn make_order_request(alloc: Global, value: &Value) -> Result<Option<Request>, AllocError>
+    ensures { IfOk result (λ request. request ≡ make_order_of (view value.now)) }
+{
+    let Some(number) = number_member(value) else {
+        return Ok(None);
+    };
+    let Some(order) = new_order(alloc, value)? else {
+        return Ok(None);
+    };
+    let members = named_members(alloc, value, &ORDER_MEMBERS)?;
+    Ok(Some(Request {
+        number,
+        digest: request_digest(alloc, ORDER_PATH, &members)?,
+        command: Command::Change(Change::MakeOrder(order)),
+    }))
+}
+
+/// The name that the query of `GET /v1/order` gives, if it gives just one.
+pub fn order_name(query: &[u8]) -> Option<Name>
+    ensures { result ≡ name_parameter query.now }
+{
+    let Occurrence::Once(value) = only_parameter(query, b"name") else {
+        return None;
+    };
+    match str::from_utf8(value) {
+        Ok(text) => Name::parse(text),
+        Err(_) => None,
+    }
+}
