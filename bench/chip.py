@@ -33,6 +33,21 @@ PUBLIC_KEY = "302a300506032b6570032100d75a980182b10ab7d54bfed3c964073a0ee172f3da
 # What is shown of the books: the order, the device, its ledger and the customer's report.
 TARGETS = ["/v1/order?name=o1", f"/v1/device?chip={CHIP}", f"/v1/ledger?chip={CHIP}", "/v1/report"]
 
+# All that can be shown, each with the token that asks for it: these; the page of devices and the identity; the other
+# customer's order, devices and report; and the manager's report.
+SEEN = [
+    *((target, "abc") for target in TARGETS),
+    ("/v1/devices?after=", "abc"),
+    (f"/v1/identity?chip={CHIP}", "abc"),
+    ("/v1/order?name=o1", "hello"),
+    ("/v1/devices?after=", "hello"),
+    ("/v1/report", "hello"),
+    ("/v1/report", "test"),
+]
+
+# A number that the seat doesn't come to, so that its refusal tells the number that is expected.
+FAR = 2**53 - 1
+
 FIELDS = rb"(?:[A-Za-z-]+: [^\r\n]*\r\n)"
 HEAD = re.compile(rb"HTTP/1\.1 (\d{3}) [A-Za-z ]+\r\n%b*?Content-Length: (\d+)\r\n%b*\r\n" % (FIELDS, FIELDS))
 BLOCK = re.compile(r"^```console\n(.*?)^```$", re.MULTILINE | re.DOTALL)
@@ -47,8 +62,8 @@ def post(path, members):
     return head.encode() + body
 
 
-def get(target):
-    return f"GET {target} HTTP/1.1\r\nAuthorization: Bearer abc\r\n\r\n".encode()
+def get(target, token="abc"):
+    return f"GET {target} HTTP/1.1\r\nAuthorization: Bearer {token}\r\n\r\n".encode()
 
 
 def words_of(data):
@@ -89,6 +104,13 @@ def requests():
 def shows():
     """The requests that show the books."""
     return [get(target) for target in TARGETS]
+
+
+def sights(done):
+    """The requests that show all that a request can show behind those that were done, and change nothing: the books,
+    the number that the seat's next request has to have, and the last one again, which gets the reply that was kept."""
+    number = post("/v1/ship", {"nr": FAR, "chip": CHIP})
+    return [get(*each) for each in SEEN] + [number] + done[-1:]
 
 
 def status_of(reply):
@@ -152,10 +174,11 @@ def rows_of(path):
 
 @dataclass
 class Books:
-    """What is shown of the books, and the rows of the store."""
+    """What is shown of the books, the rows of the store, and all that can be shown (`sights`)."""
 
     shown: list
     rows: dict
+    seen: list
 
 
 @dataclass
@@ -171,11 +194,14 @@ def undisturbed(program, folder):
     """The run over a store in a file, and over memory, which has to have the same replies."""
     asked, books = requests(), []
     for count in range(len(asked) + 1):
-        stream, path = b"".join(asked[:count] + shows()), Path(folder) / f"calm{count}.db"
+        done, path = asked[:count], Path(folder) / f"calm{count}.db"
+        stream = b"".join(done + sights(done))
         replies = served(replay_words(program, path), stream)
         if replies != served(replay_words(program), stream):
             raise Failed(f"over memory {count} requests have other replies than over a store")
-        books.append(Books(replies[count:], rows_of(path)))
+        if replies[count + len(sights([])) :] != replies[count - 1 : count]:
+            raise Failed(f"request {count} gets another reply when it is repeated")
+        books.append(Books(replies[count : count + len(TARGETS)], rows_of(path), replies[count:]))
     run = Run(asked, replies[: len(asked)], books)
     compare_with_page(run)
     return run
@@ -200,7 +226,7 @@ def compare_with_page(run):
             expected, reply = paths[done], run.replies[done]
             done += 1
         else:
-            expected, reply = target, run.books[done].shown[TARGETS.index(target)]
+            expected, reply = target, run.books[done].seen[SEEN.index((target, "abc"))]
         if (target, body) != (expected, body_of(reply)):
             raise Failed(f"{PAGE.name} has another reply for {target} after {done} requests: {body_of(reply)!r}")
     if done < len(paths):

@@ -3,7 +3,6 @@
 
 use crate::changes::{changed, numbered, padded};
 use site_core::{Caller, Site, SiteFault, read_site, read_site_text};
-use site_growth::is_growth;
 use std::alloc::Global;
 use std::test::Fail;
 use test_texts::full_site::full_site;
@@ -363,7 +362,7 @@ const GROWTHS: &[(&str, &str, bool, bool)] = &[
 fn growths(alloc: Global, first: &str, second: &str) -> Option<(bool, bool)> {
     let first = read_site(alloc, first).ok()?;
     let second = read_site(alloc, second).ok()?;
-    Some((is_growth(&first, &second), is_growth(&second, &first)))
+    Some((first.is_growth(&second), second.is_growth(&first)))
 }
 
 fn growths_of_change(alloc: Global, part: &str, new: &str) -> Option<(bool, bool)> {

@@ -142,11 +142,29 @@ const STREAMS: &[StreamRow] = &[
         Served::WriteFault,
         b"HTTP/1.1 ",
     ),
+    // Behind the first reply the writer is asked whether it takes more, where more was read already.
+    (
+        TWO,
+        (4096, 4096, u32::MAX, 2),
+        Served::WriteFault,
+        ONE_REPLY,
+    ),
+    (
+        TWO,
+        (4096, 4096, u32::MAX, 3),
+        Served::WriteFault,
+        ONE_REPLY,
+    ),
+    (TWO, (4096, 4096, u32::MAX, 4), Served::Closed, TWO_REPLIES),
+    (TWO, (1, 4096, u32::MAX, 3), Served::Closed, TWO_REPLIES),
 ];
 
 /// Two requests, of which the second ends the stream.
 const TWO: &[u8] =
     b"\r\nPOST /a?b HTTP/1.1\r\ncontent-length: 02\r\nAUTHORIZATION:bearer t\r\n\r\n{}HEAD * HTTP/1.0\n\n";
+
+const ONE_REPLY: &[u8] =
+    b"HTTP/1.1 200 OK\r\nContent-Type: text/csv\r\nContent-Length: 18\r\n\r\nPOST,/a,none,t,{},";
 
 const TWO_REPLIES: &[u8] =
     b"HTTP/1.1 200 OK\r\nContent-Type: text/csv\r\nContent-Length: 18\r\n\r\nPOST,/a,none,t,{},HTTP/1.1 200 OK\r\nContent-Type: text/csv\r\nContent-Length: 15\r\nConnection: close\r\n\r\n";

@@ -65,6 +65,8 @@ impl Keep for CountingKeep {
 
     ghost may_leave = { λ k. ⟦<MemKeep as Keep>⟧.may_leave k.keep };
 
+    ghost tells_text = { λ k. ⟦<MemKeep as Keep>⟧.tells_text k.keep };
+
     ghost commits = { λ k. k.commits };
 
     ghost has_just_committed = { λ _. Unit {0} };

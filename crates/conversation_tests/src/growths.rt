@@ -2,7 +2,6 @@
 
 use office_core::{Keep, MemKeep, Part, replay_parts};
 use site_core::read_site;
-use site_growth::is_growth;
 use std::alloc::Global;
 use std::test::Fail;
 use test_exchanges::lists::{first_difference_among, seat_requests};
@@ -22,7 +21,7 @@ fn first_difference_in_parts<K: Keep>(
     let others = exchanges(alloc, growth.after)?;
     let first = seat_requests(alloc, &old, all.as_slice())?;
     let second = seat_requests(alloc, &grown, others.as_slice())?;
-    if !is_growth(&old, &grown) {
+    if !old.is_growth(&grown) {
         return Err(Fail::from("no growth"));
     }
     let parts = [

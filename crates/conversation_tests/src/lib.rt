@@ -22,6 +22,8 @@ mod parts;
 #[cfg(test)]
 mod seats;
 #[cfg(test)]
+mod sizes;
+#[cfg(test)]
 mod steps;
 #[cfg(test)]
 mod streams;

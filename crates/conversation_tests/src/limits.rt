@@ -1,10 +1,10 @@
 //! What is served at the limits: as many rows as customers, orders and devices may have, or thousands
 //! where there is no limit, and names as long as a name may be. No contract says that memory is found,
 //! so what gives up past some number is proved, and only a test tells.
-ghost use Rattle.std.specs.Prelude.{◌≤◌, ◌<◌};
+ghost use Rattle.std.specs.Prelude.{◌≤◌, ◌<◌, ◌^◌};
 
-use id_ranges::{Mac, SerialRange};
-use office_core::{Boxed, DeviceRow, Keep, OfCustomer, Order, OrderRow, Write};
+use id_ranges::{KeyDigest, Mac, SerialRange};
+use office_core::{Boxed, DeviceRow, GivenRow, Keep, OfCustomer, Order, OrderRow, Write};
 use station_api::Served;
 use std::alloc::{AllocError, Global};
 use std::test::Fail;
@@ -14,7 +14,7 @@ use test_exchanges::lists::first_difference_in_list;
 use test_texts::conversations::exchanges;
 use test_texts::numbered::numbered;
 use test_texts::samples::SITE;
-use text_core::{Chip, Name};
+use text_core::{Chip, Name, Serial};
 
 /// A site in which acme has one pool, as large as a pool may be.
 const SITE_WITH_ROOM: &str = r#"[[customer]]
@@ -182,9 +182,9 @@ a1 POST /v1/readback {"nr":#,"chip":"00000000000a","blocks":<>}
 
 /// The one in which it is, and the end of the device.
 const BURNT: &str = r#"
-a1 POST /v1/readback {"nr":1003,"chip":"00000000000a","blocks":<0.6=00000040>}
+a1 POST /v1/readback {"nr":10005,"chip":"00000000000a","blocks":<0.6=00000040>}
 200 {"outcome":"match","rest":$NONE,"state":"settled"}
-a1 POST /v1/scrap {"nr":1004,"chip":"00000000000a"}
+a1 POST /v1/scrap {"nr":10006,"chip":"00000000000a"}
 200 {"chip":"00000000000a","state":"scrapped"}
 "#;
 
@@ -200,9 +200,47 @@ const ENTRY: &str = r#",{"bits":[],"event":"read","keys":{},"n":#,"note":"short"
 
 /// The entries of what comes behind them.
 const LAST_ENTRIES: &str = r#",
-  {"bits":[{"block":0,"mask":"00000040","word":6}],"event":"read","keys":{},"n":1001,"note":"match",
+  {"bits":[{"block":0,"mask":"00000040","word":6}],"event":"read","keys":{},"n":10003,"note":"match",
     "seat":"a1"},
-  {"bits":[],"event":"scrapped","keys":{},"n":1002,"note":"","seat":"a1"}"#;
+  {"bits":[],"event":"scrapped","keys":{},"n":10004,"note":"","seat":"a1"}"#;
+
+/// An order of 10,000 addresses, and a device of it with the first of its records.
+const FIRST_RECORD: &str = r#"
+a1 POST /v1/order {"nr":1,"name":"o1","issuer":"acme-ca","prefix":"A","width":5,"first":10000,"quantity":10000,"macs":1}
+200 {"first":10000,"issuer":"acme-ca","mac":"020000000000","macs":1,"name":"o1","next":"A10000",
+  "not_before":null,"prefix":"A","quantity":10000,"width":5}
+a1 POST /v1/map {"nr":2,"text":"$MAP"}
+200 {"map":"$DIGEST"}
+a1 POST /v1/device {"nr":3,"chip":"00000000000a","order":"o1","map":"$DIGEST","blocks":<>}
+200 {"bits":[],"chip":"00000000000a","keys":{},"map":"$DIGEST","order":"o1",
+  "pending":{"batch1":$NONE,"batch2":$NONE},"reason":null,"serial":null,"state":"registered"}
+a1 POST /v1/plan {"nr":4,"chip":"00000000000a","wishes":[]}
+200 {"batch1":$NONE,"batch2":$NONE,"state":"settled"}
+a1 POST /v1/identity {"nr":5,"chip":"00000000000a","public_key":"616263"}
+200 {"chip":"00000000000a","issuer":"acme-ca",
+  "key_sha256":"ba7816bf8f01cfea414140de5dae2223b00361a396177a9cb410ff61f20015ad",
+  "mac":"020000000000","not_after":"99991231235959Z","not_before":null,"serial":"A10000"}
+"#;
+
+/// Behind 20,001 records more, which are of none of its numbers: what the books show, and the next record.
+const NEXT_RECORD: &str = r#"
+a1 GET /v1/report
+csv order,quantity,registered,planned,settled,identified,shipped,quarantined,scrapped,serials_left|
+  o1,10000,0,0,0,1,0,0,0,9999|
+manager GET /v1/site/report
+csv customer,orders,quantity,registered,planned,settled,identified,shipped,quarantined,scrapped,serials_left|
+  acme,1,10000,0,0,0,1,0,0,0,9999|
+  bolt,0,0,0,0,0,0,0,0,0,0|
+a1 POST /v1/device {"nr":6,"chip":"00000000000b","order":"o1","map":"$DIGEST","blocks":<>}
+200 {"bits":[],"chip":"00000000000b","keys":{},"map":"$DIGEST","order":"o1",
+  "pending":{"batch1":$NONE,"batch2":$NONE},"reason":null,"serial":null,"state":"registered"}
+a1 POST /v1/plan {"nr":7,"chip":"00000000000b","wishes":[]}
+200 {"batch1":$NONE,"batch2":$NONE,"state":"settled"}
+a1 POST /v1/identity {"nr":8,"chip":"00000000000b","public_key":"00"}
+200 {"chip":"00000000000b","issuer":"acme-ca",
+  "key_sha256":"6e340b9cffb37a989ca544e6bb780a2c78901d3fb33738768511a30617afa01d",
+  "mac":"020000000001","not_after":"99991231235959Z","not_before":null,"serial":"A10001"}
+"#;
 
 /// A request that is accepted and adds a row to no table.
 const NO_RECORDS: &str = r#"
@@ -277,7 +315,7 @@ csv customer,orders,quantity,registered,planned,settled,identified,shipped,quara
 
 /// Rows that are put into the tables before a conversation goes on.
 #[derive(Clone, Copy)]
-enum Rows {
+pub enum Rows {
     None,
     /// 4,094 orders behind the first.
     Orders,
@@ -285,15 +323,20 @@ enum Rows {
     Devices,
     /// 499 devices behind the first: a page that is exactly full.
     Page,
+    /// 10,000 entries of a chip, by as many requests.
+    Entries,
+    /// 20,001 records with addresses.
+    Records,
 }
 
-/// A conversation for a site in two parts, between which rows are put into the tables.
+/// A conversation for a site in two parts, between which rows are put into the tables and the keeper's
+/// store is opened again.
 #[derive(Drop)]
-struct Limit<'a> {
-    site: &'static str,
-    first: &'static str,
-    rows: Rows,
-    rest: &'a str,
+pub struct Limit<'a> {
+    pub site: &'a str,
+    pub first: &'a str,
+    pub rows: Rows,
+    pub rest: &'a str,
 }
 
 /// Puts an order behind the first, with a number and an address of its own.
@@ -374,6 +417,67 @@ fn add_page<K: Keep>(alloc: Global, keep: &mut K) -> Result<(), Fail> {
     Ok(())
 }
 
+/// Has 10,000 read-backs in one stream for the sample site.
+fn add_entries<K: Keep>(alloc: Global, keep: &mut K) -> Result<(), Fail> {
+    let conversation = numbered(alloc, SHORT, "#", 5, 10_005)?;
+    let exchanges = exchanges(alloc, conversation.as_str())?;
+    let (asked, wanted) = streams_of(alloc, exchanges.as_slice())?;
+    let (served, written) = serve(alloc, keep, asked.as_slice(), 65_536)?;
+    if served != Served::Ended || written.bytes() != wanted.as_slice() {
+        return Err(Fail::from("a read-back has another reply"));
+    }
+    Ok(())
+}
+
+/// Puts a record beside the first, with a serial number, a key, a chip and an address of its own.
+fn add_record<K: Keep>(
+    alloc: Global,
+    keep: &mut K,
+    first: &GivenRow,
+    number: u64,
+) -> Result<(), Fail>
+    requires { number < 2 ^ 32 }
+{
+    let serial = format!(in alloc; "B{number}")?;
+    let chip = format!(in alloc; "{number:012}")?;
+    let mut record = *first;
+    record.row.serial = Serial::parse(serial.as_str()).ok_or("no serial number")?;
+    record.row.key = KeyDigest::of(serial.as_bytes());
+    record.row.chip = Chip::parse(chip.as_str());
+    record.row.mac = Some(Mac::new(0x0200_0000_0000 + number));
+    if keep
+        .given(&record.row.issuer, record.row.serial.as_str())?
+        .is_some()
+    {
+        return Err(Fail::from("the record is there"));
+    }
+    Ok(keep.commit(&[Write::AddGiven(record)])?)
+}
+
+/// Puts 20,001 records beside the first.
+fn add_records<K: Keep>(alloc: Global, keep: &mut K) -> Result<(), Fail> {
+    let issuer = Name::parse("acme-ca").ok_or("no name")?;
+    let first = keep.given(&issuer, "A10000")?.ok_or("no record")?;
+    for number in 10_000..30_001 {
+        add_record(alloc, keep, &first, number)?;
+    }
+    Ok(())
+}
+
+impl Rows {
+    /// Puts the rows into the tables.
+    fn add<K: Keep>(self, alloc: Global, keep: &mut K) -> Result<(), Fail> {
+        match self {
+            Rows::None => Ok(()),
+            Rows::Orders => add_orders(alloc, keep),
+            Rows::Devices => add_devices(alloc, keep),
+            Rows::Page => add_page(alloc, keep),
+            Rows::Entries => add_entries(alloc, keep),
+            Rows::Records => add_records(alloc, keep),
+        }
+    }
+}
+
 impl Limit<'_> {
     /// Holds a part of the conversation: what differs first.
     fn first_in_part<K: Keep>(
@@ -394,12 +498,8 @@ impl KeeperCase for Limit<'_> {
         if !found.is_empty() {
             return Ok(found);
         }
-        match self.rows {
-            Rows::None => {}
-            Rows::Orders => add_orders(alloc, &mut keep)?,
-            Rows::Devices => add_devices(alloc, &mut keep)?,
-            Rows::Page => add_page(alloc, &mut keep)?,
-        }
+        self.rows.add(alloc, &mut keep)?;
+        let mut keep = keep.reopened(alloc, self.site)?;
         self.first_in_part(alloc, &mut keep, self.rest)
     }
 }
@@ -418,9 +518,9 @@ fn full_pages(alloc: Global) -> Result<String, AllocError> {
     )
 }
 
-/// All but the last of 10,000 numbers, imported in parts of up to 500, and what comes then.
+/// All but the last of 10,000 numbers, imported in parts of up to 500.
 fn all_but_one_imported(alloc: Global) -> Result<String, AllocError> {
-    let mut text = String::new(alloc);
+    let mut text = String::from_str(alloc, FIRST_DEVICE)?;
     for part in 0..20u64 {
         let first = 10_000 + 500 * part;
         let end = (first + 500).min(19_999);
@@ -432,16 +532,13 @@ fn all_but_one_imported(alloc: Global) -> Result<String, AllocError> {
         )?;
         text.push_str(import.as_str())?;
     }
-    text.push_str(LAST_NUMBER)?;
     Ok(text)
 }
 
-/// The entries of a ledger where 998 read-backs are short, the last of them the thousandth; and what
-/// comes then.
-fn thousand_entries(alloc: Global) -> Result<String, AllocError> {
-    let short = numbered(alloc, SHORT, "#", 5, 1003)?;
-    let entries = numbered(alloc, ENTRY, "#", 3, 1001)?;
-    format!(in alloc; "{short}{LEDGER}{entries}]}}\n{BURNT}{LEDGER}{entries}{LAST_ENTRIES}]}}\n")
+/// The entries of a ledger where 10,000 read-backs are short; and what comes then.
+fn ten_thousand_entries(alloc: Global) -> Result<String, AllocError> {
+    let entries = numbered(alloc, ENTRY, "#", 3, 10_003)?;
+    format!(in alloc; "{LEDGER}{entries}]}}\n{BURNT}{LEDGER}{entries}{LAST_ENTRIES}]}}\n")
 }
 
 /// Requests of one seat, in one stream and in one list.
@@ -505,25 +602,38 @@ fn a_full_page_tells_of_more_where_there_are_more(rt: HostRuntime) -> Result<(),
 
 #[test]
 fn the_last_of_ten_thousand_numbers_is_found(rt: HostRuntime) -> Result<(), Fail> {
-    let rest = all_but_one_imported(rt.alloc())?;
+    let first = all_but_one_imported(rt.alloc())?;
     let limit = Limit {
         site: SITE,
-        first: FIRST_DEVICE,
+        first: first.as_str(),
         rows: Rows::None,
-        rest: rest.as_str(),
+        rest: LAST_NUMBER,
     };
     assert_eq!(rt; over_each(rt.alloc(), &limit)?.as_str(), "");
     Ok(())
 }
 
 #[test]
-fn ledgers_go_on_behind_a_thousand_entries(rt: HostRuntime) -> Result<(), Fail> {
-    let rest = thousand_entries(rt.alloc())?;
+fn ledgers_go_on_behind_ten_thousand_entries(rt: HostRuntime) -> Result<(), Fail> {
+    let rest = ten_thousand_entries(rt.alloc())?;
     let limit = Limit {
         site: SITE,
         first: PLANNED,
-        rows: Rows::None,
+        rows: Rows::Entries,
         rest: rest.as_str(),
+    };
+    assert_eq!(rt; over_each(rt.alloc(), &limit)?.as_str(), "");
+    Ok(())
+}
+
+/// A store of so many records is opened again, and reported.
+#[test]
+fn records_with_addresses_may_be_twenty_thousand(rt: HostRuntime) -> Result<(), Fail> {
+    let limit = Limit {
+        site: SITE_WITH_ROOM,
+        first: FIRST_RECORD,
+        rows: Rows::Records,
+        rest: NEXT_RECORD,
     };
     assert_eq!(rt; over_each(rt.alloc(), &limit)?.as_str(), "");
     Ok(())

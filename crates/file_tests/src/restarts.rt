@@ -1,7 +1,6 @@
 //! A store in files that crashes between two lists of requests, and whose site may grow there.
 ghost use Rattle.std.specs.Prelude.{All};
-ghost use Rattle.site_core.specs.Prelude.{IsSeatCaller};
-ghost use Rattle.site_growth.specs.Prelude.{IsGrowth};
+ghost use Rattle.site_core.specs.Prelude.{IsGrowth, IsSeatCaller};
 
 use crate::disks::{
     FilesCase, InFiles, NO_STOP, SqlFiles, Store, file_of, over_files, rows_in, undisturbed,
@@ -11,7 +10,6 @@ use crate::stops::{cut_at, run_and_books};
 use office_core::{Reply, SeatRequest};
 use office_restart::{Restarted, crash, replay_through_crash};
 use site_core::{SiteText, read_site_text};
-use site_growth::is_growth;
 use sqlite::{Files, Options};
 use sqlite_disk::{Fuse, Memory};
 use std::alloc::Global;
@@ -89,7 +87,7 @@ fn held_through_crash(
     let (site, grown) = (read_site_text(alloc, SITE)?, read_site_text(alloc, next)?);
     let first = seat_requests(alloc, site.site(), before)?;
     let second = seat_requests(alloc, grown.site(), after)?;
-    if !is_growth(site.site(), grown.site()) {
+    if !site.site().is_growth(grown.site()) {
         return Err(Fail::from("no growth"));
     }
     let done = restarted(alloc, &site, first.as_slice(), &grown, second.as_slice())?;

@@ -1,6 +1,6 @@
 //! The bytes of a stream that were read and not yet served.
 
-ghost use Rattle.std.specs.Prelude.{◌≡◌, ◌+◌, ◌-◌, ◌<◌, ◌≤◌, ◌^◌, [], ◌↔◌, ◌==◌, true, length, take, drop, IfOk, Option, vec_len};
+ghost use Rattle.std.specs.Prelude.{◌≡◌, ◌+◌, ◌-◌, ◌<◌, ◌≤◌, ◌^◌, [], ◌↔◌, ◌==◌, true, IsTrue, length, take, drop, IfOk, Option, vec_len};
 ghost use Rattle.http_frames.specs.Transfers.{ReadsBytes, failures_of};
 ghost use Rattle.http_frames.specs.Looks.{IsLook};
 ghost use Rattle.http_frames.specs.Buffers.{unread, count_of, KeepsBytes, IsFramed, IsEnd, faults_of, end_of_framed};
@@ -132,6 +132,13 @@ impl Buffer {
         ensures { result ≡ true ↔ (self.now.window ≡ []) }
     {
         self.len == 0
+    }
+
+    /// Whether bytes were read that no request took yet.
+    pub fn has_unread(&self) -> bool
+        ensures { IsTrue result ↔ (0 < length (unread self.now)) }
+    {
+        self.taken < self.len
     }
 
     /// Whether the stream has made all its calls.

@@ -102,9 +102,14 @@ impl Drain for Written {
             }
         }
     }
+
+    fn goes_on(&mut self) -> bool {
+        self.calls += 1;
+        true
+    }
 }
 
-/// A reader or writer whose every second call is interrupted, the first call too.
+/// A reader or writer whose every second call that moves bytes is interrupted, the first one too.
 #[derive(Drop)]
 pub struct Interrupted<T: Drop> {
     inner: T,
@@ -177,6 +182,10 @@ impl<W: Drain + Drop> Drain for Interrupted<W> {
             return Transfer::Interrupted;
         }
         self.inner.write(bytes)
+    }
+
+    fn goes_on(&mut self) -> bool {
+        self.inner.goes_on()
     }
 }
 
@@ -253,6 +262,10 @@ impl<W: Drain + Drop> Drain for Failing<W> {
         }
         self.inner.write(bytes)
     }
+
+    fn goes_on(&mut self) -> bool {
+        !self.fails() && self.inner.goes_on()
+    }
 }
 
 /// A reader or writer of std with its calls counted. It tells no bytes, since no contract can say what a file or a socket gives or takes.
@@ -319,5 +332,10 @@ impl<W: Write + Drop> Drain for Counted<W> {
                 Transfer::Failed
             }
         }
+    }
+
+    fn goes_on(&mut self) -> bool {
+        self.calls += 1;
+        true
     }
 }

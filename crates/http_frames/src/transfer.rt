@@ -1,6 +1,6 @@
 //! What bytes come from and go to, one call at a time.
 
-ghost use Rattle.std.specs.Prelude.{◌≡◌, ℕ, ◌+◌, ◌<◌, ◌^◌, List, length, Option};
+ghost use Rattle.std.specs.Prelude.{◌≡◌, ℕ, ◌+◌, ◌<◌, ◌^◌, List, length, Option, if◌then◌else◌};
 ghost use Rattle.http_frames.specs.Transfers.{MovesAtMost, failures_of, write_failures, ReadsBytes, WritesBytes};
 
 /// What one call of a reader or writer did.
@@ -38,7 +38,8 @@ pub trait Drain {
     ghost written: { Self → Option (List ℕ) };
     /// How many calls were made.
     ghost calls: { Self → ℕ };
-    /// How many of them failed. A call that takes none of some bytes is one of them.
+    /// How many of them failed. A call that takes none of some bytes is one of them, and one that
+    /// says that nothing more is taken.
     ghost failures: { Self → ℕ };
 
     /// Takes a front of the bytes.
@@ -48,4 +49,12 @@ pub trait Drain {
         ensures failed { failures self.new ≡ failures self.old + write_failures bytes.now result }
         ensures most { MovesAtMost result (length bytes.now) }
         ensures bytes { WritesBytes (written self.old) (written self.new) bytes.now result };
+
+    /// Whether more is taken: asked behind a whole reply, where something of the next request was
+    /// read already. No byte is moved.
+    fn goes_on(&mut self) -> bool
+        requires { calls self.old + 1 < 2 ^ 64 }
+        ensures counted { calls self.new ≡ calls self.old + 1 }
+        ensures failed { failures self.new ≡ failures self.old + (if result then 0 else 1) }
+        ensures bytes { written self.new ≡ written self.old };
 }

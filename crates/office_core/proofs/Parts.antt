@@ -6,7 +6,7 @@ use Rattle.http_replies.specs.Prelude.{answer_of}
 use Rattle.http_replies.specs.declared.Reply.{Reply}
 use Rattle.text_core.proofs.MachineLemmas.{runs_both}
 use Rattle.site_core.specs.Prelude.{Ownership, ownership_of, IsSite}
-use Rattle.site_growth.proofs.Kept.{owners_grown}
+use Rattle.site_core.proofs.Kept.{owners_grown}
 use Rattle.office_tables.specs.Prelude.{Tables}
 use Rattle.office_tables.specs.declared.keep.Keep.{Ghosts}
 use Rattle.office_laws.specs.Prelude.{Call, Exchange, Passes, AreSeats}
@@ -49,11 +49,12 @@ exchanges_joined (c ∷ cs) ds (r ∷ rs) qs same =
 
 -- what is answered after something else
 pub answered_joined : {K : Type 0} (k : Ghosts K) (a b c : K) (xs ys : List Exchange)
-    (t mid t2 : Tables)
+    (t mid t2 : Tables) → (k.is_honest c → k.is_honest b)
     → Answered k a b xs t mid → Answered k b c ys mid t2 → Answered k a c (xs ++ ys) t t2
-answered_joined k a b c xs ys t mid t2 one two = record {
+answered_joined k a b c xs ys t mid t2 was_honest one two = record {
   run = runs_both Passes t xs mid ys t2 one.run two.run;
   crash = leaves_joined xs ys (k.may_leave a) (k.may_leave b) (k.may_leave c) t mid t2 one.crash two.crash;
+  text = λ honest text told. two.text honest text (one.text (was_honest honest) text told);
   stands = two.stands;
 }
 

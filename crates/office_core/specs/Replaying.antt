@@ -2,9 +2,8 @@
 use Rattle.std.specs.Prelude.{List, [], ◌∷◌, map, zip, flat_map}
 use Rattle.http_replies.specs.Prelude.{answer_of}
 use Rattle.http_replies.specs.declared.Reply.{Reply}
-use Rattle.site_core.specs.Prelude.{section_at, seat_name_at, Ownership, OwnershipGrows, ownership_of, SiteValue}
-use Rattle.site_growth.specs.Prelude.{IsGrowth}
-use Rattle.office_tables.specs.Prelude.{Stands, Tables}
+use Rattle.site_core.specs.Prelude.{IsGrowth, section_at, seat_name_at, Ownership, OwnershipGrows, ownership_of, SiteValue}
+use Rattle.office_tables.specs.Prelude.{KeepsText, Stands, Tables}
 use Rattle.office_tables.specs.declared.keep.Keep.{Ghosts}
 use Rattle.office_laws.specs.Prelude.{IsSound, Call, call_by, Exchange, IsRun, Promises, LeavesAfter}
 use Rattle.office_core.specs.declared.requests.Part.{Part}
@@ -38,10 +37,12 @@ abbrev pub last_owners : Ownership → List SiteValue → Ownership
 last_owners first [] = first
 last_owners first (site ∷ sites) = last_owners (ownership_of site) sites
 
--- these exchanges lead from the tables that stood to those that stand, and a crash after them leaves what a stop may leave
+-- these exchanges lead from the tables that stood to those that stand, and a crash after them leaves what a stop may leave, which tells of
+-- the text of the site that was told of before them
 pub record Answered {K : Type 0} (k : Ghosts K) (old new : K) (xs : List Exchange) (t t2 : Tables) : Type 0 where
   pub run : IsRun xs t t2
   pub crash : LeavesAfter xs (k.may_leave old) t (k.may_leave new) t2
+  pub text : KeepsText k.is_honest k.tells_text old new
   pub stands : Stands k.is_open k.tables new t2
 
 -- so they do where the store is honest after them; and from tables that are sound for owners from

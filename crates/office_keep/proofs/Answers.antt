@@ -5,7 +5,7 @@ use Rattle.office_sql.proofs.Kit.{Database, Held, state, Error, State, HasCleanD
 use Rattle.sqlite.specs.Store.{Ghosts}
 use Rattle.office_tables.specs.Prelude.{Tables, LooksUp}
 use Rattle.office_sql.specs.Prelude.{SqlReads, Rests, IsReady, IsOffice, tables_in}
-use Rattle.office_keep.specs.Prelude.{Kept, Agrees, RemembersRight, tables_of, is_open_at, is_honest_at, may_leave_at, commits_at}
+use Rattle.office_keep.specs.Prelude.{Kept, Agrees, RemembersRight, tables_of, is_open_at, is_honest_at, may_leave_at, tells_text_at, commits_at}
 use Rattle.office_keep.specs.declared.remembered.Remembered.{Remembered}
 
 -- a connection that is ready shows after a read what it showed before
@@ -29,13 +29,14 @@ module _ {S : Type 0} (g : Ghosts S) (old new : Held S) (ready : IsReady (state 
     (clean : IsTrue (state g new).is_open → HasCleanDisk (state g new)) where
   -- what is asked of a connection at rest is what a keeper answers
   pub answers : {A F : Type 0} (r : Result A Error) (q : Result A F) (Says : Tables → A → Type 0) → result_ok q ≡ result_ok r → SqlReads g old new r Says
-      → LooksUp (is_open_at g) (is_honest_at g) (may_leave_at g) (tables_of g) commits_at old new q Says
+      → LooksUp (is_open_at g) (is_honest_at g) (may_leave_at g) (tells_text_at g) (tables_of g) commits_at old new q Says
   answers {A = A} r q Says is asks = record {
     read_only = record {
       was_open = λ up. (asks.rests (clean up)).was_open up;
       same = λ up. ap (λ (d : Database). tables_in d.trees) ((asks.rests (clean up)).committed up);
       was_honest = λ honest. omega (arith, asks.crash.clean, honest);
       crash = λ honest t h. elim (asks.crash.crash honest h.0 h.1) [ inl m ↦ (h.0, m, h.2) | inr none ↦ absurd none ];
+      text = λ honest text tells db may. elim (asks.crash.crash honest db may) [ inl m ↦ tells db m | inr none ↦ absurd none ];
       uncommitted = refl;
     };
     stays_open = λ honest. if_ok (λ _. is_open_at g new) r q is (open_after r (asks.same honest));
@@ -66,18 +67,20 @@ module _ {S : Type 0} (g : Ghosts S) (old new : Held S) (ready : IsReady (state 
 -- what is said of a connection is said of a keeper that has it
 abbrev pub Told : {S A F : Type 0} → Ghosts S → Kept S → Kept S → Result A F → (Tables → A → Type 0) → Type 0
 Told g old new q Says =
-    LooksUp (λ k. is_open_at g k.conn) (λ k. is_honest_at g k.conn) (λ k. may_leave_at g k.conn) (λ k. tables_of g k.conn)
-    (λ k. commits_at k.conn) old new q Says
+    LooksUp (λ k. is_open_at g k.conn) (λ k. is_honest_at g k.conn) (λ k. may_leave_at g k.conn)
+    (λ k. tells_text_at g k.conn) (λ k. tables_of g k.conn) (λ k. commits_at k.conn) old new q Says
 
 pub told : {S A F : Type 0} (g : Ghosts S) (old new : Held S) (site : List ℕ) (self : Kept S)
     → record { conn = old; site = site } ≡ self → (q : Result A F) (Says : Tables → A → Type 0)
-    → LooksUp (is_open_at g) (is_honest_at g) (may_leave_at g) (tables_of g) commits_at old new q Says → Told g self (record { conn = new; site = site }) q Says
+    → LooksUp (is_open_at g) (is_honest_at g) (may_leave_at g) (tells_text_at g) (tables_of g) commits_at old new q Says
+    → Told g self (record { conn = new; site = site }) q Says
 told g old new site self view q Says it = subst (λ k. Told g k (record { conn = new; site = site }) q Says) view (record {
   read_only = record {
     was_open = it.read_only.was_open;
     same = it.read_only.same;
     was_honest = it.read_only.was_honest;
     crash = it.read_only.crash;
+    text = it.read_only.text;
     uncommitted = refl;
   };
   stays_open = it.stays_open;

@@ -3,7 +3,7 @@ use Rattle.std.specs.Prelude.{◌≡◌, Result}
 use Rattle.sqlite.specs.Store.{Ghosts}
 use Rattle.office_tables.specs.Prelude.{Tables, LooksUp}
 use Rattle.office_keep.specs.Kept.{Kept}
-use Rattle.office_keep.specs.Keeping.{tables_of, is_open_at, is_honest_at, may_leave_at, commits_at}
+use Rattle.office_keep.specs.Keeping.{tables_of, is_open_at, is_honest_at, may_leave_at, tells_text_at, commits_at}
 
 -- the limit on the steps of a statement is as it was
 abbrev pub KeepsLimit : {S : Type 0} → Kept S → Kept S → Type 0
@@ -14,4 +14,4 @@ abbrev pub LooksUpBySql : {S A E : Type 0} → Ghosts S → Kept S → Kept S �
     → (Tables → A → Type 0) → Type 0
 LooksUpBySql g old new result Says =
     LooksUp (λ k. is_open_at g k.conn) (λ k. is_honest_at g k.conn) (λ k. may_leave_at g k.conn)
-    (λ k. tables_of g k.conn) (λ k. commits_at k.conn) old new result Says
+    (λ k. tells_text_at g k.conn) (λ k. tables_of g k.conn) (λ k. commits_at k.conn) old new result Says

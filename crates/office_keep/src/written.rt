@@ -6,7 +6,8 @@ ghost use Rattle.office_tables.specs.declared.rows.OfCustomer.{OfCustomer};
 ghost use Rattle.office_tables.specs.declared.rows.Device.{Device};
 ghost use Rattle.office_tables.specs.Prelude.{Reads, is_device};
 ghost use Rattle.office_sql.specs.Prelude.{IsReady};
-ghost use Rattle.office_keep.specs.Prelude.{commits_at, is_honest_at, is_open_at, may_leave_at, tables_of, IsAnswer, device_written, ArePut, AreTold};
+ghost use Rattle.office_keep.specs.Prelude.{commits_at, is_honest_at, is_open_at, may_leave_at, tables_of, tells_text_at};
+ghost use Rattle.office_keep.specs.Prelude.{IsAnswer, device_written, ArePut, AreTold};
 ghost use Rattle.office_keep.specs.Prelude.{IsReplaced};
 
 use office_sql as sql;
@@ -112,7 +113,7 @@ pub(crate) fn replaced_device<S: Alter>(
         → IsAnswer answer.now (tables_of S.Store conn.old).devices }
     ensures ready { IsReady (state S.Store conn.new) }
     ensures read_only { Reads (is_open_at S.Store) (is_honest_at S.Store) (may_leave_at S.Store)
-        (tables_of S.Store) commits_at conn.old conn.new }
+        (tells_text_at S.Store) (tables_of S.Store) commits_at conn.old conn.new }
     ensures left { is_honest_at S.Store conn.new → (db : Trees)
         → (state S.Store conn.new).may_leave db → (state S.Store conn.old).may_leave db }
     ensures answer { is_open_at S.Store conn.new

@@ -2,8 +2,7 @@
 ghost use Rattle.std.specs.Prelude.{◌≡◌, List, Some, true, ℕ};
 ghost use Rattle.std.specs.List.{AllByRecursion};
 ghost use Rattle.http_replies.specs.Prelude.{is_unavailable};
-ghost use Rattle.site_core.specs.Prelude.{Ownership, OwnershipGrows, ownership_of, SiteValue, IsSite};
-ghost use Rattle.site_growth.specs.Prelude.{IsGrowth};
+ghost use Rattle.site_core.specs.Prelude.{IsGrowth, Ownership, OwnershipGrows, ownership_of, SiteValue, IsSite};
 ghost use Rattle.office_commands.specs.declared.refusal.Refusal.TheVariants.{Unkept};
 ghost use Rattle.office_tables.specs.Prelude.{Tables, given_at};
 ghost use Rattle.office_tables.specs.declared.rows.Given.{Given};

@@ -11,8 +11,9 @@
 //!
 //! `replay_until_stop` answers requests and hands back the files: of every image that a crash may
 //! leave of them it says what is found in it (`run`, `IsStopped`). `replay_through_crash` puts them
-//! together with two lists of requests (`run`, `GoesOn`). Not said: that the keeper is of the same
-//! site after the requests as when it was opened, since what any keeper says knows no site.
+//! together with two lists of requests (`run`, `GoesOn`). Not said: that the store that is found
+//! is of the site that it was opened for. That any keeper goes on to tell of its site's text is in
+//! what requests lead to, in office_core, and in no clause here.
 #![tactic(auto)]
 
 mod crashing;

@@ -2,8 +2,7 @@
 ghost use Rattle.std.specs.Prelude.{◌≡◌, ◌∷◌, [], All, length, IsTrue, IfOk};
 ghost use Rattle.std.specs.List.{AllByRecursion};
 ghost use Rattle.sqlite.specs.Files.{over_files};
-ghost use Rattle.site_core.specs.Prelude.{IsSeatCaller, PoolsDisjoint, ownership_of, IsSite};
-ghost use Rattle.site_growth.specs.Prelude.{IsGrowth};
+ghost use Rattle.site_core.specs.Prelude.{IsGrowth, IsSeatCaller, PoolsDisjoint, ownership_of, IsSite};
 ghost use Rattle.office_laws.specs.Prelude.{IsSeat};
 ghost use Rattle.office_core.specs.Prelude.{KeepsPromises, calls_in, exchanges_in};
 ghost use Rattle.sqlite_wal.specs.Reads.{AreClean};

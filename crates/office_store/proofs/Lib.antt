@@ -22,6 +22,9 @@ mod Preparing
 mod LeftOfSite
 mod Telling
 mod Opened
+mod ClosedFiles
+mod Spared
+mod TurnedAway
 mod Drops
 mod RemakeTexts
 mod RemakeReads

@@ -1,5 +1,5 @@
 -- How a connection is settled: its tables are made, upgraded or found, or it is refused.
-use Rattle.std.proofs.Common.{◌≡◌, ◌≢◌, ◌↔◌, inl, inr, ℕ, Bool, false, List, Result, Ok, Err, OnOk, IfErr, IsTrue, sym, ap, subst, ◌∙◌}
+use Rattle.std.proofs.Common.{◌≡◌, ◌≢◌, ◌↔◌, inl, inr, ℕ, Bool, false, List, Result, Ok, Err, OnOk, IfErr, IsTrue, refl, sym, ap, subst, ◌∙◌, arith}
 use Rattle.sha2.specs.Sha256.{sha256}
 use Rattle.site_core.specs.Prelude.{SiteValue, TextOfSite}
 use Rattle.office_sql.proofs.Kit.{Database, Held, state, State, HasCleanDisk, IsUnchanged, KeepsCommit, Survives, Trees, survives_then, survives_weaker, Error}
@@ -9,7 +9,7 @@ use Rattle.office_sql.specs.Prelude.{IsUndone, no_schema, IsOffice, office_over,
 use Rattle.office_store.proofs.Types.{OpenFault, Failed, Version, First, Third}
 use Rattle.office_store.specs.Prelude.{AreUnstarted, CanPrepareTables, CanTake, Examines, IsApartAt, IsFoundAt, IsGrowable, IsOtherSchema, IsRefusedFor}
 use Rattle.office_store.specs.Prelude.{IsPreparedFor, LeavesAtMost, PreparesTables, StaysUnstarted, TakesGrowth, TakesOwn, HasGrown, IsGrown, IsBegun}
-use Rattle.office_store.specs.Prelude.{IsCreated, HasSchema, IsNoStore, IsStore, IsStoreOrNone, IsGrownFrom, IsUpgrade, IsUpgraded}
+use Rattle.office_store.specs.Prelude.{IsCreated, HasSchema, IsNoStore, IsStore, IsStoreOrNone, IsGrownFrom, IsUntouched, IsUpgrade, IsUpgraded}
 use Rattle.office_found.specs.Prelude.{HasApartAddresses, IsFound, Tests, HoldsSite, HasMeta, HoldsText, schema_of}
 use Rattle.office_sql.proofs.Asked.{was_clean}
 use Rattle.office_store.proofs.FoundStarts.{office_of, starts_of}
@@ -28,13 +28,18 @@ failed site s has = record {
 undone_keeps : (old new : State) → IsUndone old new → KeepsCommit old new
 undone_keeps old new undone = record { was_open = undone.was_open; committed = undone.committed }
 
+-- what isn't touched leaves nothing new
+pub stays : (s : State) (Commits : Trees → Type 0) → Survives s s Commits
+stays s Commits = record { clean = omega arith; shield = λ h. h; counts = omega arith; limit = refl; closes = λ _ up. inl up; crash = λ _ db left. inl left }
+
 -- a refusal, whatever its fault
 pub unprepared : {S : Type 0} (g : Ghosts S) (site : TextOfSite) (old new : Held S)
     (fault : OpenFault) → new.in_transaction ≡ false → IsRefusedFor site (state g new) fault
     → (HasCleanDisk (state g new) → KeepsCommit (state g old) (state g new))
+    → (fault ≢ Failed → IsUntouched (state g old) (state g new))
     → Survives (state g old) (state g new) (IsPreparedFor site (state g old))
     → PreparesTables g site old new (Err fault)
-unprepared g site old new fault mode refused unchanged crash = record {
+unprepared g site old new fault mode refused unchanged untouched crash = record {
   mode = mode;
   ready = λ clean. tt;
   tells = λ clean. tt;
@@ -47,6 +52,7 @@ unprepared g site old new fault mode refused unchanged crash = record {
   unstarted = λ clean. tt;
   refused = refused;
   unchanged = unchanged;
+  untouched = untouched;
   crash = crash;
 }
 
@@ -140,6 +146,7 @@ module _ {S : Type 0} (g : Ghosts S) (site : TextOfSite) (old new : Held S) (cal
       unstarted = λ clean other told. subst AreUnstarted (sym (created clean).begun.fresh.tables) (tt, tt);
       refused = tt;
       unchanged = λ clean. tt;
+      untouched = tt;
       crash = leaves_made site (state g old) (state g new) can bare survives;
     }
 
@@ -149,7 +156,8 @@ module _ {S : Type 0} (g : Ghosts S) (site : TextOfSite) (old new : Held S) (cal
         (failed site (state g new) (λ up other.
         let clean = calm up in
         other.0 (ap (λ (d : Database). d.schema) ((undone clean).now up ∙ sym (can.shows_committed (was_clean _ _ _ survives clean))) ∙ bare)))
-        (λ clean. undone_keeps (state g old) (state g new) (undone clean)) (leaves_made site (state g old) (state g new) can bare survives)
+        (λ clean. undone_keeps (state g old) (state g new) (undone clean)) (λ other. absurd (other refl))
+        (leaves_made site (state g old) (state g new) can bare survives)
 
   -- a store that was found, and what became of it was undone
   undone_failed : (version : Version) → IsFoundAt version (state g old)
@@ -189,6 +197,7 @@ module _ {S : Type 0} (g : Ghosts S) (site : TextOfSite) (old new : Held S) (cal
           (starts_of version (sha256 site.text) (state g old).now (found.found (before_upgrade clean)) earlier (told (before_upgrade clean)) other is);
       refused = tt;
       unchanged = λ clean. tt;
+      untouched = tt;
       crash = leaves_upgraded site version (state g old) (state g new) earlier found told survives;
     }
 
@@ -197,6 +206,7 @@ module _ {S : Type 0} (g : Ghosts S) (site : TextOfSite) (old new : Held S) (cal
     not_upgraded undone = unprepared g site old new Failed mode (undone_failed version found before_upgrade undone)
         (λ clean.
         undone_keeps (state g old) (state g new) (undone clean))
+        (λ other. absurd (other refl))
         (leaves_upgraded site version (state g old) (state g new) earlier found told survives)
 
   module _ (found : IsFoundAt Third (state g old)) (apart : IsApartAt (state g old)) (can : HasCleanDisk (state g old)
@@ -225,13 +235,15 @@ module _ {S : Type 0} (g : Ghosts S) (site : TextOfSite) (old new : Held S) (cal
         unstarted = λ clean. let take = (can (before_growth clean)).1 in never_first take.0 (state g old).now.trees (tables_in (state g new).now.trees) take.1;
         refused = tt;
         unchanged = λ clean. tt;
+        untouched = tt;
         crash = leaves_grown site (state g old) (state g new) found can other survives;
       }
 
       -- it wasn't
       pub not_grown : (HasCleanDisk (state g new) → IsUndone (state g old) (state g new)) → PreparesTables g site old new (Err Failed)
       not_grown undone = unprepared g site old new Failed mode (undone_failed Third found before_growth undone)
-          (λ clean. undone_keeps (state g old) (state g new) (undone clean)) (leaves_grown site (state g old) (state g new) found can other survives)
+          (λ clean. undone_keeps (state g old) (state g new) (undone clean)) (λ other. absurd (other refl))
+          (leaves_grown site (state g old) (state g new) found can other survives)
 
     -- whether the text is there was asked
     module _ (r : Result Bool Error) (tests : Tests g old new r (λ db same. IsTrue same ↔ HoldsText site.text db)) where
@@ -271,6 +283,7 @@ module _ {S : Type 0} (g : Ghosts S) (site : TextOfSite) (old new : Held S) (cal
           unstarted = λ clean. never_first (take clean).0 (state g old).now.trees (tables_in (state g new).now.trees) (take clean).1;
           refused = tt;
           unchanged = λ clean. tt;
+          untouched = tt;
           crash = survives_weaker _ _ _ _ (λ clean db none. absurd none) tests.crash;
         }
 
@@ -289,6 +302,7 @@ module _ {S : Type 0} (g : Ghosts S) (site : TextOfSite) (old new : Held S) (cal
         ] in
         other.1 Third (ap (λ (d : Database). d.schema) was ∙ (found.found (before clean)).schema)))
         (λ clean. record { was_open = (tests.rests clean).was_open; committed = (tests.rests clean).committed })
+        (λ other. absurd (other refl))
         (survives_weaker _ _ _ _ (λ clean db none. absurd none) tests.crash)
 
   -- a store that was tested is refused
@@ -298,7 +312,9 @@ module _ {S : Type 0} (g : Ghosts S) (site : TextOfSite) (old new : Held S) (cal
       record {
         was_open = (test.rests clean).was_open;
         committed = (test.rests clean).committed;
-      }) (survives_weaker _ _ _ _ (λ clean db none. absurd none) test.crash)
+      })
+      (λ other. record { same = λ clean. test.shown clean other; crash = test.crash })
+      (survives_weaker _ _ _ _ (λ clean db none. absurd none) test.crash)
 
 -- tables that are prepared after a test are prepared
 pub prepared_after : {S : Type 0} (g : Ghosts S) (site : TextOfSite) (old mid new : Held S) (r : Result (Unit {0}) OpenFault) (Says : Database → Type 0)
@@ -316,6 +332,7 @@ prepared_after g site old mid new r Says test it = record {
   unstarted = λ clean. unstarted_too r (same clean) (it.unstarted clean);
   refused = it.refused;
   unchanged = λ clean. keeps r (test.same (calm clean)) (it.unchanged clean);
+  untouched = untouched_too r it.untouched;
   crash = survives_then (state g old) (state g mid) (state g new) _ _ (IsPreparedFor site (state g old)) (λ _ db none. absurd none)
       (λ clean db whole.
       subst (λ (d : Database).
@@ -363,6 +380,14 @@ prepared_after g site old mid new r Says test it = record {
         → OnOk r ((state g old).now.schema ≢ no_schema → IsStore (state g old).now.trees)
     there_too (Ok _) e h = subst (λ (d : Database). d.schema ≢ no_schema → IsStore d.trees) e h
     there_too (Err _) e h = tt
+
+    untouched_too : (r : Result (Unit {0}) OpenFault) → IfErr r (λ fault. fault ≢ Failed → IsUntouched (state g mid) (state g new))
+        → IfErr r (λ fault. fault ≢ Failed → IsUntouched (state g old) (state g new))
+    untouched_too (Ok _) k = tt
+    untouched_too (Err _) k = λ other. record {
+      same = λ clean. (k other).same clean ∙ same clean;
+      crash = survives_then (state g old) (state g mid) (state g new) _ _ (λ _. ⊥) (λ _ db none. none) (λ _ db none. none) test.crash (k other).crash;
+    }
 
     keeps : (r : Result (Unit {0}) OpenFault) → IsUnchanged (state g old) (state g mid)
         → IfErr r (λ _. KeepsCommit (state g mid) (state g new)) → IfErr r (λ _. KeepsCommit (state g old) (state g new))

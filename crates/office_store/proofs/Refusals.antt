@@ -8,7 +8,7 @@ use Rattle.office_sql.proofs.Kit.{Row, Database, Held, state, HasCleanDisk, IsUn
 use Rattle.sqlite.specs.Store.{Ghosts}
 use Rattle.office_store.proofs.Types.{OpenFault, OtherSite, OtherTables, Failed, Meta, Version, Earliest, Early, First, Third}
 use Rattle.office_store.specs.Prelude.{AreStartsAsked, CanTake, Examines, HasOtherTables, IsFoundAt, IsOfOtherSite, IsOther, IsShownText, TellsOther}
-use Rattle.office_store.specs.Prelude.{IsGrownFrom}
+use Rattle.office_store.specs.Prelude.{IsGrownFrom, ShowsSame}
 use Rattle.office_found.specs.Prelude.{HasApartAddresses, HasStarts, HasWhole, IsFound, Tests, meta_of_version, metas_in, IsMetaOf, HasMeta, ShowTexts}
 use Rattle.office_found.specs.Prelude.{number_of_version, schema_of}
 use Rattle.office_sql.proofs.Asked.{was_clean}
@@ -66,6 +66,7 @@ module _ {S : Type 0} (g : Ghosts S) (site : TextOfSite) where
     rests = λ clean. rests_then (state g old) (state g mid) (state g new) (one.same (calm clean)) (two.rests clean);
     mode = two.mode;
     refused = two.refused;
+    shown = λ clean. shown r (one.same (calm clean)) (two.shown clean);
     crash = survives_then (state g old) (state g mid) (state g new) _ _ (λ _. ⊥) (λ _ db none. none) (λ _ db none. none) one.crash two.crash;
   }
     where
@@ -86,10 +87,24 @@ module _ {S : Type 0} (g : Ghosts S) (site : TextOfSite) where
       same (Ok _) h k = unchanged_then (state g old) (state g mid) (state g new) h k
       same (Err _) h k = tt
 
+      shown : (r : Result (Unit {0}) OpenFault) → IsUnchanged (state g old) (state g mid)
+          → IfErr r (λ fault. ShowsSame fault (state g mid) (state g new))
+          → IfErr r (λ fault. ShowsSame fault (state g old) (state g new))
+      shown (Ok _) h k = tt
+      shown (Err _) h k = λ other. k other ∙ h.0.now_is
+
   -- a test that is not passed says nothing
   pub says_nothing : (old new : Held S) (fault : OpenFault) (P Q : Database → Type 0)
       → Examines g site old new (Err fault) P → Examines g site old new (Err fault) Q
-  says_nothing old new fault P Q it = record { answer = λ clean. tt; same = it.same; rests = it.rests; mode = it.mode; refused = it.refused; crash = it.crash }
+  says_nothing old new fault P Q it = record {
+    answer = λ clean. tt;
+    same = it.same;
+    rests = it.rests;
+    mode = it.mode;
+    refused = it.refused;
+    shown = it.shown;
+    crash = it.crash;
+  }
 
   -- and one that is passed what follows
   pub examines_weaker : (old new : Held S) (P Q : Database → Type 0) → Examines g site old new (Ok tt) P
@@ -100,6 +115,7 @@ module _ {S : Type 0} (g : Ghosts S) (site : TextOfSite) where
     rests = it.rests;
     mode = it.mode;
     refused = it.refused;
+    shown = it.shown;
     crash = it.crash;
   }
 
@@ -126,19 +142,22 @@ module _ {S : Type 0} (g : Ghosts S) (site : TextOfSite) (old new : Held S)
 
     -- it is not passed, for a reason
     pub not_passed : (fault : OpenFault) (Says : Database → Type 0) → (HasCleanDisk (state g new) → fault ≡ OtherSite → IsOfOtherSite site (state g new).now)
-        → (HasCleanDisk (state g new) → fault ≡ OtherTables → HasOtherTables (sha256 site.text) (state g new).now) → Examines g site old new (Err fault) Says
-    not_passed fault Says other_site other_tables = record {
+        → (HasCleanDisk (state g new) → fault ≡ OtherTables → HasOtherTables (sha256 site.text) (state g new).now)
+        → (HasCleanDisk (state g new) → ShowsSame fault (state g old) (state g new)) → Examines g site old new (Err fault) Says
+    not_passed fault Says other_site other_tables shown = record {
       answer = λ clean. tt;
       same = λ clean. tt;
       rests = tests.rests;
       mode = tests.mode mode;
       refused = record { other_site = other_site; other_tables = other_tables; other_schema = λ up other. absurd (other.1 version (still up)) };
+      shown = shown;
       crash = tests.crash;
     }
 
     -- what was asked couldn't be read
     pub unread : (Says : Database → Type 0) → Examines g site old new (Err Failed) Says
     unread Says = not_passed Failed Says (λ clean told. absurd (let e = told in cc)) (λ clean told. absurd (let e = told in cc))
+        (λ clean other. absurd (other refl))
 
   module _ {A : Type 0} (answer : A) (P : Trees → A → Type 0) (tests : Tests {E = Error} g old new (Ok answer) P) where
     -- it is passed
@@ -151,6 +170,7 @@ module _ {S : Type 0} (g : Ghosts S) (site : TextOfSite) (old new : Held S)
       rests = tests.rests;
       mode = tests.mode mode;
       refused = tt;
+      shown = λ clean. tt;
       crash = tests.crash;
     }
 
@@ -170,6 +190,7 @@ module _ {S : Type 0} (g : Ghosts S) (site : TextOfSite) (old new : Held S)
       (sym ((tests.answer clean).1 (subst (λ (d : Database). HasWhole d.trees) same whole))
       ∙ low) in
       inr (version, schema_after answer _ tests clean, inl lacks))
+      (λ clean other. same_trees answer _ tests clean)
 
   -- and so is a start that lacks
   pub lack_found : (HasCleanDisk (state g old) → AreStartsAsked (sha256 site.text) version (state g old).now.trees)
@@ -185,6 +206,7 @@ module _ {S : Type 0} (g : Ghosts S) (site : TextOfSite) (old new : Held S)
       (sym ((tests.answer clean).1 (subst (λ (d : Database). HasStarts d.trees) same whole))
       ∙ low) in
       inr (version, schema_after answer _ tests clean, inr (inr (inl (are_asked, lacks)))))
+      (λ clean other. same_trees answer _ tests clean)
 
   -- and one address in two records
   pub twice_found : (answer : Bool) → answer ≡ false → Tests {E = Error} g old new (Ok answer) (λ db apart. IsTrue apart ↔ HasApartAddresses db)
@@ -196,6 +218,7 @@ module _ {S : Type 0} (g : Ghosts S) (site : TextOfSite) (old new : Held S)
       (sym ((tests.answer clean).1 (subst (λ (d : Database). HasApartAddresses d.trees) same apart))
       ∙ twice) in
       inr (version, schema_after answer _ tests clean, inr (inr (inr (inr meets)))))
+      (λ clean other. same_trees answer _ tests clean)
 
   module _ (meta : Option Meta) (tests : Tests {E = Error} g old new (Ok meta) (λ db row. IsMetaOf (metas_in db) row)) where
     told : HasCleanDisk (state g new) → IsMetaOf (metas_in (state g new).now.trees) meta
@@ -224,6 +247,7 @@ module _ {S : Type 0} (g : Ghosts S) (site : TextOfSite) (old new : Held S)
           ),
         ))
         (λ clean is. inr (version, schema_after meta _ tests clean, inr (inl (no_site version _ meta (told clean) (never is)))))
+        (λ clean other. same_trees meta _ tests clean)
 
     -- and judged by a name that is the site's
     pub judged_as : version ≢ Third → (name : List ℕ) → name ≡ sha256 site.text
@@ -267,3 +291,4 @@ module _ {S : Type 0} (g : Ghosts S) (site : TextOfSite) (old new : Held S)
           inr (inr (inr (inl (λ text utf tells.
               never is text utf (tells_shown text _ read.0 read.1.items (after clean) tells))))),
         ))
+        (λ clean other. same_trees read _ tests clean)

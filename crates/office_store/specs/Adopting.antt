@@ -122,6 +122,10 @@ pub record IsRefusedFor (site : TextOfSite) (s : State) (fault : OpenFault) : Ty
   pub other_tables : HasCleanDisk s → fault ≡ OtherTables → HasOtherTables (sha256 site.text) s.now
   pub other_schema : IsTrue s.is_open → IsOtherSchema s.now.schema → fault ≡ OtherTables
 
+-- a store that is refused for what it shows is shown as it was: a failure says nothing
+abbrev pub ShowsSame : OpenFault → State → State → Type 0
+ShowsSame fault old new = fault ≢ Failed → new.now ≡ old.now
+
 -- a test of a found store: where it is passed this is so of the database; nothing is changed, and a
 -- crash leaves nothing new
 pub record Examines {S : Type 0} (g : Ghosts S) (site : TextOfSite) (old new : Held S)
@@ -131,18 +135,18 @@ pub record Examines {S : Type 0} (g : Ghosts S) (site : TextOfSite) (old new : H
   pub rests : HasCleanDisk (state g new) → Rests (state g old) (state g new)
   pub mode : new.in_transaction ≡ false
   pub refused : IfErr result (IsRefusedFor site (state g new))
+  pub shown : HasCleanDisk (state g new) → IfErr result (λ fault. ShowsSame fault (state g old) (state g new))
   pub crash : Survives (state g old) (state g new) (λ _. ⊥)
 
 -- the tables of a store that had none, whole: all of them, with no row but those that tell of the text
-abbrev pub IsMadeFor : List ℕ → State → Trees → Type 0
-IsMadeFor text before db = IsNoStore before.committed.trees × IsBegun text (office_over db)
+abbrev pub IsMadeFor : List ℕ → Trees → Trees → Type 0
+IsMadeFor text before db = IsNoStore before × IsBegun text (office_over db)
 
 -- the tables of a store of an earlier version and this site, upgraded, whole
-abbrev pub IsUpgradedFor : List ℕ → State → Trees → Type 0
+abbrev pub IsUpgradedFor : List ℕ → Trees → Trees → Type 0
 IsUpgradedFor text before db =
-    (version : Version) × (version ≢ Third) × HasSchema (schema_of version) before.committed.trees
-    × HasMeta version (sha256 text) before.committed.trees
-    × IsUpgrade version text before.committed.trees (office_over db)
+    (version : Version) × (version ≢ Third) × HasSchema (schema_of version) before
+    × HasMeta version (sha256 text) before × IsUpgrade version text before (office_over db)
 
 -- the store told of a text of which the site is a growth
 abbrev pub CanTake : SiteValue → Trees → Type 0
@@ -154,16 +158,19 @@ IsGrowable site db = HasStarts db.trees × CanTake site db.trees
 
 -- the tables of a store that told of another text, of which the site is a growth, with the new text,
 -- whole: a store that holds the text stays as it is
-abbrev pub IsGrownFor : TextOfSite → State → Trees → Type 0
+abbrev pub IsGrownFor : TextOfSite → Trees → Trees → Type 0
 IsGrownFor site before db =
-    HasSchema (schema_of Third) before.committed.trees × CanTake site.site before.committed.trees
-    × (¬ HoldsText site.text before.committed.trees)
-    × IsGrown site.text before.committed.trees (office_over db)
+    HasSchema (schema_of Third) before × CanTake site.site before × (¬ HoldsText site.text before)
+    × IsGrown site.text before (office_over db)
 
--- what the one transaction may leave
-abbrev pub IsPreparedFor : TextOfSite → State → Trees → Type 0
-IsPreparedFor site before db =
+-- what the one transaction makes of a database
+abbrev pub IsPreparedFrom : TextOfSite → Trees → Trees → Type 0
+IsPreparedFrom site before db =
     IsMadeFor site.text before db ⊎ IsUpgradedFor site.text before db ⊎ IsGrownFor site before db
+
+-- what the one transaction may leave: it makes that of what was committed
+abbrev pub IsPreparedFor : TextOfSite → State → Trees → Type 0
+IsPreparedFor site before db = IsPreparedFrom site before.committed.trees db
 
 -- no order and no record has a beginning of validity
 abbrev pub AreUnstarted : Tables → Type 0
@@ -188,11 +195,17 @@ abbrev pub TakesOwn : List ℕ → Trees → Type 0
 TakesOwn text before =
     (version : Version) (other : List ℕ) → version ≢ Third → HasMeta version other before → other ≡ sha256 text
 
+-- a store is shown as it was, and a crash leaves nothing new
+pub record IsUntouched (old new : State) : Type 0 where
+  pub same : HasCleanDisk new → new.now ≡ old.now
+  pub crash : Survives old new (λ _. ⊥)
+
 -- an answer leaves the connection open and ready, with the tables that it had, and of the first
 -- version with no beginning of validity; it was a store of a version, or there was none yet, and no
 -- schema; the store tells of the site's text, and told of none of which the site is no growth, and
 -- in an earlier version of this one; no two records have one address; a fault leaves what was
--- committed; and a crash leaves what it left before, or what the one transaction makes
+-- committed, and one that is told for what the store shows leaves all as it was; and a crash leaves
+-- what it left before, or what the one transaction makes
 pub record PreparesTables {S : Type 0} (g : Ghosts S) (site : TextOfSite) (old new : Held S)
     (result : Result (Unit {0}) OpenFault) : Type 0 where
   pub mode : new.in_transaction ≡ false
@@ -210,6 +223,7 @@ pub record PreparesTables {S : Type 0} (g : Ghosts S) (site : TextOfSite) (old n
   pub refused : IfErr result (IsRefusedFor site (state g new))
   pub unchanged : HasCleanDisk (state g new)
       → IfErr result (λ _. KeepsCommit (state g old) (state g new))
+  pub untouched : IfErr result (λ fault. fault ≢ Failed → IsUntouched (state g old) (state g new))
   pub crash : Survives (state g old) (state g new) (IsPreparedFor site (state g old))
 
 -- a crash after leaves what one before left, or what the one transaction makes: the tables of a

@@ -6,8 +6,7 @@ use Rattle.sqlite.specs.State.{State}
 use Rattle.office_sql.specs.Prelude.{OfficeTable, meta, texts, SameBut, office_schema, rows_in, IsOffice, tables_in}
 use Rattle.office_found.specs.declared.version.Version.TheVariants.{Third}
 use Rattle.office_found.specs.Meta.{HoldsSite, HasMeta}
-use Rattle.site_core.specs.Prelude.{SiteValue, site_read}
-use Rattle.site_growth.specs.Prelude.{IsGrowth}
+use Rattle.site_core.specs.Prelude.{IsGrowth, SiteValue, site_read}
 
 -- another site is told, and no other table changes
 pub record ReplacesName (site : List ℕ) (old new : Database) : Type 0 where

@@ -5,6 +5,8 @@ pub mod Growing
 pub mod Making
 pub mod Stores
 pub mod Opening
+pub mod Closing
+pub mod Refusing
 pub mod Steps
 pub mod Upgrading
 pub mod Remaking

@@ -1,5 +1,5 @@
 -- What a store in files shows once it is opened, by what the files held, and why an opening is refused.
-use Rattle.std.specs.Prelude.{◌≡◌, ◌⊎◌, ℕ, false, List, [], ◌++◌, codes, Result, Ok, Err}
+use Rattle.std.specs.Prelude.{◌≡◌, ◌⊎◌, ℕ, false, List, [], ◌++◌, codes, IsTrue, Result, Ok, Err}
 use Rattle.site_core.specs.Prelude.{TextOfSite}
 use Rattle.sqlite.specs.Recovery.{Image}
 use Rattle.sqlite.specs.Tree.{Trees}
@@ -18,7 +18,10 @@ use Rattle.office_store.specs.declared.fault.OpenFault.{OpenFault}
 use Rattle.office_store.specs.declared.fault.OpenFault.TheVariants.{OtherTables, Failed}
 use Rattle.office_store.specs.declared.opening.Absent.{Absent}
 use Rattle.office_store.specs.declared.opening.Absent.TheVariants.{Make, Refuse}
-use Rattle.office_store.specs.Adopting.{IsPreparedFor, IsRefusedFor}
+use Rattle.office_store.specs.Adopting.{IsPreparedFor, IsRefusedFor, StaysUnstarted, TakesGrowth, TakesOwn}
+use Rattle.office_found.specs.Addresses.{HasApartAddresses}
+use Rattle.office_found.specs.Meta.{IsOurs}
+use Rattle.office_found.specs.Texts.{HoldsText}
 use Rattle.office_keep.specs.Kept.{Kept}
 use Rattle.office_store.specs.Stores.{IsStore, IsStoreOrNone}
 
@@ -77,6 +80,29 @@ module _ {D : Type 0} {g : disk.Ghosts D} where
     pub conn : Held (FileStore D g)
     pub found : IsFoundOver image conn
     pub crash : Survives (file_state conn) (file_state keep.conn) (IsPreparedFor site (file_state conn))
+
+  -- what the opening of a site's store says of its connection, by what the files held, where the disk
+  -- is honest
+  pub record ShowsOpening (site : TextOfSite) (image : Image) (absent : Absent)
+      (conn : Held (FileStore D g)) : Type 0 where
+    pub was : FilesHeld image (IsTaken absent)
+    pub is_open : IsTrue (file_state conn).is_open
+    pub same_site : IsOurs site.digest (file_state conn).now.trees
+    pub apart : HasApartAddresses (file_state conn).now.trees
+    pub text : HoldsText site.text (file_state conn).now.trees
+    pub grown : (db : Trees) → HoldsDatabase image db → TakesGrowth site.site db
+    pub own : (db : Trees) → HoldsDatabase image db → TakesOwn site.text db
+    pub tables : HasTablesOf image (tables_in (file_state conn).now.trees)
+    pub unstarted : (db : Trees) → HoldsDatabase image db
+        → StaysUnstarted db (tables_in (file_state conn).now.trees)
+    pub left : (db : Trees) → (file_state conn).may_leave db → db ≡ (file_state conn).now.trees
+
+  -- a keeper as the opening of a site's store leaves it
+  pub record IsOpenedFor (site : TextOfSite) (image : Image) (absent : Absent)
+      (keep : Kept (FileStore D g)) : Type 0 where
+    pub of_site : keep.site ≡ site.digest
+    pub shows : HasCleanDisk (file_state keep.conn) → ShowsOpening site image absent keep.conn
+    pub taken : IsTakenFrom image site keep
 
 -- a connection that was found so was turned away
 pub record IsFoundAndTurnedAway {D : Type 0} (g : disk.Ghosts D) (image : Image) (absent : Absent)

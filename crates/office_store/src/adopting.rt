@@ -5,7 +5,7 @@ ghost use Rattle.sqlite.specs.Held.{state};
 ghost use Rattle.office_sql.specs.Prelude.{no_schema, tables_in};
 ghost use Rattle.office_store.specs.Prelude.{AreStartsAsked, CanPrepareTables, CanTake, Examines, HandedKeeps, HandedLeaves, IsFoundAt, IsGrowable, IsApartAt};
 ghost use Rattle.office_store.specs.Prelude.{IsFoundApart, IsHandedFor, IsShownText, LeavesAtMost, PreparesTables, StaysUnstarted, TakesGrowth, TakesOwn};
-ghost use Rattle.office_store.specs.Prelude.{new_meta, IsStoreOrNone, IsGrownFrom, CanUpgrade, IsTestedFor};
+ghost use Rattle.office_store.specs.Prelude.{new_meta, IsStoreOrNone, IsGrownFrom, IsOtherSchema, CanUpgrade, IsTestedFor};
 ghost use Rattle.office_found.specs.Prelude.{IsOurs, HasApartAddresses, HasStarts, IsFound, meta_of_version, HasMeta, HoldsText, number_of_version, schema_of};
 ghost use Rattle.office_store.specs.declared.fault.OpenFault.TheVariants.{OtherSite as TheSite, OtherTables as TheTables};
 ghost use Rattle.office_found.specs.declared.version.Version.TheVariants.{Third};
@@ -24,7 +24,6 @@ use office_found::{
 };
 use office_keep::SqlKeep;
 use site_core::{Site, SiteFault, SiteText, read_site};
-use site_growth::is_growth;
 use sqlite::{Alter, Connection, Row};
 use std::alloc::Global;
 use text_core::Digest;
@@ -135,7 +134,7 @@ fn judge_growth(alloc: Global, held: &str, site: &Site) -> Result<(), OpenFault>
     ensures other_tables { IfErr result (λ fault. fault ≢ TheTables) }
 {
     match read_site(alloc, held) {
-        Ok(older) if is_growth(&older, site) => Ok(()),
+        Ok(older) if older.is_growth(site) => Ok(()),
         Err(SiteFault::OutOfMemory) => Err(OpenFault::Failed),
         _ => Err(OpenFault::OtherSite),
     }
@@ -366,7 +365,9 @@ pub(crate) fn prepare_tables<S: Alter>(
     site: &SiteText,
 ) -> Result<(), OpenFault>
     requires { CanPrepareTables (state S.Store conn.old) }
-    ensures { PreparesTables S.Store site.now conn.old conn.new result }
+    ensures prepares { PreparesTables S.Store site.now conn.old conn.new result }
+    ensures other_schema { IsOtherSchema (state S.Store conn.old).now.schema
+        → result ≡ Err OpenFault.OtherTables }
 {
     if is_empty_schema(conn.schema()) {
         return make(conn, site);

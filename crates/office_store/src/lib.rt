@@ -32,28 +32,40 @@
 //! schema, upgraded from the schema of a version, or with another text than it held, so that a text
 //! which is held writes nothing.
 //!
-//! `open` opens a file by `open_from` of the kit and tests what it found, without a second audit.
-//! Its keeper has the tables of the database that the files held, or none where they held none
-//! (`tables`), without beginnings where that was of schema 1 (`unstarted`), with addresses that are
-//! apart (`apart`). It is open and of this site (`open`, `same_site`, `site`), and holds its text,
-//! a growth of the one that the files held (`text`, `grown`, `own`). They held a store of a
-//! version, or none where one is to be made (`was`); one that is made has no sums on its pages
-//! (`taken`).
+//! `open_or_hand_back` opens a file by `open_from` of the kit and tests what it found, without a
+//! second audit. What its keeper is, is one record (`opened`, `IsOpenedFor`). It has the tables of
+//! the database that the files held, or none where they held none, without beginnings where that was
+//! of schema 1, and with addresses that are apart. It is open and of this site, and holds its text, a
+//! growth of the one that the files held. They held a store of a version, or none where one is to be
+//! made; one that is made has no sums on its pages.
 //!
-//! Where `open` answers a fault (`refused`), no file was opened, or a connection that was found in
-//! the files was turned away: where no store is to be made and there is no schema, for other tables
-//! and as it was; else for what it shows, as `adopt` says it, with the rows that were committed,
-//! and a crash leaves as little (`IsTurnedAway`). The connection is gone then, so that clause tells
-//! of one that there was.
+//! Where it answers a fault the files come back closed, and no files where none was opened
+//! (`refused`, `IsRefusal`). What is said of them is so where their disks returned what was written.
+//! Where a connection was had and turned away, a crash leaves the database that the files held or, at
+//! the fault of a failure, what the one transaction makes of it, and who opens it finds the tables
+//! that they held (`IsKept`). The fault is told by what the files held (`IsToldFor`): that of another
+//! site with a store of another site alone, and that of other tables with other tables alone, or with
+//! no store where none is to be made, and always then and with another schema. Where no connection
+//! was had, which is a failure, the files are as they were, or stand for the same pages; or they held
+//! no database, and hold none or an empty one; or they read as the database that they held
+//! (`IsSpared`).
+//!
+//! `open` is the same call, and drops the files. Its clauses say each part of that record by itself,
+//! and of a refusal that no file was opened, or that a connection was turned away, which is gone.
 //!
 //! Where a keeper ends by `into_store`, the files hold a store of its site that holds a text of that
-//! SHA-256 (`held`), and who opens them finds tables that the keeper could leave (`found`).
+//! SHA-256 (`held`), the one that the keeper told of (`told`), and who opens them finds tables that
+//! the keeper could leave (`found`). A keeper tells of its text as it was opened
+//! (`opened_stores_tell_their_text`), and each of its calls keeps that. So the site of a start is a
+//! growth of that of the start before it (`later_sites_are_growths`).
 //!
-//! Not said: that fault 3 comes only where the store or memory failed; that nothing is made at a
-//! path with no file, or one of no bytes, where no store is to be made.
+//! Not said: that fault 3 comes only where the store or memory failed, nor that no file was opened
+//! where none comes back with it; that nothing is made at a path with no file, or one of no bytes,
+//! where no store is to be made.
 #![tactic(auto)]
 
 mod adopting;
+mod closing;
 mod create;
 mod ending;
 mod fault;
@@ -61,10 +73,13 @@ mod grow;
 mod opening;
 mod remake;
 mod reread;
+mod starts;
 mod upgrade;
 
 pub use adopting::{Handed, adopt};
+pub use closing::{Closed, close};
 pub use ending::into_store;
 pub use fault::OpenFault;
 pub use office_keep::SqlKeep;
-pub use opening::{Absent, open};
+pub use opening::{Absent, Refused, open, open_or_hand_back};
+pub use starts::{later_sites_are_growths, opened_stores_tell_their_text};

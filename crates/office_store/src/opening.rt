@@ -1,13 +1,15 @@
 // A store in files.
-ghost use Rattle.std.specs.Prelude.{◌≡◌, ◌↔◌, false, codes, IsTrue, IfOk, IfErr};
+ghost use Rattle.std.specs.Prelude.{◌≡◌, ◌≢◌, ◌↔◌, false, codes, IsTrue, IfOk, IfErr, IsErrAnd};
 ghost use Rattle.sqlite.specs.Files.{file_state, HoldsDatabase};
+ghost use Rattle.sqlite.specs.Recovery.{Image};
 ghost use Rattle.sqlite.specs.Tree.{Trees};
 ghost use Rattle.sqlite.specs.Held.{state};
 ghost use Rattle.sqlite.specs.State.{HasCleanDisk, Survives};
-ghost use Rattle.sqlite.specs.WalFiles.{image_at};
+ghost use Rattle.sqlite.specs.WalFiles.{image_at, outcomes};
+ghost use Rattle.sqlite.specs.WalReads.{AreClean};
 ghost use Rattle.office_sql.specs.Prelude.{tables_in};
 ghost use Rattle.office_store.specs.Prelude.{CanPrepareTables, IsPreparedFor, StaysUnstarted, TakesGrowth, TakesOwn, HasTablesOf, IsTaken, IsTakenFrom};
-ghost use Rattle.office_store.specs.Prelude.{IsTurnedAway, LacksStore, NamesNoFile, TellsWhy, FilesHeld};
+ghost use Rattle.office_store.specs.Prelude.{IsTurnedAway, LacksStore, NamesNoFile, TellsWhy, FilesHeld, IsOpenedFor, IsOtherSchema, IsRefusal, IsUntouched};
 ghost use Rattle.office_found.specs.Prelude.{IsOurs, HasApartAddresses, HoldsText};
 ghost use Rattle.office_store.specs.declared.fault.OpenFault.TheVariants.{OtherTables};
 ghost use Rattle.office_store.specs.declared.opening.Absent.TheVariants.{Refuse};
@@ -17,8 +19,8 @@ use crate::fault::OpenFault;
 use office_found::is_empty_schema;
 use office_keep::SqlKeep;
 use site_core::SiteText;
-use sqlite::{Alter, Connection, FileFrom, FileStore};
-use sqlite_disk::Start;
+use sqlite::{Alter, Connection, FileFrom, FileStore, Files};
+use sqlite_disk::{Disk, Start};
 use std::alloc::Global;
 use std::fs;
 use std::io::ErrorKind;
@@ -99,6 +101,10 @@ fn prepare_or_hand_back<S: Alter>(
     ensures crash { IfOk result (λ keep. Survives (state S.Store conn) (state S.Store keep.conn)
         (IsPreparedFor site.now (state S.Store conn))) }
     ensures turned_away { IfErr result (λ e. IsTurnedAway S.Store absent site.now conn e.1 e.0) }
+    ensures untouched { IfErr result (λ e. e.0 ≢ OpenFault.Failed
+        → IsUntouched (state S.Store conn) (state S.Store e.1)) }
+    ensures other_schema { IfErr result (λ e. IsOtherSchema (state S.Store conn).now.schema
+        → e.0 ≡ OpenFault.OtherTables) }
 {
     if lacks_store(&conn, absent) {
         return Err((OpenFault::OtherTables, conn));
@@ -109,11 +115,23 @@ fn prepare_or_hand_back<S: Alter>(
     }
 }
 
-/// The fault with which a connection was handed back, which is closed.
-fn fault_of<S: Alter + Drop>(refused: (OpenFault, Connection<S>)) -> OpenFault
-    ensures { result ≡ refused.0 }
+/// What comes back where a store isn't opened.
+#[derive(Drop)]
+pub struct Refused<D: Disk> {
+    /// Why.
+    pub fault: OpenFault,
+    /// The files, which are closed, where they were opened.
+    pub files: Option<Files<D>>,
+}
+
+/// Closes a connection, and hands back its files. What isn't committed is lost.
+fn close<D: Disk + Drop>(conn: Connection<FileStore<D>>) -> Files<D>
+    ensures was_clean { AreClean D.Disk result.log result.db → HasCleanDisk (file_state conn) }
+    ensures left { AreClean D.Disk result.log result.db → (left : Image)
+        → outcomes D.Disk result.log result.db left
+        → ∥ ((db : Trees) × (file_state conn).may_leave db × HoldsDatabase left db) ∥₁ }
 {
-    refused.0
+    conn.into_store().close()
 }
 
 /// Opens the store of a site: the database in the file at this path, with the log beside it in
@@ -130,7 +148,53 @@ fn fault_of<S: Alter + Drop>(refused: (OpenFault, Connection<S>)) -> OpenFault
 /// `OtherSite` where the database is another site's, `OtherTables` where its tables aren't the
 /// office's, or where there is no store and none is to be made, and `Failed` where a file can't be
 /// opened, read or written, where the path is empty, is `:memory:` or begins with `file:`, and where
-/// there is no memory. The files are closed then, and no row that was committed is changed.
+/// there is no memory. The files come back closed, where they were opened, and hold each row that
+/// was committed.
+pub fn open_or_hand_back<S: Start>(
+    rt: &HostRuntime,
+    alloc: Global,
+    path: &str,
+    start: S,
+    site: &SiteText,
+    absent: Absent,
+) -> Result<SqlKeep<FileStore<FileFrom<S>>>, Refused<FileFrom<S>>>
+    ensures opened { IfOk result (IsOpenedFor site.now (image_at S.Start) absent) }
+    ensures refused { IfErr result (IsRefusal ⟦<FileFrom<S> as Disk>⟧ (image_at S.Start) absent
+        site.now path.now) }
+    ensures memory { path.now ≡ codes ":memory:"
+        → IsErrAnd result (λ e. e.fault ≡ OpenFault.Failed) }
+{
+    if is_missing(rt, path, absent) {
+        return Err(Refused {
+            fault: OpenFault::OtherTables,
+            files: None,
+        });
+    }
+    match Connection::open_from(rt, path, false, start) {
+        Ok(conn) => match prepare_or_hand_back(alloc, conn, site, absent) {
+            Ok(keep) => Ok(keep),
+            Err((fault, conn)) => Err(Refused {
+                fault,
+                files: Some(close(conn)),
+            }),
+        },
+        Err((_, Some(left))) => Err(Refused {
+            fault: OpenFault::Failed,
+            files: Some(left.into_files()),
+        }),
+        Err((_, None)) => Err(Refused {
+            fault: OpenFault::Failed,
+            files: None,
+        }),
+    }
+}
+
+/// Opens the store of a site as `open_or_hand_back` does, and drops what is handed back.
+///
+/// # Errors
+///
+/// The faults of `open_or_hand_back`. The files are closed then, and no row that was committed is
+/// changed.
 pub fn open<S: Start>(
     rt: &HostRuntime,
     alloc: Global,
@@ -165,14 +229,8 @@ pub fn open<S: Start>(
     ensures refused { TellsWhy (image_at S.Start) path.now absent site.now result }
     ensures memory { path.now ≡ codes ":memory:" → result ≡ Err OpenFault.Failed }
 {
-    if is_missing(rt, path, absent) {
-        return Err(OpenFault::OtherTables);
-    }
-    match Connection::open_from(rt, path, false, start) {
-        Ok(conn) => match prepare_or_hand_back(alloc, conn, site, absent) {
-            Ok(keep) => Ok(keep),
-            Err(refused) => Err(fault_of(refused)),
-        },
-        Err(_) => Err(OpenFault::Failed),
+    match open_or_hand_back(rt, alloc, path, start, site, absent) {
+        Ok(keep) => Ok(keep),
+        Err(refused) => Err(refused.fault),
     }
 }

@@ -1,5 +1,5 @@
 -- The words of this crate, passed on from one place. Declares nothing.
-pub use Rattle.office_tables.specs.Keeping.{Crashes, LooksUp, Reads, Stands, Visits}
+pub use Rattle.office_tables.specs.Keeping.{Crashes, KeepsText, LooksUp, Reads, Stands, Visits}
 pub use Rattle.office_tables.specs.Numbers.{largest_number, one_more}
 pub use Rattle.office_tables.specs.OrderPlaces.{places_taken, takes_place}
 pub use Rattle.office_tables.specs.PlaceCounting.{place_of_device, text_pair_cmp}

@@ -1,7 +1,10 @@
 -- The lemmas of this crate.
 pub mod Broken
 pub mod Callers
+pub mod Growing
 pub mod Judged
+pub mod Kept
+pub mod Ordered
 pub mod Owners
 pub mod Pairs
 pub mod Reading

@@ -1,5 +1,6 @@
 -- What the contracts of this crate are made of.
 pub mod Caller
+pub mod Growth
 pub mod Ownership
 pub mod Section
 pub mod Site

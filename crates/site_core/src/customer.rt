@@ -1,6 +1,7 @@
 // A customer's section of a site.
 ghost use Rattle.std.specs.Prelude.{◌≡◌, bytes_eq, position};
 ghost use Rattle.std.specs.List.{list_any};
+ghost use Rattle.site_core.specs.Growth as growth;
 ghost use Rattle.site_core.specs.Section.{has_token};
 
 use id_ranges::MacPool;
@@ -61,6 +62,13 @@ impl Seat {
         ensures { result ≡ has_token digest.now self.now }
     {
         self.token == *digest
+    }
+
+    /// Whether the seats have one name and one token.
+    pub(crate) fn is_same_seat(&self, other: &Seat) -> bool
+        ensures { result ≡ growth.is_same_seat self.now other.now }
+    {
+        self.name == other.name && self.token == other.token
     }
 }
 
@@ -143,6 +151,13 @@ impl Customer {
         ensures { result.now ≡ self.now.seats }
     {
         self.seats.as_slice()
+    }
+
+    /// Whether a seat, with its token, is one of the customer's.
+    pub(crate) fn has_seat(&self, seat: &Seat) -> bool
+        ensures { result ≡ list_any (growth.is_same_seat seat.now) self.now.seats }
+    {
+        self.seats.iter().any(|own| seat.is_same_seat(own))
     }
 
     /// Whether some seat has a token with this SHA-256.

@@ -11,11 +11,18 @@
 //! limit is passed. The issuers, seats and pools of a customer are that customer's alone
 //! (`sections_are_the_customers_own`). `Site::who` names the caller whose token has the same
 //! SHA-256, a seat or the manager, and none else, without memory.
+//!
+//! `Site::is_growth` is true exactly where the new site keeps each customer's name, issuers, seats
+//! with their tokens and pools, these in front of any others, and the manager's token (`IsGrowth`),
+//! without memory. Whose a customer, an issuer, a seat and a block of addresses are stays so in a
+//! growth (`owners_grow_with_a_site`). A site is a growth of itself, and a growth of a growth is
+//! one of the first (`growth_is_an_order`).
 #![tactic(auto)]
 
 mod customer;
 mod draft;
 mod fault;
+mod growth;
 mod judge;
 mod ownership;
 mod site;
@@ -24,7 +31,7 @@ mod text;
 
 pub use customer::{Customer, ISSUER_LIMIT, POOL_LIMIT, SEAT_LIMIT, Seat};
 pub use fault::SiteFault;
-pub use ownership::sections_are_the_customers_own;
+pub use ownership::{growth_is_an_order, owners_grow_with_a_site, sections_are_the_customers_own};
 pub use site::{CUSTOMER_LIMIT, Caller, SeatCaller, Site};
 pub use site_text::{SiteText, read_site_text};
 pub use text::{TEXT_LIMIT, read_site};

@@ -1,13 +1,15 @@
 // Sites, and whose a token is.
-ghost use Rattle.std.specs.Prelude.{◌≡◌, ◌<◌, IfSome, is_some, length, bytes_eq, position};
+ghost use Rattle.std.specs.Prelude.{◌≡◌, ◌<◌, ◌↔◌, IfSome, IsTrue, is_some, length, bytes_eq, position};
 ghost use Rattle.std.specs.List.{list_any};
 ghost use Rattle.sha2.specs.Sha256.{sha256};
 ghost use Rattle.site_core.specs.Caller.{IsSeatCaller, IsCaller, HoldsToken, caller_of, seat_caller_with, manager_with, has_seat_with, seat_name_at};
 ghost use Rattle.site_core.specs.Caller.{section_at, section_in};
+ghost use Rattle.site_core.specs.Growth.{IsGrowth};
 ghost use Rattle.site_core.specs.Section.{tokens_of};
 ghost use Rattle.site_core.specs.Site.{IsSite};
 
 use crate::customer::Customer;
+use crate::growth::{are_kept, keeps_manager};
 use std::marker::Model;
 use text_core::{Digest, Name};
 
@@ -80,8 +82,8 @@ impl Site {
         self.manager.is_some()
     }
 
-    /// The SHA-256 of the manager's token, where there is a manager.
-    pub fn manager(&self) -> Option<Digest>
+    /// The SHA-256 of the manager's token.
+    fn manager(&self) -> Option<Digest>
         ensures { result ≡ self.now.manager }
     {
         self.manager
@@ -120,6 +122,15 @@ impl Site {
         ensures { result ≡ seat_name_at self.now caller }
     {
         self.customer(caller).seats()[caller.seat].name()
+    }
+
+    /// Whether the new site grew from this one: each customer keeps the name, the issuers, the seats
+    /// with their tokens, and the pools in front of any others; and the manager, where there is one,
+    /// keeps the token. A site is a growth of itself. It takes no memory.
+    pub fn is_growth(&self, new: &Site) -> bool
+        ensures { IsTrue result ↔ IsGrowth self.now new.now }
+    {
+        are_kept(self.customers(), new.customers()) && keeps_manager(self.manager(), new.manager())
     }
 }
 

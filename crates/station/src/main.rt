@@ -13,7 +13,7 @@ fn main(rt: HostRuntime) -> ExitCode {
 }
 
 /// Does the job of the command line, and answers the status that the program ends with: 0 where it
-/// is done or help was shown, 1 where something failed, 2 where the words are refused.
+/// is done or help or the version was shown, 1 where something failed, 2 where the words are refused.
 fn start(rt: &HostRuntime) -> u8 {
     match job_from_env(rt) {
         Ok(job) => run(

@@ -119,6 +119,7 @@ pub unchanged : {K : Type 0} (k : Ghosts K) (Said : Answer → Type 0) (exchange
 unchanged k Said exchanges step keep reply said unanswered same = record {
   was_open = λ is. is;
   was_honest = λ honest. honest;
+  text = λ _ _ told. told;
   said = said;
   answered = λ _ t stands. (
     t,
@@ -159,6 +160,7 @@ module _ {K A : Type 0} (k : Ghosts K) (site : SiteValue) (caller : Caller) (par
   report_told old new (Ok v) reply read told none = record {
     was_open = read.read_only.was_open;
     was_honest = read.read_only.was_honest;
+    text = read.read_only.text;
     said = tt;
     answered = λ honest t stands.
         let opened = read.stays_open honest in
@@ -173,6 +175,7 @@ module _ {K A : Type 0} (k : Ghosts K) (site : SiteValue) (caller : Caller) (par
   report_told old new (Err unkept) reply read told none = record {
     was_open = read.read_only.was_open;
     was_honest = read.read_only.was_honest;
+    text = read.read_only.text;
     said = tt;
     answered = λ honest t stands. (
       t,

@@ -9,7 +9,7 @@ use Rattle.site_core.specs.Prelude.{Ownership, seat_name_at, section_at, section
 use Rattle.station_api.proofs.Types.{Caller, Seat, Manager, SeatCaller, Refusal, Parsed, Office, Report, SiteReport}
 use Rattle.office_commands.specs.declared.refusal.Refusal.TheVariants.{Unkept}
 use Rattle.site_core.proofs.Owners.{owners_apart, seat_owned, section_owned}
-use Rattle.office_tables.specs.Prelude.{Stands, Tables}
+use Rattle.office_tables.specs.Prelude.{KeepsText, Stands, Tables}
 use Rattle.office_tables.specs.declared.keep.Keep.{Ghosts}
 use Rattle.office_commands.specs.Prelude.{refusal}
 use Rattle.office_laws.specs.Prelude.{IsSound, IsAsAlone, Call, Exchange, IsRun, FulfilsWanted, Passes, calls_of, CanAsk, IsSeat, LeavesAfter}
@@ -133,13 +133,14 @@ pub seats_alone : (site : Ownership) (cs : List Call) → AllByRecursion (IsSeat
 seats_alone site [] all = tt
 seats_alone site (c ∷ cs) all = (all.0.1, seats_alone site cs all.1)
 
--- what was answered in turn, where a crash leaves what a stop may leave and the tables stand, leads from tables to tables
+-- what was answered in turn, where a crash leaves what a stop may leave, with the text of the site, and the tables stand, leads from tables
+-- to tables
 pub led : {K : Type 0} (k : Ghosts K) (site : SiteValue) (old new : K) → IsSite site → (exchanges : List (HttpRequest × Answer)) (t t2 : Tables)
     → Runs (AnswersHttp site) t exchanges t2 → LeavesAfter (exchanges_with_seats site exchanges) (k.may_leave old) t (k.may_leave new) t2
-    → Stands k.is_open k.tables new t2 → IsLed k site old new exchanges t t2
-led k site old new w exchanges t t2 run crash stands = record {
+    → KeepsText k.is_honest k.tells_text old new → Stands k.is_open k.tables new t2 → IsLed k site old new exchanges t t2
+led k site old new w exchanges t t2 run crash text stands = record {
   run = run;
-  answered = record { run = run_of site exchanges t t2 run; crash = crash; stands = stands };
+  answered = record { run = run_of site exchanges t t2 run; crash = crash; text = text; stands = stands };
   apart = owners_apart site w;
   seats = seats_alone (ownership_of site) (calls_of (exchanges_with_seats site exchanges)) (seats_of site w exchanges);
   books = λ first growth sound. kept site w exchanges t t2 (sound_grown first (ownership_of site) t growth sound) run;

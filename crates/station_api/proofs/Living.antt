@@ -1,9 +1,9 @@
 -- The lives of a store, one after another, are one run.
 use Rattle.std.proofs.Common.{◌≡◌, List, [], ◌∷◌, None, append_assoc, map, refl, subst}
 use Rattle.site_core.specs.Prelude.{Ownership, ownership_of, SiteValue}
-use Rattle.site_growth.proofs.Kept.{owners_grown}
+use Rattle.site_core.proofs.Kept.{owners_grown}
 use Rattle.site_core.proofs.Owners.{owners_apart}
-use Rattle.office_tables.specs.Prelude.{Tables}
+use Rattle.office_tables.specs.Prelude.{KeepsText, Tables}
 use Rattle.office_tables.specs.declared.keep.Keep.{Ghosts}
 use Rattle.office_laws.specs.Prelude.{AreSessions, calls_of, IsRun, IsSound, IsStoppedRun, Leaves, Promises, Session}
 use Rattle.office_laws.proofs.Grown.{growth_itself}
@@ -19,6 +19,10 @@ module _ {K : Type 0} (k : Ghosts K) (s : ServedStore k) where
   leads_from : (k.is_open s.opened → k.tables s.opened ≡ s.begun) → k.is_honest s.ended
       → (stood : Tables) × IsLed k s.site s.opened s.ended s.exchanges s.begun stood
   leads_from stands honest = s.leads honest s.begun stands
+
+  -- and what is left tells of the text that was told of
+  pub kept_text : (k.is_open s.opened → k.tables s.opened ≡ s.begun) → KeepsText k.is_honest k.tells_text s.opened s.ended
+  kept_text stands honest text told = (leads_from stands honest).1.answered.text honest text told
 
   -- a store that may leave these tables has a life
   pub stopped_life : (k.is_open s.opened → k.tables s.opened ≡ s.begun) → k.is_honest s.ended → (left : Tables) → k.may_leave s.ended left

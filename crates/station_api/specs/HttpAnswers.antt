@@ -6,7 +6,7 @@ use Rattle.http_replies.specs.Prelude.{Answer, is_unavailable}
 use Rattle.site_core.specs.Prelude.{SiteValue, caller_of, section_at, seat_name_at}
 use Rattle.site_core.specs.declared.site.Caller.{Caller}
 use Rattle.site_core.specs.declared.site.Caller.TheVariants.{Seat, Manager}
-use Rattle.office_tables.specs.Prelude.{Tables, Stands}
+use Rattle.office_tables.specs.Prelude.{KeepsText, Tables, Stands}
 use Rattle.office_tables.specs.declared.keep.Keep.{Ghosts}
 use Rattle.office_commands.specs.declared.refusal.Refusal.{Refusal}
 use Rattle.office_commands.specs.declared.refusal.Refusal.TheVariants.{UnknownToken, Unkept}
@@ -69,12 +69,14 @@ abbrev pub AreSaid : SiteValue → List (HttpRequest × Answer) → Type 0
 AreSaid site exchanges = AllByRecursion (λ exchange. Says site exchange.0 exchange.1) exchanges
 
 -- a keeper's state before an answer and after it: where the disk is honest, the tables that stood
--- lead to those that stand, and a crash leaves what a stop may leave after these exchanges
+-- lead to those that stand, and a crash leaves what a stop may leave after these exchanges, which tells
+-- of the text of the site that was told of before
 pub record DeskSteps {K : Type 0} (k : Ghosts K) (Said : Answer → Type 0) (exchanges : Answer
     → List Exchange) (step : Tables → Answer → Tables
     → Type 0) (old : K) (reply : Answer) (new : K) : Type 0 where
   pub was_open : k.is_open new → k.is_open old
   pub was_honest : k.is_honest new → k.is_honest old
+  pub text : KeepsText k.is_honest k.tells_text old new
   pub said : Said reply
   pub answered : k.is_honest new → (t : Tables) → Stands k.is_open k.tables old t
       → (t2 : Tables) × step t reply t2

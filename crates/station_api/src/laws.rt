@@ -5,7 +5,7 @@ ghost use Rattle.http_replies.specs.Prelude.{Answer, is_unavailable};
 ghost use Rattle.site_core.specs.Prelude.{Ownership, ownership_of, Section, SiteValue, IsSite};
 ghost use Rattle.office_laws.specs.Prelude.{IsRun, IsSound, Promises};
 ghost use Rattle.office_core.specs.Prelude.{AreGrown, BeginGrown, last_owners};
-ghost use Rattle.office_tables.specs.Prelude.{Tables};
+ghost use Rattle.office_tables.specs.Prelude.{KeepsText, Tables};
 ghost use Rattle.station_api.specs.Prelude.{StreamKeepsPromises, AnswersHttp, SiteRun, HasSection, SiteRunsStartAlike, SiteRunsEndAlike};
 ghost use Rattle.station_api.specs.Prelude.{AreLives, exchanges_of_lives, IsLifeOf, Life, ServedStore, sites_of_lives};
 
@@ -41,13 +41,14 @@ pub fn requests_have_answers()
 /// request, killed or crashed, it leaves what a crash may leave of it then: the tables that stood, or
 /// those after one step more, of a request that was answered 503 since the last one that wasn't. Where
 /// the store is open when the program ends, as in order, the tables that stand are left, and no step
-/// is in doubt.
+/// is in doubt. What is left tells of the text of the site that the store told of when it was opened.
 pub fn served_stores_have_lives<K: Keep>()
     ensures stopped { (s : ServedStore K.Keep) (left : Tables)
         → K.is_honest s.ended → K.may_leave s.ended left
         → (life : Life) × IsLifeOf s left life }
     ensures in_order { (s : ServedStore K.Keep) → K.is_open s.ended
         → (life : Life) × IsLifeOf s (K.tables s.ended) life × (life.more ≡ []) }
+    ensures text { (s : ServedStore K.Keep) → KeepsText K.is_honest K.tells_text s.opened s.ended }
 {}
 
 /// The lives of a store, one after another under sites that grow, are one run: that of each life's

@@ -1,6 +1,6 @@
 -- What is said of a store's books by the bytes of the site's file.
-use Rattle.std.proofs.Common.{◌≡◌, ◌⊎◌, ℕ, List, Result, Ok, Err, inl, inr, sym, subst, IfOk, IsErrAnd}
-use Rattle.sha2.specs.Sha256.{sha256}
+use Rattle.std.proofs.Common.{◌≡◌, ℕ, List, Some, Result, Ok, Err, inl, inr, subst, IfOk, IfErr}
+use Rattle.std.specs.Borrow.{Bor}
 use Rattle.sqlite.specs.Recovery.{Image}
 use Rattle.sqlite_disk.specs.declared.Disk.{Ghosts}
 use Rattle.sqlite_store.specs.declared.store.FileStore.{FileStore}
@@ -8,72 +8,71 @@ use Rattle.site_core.specs.Prelude.{SiteValue, TextOfSite}
 use Rattle.text_core.specs.Prelude.{GivesUnless}
 use Rattle.office_keep.specs.Prelude.{Kept}
 use Rattle.office_store.specs.declared.opening.Absent.{Absent}
-use Rattle.station_jobs.specs.Prelude.{IsOfStore, FromOpening, text_of_site}
+use Rattle.station_jobs.specs.Prelude.{IsSiteOfFile, Leaves, LeavesIfRead, site_in, text_of_site}
+use Rattle.station_jobs.specs.declared.stored.LeftFiles.{LeftFiles}
 use Rattle.station_jobs.specs.declared.failure.Failure.{Failure}
 
--- a failure of the store is one of memory or of the store
-of_memory_too : {A : Type 0} (result : Result A Failure) → IsErrAnd result IsOfStore
-    → IsErrAnd result (λ failure. (failure ≡ Failure.NoMemory) ⊎ IsOfStore failure)
-of_memory_too (Ok value) holds = holds
-of_memory_too (Err failure) holds = inr holds
+-- what was said of the text that was read is said of the bytes and of the site that they describe
+said_of_site : (wanted : Result SiteValue Failure) (t : TextOfSite) (bytes : List ℕ) (Says : TextOfSite → Type 0)
+    → GivesUnless Failure.NoMemory (Ok t.site) wanted → t ≡ text_of_site bytes t.site → Says t
+    → IfOk wanted (λ site. Says (text_of_site bytes site))
+said_of_site (Ok site) t bytes Says given is says = elim given [
+  | inl same ↦
+      let found : t.site ≡ site = cc in
+      subst (λ (s : SiteValue). Says (text_of_site bytes s)) found (subst Says is says)
+  | inr none ↦ cc
+]
+said_of_site (Err failure) t bytes Says given is says = tt
 
--- where the site isn't read, memory ran out, or no site is described
-none_described : {A : Type 0} (wanted : Result SiteValue Failure) (failure : Failure) (P : SiteValue → Type 0) (result : Result A Failure)
-    → GivesUnless Failure.NoMemory (Err failure) wanted → result ≡ Err failure
-    → IfOk wanted (λ site. IsErrAnd result (λ f. (f ≡ Failure.NoMemory) ⊎ IsOfStore f) ⊎ P site)
-none_described {A} (Ok site) failure P result given is = elim given [
+-- where none was read, memory ran out or no site is described
+said_of_none : (wanted : Result SiteValue Failure) (failure : Failure) (Says : SiteValue → Type 0)
+    → GivesUnless Failure.NoMemory (Err failure) wanted → (failure ≡ Failure.NoMemory → (site : SiteValue) → Says site)
+    → IfOk wanted Says
+said_of_none (Ok site) failure Says given all = elim given [
   | inl same ↦ cc
   | inr none ↦
       let memory : failure ≡ Failure.NoMemory = cc in
-      inl (subst (λ (r : Result A Failure). IsErrAnd r (λ f. (f ≡ Failure.NoMemory) ⊎ IsOfStore f)) (sym is) (inl memory))
+      all memory site
 ]
-none_described (Err other) failure P result given is = tt
+said_of_none (Err other) failure Says given all = tt
 
 -- the same by the file, whose bytes were read
-pub books_unread : {A B E : Type 0} (items : B → List ℕ) (describes : List ℕ → Result SiteValue Failure)
-    (file : Result B E) (read : B) (failure : Failure) (P : B → SiteValue → Type 0) (result : Result A Failure)
-    → IfOk file (λ b. ◌≡◌ {A = Result B Failure} (Ok read) (Ok b))
-    → GivesUnless Failure.NoMemory (Err failure) (describes (items read)) → result ≡ Err failure
-    → IfOk file (λ b. IfOk (describes (items b)) (λ site. IsErrAnd result (λ f. (f ≡ Failure.NoMemory) ⊎ IsOfStore f) ⊎ P b site))
-books_unread {A} {B} items describes (Ok b) read failure P result was given is =
-    let same : read ≡ b = cc in
-    none_described (describes (items b)) failure (P b) result
-    (subst (λ (r : B). GivesUnless Failure.NoMemory (Err failure) (describes (items r))) same given) is
-books_unread items describes (Err error) read failure P result was given is = tt
+pub books_read : {B E : Type 0} (name : Bor (List ℕ)) (items : B → List ℕ) (file : Result B E) (t : TextOfSite) (Says : TextOfSite → Type 0)
+    → IfOk file (λ b. IsSiteOfFile name (items b) (Ok t)) → Says t
+    → IfOk file (λ b. IfOk (site_in name (items b)) (λ site. Says (text_of_site (items b) site)))
+books_read name items (Ok b) t Says read says =
+    said_of_site (site_in name (items b)) t (items b) Says read.described read.text says
+books_read name items (Err error) t Says read says = tt
 
--- what was said of the text that was read is said of the bytes and the site that they describe
-described : {A D : Type 0} {g : Ghosts D} (wanted : Result SiteValue Failure) (t : TextOfSite) (bytes : List ℕ) (image : Image) (absent : Absent)
-    (Led : SiteValue → Kept (FileStore D g) → Kept (FileStore D g) → Type 0) (result : Result A Failure)
-    → GivesUnless Failure.NoMemory (Ok t.site) wanted → t.text ≡ bytes → t.digest ≡ sha256 t.text
-    → IsErrAnd result IsOfStore ⊎ FromOpening t image absent (Led t.site)
-    → IfOk wanted (λ site. IsErrAnd result (λ f. (f ≡ Failure.NoMemory) ⊎ IsOfStore f)
-    ⊎ FromOpening (text_of_site bytes site) image absent (Led site))
-described (Ok site) t bytes image absent Led result given is_text named books = elim given [
-  | inl same ↦
-      let found : t.site ≡ site = cc in
-      elim books [
-        | inl failed ↦ inl (of_memory_too result failed)
-        | inr led ↦
-            let of_digest = subst (λ (d : List ℕ). FromOpening (record { text = t.text; site = t.site; digest = d }) image absent (Led t.site)) named led in
-            let of_text = subst (λ (b : List ℕ). FromOpening (text_of_site b t.site) image absent (Led t.site)) is_text of_digest in
-            inr (subst (λ (s : SiteValue). FromOpening (text_of_site bytes s) image absent (Led s)) found of_text)
-      ]
+-- of what a job over a store leaves of its files
+pub books_left : {B E A D : Type 0} {g : Ghosts D} (name : Bor (List ℕ)) (items : B → List ℕ) (file : Result B E) (t : TextOfSite)
+    (image : Image) (path : List ℕ) (absent : Absent) (Led : SiteValue → Kept (FileStore D g) → Kept (FileStore D g) → Type 0)
+    (result : Result A Failure) (files : LeftFiles D g)
+    → IfOk file (λ b. IsSiteOfFile name (items b) (Ok t)) → Leaves t image path absent (Led t.site) result files
+    → IfOk file (λ b. IfOk (site_in name (items b)) (λ site. LeavesIfRead (text_of_site (items b) site) image path absent (Led site) result (Some files)))
+books_left name items file t image path absent Led result files =
+    books_read name items file t (λ t. Leaves t image path absent (Led t.site) result files)
+
+pub books_unread : {B E : Type 0} (name : Bor (List ℕ)) (items : B → List ℕ) (file : Result B E) (failure : Failure)
+    (Says : List ℕ → SiteValue → Type 0)
+    → IfOk file (λ b. IsSiteOfFile name (items b) (Err failure))
+    → (failure ≡ Failure.NoMemory → (bytes : List ℕ) (site : SiteValue) → Says bytes site)
+    → IfOk file (λ b. IfOk (site_in name (items b)) (Says (items b)))
+books_unread name items (Ok b) failure Says read all =
+    said_of_none (site_in name (items b)) failure (Says (items b)) read.described (λ memory. all memory (items b))
+books_unread name items (Err error) failure Says read all = tt
+
+-- where a site was read there is no failure in the bytes
+no_failure : (wanted : Result SiteValue Failure) (site : SiteValue) (Says : Failure → Type 0)
+    → GivesUnless Failure.NoMemory (Ok site) wanted → IfErr wanted Says
+no_failure (Ok other) site Says given = tt
+no_failure (Err failure) site Says given = elim given [
+  | inl same ↦ cc
   | inr none ↦ cc
 ]
-described (Err failure) t bytes image absent Led result given is_text named books = tt
 
--- the same by the file, whose bytes were read
-pub books_read : {A B E D : Type 0} {g : Ghosts D} (items : B → List ℕ) (describes : List ℕ → Result SiteValue Failure)
-    (file : Result B E) (read : B) (t : TextOfSite) (image : Image) (absent : Absent)
-    (Led : SiteValue → Kept (FileStore D g) → Kept (FileStore D g) → Type 0) (result : Result A Failure)
-    → IfOk file (λ b. ◌≡◌ {A = Result B Failure} (Ok read) (Ok b))
-    → GivesUnless Failure.NoMemory (Ok t.site) (describes (items read)) → t.text ≡ items read → t.digest ≡ sha256 t.text
-    → IsErrAnd result IsOfStore ⊎ FromOpening t image absent (Led t.site)
-    → IfOk file (λ b. IfOk (describes (items b)) (λ site. IsErrAnd result (λ f. (f ≡ Failure.NoMemory) ⊎ IsOfStore f)
-    ⊎ FromOpening (text_of_site (items b) site) image absent (Led site)))
-books_read {A} {B} items describes (Ok b) read t image absent Led result was given is_text named books =
-    let same : read ≡ b = cc in
-    described (describes (items b)) t (items b) image absent Led result
-    (subst (λ (r : B). GivesUnless Failure.NoMemory (Ok t.site) (describes (items r))) same given)
-    (subst (λ (r : B). t.text ≡ items r) same is_text) named books
-books_read items describes (Err error) read t image absent Led result was given is_text named books = tt
+pub none_read : {B E : Type 0} (name : Bor (List ℕ)) (items : B → List ℕ) (file : Result B E) (t : TextOfSite) (Says : Failure → Type 0)
+    → IfOk file (λ b. IsSiteOfFile name (items b) (Ok t))
+    → IfOk file (λ b. IfErr (site_in name (items b)) Says)
+none_read name items (Ok b) t Says read = no_failure (site_in name (items b)) t.site Says read.described
+none_read name items (Err error) t Says read = tt

@@ -60,7 +60,7 @@ end_failure WriteFault = inr (inl refl)
 end_failure TurnLimit = inr (inr (inl refl))
 end_failure NoMemory = inr (inr (inr refl))
 
-of_stream : (result : Result Unit Failure) (served : Served) → result ≡ result_of_ending served → IfErr result IsOfStream
+pub of_stream : (result : Result Unit Failure) (served : Served) → result ≡ result_of_ending served → IfErr result IsOfStream
 of_stream result served is = subst (λ r. IfErr r IsOfStream) (sym is) (end_failure served)
 
 -- what holds of each failure of this kind
@@ -99,7 +99,7 @@ tells_nothing (Some stream) None = tt
 tells_nothing (Some stream) (Some before) = (stream, refl, (refl, refl))
 
 -- a stream of which nothing was read, for want of memory
-replays_nothing : (site : SiteValue) (t : Tables) (left written : Option (List ℕ)) → Replays site t left left written written (Err Failure.NoMemory)
+pub replays_nothing : (site : SiteValue) (t : Tables) (left written : Option (List ℕ)) → Replays site t left left written written (Err Failure.NoMemory)
 replays_nothing site t left written =
     (NoMemory, refl, [], tells_nothing left written, tt, t, refl, (λ sound. kept_none site t sound))
 

@@ -22,7 +22,7 @@ pub leads_itself : {K : Type 0} (k : Ghosts K) (site : SiteValue) → IsSite sit
 leads_itself k site w keep = (
   [],
   tt,
-  (λ honest t stands. (t, led k site keep keep w [] t t refl (leaves_none (k.may_leave keep) t) stands)),
+  (λ honest t stands. (t, led k site keep keep w [] t t refl (leaves_none (k.may_leave keep) t) (λ _ _ told. told) stands)),
 )
 
 -- for the same site under another name
@@ -52,6 +52,7 @@ leads_both k site old middle new w was_honest first second = (
             (sym (flat_map-append (exchange_in site) first.0 second.0))
             (leaves_joined (exchanges_with_seats site first.0) (exchanges_with_seats site second.0) (k.may_leave old)
             (k.may_leave middle) (k.may_leave new) t before.0 after.0 before.1.answered.crash after.1.answered.crash))
+            (λ honest text told. after.1.answered.text honest text (before.1.answered.text (was_honest honest) text told))
             after.1.answered.stands,
       )),
 )

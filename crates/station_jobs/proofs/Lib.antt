@@ -1,7 +1,11 @@
 -- The lemmas of this crate.
 pub mod Books
 pub mod Ending
+pub mod TwoEnds
 pub mod FileTexts
+pub mod Fronts
 pub mod Leading
+pub mod LeftFiles
 pub mod NumberTexts
 pub mod Options
+pub mod Outcomes

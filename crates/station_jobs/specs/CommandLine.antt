@@ -1,5 +1,5 @@
 -- The command line, and the job of its words.
-use Rattle.std.specs.Prelude.{◌≡◌, ◌≢◌, ℕ, List, [], ◌∷◌, codes, map, Bool, true, false, ◌&&◌, Option, Some, None, is_none}
+use Rattle.std.specs.Prelude.{◌≡◌, ◌≢◌, ◌⊎◌, ℕ, List, [], ◌∷◌, ◌++◌, codes, map, Bool, true, false, ◌&&◌, Option, Some, None, is_none}
 use Rattle.std.specs.Prelude.{option_and_then, option_map, string_bytes, bytes_eq, if◌then◌else◌}
 use Rattle.std.specs.Borrow.{Bor}
 use Rattle.clap.specs.Words.{App, IsAmong, Kinds, Row, Rule, Text, fault_of, first_of, new_app, new_rule, subcommand_of, with_rule, with_subcommand}
@@ -7,7 +7,7 @@ use Rattle.std.specs.Str.Parse.{digits_value, without_leading_plus}
 use Rattle.clap.specs.ValueTests.{is_unsigned_in}
 use Rattle.clap.specs.declared.builder.value_parser.ValueParser.TheVariants.{Unsigned}
 use Rattle.clap.specs.declared.error.kind.ErrorKind.{ErrorKind}
-use Rattle.clap.specs.declared.error.kind.ErrorKind.TheVariants.{DisplayHelp, OutOfMemory}
+use Rattle.clap.specs.declared.error.kind.ErrorKind.TheVariants.{DisplayHelp, DisplayVersion, OutOfMemory}
 use Rattle.clap.specs.declared.builder.action.ArgAction.TheVariants.{SetTrue}
 use Rattle.std.specs.Option.{option_map_or}
 use Rattle.station_jobs.specs.declared.job.Job.{Job}
@@ -74,9 +74,10 @@ map_rule = record (new_rule (codes "map")) { value_names = 1; required = true }
 abbrev pub check_map_app : App
 check_map_app = with_rule (new_app (codes "check-map")) map_rule
 
--- `station`, which asks for a subcommand
+-- `station`, which has a version and asks for a subcommand
 abbrev pub top_app : App
-top_app = let app = new_app (codes "station") in record app { top = record app.top { subcommand_required = true } }
+top_app =
+    let app = new_app (codes "station") in record app { top = record app.top { has_version = true; subcommand_required = true } }
 
 -- `station serve --site F --db F [--existing] --port N --connections K`, `station replay --site F [--db F [--existing]]` and
 -- `station check-map F`
@@ -148,14 +149,25 @@ RefusesWith text (Help given) = ⊥
 RefusesWith text (Refused given) = string_bytes given ≡ text
 RefusesWith text NoMemory = Unit {0}
 
--- an error of this kind gives the fault, which may also be want of memory
-abbrev pub IsFaultOfKind : ErrorKind → WordsFault → Type 0
-IsFaultOfKind kind (Help text) = kind ≡ DisplayHelp
-IsFaultOfKind kind (Refused text) = (kind ≢ DisplayHelp) × (kind ≢ OutOfMemory)
-IsFaultOfKind kind NoMemory = Unit {0}
+-- the line that `--version` prints, by the number of the version
+abbrev pub version_line : Text → Text
+version_line number = codes "station " ++ number ++ 10 ∷ []
 
--- help is among the kinds, or a refusal comes where help is not the only one
-abbrev pub CanGive : Kinds → WordsFault → Type 0
-CanGive kinds (Help text) = IsAmong DisplayHelp kinds
-CanGive kinds (Refused text) = kinds ≢ DisplayHelp ∷ []
-CanGive kinds NoMemory = Unit {0}
+-- the fault is the line of the version with this number, or want of memory
+abbrev pub ShowsVersion : Text → WordsFault → Type 0
+ShowsVersion number (Help text) = string_bytes text ≡ version_line number
+ShowsVersion number (Refused text) = ⊥
+ShowsVersion number NoMemory = Unit {0}
+
+-- an error of this kind gives the fault, which may also be want of memory: the version's line where it is asked for, with this number
+abbrev pub IsFaultOfKind : Text → ErrorKind → WordsFault → Type 0
+IsFaultOfKind number kind (Help text) = (kind ≡ DisplayHelp) ⊎ ((kind ≡ DisplayVersion) × (string_bytes text ≡ version_line number))
+IsFaultOfKind number kind (Refused text) = (kind ≢ DisplayHelp) × (kind ≢ DisplayVersion) × (kind ≢ OutOfMemory)
+IsFaultOfKind number kind NoMemory = Unit {0}
+
+-- help is among the kinds, or the version is and this is its line with this number, or a refusal comes where neither is the only one
+abbrev pub CanGive : Text → Kinds → WordsFault → Type 0
+CanGive number kinds (Help text) =
+    IsAmong DisplayHelp kinds ⊎ (IsAmong DisplayVersion kinds × (string_bytes text ≡ version_line number))
+CanGive number kinds (Refused text) = (kinds ≢ DisplayHelp ∷ []) × (kinds ≢ DisplayVersion ∷ [])
+CanGive number kinds NoMemory = Unit {0}

@@ -1,8 +1,11 @@
 -- What the contracts of this crate are made of.
+pub mod Accepting
 pub mod CommandLine
+pub mod Moved
 pub mod FileText
 pub mod Listening
 pub mod MapFile
+pub mod Outcomes
 pub mod Patience
 pub mod Replaying
 pub mod SiteFile

@@ -1,5 +1,5 @@
 -- How long a connection may wait for its client.
-use Rattle.std.specs.Prelude.{ℕ, ◌≢◌, ◌-◌, ◌≤◌, ◌⊎◌, IsTrue}
+use Rattle.std.specs.Prelude.{ℕ, ◌≡◌, ◌≢◌, ◌-◌, ◌*◌, ◌≤◌, ◌⊎◌, IsTrue}
 use Rattle.std.specs.Duration.{as_nanos}
 use Rattle.std.specs.Time.{instant_nanos}
 use Rattle.std.specs.declared.time.Instant.{Instant}
@@ -32,6 +32,11 @@ IsTooLong bounds wait now RestOfRequest = as_nanos bounds.request ≤ passed wai
 abbrev pub IsOutOfTime : Bounds → Wait → Instant → Type 0
 IsOutOfTime bounds wait now = IsTrue wait.another_waits × (as_nanos bounds.connection ≤ passed wait.opened now)
 
+-- the turn of a connection whose next request was read already is over: another one waits, and has
+-- waited for its turn, or the connection has lasted too long for it
+abbrev pub IsTurnOver : Bounds → Wait → Instant → Type 0
+IsTurnOver bounds wait now = (IsTrue wait.another_waits × (as_nanos bounds.turn ≤ passed wait.another_since now)) ⊎ IsOutOfTime bounds wait now
+
 -- the client is waited for no longer
 abbrev pub IsOver : Bounds → Wait → Instant → Type 0
 IsOver bounds wait now =
@@ -47,3 +52,14 @@ abbrev pub IsNextRead : Bounds → Wait → Instant → NextRead → Type 0
 IsNextRead bounds wait now NextRead.Wait = ¬ IsOver bounds wait now
 IsNextRead bounds wait now Look = IsOver bounds wait now × MayLook bounds wait now
 IsNextRead bounds wait now End = IsOver bounds wait now × ¬ MayLook bounds wait now
+
+-- the bounds of the program, in nanoseconds: waits of 50 milliseconds, a turn of 400, two seconds for a
+-- first byte where another waits, ten for each request and each reply, and a minute in all
+pub record AreOfProgram (bounds : Bounds) : Type 0 where
+  pub slice : as_nanos bounds.slice ≡ 50 * 1_000_000
+  pub turn : as_nanos bounds.turn ≡ 400 * 1_000_000
+  pub first_byte : as_nanos bounds.first_byte ≡ 2 * 1_000_000_000
+  pub silence : as_nanos bounds.silence ≡ 10 * 1_000_000_000
+  pub request : as_nanos bounds.request ≡ 10 * 1_000_000_000
+  pub reply : as_nanos bounds.reply ≡ 10 * 1_000_000_000
+  pub connection : as_nanos bounds.connection ≡ 60 * 1_000_000_000

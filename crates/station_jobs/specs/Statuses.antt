@@ -9,14 +9,14 @@ use Rattle.station_jobs.specs.declared.failure.Failure.TheVariants.{ReadFailed, 
 use Rattle.station_jobs.specs.declared.job.WordsFault.{WordsFault}
 use Rattle.station_jobs.specs.declared.job.WordsFault.TheVariants.{Help, Refused}
 
--- help ends with 0, or 1 where it cannot be written; a refusal with 2; want of memory with 1
+-- help or the version ends with 0, or 1 where it cannot be written; a refusal with 2; want of memory with 1
 abbrev pub HasStatus : WordsFault → ℕ → Type 0
 HasStatus (Help text) status = status ≤ 1
 HasStatus (Refused text) status = status ≡ 2
 HasStatus WordsFault.NoMemory status = status ≡ 1
 
--- what is printed for a fault, on the output and on standard error: help on the output alone where it
--- is printed, and for any other fault nothing there
+-- what is printed for a fault, on the output and on standard error: help or the version on the output
+-- alone where it is printed, and for any other fault nothing there
 abbrev pub IsReported : WordsFault → ℕ → Option (List ℕ) → Option (List ℕ) → Option (List ℕ) → Option (List ℕ) → Type 0
 IsReported (Help text) status output_old output_new err_old err_new =
     status ≡ 0 → Appends output_old output_new (string_bytes text) × Keeps err_old err_new

@@ -1,28 +1,41 @@
 //! The connections that come to a listener, one of which may be accepted while another is served.
-ghost use Rattle.std.specs.Prelude.{◌≡◌, ◌⊎◌, ◌↔◌, IsTrue, IfErr};
-ghost use Rattle.std.specs.IoError.{error_kind};
+ghost use Rattle.std.specs.Prelude.{◌≡◌, ◌+◌, ◌<◌, ◌^◌, IfErr, OnOk};
 
+use crate::accepting::{NextAccept, next_accept, pause};
 use crate::failure::Failure;
 use std::cell::Cell;
-use std::io;
-use std::io::ErrorKind;
 use std::net::OpenListener;
+use std::time::{Clock, Instant};
 
 /// A listener, and the connection that it gave while another was served. While one is served the
 /// listener doesn't block.
 #[derive(Drop)]
-pub struct Arrivals<'a, L, S: Drop> {
+pub struct Arrivals<'a, R, L, S: Drop> {
+    clock: &'a R,
     listener: &'a L,
     next: Cell<Option<S>>,
+    /// How many connections were given to be served.
+    given: u32,
 }
 
-impl<'a, S: Drop, L: OpenListener<Stream = S>> Arrivals<'a, L, S> {
-    /// The connections that will come to a listener.
-    pub fn of(listener: &'a L) -> Arrivals<'a, L, S> {
+impl<'a, R: Clock, S: Drop, L: OpenListener<Stream = S>> Arrivals<'a, R, L, S> {
+    /// The connections that will come to a listener, by this clock.
+    pub fn of(clock: &'a R, listener: &'a L) -> Arrivals<'a, R, L, S>
+        ensures { result.given ≡ 0 }
+    {
         Arrivals {
+            clock,
             listener,
             next: Cell::new(None),
+            given: 0,
         }
+    }
+
+    /// How many connections were given to be served.
+    pub fn given(&self) -> u32
+        ensures { result ≡ self.now.given }
+    {
+        self.given
     }
 
     /// Whether a connection waits. It is accepted then, and is the next one.
@@ -41,13 +54,17 @@ impl<'a, S: Drop, L: OpenListener<Stream = S>> Arrivals<'a, L, S> {
     /// # Errors
     ///
     /// `AcceptFailed` where waiting for it fails.
-    pub fn next(&self) -> Result<S, Failure<'static>>
-        ensures { IfErr result (λ failure. failure ≡ Failure.AcceptFailed) }
+    pub fn next(&mut self) -> Result<S, Failure<'static>>
+        requires { self.old.given + 1 < 2 ^ 32 }
+        ensures counted { OnOk result (self.new.given ≡ self.old.given + 1) }
+        ensures failed { IfErr result (λ failure. failure ≡ Failure.AcceptFailed) }
     {
-        match self.next.replace(None) {
-            Some(stream) => Ok(stream),
-            None => wait_for_one(self.listener),
-        }
+        let stream = match self.next.replace(None) {
+            Some(stream) => stream,
+            None => wait_for_one(self.clock, self.listener)?,
+        };
+        self.given += 1;
+        Ok(stream)
     }
 }
 
@@ -61,41 +78,56 @@ fn accepted_at_once<S: Drop, L: OpenListener<Stream = S>>(listener: &L) -> Optio
 }
 
 /// The next connection of a listener, which blocks until it comes and not behind it.
-fn wait_for_one<S: Drop, L: OpenListener<Stream = S>>(listener: &L) -> Result<S, Failure<'static>>
+fn wait_for_one<R: Clock, S: Drop, L: OpenListener<Stream = S>>(
+    clock: &R,
+    listener: &L,
+) -> Result<S, Failure<'static>>
     ensures { IfErr result (λ failure. failure ≡ Failure.AcceptFailed) }
 {
     if listener.set_nonblocking(false).is_err() {
         return Err(Failure::AcceptFailed);
     }
-    let stream = next_connection(listener)?;
+    let stream = next_connection(clock, listener)?;
     if listener.set_nonblocking(true).is_err() {
         return Err(Failure::AcceptFailed);
     }
     Ok(stream)
 }
 
-/// The next connection of a listener. One that is gone before it is accepted is passed over.
-fn next_connection<S: Drop, L: OpenListener<Stream = S>>(
+/// The moment that a clock tells.
+fn moment<R: Clock>(clock: &R) -> Result<Instant, Failure<'static>>
+    ensures { IfErr result (λ failure. failure ≡ Failure.AcceptFailed) }
+{
+    match Instant::now(clock) {
+        Ok(now) => Ok(now),
+        Err(_) => Err(Failure::AcceptFailed),
+    }
+}
+
+/// The next connection of a listener. One that is gone before it is accepted is passed over, and
+/// errors that pass are, with a pause behind each.
+fn next_connection<R: Clock, S: Drop, L: OpenListener<Stream = S>>(
+    clock: &R,
     listener: &L,
 ) -> Result<S, Failure<'static>>
     ensures { IfErr result (λ failure. failure ≡ Failure.AcceptFailed) }
 {
-    for stream in listener.incoming() {
-        match stream {
-            Ok(stream) => return Ok(stream),
-            Err(error) if is_passed_over(&error) => {}
-            Err(_) => return Err(Failure::AcceptFailed),
+    let mut failing_since = None;
+    for _try in 0..u64::MAX {
+        let error = match listener.accept() {
+            Ok((stream, _)) => return Ok(stream),
+            Err(error) => error,
+        };
+        let now = moment(clock)?;
+        let since = failing_since.unwrap_or(now);
+        match next_accept(&error, since, now) {
+            NextAccept::AtOnce => failing_since = None,
+            NextAccept::AfterPause => {
+                failing_since = Some(since);
+                clock.sleep(pause());
+            }
+            NextAccept::Never => return Err(Failure::AcceptFailed),
         }
     }
     Err(Failure::AcceptFailed)
-}
-
-/// Whether the next connection is waited for after this error: one was gone before it was accepted,
-/// or the call was interrupted.
-fn is_passed_over(error: &io::Error) -> bool
-    ensures { IsTrue result ↔ ((error_kind error.now ≡ ErrorKind.ConnectionAborted)
-        ⊎ (error_kind error.now ≡ ErrorKind.Interrupted)) }
-{
-    let kind = error.kind();
-    kind == ErrorKind::ConnectionAborted || kind == ErrorKind::Interrupted
 }

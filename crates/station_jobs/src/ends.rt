@@ -1,26 +1,27 @@
 //! The two ends of a connection: what its client sends, and what it is sent. They fail once the client
 //! has taken too long.
-ghost use Rattle.std.specs.Prelude.{◌≡◌, ◌⊎◌, ◌≤◌, length, IfSome, MatchResult, None};
-ghost use Rattle.http_frames.specs.Prelude.{MovesAtMost};
+ghost use Rattle.std.specs.Prelude.{◌≡◌, ◌⊎◌, ◌↔◌, ◌≤◌, ℕ, length, List, Option, IfSome, IsTrue, MatchResult, None};
+ghost use Rattle.std.specs.IoError.{error_kind};
+ghost use Rattle.http_frames.specs.Prelude.{MovesAtMost, ReadsBytes, WritesBytes};
+ghost use Rattle.station_jobs.specs.Prelude.{moved_or_failed};
 
 use crate::arrivals::Arrivals;
-use crate::patience::{Awaited, Bounds, NextRead, Wait, is_untaken, next_read};
+use crate::patience::{Awaited, Bounds, NextRead, Wait, is_turn_over, is_untaken, next_read};
 use http_frames::buffer::ROOM;
 use station_api::{Drain, Source, Transfer};
-use std::cell::{Cell, RefCell};
+use std::cell::Cell;
 use std::io;
 use std::io::{ErrorKind, Read, Write};
 use std::net::{OpenListener, OpenStream};
 use std::time::{Clock, Duration, Instant};
 
-/// A connection that is served, while others may come.
+/// A connection that is served, while others may come: what its two ends share.
 #[derive(Drop)]
 pub struct Line<'a, R, L, S: Drop> {
     clock: &'a R,
-    arrivals: &'a Arrivals<'a, L, S>,
+    arrivals: &'a Arrivals<'a, R, L, S>,
     bounds: Bounds,
     opened: Instant,
-    stream: RefCell<S>,
     /// How long the client was waited for to take what it is sent, since it was last read.
     untaken: Cell<Duration>,
     /// Since when another connection was seen to wait, which it then does to the end.
@@ -28,7 +29,11 @@ pub struct Line<'a, R, L, S: Drop> {
 }
 
 /// Whether a call that failed so may be made again: nothing came or was taken in its time.
-fn is_for_later(error: &io::Error) -> bool {
+fn is_for_later(error: &io::Error) -> bool
+    ensures { IsTrue result ↔ ((error_kind error.now ≡ ErrorKind.WouldBlock)
+        ⊎ (error_kind error.now ≡ ErrorKind.TimedOut)
+        ⊎ (error_kind error.now ≡ ErrorKind.Interrupted)) }
+{
     let kind = error.kind();
     kind == ErrorKind::WouldBlock || kind == ErrorKind::TimedOut || kind == ErrorKind::Interrupted
 }
@@ -49,16 +54,14 @@ impl<'a, R: Clock, S: Drop, L: OpenListener<Stream = S>> Line<'a, R, L, S> {
     /// A connection that begins to be served now, where the clock tells the time.
     pub fn begin(
         clock: &'a R,
-        arrivals: &'a Arrivals<'a, L, S>,
+        arrivals: &'a Arrivals<'a, R, L, S>,
         bounds: Bounds,
-        stream: S,
     ) -> io::Result<Line<'a, R, L, S>> {
         Ok(Line {
             clock,
             arrivals,
             bounds,
             opened: Instant::now(clock)?,
-            stream: RefCell::new(stream),
             untaken: Cell::new(Duration::ZERO),
             another_since: Cell::new(None),
         })
@@ -80,11 +83,15 @@ impl<'a, R: Clock, S: Drop, L: OpenListener<Stream = S>> Line<'a, R, L, S> {
         }
     }
 
-    /// What is done for the client next, if the clock tells the time.
-    fn next_read(&self, awaited: Awaited, since: Instant) -> Option<NextRead> {
-        let another_waits = self.arrivals.one_waits();
-        let now = self.now()?;
-        let wait = Wait {
+    /// A wait of the client since a moment, now that another connection waits or none does.
+    fn client_wait(
+        &self,
+        awaited: Awaited,
+        since: Instant,
+        another_waits: bool,
+        now: Instant,
+    ) -> Wait {
+        Wait {
             awaited,
             since,
             opened: self.opened,
@@ -94,8 +101,24 @@ impl<'a, R: Clock, S: Drop, L: OpenListener<Stream = S>> Line<'a, R, L, S> {
             } else {
                 now
             },
-        };
+        }
+    }
+
+    /// What is done for the client next, if the clock tells the time.
+    fn next_read(&self, awaited: Awaited, since: Instant) -> Option<NextRead> {
+        let another_waits = self.arrivals.one_waits();
+        let now = self.now()?;
+        let wait = self.client_wait(awaited, since, another_waits, now);
         Some(next_read(&self.bounds, &wait, now))
+    }
+
+    /// Whether the client's next request, of which something was read already, is served, if the clock
+    /// tells the time.
+    fn goes_on(&self) -> Option<bool> {
+        let another_waits = self.arrivals.one_waits();
+        let now = self.now()?;
+        let wait = self.client_wait(Awaited::NextRequest, now, another_waits, now);
+        Some(!is_turn_over(&self.bounds, &wait, now))
     }
 
     /// Counts a wait of the client for what it is sent, which began at a moment.
@@ -106,105 +129,24 @@ impl<'a, R: Clock, S: Drop, L: OpenListener<Stream = S>> Line<'a, R, L, S> {
     }
 }
 
-impl<'a, R: Clock, S: Read + OpenStream + Drop, L: OpenListener<Stream = S>> Line<'a, R, L, S> {
-    /// Reads once, for as long as a wait is.
-    fn read_once(&self, room: &mut [u8]) -> Transfer
-        ensures { MovesAtMost result (length room.new) }
-    {
-        match self.stream.try_borrow_mut() {
-            Ok(mut stream) => transfer_of(stream.read(room)),
-            Err(_) => Transfer::Failed,
-        }
-    }
-
-    /// Reads what is there already, and waits for nothing.
-    fn read_at_once(&self, room: &mut [u8]) -> Transfer
-        ensures { MovesAtMost result (length room.new) }
-    {
-        let Ok(mut stream) = self.stream.try_borrow_mut() else {
-            return Transfer::Failed;
-        };
-        if stream.set_nonblocking(true).is_err() {
-            return Transfer::Failed;
-        }
-        let done = transfer_of(stream.read(room));
-        match stream.set_nonblocking(false) {
-            Ok(()) => done,
-            Err(_) => Transfer::Failed,
-        }
-    }
-
-    /// Reads once, as is done for the client next. `Interrupted` where it is waited for on.
-    fn read_as(&self, next: NextRead, room: &mut [u8]) -> Transfer
-        ensures { MovesAtMost result (length room.new) }
-    {
-        match next {
-            NextRead::Wait => self.read_once(room),
-            NextRead::Look => match self.read_at_once(room) {
-                Transfer::Interrupted => Transfer::Failed,
-                done => done,
-            },
-            NextRead::End => Transfer::Failed,
-        }
-    }
-
-    /// Reads what comes while the client is waited for: how many bytes, 0 at the stream's end. `None`
-    /// where its time is over or the stream fails.
-    fn read_in_time(&self, awaited: Awaited, since: Instant, room: &mut [u8]) -> Option<usize>
-        ensures { IfSome result (λ count. count ≤ length room.new) }
-    {
-        for _wait in 0..u64::MAX {
-            let next = self.next_read(awaited, since)?;
-            match self.read_as(next, room) {
-                Transfer::Moved(count) => return Some(count),
-                Transfer::Interrupted => {}
-                Transfer::Failed => return None,
-            }
-        }
-        None
-    }
+/// Reads once, for as long as a wait is.
+fn read_once<I: Read>(stream: &mut I, room: &mut [u8]) -> Transfer
+    ensures most { MovesAtMost result (length room.new) }
+    ensures bytes { ReadsBytes (I.remaining stream.old) (I.remaining stream.new) room.new result }
+{
+    transfer_of(stream.read(room))
 }
 
-impl<'a, R: Clock, S: Write + Drop, L: OpenListener<Stream = S>> Line<'a, R, L, S> {
-    /// Writes once, for as long as a wait is.
-    fn write_once(&self, bytes: &[u8]) -> Transfer
-        ensures { MovesAtMost result (length bytes.now) }
-    {
-        match self.stream.try_borrow_mut() {
-            Ok(mut stream) => transfer_of(stream.write(bytes)),
-            Err(_) => Transfer::Failed,
-        }
-    }
-
-    /// Writes what the client takes: how many bytes. `None` where it has taken too long for a reply or
-    /// the stream fails.
-    fn write_in_time(&self, bytes: &[u8]) -> Option<usize>
-        ensures { IfSome result (λ count. count ≤ length bytes.now) }
-    {
-        for _wait in 0..u64::MAX {
-            if is_untaken(&self.bounds, self.untaken.get()) {
-                return None;
-            }
-            let began = self.now()?;
-            let done = self.write_once(bytes);
-            self.count_wait(began)?;
-            match done {
-                Transfer::Moved(count) => return Some(count),
-                Transfer::Interrupted => {}
-                Transfer::Failed => return None,
-            }
-        }
-        None
-    }
-}
-
-/// What the client of a connection sends. It tells no bytes, since no contract can say what a socket
-/// gives.
+/// What the client of a connection sends. It tells the bytes that its stream tells: those of a socket
+/// no contract can say.
 #[derive(Drop)]
-pub struct ClientReader<'a, R, L, S: Drop> {
+pub struct ClientReader<'a, R, L, S: Drop, I: Drop> {
     line: &'a Line<'a, R, L, S>,
+    stream: I,
     /// Whether nothing was read yet.
     is_new: bool,
+    /// Whether the stream couldn't be made to wait again: nothing more is read then.
+    is_stuck: bool,
     /// How many bytes of requests that weren't answered were held behind the last read.
     held: usize,
     /// When the wait for the request under way began, or its first byte was read.
@@ -214,25 +156,46 @@ pub struct ClientReader<'a, R, L, S: Drop> {
     ghost bounded: { failures ≤ calls },
 }
 
-impl<'a, R: Clock, S: Read + OpenStream + Drop, L: OpenListener<Stream = S>> ClientReader<
+impl<'a, R: Clock, S: Drop, L: OpenListener<Stream = S>, I: Read + OpenStream + Drop> ClientReader<
     'a,
     R,
     L,
     S,
+    I,
 > {
     /// What a client sends on a connection of which nothing was read.
-    pub fn new(line: &'a Line<'a, R, L, S>) -> ClientReader<'a, R, L, S>
+    pub fn new(line: &'a Line<'a, R, L, S>, stream: I) -> ClientReader<'a, R, L, S, I>
+        ensures stream { result.stream ≡ stream }
         ensures calls { result.calls ≡ 0 }
         ensures failures { result.failures ≡ 0 }
     {
         ClientReader {
             line,
+            stream,
             is_new: true,
+            is_stuck: false,
             held: 0,
             begun: line.opened,
             calls: 0,
             failures: 0,
         }
+    }
+
+    /// The stream, behind what was read of it.
+    pub fn into_stream(self) -> I
+        ensures { result ≡ self.entry.stream }
+    {
+        let ClientReader {
+            line: _,
+            stream,
+            is_new: _,
+            is_stuck: _,
+            held: _,
+            begun: _,
+            calls: _,
+            failures: _,
+        } = self;
+        stream
     }
 
     /// What is waited for where so many bytes of a request are held.
@@ -246,33 +209,98 @@ impl<'a, R: Clock, S: Read + OpenStream + Drop, L: OpenListener<Stream = S>> Cli
         }
     }
 
+    /// Reads what is there already, and waits for nothing.
+    fn read_at_once(&mut self, room: &mut [u8]) -> Transfer
+        ensures most { MovesAtMost result (length room.new) }
+        ensures bytes { ReadsBytes (I.remaining self.old.stream) (I.remaining self.new.stream)
+            room.new result }
+        ensures calls { self.new.calls ≡ self.old.calls }
+        ensures failures { self.new.failures ≡ self.old.failures }
+    {
+        if self.stream.set_nonblocking(true).is_err() {
+            return Transfer::Failed;
+        }
+        let done = read_once(&mut self.stream, room);
+        self.is_stuck = self.stream.set_nonblocking(false).is_err();
+        done
+    }
+
+    /// Reads once, as is done for the client next. `Interrupted` where it is waited for on.
+    fn read_as(&mut self, next: NextRead, room: &mut [u8]) -> Transfer
+        ensures most { MovesAtMost result (length room.new) }
+        ensures bytes { ReadsBytes (I.remaining self.old.stream) (I.remaining self.new.stream)
+            room.new result }
+        ensures calls { self.new.calls ≡ self.old.calls }
+        ensures failures { self.new.failures ≡ self.old.failures }
+    {
+        match next {
+            NextRead::Wait => read_once(&mut self.stream, room),
+            NextRead::Look => match self.read_at_once(room) {
+                Transfer::Interrupted => Transfer::Failed,
+                done => done,
+            },
+            NextRead::End => Transfer::Failed,
+        }
+    }
+
+    /// Reads what comes while the client is waited for: how many bytes, 0 at the stream's end. `None`
+    /// where its time is over or the stream fails.
+    fn read_in_time(&mut self, awaited: Awaited, room: &mut [u8]) -> Option<usize>
+        ensures count { IfSome result (λ count. count ≤ length room.new) }
+        ensures bytes { ReadsBytes (I.remaining self.old.stream) (I.remaining self.new.stream)
+            room.new (moved_or_failed result) }
+        ensures calls { self.new.calls ≡ self.old.calls }
+        ensures failures { self.new.failures ≡ self.old.failures }
+    {
+        for _wait in 0..u64::MAX {
+            let next = self.line.next_read(awaited, self.begun)?;
+            match self.read_as(next, room) {
+                Transfer::Moved(count) => return Some(count),
+                Transfer::Interrupted => {}
+                Transfer::Failed => return None,
+            }
+        }
+        None
+    }
+
     /// Reads what comes in time. The buffer of a stream gives all its room where it holds nothing of a
     /// request, and as much less as it holds. Where it holds less than it did, a request was answered
     /// since, and the next one is waited for from now on.
     fn read_request_bytes(&mut self, room: &mut [u8]) -> Option<usize>
         ensures count { IfSome result (λ count. count ≤ length room.new) }
+        ensures bytes { ReadsBytes (I.remaining self.old.stream) (I.remaining self.new.stream)
+            room.new (moved_or_failed result) }
         ensures calls { self.new.calls ≡ self.old.calls }
         ensures failures { self.new.failures ≡ self.old.failures }
     {
+        let now = self.line.now()?;
         let held = ROOM.saturating_sub(room.len());
         if held == 0 || held != self.held {
-            self.begun = self.line.now()?;
+            self.begun = now;
         }
-        let count = self
-            .line
-            .read_in_time(self.awaited(held), self.begun, room)?;
+        let count = self.read_in_time(self.awaited(held), room)?;
+        self.note_read(held, count);
+        Some(count)
+    }
+
+    /// Notes that so many bytes were read where so many were held. A request whose first byte came is
+    /// waited for from its coming on, if the clock tells it.
+    fn note_read(&mut self, held: usize, count: usize)
+        ensures stream { self.new.stream ≡ self.old.stream }
+        ensures calls { self.new.calls ≡ self.old.calls }
+        ensures failures { self.new.failures ≡ self.old.failures }
+    {
         if held == 0 {
-            self.begun = self.line.now()?;
+            self.begun = self.line.now().unwrap_or(self.begun);
         }
         self.is_new = false;
         self.held = held.saturating_add(count);
-        Some(count)
     }
 }
 
-impl<'a, R: Clock, S: Read + OpenStream + Drop, L: OpenListener<Stream = S>> Source
-    for ClientReader<'a, R, L, S> {
-    ghost left = { λ s. None };
+impl<'a, R: Clock, S: Drop, L: OpenListener<Stream = S>, I: Read + OpenStream + Drop> Source
+    for ClientReader<'a, R, L, S, I> {
+    ghost left = { λ s. I.remaining s.stream };
 
     ghost calls = { λ s. s.calls };
 
@@ -281,7 +309,12 @@ impl<'a, R: Clock, S: Read + OpenStream + Drop, L: OpenListener<Stream = S>> Sou
     fn read(&mut self, room: &mut [u8]) -> Transfer {
         self.calls += 1;
         self.line.untaken.set(Duration::ZERO);
-        match self.read_request_bytes(room) {
+        let read = if self.is_stuck {
+            None
+        } else {
+            self.read_request_bytes(room)
+        };
+        match read {
             Some(count) => Transfer::Moved(count),
             None => {
                 self.failures += 1;
@@ -291,33 +324,91 @@ impl<'a, R: Clock, S: Read + OpenStream + Drop, L: OpenListener<Stream = S>> Sou
     }
 }
 
-/// What the client of a connection is sent. It tells no bytes, since no contract can say what a socket
-/// takes.
+/// What the client of a connection is sent. It tells the bytes that its stream tells: what a socket
+/// takes no contract can say.
 #[derive(Drop)]
-pub struct ClientWriter<'a, R, L, S: Drop> {
+pub struct ClientWriter<'a, R, L, S: Drop, O: Drop> {
     line: &'a Line<'a, R, L, S>,
+    stream: O,
     calls: u64,
     failures: u64,
     ghost bounded: { failures ≤ calls },
 }
 
-impl<'a, R: Clock, S: Write + Drop, L: OpenListener<Stream = S>> ClientWriter<'a, R, L, S> {
+impl<'a, R: Clock, S: Drop, L: OpenListener<Stream = S>, O: Write + Drop> ClientWriter<
+    'a,
+    R,
+    L,
+    S,
+    O,
+> {
     /// What a client is sent on a connection on which nothing was written.
-    pub fn new(line: &'a Line<'a, R, L, S>) -> ClientWriter<'a, R, L, S>
+    pub fn new(line: &'a Line<'a, R, L, S>, stream: O) -> ClientWriter<'a, R, L, S, O>
+        ensures stream { result.stream ≡ stream }
         ensures calls { result.calls ≡ 0 }
         ensures failures { result.failures ≡ 0 }
     {
         ClientWriter {
             line,
+            stream,
             calls: 0,
             failures: 0,
         }
     }
+
+    /// The stream, with what was written to it.
+    pub fn into_stream(self) -> O
+        ensures { result ≡ self.entry.stream }
+    {
+        let ClientWriter {
+            line: _,
+            stream,
+            calls: _,
+            failures: _,
+        } = self;
+        stream
+    }
+
+    /// Writes once, for as long as a wait is.
+    fn write_once(&mut self, bytes: &[u8]) -> Transfer
+        ensures most { MovesAtMost result (length bytes.now) }
+        ensures bytes { WritesBytes (O.contents self.old.stream) (O.contents self.new.stream)
+            bytes.now result }
+        ensures calls { self.new.calls ≡ self.old.calls }
+        ensures failures { self.new.failures ≡ self.old.failures }
+    {
+        transfer_of(self.stream.write(bytes))
+    }
+
+    /// Writes what the client takes: how many bytes. `None` where it has taken too long for a reply or
+    /// the stream fails.
+    fn write_in_time(&mut self, bytes: &[u8]) -> Option<usize>
+        ensures count { IfSome result (λ count. count ≤ length bytes.now) }
+        ensures bytes { WritesBytes (O.contents self.old.stream) (O.contents self.new.stream)
+            bytes.now (moved_or_failed result) }
+        ensures calls { self.new.calls ≡ self.old.calls }
+        ensures failures { self.new.failures ≡ self.old.failures }
+    {
+        for _wait in 0..u64::MAX {
+            if is_untaken(&self.line.bounds, self.line.untaken.get()) {
+                return None;
+            }
+            let began = self.line.now()?;
+            let done = self.write_once(bytes);
+            let is_counted = self.line.count_wait(began).is_some();
+            match done {
+                Transfer::Moved(count) => return Some(count),
+                Transfer::Interrupted if is_counted => {}
+                _ => return None,
+            }
+        }
+        None
+    }
 }
 
-impl<'a, R: Clock, S: Write + Drop, L: OpenListener<Stream = S>> Drain
-    for ClientWriter<'a, R, L, S> {
-    ghost written = { λ s. None };
+impl<'a, R: Clock, S: Drop, L: OpenListener<Stream = S>, O: Write + Drop> Drain
+    for ClientWriter<'a, R, L, S, O> {
+    ghost written = { λ s. O.contents s.stream };
 
     ghost calls = { λ s. s.calls };
 
@@ -325,12 +416,21 @@ impl<'a, R: Clock, S: Write + Drop, L: OpenListener<Stream = S>> Drain
 
     fn write(&mut self, bytes: &[u8]) -> Transfer {
         self.calls += 1;
-        match self.line.write_in_time(bytes) {
+        match self.write_in_time(bytes) {
             Some(count) if count > 0 || bytes.is_empty() => Transfer::Moved(count),
             _ => {
                 self.failures += 1;
                 Transfer::Failed
             }
         }
+    }
+
+    fn goes_on(&mut self) -> bool {
+        self.calls += 1;
+        let goes_on = self.line.goes_on().unwrap_or(false);
+        if !goes_on {
+            self.failures += 1;
+        }
+        goes_on
     }
 }

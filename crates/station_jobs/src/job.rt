@@ -2,7 +2,8 @@
 ghost use Rattle.std.specs.Prelude.{◌≡◌, ◌⊎◌, false, Some, None, ◌≤◌, IfOk, IfErr, IfSome, option_and_then};
 ghost use Rattle.clap.specs.Words.{app_of, fault_of, first_of, found_of, kind_of, rows_of, rule_of, subcommand_rows_of};
 ghost use Rattle.clap.specs.declared.builder.command.Command.TheViews.{out-Command as fields_of};
-ghost use Rattle.station_jobs.specs.Prelude.{CanGive, IsFaultOfKind, RefusesWith, books_app, check_map_app, check_map_of, connections_rule, db_rule};
+ghost use Rattle.station_jobs.specs.Prelude.{CanGive, IsFaultOfKind, RefusesWith, ShowsVersion, books_app, check_map_app, check_map_of};
+ghost use Rattle.station_jobs.specs.Prelude.{connections_rule, db_rule};
 ghost use Rattle.station_jobs.specs.Prelude.{existing_rule, has_flag, job_by, job_read, number_of_digits, number_of_option, port_rule, replay_app, replay_of};
 ghost use Rattle.station_jobs.specs.Prelude.{required_db_rule, serve_app, serve_of, site_rule, station_app, store_of, texts, top_app};
 ghost use Rattle.station_jobs.specs.declared.job.WordsFault.TheVariants.{NoMemory};
@@ -14,6 +15,10 @@ use std::alloc::{AllocError, Global};
 use std::rt::Env;
 use std::{env, io};
 use text_core::Text;
+
+/// The number of the program's version, which `--version` tells. It stands here alone: the package is
+/// made of it, and `tools/version` finds the files that repeat it.
+pub const VERSION: &str = "1.0.0";
 
 /// Why a word that the system passed the program is refused.
 const NOT_UTF8: &str = "error: a word of the command line is not UTF-8\n";
@@ -68,7 +73,7 @@ pub enum Job {
 /// Why words give no job.
 #[derive(Debug, Drop, thiserror::Error)]
 pub enum WordsFault {
-    /// The words ask for help, which is the text.
+    /// The words ask for help or for the version, and this is the text.
     #[error("{0}")]
     Help(String),
     /// The words are no command line of the program: the text says why, and how it is used.
@@ -130,17 +135,19 @@ fn refused(alloc: Global, text: &str) -> WordsFault
 ///
 /// # Errors
 ///
-/// `Help` with the text of help where the words ask for it, `Refused` with `clap`'s text where they
-/// are no command line of the program, `NoMemory` where memory runs out.
+/// `Help` with the text of help, or with the line of the version, where the words ask for it,
+/// `Refused` with `clap`'s text where they are no command line of the program, `NoMemory` where
+/// memory runs out.
 pub fn read_job<'a>(alloc: Global, words: &'a [&'a str]) -> Result<Job, WordsFault>
     ensures ok { IfOk result (λ job. job_read (texts words.entry) ≡ Some job) }
     ensures err { IfErr result (λ fault.
         (fault ≡ NoMemory) ⊎ (job_read (texts words.entry) ≡ None)) }
 
-    // Help comes only where it is among the answers that `clap` may give to the words, and a refusal
-    // only where help is not the one answer. `clap` leaves two open where `help` stands for a
-    // subcommand, since what follows it may name none.
-    ensures fault { IfErr result (CanGive (fault_of station_app (texts words.entry))) }
+    // Help and the version's line come only where they are among the answers that `clap` may give to
+    // the words, and a refusal only where neither is the one answer. `clap` leaves two open where
+    // `help` stands for a subcommand, since what follows it may name none.
+    ensures fault { IfErr result (CanGive VERSION.now
+        (fault_of station_app (texts words.entry))) }
 {
     let command = station_command(alloc)?;
     let matches = match command.try_get_matches_from(words) {
@@ -172,6 +179,7 @@ fn top_command<'a>(alloc: Global) -> Command<'a>
 {
     Command::new(alloc, "station")
         .about("Serves programming stations")
+        .version(VERSION)
         .subcommand_required(true)
 }
 
@@ -296,11 +304,14 @@ fn check_map_command<'a>(alloc: Global) -> Result<Command<'a>, AllocError>
 
 /// The fault that an error of `clap` stands for.
 fn words_fault(alloc: Global, error: &Error) -> WordsFault
-    ensures { IsFaultOfKind (kind_of error.now) result }
+    ensures { IsFaultOfKind VERSION.now (kind_of error.now) result }
 {
     let kind = error.kind();
     if kind == ErrorKind::OutOfMemory {
         return WordsFault::NoMemory;
+    }
+    if kind == ErrorKind::DisplayVersion {
+        return version_shown(alloc);
     }
     let Ok(text) = error.to_string(alloc) else {
         return WordsFault::NoMemory;
@@ -309,6 +320,16 @@ fn words_fault(alloc: Global, error: &Error) -> WordsFault
         WordsFault::Help(text)
     } else {
         WordsFault::Refused(text)
+    }
+}
+
+/// The line of the version, or want of memory.
+fn version_shown(alloc: Global) -> WordsFault
+    ensures { ShowsVersion VERSION.now result }
+{
+    match format!(in alloc; "station {VERSION}\n") {
+        Ok(line) => WordsFault::Help(line),
+        Err(_) => WordsFault::NoMemory,
     }
 }
 

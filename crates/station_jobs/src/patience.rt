@@ -1,7 +1,7 @@
 //! How long a connection may wait for its client, while others wait for it.
 ghost use Rattle.std.specs.Prelude.{◌≡◌, ◌↔◌, ◌*◌, ◌≤◌, IsTrue};
 ghost use Rattle.std.specs.Duration.{as_nanos};
-ghost use Rattle.station_jobs.specs.Prelude.{GivesWay, IsOver, IsOutOfTime, IsTooLong, IsNextRead, MayLook};
+ghost use Rattle.station_jobs.specs.Prelude.{AreOfProgram, GivesWay, IsOver, IsOutOfTime, IsTooLong, IsTurnOver, IsNextRead, MayLook};
 
 use std::time::{Duration, Instant};
 
@@ -52,13 +52,7 @@ pub struct Bounds {
 impl Bounds {
     /// The bounds of the program.
     pub fn of_program() -> Bounds
-        ensures slice { as_nanos result.slice ≡ 50 * 1_000_000 }
-        ensures turn { as_nanos result.turn ≡ 400 * 1_000_000 }
-        ensures first_byte { as_nanos result.first_byte ≡ 2 * 1_000_000_000 }
-        ensures silence { as_nanos result.silence ≡ 10 * 1_000_000_000 }
-        ensures request { as_nanos result.request ≡ 10 * 1_000_000_000 }
-        ensures reply { as_nanos result.reply ≡ 10 * 1_000_000_000 }
-        ensures connection { as_nanos result.connection ≡ 60 * 1_000_000_000 }
+        ensures { AreOfProgram result }
     {
         Bounds {
             slice: Duration::from_millis(SLICE_MILLISECONDS),
@@ -99,7 +93,7 @@ pub struct Wait {
 }
 
 /// Whether so much time is no less than a bound.
-fn has_reached(time: Duration, bound: Duration) -> bool
+pub(crate) fn has_reached(time: Duration, bound: Duration) -> bool
     ensures { IsTrue result ↔ (as_nanos bound ≤ as_nanos time) }
 {
     time.checked_sub(bound).is_some()
@@ -136,6 +130,16 @@ fn is_out_of_time(bounds: &Bounds, wait: &Wait, now: Instant) -> bool
     ensures { IsTrue result ↔ IsOutOfTime bounds.now wait.now now }
 {
     wait.another_waits && has_reached(now.duration_since(wait.opened), bounds.connection)
+}
+
+/// Whether the turn of a connection is over whose next request was read already, so that its client
+/// is waited for no more: another one waits, and has waited for its turn, or the connection has lasted
+/// too long for it.
+pub fn is_turn_over(bounds: &Bounds, wait: &Wait, now: Instant) -> bool
+    ensures { IsTrue result ↔ IsTurnOver bounds.now wait.now now }
+{
+    (wait.another_waits && has_reached(now.duration_since(wait.another_since), bounds.turn))
+        || is_out_of_time(bounds, wait, now)
 }
 
 /// Whether a client is waited for no longer, at this moment.

@@ -3,17 +3,18 @@ ghost use Rattle.std.specs.Prelude.{◌≡◌, ◌≢◌, ◌+◌, ◌<◌, ◌�
 ghost use Rattle.std.specs.Io.KnownBytes.{Appends, Keeps};
 ghost use Rattle.office_tables.specs.Prelude.{no_rows};
 ghost use Rattle.station_jobs.specs.Prelude.{IsUnread, map_of_file, map_line, IsOfStream, Replays, ServesOver, failed_reads, failed_writes, site_in};
-ghost use Rattle.station_jobs.specs.Prelude.{result_of_ending, line_of, status_of};
+ghost use Rattle.station_jobs.specs.Prelude.{EndsAs, IsOfJob, IsTold, result_of_ending, status_of};
 
 use crate::failure::Failure;
 use crate::job::Job;
 use crate::map_file::{map_of_file, read_map_file, write_map_line};
 use crate::serving::{Door, serve_site};
-use crate::site_file::{bytes_of_file, read_site_file, site_text_of_bytes};
-use crate::stored::{StoreFile, replay_stored};
+use crate::site_file::{read_site_file, site_of_file};
+use crate::stored::{Done, StoreFile, put_away, replay_stored};
+use crate::telling::tell;
 use office_core::{Keep, MemKeep};
 use site_core::Site;
-use sqlite_disk::Start;
+use sqlite_disk::{Disk, Start};
 use station_api::{Counted, Drain, Served, Source, serve_stream};
 use std::alloc::Global;
 use std::io;
@@ -29,14 +30,33 @@ pub fn run<E: Write, S: Start>(
     alloc: Global,
     job: &Job,
     input: impl Read + Drop,
-    mut output: impl Write + Drop,
+    output: impl Write + Drop,
     err: &mut E,
     start: S,
 ) -> u8
     ensures status { result ≤ 1 }
     ensures prints_nothing { result ≡ 0 → Keeps (E.contents err.old) (E.contents err.new) }
+
+    // The status and what is told are those of one outcome: the job was done, or it failed by a failure
+    // that it may have.
+    ensures ends { EndsAs job.now result (E.contents err.old) (E.contents err.new) }
 {
-    let done = match job {
+    let done = outcome(rt, alloc, job, input, output, start);
+    finish(alloc, done, err)
+}
+
+/// Does a job, and answers how it failed.
+fn outcome<'a, S: Start>(
+    rt: &HostRuntime,
+    alloc: Global,
+    job: &'a Job,
+    input: impl Read + Drop,
+    mut output: impl Write + Drop,
+    start: S,
+) -> Result<(), Failure<'a>>
+    ensures { IfErr result (IsOfJob job.now) }
+{
+    match job {
         Job::Serve {
             site,
             store,
@@ -50,7 +70,7 @@ pub fn run<E: Write, S: Start>(
                 port: *port,
                 connections: *connections,
             };
-            served_job(serve_site(rt, alloc, name, file, store, door, &mut output))
+            result_of(serve_site(rt, alloc, name, file, store, door, &mut output))
         }
         Job::Replay { site, store } => {
             let name = site.as_str();
@@ -60,7 +80,16 @@ pub fn run<E: Write, S: Start>(
             match store {
                 Some(store) => {
                     let store = StoreFile::of(store, start);
-                    replay_stored(rt, alloc, name, file, store, &mut reader, &mut writer)
+                    let done = replay_stored(
+                        rt,
+                        alloc,
+                        name,
+                        file,
+                        store,
+                        &mut reader,
+                        &mut writer,
+                    );
+                    result_of(done)
                 }
                 None => replay(alloc, name, file, &mut reader, &mut writer),
             }
@@ -70,15 +99,16 @@ pub fn run<E: Write, S: Start>(
             let file = read_map_file(rt, alloc, name);
             check_map(alloc, name, file, &mut output)
         }
-    };
-    finish(done, err)
+    }
 }
 
-/// What serving says of a failure.
-fn served_job(served: Result<u32, Failure<'_>>) -> Result<(), Failure<'_>>
-    ensures { MatchResult served.entry (λ _. result ≡ Ok tt) (λ failure. result ≡ Err failure) }
+/// What a job over a store says of a failure. What is left of the store's files is closed.
+fn result_of<T: Drop, D: Disk + Drop>(done: Done<'_, T, D>) -> Result<(), Failure<'_>>
+    ensures { MatchResult done.entry.result (λ _. result ≡ Ok tt)
+        (λ failure. result ≡ Err failure) }
 {
-    match served {
+    put_away(done.files);
+    match done.result {
         Ok(_) => Ok(()),
         Err(failure) => Err(failure),
     }
@@ -118,8 +148,7 @@ fn replay<'a, R: Source, W: Drain>(
     ensures no_memory { result ≡ Err Failure.NoMemory →
         (R.calls reader.new ≡ R.calls reader.old) × (W.calls writer.new ≡ W.calls writer.old) }
 {
-    let bytes = bytes_of_file(name, file)?;
-    let site = site_text_of_bytes(alloc, name, bytes.as_slice())?;
+    let site = site_of_file(alloc, name, file)?;
     let mut keep = MemKeep::new(alloc);
     serve(alloc, &mut keep, site.site(), reader, writer)
 }
@@ -199,25 +228,20 @@ fn result_of_ending(served: Served) -> Result<(), Failure<'static>>
     }
 }
 
-/// Writes the line of a failure, and answers the status of a job that ended so. A line that can't be
-/// written is passed over.
-fn finish<W: Write>(done: Result<(), Failure<'_>>, err: &mut W) -> u8
+/// Writes the line of a failure, and answers the status of a job that ended so. What can't be written
+/// is passed over.
+fn finish<W: Write>(alloc: Global, done: Result<(), Failure<'_>>, err: &mut W) -> u8
     ensures status { result ≡ status_of done.entry }
     ensures prints_nothing { OnOk done.entry (Keeps (W.contents err.old) (W.contents err.new)) }
+    ensures told { IfErr done.entry (λ failure.
+        IsTold failure (W.contents err.old) (W.contents err.new)
+        ⊎ IsTold Failure.NoMemory (W.contents err.old) (W.contents err.new)) }
 {
     match done {
         Ok(()) => 0,
         Err(failure) => {
-            let _ = write_failure(failure, err);
+            tell(alloc, failure, err);
             1
         }
     }
-}
-
-/// Writes the line of a failure.
-fn write_failure<W: Write>(failure: Failure<'_>, err: &mut W) -> io::Result<()>
-    ensures { OnOk result (Appends (W.contents err.old) (W.contents err.new) (line_of failure.entry
-        ++ 10 ∷ [])) }
-{
-    writeln!(err, "{failure}")
 }

@@ -6,23 +6,25 @@ ghost use Rattle.std.specs.Net.Socket.{v4_ip, v4_port};
 ghost use Rattle.http_serving.specs.Prelude.{HttpExchange, Tells, requests_with_answers};
 ghost use Rattle.sqlite.specs.WalFiles.{image_at};
 ghost use Rattle.station_api.specs.Prelude.{Leads, AreSaid};
-ghost use Rattle.station_jobs.specs.Prelude.{IsUnread, IsOfPort, LeadsOn, listening_line, IsOfStore, site_in, FromOpening, text_of_site};
+ghost use Rattle.office_keep.specs.Prelude.{is_honest_at};
+ghost use Rattle.station_jobs.specs.Prelude.{AreOfProgram, IsUnread, IsOfPort, Leaves, LeavesIfRead, LeadsOn, listening_line, IsOfStore, site_in, text_of_site};
 
 use crate::arrivals::Arrivals;
+use crate::duplex::Duplex;
 use crate::ends::{ClientReader, ClientWriter, Line};
 use crate::failure::Failure;
 use crate::patience::Bounds;
-use crate::site_file::{bytes_of_file, site_text_of_bytes};
-use crate::stored::{StoreFile, open_limited};
+use crate::site_file::site_of_file;
+use crate::stored::{Done, LeftFiles, StoreFile, open_limited, store_failure};
 use office_core::Keep;
-use office_store::SqlKeep;
+use office_store::{SqlKeep, close};
 use site_core::{Site, SiteText};
 use sqlite::{Alter, FileFrom, FileStore};
 use sqlite_disk::Start;
 use station_api::{Drain, Served, Source, serve_stream};
 use std::alloc::Global;
 use std::io;
-use std::io::{Read, Write};
+use std::io::Write;
 use std::net::{Ipv4Addr, OpenListener, OpenStream, SocketAddrV4, TcpListener};
 use std::time::Clock;
 
@@ -37,7 +39,8 @@ pub struct Door {
 
 /// Serves as many connections as the door says over the store in a file, for the site that a file
 /// describes, by what reading the file with this name gave. Once the port is listened on, its line is
-/// written. The store is closed at the end. Answers how many connections were accepted.
+/// written. The store is closed at the end. Answers how many connections were accepted, and what is
+/// left of the store's files.
 ///
 /// # Errors
 ///
@@ -52,41 +55,51 @@ pub fn serve_site<'a, S: Start, W: Write>(
     store: StoreFile<'_, S>,
     door: Door,
     output: &mut W,
-) -> Result<u32, Failure<'a>>
-    ensures unread { IfErr file (λ error. IsErrAnd result (IsUnread name.entry error)) }
+) -> Done<'a, u32, FileFrom<S>>
+    ensures unread { IfErr file (λ error. IsErrAnd result.result (IsUnread name.entry error)) }
 
     // A file that describes no site is the failure, whatever the store and the port.
     ensures no_site { IfOk file (λ bytes. IfErr (site_in name.entry bytes.items) (λ failure.
-        (result ≡ Err failure) ⊎ (result ≡ Err Failure.NoMemory))) }
+        (result.result ≡ Err failure) ⊎ (result.result ≡ Err Failure.NoMemory))) }
 
     // With a site, what fails is memory, the store or the port.
     ensures failed { IfOk file (λ bytes. IfOk (site_in name.entry bytes.items) (λ _.
-        IfErr result (λ failure. (failure ≡ Failure.NoMemory) ⊎ IsOfStore failure
+        IfErr result.result (λ failure. (failure ≡ Failure.NoMemory) ⊎ IsOfStore failure
         ⊎ IsOfPort failure))) }
-    ensures accepted { IfOk result (λ accepted. accepted ≡ door.connections) }
+    ensures accepted { IfOk result.result (λ accepted. accepted ≡ door.connections) }
 
-    // The store wasn't opened, or it was as its opening says, and what the connections asked for
-    // leads from its tables to those that stand when it is closed.
+    // The store was refused, or it was as its opening says, and what the connections asked for leads
+    // from its tables to those that the files hold that come back.
     ensures books { IfOk file (λ bytes. IfOk (site_in name.entry bytes.items) (λ site.
-        IsErrAnd result (λ failure. (failure ≡ Failure.NoMemory) ⊎ IsOfStore failure)
-        ⊎ FromOpening (text_of_site bytes.items site) (image_at S.Start) store.entry.absent
-        (LeadsOn ⟦<SqlKeep<FileStore<FileFrom<S>>> as Keep>⟧ site))) }
-    ensures printed { OnOk result (Appends (W.contents output.old) (W.contents output.new)
+        LeavesIfRead (text_of_site bytes.items site) (image_at S.Start) store.entry.name.now
+        store.entry.absent (LeadsOn ⟦<SqlKeep<FileStore<FileFrom<S>>> as Keep>⟧ site)
+        result.result result.files)) }
+    ensures printed { OnOk result.result (Appends (W.contents output.old) (W.contents output.new)
         (listening_line door.port ++ 10 ∷ [])) }
 
     // Nothing is written before the port is listened on.
-    ensures prints_nothing { IfErr result (λ failure. failure ≢ Failure.WriteFailed
+    ensures prints_nothing { IfErr result.result (λ failure. failure ≢ Failure.WriteFailed
         → failure ≢ Failure.AcceptFailed
         → Keeps (W.contents output.old) (W.contents output.new)) }
 {
-    let bytes = bytes_of_file(name, file)?;
-    let site = site_text_of_bytes(alloc, name, bytes.as_slice())?;
-
-    site.fact_digest();
-    serve_store(rt, alloc, &site, store, door, output)
+    let site = match site_of_file(alloc, name, file) {
+        Ok(site) => site,
+        Err(failure) => {
+            return Done {
+                result: Err(failure),
+                files: None,
+            };
+        }
+    };
+    let served = serve_store(rt, alloc, &site, store, door, output);
+    Done {
+        result: served.0,
+        files: Some(served.1),
+    }
 }
 
-/// Serves connections over the store of a site in a file, and closes it.
+/// Serves connections over the store of a site in a file, and closes it: how many were accepted, and
+/// what is left of the files.
 fn serve_store<S: Start, W: Write>(
     rt: &HostRuntime,
     alloc: Global,
@@ -94,27 +107,29 @@ fn serve_store<S: Start, W: Write>(
     store: StoreFile<'_, S>,
     door: Door,
     output: &mut W,
-) -> Result<u32, Failure<'static>>
-    ensures failed { IfErr result (λ failure. IsOfStore failure ⊎ IsOfPort failure) }
-    ensures accepted { IfOk result (λ accepted. accepted ≡ door.connections) }
+) -> (Result<u32, Failure<'static>>, LeftFiles<FileFrom<S>>)
+    ensures failed { IfErr result.0 (λ failure. IsOfStore failure ⊎ IsOfPort failure) }
+    ensures accepted { IfOk result.0 (λ accepted. accepted ≡ door.connections) }
 
-    // The store wasn't opened, or it was as its opening says, and what the connections asked for
-    // leads from its tables to those that stand when it is closed.
-    ensures books { IsErrAnd result IsOfStore
-        ⊎ FromOpening site.now (image_at S.Start) store.entry.absent
-        (LeadsOn ⟦<SqlKeep<FileStore<FileFrom<S>>> as Keep>⟧ site.now.site) }
-    ensures printed { OnOk result (Appends (W.contents output.old) (W.contents output.new)
+    // The store was refused, or it was as its opening says, and what the connections asked for leads
+    // from its tables to those that the files hold that come back.
+    ensures books { Leaves site.now (image_at S.Start) store.entry.name.now store.entry.absent
+        (LeadsOn ⟦<SqlKeep<FileStore<FileFrom<S>>> as Keep>⟧ site.now.site) result.0 result.1 }
+    ensures printed { OnOk result.0 (Appends (W.contents output.old) (W.contents output.new)
         (listening_line door.port ++ 10 ∷ [])) }
-    ensures prints_nothing { IfErr result (λ failure. failure ≢ Failure.WriteFailed
+    ensures prints_nothing { IfErr result.0 (λ failure. failure ≢ Failure.WriteFailed
         → failure ≢ Failure.AcceptFailed
         → Keeps (W.contents output.old) (W.contents output.new)) }
 {
-    let mut keep = open_limited(rt, alloc, store, site)?;
+    let mut keep = match open_limited(rt, alloc, store, site) {
+        Ok(keep) => keep,
+        Err(refused) => {
+            let failure = store_failure(refused.fault);
+            return (Err(failure), LeftFiles::Refused(refused));
+        }
+    };
     let served = serve_port(rt, alloc, &mut keep, site.site(), door, output);
-
-    // What was committed is in the store's log, should this fail.
-    let _ = keep.into_connection().close();
-    served
+    (served, LeftFiles::Ended(close(keep)))
 }
 
 /// Listens on the port of the door, tells so, and serves its connections over a store, whose statements
@@ -128,6 +143,7 @@ fn serve_port<S: Alter, W: Write>(
     output: &mut W,
 ) -> Result<u32, Failure<'static>>
     requires limit { keep.old.conn.step_limit ≡ Some 1000000000 }
+    ensures was_honest { is_honest_at S.Store keep.new.conn → is_honest_at S.Store keep.old.conn }
     ensures reaches { LeadsOn ⟦<SqlKeep<S> as Keep>⟧ site.now keep.old keep.new }
     ensures accepted { IfOk result (λ accepted. accepted ≡ door.connections) }
     ensures failed { IfErr result IsOfPort }
@@ -143,7 +159,31 @@ fn serve_port<S: Alter, W: Write>(
         return Err(Failure::WriteFailed);
     }
     let bounds = Bounds::of_program();
-    serve_connections(rt, alloc, keep, site, &listener, bounds, door.connections)
+    serve_at_bounds(rt, alloc, keep, site, &listener, bounds, door.connections)
+}
+
+/// Serves so many connections of a listener over a store, whose statements have the limit of steps, at
+/// the bounds of the program. Answers how many were accepted.
+fn serve_at_bounds<S: Alter, R: Clock, C, L>(
+    clock: &R,
+    alloc: Global,
+    keep: &mut SqlKeep<S>,
+    site: &Site,
+    listener: &L,
+    bounds: Bounds,
+    count: u32,
+) -> Result<u32, Failure<'static>>
+where
+    C: Duplex,
+    L: OpenListener<Stream = C>,
+    requires limit { keep.old.conn.step_limit ≡ Some 1000000000 }
+    requires bounds { AreOfProgram bounds }
+    ensures was_honest { is_honest_at S.Store keep.new.conn → is_honest_at S.Store keep.old.conn }
+    ensures reaches { LeadsOn ⟦<SqlKeep<S> as Keep>⟧ site.now keep.old keep.new }
+    ensures accepted { IfOk result (λ accepted. accepted ≡ count) }
+    ensures failed { IfErr result (λ failure. failure ≡ Failure.AcceptFailed) }
+{
+    serve_connections(clock, alloc, keep, site, listener, bounds, count)
 }
 
 /// Listens on a port of this machine, which no other machine can reach.
@@ -195,7 +235,7 @@ pub fn serve_connections<K: Keep, R: Clock, S, L>(
     count: u32,
 ) -> Result<u32, Failure<'static>>
 where
-    S: Read + Write + OpenStream + Drop,
+    S: Duplex,
     L: OpenListener<Stream = S>,
     ensures was_honest { K.is_honest keep.new → K.is_honest keep.old }
 
@@ -207,33 +247,9 @@ where
     ensures accepted { IfOk result (λ accepted. accepted ≡ count) }
     ensures failed { IfErr result (λ failure. failure ≡ Failure.AcceptFailed) }
 {
-    let arrivals = Arrivals::of(listener);
-    let mut connections = Connections {
-        arrivals: &arrivals,
-        accepted: 0,
-    };
-    serve_accepted(clock, alloc, keep, site, &mut connections, bounds, count)?;
-    Ok(connections.accepted)
-}
-
-/// The connections of a listener that were accepted to be served, counted.
-#[derive(Drop)]
-struct Connections<'a, L, S: Drop> {
-    arrivals: &'a Arrivals<'a, L, S>,
-    accepted: u32,
-}
-
-impl<'a, S: Drop, L: OpenListener<Stream = S>> Connections<'a, L, S> {
-    /// Waits for the next connection.
-    fn accept(&mut self) -> Result<S, Failure<'static>>
-        requires { self.old.accepted + 1 < 2 ^ 32 }
-        ensures counted { OnOk result (self.new.accepted ≡ self.old.accepted + 1) }
-        ensures failed { IfErr result (λ failure. failure ≡ Failure.AcceptFailed) }
-    {
-        let stream = self.arrivals.next()?;
-        self.accepted += 1;
-        Ok(stream)
-    }
+    let mut arrivals = Arrivals::of(clock, listener);
+    serve_accepted(clock, alloc, keep, site, &mut arrivals, bounds, count)?;
+    Ok(arrivals.given())
 }
 
 /// Serves so many of the connections over a keeper.
@@ -242,58 +258,71 @@ fn serve_accepted<K: Keep, R: Clock, S, L>(
     alloc: Global,
     keep: &mut K,
     site: &Site,
-    connections: &mut Connections<'_, L, S>,
+    arrivals: &mut Arrivals<'_, R, L, S>,
     bounds: Bounds,
     count: u32,
 ) -> Result<(), Failure<'static>>
 where
-    S: Read + Write + OpenStream + Drop,
+    S: Duplex,
     L: OpenListener<Stream = S>,
-    requires { connections.old.accepted + count < 2 ^ 32 }
+    requires { arrivals.old.given + count < 2 ^ 32 }
     ensures was_honest { K.is_honest keep.new → K.is_honest keep.old }
     ensures reaches { LeadsOn K.Keep site.now keep.old keep.new }
-    ensures counted { OnOk result (connections.new.accepted ≡ connections.old.accepted + count) }
+    ensures counted { OnOk result (arrivals.new.given ≡ arrivals.old.given + count) }
     ensures failed { IfErr result (λ failure. failure ≡ Failure.AcceptFailed) }
 {
     site.fact_rules();
     for _turn in 0..count {
-        let stream = connections.accept()?;
-        let _ = serve_client(
-            clock,
-            alloc,
-            keep,
-            site,
-            connections.arrivals,
-            bounds,
-            stream,
-        );
+        let stream = arrivals.next()?;
+        let _ = serve_client(clock, alloc, keep, site, arrivals, bounds, stream);
     }
     Ok(())
 }
 
-/// Serves the client of a connection over a keeper, and answers how its stream ended, or why the
-/// connection can't be set up.
-fn serve_client<K: Keep, R: Clock, S, L>(
+/// What became of a connection: how its stream ended, and its two directions as they were then.
+#[derive(Drop)]
+struct Parted<C: Duplex> {
+    served: Served,
+    incoming: C::Incoming,
+    outgoing: C::Outgoing,
+}
+
+/// Serves the client of a connection over a keeper, or answers why the connection can't be set up.
+fn serve_client<K: Keep, R: Clock, C: Duplex, L>(
     clock: &R,
     alloc: Global,
     keep: &mut K,
     site: &Site,
-    arrivals: &Arrivals<'_, L, S>,
+    arrivals: &Arrivals<'_, R, L, C>,
     bounds: Bounds,
-    stream: S,
-) -> io::Result<Served>
+    stream: C,
+) -> io::Result<Parted<C>>
 where
-    S: Read + Write + OpenStream + Drop,
-    L: OpenListener<Stream = S>,
+    L: OpenListener<Stream = C>,
     ensures was_honest { K.is_honest keep.new → K.is_honest keep.old }
     ensures reaches { LeadsOn K.Keep site.now keep.old keep.new }
+
+    // Where the connection tells its bytes, what was sent begins with the requests that lead to the
+    // tables that stand, and what its client got is their replies.
+    ensures told { IfOk result (λ parted. (exchanges : List HttpExchange)
+        × Tells (C.sends stream) (C.Incoming.remaining parted.incoming)
+        (C.got stream) (C.Outgoing.contents parted.outgoing) parted.served exchanges
+        × AreSaid site.now (requests_with_answers exchanges)
+        × Leads K.Keep site.now keep.old keep.new (requests_with_answers exchanges)) }
+    ensures unserved { IfErr result (λ _. keep.new ≡ keep.old) }
 {
     site.fact_rules();
     set_up(&stream, bounds)?;
-    let line = Line::begin(clock, arrivals, bounds, stream)?;
-    let mut reader = ClientReader::new(&line);
-    let mut writer = ClientWriter::new(&line);
-    Ok(serve_connection(alloc, keep, site, &mut reader, &mut writer))
+    let line = Line::begin(clock, arrivals, bounds)?;
+    let (incoming, outgoing) = stream.split()?;
+    let mut reader = ClientReader::new(&line, incoming);
+    let mut writer = ClientWriter::new(&line, outgoing);
+    let served = serve_connection(alloc, keep, site, &mut reader, &mut writer);
+    Ok(Parted {
+        served,
+        incoming: reader.into_stream(),
+        outgoing: writer.into_stream(),
+    })
 }
 
 /// Serves a connection by its two ends over a keeper, and answers how its stream ended.

@@ -1,7 +1,7 @@
 //! The file of a site, and the site that it describes.
 ghost use Rattle.std.specs.Prelude.{◌≡◌, Ok, IfOk, IfErr, IsErrAnd};
 ghost use Rattle.text_core.specs.Prelude.{GivesUnless, result_map};
-ghost use Rattle.station_jobs.specs.Prelude.{IsUnread, site_failure, site_in};
+ghost use Rattle.station_jobs.specs.Prelude.{IsSiteOfFile, IsUnread, site_failure, site_in};
 
 use crate::failure::Failure;
 use crate::file_text::{read_file, text_of_file, unread};
@@ -53,6 +53,25 @@ pub fn site_text_of_bytes<'a>(
     let too_long = site_failure(SiteFault::OverLimit);
     let text = text_of_file(name, bytes, TEXT_LIMIT, too_long)?;
     read_site_text(alloc, text).map_err(site_failure)
+}
+
+/// The site that the file with this name describes, by what reading it gave.
+///
+/// # Errors
+///
+/// Those of `bytes_of_file`, then those of `site_text_of_bytes`.
+pub fn site_of_file<'a>(
+    alloc: Global,
+    name: &'a str,
+    file: io::Result<Vec<u8>>,
+) -> Result<SiteText, Failure<'a>>
+    ensures unread { IfErr file (λ error. IsErrAnd result (IsUnread name.entry error)) }
+    ensures read { IfOk file (λ bytes. IsSiteOfFile name.entry bytes.items result) }
+{
+    let bytes = bytes_of_file(name, file)?;
+    let site = site_text_of_bytes(alloc, name, bytes.as_slice())?;
+    site.fact_digest();
+    Ok(site)
 }
 
 /// The failure that a fault of a site's text is.

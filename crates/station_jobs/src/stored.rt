@@ -1,23 +1,42 @@
 //! A store in a file: how it is opened, and a replay over it.
-ghost use Rattle.std.specs.Prelude.{◌≡◌, ◌⊎◌, ◌+◌, ◌<◌, ◌≤◌, ◌^◌, Some, IfOk, IfErr, IsErrAnd};
-ghost use Rattle.station_jobs.specs.Prelude.{IsUnread, IsOfStore, IsOfStream, ServesOver, failed_reads, failed_writes, site_in, FromOpening, IsOpening};
-ghost use Rattle.station_jobs.specs.Prelude.{text_of_site};
-ghost use Rattle.office_store.specs.Prelude.{open_fault_number};
+ghost use Rattle.std.specs.Prelude.{◌≡◌, ◌⊎◌, ◌+◌, ◌<◌, ◌≤◌, ◌^◌, Some, None, IfOk, IfErr, IsErrAnd, MatchResult};
+ghost use Rattle.station_jobs.specs.Prelude.{IsUnread, IsOfStore, IsOfStream, IsOpening, Leaves, LeavesIfRead, ServesOver, failed_reads, failed_writes};
+ghost use Rattle.station_jobs.specs.Prelude.{site_in, text_of_site};
+ghost use Rattle.office_keep.specs.Prelude.{is_honest_at};
+ghost use Rattle.office_store.specs.Prelude.{IsRefusal, open_fault_number};
 ghost use Rattle.sqlite.specs.WalFiles.{image_at};
 
 use crate::failure::Failure;
 use crate::job::StoreName;
 use crate::private::make_private;
 use crate::running::serve;
-use crate::site_file::{bytes_of_file, site_text_of_bytes};
+use crate::site_file::site_of_file;
 use office_core::Keep;
-use office_store::{Absent, OpenFault, SqlKeep, open};
+use office_store::{Absent, Closed, OpenFault, Refused, SqlKeep, close, open_or_hand_back};
 use site_core::{Site, SiteText};
 use sqlite::{Alter, FileFrom, FileStore};
-use sqlite_disk::Start;
+use sqlite_disk::{Disk, Start};
 use station_api::{Drain, Source};
 use std::alloc::Global;
 use std::io;
+
+/// What a job over a store leaves of its files.
+#[derive(Drop)]
+pub enum LeftFiles<D: Disk + Drop> {
+    /// What was handed back of the files of a store that wasn't opened.
+    Refused(Refused<D>),
+    /// The files of a store that was served over.
+    Ended(Closed<D>),
+}
+
+/// What a job over a store came to.
+#[derive(Drop)]
+pub struct Done<'a, T: Drop, D: Disk + Drop> {
+    /// Its result, or why it failed.
+    pub result: Result<T, Failure<'a>>,
+    /// What it left of the store's files, where it came to open them.
+    pub files: Option<LeftFiles<D>>,
+}
 
 /// Serves one stream over the store in a file, for the site that a file describes, by what reading the
 /// file with this name gave. The store is closed at the end.
@@ -29,47 +48,59 @@ pub fn replay_stored<'a, S: Start, R: Source, W: Drain>(
     store: StoreFile<'_, S>,
     reader: &mut R,
     writer: &mut W,
-) -> Result<(), Failure<'a>>
+) -> Done<'a, (), FileFrom<S>>
     requires reader { R.calls reader.old + 2 ^ 25 < 2 ^ 64 }
     requires writer { W.calls writer.old + 2 ^ 25 < 2 ^ 64 }
-    ensures unread { IfErr file (λ error. IsErrAnd result (IsUnread name.entry error)) }
+    ensures unread { IfErr file (λ error. IsErrAnd result.result (IsUnread name.entry error)) }
 
     // A file that describes no site is the failure, whatever the store and the stream.
     ensures no_site { IfOk file (λ bytes. IfErr (site_in name.entry bytes.items) (λ failure.
-        (result ≡ Err failure) ⊎ (result ≡ Err Failure.NoMemory))) }
+        (result.result ≡ Err failure) ⊎ (result.result ≡ Err Failure.NoMemory))) }
 
     // With a site, what fails is the store or the stream.
     ensures failed { IfOk file (λ bytes. IfOk (site_in name.entry bytes.items) (λ _.
-        IfErr result (λ failure. IsOfStore failure ⊎ IsOfStream failure))) }
+        IfErr result.result (λ failure. IsOfStore failure ⊎ IsOfStream failure))) }
 
-    // The store wasn't opened, or it was as its opening says, and the stream was served over it: its
-    // requests lead from the tables of then to those that stand when it is closed.
+    // The store was refused, or it was as its opening says, and the stream was served over it: its
+    // requests lead from the tables of then to those that the files hold that come back.
     ensures books { IfOk file (λ bytes. IfOk (site_in name.entry bytes.items) (λ site.
-        IsErrAnd result (λ failure. (failure ≡ Failure.NoMemory) ⊎ IsOfStore failure)
-        ⊎ FromOpening (text_of_site bytes.items site) (image_at S.Start) store.entry.absent
-        (ServesOver ⟦<SqlKeep<FileStore<FileFrom<S>>> as Keep>⟧ site (R.left reader.old)
-        (R.left reader.new) (W.written writer.old) (W.written writer.new) result))) }
+        LeavesIfRead (text_of_site bytes.items site) (image_at S.Start) store.entry.name.now
+        store.entry.absent (ServesOver ⟦<SqlKeep<FileStore<FileFrom<S>>> as Keep>⟧ site
+        (R.left reader.old) (R.left reader.new) (W.written writer.old) (W.written writer.new)
+        result.result) result.result result.files)) }
 
     // Nothing is read or written before the site is known and the store is open.
-    ensures prints_nothing { IfErr result (λ failure. IsOfStream failure
+    ensures prints_nothing { IfErr result.result (λ failure. IsOfStream failure
         ⊎ ((reader.new ≡ reader.old) × (writer.new ≡ writer.old))) }
     ensures calls { R.calls reader.new + W.calls writer.new
         ≤ R.calls reader.old + W.calls writer.old + 16777216 }
-    ensures limit { result ≡ Err Failure.TurnLimit → R.calls reader.new + W.calls writer.new
+    ensures limit { result.result ≡ Err Failure.TurnLimit → R.calls reader.new + W.calls writer.new
         ≡ R.calls reader.old + W.calls writer.old + 16777216 }
-    ensures read_faults { R.failures reader.new ≡ R.failures reader.old + failed_reads result }
-    ensures write_faults { W.failures writer.new ≡ W.failures writer.old + failed_writes result }
-    ensures no_memory { result ≡ Err Failure.NoMemory →
+    ensures read_faults { R.failures reader.new
+        ≡ R.failures reader.old + failed_reads result.result }
+    ensures write_faults { W.failures writer.new
+        ≡ W.failures writer.old + failed_writes result.result }
+    ensures no_memory { result.result ≡ Err Failure.NoMemory →
         (R.calls reader.new ≡ R.calls reader.old) × (W.calls writer.new ≡ W.calls writer.old) }
 {
-    let bytes = bytes_of_file(name, file)?;
-    let site = site_text_of_bytes(alloc, name, bytes.as_slice())?;
-
-    site.fact_digest();
-    serve_stored(rt, alloc, &site, store, reader, writer)
+    let site = match site_of_file(alloc, name, file) {
+        Ok(site) => site,
+        Err(failure) => {
+            return Done {
+                result: Err(failure),
+                files: None,
+            };
+        }
+    };
+    let served = serve_stored(rt, alloc, &site, store, reader, writer);
+    Done {
+        result: served.0,
+        files: Some(served.1),
+    }
 }
 
-/// Serves one stream over the store of a site in a file, and closes it.
+/// Serves one stream over the store of a site in a file, and closes it: the result, and what is left
+/// of the files.
 fn serve_stored<S: Start, R: Source, W: Drain>(
     rt: &HostRuntime,
     alloc: Global,
@@ -77,35 +108,45 @@ fn serve_stored<S: Start, R: Source, W: Drain>(
     store: StoreFile<'_, S>,
     reader: &mut R,
     writer: &mut W,
-) -> Result<(), Failure<'static>>
+) -> (Result<(), Failure<'static>>, LeftFiles<FileFrom<S>>)
     requires reader { R.calls reader.old + 2 ^ 25 < 2 ^ 64 }
     requires writer { W.calls writer.old + 2 ^ 25 < 2 ^ 64 }
-    ensures failed { IfErr result (λ failure. IsOfStore failure ⊎ IsOfStream failure) }
+    ensures failed { IfErr result.0 (λ failure. IsOfStore failure ⊎ IsOfStream failure) }
 
-    // The store wasn't opened, or it was as its opening says, and the stream was served over it: its
-    // requests lead from the tables of then to those that stand when it is closed.
-    ensures books { IsErrAnd result IsOfStore
-        ⊎ FromOpening site.now (image_at S.Start) store.entry.absent
-        (ServesOver ⟦<SqlKeep<FileStore<FileFrom<S>>> as Keep>⟧ site.now.site
-        (R.left reader.old) (R.left reader.new) (W.written writer.old) (W.written writer.new)
-        result) }
-    ensures prints_nothing { IfErr result (λ failure. IsOfStream failure
+    // The store was refused, or it was as its opening says, and the stream was served over it: its
+    // requests lead from the tables of then to those that the files hold that come back.
+    ensures books { Leaves site.now (image_at S.Start) store.entry.name.now store.entry.absent
+        (ServesOver ⟦<SqlKeep<FileStore<FileFrom<S>>> as Keep>⟧ site.now.site (R.left reader.old)
+        (R.left reader.new) (W.written writer.old) (W.written writer.new) result.0)
+        result.0 result.1 }
+    ensures prints_nothing { IfErr result.0 (λ failure. IsOfStream failure
         ⊎ ((reader.new ≡ reader.old) × (writer.new ≡ writer.old))) }
     ensures calls { R.calls reader.new + W.calls writer.new
         ≤ R.calls reader.old + W.calls writer.old + 16777216 }
-    ensures limit { result ≡ Err Failure.TurnLimit → R.calls reader.new + W.calls writer.new
+    ensures limit { result.0 ≡ Err Failure.TurnLimit → R.calls reader.new + W.calls writer.new
         ≡ R.calls reader.old + W.calls writer.old + 16777216 }
-    ensures read_faults { R.failures reader.new ≡ R.failures reader.old + failed_reads result }
-    ensures write_faults { W.failures writer.new ≡ W.failures writer.old + failed_writes result }
-    ensures no_memory { result ≡ Err Failure.NoMemory →
+    ensures read_faults { R.failures reader.new ≡ R.failures reader.old + failed_reads result.0 }
+    ensures write_faults { W.failures writer.new
+        ≡ W.failures writer.old + failed_writes result.0 }
+    ensures no_memory { result.0 ≡ Err Failure.NoMemory →
         (R.calls reader.new ≡ R.calls reader.old) × (W.calls writer.new ≡ W.calls writer.old) }
 {
-    let mut keep = open_limited(rt, alloc, store, site)?;
+    let mut keep = match open_limited(rt, alloc, store, site) {
+        Ok(keep) => keep,
+        Err(refused) => {
+            let failure = store_failure(refused.fault);
+            return (Err(failure), LeftFiles::Refused(refused));
+        }
+    };
     let served = serve_limited(alloc, &mut keep, site.site(), reader, writer);
+    (served, LeftFiles::Ended(close(keep)))
+}
 
-    // What was committed is in the store's log, should this fail.
-    let _ = keep.into_connection().close();
-    served
+/// Closes what a job left of a store's files.
+pub fn put_away<D: Disk + Drop>(files: Option<LeftFiles<D>>) {
+    if let Some(LeftFiles::Ended(Closed::Uncopied(store))) = files {
+        drop(store.close());
+    }
 }
 
 /// How many steps a statement may take: a read of a hundred million rows takes fewer.
@@ -122,6 +163,7 @@ fn serve_limited<S: Alter, R: Source, W: Drain>(
     requires limit { keep.old.conn.step_limit ≡ Some 1000000000 }
     requires reader { R.calls reader.old + 2 ^ 25 < 2 ^ 64 }
     requires writer { W.calls writer.old + 2 ^ 25 < 2 ^ 64 }
+    ensures was_honest { is_honest_at S.Store keep.new.conn → is_honest_at S.Store keep.old.conn }
     ensures served { ServesOver ⟦<SqlKeep<S> as Keep>⟧ site.now (R.left reader.old)
         (R.left reader.new) (W.written writer.old) (W.written writer.new) result keep.old keep.new }
     ensures calls { R.calls reader.new + W.calls writer.new
@@ -163,15 +205,17 @@ impl<'a, S: Drop> StoreFile<'a, S> {
     }
 }
 
-/// Opens the store of a site, with the limit of steps for each statement.
+/// Opens the store of a site, with the limit of steps for each statement. A fault comes with what is
+/// left of the files.
 pub fn open_limited<S: Start>(
     rt: &HostRuntime,
     alloc: Global,
     store: StoreFile<'_, S>,
     site: &SiteText,
-) -> Result<SqlKeep<FileStore<FileFrom<S>>>, Failure<'static>>
+) -> Result<SqlKeep<FileStore<FileFrom<S>>>, Refused<FileFrom<S>>>
     ensures opened { IfOk result (IsOpening site.now (image_at S.Start) store.entry.absent) }
-    ensures failed { IfErr result IsOfStore }
+    ensures refused { IfErr result (IsRefusal ⟦<FileFrom<S> as Disk>⟧ (image_at S.Start)
+        store.entry.absent site.now store.entry.name.now) }
 {
     let StoreFile {
         name,
@@ -181,12 +225,12 @@ pub fn open_limited<S: Start>(
     if matches!(absent, Absent::Make) {
         make_private(rt, name);
     }
-    match open(rt, alloc, name, start, site, absent) {
+    match open_or_hand_back(rt, alloc, name, start, site, absent) {
         Ok(mut keep) => {
             keep.set_steps(STATEMENT_STEPS);
             Ok(keep)
         }
-        Err(fault) => Err(store_failure(fault)),
+        Err(refused) => Err(refused),
     }
 }
 

@@ -68,8 +68,8 @@ abbrev pub route_of : List ℕ → List ℕ → Option Route
 route_of method path = route_among method path routes
 
 -- a row as the program has it
-abbrev pub route_entry : Bor (List ℕ) × Bor (List ℕ) × Route → RouteEntry
-route_entry row = (row.0.now, row.1.now, row.2)
+abbrev pub route_entry : List ℕ × Bor (List ℕ) × Route → RouteEntry
+route_entry row = (row.0, row.1.now, row.2)
 
 -- the request that the data of a body makes
 abbrev pub request_of : Posted → Data → Option Request

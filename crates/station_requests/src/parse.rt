@@ -18,6 +18,7 @@ use crate::map::{MAP_PATH, import_map_request};
 use crate::order::{ORDER_PATH, make_order_request, order_name};
 use crate::plan::{PLAN_PATH, plan_device_request};
 use crate::read_back::{READ_BACK_PATH, read_back_request};
+use http::Method;
 use http_frames::buffer::Buffer;
 use http_frames::fields::split_target;
 use http_frames::frame::Frame;
@@ -81,34 +82,34 @@ pub enum Route {
 }
 
 /// The methods and the paths that lead somewhere (RFC 9110, sections 7.1 and 9).
-const ROUTES: [(&str, &str, Route); 16] = [
-    ("POST", ORDER_PATH, Route::Posts(Posted::Order)),
-    ("GET", ORDER_PATH, Route::Shows(Shown::Order)),
-    ("POST", MAP_PATH, Route::Posts(Posted::Map)),
-    ("POST", DEVICE_PATH, Route::Posts(Posted::Device)),
-    ("POST", PLAN_PATH, Route::Posts(Posted::Plan)),
-    ("POST", READ_BACK_PATH, Route::Posts(Posted::ReadBack)),
-    ("POST", IDENTITY_PATH, Route::Posts(Posted::Identity)),
-    ("POST", SHIP_PATH, Route::Posts(Posted::Ship)),
-    ("POST", SCRAP_PATH, Route::Posts(Posted::Scrap)),
-    ("POST", IMPORT_PATH, Route::Posts(Posted::Import)),
-    ("GET", DEVICE_PATH, Route::Shows(Shown::Device)),
-    ("GET", LEDGER_PATH, Route::Shows(Shown::Ledger)),
-    ("GET", IDENTITY_PATH, Route::Shows(Shown::Identity)),
-    ("GET", DEVICES_PATH, Route::Shows(Shown::Devices)),
-    ("GET", "/v1/report", Route::Reports),
-    ("GET", "/v1/site/report", Route::ReportsSite),
+const ROUTES: [(Method, &str, Route); 16] = [
+    (Method::POST, ORDER_PATH, Route::Posts(Posted::Order)),
+    (Method::GET, ORDER_PATH, Route::Shows(Shown::Order)),
+    (Method::POST, MAP_PATH, Route::Posts(Posted::Map)),
+    (Method::POST, DEVICE_PATH, Route::Posts(Posted::Device)),
+    (Method::POST, PLAN_PATH, Route::Posts(Posted::Plan)),
+    (Method::POST, READ_BACK_PATH, Route::Posts(Posted::ReadBack)),
+    (Method::POST, IDENTITY_PATH, Route::Posts(Posted::Identity)),
+    (Method::POST, SHIP_PATH, Route::Posts(Posted::Ship)),
+    (Method::POST, SCRAP_PATH, Route::Posts(Posted::Scrap)),
+    (Method::POST, IMPORT_PATH, Route::Posts(Posted::Import)),
+    (Method::GET, DEVICE_PATH, Route::Shows(Shown::Device)),
+    (Method::GET, LEDGER_PATH, Route::Shows(Shown::Ledger)),
+    (Method::GET, IDENTITY_PATH, Route::Shows(Shown::Identity)),
+    (Method::GET, DEVICES_PATH, Route::Shows(Shown::Devices)),
+    (Method::GET, "/v1/report", Route::Reports),
+    (Method::GET, "/v1/site/report", Route::ReportsSite),
 ];
 
 /// Whether a row of them is of a method and a path.
-fn is_of(row: &(&str, &str, Route), method: &[u8], path: &[u8]) -> bool
+fn is_of(row: &(Method, &str, Route), method: &[u8], path: &[u8]) -> bool
     ensures { result ≡ is_route_entry method.now path.now (route_entry row.now) }
 {
-    method == row.0.as_bytes() && path == row.1.as_bytes()
+    method == row.0.as_str().as_bytes() && path == row.1.as_bytes()
 }
 
 /// What a method and a path lead to by these rows, if to anything.
-fn find_among(rows: &[(&str, &str, Route)], method: &[u8], path: &[u8]) -> Option<Route>
+fn find_among(rows: &[(Method, &str, Route)], method: &[u8], path: &[u8]) -> Option<Route>
     ensures { result ≡ route_among method.now path.now (map route_entry rows.now) }
 {
     for row in rows {

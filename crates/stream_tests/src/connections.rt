@@ -2,11 +2,11 @@
 use crate::serving::{SHOWN, UNKNOWN};
 use office_core::MemKeep;
 use site_core::read_site;
-use station_jobs::{Bounds, Failure, listen, serve_connections};
+use station_jobs::{Bounds, Duplex, Failure, listen, serve_connections};
 use std::alloc::Global;
 use std::io;
-use std::io::{Read, Write};
-use std::net::{OpenListener, OpenStream, SocketAddr, TcpStream};
+use std::io::Write;
+use std::net::{OpenListener, SocketAddr, TcpStream};
 use std::test::Fail;
 use std::time::{Clock, Duration};
 use test_texts::samples::SITE;
@@ -43,7 +43,7 @@ pub fn served_over_memory<R: Clock, S, L>(
     count: u32,
 ) -> Result<Result<u32, Failure<'static>>, Fail>
 where
-    S: Read + Write + OpenStream + Drop,
+    S: Duplex,
     L: OpenListener<Stream = S>,
 {
     let site = read_site(alloc, site)?;

@@ -1,18 +1,20 @@
 //! The program's command line, and its jobs over files, readers and writers.
 use crate::replays::make_folder;
 use sqlite_disk::Unknown;
-use station_jobs::{Job, StoreName, WordsFault, read_job, run};
+use station_jobs::{Job, StoreName, VERSION, WordsFault, listen, read_job, run};
 use std::alloc::{AllocError, Global};
 use std::io::{Read, Write};
+use std::net::{Ipv4Addr, SocketAddrV4, TcpStream};
 use std::test::Fail;
 use std::{fs, io};
 use test_texts::samples::{MAP, SITE};
 use test_texts::streams::ORDER;
 use text_core::Text;
 
-/// Lines of words, and what becomes of each: the job and the names that it has, help, whose text says
-/// how the program is used, or a refusal, whose text names an error.
-const LINES: &[(&str, &str)] = &[
+/// Lines of words, and what becomes of each: the job and the names and numbers that it has, help,
+/// whose text says how the program is used, the version, whose text has its number alone, or a
+/// refusal, whose text names an error.
+pub const LINES: &[(&str, &str)] = &[
     ("station replay --site site.toml", "replay site.toml"),
     (
         "station replay --site=../a/site.toml",
@@ -25,15 +27,15 @@ const LINES: &[(&str, &str)] = &[
     ("station replay --site a --db=--db", "replay a --db"),
     (
         "station serve --site a --db x --port 80 --connections 1",
-        "serve a x",
+        "serve a x 80 1",
     ),
     (
         "station serve --connections=1000000 --port=65535 --db=x --site=a",
-        "serve a x",
+        "serve a x 65535 1000000",
     ),
     (
         "station serve --existing --site a --db x --port 80 --connections 1",
-        "serve a x existing",
+        "serve a x existing 80 1",
     ),
     (
         "station replay --site a --db x --existing",
@@ -53,10 +55,19 @@ const LINES: &[(&str, &str)] = &[
     ("station check-map --help", "help"),
     ("station check-map map.toml -h", "help"),
     ("station help check-map", "help"),
+    ("station --version", "version"),
+    ("station -V", "version"),
+    ("station --version --help", "version"),
+    ("station --version serve", "version"),
+    ("station --help --version", "help"),
     ("", "refused"),
     ("station", "refused"),
     ("replay --site site.toml", "refused"),
     ("station frobnicate", "refused"),
+    ("station --version=1", "refused"),
+    ("station version", "refused"),
+    ("station serve --version", "refused"),
+    ("station replay --site a -V", "refused"),
     ("station help frobnicate", "refused"),
     ("station replay", "refused"),
     ("station replay site.toml", "refused"),
@@ -123,28 +134,62 @@ fn word_for<'a>(text: &'a str, part: &str, word: &'a str) -> &'a str {
     if text.contains(part) { word } else { text }
 }
 
+/// The store that a job names.
+fn store_told(alloc: Global, store: &StoreName) -> Result<String, AllocError> {
+    let existing = if store.is_existing { " existing" } else { "" };
+    format!(in alloc; "{}{existing}", store.file.as_str())
+}
+
+/// A job, and the names and numbers that it has.
+fn job_told(alloc: Global, job: &Job) -> Result<String, AllocError> {
+    match job {
+        Job::Serve {
+            site,
+            store,
+            port,
+            connections,
+        } => {
+            let store = store_told(alloc, store)?;
+            format!(in alloc; "serve {} {store} {port} {connections}", site.as_str())
+        }
+        Job::Replay {
+            site,
+            store: Some(store),
+        } => {
+            let store = store_told(alloc, store)?;
+            format!(in alloc; "replay {} {store}", site.as_str())
+        }
+        Job::Replay { site, store: None } => format!(in alloc; "replay {}", site.as_str()),
+        Job::CheckMap { map } => format!(in alloc; "check-map {}", map.as_str()),
+    }
+}
+
+/// The word for a text that is printed where words ask for one.
+fn shown(alloc: Global, text: &str) -> Result<String, AllocError> {
+    let version = format!(in alloc; "station {VERSION}\n")?;
+    let word = if text == version.as_str() {
+        "version"
+    } else {
+        word_for(text, "Usage: station", "help")
+    };
+    String::from_str(alloc, word)
+}
+
+/// What becomes of words, by what was read.
+pub fn outcome_of(alloc: Global, found: &Result<Job, WordsFault>) -> Result<String, AllocError> {
+    match found {
+        Ok(job) => job_told(alloc, job),
+        Err(WordsFault::Help(text)) => shown(alloc, text.as_str()),
+        Err(WordsFault::Refused(text)) => {
+            String::from_str(alloc, word_for(text.as_str(), "error: ", "refused"))
+        }
+        Err(WordsFault::NoMemory) => String::from_str(alloc, "no memory"),
+    }
+}
+
 /// What becomes of words.
 fn outcome(alloc: Global, words: &[&str]) -> Result<String, AllocError> {
-    let found = read_job(alloc, words);
-    let (outcome, name, store) = match &found {
-        Ok(Job::Replay { site, store }) => ("replay ", site.as_str(), store.as_ref()),
-        Ok(Job::CheckMap { map }) => ("check-map ", map.as_str(), None),
-        Ok(Job::Serve { site, store, .. }) => ("serve ", site.as_str(), Some(store)),
-        Err(WordsFault::Help(text)) => (
-            word_for(text.as_str(), "Usage: station", "help"),
-            "",
-            None,
-        ),
-        Err(WordsFault::Refused(text)) => (word_for(text.as_str(), "error: ", "refused"), "", None),
-        Err(WordsFault::NoMemory) => ("no memory", "", None),
-    };
-    match store {
-        Some(StoreName { file, is_existing }) => {
-            let existing = if *is_existing { " existing" } else { "" };
-            format!(in alloc; "{outcome}{name} {}{existing}", file.as_str())
-        }
-        None => format!(in alloc; "{outcome}{name}"),
-    }
+    outcome_of(alloc, &read_job(alloc, words))
 }
 
 /// What becomes of the words of a line.
@@ -257,6 +302,64 @@ const LONG_ENDS: &[(&[u8], bool)] = &[
     (b" and so on, and so on", false),
 ];
 
+/// Lines of words, the statuses that their jobs end with over an empty stream, and the lines on
+/// standard error.
+const ENDS: &[(&str, u8, &str)] = &[
+    ("station check-map ends_map.toml", 0, ""),
+    (
+        "station check-map none.toml",
+        1,
+        "station: cannot read none.toml\n",
+    ),
+    ("station check-map ends.toml", 1, "station: map fault 2\n"),
+    ("station replay --site ends.toml", 0, ""),
+    (
+        "station replay --site none.toml",
+        1,
+        "station: cannot read none.toml\n",
+    ),
+    ("station replay --site ends.toml --db ends.db", 0, ""),
+    (
+        "station replay --site none.toml --db ends.db",
+        1,
+        "station: cannot read none.toml\n",
+    ),
+    (
+        "station replay --site ends_map.toml --db ends.db",
+        1,
+        "station: site fault 2\n",
+    ),
+    (
+        "station replay --site ends.toml --db none.db --existing",
+        1,
+        "station: store fault 2\n",
+    ),
+];
+
+/// The same of `serve`, without its port, for a client that says nothing.
+const ENDS_OF_PORTS: &[(&str, u8, &str)] = &[
+    (
+        "station serve --site ends.toml --db ends_of_port.db --connections 1",
+        0,
+        "",
+    ),
+    (
+        "station serve --site none.toml --db ends_of_port.db --connections 1",
+        1,
+        "station: cannot read none.toml\n",
+    ),
+    (
+        "station serve --site ends_map.toml --db ends_of_port.db --connections 1",
+        1,
+        "station: site fault 2\n",
+    ),
+    (
+        "station serve --site ends.toml --db none.db --existing --connections 1",
+        1,
+        "station: store fault 2\n",
+    ),
+];
+
 /// How many bytes the line has that says what the sample map is.
 const LINE_LENGTH: usize = 20;
 
@@ -357,6 +460,53 @@ impl Read for Interrupting {
     }
 }
 
+/// A writer that takes all, and at its flush comes to a port as so many clients that say nothing.
+#[derive(Drop)]
+struct Silent<'r> {
+    rt: &'r HostRuntime,
+    port: u16,
+    clients: u32,
+}
+
+impl Write for Silent<'_> {
+    fn write(&mut self, bytes: &[u8]) -> io::Result<usize> {
+        Ok(bytes.len())
+    }
+
+    fn flush(&mut self) -> io::Result<()> {
+        for _client in 0..self.clients {
+            let address = SocketAddrV4::new(Ipv4Addr::new(127, 0, 0, 1), self.port);
+            let _stream = TcpStream::connect(self.rt, address)?;
+        }
+        Ok(())
+    }
+}
+
+/// A port of this machine that nothing listens on.
+fn free_port(rt: &HostRuntime) -> Result<u16, Fail> {
+    let listener = listen(rt, 0).map_err(|_| "no port")?;
+    Ok(listener.local_addr()?.port())
+}
+
+/// Does the job of a line of words, `serve` over a port: its status, and the line on standard error.
+fn end_of_line(rt: &HostRuntime, alloc: Global, line: &str, port: u16) -> Result<String, Fail> {
+    let port_word = format!(in alloc; "--port={port}")?;
+    let mut words: Vec<&str> = line.split_whitespace().collect(alloc)?;
+    if line.contains(" serve ") {
+        words.push(port_word.as_str())?;
+    }
+    let job = read_job(alloc, words.as_slice()).map_err(|_| "no job")?;
+    let clients = match &job {
+        Job::Serve { connections, .. } => *connections,
+        _ => 0,
+    };
+    let output = Silent { rt, port, clients };
+    let mut err = Vec::new(alloc);
+    let status = run(rt, alloc, &job, b"".as_slice(), output, &mut err, Unknown);
+    let err = String::from_utf8(err).map_err(|_| "no text")?;
+    Ok(format!(in alloc; "{status} {err}")?)
+}
+
 /// Does a job to a writer that may fail: the line on standard error.
 fn line_of_failure(
     rt: &HostRuntime,
@@ -429,6 +579,46 @@ fn words_give_their_jobs(rt: HostRuntime) -> Result<(), Fail> {
         let told = outcome(rt.alloc(), &["station", "replay", "--site", name])?;
         assert_eq!(rt; told.as_str().strip_prefix("replay "), Some(*name));
     }
+    Ok(())
+}
+
+#[test]
+fn help_tells_of_the_version(rt: HostRuntime) -> Result<(), Fail> {
+    let text = match read_job(rt.alloc(), &["station", "--help"]) {
+        Err(WordsFault::Help(text)) => text,
+        _ => return Err(Fail::from("no help")),
+    };
+    assert!(rt; text.as_str().contains("-V, --version"), "{text}");
+    Ok(())
+}
+
+/// Does the jobs of these lines, for the sample site and map: what the first that doesn't end as its row
+/// says came to, or nothing.
+fn difference_of_ends(rt: &HostRuntime, rows: &[(&str, u8, &str)]) -> Result<String, Fail> {
+    fs::write(rt, "ends.toml", SITE)?;
+    fs::write(rt, "ends_map.toml", MAP)?;
+    let port = free_port(rt)?;
+    for (line, status, err) in rows {
+        let told = end_of_line(rt, rt.alloc(), line, port)?;
+        let wanted = format!(in rt.alloc(); "{status} {err}")?;
+        if told.as_str() != wanted.as_str() {
+            return Ok(format!(in rt.alloc(); "{line}: {wanted} -> {told}")?);
+        }
+    }
+    Ok(String::new(rt.alloc()))
+}
+
+#[test]
+fn jobs_over_streams_end_with_their_status(rt: HostRuntime) -> Result<(), Fail> {
+    let found = difference_of_ends(&rt, ENDS)?;
+    assert_eq!(rt; found.as_str(), "");
+    Ok(())
+}
+
+#[test]
+fn jobs_over_ports_end_with_their_status(rt: HostRuntime) -> Result<(), Fail> {
+    let found = difference_of_ends(&rt, ENDS_OF_PORTS)?;
+    assert_eq!(rt; found.as_str(), "");
     Ok(())
 }
 

@@ -8,11 +8,17 @@ mod connections;
 #[cfg(test)]
 mod jobs;
 #[cfg(test)]
+mod kept;
+#[cfg(test)]
+mod names;
+#[cfg(test)]
 mod patience;
 #[cfg(test)]
 mod refused;
 #[cfg(test)]
 mod replays;
+#[cfg(test)]
+mod replies;
 #[cfg(test)]
 mod serving;
 #[cfg(test)]

@@ -1,6 +1,7 @@
 //! How long a connection holds up the others: clients that say nothing, that are kept, that drip, that
-//! take nothing, and those that come behind them, at the bounds of the program.
-use crate::clients::{Script, served_clients};
+//! send all at once, that take nothing, and those that come behind them, at the bounds of the program;
+//! and what is waited for where no connection can be accepted.
+use crate::clients::{Failing, Scene, Script, Taking, served_clients};
 use std::alloc::Global;
 use std::test::Fail;
 use test_texts::samples::SITE;
@@ -19,49 +20,77 @@ const SHOWN_PART: &str =
 
 const REST_PART: &str = "me=none HTTP/1.1\r\nAuthorization: Bearer abc\r\n\r\nGET /v1/order?na";
 
-/// The most bytes that a client takes at a time.
-const ALL: usize = 65_536;
+/// The rest of a request with a whole one behind it.
+const REST_SHOWN: &str =
+    "me=none HTTP/1.1\r\nAuthorization: Bearer abc\r\n\r\nGET /v1/order?name=none HTTP/1.1\r\nAuthorization: Bearer abc\r\n\r\n";
+
+/// An order with a name and a prefix of its own, by its number.
+const ORDERS: &str =
+    "POST /v1/order HTTP/1.1\r\nAuthorization: Bearer abc\r\nContent-Length: 132\r\n\r\n{\"nr\":#,\"name\":\"order-of-thirty-two-letters.@\",\"issuer\":\"acme-ca\",\"prefix\":\"A@-\",\"width\":1,\"first\":0,\"quantity\":1,\"macs\":0}";
+
+/// The head and the body of an order, with room for 65,440 bytes between them.
+const LONG_HEAD: &str =
+    "POST /v1/order HTTP/1.1\r\nAuthorization: Bearer abc\r\nContent-Length: 65536\r\n\r\n";
+
+const BODY: &str =
+    "{\"nr\":1,\"name\":\"o1\",\"issuer\":\"acme-ca\",\"prefix\":\"A\",\"width\":3,\"first\":998,\"quantity\":2,\"macs\":0}";
+
+/// The report of the orders.
+const REPORT: &str = "GET /v1/report HTTP/1.1\r\nAuthorization: Bearer abc\r\n\r\n";
+
+/// A client that takes at once what it is sent.
+const ALL: Taking = Taking::After(0);
 
 /// A client that asks once at its third second and then closes its side.
-const SECOND: Script = (3_000, &[(3_000, SHOWN), (3_000, "")], ALL);
+const SECOND: Script = (3_000, &[(3_000, SHOWN, 1), (3_000, "", 1)], ALL);
 
-/// What clients do, and of each how many replies it took and when its connection was closed, in
-/// milliseconds. Where another connection waits that is seen behind at most 50 of them.
-const CLIENTS: &[(&str, &[Script], &str)] = &[
-    ("says nothing, alone", &[(0, &[], ALL)], "0 until 10000"),
+/// What clients do that say nothing or are kept, and of each the statuses and lengths of the replies that
+/// it took and when its connection was closed, in milliseconds. Where another connection waits that is seen
+/// behind at most 50 of them.
+const KEPT: &[(&str, &[Script], &str)] = &[
+    (
+        "says nothing, alone",
+        &[(0, &[], ALL)],
+        "0 bytes until 10000",
+    ),
     (
         "says nothing, and another comes",
         &[(0, &[], ALL), SECOND],
-        "0 until 3000, 1 until 3000",
+        "0 bytes until 3000, 404:33 until 3000",
     ),
     (
         "says nothing, and another comes at once",
-        &[(0, &[], ALL), (100, &[(100, SHOWN), (100, "")], ALL)],
-        "0 until 2000, 1 until 2000",
+        &[(0, &[], ALL), (100, &[(100, SHOWN, 1), (100, "", 1)], ALL)],
+        "0 bytes until 2000, 404:33 until 2000",
     ),
     (
         "is kept with pauses of a second, alone",
         &[(
             0,
-            &[(0, SHOWN), (1_000, SHOWN), (2_000, SHOWN), (3_000, "")],
+            &[
+                (0, SHOWN, 1),
+                (1_000, SHOWN, 1),
+                (2_000, SHOWN, 1),
+                (3_000, "", 1),
+            ],
             ALL,
         )],
-        "3 until 3000",
+        "3x404:33 until 3000",
     ),
     (
         "is kept with a pause of less than ten seconds, alone",
-        &[(0, &[(0, SHOWN), (9_990, SHOWN), (9_990, "")], ALL)],
-        "2 until 9990",
+        &[(0, &[(0, SHOWN, 1), (9_990, SHOWN, 1), (9_990, "", 1)], ALL)],
+        "2x404:33 until 9990",
     ),
     (
         "is kept with a pause of ten seconds, alone",
-        &[(0, &[(0, SHOWN), (10_001, SHOWN)], ALL)],
-        "1 until 10000",
+        &[(0, &[(0, SHOWN, 1), (10_001, SHOWN, 1)], ALL)],
+        "404:33 until 10000",
     ),
     (
         "is kept and says nothing, and another comes",
-        &[(0, &[(0, SHOWN)], ALL), SECOND],
-        "1 until 3000, 1 until 3000",
+        &[(0, &[(0, SHOWN, 1)], ALL), SECOND],
+        "404:33 until 3000, 404:33 until 3000",
     ),
     (
         "is kept and asks each 40 ms, and another comes",
@@ -69,18 +98,18 @@ const CLIENTS: &[(&str, &[Script], &str)] = &[
             (
                 2_900,
                 &[
-                    (2_900, SHOWN),
-                    (2_940, SHOWN),
-                    (2_980, SHOWN),
-                    (3_020, SHOWN),
-                    (3_060, SHOWN),
-                    (3_100, SHOWN),
+                    (2_900, SHOWN, 1),
+                    (2_940, SHOWN, 1),
+                    (2_980, SHOWN, 1),
+                    (3_020, SHOWN, 1),
+                    (3_060, SHOWN, 1),
+                    (3_100, SHOWN, 1),
                 ],
                 ALL,
             ),
             SECOND,
         ],
-        "6 until 3150, 1 until 3150",
+        "6x404:33 until 3150, 404:33 until 3150",
     ),
     (
         "is kept and goes on to ask each 40 ms, and another comes",
@@ -88,55 +117,88 @@ const CLIENTS: &[(&str, &[Script], &str)] = &[
             (
                 2_900,
                 &[
-                    (2_900, SHOWN),
-                    (2_940, SHOWN),
-                    (2_980, SHOWN),
-                    (3_020, SHOWN),
-                    (3_060, SHOWN),
-                    (3_100, SHOWN),
-                    (3_140, SHOWN),
-                    (3_180, SHOWN),
-                    (3_220, SHOWN),
-                    (3_260, SHOWN),
-                    (3_300, SHOWN),
-                    (3_340, SHOWN),
-                    (3_380, SHOWN),
-                    (3_420, SHOWN),
-                    (3_460, SHOWN),
+                    (2_900, SHOWN, 1),
+                    (2_940, SHOWN, 1),
+                    (2_980, SHOWN, 1),
+                    (3_020, SHOWN, 1),
+                    (3_060, SHOWN, 1),
+                    (3_100, SHOWN, 1),
+                    (3_140, SHOWN, 1),
+                    (3_180, SHOWN, 1),
+                    (3_220, SHOWN, 1),
+                    (3_260, SHOWN, 1),
+                    (3_300, SHOWN, 1),
+                    (3_340, SHOWN, 1),
+                    (3_380, SHOWN, 1),
+                    (3_420, SHOWN, 1),
+                    (3_460, SHOWN, 1),
                 ],
                 ALL,
             ),
             SECOND,
         ],
-        "14 until 3420, 1 until 3420",
+        "14x404:33 until 3420, 404:33 until 3420",
     ),
+];
+
+/// The same of clients whose next requests are there already.
+const AT_ONCE: &[(&str, &[Script], &str)] = &[
     (
         "has sent its next requests already, and another comes",
         &[
             (
                 2_990,
                 &[
-                    (2_990, SHOWN),
-                    (3_000, SHOWN),
-                    (3_000, SHOWN),
-                    (3_000, SHOWN),
-                    (3_001, SHOWN),
+                    (2_990, SHOWN, 1),
+                    (3_000, SHOWN, 1),
+                    (3_000, SHOWN, 1),
+                    (3_000, SHOWN, 1),
+                    (3_001, SHOWN, 1),
                 ],
                 ALL,
             ),
             SECOND,
         ],
-        "5 until 3051, 1 until 3051",
+        "5x404:33 until 3051, 404:33 until 3051",
     ),
     (
+        "sends 200 requests all at once, alone",
+        &[(
+            0,
+            &[(0, SHOWN, 200), (9_000, SHOWN, 1), (9_000, "", 1)],
+            Taking::After(5),
+        )],
+        "201x404:33 until 9010",
+    ),
+    (
+        "sends 200 requests all at once, and another comes",
+        &[(2_990, &[(2_990, SHOWN, 200)], Taking::After(5)), SECOND],
+        "41x404:33 until 3400, 404:33 until 3400",
+    ),
+    (
+        "sends 200 requests all at once, each of a second, and another waits",
+        &[
+            (0, &[(0, SHOWN, 200)], Taking::After(500)),
+            (0, &[(0, SHOWN, 1), (0, "", 1)], ALL),
+        ],
+        "404:33 until 1000, 404:33 until 1000",
+    ),
+];
+
+/// The same of clients that send their requests in parts.
+const IN_PARTS: &[(&str, &[Script], &str)] = &[
+    (
         "sends a request in two parts",
-        &[(0, &[(0, PART), (9_990, REST), (9_990, "")], ALL), SECOND],
-        "1 until 9990, 1 until 9990",
+        &[
+            (0, &[(0, PART, 1), (9_990, REST, 1), (9_990, "", 1)], ALL),
+            SECOND,
+        ],
+        "404:33 until 9990, 404:33 until 9990",
     ),
     (
         "sends a request in two parts, the second too late",
-        &[(0, &[(0, PART), (10_001, REST)], ALL), SECOND],
-        "0 until 10000, 1 until 10000",
+        &[(0, &[(0, PART, 1), (10_001, REST, 1)], ALL), SECOND],
+        "0 bytes until 10000, 404:33 until 10000",
     ),
     (
         "sends a byte each four seconds",
@@ -144,36 +206,51 @@ const CLIENTS: &[(&str, &[Script], &str)] = &[
             (
                 0,
                 &[
-                    (0, "G"),
-                    (4_000, "E"),
-                    (8_000, "T"),
-                    (12_000, " "),
-                    (16_000, "/"),
+                    (0, "G", 1),
+                    (4_000, "E", 1),
+                    (8_000, "T", 1),
+                    (12_000, " ", 1),
+                    (16_000, "/", 1),
                 ],
                 ALL,
             ),
             SECOND,
         ],
-        "0 until 10000, 1 until 10000",
+        "0 bytes until 10000, 404:33 until 10000",
+    ),
+    (
+        "sends a request of 65,536 bytes in three parts",
+        &[(
+            0,
+            &[
+                (0, LONG_HEAD, 1),
+                (10, " ", 60_000),
+                (20, " ", 5_440),
+                (30, BODY, 1),
+                (30, "", 1),
+            ],
+            ALL,
+        )],
+        "200:132 until 30",
     ),
     (
         "has the next request under way with each reply, alone",
         &[(
             0,
             &[
-                (0, SHOWN_PART),
-                (9_000, REST_PART),
-                (18_000, REST_PART),
-                (27_000, REST_PART),
-                (36_000, REST_PART),
-                (45_000, REST_PART),
-                (54_000, REST_PART),
-                (63_000, REST),
-                (63_000, ""),
+                (0, SHOWN_PART, 1),
+                (9_000, REST_PART, 1),
+                (18_000, REST_PART, 1),
+                (27_000, REST_PART, 1),
+                (36_000, REST_PART, 1),
+                (45_000, REST_PART, 1),
+                (54_000, REST_PART, 1),
+                (63_000, REST, 1),
+                (63_000, "", 1),
             ],
             ALL,
         )],
-        "8 until 63000",
+        "8x404:33 until 63000",
     ),
     (
         "has the next request under way with each reply, and another comes",
@@ -181,54 +258,187 @@ const CLIENTS: &[(&str, &[Script], &str)] = &[
             (
                 0,
                 &[
-                    (0, SHOWN_PART),
-                    (9_000, REST_PART),
-                    (18_000, REST_PART),
-                    (27_000, REST_PART),
-                    (36_000, REST_PART),
-                    (45_000, REST_PART),
-                    (54_000, REST_PART),
-                    (63_000, REST),
+                    (0, SHOWN_PART, 1),
+                    (9_000, REST_PART, 1),
+                    (18_000, REST_PART, 1),
                 ],
                 ALL,
             ),
             SECOND,
         ],
-        "7 until 60000, 1 until 60000",
+        "2x404:33 until 9000, 404:33 until 9000",
     ),
     (
+        "has the next request under way with each reply, and another comes after 62 seconds",
+        &[
+            (
+                0,
+                &[
+                    (0, SHOWN_PART, 1),
+                    (9_000, REST_PART, 1),
+                    (18_000, REST_PART, 1),
+                    (27_000, REST_PART, 1),
+                    (36_000, REST_PART, 1),
+                    (45_000, REST_PART, 1),
+                    (54_000, REST_PART, 1),
+                    (62_000, REST_SHOWN, 1),
+                ],
+                ALL,
+            ),
+            (61_999, &[(61_999, SHOWN, 1), (61_999, "", 1)], ALL),
+        ],
+        "8x404:33 until 62000, 404:33 until 62000",
+    ),
+];
+
+/// The same of clients by how they take their replies, and of one with many of them.
+const TAKING: &[(&str, &[Script], &str)] = &[
+    (
         "takes nothing of its reply",
-        &[(0, &[(0, SHOWN), (0, "")], 0), SECOND],
-        "0 until 10000, 1 until 10000",
+        &[(0, &[(0, SHOWN, 1), (0, "", 1)], Taking::AtMost(0)), SECOND],
+        "0 bytes until 10000, 404:33 until 10000",
     ),
     (
         "takes a byte of its reply each 50 ms",
-        &[(0, &[(0, SHOWN), (0, "")], 1), SECOND],
-        "1 until 5450, 1 until 5450",
+        &[(0, &[(0, SHOWN, 1), (0, "", 1)], Taking::AtMost(1)), SECOND],
+        "404:33 until 5450, 404:33 until 5450",
+    ),
+    (
+        "takes a byte of each of two replies each 50 ms",
+        &[(
+            0,
+            &[(0, SHOWN, 1), (0, SHOWN, 1), (0, "", 1)],
+            Taking::AtMost(1),
+        )],
+        "2x404:33 until 10900",
+    ),
+    (
+        "takes a byte of the replies to two requests in one each 50 ms",
+        &[(0, &[(0, SHOWN, 2), (0, "", 1)], Taking::AtMost(1))],
+        "404:33 92 bytes until 10000",
+    ),
+    (
+        "has gone when it is replied to",
+        &[(0, &[(0, SHOWN, 1), (0, SHOWN, 1)], Taking::Gone), SECOND],
+        "0 bytes until 1, 404:33 until 3000",
+    ),
+    (
+        "makes 1,300 orders all at once, and asks for a report of more than 65,536 bytes",
+        &[(0, &[(0, ORDERS, 1_300), (0, REPORT, 1), (0, "", 1)], ALL)],
+        "1300x200:168 200:66395 until 0",
     ),
 ];
 
 /// What became of simulated clients, as a text.
-fn told(alloc: Global, scripts: &[Script]) -> Result<String, Fail> {
-    let count = u32::try_from(scripts.len()).map_err(|_| "too many clients")?;
-    let (accepted, outcomes) = served_clients(alloc, SITE, scripts, count)?;
+fn told(alloc: Global, begun: u64, failing: Failing, scripts: &[Script]) -> Result<String, Fail> {
+    let scene = Scene {
+        site: SITE,
+        begun,
+        failing,
+        scripts,
+        count: u32::try_from(scripts.len()).map_err(|_| "too many clients")?,
+    };
+    let (accepted, outcomes) = served_clients(alloc, &scene)?;
     let mut text = String::new(alloc);
     if accepted.is_err() {
-        text.push_str("no connection, ")?;
+        text.push_str("no connection")?;
     }
     for outcome in outcomes.iter() {
         let comma = if text.is_empty() { "" } else { ", " };
-        let one = format!(in alloc; "{comma}{} until {}", outcome.replies(), outcome.closed())?;
-        text.push_str(one.as_str())?;
+        text.push_str(comma)?;
+        text.push_str(outcome.told(alloc)?.as_str())?;
     }
     Ok(text)
 }
 
+/// How long the clocks have run when all begins, in milliseconds: one that was started, and one of sixty
+/// days.
+const BEGUN: [u64; 2] = [0, 5_184_000_000];
+
+/// The first of the clients that had another outcome, by how long the clocks have run, and this outcome.
+fn first_difference(
+    alloc: Global,
+    clients: &[(&str, &[Script], &str)],
+    begun: u64,
+) -> Result<String, Fail> {
+    for row in clients {
+        let outcome = told(alloc, begun, &[], row.1)?;
+        if outcome.as_str() != row.2 {
+            return Ok(format!(in alloc; "{} {begun} -> {}", row.0, outcome.as_str())?);
+        }
+    }
+    Ok(String::new(alloc))
+}
+
 #[test]
-fn no_connection_holds_the_line(rt: HostRuntime) -> Result<(), Fail> {
-    for row in CLIENTS {
-        let told = told(rt.alloc(), row.1)?;
-        assert_eq!(rt; told.as_str(), row.2, "{}", row.0);
+fn no_kept_connection_holds_the_line(rt: HostRuntime) -> Result<(), Fail> {
+    for begun in BEGUN {
+        let found = first_difference(rt.alloc(), KEPT, begun)?;
+        assert_eq!(rt; found.as_str(), "");
+    }
+    Ok(())
+}
+
+#[test]
+fn requests_that_are_there_already_hold_no_line(rt: HostRuntime) -> Result<(), Fail> {
+    for begun in BEGUN {
+        let found = first_difference(rt.alloc(), AT_ONCE, begun)?;
+        assert_eq!(rt; found.as_str(), "");
+    }
+    Ok(())
+}
+
+#[test]
+fn requests_in_parts_hold_no_line(rt: HostRuntime) -> Result<(), Fail> {
+    for begun in BEGUN {
+        let found = first_difference(rt.alloc(), IN_PARTS, begun)?;
+        assert_eq!(rt; found.as_str(), "");
+    }
+    Ok(())
+}
+
+#[test]
+fn replies_hold_no_line(rt: HostRuntime) -> Result<(), Fail> {
+    for begun in BEGUN {
+        let found = first_difference(rt.alloc(), TAKING, begun)?;
+        assert_eq!(rt; found.as_str(), "");
+    }
+    Ok(())
+}
+
+/// How accepting a connection fails at first, and what became of a client that came at once.
+const ACCEPTS: &[(Failing, &str)] = &[
+    (&[(103, 1_000), (4, 1_000)], "404:33 until 0"),
+    (&[(24, 1)], "404:33 until 100"),
+    (
+        &[
+            (12, 50),
+            (23, 50),
+            (24, 50),
+            (64, 50),
+            (71, 50),
+            (92, 50),
+            (95, 50),
+            (100, 50),
+            (101, 50),
+            (105, 50),
+            (112, 50),
+            (113, 50),
+        ],
+        "404:33 until 60000",
+    ),
+    (&[(24, 601)], "no connection, 0 bytes until 0"),
+    (&[(24, 600), (103, 1), (24, 600)], "404:33 until 120000"),
+    (&[(9, 1)], "no connection, 0 bytes until 0"),
+    (&[(24, 1), (22, 1)], "no connection, 0 bytes until 0"),
+];
+
+#[test]
+fn what_passes_is_waited_for(rt: HostRuntime) -> Result<(), Fail> {
+    const CLIENT: Script = (0, &[(0, SHOWN, 1), (0, "", 1)], ALL);
+    for (failing, wanted) in ACCEPTS {
+        let told = told(rt.alloc(), 0, failing, &[CLIENT])?;
+        assert_eq!(rt; told.as_str(), *wanted, "{failing:?}");
     }
     Ok(())
 }

@@ -57,14 +57,48 @@ fn all_rows<S: Alter>(alloc: Global, conn: &mut Connection<S>, sql: &str) -> Res
     rows_of(alloc, conn)
 }
 
-/// The same of the database in the file of a name, which is closed.
-fn all_rows_in(rt: &HostRuntime, name: &str, sql: &str) -> Result<String, Fail> {
+/// Copies the files of a database, unless there is no name for the copy.
+fn copy_files(rt: &HostRuntime, name: &str, copy: &str) -> Result<(), Fail> {
+    if copy.is_empty() {
+        return Ok(());
+    }
+    let log = format!(in rt.alloc(); "{name}-wal")?;
+    let log_copy = format!(in rt.alloc(); "{copy}-wal")?;
+    fs::write(rt, copy, fs::read(rt, name)?.as_slice())?;
+    fs::write(
+        rt,
+        log_copy.as_str(),
+        fs::read(rt, log.as_str())?.as_slice(),
+    )?;
+    Ok(())
+}
+
+/// Changes a database by SQL, and copies its files while it is open: all that stands in it then.
+fn all_rows_and_copy<S: Alter>(
+    rt: &HostRuntime,
+    conn: &mut Connection<S>,
+    sql: &str,
+    names: (&str, &str),
+) -> Result<String, Fail> {
+    let shown = all_rows(rt.alloc(), conn, sql)?;
+    copy_files(rt, names.0, names.1)?;
+    Ok(shown)
+}
+
+/// The same of the database in the file of a name, which is closed. Before that its files are copied to another
+/// name, as a kill would leave them, unless there is none.
+pub fn rows_with_copy(rt: &HostRuntime, name: &str, sql: &str, copy: &str) -> Result<String, Fail> {
     let mut conn = Connection::open(rt, name)?;
-    let shown = all_rows(rt.alloc(), &mut conn, sql);
+    let shown = all_rows_and_copy(rt, &mut conn, sql, (name, copy));
     let closed = conn.close();
     let shown = shown?;
     closed?;
     Ok(shown)
+}
+
+/// The same without a copy.
+pub fn all_rows_in(rt: &HostRuntime, name: &str, sql: &str) -> Result<String, Fail> {
+    rows_with_copy(rt, name, sql, "")
 }
 
 /// What the program writes for a stream over the store in the file of a name.
@@ -123,7 +157,7 @@ fn fault_of_opening(rt: &HostRuntime, path: &str) -> Result<u8, Fail> {
 }
 
 /// What is at a path: the bytes of the file, and whether it has a log.
-fn found_at(rt: &HostRuntime, path: &str) -> Result<String, Fail> {
+pub fn found_at(rt: &HostRuntime, path: &str) -> Result<String, Fail> {
     let log = format!(in rt.alloc(); "{path}-wal")?;
     let has_log = fs::exists(rt, log.as_str())?;
     Ok(format!(in rt.alloc(); "{:?} {has_log}", fs::read(rt, path).ok())?)

@@ -16,6 +16,9 @@ const STORED_SITE: &str = "stored_site.toml";
 /// The name of the file with the text of one that grew from it.
 const GROWN_SITE: &str = "stored_grown.toml";
 
+/// The name of the file with the text of one that grew from that, from three customers to four.
+const FOUR_CUSTOMERS: &str = "stored_four.toml";
+
 /// The name of the file with the text of a site in which each customer has all that it may have.
 const FULL_SITE: &str = "stored_full.toml";
 
@@ -83,6 +86,12 @@ const RUNS: &[(&str, Option<&str>, &str, &str)] = &[
         "$ORDER",
         "station: store fault 1\n",
     ),
+    (
+        "stored_other.toml",
+        Some("existing own.db"),
+        "$ORDER",
+        "station: store fault 1\n",
+    ),
     (GROWN_SITE, Some("own.db"), "$SHOWN", "$ORDERED"),
     (
         STORED_SITE,
@@ -95,6 +104,19 @@ const RUNS: &[(&str, Option<&str>, &str, &str)] = &[
         Some("own.db"),
         "$ORDER$SHOWN",
         "$ORDERED$ORDERED",
+    ),
+    (FOUR_CUSTOMERS, Some("own.db"), "$SHOWN", "$ORDERED"),
+    (
+        GROWN_SITE,
+        Some("own.db"),
+        "$SHOWN",
+        "station: store fault 1\n",
+    ),
+    (
+        FOUR_CUSTOMERS,
+        Some("existing own.db"),
+        "$ORDER",
+        "$ORDERED",
     ),
     (FULL_SITE, Some("full.db"), "$ORDER", "$ORDERED"),
     (
@@ -191,6 +213,12 @@ fn make_files_of_runs(rt: &HostRuntime) -> Result<(), Fail> {
         fs::write(rt, file.0, file.1)?;
     }
     fs::write(rt, FULL_SITE, full_site(rt.alloc())?.as_str())?;
+    let four = SITE_WITH_A_CUSTOMER.replace(
+        rt.alloc(),
+        "[manager]",
+        "[[customer]]\nname = \"dune\"\nissuer = []\n[manager]",
+    )?;
+    fs::write(rt, FOUR_CUSTOMERS, four.as_str())?;
     make_folder(rt, "stored_folder")
 }
 

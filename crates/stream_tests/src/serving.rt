@@ -1,11 +1,12 @@
 //! The job of a port: what the program serves over a file, twice, and where it fails.
-use crate::clients::{Script, served_clients};
+use crate::clients::{Scene, Script, Taking, served_clients};
+use crate::refused::found_at;
 use sqlite_disk::Unknown;
 use station_jobs::{Job, listen, read_job, run};
 use std::alloc::Global;
 use std::cell::RefCell;
 use std::io::{ErrorKind, Write};
-use std::net::{Ipv4Addr, SocketAddrV4, TcpStream};
+use std::net::{Ipv4Addr, Shutdown, SocketAddrV4, TcpStream};
 use std::os::unix::fs::PermissionsExt;
 use std::test::Fail;
 use std::{fs, io};
@@ -19,7 +20,7 @@ pub const UNKNOWN: &str =
     "HTTP/1.1 404 Not Found\r\nContent-Type: application/json\r\nContent-Length: 33\r\n\r\n{\"error\":\"unknown_order\",\"no\":14}";
 
 /// A client that asks once and closes its side.
-const ONE: Script = (0, &[(0, SHOWN), (0, "")], 65_536);
+const ONE: Script = (0, &[(0, SHOWN, 1), (0, "", 1)], Taking::After(0));
 
 /// How many clients come, one after another.
 const MANY: usize = 1_100;
@@ -31,8 +32,25 @@ const LONG_REMARK: usize = 100_000;
 const SITE_ALONE: &str =
     "[[customer]]\nname = \"acme\"\nissuer = [\"acme-ca\"]\n[[customer.seat]]\nname = \"a1\"\ntoken = \"ba7816bf8f01cfea414140de5dae2223b00361a396177a9cb410ff61f20015ad\"\n";
 
-/// A writer that holds what is written, and at its flush connects to a port so often and sends there
-/// what each connection is to send.
+/// Words of stores over which a port isn't served, the status and the line, and the name at which nothing may be
+/// made then, where there is one.
+const UNSERVED: &[(&str, &str, &str)] = &[
+    ("--db no/such/file", "1 station: store fault 3\n", ""),
+    (
+        "--db served_none.db --existing",
+        "1 station: store fault 2\n",
+        "served_none.db",
+    ),
+    (
+        "--db served_empty.db --existing",
+        "1 station: store fault 2\n",
+        "served_empty.db",
+    ),
+    ("--db taken.db", "1 station: listen failed\n", ""),
+];
+
+/// A writer that holds what is written, and at its flush connects to a port so often, sends there what each
+/// connection is to send, and closes its side of it. At another address of this machine the port must refuse it.
 #[derive(Drop)]
 struct Callers<'r, 'q, 's, 'v, 'w> {
     rt: &'r HostRuntime,
@@ -55,10 +73,15 @@ impl Write for Callers<'_, '_, '_, '_, '_> {
         let Ok(mut streams) = self.streams.try_borrow_mut() else {
             return Err(io::Error::from(ErrorKind::Other));
         };
+        let other = SocketAddrV4::new(Ipv4Addr::new(127, 0, 0, 2), self.port);
+        if TcpStream::connect(self.rt, other).is_ok() {
+            return Err(io::Error::from(ErrorKind::AddrInUse));
+        }
         for request in self.requests {
             let address = SocketAddrV4::new(Ipv4Addr::new(127, 0, 0, 1), self.port);
             let mut stream = TcpStream::connect(self.rt, address)?;
             stream.write_all(request.as_bytes())?;
+            stream.shutdown(Shutdown::Write)?;
             if streams.push(stream).is_err() {
                 return Err(io::Error::from(ErrorKind::OutOfMemory));
             }
@@ -67,23 +90,23 @@ impl Write for Callers<'_, '_, '_, '_, '_> {
     }
 }
 
-/// The job of a port over a store with these words.
-fn job_of(alloc: Global, port: u16, store: &str, count: usize) -> Result<Job, Fail> {
-    let line = format!(in alloc;
-        "station serve --site served.toml --port {port} --connections {count} {store}"
-    )?;
+/// The job of words behind the program's name.
+fn job_of(alloc: Global, words: &str) -> Result<Job, Fail> {
+    let line = format!(in alloc; "station {words}")?;
     let words: Vec<&str> = line.split_whitespace().collect(alloc)?;
     read_job(alloc, words.as_slice()).map_err(|_| Fail::from("no job"))
 }
 
-/// The lines on both outputs, and what connections got behind each other.
+/// A status, the lines on both outputs, and what connections got behind each other.
 fn joined(
     alloc: Global,
+    status: u8,
     written: Vec<u8>,
     err: Vec<u8>,
     streams: Vec<TcpStream>,
 ) -> Result<String, Fail> {
-    let mut text = String::from_utf8(written).map_err(|_| "no text")?;
+    let mut text = format!(in alloc; "{status} ")?;
+    text.push_str(String::from_utf8(written).map_err(|_| "no text")?.as_str())?;
     text.push_str(String::from_utf8(err).map_err(|_| "no text")?.as_str())?;
     for stream in streams {
         text.push_str(io::read_to_string(alloc, stream)?.as_str())?;
@@ -91,8 +114,8 @@ fn joined(
     Ok(text)
 }
 
-/// What the program writes and what each connection gets, in a run of its port over a store with these
-/// words: the lines on both outputs, and the replies behind each other.
+/// How the program ends, what it writes and what each connection gets, in a run of its port over a site and a
+/// store with these words: the status, the lines on both outputs, and the replies behind each other.
 fn served(
     rt: &HostRuntime,
     alloc: Global,
@@ -100,7 +123,9 @@ fn served(
     store: &str,
     requests: &[&str],
 ) -> Result<String, Fail> {
-    let job = job_of(alloc, port, store, requests.len())?;
+    let count = requests.len();
+    let words = format!(in alloc; "serve --port {port} --connections {count} {store}")?;
+    let job = job_of(alloc, words.as_str())?;
     let streams = RefCell::new(Vec::new(alloc));
     let written = RefCell::new(Vec::new(alloc));
     let callers = Callers {
@@ -111,8 +136,44 @@ fn served(
         written: &written,
     };
     let mut err = Vec::new(alloc);
-    run(rt, alloc, &job, b"".as_slice(), callers, &mut err, Unknown);
-    joined(alloc, written.into_inner(), err, streams.into_inner())
+    let status = run(rt, alloc, &job, b"".as_slice(), callers, &mut err, Unknown);
+    joined(
+        alloc,
+        status,
+        written.into_inner(),
+        err,
+        streams.into_inner(),
+    )
+}
+
+/// How a replay with these words ends and what it writes: the status, and what is on both outputs.
+fn replayed(rt: &HostRuntime, alloc: Global, words: &str, stream: &str) -> Result<String, Fail> {
+    let job = job_of(alloc, words)?;
+    let mut out = Vec::new(alloc);
+    let mut err = Vec::new(alloc);
+    let status = run(
+        rt,
+        alloc,
+        &job,
+        stream.as_bytes(),
+        &mut out,
+        &mut err,
+        Unknown,
+    );
+    joined(alloc, status, out, err, Vec::new(alloc))
+}
+
+/// How the program ends and what it answers to a stream: the status, the lines on both outputs but that of a
+/// port, and the replies. The words are those of `replay`, or of `serve` without a port, which is served to one
+/// connection.
+pub fn done_by(rt: &HostRuntime, alloc: Global, words: &str, stream: &str) -> Result<String, Fail> {
+    let Some(store) = words.strip_prefix("serve ") else {
+        return replayed(rt, alloc, words, stream);
+    };
+    let port = free_port(rt)?;
+    let told = served(rt, alloc, port, store, &[stream])?;
+    let line = format!(in alloc; "listening on 127.0.0.1:{port}\n")?;
+    Ok(told.as_str().replace(alloc, line.as_str(), "")?)
 }
 
 /// A port of this machine that nothing listens on.
@@ -121,9 +182,9 @@ fn free_port(rt: &HostRuntime) -> Result<u16, Fail> {
     Ok(listener.local_addr()?.port())
 }
 
-/// The line of a port, and then what connections got.
+/// The status of success, the line of a port, and then what connections got.
 fn with_line(alloc: Global, port: u16, replies: &[&str]) -> Result<String, Fail> {
-    let mut text = format!(in alloc; "listening on 127.0.0.1:{port}\n")?;
+    let mut text = format!(in alloc; "0 listening on 127.0.0.1:{port}\n")?;
     for reply in replies {
         text.push_str(reply)?;
     }
@@ -145,10 +206,11 @@ fn what_a_first_run_issued_the_second_knows(rt: HostRuntime) -> Result<(), Fail>
     let site = format!(in alloc; "{SITE}# {remark}\n")?;
     fs::write(&rt, "served.toml", site.as_str())?;
     let port = free_port(&rt)?;
-    let first = served(&rt, alloc, port, "--db served.db", &[SHOWN, ORDER])?;
+    let words = "--site served.toml --db served.db";
+    let first = served(&rt, alloc, port, words, &[SHOWN, ORDER])?;
     let wanted = with_line(alloc, port, &[UNKNOWN, ORDERED])?;
     assert_eq!(rt; first.as_str(), wanted.as_str());
-    let again = "--db served.db --existing";
+    let again = "--site served.toml --db served.db --existing";
     let second = served(&rt, alloc, port, again, &[SHOWN, ORDER])?;
     let wanted = with_line(alloc, port, &[ORDERED, ORDERED])?;
     assert_eq!(rt; second.as_str(), wanted.as_str());
@@ -159,18 +221,33 @@ fn what_a_first_run_issued_the_second_knows(rt: HostRuntime) -> Result<(), Fail>
     Ok(())
 }
 
+/// Serves a port over a store that can't be: how the program ends and what it writes, and behind an arrow
+/// what is at the name then, where nothing may be made there and that isn't what was there before.
+fn told_unserved(
+    rt: &HostRuntime,
+    alloc: Global,
+    port: u16,
+    row: &(&str, &str, &str),
+) -> Result<String, Fail> {
+    let store = format!(in alloc; "--site unserved.toml {}", row.0)?;
+    let before = found_at(rt, row.2)?;
+    let told = served(rt, alloc, port, store.as_str(), &[SHOWN])?;
+    let after = found_at(rt, row.2)?;
+    if after.as_str() == before.as_str() {
+        return Ok(told);
+    }
+    Ok(format!(in alloc; "{told} -> {after}")?)
+}
+
 #[test]
 fn failures_of_a_port_are_told_behind_those_of_the_store(rt: HostRuntime) -> Result<(), Fail> {
-    let alloc = rt.alloc();
-    fs::write(&rt, "served.toml", SITE)?;
+    fs::write(&rt, "unserved.toml", SITE)?;
+    fs::write(&rt, "served_empty.db", "")?;
     let taken = listen(&rt, 0).map_err(|_| "no port")?;
     let port = taken.local_addr()?.port();
-    for (store, line) in [
-        ("--db no/such/file", "station: store fault 3\n"),
-        ("--db taken.db", "station: listen failed\n"),
-    ] {
-        let told = served(&rt, alloc, port, store, &[SHOWN])?;
-        assert_eq!(rt; told.as_str(), line, "{store}");
+    for row in UNSERVED {
+        let told = told_unserved(&rt, rt.alloc(), port, row)?;
+        assert_eq!(rt; told.as_str(), row.1, "{}", row.0);
     }
     Ok(())
 }
@@ -182,13 +259,22 @@ fn replies_to_many(alloc: Global, count: u32, come: usize) -> Result<String, Fai
     for _client in 0..come {
         scripts.push(ONE)?;
     }
-    let (accepted, outcomes) = served_clients(alloc, SITE_ALONE, scripts.as_slice(), count)?;
+    let scene = Scene {
+        site: SITE_ALONE,
+        begun: 0,
+        failing: &[],
+        scripts: scripts.as_slice(),
+        count,
+    };
+    let (accepted, outcomes) = served_clients(alloc, &scene)?;
     match accepted {
         Ok(accepted) => {
-            let replies = outcomes
-                .iter()
-                .filter(|outcome| outcome.replies() == 1)
-                .count();
+            let mut replies = 0u32;
+            for outcome in outcomes.iter() {
+                if outcome.told(alloc)?.as_str() == "404:33 until 0" {
+                    replies = replies.saturating_add(1);
+                }
+            }
             Ok(format!(in alloc; "{accepted} accepted, {replies} replied to")?)
         }
         Err(failure) => Ok(failure.to_string(alloc)?),

@@ -1,5 +1,5 @@
 //! What is printed where the words of the command line give no job, and that all words are read.
-use crate::jobs::Short;
+use crate::jobs::{LINES, Short, outcome_of};
 use station_jobs::{Job, WordsFault, job_from_env, report};
 use std::alloc::Global;
 use std::env::FillError;
@@ -16,27 +16,45 @@ const FAULTS: &[(&str, &str)] = &[
     ("no memory", "1 [] [station: no memory\n]"),
 ];
 
-/// The words of a command line with ten words.
-const WORDS: &[&str] = &[
-    "station",
-    "serve",
-    "--site",
-    "a",
-    "--db",
-    "x",
-    "--port",
-    "80",
-    "--connections",
-    "7",
+/// Long lines of words, how many there are, and what becomes of them: a job with the names and numbers
+/// that it has, or the first line of the refusal. No line that is longer than twelve words is a job.
+const LONG_LINES: &[(usize, &str, &str)] = &[
+    (
+        10,
+        "station serve --site a --db x --port 80 --connections 7",
+        "serve a x 80 7",
+    ),
+    (
+        11,
+        "station serve --site a --db x --port 80 --connections 7 --existing",
+        "serve a x existing 80 7",
+    ),
+    (
+        12,
+        "station serve --site a --db x --port 80 --connections 7 --existing --",
+        "serve a x existing 80 7",
+    ),
+    (
+        13,
+        "station serve --site a --db x --port 80 --connections 7 --existing -- b",
+        "error: unexpected argument 'b' found",
+    ),
+    (
+        19,
+        "station serve --site a --db x --port 80 --connections 7 --existing --site b --db y --port 81 --connections 8",
+        "error: the argument '--site <F>' cannot be used multiple times",
+    ),
 ];
 
-/// The words of a system that has these.
+/// A system that passes its program these words.
 #[derive(Drop)]
-struct Words;
+struct Words<'a> {
+    words: &'a [&'a str],
+}
 
-impl Env for Words {
+impl Env for Words<'_> {
     fn arg(&self, i: usize, buf: &mut [u8]) -> Result<usize, FillError> {
-        let Some(word) = WORDS.get(i) else {
+        let Some(word) = self.words.get(i) else {
             return Err(FillError::NotPresent);
         };
         if word.len() > buf.len() {
@@ -92,12 +110,32 @@ fn faults_of_words_are_printed(rt: HostRuntime) -> Result<(), Fail> {
     Ok(())
 }
 
+/// How many words a line has, and what becomes of them where the system passes them.
+fn passed(alloc: Global, line: &str) -> Result<(usize, Result<Job, WordsFault>), Fail> {
+    let words: Vec<&str> = line.split_whitespace().collect(alloc)?;
+    let system = Words {
+        words: words.as_slice(),
+    };
+    Ok((words.len(), job_from_env(&(system, alloc))))
+}
+
 #[test]
 fn all_words_are_read(rt: HostRuntime) -> Result<(), Fail> {
-    let read = match job_from_env(&(Words, rt.alloc())) {
-        Ok(Job::Serve { connections, .. }) => connections,
-        _ => 0,
-    };
-    assert_eq!(rt; read, 7);
+    for row in LINES {
+        let (_count, found) = passed(rt.alloc(), row.0)?;
+        let told = outcome_of(rt.alloc(), &found)?;
+        assert_eq!(rt; told.as_str(), row.1, "{}", row.0);
+    }
+    for row in LONG_LINES {
+        let (count, found) = passed(rt.alloc(), row.1)?;
+        assert_eq!(rt; count, row.0, "{}", row.1);
+        let told = match &found {
+            Err(WordsFault::Refused(text)) => text.as_str().lines().next().unwrap_or(""),
+            _ => "",
+        };
+        let job = outcome_of(rt.alloc(), &found)?;
+        let told = if told.is_empty() { job.as_str() } else { told };
+        assert_eq!(rt; told, row.2, "{}", row.1);
+    }
     Ok(())
 }

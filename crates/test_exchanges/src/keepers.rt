@@ -19,11 +19,18 @@ pub trait Fresh: Keep + Drop {
     fn fresh(alloc: Global) -> Result<Self, Fail> {
         Self::of_site(alloc, SITE)
     }
+
+    /// The keeper that is had where its store is opened again for the site of a text.
+    fn reopened(self, alloc: Global, site: &str) -> Result<Self, Fail>;
 }
 
 impl Fresh for MemKeep {
     fn of_site(alloc: Global, _site: &str) -> Result<MemKeep, Fail> {
         Ok(MemKeep::new(alloc))
+    }
+
+    fn reopened(self, _alloc: Global, _site: &str) -> Result<MemKeep, Fail> {
+        Ok(self)
     }
 }
 
@@ -31,6 +38,10 @@ impl Fresh for SqlMemory {
     fn of_site(alloc: Global, site: &str) -> Result<SqlMemory, Fail> {
         let conn = Connection::open_in_memory(alloc)?;
         adopted(alloc, conn, site)
+    }
+
+    fn reopened(self, alloc: Global, site: &str) -> Result<SqlMemory, Fail> {
+        adopted(alloc, self.into_connection(), site)
     }
 }
 

@@ -159,7 +159,7 @@ csv customer,orders,quantity,registered,planned,settled,identified,shipped,quara
 "#;
 
 /// The last request of each seat again: its reply as it was kept, without the member that it has now.
-const REPEATED: &str = r#"
+pub const REPEATED: &str = r#"
 a1 POST /v1/identity {"nr":34,"chip":"000000000009","public_key":"d366132a5d40829f8fbb3f2e0be5357b67e50573c42ebbcffe2257a76ee8162c"}
 200 {"chip":"000000000009","issuer":"acme-ca",
   "key_sha256":"2c9b255b3fa784b93c407cd04bc84674dcd7ea867a5903be37bd09a88101cd83","mac":null,
@@ -170,7 +170,7 @@ b1 POST /v1/import {"nr":7,"issuer":"bolt-ca","csv":"serial,key_sha256\nA0010,c1
 
 /// What is asked for then: identities under orders from before, which have no beginning, and an order that
 /// has one, with an identity of it.
-const GOES_ON: &str = r#"
+pub const GOES_ON: &str = r#"
 a1 POST /v1/identity {"nr":35,"chip":"000000000004","public_key":"00"}
 200 {"chip":"000000000004","issuer":"acme-ca",
   "key_sha256":"6e340b9cffb37a989ca544e6bb780a2c78901d3fb33738768511a30617afa01d","mac":null,
@@ -199,7 +199,7 @@ a1 POST /v1/identity {"nr":42,"chip":"00000000000b","public_key":"02"}
 "#;
 
 /// And what the books show of it.
-const SHOWN_THEN: &str = r#"
+pub const SHOWN_THEN: &str = r#"
 a1 GET /v1/order?name=with-macs
 200 {"first":9,"issuer":"acme-ca","mac":"020000000010","macs":1,"name":"with-macs","next":null,
   "not_before":null,"prefix":"A","quantity":3,"width":4}

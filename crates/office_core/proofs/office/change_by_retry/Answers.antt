@@ -19,6 +19,8 @@ returns-in-Next g c = record {
       (λ made.
       let next = sym (c.in_ok-body.ensures.answer made.0) ∙ c.in-Next.is in
       (reads.was_open made.0, made.1, rw (next, ← reads.same made.0) made.2));
+  text = λ honest text told.
+      c.make.ensures.text honest text (c.find_retry.ensures.read_only.text (c.make.ensures.was_honest honest) text told);
   commits =
       let reads = c.find_retry.ensures.read_only in
       last_behind g.K.Keep _ _ _ _ _ reads.uncommitted c.make.ensures.commits

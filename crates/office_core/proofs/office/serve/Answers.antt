@@ -12,5 +12,6 @@ returns-in-Show g c = record {
       c.args.request.now c.in-Show.asked c.show.result c.in-Show.is
       (c.show.ensures.read_only.same is) (c.show.ensures.answer is);
   crash = search rules;
+  text = c.show.ensures.read_only.text;
   commits = inl c.show.ensures.read_only.uncommitted;
 }

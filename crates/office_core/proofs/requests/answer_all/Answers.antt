@@ -29,6 +29,7 @@ loop-asked-init g c = record {
       record {
         run = refl;
         crash = leaves_none (g.K.Keep.may_leave c.args.keep.now) t;
+        text = λ _ _ told. told;
         stands = stands;
       },
     ),
@@ -80,6 +81,8 @@ loop-asked-preserved g c =
                           Step (section_at site asked.caller) (seat_name_at site asked.caller) m
                           asked.request made.1 left) (first.1.stands made.0) made.2,
                     ))));
+                text = λ honest text told.
+                    c.answer.ensures.text honest text (first.1.text (c.answer.ensures.was_honest honest) text told);
                 stands = step.6;
               },
             ),

@@ -36,7 +36,7 @@ loop-part-preserved g c =
             second.0,
             rw (run.1, calls_more, joined)
                 (answered_joined g.K.Keep c.args.keep.now c.loop-part.keep c.answer_all.new.keep xs
-                ys t first.0 second.0 first.1 second.1),
+                ys t first.0 second.0 c.answer_all.ensures.was_honest first.1 second.1),
           );
     }
 

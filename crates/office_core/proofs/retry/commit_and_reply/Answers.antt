@@ -12,6 +12,7 @@ returns g c = record {
   crash = λ honest t left.
       or_then (c.commit.ensures.crash honest t left)
       (λ all. (c.requires.open (c.commit.ensures.was_honest honest), answer_of c.args.reply, (all, refl)));
+  text = c.commit.ensures.text;
   commits =
       inr (record {
         once = c.commit.ensures.counted;
@@ -29,6 +30,7 @@ returns-in_err-commit g c = record {
   crash = λ honest t left.
       or_then (c.commit.ensures.crash honest t left)
       (λ all. (c.requires.open (c.commit.ensures.was_honest honest), answer_of c.args.reply, (all, refl)));
+  text = c.commit.ensures.text;
   commits =
       inr (record {
         once = c.commit.ensures.counted;

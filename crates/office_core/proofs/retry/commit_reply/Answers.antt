@@ -32,5 +32,6 @@ returns g c =
               all.2.1 ∙ c.accepted.ensures,
             ),
           ));
+      text = made.text;
       commits = made.commits;
     }

@@ -10,7 +10,7 @@ invariant-loop-row g l =
     let k = g.K.Keep in
     let given = issued_in l.issuer (k.tables l.fn.keep) in
     record {
-      read_only : Reads k.is_open k.is_honest k.may_leave k.tables k.commits l.fn.keep l.keep;
+      read_only : Reads k.is_open k.is_honest k.may_leave k.tells_text k.tables k.commits l.fn.keep l.keep;
       stays_open : k.is_honest l.keep → k.is_open l.keep;
       left : k.is_open l.keep
           → resumed l.added.items l.present

@@ -1,5 +1,5 @@
 use Rattle.site_core.specs.Prelude.{ownership_of}
-use Rattle.site_growth.proofs.Kept.{owners_grown}
+use Rattle.site_core.proofs.Kept.{owners_grown}
 use Rattle.office_laws.proofs.Grown.{growth_itself, growth_more, sound_grown}
 use Rattle.office_laws.proofs.runs.sites_may_grow.Goals as goal
 

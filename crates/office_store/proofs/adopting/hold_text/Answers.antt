@@ -44,5 +44,13 @@ pub returns-in-Ok-false : goal.returns-in-Ok-false
 returns-in-Ok-false g c =
     let test = c.in-Ok-false.ensures in
     prepared_after g.S.Store c.args.site.now c.args.conn.now c.has_text.new.conn c.grow.new.conn c.grow.result (λ _. ⊤)
-    (record { answer = λ clean. tt; same = test.same; rests = test.rests; mode = test.mode c.requires.found.mode; refused = tt; crash = test.crash })
+    (record {
+      answer = λ clean. tt;
+      same = test.same;
+      rests = test.rests;
+      mode = test.mode c.requires.found.mode;
+      refused = tt;
+      shown = λ clean. tt;
+      crash = test.crash;
+    })
     c.grow.ensures

@@ -1,13 +1,13 @@
 -- A schema of no version is refused, and nothing is done.
-use Rattle.std.proofs.Common.{◌≡◌, ◌≢◌, false, true≢false, Err, inl, refl, sym, subst, ◌∙◌, arith}
+use Rattle.std.proofs.Common.{◌≡◌, ◌≢◌, false, true≢false, Err, inl, refl, sym, subst, ◌∙◌}
 use Rattle.site_core.specs.Prelude.{TextOfSite}
 use Rattle.sqlite.specs.Held.{Held, state}
 use Rattle.sqlite.specs.Store.{Ghosts}
 use Rattle.office_sql.specs.Prelude.{no_schema}
-use Rattle.office_store.specs.Prelude.{PreparesTables}
+use Rattle.office_store.specs.Prelude.{IsPreparedFor, PreparesTables}
 use Rattle.office_found.specs.Prelude.{IsOfNoVersion}
 use Rattle.office_store.specs.declared.fault.OpenFault.TheVariants.{OtherTables}
-use Rattle.office_store.proofs.Preparing.{unprepared}
+use Rattle.office_store.proofs.Preparing.{stays, unprepared}
 use Rattle.office_store.proofs.adopting.prepare_tables.Goals as goal
 
 refused : {S : Type 0} (g : Ghosts S) (site : TextOfSite) (conn : Held S)
@@ -21,10 +21,19 @@ refused g site conn mode some none = unprepared g site conn conn OtherTables mod
       other_schema = λ up other. refl;
     })
     (λ clean. record { was_open = λ up. up; committed = λ up. refl })
-    (record { clean = omega arith; shield = λ h. h; counts = omega arith; limit = refl; closes = λ _ up. inl up; crash = λ _ db left. inl left })
+    (λ other. record { same = λ clean. refl; crash = stays (state g conn) (λ _. ⊥) })
+    (stays (state g conn) (IsPreparedFor site (state g conn)))
 
-pub returns-in-None : goal.returns-in-None
-returns-in-None g c =
+pub returns-in-None-clause-prepares : goal.returns-in-None-clause-prepares
+returns-in-None-clause-prepares g c =
     refused g.S.Store c.args.site.now c.args.conn.now c.requires.mode
     (λ e. true≢false (sym (c.is_empty_schema.ensures.1 (c.schema.ensures.value ∙ e)) ∙ c.if-is_empty_schema.false))
     (subst IsOfNoVersion c.schema-2.ensures.value c.in-None.ensures.none)
+
+pub returns-then-is_empty_schema-clause-other_schema : goal.returns-then-is_empty_schema-clause-other_schema
+returns-then-is_empty_schema-clause-other_schema g c other =
+    absurd (other.0 (sym c.schema.ensures.value ∙ c.is_empty_schema.ensures.0 c.if-is_empty_schema.true))
+
+pub returns-in-Some-clause-other_schema : goal.returns-in-Some-clause-other_schema
+returns-in-Some-clause-other_schema g c other =
+    absurd (other.1 c.in-Some.version (sym c.schema-2.ensures.value ∙ c.in-Some.ensures.some))

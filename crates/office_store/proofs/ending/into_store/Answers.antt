@@ -2,7 +2,7 @@
 use Rattle.text_core.proofs.Kit.{arith, subst, ∥∥₁_map}
 use Rattle.office_sql.proofs.Kit.{over_files, HoldsDatabase, Trees, HasCleanDisk, state, opens_again}
 use Rattle.office_keep.specs.Prelude.{may_leave_at}
-use Rattle.office_found.specs.Prelude.{IsOfSite}
+use Rattle.office_found.specs.Prelude.{HoldsSite, IsOfSite}
 use Rattle.office_store.proofs.ending.into_store.Goals as goal
 
 pub returns-clause-was_honest : goal.returns-clause-was_honest
@@ -29,5 +29,19 @@ returns-clause-found g c = λ clean left may tables found.
           (state over_files k).may_leave it.0)
           c.into_connection-conn.ensures.same (store.quiet.outcomes it.0 it.1),
       found.held it.0 it.2,
+    )
+    in r)
+
+pub returns-clause-told : goal.returns-clause-told
+returns-clause-told g c = λ clean text tells left may.
+    let store = c.into_store.ensures in
+    ∥∥₁_map (opens_again c.into_store.result (store.numbered clean) (store.sound clean) left may)
+    (λ it. let r : (db : Trees) × HoldsDatabase left db × HoldsSite text db = (
+      it.0,
+      it.2,
+      tells it.0
+          (subst (λ k.
+          (state over_files k).may_leave it.0)
+          c.into_connection-conn.ensures.same (store.quiet.outcomes it.0 it.1)),
     )
     in r)

@@ -17,6 +17,7 @@ returns-in-Seat-Office g c =
     rw (c.in-Seat-Office.is-0, c.in-Seat-Office.is-1) (record {
       was_open = c.answer.ensures.was_open;
       was_honest = c.answer.ensures.was_honest;
+      text = c.answer.ensures.text;
       said = tt;
       answered = λ honest t stands.
           let site = c.args.desk.now.site.now in

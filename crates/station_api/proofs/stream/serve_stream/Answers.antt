@@ -1,7 +1,7 @@
 use Rattle.http_serving.specs.Prelude.{requests_with_answers}
 use Rattle.station_api.specs.Prelude.{Says, AnswersHttp, exchange_in}
 use Rattle.station_api.proofs.KeptRuns.{led}
-use Rattle.station_api.proofs.Streaming.{runs_honest, runs_said, runs_tables}
+use Rattle.station_api.proofs.Streaming.{runs_honest, runs_said, runs_tables, runs_text}
 use Rattle.station_api.proofs.stream.serve_stream.Goals as goal
 
 pub returns-clause-was_honest : goal.returns-clause-was_honest
@@ -24,6 +24,7 @@ returns-clause-run g c =
       (λ honest t stands.
           let over = runs_tables k (Says site) (exchange_in site) (AnswersHttp site) exchanges old new made.2 honest t stands in (
             over.0,
-            led k site old new c.fact_rules.ensures exchanges t over.0 over.1 over.2 over.3,
+            led k site old new c.fact_rules.ensures exchanges t over.0 over.1 over.2
+                (runs_text k (Says site) (exchange_in site) (AnswersHttp site) exchanges old new made.2) over.3,
           )),
     )

@@ -6,5 +6,5 @@ abbrev pub invariant-loop-turn : goal.invariant-loop-turn
 invariant-loop-turn g l = record {
   was_honest : g.K.Keep.is_honest l.keep → g.K.Keep.is_honest l.fn.keep;
   reaches : LeadsOn g.K.Keep l.fn.site l.fn.keep l.keep;
-  counted : l.connections.accepted ≡ l.fn.connections.accepted + l._turn;
+  counted : l.arrivals.given ≡ l.fn.arrivals.given + l._turn;
 }

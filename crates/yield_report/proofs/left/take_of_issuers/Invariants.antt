@@ -10,7 +10,7 @@ invariant-loop-place g l =
     let before = l.fn.lines.items in
     let given = has_issued_in (k.tables l.fn.keep) in
     record {
-      read_only : Reads k.is_open k.is_honest k.may_leave k.tables k.commits l.fn.keep l.keep;
+      read_only : Reads k.is_open k.is_honest k.may_leave k.tells_text k.tables k.commits l.fn.keep l.keep;
       stays_open : k.is_honest l.keep → k.is_open l.keep;
       taken : k.is_open l.keep → AreLines before → AreApart before → l.left.items ≡ map (left_so_far given (take l.place before)) before;
       are_lines : k.is_open l.keep → AreLines before → AreLines l.left.items;

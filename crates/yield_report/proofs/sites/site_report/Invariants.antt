@@ -8,7 +8,7 @@ abbrev pub invariant-loop-customer : goal.invariant-loop-customer
 invariant-loop-customer g l =
     let k = g.K.Keep in
     record {
-      read_only : Reads k.is_open k.is_honest k.may_leave k.tables k.commits l.fn.keep l.keep;
+      read_only : Reads k.is_open k.is_honest k.may_leave k.tells_text k.tables k.commits l.fn.keep l.keep;
       stays_open : k.is_honest l.keep → k.is_open l.keep;
       reported : k.is_open l.keep → IsReported (k.tables l.fn.keep) (take l.customer-index l.customer-items) l.text.items;
     }

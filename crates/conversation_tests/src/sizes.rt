@@ -1,0 +1,123 @@
+//! What is served of large sites and texts: a map with as many fields as a map may have, a site with as many
+//! customers, and an import of as many rows, as long as a body may be.
+use crate::limits::{Limit, Rows};
+use std::alloc::{AllocError, Global};
+use std::test::Fail;
+use test_exchanges::keepers::over_each;
+use test_texts::numbered::numbered;
+use test_texts::samples::SITE;
+
+/// The import of the sample map with more fields behind it, up to them.
+const MAP_UP_TO_FIELDS: &str = "@ order\na1 POST /v1/map {\"nr\":2,\"text\":\"$MAP";
+
+/// A further field of the map, a bit of block 0, as JSON has it; `#` stands for its number. 121 of them, from
+/// 20 on, and the sample's seven are 128.
+const FIELD: &str = r#"[[field]]\nname = \"F#\"\nblock = 0\nbit = #\ncount = 1\n"#;
+
+/// Behind the fields: a device under the map whose plan has a key and the last 41 of them, by its digest of
+/// Python's hashlib.
+const MAP_BEHIND_FIELDS: &str = r#""}
+200 {"map":"29718871c7997260d34529a2dc977f81d6b2840bffdd0b9907e523dc697f4e80"}
+a1 POST /v1/device {"nr":3,"chip":"00000000000a","order":"o1","map":"29718871c7997260d34529a2dc977f81d6b2840bffdd0b9907e523dc697f4e80","blocks":<>}
+200 {"bits":[],"chip":"00000000000a","keys":{},
+  "map":"29718871c7997260d34529a2dc977f81d6b2840bffdd0b9907e523dc697f4e80","order":"o1",
+  "pending":{"batch1":$NONE,"batch2":$NONE},"reason":null,"serial":null,"state":"registered"}
+a1 POST /v1/plan {"nr":4,"chip":"00000000000a","wishes":[$TIMES~41~{"kind":"bit","field":"F#","index":0},~{"kind":"key","field":"BLOCK1","key_sha256":"630dcd2966c4336691125448bbb25b4ff412a49c732db2c8abc1b8581bd710dd"}]}
+200 {"batch1":{"bits":[
+    {"block":0,"mask":"fffffff0","word":3},
+    {"block":0,"mask":"00001fff","word":4}],
+    "keys":{"BLOCK1":"630dcd2966c4336691125448bbb25b4ff412a49c732db2c8abc1b8581bd710dd"}},
+  "batch2":$NONE,"state":"awaiting1"}
+"#;
+
+/// The read-back of what was planned, and what is shown of the device then.
+const BURNT: &str = r#"
+a1 POST /v1/readback {"nr":5,"chip":"00000000000a","blocks":<0.3=fffffff0 0.4=00001fff 1.0=03020100 1.1=07060504 1.2=0b0a0908 1.3=0f0e0d0c 1.4=13121110 1.5=17161514 1.6=1b1a1918 1.7=1f1e1d1c>}
+200 {"outcome":"match","rest":$NONE,"state":"settled"}
+a1 GET /v1/device?chip=00000000000a
+200 {"bits":[
+    {"block":0,"mask":"fffffff0","word":3},
+    {"block":0,"mask":"00001fff","word":4}],
+  "chip":"00000000000a",
+  "keys":{"BLOCK1":"630dcd2966c4336691125448bbb25b4ff412a49c732db2c8abc1b8581bd710dd"},
+  "map":"29718871c7997260d34529a2dc977f81d6b2840bffdd0b9907e523dc697f4e80","order":"o1",
+  "pending":{"batch1":$NONE,"batch2":$NONE},"reason":null,"serial":null,"state":"settled"}
+"#;
+
+/// A customer of a site; `#` stands for its number.
+const CUSTOMER: &str = "[[customer]]\nname = \"c#\"\nissuer = [\"c#-ca\"]\n";
+
+/// The line of such a customer in the site's report.
+const CUSTOMER_LINE: &str = "c#,0,0,0,0,0,0,0,0,0,0|";
+
+/// What is asked of a site of 64 customers, of which `$LINES` stands for the lines of all but the first.
+const OF_ALL_CUSTOMERS: &str = r#"
+a1 POST /v1/order {"nr":1,"name":"o1","issuer":"acme-ca","prefix":"A","width":3,"first":998,"quantity":2,"macs":0}
+200 {"first":998,"issuer":"acme-ca","mac":null,"macs":0,"name":"o1","next":"A998","not_before":null,
+  "prefix":"A","quantity":2,"width":3}
+manager GET /v1/site/report
+csv customer,orders,quantity,registered,planned,settled,identified,shipped,quarantined,scrapped,serials_left|
+  acme,1,2,0,0,0,0,0,0,0,2|
+  bolt,0,0,0,0,0,0,0,0,0,0|
+  $LINES
+"#;
+
+/// An import of 500 serial numbers of 63 characters, 64,518 bytes of CSV, in a body of some 65,000; then the
+/// same again.
+const LONG_IMPORT: &str = r#"
+a1 POST /v1/import {"nr":1,"issuer":"acme-ca","csv":"serial,key_sha256\n$TIMES~500~SSSSSSSSSSSSSSSSSSSSSSSSSSSSSSSSSSSSSSSSSSSSSSSSSSSSSSSSSSSS#,0000000000000000000000000000000000000000000000000000000000000#\n~"}
+200 {"added":500,"present":0}
+a1 POST /v1/import {"nr":2,"issuer":"acme-ca","csv":"serial,key_sha256\n$TIMES~500~SSSSSSSSSSSSSSSSSSSSSSSSSSSSSSSSSSSSSSSSSSSSSSSSSSSSSSSSSSSS#,0000000000000000000000000000000000000000000000000000000000000#\n~"}
+200 {"added":0,"present":500}
+"#;
+
+/// The conversation about the map of 128 fields, up to the plan.
+fn map_of_many_fields(alloc: Global) -> Result<String, AllocError> {
+    let fields = numbered(alloc, FIELD, "#", 20, 141)?;
+    format!(in alloc; "{MAP_UP_TO_FIELDS}{fields}{MAP_BEHIND_FIELDS}")
+}
+
+/// The text of the sample site with 62 customers more, and the conversation about all 64.
+fn site_of_many_customers(alloc: Global) -> Result<(String, String), AllocError> {
+    let others = numbered(alloc, CUSTOMER, "#", 10, 72)?;
+    let text = format!(in alloc; "{others}[manager]")?;
+    let site = SITE.replace(alloc, "[manager]", text.as_str())?;
+    let lines = numbered(alloc, CUSTOMER_LINE, "#", 10, 72)?;
+    let asked = OF_ALL_CUSTOMERS.replace(alloc, "$LINES", lines.as_str())?;
+    Ok((site, asked))
+}
+
+/// Holds two conversations for the site of a text over each keeper, whose store is opened again between them:
+/// what differs first.
+fn first_of_both(alloc: Global, site: &str, first: &str, rest: &str) -> Result<String, Fail> {
+    let limit = Limit {
+        site,
+        first,
+        rows: Rows::None,
+        rest,
+    };
+    over_each(alloc, &limit)
+}
+
+#[test]
+fn maps_may_have_128_fields(rt: HostRuntime) -> Result<(), Fail> {
+    let first = map_of_many_fields(rt.alloc())?;
+    let found = first_of_both(rt.alloc(), SITE, first.as_str(), BURNT)?;
+    assert_eq!(rt; found.as_str(), "");
+    Ok(())
+}
+
+#[test]
+fn sites_may_have_64_customers(rt: HostRuntime) -> Result<(), Fail> {
+    let (site, asked) = site_of_many_customers(rt.alloc())?;
+    let found = first_of_both(rt.alloc(), site.as_str(), asked.as_str(), "")?;
+    assert_eq!(rt; found.as_str(), "");
+    Ok(())
+}
+
+#[test]
+fn imports_may_have_500_long_rows(rt: HostRuntime) -> Result<(), Fail> {
+    let found = first_of_both(rt.alloc(), SITE, LONG_IMPORT, "")?;
+    assert_eq!(rt; found.as_str(), "");
+    Ok(())
+}

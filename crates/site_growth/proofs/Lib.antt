@@ -1,4 +1,0 @@
--- The lemmas of this crate.
-pub mod Growing
-pub mod Kept
-pub mod Ordered
