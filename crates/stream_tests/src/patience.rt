@@ -355,8 +355,8 @@ fn told(alloc: Global, begun: u64, failing: Failing, scripts: &[Script]) -> Resu
 /// days.
 const BEGUN: [u64; 2] = [0, 5_184_000_000];
 
-/// The first of the clients that had another outcome, by how long the clocks have run, and this outcome.
-fn first_difference(
+/// The first of the clients that had another outcome where the clocks have run so long, and this outcome.
+fn difference_at(
     alloc: Global,
     clients: &[(&str, &[Script], &str)],
     begun: u64,
@@ -370,39 +370,42 @@ fn first_difference(
     Ok(String::new(alloc))
 }
 
+/// The first of them by whichever clocks.
+fn first_difference(alloc: Global, clients: &[(&str, &[Script], &str)]) -> Result<String, Fail> {
+    for begun in BEGUN {
+        let found = difference_at(alloc, clients, begun)?;
+        if !found.is_empty() {
+            return Ok(found);
+        }
+    }
+    Ok(String::new(alloc))
+}
+
 #[test]
 fn no_kept_connection_holds_the_line(rt: HostRuntime) -> Result<(), Fail> {
-    for begun in BEGUN {
-        let found = first_difference(rt.alloc(), KEPT, begun)?;
-        assert_eq!(rt; found.as_str(), "");
-    }
+    let found = first_difference(rt.alloc(), KEPT)?;
+    assert_eq!(rt; found.as_str(), "");
     Ok(())
 }
 
 #[test]
 fn requests_that_are_there_already_hold_no_line(rt: HostRuntime) -> Result<(), Fail> {
-    for begun in BEGUN {
-        let found = first_difference(rt.alloc(), AT_ONCE, begun)?;
-        assert_eq!(rt; found.as_str(), "");
-    }
+    let found = first_difference(rt.alloc(), AT_ONCE)?;
+    assert_eq!(rt; found.as_str(), "");
     Ok(())
 }
 
 #[test]
 fn requests_in_parts_hold_no_line(rt: HostRuntime) -> Result<(), Fail> {
-    for begun in BEGUN {
-        let found = first_difference(rt.alloc(), IN_PARTS, begun)?;
-        assert_eq!(rt; found.as_str(), "");
-    }
+    let found = first_difference(rt.alloc(), IN_PARTS)?;
+    assert_eq!(rt; found.as_str(), "");
     Ok(())
 }
 
 #[test]
 fn replies_hold_no_line(rt: HostRuntime) -> Result<(), Fail> {
-    for begun in BEGUN {
-        let found = first_difference(rt.alloc(), TAKING, begun)?;
-        assert_eq!(rt; found.as_str(), "");
-    }
+    let found = first_difference(rt.alloc(), TAKING)?;
+    assert_eq!(rt; found.as_str(), "");
     Ok(())
 }
 

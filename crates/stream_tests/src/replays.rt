@@ -1,6 +1,7 @@
 //! Replays over files of the disk: what the program writes with a store and without, and the stores
 //! that it refuses.
 use crate::jobs::written_by;
+use crate::serving::{SHOWN, UNKNOWN};
 use station_jobs::{Job, StoreName};
 use std::alloc::Global;
 use std::fs;
@@ -36,8 +37,8 @@ const FILES_OF_RUNS: &[(&str, &str)] = &[
     ),
 ];
 
-/// A request that shows the order.
-const ORDER_SHOWN: &str = "GET /v1/order?name=o1 HTTP/1.1\r\nAuthorization: Bearer abc\r\n\r\n";
+/// How often a long stream asks for the order: it has over two million bytes.
+const OFTEN: usize = 35_000;
 
 /// Runs, one after another: the name of the site's file, that of the store's where there is one, the
 /// stream, in which `$SHOWN` stands for a request that shows the order, and what is written. The
@@ -189,7 +190,7 @@ fn difference_of_run(
     run: &(&str, Option<&str>, &str, &str),
 ) -> Result<String, Fail> {
     let job = job_of(alloc, run.0, run.1)?;
-    let stream = run.2.replace(alloc, "$SHOWN", ORDER_SHOWN)?;
+    let stream = run.2.replace(alloc, "$SHOWN", SHOWN)?;
     let stream = with_orders(alloc, stream.as_str())?;
     let written = written_by(rt, alloc, &job, stream.as_bytes())?;
     let wanted = with_orders(alloc, run.3)?;
@@ -229,5 +230,18 @@ fn runs_write_what_they_must(rt: HostRuntime) -> Result<(), Fail> {
         let found = difference_of_run(&rt, rt.alloc(), row)?;
         assert_eq!(rt; found.as_str(), "", "{} {:?} {}", row.0, row.1, row.2);
     }
+    Ok(())
+}
+
+#[test]
+fn a_long_stream_is_served_to_its_end(rt: HostRuntime) -> Result<(), Fail> {
+    let alloc = rt.alloc();
+    fs::write(&rt, "long_stream.toml", SITE)?;
+    let job = job_of(alloc, "long_stream.toml", None)?;
+    let stream = SHOWN.repeat(alloc, OFTEN)?;
+    let written = written_by(&rt, alloc, &job, stream.as_bytes())?;
+    let wanted = UNKNOWN.repeat(alloc, OFTEN)?;
+    assert_eq!(rt; written.len(), wanted.len());
+    assert_eq!(rt; written.as_str() == wanted.as_str(), true);
     Ok(())
 }

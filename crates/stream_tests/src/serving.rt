@@ -23,7 +23,7 @@ pub const UNKNOWN: &str =
 const ONE: Script = (0, &[(0, SHOWN, 1), (0, "", 1)], Taking::After(0));
 
 /// How many clients come, one after another.
-const MANY: usize = 1_100;
+const MANY: usize = 70_000;
 
 /// How long a remark in a site's text is, that makes it one of more than 100,000 bytes.
 const LONG_REMARK: usize = 100_000;
@@ -284,7 +284,7 @@ fn replies_to_many(alloc: Global, count: u32, come: usize) -> Result<String, Fai
 #[test]
 fn each_connection_is_served(rt: HostRuntime) -> Result<(), Fail> {
     for (count, come, wanted) in [
-        (1_100, MANY, "1100 accepted, 1100 replied to"),
+        (70_000, MANY, "70000 accepted, 70000 replied to"),
         (3, 2, "station: accept failed"),
     ] {
         let told = replies_to_many(rt.alloc(), count, come)?;
