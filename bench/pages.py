@@ -22,6 +22,9 @@ SECONDS = 120
 BLOCK = re.compile(r"^```console\n(.*?)^```$", re.MULTILINE | re.DOTALL)
 MARK = "end of the walk's command"
 
+# sqlite3 as a page has it run, and not in its safe mode first of all: what a store says could then run a command.
+UNSAFE = re.compile(r"\bsqlite3\s+(?!-safe -readonly\b)\S.*")
+
 
 class Step:
     """A command of a page, its first line after `$ ` and the others after `> `, and its reply."""
@@ -45,6 +48,20 @@ def steps_of(block):
         else:
             steps[-1].reply.append(line)
     return steps
+
+
+def unsafe_lines(text):
+    """The lines of a page by their numbers that run sqlite3 without `-safe -readonly`."""
+    found = ((number, UNSAFE.search(line)) for number, line in enumerate(text.splitlines(), 1))
+    return [(number, it[0]) for number, it in found if it]
+
+
+def is_safe(page):
+    """Prints the lines of a page that run sqlite3 without `-safe -readonly`, and whether there are none."""
+    lines = unsafe_lines(page.read_text(encoding="utf-8"))
+    for number, line in lines:
+        print(f"{page.name}:{number}: sqlite3 without -safe -readonly: {line}")
+    return not lines
 
 
 def at_ports(text, old, new):
