@@ -1,0 +1,369 @@
+"""What bench/tokens tries of nginx itself: certificates, shares, health and TLS."""
+
+import re
+import shutil
+import socket
+import time
+from concurrent.futures import ThreadPoolExecutor
+
+from served import HOST
+from tokens_cases import ASKING, LATER, NO_ORDER, ORDER, STRANGER, by, client_of, seats, told, until, working
+from tokens_place import CERTIFICATES, CONF, INNER, ROOT, ran, refusal
+
+
+def certificates(place, tried):
+    """stations by certificate: good, revoked, of another authority, and a list that has ended"""
+    ours, made = with_certificates(place, tried)
+
+    def ask(name, *more, token="Bearer certificate"):
+        return told(place.ask(token, ORDER, more=[*made.get(name, []), *more]))
+
+    for version in ("--http1.1", "--http2"):
+        tried.same(f"{version} good", [ask(it, version) for it in ("pc1", "pc2", "looks")], [NO_ORDER] * 3)
+        tried.same(f"{version} one that looks", ask("looks", version, "-d", "{}"), (403, refusal("wrong_caller", 8)))
+        asked = len(place.recorder.heads)
+        for name, token in [
+            ("foreign", "certificate"),
+            ("nobody", "certificate"),
+            (None, "certificate"),
+            ("pc1", "abc"),
+        ]:
+            tried.same(f"{version} {name}: {token}", ask(name, version, token=by(token)), STRANGER)
+        tried.same(f"{version} without the word", ask("pc1", version, token=None), STRANGER)
+        tried.same(f"{version} came through", place.recorder.heads[asked:], [])
+    tried.same("a token without a certificate", ask(None, token=by(place.outer["work"])), NO_ORDER)
+    tried.same("clients/python", client_by_certificate(place, made["pc1"]), NO_ORDER[0])
+    inner = [re.search(rb"Bearer (\S*)", head)[1].decode() for head in place.recorder.heads]
+    tried.same("each is its own seat's", inner[:3], [INNER[it] for it in ("a1", "b1", "a1")])
+    ran(["openssl", "ca", "-config", "ca.cnf", "-revoke", "pc1.pem"], ours)
+    place.revocations(ours)
+    tried.same("revoked: before nginx is told", ask("pc1"), NO_ORDER)
+    place.reload()
+    asked = len(place.recorder.heads)
+    tried.same("revoked", (ask("pc1"), ask("pc1", token=by(place.outer["work"]))), (STRANGER, STRANGER))
+    tried.same("came through", place.recorder.heads[asked:], [])
+    tried.same("another goes on", ask("pc2"), NO_ORDER)
+    place.revocations(ours, "-crlsec", "1")
+    time.sleep(2)
+    place.reload()
+    tried.same("a list that has ended: none by certificate", [ask(it) for it in ("pc2", "looks")], [STRANGER] * 2)
+    tried.same("tokens go on", ask(None, token=by(place.outer["work"])), NO_ORDER)
+
+
+def client_by_certificate(place, words):
+    """The status that clients/python is refused with by its certificate, as the page has it."""
+    text = f"""
+import ssl, sys
+sys.path.insert(0, {str(ROOT / "clients/python")!r})
+from wanekupo_station import Refused, Station
+context = ssl.create_default_context(cafile="etc/cert.pem")
+context.load_cert_chain({words[1]!r}, {words[3]!r})
+try:
+    station = Station("https://localhost:{place.port}", "certificate", "pc1.json", 0, context=context)
+    station.get("/v1/order", name="none")
+except Refused as refused:
+    print(refused.status)
+"""
+    done = ran(["python3", "-c", text], place.folder)
+    return int(done.stdout) if done.stdout else done.stderr
+
+
+def with_certificates(place, tried):
+    """nginx that takes certificates, our CA's folder, and curl's words for each certificate."""
+    seats(place)
+    ours, others = place.ca("ours"), place.ca("others")
+    made = {name: place.certificate(ours, name, f"/O=Plant/CN={name}") for name in ("pc1", "pc2", "looks", "nobody")}
+    made["foreign"] = place.certificate(others, "pc1", "/O=Plant/CN=pc1")
+    shutil.copy(ours / "ca.pem", place.folder / "etc/clients-ca.pem")
+    place.revocations(ours)
+    text = CERTIFICATES.read_text(encoding="utf-8").replace("/etc/station/", f"{place.folder}/etc/")
+    (place.folder / "etc/certificates.conf").write_text(text, encoding="utf-8")
+    subject = (
+        ran(["openssl", "x509", "-in", ours / "pc1.pem", "-noout", "-subject", "-nameopt", "RFC2253"])
+        .stdout[8:]
+        .strip()
+    )
+    tried.same("a subject", subject, "CN=pc1,O=Plant")
+    for words in (["a1", "--certificate", subject], ["b1", "--certificate", "CN=pc2,O=Plant"],
+                  ["a1", "--look", "--certificate", "CN=looks,O=Plant"]):  # fmt: skip
+        tried.same(f"{words[-1]} {words[0]}", place.token("add", *words, is_told=False)[:2], (0, ""))
+    tried.same("a certificate has one seat", place.token("add", "b1", "--certificate", subject, is_told=False)[0], 1)
+    place.made("work", "add", "a1", is_told=False)
+    place.nginx()
+    return ours, made
+
+
+def shares(place, tried):
+    """two requests of a caller at a time, and its rates"""
+    working(place)
+    held = "/v1/order?name=hold"
+    with ThreadPoolExecutor(8) as pool:
+        two = [pool.submit(place.ask, by(place.outer["work"]), held) for _ in range(2)]
+        until(lambda: len(place.recorder.heads) == 2)
+        tried.same("a third one", told(place.ask(by(place.outer["work"]), ORDER)), LATER)
+        patient = pool.submit(
+            client_of, place, "count = len([station.get('/v1/devices', after='') for _ in range(20)])", 20, 5
+        )
+        tried.same(
+            "another caller", [told(place.ask(by(place.outer[it]), ORDER)) for it in ("bolt", "look")], [NO_ORDER] * 2
+        )
+        place.recorder.gate.set()
+        tried.same("the two", [told(it.result()) for it in two], [NO_ORDER] * 2)
+        tried.same("a station at work", patient.result(), "ok")
+    place.recorder.gate.clear()
+    tried.same("and then", told(place.ask(by(place.outer["work"]), ORDER)), NO_ORDER)
+    streams(place, tried, held)
+    hung_up(place, tried, held)
+    tried.same("ten a second, behind thirty at once, meet no rate", client_of(place, THIRTY + ASKING, 15), "ok")
+    got = [place.ask(by(place.outer["work"]), "/v1/report") for _ in range(9)]
+    tried.same(
+        "nine reports",
+        ({told(it) for it in got if it[0] != 200}, 9 > sum(it[0] == 200 for it in got) > 0),
+        ({LATER}, True),
+    )
+    tried.same("another customer's", place.ask(by(place.outer["bolt"]), "/v1/report")[0], 200)
+    start = time.monotonic()
+    got = {place.ask(by(place.outer["work"]), "/v1/import", "{}")[0] for _ in range(3)}
+    tried.same("imports wait for their turn", (got, time.monotonic() - start > 1.8), ({400}, True))
+    waiting_client(place, tried, held)
+
+
+def customers(place, tried):
+    """what all callers of a customer have together"""
+    seats(place)
+    share = int(re.search(r"limit_conn customers (\d+);", CONF.read_text(encoding="utf-8"))[1])
+    names = [f"caller {number}" for number in range(share // 2 + 1)]
+    for name in names:
+        place.made(name, "add", "a1", is_told=False)
+    place.made("bolt", "add", "b1", is_told=False)
+    place.nginx()
+    with ThreadPoolExecutor(2 * len(names)) as pool:
+        held = [pool.submit(place.ask, by(place.outer[name]), "/v1/order?name=hold") for name in 2 * names]
+        until(lambda: len(place.recorder.heads) == share)
+        time.sleep(0.5)
+        tried.same(f"{2 * len(names)} at a time of a share of {share}: at the server", len(place.recorder.heads), share)
+        tried.same("another customer's", told(place.ask(by(place.outer["bolt"]), ORDER)), NO_ORDER)
+        place.recorder.gate.set()
+        tried.same(
+            "replies",
+            sorted(told(it.result()) for it in held),
+            sorted([NO_ORDER] * share + [LATER] * (2 * len(names) - share)),
+        )
+        place.recorder.gate.clear()
+        report = pool.submit(place.ask, by(place.outer[names[0]]), "/v1/report?hold")
+        until(lambda: b"report" in place.recorder.heads[-1])
+        tried.same("a second report at a time", told(place.ask(by(place.outer[names[1]]), "/v1/report")), LATER)
+        tried.same("another customer's", place.ask(by(place.outer["bolt"]), "/v1/report")[0], 200)
+        place.recorder.gate.set()
+        tried.same("the first", report.result()[0], 200)
+
+
+# Thirty requests without a pause, which is more than a rate lets by at once.
+THIRTY = "[station.get('/v1/devices', after='') for _ in range(30)]; end = time.time() + 2\n"
+
+
+def streams(place, tried, held):
+    """HTTP/2: each stream is one of the two."""
+    urls = [f"https://localhost:{place.port}{held}{number}" for number in range(6)]
+    words = ["curl", "-sS", "--cacert", "etc/cert.pem", "--parallel", "--http2", "-m", "20"]
+    words += ["-H", f"Authorization: {by(place.outer['work'])}", "-w", "\n%{http_code} %{http_version}\n", *urls]
+    asked = len(place.recorder.heads)
+    with ThreadPoolExecutor(1) as pool:
+        six = pool.submit(ran, words, place.folder)
+        until(lambda: len(place.recorder.heads) == asked + 2)
+        time.sleep(0.3)
+        tried.same("six streams: at the server", len(place.recorder.heads) - asked, 2)
+        place.recorder.gate.set()
+        got = sorted(re.findall(r"\d\d\d 2$", six.result().stdout, re.MULTILINE))
+        tried.same("six streams: replies", got, ["404 2"] * 2 + ["503 2"] * 4)
+    place.recorder.gate.clear()
+
+
+def hung_up(place, tried, held):
+    """Who hangs up keeps its place until the server has replied."""
+    asked = len(place.recorder.heads)
+    for _ in range(2):
+        place.ask(by(place.outer["work"]), held, more=["-m", "0.3"])
+    tried.same("two that were hung up", len(place.recorder.heads) - asked, 2)
+    tried.same("a third one", told(place.ask(by(place.outer["work"]), ORDER)), LATER)
+    place.recorder.gate.set()
+    free = until(lambda: told(place.ask(by(place.outer["work"]), ORDER)) == NO_ORDER)
+    tried.same("once they are answered", free, True)
+    place.recorder.gate.clear()
+
+
+def waiting_client(place, tried, held):
+    """A client that is patient waits at a 503, and asks again."""
+    with ThreadPoolExecutor(3) as pool:
+        two = [pool.submit(place.ask, by(place.outer["bolt"]), held) for _ in range(2)]
+        time.sleep(0.3)
+        client = pool.submit(client_of, place, "station.get('/v1/devices', after=''); count = 1", 1, 10)
+        time.sleep(0.7)
+        tried.same("a client that waits", client.done(), False)
+        place.recorder.gate.set()
+        tried.same("and is answered", (client.result(), [it.result()[0] for it in two]), ("ok", [404] * 2))
+    place.recorder.gate.clear()
+
+
+def strangers(place, tried):
+    """a rate by address for what has no token; a station at the same address goes on"""
+    working(place)
+    urls = "".join(f'url = "https://localhost:{place.port}/v1/report"\n' for _ in range(300))
+    (place.folder / "urls").write_text(urls, encoding="ascii")
+    with ThreadPoolExecutor(1) as pool:
+        client = pool.submit(client_of, place, ASKING, 15)
+        done = ran(["curl", "-sS", "--cacert", "etc/cert.pem", "-K", "urls", "-w", "\n%{http_code}\n"], place.folder)
+        got = re.findall(r"^(.*)\n(\d\d\d)$", done.stdout, re.MULTILINE)
+        tried.same("300 strangers", {(int(status), text) for text, status in got}, {STRANGER, LATER})
+        tried.same("a station", client.result(), "ok")
+    heads = [head for head in place.recorder.heads if b"/v1/report" in head]
+    tried.same("of these came through", heads, [])
+    log = (place.folder / "log/nginx.conf").read_text()
+    tried.same(
+        "the log has those below their rate",
+        ("PASSED" in log, "REJECTED" in log, "wanekupo_" in log),
+        (True, False, False),
+    )
+    tried.same("and who asked", " b1:1 200 PASSED PASSED" in log, True)
+    tried.same("nothing else is told", (place.folder / "log/nginx.conf-error.log").read_text(), "")
+
+
+def health(place, tried):
+    """up or down, for named addresses alone, and no flood of it reaches the server"""
+    working(place)
+    tried.same("up", told(place.ask(None, "/health")), (200, "up\n"))
+    asked = len(place.recorder.heads)
+    with ThreadPoolExecutor(8) as pool:
+        got = set(pool.map(lambda _: told(place.ask(None, "/health")), range(200)))
+    tried.same("200 times", got, {(200, "up\n")})
+    tried.same("at most one in two seconds came through", len(place.recorder.heads) - asked <= 2, True)
+    tried.same("no token goes with it", [head for head in place.recorder.heads if b"Authorization" in head], [])
+    for name, more in [("another address", ["--interface", "127.0.0.9"]), ("POST", ["-d", "x"])]:
+        tried.same(name, told(place.ask(None, "/health", more=more)), STRANGER)
+    time.sleep(3.1)  # nginx's clock has whole seconds
+    place.recorder.said = b"HTTP/1.1 503 Service Unavailable\r\nContent-Length: 0\r\n\r\n"
+    tried.same("its store failed", told(place.ask(None, "/health")), (503, "down\n"))
+    time.sleep(3.1)
+    place.recorder.said = b""
+    tried.same("no reply", told(place.ask(None, "/health")), (504, "down\n"))
+    place.recorder.close()
+    time.sleep(3.1)  # nginx's clock has whole seconds
+    tried.same("away", told(place.ask(None, "/health")), (502, "down\n"))
+
+
+def health_seat(place, tried):
+    """with a seat `health` it asks the store too"""
+    site = place.site.read_text(encoding="utf-8").replace('name = "b1"', 'name = "health"')
+    place.site.write_text(site, encoding="utf-8")
+    (place.folder / "known").write_text("hello", encoding="ascii")
+    status = place.token("seat", "health", "--known", "known", "--site", place.site, is_told=False)[0]
+    place.nginx()
+    tried.same("up", (status, told(place.ask(None, "/health"))), (0, (200, "up\n")))
+    tried.same("it asks with its own token", b"Bearer hello" in place.recorder.heads[-1], True)
+
+
+def encryption(place, tried):
+    """TLS, and the fields of each reply"""
+    working(place)
+    for version, is_taken in [("1", False), ("1_1", False), ("1_2", True), ("1_3", True)]:
+        words = [
+            "openssl",
+            "s_client",
+            "-connect",
+            f"localhost:{place.port}",
+            f"-tls{version}",
+            "-cipher",
+            "ALL:@SECLEVEL=0",
+        ]
+        done = ran(words, place.folder, input="")
+        tried.same(f"TLS {version}", "Cipher is (NONE)" not in done.stdout and done.returncode == 0, is_taken)
+        for way in ("-sess_out", "-sess_in"):
+            done = ran([*words, way, "session"], place.folder, input="") if is_taken else done
+        tried.same(f"TLS {version}: a session that goes on", "Reused, " in done.stdout, False)
+    more = ["/v1/report", "/health", "/yield", "/v1/order"]
+    replies = [place.ask(by(place.outer["look"]), target, "{}" if target == "/v1/order" else None) for target in more]
+    replies.append(place.ask(None, "/v1/order"))
+    tried.same("statuses", [it[0] for it in replies], [200, 200, 200, 403, 401])
+    wanted = {"strict-transport-security": "max-age=31536000", "x-content-type-options": "nosniff",
+              "cache-control": "no-store", "server": "nginx"}  # fmt: skip
+    for target, reply in zip([*more, "401"], replies):
+        tried.same(f"fields of {target}", {name: reply[1].get(name) for name in wanted}, wanted)
+
+
+def silent(place, tried):
+    """who says nothing, or stops in the middle, is gone after ten seconds"""
+    working(place)
+    head = b"POST /v1/order HTTP/1.1\r\nHost: h\r\nAuthorization: Bearer " + place.outer["work"].encode()
+    begun = {
+        "no TLS": None,
+        "nothing": b"",
+        "half a head": head,
+        "half a body": head + b"\r\nContent-Length: 9\r\n\r\n{",
+    }
+    with ThreadPoolExecutor(len(begun)) as pool:
+        seconds = dict(zip(begun, pool.map(lambda it: held(place, it), begun.values())))
+    for name, took in seconds.items():
+        tried.same(f"{name}: gone between 9 and 12 seconds", 9 < took < 12, True)
+    tried.same("came through", place.recorder.heads, [])
+
+
+def held(place, data):
+    """How long a connection lasts that sends this and no more; None is one without TLS."""
+    start = time.monotonic()
+    connection = place.connection() if data is not None else socket.create_connection((HOST, place.port))
+    with connection:
+        connection.settimeout(20)
+        try:
+            connection.sendall(data or b"")
+            while connection.recv(65536):
+                pass
+        except OSError:
+            pass
+        return time.monotonic() - start
+
+
+# Connections to nginx's port of two addresses, which nobody closes: how many of each are made.
+HOLDS = """
+import socket
+listener = socket.create_server(("127.0.0.1", 8443), backlog=1000)
+held = []
+for address, count in [("127.0.0.1", 410), ("127.0.0.2", 10)]:
+    for _ in range(count):
+        try:
+            held.append(socket.create_connection(("127.0.0.1", 8443), 5, (address, 0)))
+        except OSError:
+            pass
+    print(address, len(held))
+"""
+
+# In a network of its own: who connects to port 880 without deploy/station.nft and with it, and who can be the server.
+ASKS = """
+ip link set lo up
+"$1" serve --site etc/site.toml --db port.db --port 880 --connections 100 < /dev/null > port.said &
+until grep -q listening port.said; do sleep 0.05; done
+asked() { setpriv --reuid "$1" --clear-groups curl -s -o /dev/null -m 3 -w "$1 %{http_code}\n" http://127.0.0.1:880/; }
+asked nobody
+nft -f "$2"
+nft -f "$2"
+for user in root www-data nobody; do asked $user; done
+kill $!; wait $! 2> /dev/null
+bound='import socket; socket.socket().bind(("127.0.0.1", 880))'
+setpriv --reuid nobody --clear-groups /usr/bin/python3 -c "$bound" 2>&1 | tail -n 1
+/usr/bin/python3 -c "$3"
+"""
+
+
+def port(place, tried):
+    """who on this machine reaches the server's port, and can be the server; what an address holds of nginx"""
+    missing = [it for it in ("ip", "nft", "unshare", "setpriv") if not shutil.which(it)]
+    if missing or ran(["unshare", "-n", "true"]).returncode:
+        tried.lines.append(f"left out: {missing or 'no network of its own'}")
+        return
+    rule = ROOT / "deploy/station.nft"
+    said = ran(["unshare", "-n", "sh", "-c", ASKS, "sh", place.program, rule, HOLDS], place.folder).stdout.splitlines()
+    wanted = ["nobody 401", "root 401", "www-data 401", "nobody 000", "PermissionError: [Errno 13] Permission denied"]
+    tried.same("nobody before the rule; root, nginx and nobody with it; nobody as the server", said[:5], wanted)
+    tried.same("410 connections of one address, and 10 of another", said[5:], ["127.0.0.1 400", "127.0.0.2 410"])
+
+
+EDGES = [certificates, shares, customers, strangers, health, health_seat, encryption, silent, port]

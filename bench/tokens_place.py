@@ -1,0 +1,292 @@
+"""The deployed form in a folder: the program, a recorder in front of it, deploy/nginx.conf and deploy/token."""
+
+import json
+import os
+import re
+import socket
+import ssl
+import subprocess
+import threading
+import time
+from pathlib import Path
+
+from served import HOST, Server, station
+
+ROOT = Path(__file__).resolve().parent.parent
+TOOL, CONF = ROOT / "deploy/token", ROOT / "deploy/nginx.conf"
+SITE, CERTIFICATES = ROOT / "crates/station/data/site.toml", ROOT / "deploy/nginx-certificates.conf"
+
+# The tokens of the sample site's seats, which are inner ones here.
+INNER = {"a1": "abc", "b1": "hello", "@manager": "test"}
+
+# A CA by Debian's `openssl ca`, as on the page.
+CA = """[ca]
+default_ca = plant
+[plant]
+dir = .
+database = $dir/index.txt
+serial = $dir/serial
+new_certs_dir = $dir
+certificate = $dir/ca.pem
+private_key = $dir/ca.key
+default_md = sha256
+default_days = 825
+default_crl_days = 825
+policy = names
+unique_subject = no
+x509_extensions = client
+[names]
+organizationName = supplied
+commonName = supplied
+[client]
+basicConstraints = critical,CA:false
+keyUsage = critical,digitalSignature
+extendedKeyUsage = clientAuth
+"""
+
+
+def free_port():
+    with socket.socket() as listener:
+        listener.bind((HOST, 0))
+        return listener.getsockname()[1]
+
+
+# The ports of a place: of nginx, the recorder, the program, and another nginx.
+PORTS = 4
+
+
+def ran(words, folder=None, **named):
+    return subprocess.run(
+        [str(word) for word in words], cwd=folder, capture_output=True, text=True, check=False, timeout=60, **named
+    )
+
+
+class Recorder:
+    """Hands each connection to the program, and keeps the heads of the requests. One whose target has `hold` waits.
+    Where it is told what to say it says that in the program's place, and nothing where that is empty."""
+
+    def __init__(self, port, upstream):
+        self.upstream, self.heads, self.gate, self.said = upstream, [], threading.Event(), None
+        self.listener = socket.create_server((HOST, port), backlog=512)
+        threading.Thread(target=self.accept, daemon=True).start()
+
+    def accept(self):
+        while True:
+            try:
+                connection, _ = self.listener.accept()
+            except OSError:
+                return
+            threading.Thread(target=self.hand_over, args=(connection,), daemon=True).start()
+
+    def hand_over(self, connection):
+        with connection:
+            data = b""
+            while b"\r\n\r\n" not in data:
+                more = connection.recv(65536)
+                if not more:
+                    break
+                data += more
+            head = data.partition(b"\r\n\r\n")[0]
+            self.heads.append(head)
+            length = int((re.search(rb"(?i)\r\ncontent-length: *(\d+)", head) or [0, 0])[1])
+            while len(data) < len(head) + 4 + length:
+                data += connection.recv(65536)
+            if b"hold" in head.split(b"\r\n")[0]:
+                self.gate.wait(10)
+            if self.said is not None:
+                connection.sendall(self.said)
+                self.gate.wait(0 if self.said else 10)
+                return
+            with socket.create_connection((HOST, self.upstream)) as server:
+                server.sendall(data)
+                while more := server.recv(65536):
+                    connection.sendall(more)
+
+    def close(self):
+        if self.listener.fileno() >= 0:
+            self.listener.shutdown(socket.SHUT_RDWR)
+            self.listener.close()
+
+
+class Place:
+    """A folder, and all that runs in it until it is closed."""
+
+    def __init__(self, folder, program, port):
+        self.folder, self.program, self.processes = Path(folder), program, []
+        ports = range(port, port + PORTS) if port else [free_port() for _ in range(PORTS)]
+        self.port, self.recorded, served, self.other_port = ports
+        for name in ("etc", "lib", "log"):
+            (self.folder / name).mkdir()
+        self.site, self.file = self.folder / "etc/site.toml", self.folder / "etc/tokens.conf"
+        self.site.write_bytes(SITE.read_bytes())
+        self.outer = {}
+        words = ["req", "-x509", "-newkey", "ec", "-pkeyopt", "ec_paramgen_curve:prime256v1", "-noenc", "-days", "2"]
+        words += ["-subj", "/CN=localhost", "-addext", "subjectAltName=DNS:localhost"]
+        assert ran(["openssl", *words, "-keyout", "etc/key.pem", "-out", "etc/cert.pem"], folder).returncode == 0
+        self.server = Server(station(program, str(self.site), str(self.folder / "books.db"), served), served)
+        self.server.wait(Server.is_listening)
+        self.recorder = Recorder(self.recorded, served)
+
+    def conf(self, name, port):
+        """The deployed configuration, with other ports and paths, and a log; 127.0.0.1 alone is this machine, and
+        OpenSSL itself refuses no version of TLS."""
+        text = CONF.read_text(encoding="utf-8")
+        for old, new in [
+            ("listen 8443", f"listen {HOST}:{port}"),
+            ("127.0.0.1:880;", f"{HOST}:{self.recorded};"),
+            ("127.0.0.0/8 1;", f"{HOST}/32 1;"),
+            ("ssl_session_tickets", "ssl_ciphers ALL:@SECLEVEL=0;\n        ssl_session_tickets"),
+            ("/etc/station/", f"{self.folder}/etc/"),
+            ("/var/lib/nginx/", f"{self.folder}/lib/{name}-"),
+            ("/var/log/nginx/", f"{self.folder}/log/{name}-"),
+            ("/usr/share/wanekupo/", f"{ROOT}/clients/web/"),
+            ("access_log off;", f"access_log {self.folder}/log/{name} station if=$is_logged;"),
+        ]:
+            if old not in text:
+                raise SystemExit(f"tokens: deploy/nginx.conf has no {old}")
+            text = text.replace(old, new)
+        path = self.folder / name
+        path.write_text(text, encoding="utf-8")
+        return path
+
+    def nginx_words(self, name="nginx.conf"):
+        pid = f"pid {self.folder}/{name}.pid;"
+        return ["nginx", "-c", str(self.folder / name), "-g", pid, "-e", f"{self.folder}/log/{name}-error.log"]
+
+    def nginx(self, name="nginx.conf", zone="UTC"):
+        """Starts nginx by a configuration, and gives its port."""
+        port = self.port if name == "nginx.conf" else self.other_port
+        self.conf(name, port)
+        process = subprocess.Popen(
+            [*self.nginx_words(name)[:4], self.nginx_words(name)[4] + " daemon off;", *self.nginx_words(name)[5:]],
+            env={**os.environ, "TZ": zone},
+        )
+        self.processes.append(process)
+        for _ in range(500):
+            with socket.socket() as tried:
+                if tried.connect_ex((HOST, port)) == 0:
+                    return port
+            time.sleep(0.01)
+        raise SystemExit("tokens: nginx doesn't listen")
+
+    def words(self, *words, is_told=True, zone=None):
+        """The words of `token`, which has nginx read the file, or not."""
+        shell = " ".join(f"'{word}'" for word in self.nginx_words())
+        told = ["--test", f"{shell} -t -q", "--reload", f"{shell} -s reload", "--pid", f"{self.folder}/nginx.conf.pid"]
+        told = told if is_told else ["--no-reload"]
+        return [TOOL, "--file", self.file, *told, *words]
+
+    def token(self, *words, is_told=True, zone="UTC"):
+        """A run of `token`: its status, its output and what is on standard error."""
+        done = ran(self.words(*words, is_told=is_told), self.folder, env={**os.environ, "TZ": zone})
+        return done.returncode, done.stdout, done.stderr
+
+    def made(self, name, *words, **named):
+        """An outer token by `token add` or `rotate`, kept under a name of the tests."""
+        status, out, err = self.token(*words, **named)
+        if status:
+            raise SystemExit(f"tokens: {words}: {err}")
+        self.outer[name] = out.strip()
+        return err.split(" ")[0]
+
+    def ask(self, token, target, body=None, more=(), port=None):
+        """The status, the fields and the body of a reply, by curl."""
+        words = ["curl", "-sS", "-i", "-m", "20", "--cacert", "etc/cert.pem"]
+        words += ["-H", f"Authorization: {token}"] if token is not None else []
+        words += ["-d", body] if body is not None else []
+        done = ran([*words, *more, f"https://localhost:{port or self.port}{target}"], self.folder)
+        head, _, text = done.stdout.replace("\r\n", "\n").partition("\n\n")
+        fields = dict(line.lower().split(": ", 1) for line in head.split("\n")[1:] if ": " in line)
+        return int(head.split(" ")[1]) if head else done.stderr, fields, text
+
+    def connection(self, port=None):
+        context = ssl.create_default_context(cafile=str(self.folder / "etc/cert.pem"))
+        return context.wrap_socket(socket.create_connection((HOST, port or self.port), 10), server_hostname="localhost")
+
+    def raw(self, data):
+        """All that bytes get, over a connection of their own."""
+        got = b""
+        with self.connection() as connection:
+            connection.settimeout(0.8)
+            try:
+                connection.sendall(data)
+                while more := connection.recv(65536):
+                    got += more
+                    if got.count(b"HTTP/1.") >= data.count(b"HTTP/1."):
+                        break
+            except OSError:
+                pass
+        return got
+
+    def certificate(self, folder, name, subject):
+        """A key and a certificate of a CA's folder."""
+        curve = ["-newkey", "ec", "-pkeyopt", "ec_paramgen_curve:prime256v1", "-noenc"]
+        asked = ran(
+            ["openssl", "req", "-new", *curve, "-subj", subject, "-keyout", f"{name}.key", "-out", f"{name}.csr"],
+            folder,
+        )
+        done = ran(
+            ["openssl", "ca", "-config", "ca.cnf", "-batch", "-notext", "-in", f"{name}.csr", "-out", f"{name}.pem"],
+            folder,
+        )
+        assert (asked.returncode, done.returncode) == (0, 0), done.stderr
+        return ["--cert", f"{folder}/{name}.pem", "--key", f"{folder}/{name}.key"]
+
+    def ca(self, name):
+        """A CA in a folder of its own."""
+        folder = self.folder / name
+        folder.mkdir()
+        (folder / "ca.cnf").write_text(CA, encoding="ascii")
+        (folder / "index.txt").touch()
+        (folder / "serial").write_text("1000\n", encoding="ascii")
+        curve = ["-newkey", "ec", "-pkeyopt", "ec_paramgen_curve:prime256v1", "-noenc", "-days", "3650"]
+        words = [
+            "openssl",
+            "req",
+            "-x509",
+            *curve,
+            "-subj",
+            f"/O=Plant/CN={name}",
+            "-keyout",
+            "ca.key",
+            "-out",
+            "ca.pem",
+        ]
+        assert ran(words, folder).returncode == 0
+        return folder
+
+    def revocations(self, folder, *more):
+        done = ran(
+            ["openssl", "ca", "-config", "ca.cnf", "-gencrl", *more, "-out", self.folder / "etc/clients-crl.pem"],
+            folder,
+        )
+        assert done.returncode == 0, done.stderr
+
+    def reload(self, name="nginx.conf"):
+        done = ran([*self.nginx_words(name), "-s", "reload"])
+        time.sleep(0.5)
+        return done.returncode
+
+    def closed_to_outer(self, tried):
+        """What came through had one token at most, and no outer one anywhere."""
+        wrong = []
+        for head in self.recorder.heads:
+            fields = [line for line in head.split(b"\r\n") if line.lower().startswith(b"authorization:")]
+            if len(fields) > 1 or b"wanekupo_" in head:
+                wrong.append(head)
+        if self.recorder.heads:
+            what = f"{len(self.recorder.heads)} requests came through, with one token at most, and no outer one"
+            tried.same(what, wrong, [])
+
+    def close(self):
+        for process in self.processes:
+            process.terminate()
+        for process in self.processes:
+            process.wait()
+        self.server.kill()
+        self.recorder.close()
+
+
+def refusal(name, no):
+    """A refusal's body, as docs/FORMATS.md has it."""
+    return json.dumps({"error": name, "no": no}, separators=(",", ":"))
