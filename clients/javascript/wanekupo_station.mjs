@@ -33,6 +33,9 @@ const LONGEST_PAUSE = 10;
 // request would wait for its reply in vain.
 const LONGEST_IDLE = 30;
 
+// How many bytes a reply's body has at the most: what stands on a port shall not fill the memory here.
+const LONGEST_REPLY = 4 * 1024 * 1024;
+
 // What is told of a connection that the other side closed.
 const CLOSED = ["ECONNRESET", "EPIPE"];
 
@@ -66,11 +69,45 @@ const REVERSED = ["flash_encryption", "secure_boot_v1"];
 
 const DUMPED = /^BLOCK(\d+) .*\[\d+ *\] read_regs:((?: [0-9a-f]{8})+) *$/gm;
 
+// What is no visible character and no space, and would be a command to a terminal, or turn the writing around.
+const UNPRINTABLE = /(?! )[\p{C}\p{Z}]/gu;
+
+// How some of it is written out.
+const WRITTEN = { "\t": "\\t", "\n": "\\n", "\r": "\\r" };
+
+// Hosts that are this machine, as a URL has them.
+const LOOPBACK = /^(localhost|127(\.\d+){3}|\[::1\])$/;
+
+// The mode of a file of this user's alone, and who may write a file or a folder beside its owner.
+const PRIVATE = 0o600;
+const OTHERS_WRITE = 0o022;
+const { O_APPEND, O_CREAT, O_EXCL, O_RDONLY, O_RDWR, O_WRONLY } = fs.constants;
+const { O_NOFOLLOW = 0, O_NONBLOCK = 0 } = fs.constants; // a pipe in a file's place is opened at once, and refused
+const IS_POSIX = process.platform !== "win32";
+
 // More than a line of a journal has: a body of two bytes a letter has six there.
 const LONGEST_LINE = 1 << 18;
 
-/** What a station can't do by itself. */
+/**
+ * A text, or the JSON of another value, in one line for a terminal: what a server says may be printed so. What is no
+ * visible character and no space is written out, `\x1b` of an escape, `\u202e` of what turns the writing around.
+ */
+export function shown(data) {
+  if (typeof data !== "string") return asciiJson(data ?? null);
+  return data.replace(UNPRINTABLE, (character) => {
+    if (character in WRITTEN) return WRITTEN[character];
+    const code = character.codePointAt(0).toString(16);
+    if (code.length > 4) return `\\U${code.padStart(8, "0")}`;
+    return code.length > 2 ? `\\u${code.padStart(4, "0")}` : `\\x${code.padStart(2, "0")}`;
+  });
+}
+
+/** What a station can't do by itself. Its message may have words of a server, and is safe to print. */
 export class StationError extends Error {
+  constructor(message) {
+    super(shown(message));
+  }
+
   get name() {
     return this.constructor.name;
   }
@@ -80,7 +117,9 @@ export class StationError extends Error {
 export class Refused extends StationError {
   constructor(status, body) {
     super(`${body.no} ${body.error}`);
-    Object.assign(this, { status, no: body.no, error: body.error, body });
+    Object.assign(this, { status, no: body.no });
+    // Node prints what can be enumerated of an error that nobody catches.
+    Object.defineProperties(this, { error: { value: body.error }, body: { value: body } });
   }
 }
 
@@ -105,11 +144,17 @@ export class NoReply extends StationError {}
 /** A proxy's page, or what else isn't one of the server's replies, until the station's patience ended. As `NoReply`. */
 export class NotTheServer extends StationError {}
 
+/** A reply longer than LONGEST_REPLY, of which nothing is kept. A POST is still under way. */
+export class TooLong extends StationError {}
+
 /** Another request is under way: `finish` it first. */
 export class UnderWay extends StationError {}
 
 /** The state file or the journal is in use, another seat's, or damaged. */
 export class BadStateFile extends StationError {}
+
+/** A file, or its folder, that another user could have put there, or could replace. */
+export class UnsafeFile extends StationError {}
 
 /** The SHA-256 of bytes, or of a text's. */
 function sha256(data) {
@@ -181,12 +226,12 @@ function blockDigest(block) {
 
 /** Whether a chip shows all bits and keys of a batch. */
 export function shows(blocks, { bits, keys }) {
-  const shown = new Set(blocks.map(blockDigest));
+  const digests = new Set(blocks.map(blockDigest));
   const has = ({ block, word, mask }) => {
     const wanted = Number.parseInt(mask, 16);
     return ((Number.parseInt(blocks[block][word], 16) & wanted) >>> 0) === wanted;
   };
-  return bits.every(has) && Object.values(keys).every((digest) => shown.has(digest));
+  return bits.every(has) && Object.values(keys).every((digest) => digests.has(digest));
 }
 
 /** The bits of a batch that are in one block, by their places in it. */
@@ -203,9 +248,12 @@ function placesOf(bits, block) {
 /** The words of espefuse that burn a batch, keys first and block 0 last; `files` are key files by their fields. */
 export function commands({ bits, keys }, files) {
   const words = [];
+  if (!bits.every(({ block, word }) => Number.isInteger(block) && Number.isInteger(word))) {
+    throw new NotTheServer("a batch whose blocks and words are no whole numbers");
+  }
   for (const [field, digest] of Object.entries(keys)) {
     const file = files[field];
-    if (!file || keyDigest(file) !== digest) throw new RangeError(`no file of the key that ${field} awaits`);
+    if (!file || keyDigest(file) !== digest) throw new RangeError(`no file of the key that ${shown(field)} awaits`);
     // Never without --no-protect-key: the locks come in the second batch, and burnt now they are `stray`.
     words.push(["burn_key", "--no-protect-key", file.burntAs, file.path]);
   }
@@ -243,7 +291,7 @@ export class Espefuse {
 
 /** Syncs a folder, so that a name that was made or replaced in it stays. */
 function syncFolder(folder) {
-  if (process.platform === "win32") return;
+  if (!IS_POSIX) return;
   const opened = fs.openSync(folder, "r");
   try {
     fs.fsyncSync(opened);
@@ -252,9 +300,82 @@ function syncFolder(folder) {
   }
 }
 
-/** Replaces a file: whole or not at all, whenever the power fails. */
+/**
+ * Whether nobody else can put a file into a folder, or take one out of it. One as /tmp is refused too: its sticky bit
+ * keeps others from taking a file, and lets them put one there first.
+ */
+function testFolder(folder) {
+  if (!IS_POSIX) return;
+  const { uid, mode } = fs.statSync(folder);
+  if (uid !== process.geteuid() && uid !== 0) {
+    throw new UnsafeFile(`${folder} is another user's folder: have these files in one of your own`);
+  }
+  if (mode & OTHERS_WRITE) {
+    throw new UnsafeFile(`others can write the folder ${folder}: chmod go-w it, or have these files in another one`);
+  }
+}
+
+/** Opens a plain file, and makes it with mode 0600 where the flags say so; never through a link. */
+function openPlain(file, flags) {
+  let opened;
+  try {
+    opened = fs.openSync(file, flags | O_NOFOLLOW | O_NONBLOCK, PRIVATE);
+  } catch (error) {
+    throw error.code === "ELOOP" ? new UnsafeFile(`${file} is a link, and isn't followed`) : error;
+  }
+  if (!fs.fstatSync(opened).isFile()) {
+    fs.closeSync(opened);
+    throw new UnsafeFile(`${file} is no plain file`);
+  }
+  return opened;
+}
+
+/** The same of a file that has to be this user's, and is tested by its mode; it is closed where it doesn't pass. */
+function openOwn(file, flags, test) {
+  const opened = openPlain(file, flags);
+  try {
+    const { uid, mode } = fs.fstatSync(opened);
+    if (IS_POSIX && uid !== process.geteuid()) throw new UnsafeFile(`${file} is another user's`);
+    test(opened, mode);
+    return opened;
+  } catch (error) {
+    fs.closeSync(opened);
+    throw error;
+  }
+}
+
+/** Opens a file of this user's that nobody else can write. */
+function openKept(file, flags) {
+  return openOwn(file, flags, (opened, mode) => {
+    if (IS_POSIX && mode & OTHERS_WRITE) {
+      throw new UnsafeFile(`others can write ${file}: look whether it is as it was, then chmod 600 it`);
+    }
+  });
+}
+
+/** The text of such a file, or null where there is none. */
+function readKept(file) {
+  let opened;
+  try {
+    opened = openKept(file, O_RDONLY);
+  } catch (error) {
+    if (error.code === "ENOENT") return null;
+    throw error;
+  }
+  try {
+    return fs.readFileSync(opened, "utf8");
+  } finally {
+    fs.closeSync(opened);
+  }
+}
+
+/**
+ * Replaces a file: whole or not at all, whenever the power fails. What stands in the new one's place goes first, so that
+ * it is this call's, with its owner and its mode.
+ */
 function replaceFile(file, text) {
-  const opened = fs.openSync(`${file}.new`, "w", 0o600);
+  fs.rmSync(`${file}.new`, { force: true });
+  const opened = fs.openSync(`${file}.new`, O_WRONLY | O_CREAT | O_EXCL | O_NOFOLLOW, PRIVATE);
   try {
     fs.writeFileSync(opened, text);
     fs.fsyncSync(opened);
@@ -276,23 +397,20 @@ function ownName(file) {
  * that ends. Node doesn't have the call. The program of that name makes it for the file that is opened here, and the
  * lock stays with that.
  */
-function locked(opened, file) {
-  if (process.platform === "win32") return;
+function lock(opened, file) {
+  if (!IS_POSIX) return;
   const { error, status } = spawnSync("flock", ["-n", "3"], { stdio: ["ignore", "ignore", "inherit", opened] });
   if (error) throw new BadStateFile(`${file} can't be locked by the program flock: ${error.message}`);
   if (status !== 0) throw new BadStateFile(`another process has ${file}`);
 }
 
-/** A file that is opened and locked for this process alone; what it is the lock of is told where another has it. */
-function lockedFile(file, flags, what = file) {
-  const opened = fs.openSync(file, flags, 0o600);
-  try {
-    locked(opened, what);
-    return opened;
-  } catch (error) {
-    fs.closeSync(opened);
-    throw error;
-  }
+/** The lock of a state file: private, also where it was there, as another's lock on it would shut this one out. */
+function openLock(file) {
+  testFolder(path.dirname(file));
+  return openOwn(`${file}.lock`, O_RDWR | O_CREAT, (opened) => {
+    if (IS_POSIX) fs.fchmodSync(opened, PRIVATE);
+    lock(opened, file);
+  });
 }
 
 /** A value's JSON with the members of each object in order of their names. */
@@ -308,20 +426,32 @@ function redacted(members) {
   return "blocks" in members ? { ...members, blocks: members.blocks.map(blockDigest) } : members;
 }
 
-/** JSON in ASCII, as the files of clients/python have it. */
+/** A request that has its reply, as it is kept: what a chip showed may be a key, and isn't sent again. */
+function keptOf(asked) {
+  if (asked === null) return null;
+  const members = JSON.parse(asked.body);
+  if (!members.blocks?.some(Array.isArray)) return asked;
+  return { ...asked, body: asciiJson(redacted(members)) };
+}
+
+/** JSON in visible ASCII, as the files of clients/python have it. */
 function asciiJson(data) {
   const escape = (unit) => `\\u${unit.charCodeAt(0).toString(16).padStart(4, "0")}`;
-  return JSON.stringify(data).replace(/[\u0080-\uffff]/g, escape);
+  return JSON.stringify(data).replace(/[\u007f-\uffff]/g, escape);
 }
 
 /** Takes away a last line that a crash cut: it says of no request that was sent, and of no reply that was kept. */
 function cutToLines(opened, file) {
   const { size } = fs.fstatSync(opened);
+  const first = Buffer.from("{");
+  fs.readSync(opened, first, 0, 1, 0);
   const start = Math.max(0, size - LONGEST_LINE);
   const tail = Buffer.alloc(size - start);
   const count = fs.readSync(opened, tail, 0, tail.length, start);
   const end = start + tail.subarray(0, count).lastIndexOf("\n") + 1;
-  if (start && end === start) throw new BadStateFile(`${file} is no journal`);
+  // A file of another kind, named by mistake, isn't cut. A crash may leave zeros where a line was to be.
+  const isOther = first[0] !== 0 && first.toString() !== "{";
+  if (isOther || (start && end === start)) throw new BadStateFile(`${file} is no journal`);
   if (end < size) fs.ftruncateSync(opened, end);
 }
 
@@ -332,10 +462,12 @@ function cutToLines(opened, file) {
 class Journal {
   #out;
 
-  constructor(file) {
-    const { O_RDWR, O_CREAT, O_APPEND } = fs.constants;
-    this.#out = lockedFile(file, O_RDWR | O_CREAT | O_APPEND);
+  constructor(name) {
+    const file = ownName(name);
+    testFolder(path.dirname(file));
+    this.#out = openKept(file, O_RDWR | O_CREAT | O_APPEND);
     try {
+      lock(this.#out, file);
       cutToLines(this.#out, file);
       fs.fsyncSync(this.#out);
       syncFolder(path.dirname(file));
@@ -401,7 +533,11 @@ function isReplyTo({ path: asked, members }, body) {
 function bodyOf(status, kind, data, asked) {
   if (status === 200 && kind === "text/csv" && asked.path.endsWith("/report")) return data.toString("latin1");
   const body = objectOf(kind, data);
-  const isRefusal = status !== 200 && Number.isInteger(body?.no) && typeof body.error === "string";
+  const isRefusal =
+    status !== 200 &&
+    Number.isInteger(body?.no) &&
+    Number.isInteger(body.expected ?? 0) &&
+    typeof body.error === "string";
   if (isRefusal || (body && status === 200 && isReplyTo(asked, body))) return body;
   throw new NotTheServer(`${asked.method} ${asked.target}: status ${status}, ${kind}: ${data.subarray(0, 60)}`);
 }
@@ -416,7 +552,18 @@ function accepted(status, body) {
 function wholeReply(response) {
   return new Promise((resolve, reject) => {
     const parts = [];
-    response.on("data", (part) => parts.push(part));
+    let size = 0;
+    const tooLong = () => {
+      const told = `the reply, of status ${response.statusCode}, is longer than ${LONGEST_REPLY} bytes`;
+      reject(new TooLong(`${told}: nothing of it is kept`));
+      response.destroy();
+    };
+    if (Number(response.headers["content-length"]) > LONGEST_REPLY) tooLong();
+    response.on("data", (part) => {
+      size += part.length;
+      if (size > LONGEST_REPLY) tooLong();
+      else parts.push(part);
+    });
     response.on("error", reject);
     response.on("aborted", () => reject(new Error("the reply was cut")));
     response.on("end", () => {
@@ -433,13 +580,25 @@ function wholeReply(response) {
 
 /** Whether an error is the caller's or the certificate's: asked again it would be the same. */
 function isForGood(error) {
-  return error instanceof TypeError || error instanceof RangeError || error.isUntrusted === true;
+  const isOurs = [TypeError, RangeError, TooLong].some((kind) => error instanceof kind);
+  return isOurs || error.isUntrusted === true;
 }
 
 /** The members of a kept request, without its number. */
 function membersOf(asked) {
   const { nr, ...members } = JSON.parse(asked.body);
   return members;
+}
+
+/** Where the server is. A token goes to another machine by https alone, unless the caller says otherwise. */
+function addressOf(url, insecure) {
+  const base = new URL(url);
+  if (!["http:", "https:"].includes(base.protocol)) throw new RangeError(`${url}: neither http nor https`);
+  if (base.protocol === "http:" && !insecure && !LOOPBACK.test(base.hostname)) {
+    const told = "would send the token to another machine unencrypted, for all on the way to read";
+    throw new RangeError(`${url} ${told}: give an address of https, or insecure: true`);
+  }
+  return base;
 }
 
 /**
@@ -459,12 +618,12 @@ export class Station {
   #patience;
   #state;
   #timeout;
+  #token;
   #used = 0;
 
   /** A seat by its state file. `Station.open` is for everybody else. */
-  constructor(lock, state, { url, token, file, patience = 120, timeout = 90, ca }) {
-    const base = new URL(url);
-    if (!["http:", "https:"].includes(base.protocol)) throw new RangeError(`${url}: neither http nor https`);
+  constructor(lock, state, { url, token, file, patience = 120, timeout = 90, ca, insecure = false }) {
+    const base = addressOf(url, insecure);
     this.#client = base.protocol === "https:" ? https : http;
     this.#agent = new this.#client.Agent({ keepAlive: true, maxSockets: 1, ca });
     this.#base = base;
@@ -474,26 +633,34 @@ export class Station {
     this.#timeout = timeout;
     this.#lock = lock;
     this.#state = state;
+    this.#token = sha256(token);
   }
 
   /**
    * Opens a seat. `file` is its state file, `patience` how many seconds it asks for a reply, `timeout` how many it
-   * waits for a whole one, `ca` the certificates to trust, `journal` the file of the station's own log.
+   * waits for a whole one, `ca` the certificates to trust, `journal` the file of the station's own log. `insecure` lets
+   * its token go over http to another machine. With `newToken` a state file of another token is gone on with, where the
+   * server shows that it is the same seat's, before the first request that changes anything.
    */
-  static async open({ journal, ...options }) {
+  static async open({ journal, newToken = false, ...options }) {
     const { token } = options;
     if (typeof token !== "string" || !TOKEN.test(token)) {
       throw new RangeError("a token is visible ASCII, without a space or a line end");
     }
     const file = ownName(options.file);
-    const lock = lockedFile(`${file}.lock`, "a", file);
+    const opened = openLock(file);
     try {
-      const station = new Station(lock, Station.#read(file, sha256(token)), { ...options, file });
+      const station = new Station(opened, Station.#read(file, sha256(token)), { ...options, file });
+      if (station.#state.token !== station.#token && !newToken) {
+        throw new BadStateFile(`${file} is another token's: newToken: true where it is the same seat's`);
+      }
       // Behind the lock: a second process, started by mistake, leaves it as it is.
       if (journal !== undefined) station.#journal = new Journal(journal);
+      // One of an earlier version has a key that a chip showed.
+      if (!isDeepStrictEqual(station.#state.last, keptOf(station.#state.last))) station.#keep({});
       return station;
     } catch (error) {
-      fs.closeSync(lock);
+      fs.closeSync(opened);
       throw error;
     }
   }
@@ -525,24 +692,59 @@ export class Station {
 
   /** The state. Without a file the number isn't known, and is asked for. */
   static #read(file, token) {
-    if (!fs.existsSync(file)) return { token, next: null, under_way: null, last: null };
-    let state;
+    const text = readKept(file);
+    if (text === null) return { token, next: null, under_way: null, last: null };
     try {
-      const { token: seat, next, under_way, last } = JSON.parse(fs.readFileSync(file, "utf8"));
-      state = { token: seat, next, under_way, last };
+      const { token: seat, next, under_way, last } = JSON.parse(text);
+      const state = { token: seat, next, under_way, last };
+      if (Object.values(state).includes(undefined)) throw new RangeError("it lacks a member");
+      keptOf(last);
+      return state;
     } catch (error) {
       throw new BadStateFile(`${file} is no state file: ${error.message}`);
     }
-    if (Object.values(state).includes(undefined)) throw new BadStateFile(`${file} is no state file`);
-    if (state.token !== token) throw new BadStateFile(`${file} is another seat's`);
-    return state;
   }
 
   /** Changes the state, in the file first. */
   #keep(changes) {
     const state = { ...this.#state, ...changes };
+    state.last = keptOf(state.last);
     replaceFile(this.#file, asciiJson(state));
     this.#state = state;
+  }
+
+  // A new token.
+
+  /**
+   * Goes on with another token than before, which a person says is the same seat's, where the server shows it: it
+   * expects the number that this seat comes to, and knows the seat's last request.
+   */
+  async #takeToken() {
+    const { token, next, under_way: asked, last: before } = this.#state;
+    if (token === this.#token) return;
+    const expected = await this.#expected();
+    const isDone = asked !== null && expected === next + 1;
+    if (next !== null && expected !== next && !isDone) {
+      const told = `its number is ${next}, and the server expects ${expected} of this token's`;
+      throw new BadStateFile(`${this.#file} is another seat's, or its numbers went on: ${told}`);
+    }
+    const last = isDone ? asked : before;
+    if (last && !(await this.#isKnown(last, expected - 1))) {
+      throw new BadStateFile(`${this.#file} is another seat's: the last request of this token's was another`);
+    }
+    this.#keep({ token: this.#token });
+  }
+
+  /**
+   * Whether a request is the last one that the server has of the seat, which has this number. That is taken, so that it
+   * changes nothing. One whose words aren't kept can't be sent again, nor one with another number, behind which others
+   * were accepted: then the number has to do.
+   */
+  async #isKnown(last, number) {
+    const members = JSON.parse(last.body);
+    if (members.nr !== number || (last.reply && "blocks" in members)) return true;
+    const { status, body } = await this.#posted(last.path, last.body);
+    return status === 200 && isDeepStrictEqual(body, last.reply ?? body);
   }
 
   // Requests.
@@ -644,6 +846,7 @@ export class Station {
   /** Has a request done, once, and gives its reply. The same request goes on where it is under way. */
   post(target, members) {
     return this.#inTurn(async () => {
+      await this.#takeToken();
       const asked = this.#state.under_way;
       if (!asked) await this.#begin(target, members);
       else if (asked.path !== target || !isDeepStrictEqual(membersOf(asked), JSON.parse(JSON.stringify(members)))) {
@@ -686,6 +889,7 @@ export class Station {
   /** Sends what is under way again, as it was, and gives the last request that was accepted, or null. */
   finish() {
     return this.#inTurn(async () => {
+      await this.#takeToken();
       if (this.#state.under_way) await this.#complete(true);
       const { last } = this.#state;
       return last && { path: last.path, members: membersOf(last), reply: last.reply };
@@ -711,13 +915,14 @@ export class Station {
 
   /**
    * Forgets the request under way, and goes on with the number that is expected: after a restore of the store, or where
-   * a person knows why the seat was out of step. Whether that request was done, its device says.
+   * a person knows why the seat was out of step. Whether that request was done, its device says. A new token is taken as
+   * it is.
    */
   resynchronize() {
     return this.#inTurn(async () => {
       const number = await this.#expected();
       this.#journal?.resynchronized(number);
-      this.#keep({ next: number, under_way: null });
+      this.#keep({ token: this.#token, next: number, under_way: null });
     });
   }
 
@@ -803,6 +1008,9 @@ export class Station {
     for (let behind = after; behind !== null; ) {
       const page = await this.get("/v1/devices", { after: behind });
       yield* page.devices;
+      if (page.next !== null && !(typeof page.next === "string" && page.next > behind)) {
+        throw new NotTheServer(`a list of devices that goes on behind ${page.next}, and had come to ${behind}`);
+      }
       behind = page.next;
     }
   }

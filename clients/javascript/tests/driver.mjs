@@ -25,7 +25,7 @@ function killedAt(step) {
       return call(...words);
     };
   };
-  for (const name of ["fsyncSync", "renameSync", "openSync"]) counted(fs, name);
+  for (const name of ["fsyncSync", "renameSync", "openSync", "rmSync"]) counted(fs, name);
   counted(http, "request");
   syncBuiltinESMExports();
 }

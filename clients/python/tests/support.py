@@ -5,6 +5,7 @@ from __future__ import annotations
 import contextlib
 import hashlib
 import http.client
+import io
 import json
 import os
 import re
@@ -28,7 +29,21 @@ ROOT = Path(__file__).resolve().parents[3]
 sys.path.insert(0, str(ROOT / "clients" / "python"))
 
 from wanekupo_journal import Journal  # noqa: E402
-from wanekupo_station import KeyFile, Station, bit, blocks_of, chip_of, commands, key, rlock, wlock  # noqa: E402
+from wanekupo_station import (  # noqa: E402
+    KeyFile,
+    Station,
+    Word,
+    Work,
+    bit,
+    blocks_of,
+    chip_of,
+    commands,
+    key,
+    rlock,
+    wlock,
+)
+
+from wanekupo.commands import main  # noqa: E402
 
 PROGRAM = os.environ.get("STATION_PROGRAM", str(ROOT / "crates" / "station" / "out" / "station"))
 SIMULATED = ROOT / "clients" / "python" / "tests" / "simulated_chip.py"
@@ -49,6 +64,34 @@ DRIPPING = b"HTTP/1.1 200 OK\r\nContent-Type: text/csv\r\nContent-Length: 9999\r
 # A map of 32,768 bytes, the most that the server takes, of which most are letters of two bytes.
 LETTERS = MAP + "# " + "\u0416" * ((32_768 - len(MAP.encode()) - 2) // 2)
 WISHES = [bit("JTAG_DISABLE", 0), key("BLOCK1", FLASH_DIGEST), wlock("BLOCK1"), rlock("BLOCK1")]
+
+NOTHING = Work((), {})
+# What the simulated chip of the MAC 24:0a:c4:00:00:01 shows before anything is asked for.
+BLANK = Work((Word(0, 1, 0xC4000001), Word(0, 2, 0x00BE240A), Word(0, 3, 0x8000), Word(0, 4, 0x0B00)), {})
+FIRST = Work((Word(0, 6, 0x40),), {"BLOCK1": FLASH_DIGEST})
+SECOND = Work((Word(0, 0, 0x00010080),), {})
+LIFE = ["registered", "planned", "read match", "read match", "identified", "shipped"]
+
+
+def steps(ledger):
+    """The events of a ledger, a read-back with its outcome."""
+    return [f"{event} {note}" if event == "read" else event for event, note in ledger]
+
+
+def rows(text):
+    """An import's rows, each with the digest of its serial number as its key's."""
+    return [(serial, hashlib.sha256(serial.encode()).hexdigest()) for serial in text.split()]
+
+
+def ran(*words):
+    """The status of a command, its output and what it told on standard error."""
+    out, err = io.StringIO(), io.StringIO()
+    with contextlib.redirect_stdout(out), contextlib.redirect_stderr(err):
+        try:
+            status = main([str(word) for word in words])
+        except SystemExit as stop:
+            status = stop.code
+    return status, out.getvalue(), err.getvalue()
 
 
 def free_port():
@@ -199,6 +242,34 @@ class TlsProxy(Proxy):
             super().pass_on(client)
 
 
+class TokenProxy(Proxy):
+    """Knows tokens of its own, each of which is one of the server's; others are answered 401 by itself. Requests may be
+    lost, and replies."""
+
+    tokens: dict[str, str] = {}
+
+    def pass_on(self, client):
+        request = whole(client)
+        head, _, body = request.partition(b"\r\n\r\n")
+        token = re.search(rb"Authorization: Bearer (\S+)", head)[1].decode()
+        if token not in self.tokens:
+            told = b'{"error":"unknown_token","no":6}'
+            kind = b"Content-Type: application/json\r\nConnection: close\r\n"
+            client.sendall(b"HTTP/1.1 401 Unauthorized\r\n%sContent-Length: %d\r\n\r\n%s" % (kind, len(told), told))
+            return
+        fault = self.faults.pop(0) if self.faults else None
+        self.seen.append((token, body))
+        if fault == "lost request":
+            return
+        head = head.replace(token.encode(), self.tokens[token].encode())
+        with socket.create_connection((HOST, self.program.port)) as server:
+            server.sendall(head + b"\r\n\r\n" + body)
+            server.shutdown(socket.SHUT_WR)
+            reply = b"".join(iter(lambda: server.recv(65536), b""))
+        if fault != "lost reply":
+            client.sendall(reply)
+
+
 class KeptProxy(Proxy):
     """Keeps its connections, as the program does; each of `faults`, in turn, befalls a request of one.
 
@@ -260,10 +331,12 @@ class Canned:
                 return
             with client, contextlib.suppress(OSError):
                 whole(client)
-                parts = [self.reply[place : place + 1] for place in range(len(self.reply))]
-                for part in parts if self.pause else [self.reply]:
+                if not self.pause:
+                    client.sendall(self.reply)
+                    continue
+                for place in range(len(self.reply)):
                     time.sleep(self.pause)
-                    client.sendall(part)
+                    client.sendall(self.reply[place : place + 1])
 
     def close(self):
         self.listener.close()

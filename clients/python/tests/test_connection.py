@@ -6,9 +6,9 @@ import selectors
 import unittest
 from unittest import mock
 
-from support import DIGEST, MAP, ORDER, KeptProxy, StationCase, life
-from test_station import LIFE, rows, steps
+from support import DIGEST, LIFE, MAP, ORDER, KeptProxy, StationCase, life, rows, steps
 
+import wanekupo.connection
 import wanekupo_station as client
 from wanekupo_station import Imported, NoReply, OutOfStep, UnderWay
 
@@ -116,7 +116,7 @@ class Connections(StationCase):
 
     def test_one_that_was_not_used_for_long(self):
         station, proxy = self.kept()
-        with mock.patch.object(client, "LONGEST_IDLE", 0):
+        with mock.patch.object(wanekupo.connection, "LONGEST_IDLE", 0):
             self.assertEqual(station.order("o1").next, "A998")
         self.assertEqual((station.order("o1").next, proxy.connections), ("A998", 2))
 

@@ -2,19 +2,17 @@
 
 from __future__ import annotations
 
-import contextlib
 import errno
 import hashlib
-import io
 import json
 import os
+import shutil
+import subprocess
 import unittest
 from unittest import mock
 
-from support import DIGEST, FLASH_KEY, LETTERS, MAC, MAP, ORDER, PUBLIC_KEY, WISHES, StationCase, life
-from test_station import rows
+from support import DIGEST, FLASH_KEY, LETTERS, MAC, MAP, ORDER, PUBLIC_KEY, WISHES, StationCase, life, ran, rows
 
-import wanekupo_commands
 from wanekupo_journal import BadJournal, Differs, Journal, merged, request_digest, requests_of, restore
 from wanekupo_station import NoReply, OutOfStep, Refused
 
@@ -55,7 +53,7 @@ class Lines(StationCase):
         """What is asked before it is sent, and the answer before the next request is."""
         file, synced, seen = self.folder / "a1.journal", [], []
         station = self.station(journal=self.journal())
-        fsync, once = os.fsync, station._once
+        fsync, once = os.fsync, station._server.once
 
         def noted(opened):
             fsync(opened)
@@ -68,7 +66,7 @@ class Lines(StationCase):
                 self.assertEqual((last["path"], last["asked"]), (target, json.loads(body)))
             return once(method, target, body)
 
-        with mock.patch.object(os, "fsync", noted), mock.patch.object(station, "_once", looked):
+        with mock.patch.object(os, "fsync", noted), mock.patch.object(station._server, "once", looked):
             station.import_map(MAP)
             station.import_serials("acme-ca", [])
         self.assertEqual(seen, [["/v1/map"], ["/v1/map", "answer", "/v1/import"]])
@@ -104,6 +102,19 @@ class Lines(StationCase):
 
     def test_the_digest_of_a_request(self):
         self.assertEqual(request_digest("/v1/ship", {"nr": 8, "chip": MAC}), SHIPPED)
+
+    @unittest.skipUnless(shutil.which("sha256sum"), "there is no sha256sum, which makes the digest")
+    def test_the_digest_of_letters(self):
+        """Of a text with each kind of character that a map may have: by sha256sum over JSON that is written by hand, in
+        the log, and in the store."""
+        text = MAP + '# "\\" \t/\u00b5\u0416\U0001f600\u2028\n'
+        written = text.replace("\\", "\\\\").replace('"', '\\"').replace("\t", "\\t").replace("\n", "\\n")
+        station = self.station(journal=self.journal())
+        station.import_map(text)
+        data = f'/v1/map\n{{"nr":1,"text":"{written}"}}'.encode()
+        digest = subprocess.run("sha256sum", input=data, capture_output=True, check=True).stdout[:64].decode()
+        line = json.loads((self.folder / "a1.journal").read_bytes().splitlines()[0])
+        self.assertEqual((line["digest"], self.seat()), (digest, (1, digest)))
 
     def test_what_is_sent_again_stands_there_once(self):
         """A request without a reply is open; a refused one isn't, and one that is out of step wasn't done."""
@@ -241,11 +252,8 @@ class Restore(StationCase):
 
     def ran(self, *words):
         (self.folder / "a1.token").write_text("abc\n", encoding="ascii")
-        common = ["--url", self.program.url, "--token", str(self.folder / "a1.token")]
-        out, err = io.StringIO(), io.StringIO()
-        with contextlib.redirect_stdout(out), contextlib.redirect_stderr(err):
-            status = wanekupo_commands.main([*common, "--state", str(self.folder / "restore.json"), *words])
-        return status, out.getvalue(), err.getvalue()
+        common = ["--url", self.program.url, "--token", self.folder / "a1.token"]
+        return ran(*common, "--state", self.folder / "restore.json", *words)
 
     def test_by_the_command_line(self):
         self.go_on()

@@ -9,9 +9,8 @@ import unittest
 import xml.etree.ElementTree
 from datetime import datetime, timezone
 
-from support import DIGEST, MAP, ORDER, StationCase, bit, life
+from support import DIGEST, MAP, ORDER, StationCase, bit, life, ran
 
-import wanekupo_commands
 from wanekupo_station import NoReply
 from wanekupo_yield import (
     NoPeriod,
@@ -36,17 +35,6 @@ DAY = "2026-11-27T"
 
 def at(text):
     return moment_of(text + "Z")
-
-
-def ran(*words):
-    """The status of a command, its output and what it told on standard error."""
-    out, err = io.StringIO(), io.StringIO()
-    with contextlib.redirect_stdout(out), contextlib.redirect_stderr(err):
-        try:
-            status = wanekupo_commands.main([str(word) for word in words])
-        except SystemExit as stop:
-            status = stop.code
-    return status, out.getvalue(), err.getvalue()
 
 
 class Kept(StationCase):
@@ -242,7 +230,7 @@ class Kept(StationCase):
         for name, token, words in (("acme", "abc", ["--customer", "acme"]), ("site", "test", ["--site"])):
             (self.folder / "token").write_text(token, encoding="ascii")
             common = ["--url", self.program.url, "--token", str(self.folder / "token"), "watch", "--times", "1"]
-            self.assertEqual(wanekupo_commands.main([*common, *words, str(self.folder / f"{name}.csv")]), 0)
+            self.assertEqual(ran(*common, *words, self.folder / f"{name}.csv")[0], 0)
             head, *rows = next(self.folder.glob(f"{name}-*")).read_text(encoding="ascii").splitlines()
             own = "time,rows,customer," + ("order" if name == "acme" else "orders")
             self.assertEqual(head, own + HEAD.strip()[len("order") :])

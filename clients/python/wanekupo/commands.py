@@ -1,50 +1,48 @@
-"""The command line of `wanekupo_station`: one command a request, and those of the journal and of the yield."""
+"""The command line: one command a request, and those of the journal and of the yield."""
 
 from __future__ import annotations
 
 import argparse
 import contextlib
-import json
+import io
 import shlex
 import ssl
 import subprocess
 import sys
 from pathlib import Path
-from typing import Any, Callable, Optional, Sequence
+from typing import Any, Callable, Iterable, Optional, Sequence
 
-from wanekupo_journal import Journal, issued, merged, restore
-from wanekupo_station import (
-    Espefuse,
-    KeyFile,
-    NoReply,
-    NotTheServer,
-    OutOfStep,
-    Refused,
-    Station,
-    StationError,
-    bit,
-    blocks_of,
-    chip_of,
-    commands,
-    key,
-    rlock,
-    rows_of,
-    value,
-    wlock,
-)
-from wanekupo_yield import (
-    NoReports,
-    as_csv,
-    as_svg,
-    as_text,
-    between,
-    given_up,
-    lost_csv,
-    lost_text,
-    moment_of,
-    seconds_of,
-    watch,
-)
+from wanekupo.chips import Espefuse, KeyFile, bit, blocks_of, chip_of, commands, key, rlock, value, wlock
+from wanekupo.errors import NoReply, NoReports, NotTheServer, OutOfStep, Refused, StationError, TooLong
+from wanekupo.journal import Journal, issued, merged
+from wanekupo.lost import given_up, lost_csv, lost_formulas, lost_text
+from wanekupo.moments import moment_of, seconds_of
+from wanekupo.pictures import as_svg
+from wanekupo.restore import restore
+from wanekupo.rows import rows_of
+from wanekupo.shifts import as_csv, as_text, between, formulas_of
+from wanekupo.station import Station
+from wanekupo.texts import compact_json, csv_lines, csv_rows, formulas_in, shown, shown_lines
+from wanekupo.watching import watch
+
+
+def _say(text: str) -> None:
+    """Prints lines on standard output. All that the command line prints comes through here, or through `_warn`: no
+    control character of a server reaches a terminal."""
+    print(shown_lines(text), end="")
+
+
+def _warn(*sentences: str) -> None:
+    for sentence in sentences:
+        print(shown(sentence), file=sys.stderr)
+
+
+def _warn_of_formulas(names: Sequence[str], rows: Iterable[Sequence[Any]], told: set[str]) -> None:
+    """Tells which fields of what is printed a spreadsheet would take for formulas, each but once."""
+    for sentence in formulas_in(names, rows):
+        if sentence not in told:
+            _warn(f"warning: {sentence}")
+            told.add(sentence)
 
 
 def _key_file(word: str) -> tuple[str, KeyFile]:
@@ -79,7 +77,8 @@ def _text_of(file: str) -> str:
 def _station(args: argparse.Namespace, file: Optional[str], patience: float, **options: Any) -> Station:
     token = Path(args.token).read_text(encoding="ascii").strip()
     context = ssl.create_default_context(cafile=args.ca) if args.ca else None
-    return Station(args.url, token, file, patience, context=context, **options)
+    more = {"context": context, "insecure": args.insecure, "new_token": args.new_token, **options}
+    return Station(args.url, token, file, patience, **more)
 
 
 def _order(station: Station, args: argparse.Namespace) -> None:
@@ -154,8 +153,9 @@ def _restore(station: Station, args: argparse.Namespace) -> Any:
 
 def _issued(args: argparse.Namespace) -> str:
     names = ("chip", "issuer", "serial", "key_sha256", "mac")
-    rows = [names, *([it[name] or "" for name in names] for it in issued(merged(args.journals)))]
-    return "".join(",".join(row) + "\n" for row in rows)
+    rows = [[it[name] or "" for name in names] for it in issued(merged(args.journals))]
+    _warn_of_formulas(names, rows, set())
+    return csv_lines([names, *rows])
 
 
 def _watch(args: argparse.Namespace) -> str:
@@ -170,8 +170,7 @@ def _watch(args: argparse.Namespace) -> str:
 
 def _yield(args: argparse.Namespace) -> str:
     shift = between(args.file, getattr(args, "from"), args.to)
-    for told in shift.warnings:
-        print(f"warning: {told}", file=sys.stderr)
+    _warn(*(f"warning: {told}" for told in [*shift.warnings, *(formulas_of(shift) if args.csv else [])]))
     for file, text in ((args.csv, as_csv), (args.svg, as_svg)):
         if file:
             Path(file).write_text(text(shift), encoding="utf-8")
@@ -180,8 +179,7 @@ def _yield(args: argparse.Namespace) -> str:
 
 def _lost(args: argparse.Namespace) -> str:
     lines, unanswered = given_up(args.journals, getattr(args, "from"), args.to)
-    for told in unanswered:
-        print(f"warning: {told}", file=sys.stderr)
+    _warn(*(f"warning: {told}" for told in [*unanswered, *(lost_formulas(lines) if args.csv else [])]))
     if args.csv:
         Path(args.csv).write_text(lost_csv(lines), encoding="utf-8")
     return lost_text(lines)
@@ -189,10 +187,21 @@ def _lost(args: argparse.Namespace) -> str:
 
 def _devices(station: Station, args: argparse.Namespace) -> str:
     """A line for each device, printed as its page comes."""
+    told: set[str] = set()
     for it in station.devices(args.after):
         if args.of_state in ("", it.state):
-            print(",".join((it.chip, it.order, it.state, it.reason or "", it.serial or "")))
+            row = (it.chip, it.order, it.state, it.reason or "", it.serial or "")
+            _warn_of_formulas(("chip", "order", "state", "reason", "serial"), [row], told)
+            _say(csv_lines([row]))
     return ""
+
+
+def _report(station: Station, path: str) -> str:
+    """A report as the server gives it."""
+    text = station.get(path)
+    names, *rows = csv_rows(text) or [[]]
+    _warn_of_formulas(names, rows, set())
+    return text
 
 
 # Each command with its words, what it does, and what is said of it. One that answers nothing has its reply printed.
@@ -217,14 +226,14 @@ COMMANDS: list[tuple[str, str, Callable[..., Any], str]] = [
     ),
     ("ship", "chip", lambda it, args: it.ship(args.chip) and None, "ship a device"),
     ("scrap", "chip", lambda it, args: it.scrap(args.chip) and None, "scrap a device"),
-    ("import", "issuer file", _import, "import serial numbers, any number of rows, in parts of 500; begun again it goes on"),
+    ("import", "issuer file", _import, "import serial numbers, any number of rows, in parts of 500; again, it goes on"),
     ("show-order", "name", lambda it, args: it.get("/v1/order", name=args.name), "show an order"),
     ("device", "chip", lambda it, args: it.get("/v1/device", chip=args.chip), "show a device"),
     ("ledger", "chip", lambda it, args: it.get("/v1/ledger", chip=args.chip), "show a device's ledger"),
-    ("show-identity", "chip", lambda it, args: it.get("/v1/identity", chip=args.chip), "show a device's identity again"),
+    ("show-identity", "chip", lambda it, args: it.get("/v1/identity", chip=args.chip), "show an identity again"),
     ("devices", "", _devices, "list the customer's devices: chip, order, state, reason and serial number, a line each"),
-    ("report", "", lambda it, _: it.get("/v1/report"), "show the customer's report"),
-    ("site-report", "", lambda it, _: it.get("/v1/site/report"), "show the site's report, with the manager's token"),
+    ("report", "", lambda it, _: _report(it, "/v1/report"), "show the customer's report"),
+    ("site-report", "", lambda it, _: _report(it, "/v1/site/report"), "show the site's report, by the manager's token"),
     ("finish", "", _finish, "send what is under way again, and show the last request's reply"),
     ("number", "", _number, "show the number that the server expects of the seat, and the station's own"),
     ("restore", "", _restore, "bring what journals say into a restored store"),
@@ -263,6 +272,9 @@ def _parser() -> argparse.ArgumentParser:
     parser.add_argument("--state", metavar="FILE", help="the seat's state file")
     parser.add_argument("--journal", metavar="FILE", help="the station's own log, which restore reads")
     parser.add_argument("--ca", metavar="FILE", help="the certificates to trust, in place of the system's")
+    parser.add_argument("--insecure", action="store_true", help="send the token over http to another machine too")
+    said = "the token is a new one of the same seat, whose state file goes on with it"
+    parser.add_argument("--new-token", action="store_true", help=said)
     parser.add_argument("--patience", type=float, default=120, help="how many seconds a reply is asked for")
     subparsers = parser.add_subparsers(dest="command", required=True)
     made = {}
@@ -272,6 +284,12 @@ def _parser() -> argparse.ArgumentParser:
         for word in words.split():
             made[name].add_argument(word)
     _add_stateless(subparsers, made)
+    _add_options(made)
+    return parser
+
+
+def _add_options(made: dict[str, argparse.ArgumentParser]) -> None:
+    """What the commands of a seat are told beside their words."""
     for name in ("width", "first", "quantity"):
         made["order"].add_argument(f"--{name}", type=int, required=True)
     made["order"].add_argument("--macs", type=int, default=0, help="addresses for each serial number")
@@ -286,10 +304,10 @@ def _parser() -> argparse.ArgumentParser:
         made[name].add_argument("--key", action="append", default=[], type=_key_file, metavar=form, help=said)
     for name in ("burn", "settle"):
         made[name].add_argument("--tool", default="espefuse.py", help="espefuse's command, with its port")
-    made["devices"].add_argument("--state", dest="of_state", default="", metavar="STATE", help="those in this state alone")
+    said = "those in this state alone"
+    made["devices"].add_argument("--state", dest="of_state", default="", metavar="STATE", help=said)
     made["devices"].add_argument("--after", default="", metavar="CHIP", help="those whose chips come behind this one")
     made["number"].add_argument("--resynchronize", action="store_true", help="forget what is under way, and go on")
-    return parser
 
 
 def _add_stateless(subparsers: Any, made: dict[str, argparse.ArgumentParser]) -> None:
@@ -322,8 +340,10 @@ def _answered(args: argparse.Namespace) -> Any:
 
 
 def main(words: Optional[Sequence[str]] = None) -> int:
-    """Status 0 for a reply, which is printed, 1 for a refusal, 2 for what can't be sent, 3 where no reply came, 4 where
-    the device is quarantined, 5 where the numbers of the seat aren't this station's."""
+    """Status 0 for a reply, which is printed, 1 for a refusal, 2 for what can't be sent, 3 where no reply came that can
+    be used, 4 where the device is quarantined, 5 where the numbers of the seat aren't this station's."""
+    if isinstance(sys.stdout, io.TextIOWrapper):
+        sys.stdout.reconfigure(errors="backslashreplace")  # a name with letters that the terminal hasn't is no fault
     parser = _parser()
     args = parser.parse_args(words)
     is_stateless = "run_stateless" in args
@@ -334,15 +354,15 @@ def main(words: Optional[Sequence[str]] = None) -> int:
         reply = args.run_stateless(args) if is_stateless else _answered(args)
     except OutOfStep as stop:
         asked = f"{stop.path} with number {stop.number}, the server expects {stop.expected}"
-        print(f"stopped: {asked}: {stop}", file=sys.stderr)
-        print("look why (docs/CLIENT.md, A station that stops), then: number --resynchronize", file=sys.stderr)
+        look = "look why (docs/CLIENT.md, A station that stops), then: number --resynchronize"
+        _warn(f"stopped: {asked}: {stop}", look)
         return 5
     except Refused as refused:
-        print(f"refused: {refused}", file=sys.stderr)
+        _warn(f"refused: {refused}")
         return 1
     except (StationError, ValueError, OSError, subprocess.CalledProcessError) as error:
-        print(f"{type(error).__name__}: {error}", file=sys.stderr)
-        return 3 if isinstance(error, (NoReply, NotTheServer)) else 2
+        _warn(f"{type(error).__name__}: {error}")
+        return 3 if isinstance(error, (NoReply, NotTheServer, TooLong)) else 2
     is_text = isinstance(reply, str)
-    print(reply if is_text else json.dumps(reply, sort_keys=True, separators=(",", ":")), end="" if is_text else "\n")
+    _say(reply if is_text else compact_json(reply, sort_keys=True) + "\n")
     return 4 if not is_text and reply.get("state") == "quarantined" else 0

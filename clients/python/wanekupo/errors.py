@@ -1,0 +1,82 @@
+"""What a station can't do by itself."""
+
+from __future__ import annotations
+
+from typing import Any, Mapping
+
+from wanekupo.texts import shown
+
+
+class StationError(Exception):
+    """What a station can't do by itself. Its text may have words of a server, and is safe to print."""
+
+    def __str__(self) -> str:
+        return shown(super().__str__())
+
+
+class Refused(StationError):
+    """A refusal of docs/FORMATS.md: `no` and `name` are those of the table, `more` is what else the body says."""
+
+    def __init__(self, status: int, body: Mapping[str, Any]):
+        self.status, self.no, self.name = status, body["no"], body["error"]
+        self.body = dict(body)
+        self.more = {name: value for name, value in body.items() if name not in ("no", "error")}
+        super().__init__(" ".join([f"{self.no} {self.name}", *(f"{name} {self.more[name]}" for name in self.more)]))
+
+
+class OutOfStep(Refused):
+    """A refusal as 11 or 12: the numbers of the seat aren't those of its state file. Somebody else asks with its token,
+    two stations share it, or the store was restored. `path` and `number` were asked, `expected` is the server's. A
+    request that was sent before is still under way, as it may be done; another one wasn't done, and is forgotten.
+
+    Each request is refused so until `resynchronize`, which a person calls who knows why (docs/CLIENT.md)."""
+
+    def __init__(self, refused: Refused, path: str, number: int):
+        super().__init__(refused.status, refused.body)
+        # What was accepted with another request is the last that was accepted.
+        self.path, self.number, self.expected = path, number, refused.more.get("expected", number + 1)
+
+
+class NoReply(StationError):
+    """No reply within the station's patience. A POST is still under way, and `finish` sends it again."""
+
+
+class NotTheServer(StationError):
+    """A proxy's page, or what else isn't one of the server's replies, until the station's patience ended. A POST is
+    still under way."""
+
+
+class TooLong(StationError):
+    """A reply longer than `connection.LONGEST_REPLY`, of which nothing is kept. A POST is still under way."""
+
+
+class UnderWay(StationError):
+    """Another request is under way: `finish` it first."""
+
+
+class BadStateFile(StationError):
+    """The state file is in use, another seat's, or damaged."""
+
+
+class UnsafeFile(StationError):
+    """A file, or its folder, that another user could have put there, or could replace."""
+
+
+class BadJournal(StationError):
+    """The journal is in use, or has a line that isn't one."""
+
+
+class Differs(StationError):
+    """A restored store answers otherwise than the lost one did."""
+
+
+class NoReports(StationError):
+    """There is nothing to subtract."""
+
+
+class NoPeriod(StationError):
+    """The end isn't behind the beginning."""
+
+
+class NotOneWatch(StationError):
+    """The reports of a file aren't those of one customer, or of the site, over one store."""

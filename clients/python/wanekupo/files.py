@@ -1,0 +1,113 @@
+"""Files that are this user's alone: none is opened through a link, and none in a folder that another user can write.
+
+On Windows, which has neither modes nor `flock`, nothing of it is watched over.
+"""
+
+from __future__ import annotations
+
+import contextlib
+import errno
+import os
+import stat
+from pathlib import Path
+
+from wanekupo.errors import UnsafeFile
+
+try:
+    import fcntl
+except ImportError:  # Windows, where nothing keeps two processes from one state file
+    fcntl = None  # type: ignore[assignment]
+
+IS_POSIX = os.name == "posix"
+NOFOLLOW = getattr(os, "O_NOFOLLOW", 0)
+NONBLOCK = getattr(os, "O_NONBLOCK", 0)  # a pipe in a file's place is opened at once, and refused
+PRIVATE = 0o600
+
+# Who may write a file or a folder beside its owner.
+OTHERS_WRITE = stat.S_IWGRP | stat.S_IWOTH
+
+
+def synced_folder(folder: Path) -> None:
+    """Syncs a folder, so that a name that was made or replaced in it stays."""
+    if IS_POSIX:
+        opened = os.open(folder, os.O_RDONLY)
+        try:
+            os.fsync(opened)
+        finally:
+            os.close(opened)
+
+
+def tested_folder(folder: Path) -> None:
+    """Whether nobody else can put a file into a folder, or take one out of it. One as /tmp is refused too: its sticky
+    bit keeps others from taking a file, and lets them put one there first."""
+    if not IS_POSIX:
+        return
+    found = os.stat(folder)
+    if found.st_uid not in (os.geteuid(), 0):
+        raise UnsafeFile(f"{folder} is another user's folder: have these files in one of your own")
+    if found.st_mode & OTHERS_WRITE:
+        raise UnsafeFile(f"others can write the folder {folder}: chmod go-w it, or have these files in another one")
+
+
+def opened_plain(file: str | os.PathLike[str], flags: int) -> int:
+    """Opens a plain file, and makes it with mode 0600 where the flags say so; never through a link."""
+    try:
+        opened = os.open(file, flags | NOFOLLOW | NONBLOCK, PRIVATE)
+    except OSError as error:
+        if NOFOLLOW and error.errno == errno.ELOOP:
+            raise UnsafeFile(f"{file} is a link, and isn't followed") from error
+        raise
+    if not stat.S_ISREG(os.fstat(opened).st_mode):
+        os.close(opened)
+        raise UnsafeFile(f"{file} is no plain file")
+    return opened
+
+
+def opened_own(file: str | os.PathLike[str], flags: int) -> int:
+    """The same of a file that has to be this user's, and that nobody else can write."""
+    opened = opened_plain(file, flags)
+    try:
+        found = os.fstat(opened)
+        if IS_POSIX and found.st_uid != os.geteuid():
+            raise UnsafeFile(f"{file} is another user's")
+        if IS_POSIX and found.st_mode & OTHERS_WRITE:
+            raise UnsafeFile(f"others can write {file}: look whether it is as it was, then chmod 600 it")
+        return opened
+    except BaseException:
+        os.close(opened)
+        raise
+
+
+def opened_lock(file: str | os.PathLike[str]) -> int:
+    """A lock's file, which has nothing in it. It is made private, as another's lock on it would shut us out."""
+    opened = opened_plain(file, os.O_RDWR | os.O_CREAT)
+    try:
+        if IS_POSIX and os.fstat(opened).st_uid != os.geteuid():
+            raise UnsafeFile(f"{file} is another user's")
+        if IS_POSIX:
+            os.fchmod(opened, PRIVATE)
+        return opened
+    except BaseException:
+        os.close(opened)
+        raise
+
+
+def locked(opened: int) -> None:
+    """Locks an opened file for this process alone, or fails with OSError at once."""
+    if fcntl:
+        fcntl.flock(opened, fcntl.LOCK_EX | fcntl.LOCK_NB)
+
+
+def replace_file(file: Path, text: str) -> None:
+    """Replaces a file: whole or not at all, whenever the power fails. What stands in the new one's place goes first, so
+    that it is this call's, with its owner and its mode."""
+    new = f"{file}.new"
+    with contextlib.suppress(FileNotFoundError):
+        os.unlink(new)
+    flags = os.O_WRONLY | os.O_CREAT | os.O_EXCL | NOFOLLOW
+    with open(os.open(new, flags, PRIVATE), "w", encoding="ascii") as out:
+        out.write(text)
+        out.flush()
+        os.fsync(out.fileno())
+    os.replace(new, file)
+    synced_folder(file.parent)

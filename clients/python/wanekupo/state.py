@@ -1,0 +1,113 @@
+"""A seat's state file: the number of its next request, the request under way, and the last one with its reply."""
+
+from __future__ import annotations
+
+import hashlib
+import json
+import os
+from pathlib import Path
+from typing import Any, Mapping, Optional
+
+from wanekupo.chips import redacted
+from wanekupo.errors import BadStateFile
+from wanekupo.files import locked, opened_lock, opened_own, replace_file, tested_folder
+from wanekupo.texts import compact_json
+
+NAMES = ("token", "next", "under_way", "last")
+
+
+def members_of(asked: Mapping[str, str]) -> dict[str, Any]:
+    """The members of a kept request, without its number."""
+    members = json.loads(asked["body"])
+    del members["nr"]
+    return members
+
+
+def _kept(asked: Optional[Mapping[str, Any]]) -> Optional[dict[str, Any]]:
+    """A request that has its reply, as it is kept: what a chip showed may be a key, and isn't sent again."""
+    if asked is None:
+        return None
+    members = json.loads(asked["body"])
+    if not any(isinstance(block, list) for block in members.get("blocks", ())):
+        return dict(asked)
+    return {**asked, "body": compact_json(redacted(members))}
+
+
+class State:
+    """What a seat keeps, and which process has it. Without a file nothing is kept, and so nothing begun.
+
+    Of the token it has the SHA-256: with another seat's its request would be another one, and might be done as that.
+    """
+
+    def __init__(self, file: Optional[str | os.PathLike[str]], token: str):
+        self.token = hashlib.sha256(token.encode()).hexdigest()
+        self.file = None if file is None else Path(os.path.realpath(file))  # two names of one file have one lock
+        self._lock: Optional[int] = None
+        self._data: dict[str, Any] = {"token": self.token, "next": None, "under_way": None, "last": None}
+        if not self.file:
+            return
+        tested_folder(self.file.parent)
+        self._lock = self._locked()
+        try:
+            self._read()
+        except BaseException:
+            self.close()
+            raise
+
+    def close(self) -> None:
+        """Lets another process have the file."""
+        if self._lock is not None:
+            os.close(self._lock)
+            self._lock = None
+
+    @property
+    def next(self) -> Optional[int]:
+        return self._data["next"]
+
+    @property
+    def under_way(self) -> Optional[dict[str, str]]:
+        return self._data["under_way"]
+
+    @property
+    def last(self) -> Optional[dict[str, Any]]:
+        return self._data["last"]
+
+    def is_of_the_token(self) -> bool:
+        """Whether the file is of the token that is given now."""
+        return self._data["token"] == self.token
+
+    def _locked(self) -> int:
+        lock = opened_lock(f"{self.file}.lock")
+        try:
+            locked(lock)
+        except OSError as error:
+            os.close(lock)
+            raise BadStateFile(f"{self.file} is another process's") from error
+        return lock
+
+    def _read(self) -> None:
+        """The state. Without a file the number isn't known, and is asked for."""
+        assert self.file
+        try:
+            with open(opened_own(self.file, os.O_RDONLY), "rb") as source:
+                state = json.loads(source.read())
+            self._data = {name: state[name] for name in NAMES}
+            _kept(self._data["last"])
+        except FileNotFoundError:
+            return
+        except (ValueError, KeyError, TypeError, AttributeError) as error:
+            raise BadStateFile(f"{self.file} is no state file: {error!r}") from error
+
+    def forget_words(self) -> None:
+        """A file of an earlier version has what a chip showed, which may be a key, in its last request."""
+        if self.last != _kept(self.last):
+            self.keep()
+
+    def keep(self, **changes: Any) -> None:
+        """Changes the state, in the file first: whole or not at all, whenever the power fails."""
+        if not self.file:
+            raise BadStateFile("without a state file nothing is sent that changes anything")
+        state = {**self._data, **changes}
+        state["last"] = _kept(state["last"])
+        replace_file(self.file, compact_json(state))
+        self._data = state

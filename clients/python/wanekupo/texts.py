@@ -1,0 +1,64 @@
+"""Texts as they may be printed or written: what a server says is data, and never a command to a terminal or a sheet."""
+
+from __future__ import annotations
+
+import csv
+import io
+import itertools
+import json
+import re
+from typing import Any, Iterable, Iterator, Sequence
+
+# How a cell begins that a spreadsheet takes for a formula (OWASP, "CSV Injection"), also behind what it may take for a
+# separator: with a semicolon between cells, `a;=1+1` is two of them.
+FORMULA = re.compile("(?:^|[,;\t|])[\"' ]*[=+@\t\r\n\uff1d\uff0b\uff0d\uff20-]")
+
+# Columns of counts, in which -2 is a number and no name.
+COUNT = re.compile(
+    "(?:d_)?(?:registered|planned|settled|identified|shipped|quarantined|scrapped)"
+    "|rows|orders|quantity|serials_left|begun|given_up|yield"
+)
+NUMBER = re.compile(r"[+-]?[0-9]+(?:\.[0-9]+)?")
+
+
+def shown(text: str) -> str:
+    r"""A text for a terminal, in one line. What is no visible character and no space stands there as Python writes it:
+    `\x1b` of an escape, `\u202e` of what turns the writing around, `\n` of a line feed."""
+    if text.isprintable():
+        return text
+    return "".join(it if it.isprintable() else it.encode("unicode_escape").decode("ascii") for it in text)
+
+
+def shown_lines(text: str) -> str:
+    """The same of a text of several lines, whose line feeds stay."""
+    return "\n".join(map(shown, text.split("\n")))
+
+
+def compact_json(data: Any, **options: Any) -> str:
+    """JSON in visible ASCII and in one line."""
+    return json.dumps(data, separators=(",", ":"), **options)
+
+
+def csv_lines(rows: Iterable[Sequence[Any]]) -> str:
+    """Rows as comma-separated values (RFC 4180), with a line feed behind each: a field is quoted where it needs it, and
+    none has a control character, so that a row is a line."""
+    out = io.StringIO()
+    csv.writer(out, lineterminator="\n").writerows([shown(str(field)) for field in row] for row in rows)
+    return out.getvalue()
+
+
+def csv_rows(text: str) -> list[list[str]]:
+    """The rows of comma-separated values, without blank lines."""
+    try:
+        return [row for row in csv.reader(io.StringIO(text)) if row]
+    except csv.Error as error:
+        raise ValueError(f"these are no comma-separated values: {error}") from error
+
+
+def formulas_in(names: Sequence[str], rows: Iterable[Sequence[Any]]) -> Iterator[str]:
+    """A sentence for each field that a spreadsheet would take for a formula, by the names of the columns."""
+    for row in rows:
+        for name, field in itertools.zip_longest(names, map(str, row), fillvalue=""):
+            is_count = COUNT.fullmatch(name) and NUMBER.fullmatch(field)
+            if FORMULA.search(field) and not is_count:
+                yield f"{name or 'a field'} {field!r} begins as a formula does: import it into a spreadsheet as text"
