@@ -123,8 +123,11 @@ def shares(place, tried):
     )
     tried.same("another customer's", place.ask(by(place.outer["bolt"]), "/v1/report")[0], 200)
     start = time.monotonic()
-    got = {place.ask(by(place.outer["work"]), "/v1/import", "{}")[0] for _ in range(3)}
-    tried.same("imports wait for their turn", (got, time.monotonic() - start > 1.8), ({400}, True))
+    got = {place.ask(by(place.outer["work"]), "/v1/import", "{}")[0] for _ in range(22)}
+    tried.same("imports wait for their turn", (got, time.monotonic() - start > 4), ({400}, True))
+    start = time.monotonic()
+    got = {place.ask(by(place.outer["work"]), "/v1/ledger?chip=000000000001")[0] for _ in range(8)}
+    tried.same("ledgers wait for theirs", (got, time.monotonic() - start > 0.8), ({404}, True))
     waiting_client(place, tried, held)
 
 
