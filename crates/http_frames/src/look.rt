@@ -7,6 +7,7 @@ ghost use Rattle.http_frames.specs.Prelude.{headers_at, asks_close, IsHeadFound,
 use crate::buffer::ROOM;
 use crate::fields::{FrameRefusal, is_close_asked, read_body_size};
 use crate::frame::{Frame, Framed};
+use http::Method;
 use httparse::Status;
 use httparse::spans::{HeaderSpan, RequestSpans, parse_request};
 
@@ -48,7 +49,7 @@ fn has_head_method(window: &[u8], head: RequestSpans) -> bool
     requires { IsWithin (length window.now) head.method }
     ensures { result ≡ bytes_eq (span_bytes window.now head.method) (codes "HEAD") }
 {
-    head.method.of(window) == b"HEAD".as_slice()
+    head.method.of(window) == Method::HEAD.as_str().as_bytes()
 }
 
 /// Whether the stream ends after a request with these fields and this minor version.

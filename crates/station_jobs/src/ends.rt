@@ -24,8 +24,8 @@ pub struct Line<'a, R, L, S: Drop> {
     opened: Instant,
     /// How long the client was waited for to take what it is sent, since it was last read.
     untaken: Cell<Duration>,
-    /// Since when another connection was seen to wait, which it then does to the end.
-    another_since: Cell<Option<Instant>>,
+    /// Since when another connection may wait: the last look that found none. One that waits does so to the end.
+    another_since: Cell<Instant>,
 }
 
 /// Whether a call that failed so may be made again: nothing came or was taken in its time.
@@ -57,13 +57,14 @@ impl<'a, R: Clock, S: Drop, L: OpenListener<Stream = S>> Line<'a, R, L, S> {
         arrivals: &'a Arrivals<'a, R, L, S>,
         bounds: Bounds,
     ) -> io::Result<Line<'a, R, L, S>> {
+        let opened = Instant::now(clock)?;
         Ok(Line {
             clock,
             arrivals,
             bounds,
-            opened: Instant::now(clock)?,
+            opened,
             untaken: Cell::new(Duration::ZERO),
-            another_since: Cell::new(None),
+            another_since: Cell::new(opened),
         })
     }
 
@@ -72,15 +73,12 @@ impl<'a, R: Clock, S: Drop, L: OpenListener<Stream = S>> Line<'a, R, L, S> {
         Instant::now(self.clock).ok()
     }
 
-    /// Since when another connection waits, of which one is seen to wait now.
-    fn waits_since(&self, now: Instant) -> Instant {
-        match self.another_since.get() {
-            Some(since) => since,
-            None => {
-                self.another_since.set(Some(now));
-                now
-            }
+    /// Since when another connection may wait, now that one is seen to wait or none is.
+    fn waits_since(&self, another_waits: bool, now: Instant) -> Instant {
+        if !another_waits {
+            self.another_since.set(now);
         }
+        self.another_since.get()
     }
 
     /// A wait of the client since a moment, now that another connection waits or none does.
@@ -96,11 +94,7 @@ impl<'a, R: Clock, S: Drop, L: OpenListener<Stream = S>> Line<'a, R, L, S> {
             since,
             opened: self.opened,
             another_waits,
-            another_since: if another_waits {
-                self.waits_since(now)
-            } else {
-                now
-            },
+            another_since: self.waits_since(another_waits, now),
         }
     }
 

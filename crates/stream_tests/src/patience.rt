@@ -137,7 +137,7 @@ const KEPT: &[(&str, &[Script], &str)] = &[
             ),
             SECOND,
         ],
-        "14x404:33 until 3420, 404:33 until 3420",
+        "13x404:33 until 3380, 404:33 until 3380",
     ),
 ];
 
@@ -173,7 +173,7 @@ const AT_ONCE: &[(&str, &[Script], &str)] = &[
     (
         "sends 200 requests all at once, and another comes",
         &[(2_990, &[(2_990, SHOWN, 200)], Taking::After(5)), SECOND],
-        "41x404:33 until 3400, 404:33 until 3400",
+        "40x404:33 until 3390, 404:33 until 3390",
     ),
     (
         "sends 200 requests all at once, each of a second, and another waits",
@@ -182,6 +182,14 @@ const AT_ONCE: &[(&str, &[Script], &str)] = &[
             (0, &[(0, SHOWN, 1), (0, "", 1)], ALL),
         ],
         "404:33 until 1000, 404:33 until 1000",
+    ),
+    (
+        "sends 200 requests all at once, each of a second, and another comes in the middle of the second",
+        &[
+            (0, &[(0, SHOWN, 200)], Taking::After(500)),
+            (1_500, &[(1_500, SHOWN, 1), (1_500, "", 1)], ALL),
+        ],
+        "2x404:33 until 2000, 404:33 until 2000",
     ),
 ];
 
