@@ -3,9 +3,9 @@ use Rattle.std.proofs.Common.{◌≡◌, ◌+◌, ◌≤◌, ◌<◌, ◌∙◌,
 use Rattle.std.proofs.Common.{IfSome}
 use Rattle.std.proofs.lemmas.Bool.{and_parts, cases_lt, not-false}
 use Rattle.text_core.specs.Prelude.{first_that_holds}
+use Rattle.text_core.proofs.Kit.{find-passes}
 use Rattle.fusemap_core.specs.Prelude.{Map}
 use Rattle.id_ranges.specs.Prelude.{Idevid, serial_text_of, IsLeastUnused}
-use Rattle.id_ranges.proofs.FreeBlocks.{find-passes}
 use Rattle.site_core.specs.Prelude.{IsSection, Ownership, Section}
 use Rattle.office_laws.proofs.Types.{Cursor, Device, Given, Order, OfCustomer, NewIdentity, DeviceStep}
 use Rattle.office_tables.specs.Prelude.{IsAddressFree, Tables, device_at, device_cmp, given_at, given_by_key, given_cmp, is_device, is_serial_of, is_order}

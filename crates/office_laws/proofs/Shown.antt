@@ -1,7 +1,6 @@
 -- Over sound tables what is shown as the identity of a device is its record.
 use Rattle.std.proofs.Common.{◌≡◌, ◌∙◌}
-use Rattle.text_core.proofs.Kit.{ℕ, List, Option, Some, None, refl, sym, ap, subst, IsSomeAnd, and_parts, bytes_eq, option_and_then, option_map}
-use Rattle.id_ranges.proofs.FreeBlocks.{find-passes}
+use Rattle.text_core.proofs.Kit.{ℕ, List, Option, Some, None, refl, sym, ap, subst, IsSomeAnd, and_parts, bytes_eq, option_and_then, option_map, find-passes}
 use Rattle.site_core.specs.Prelude.{Ownership, Section}
 use Rattle.office_laws.proofs.Types.{Device, Given, Order, OfCustomer}
 use Rattle.office_tables.specs.Prelude.{Tables, device_at, given_at, is_device, order_at}
