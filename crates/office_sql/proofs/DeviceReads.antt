@@ -9,7 +9,7 @@ use Rattle.sqlite.specs.Listing.{understood}
 use Rattle.sqlite_tied.specs.Compute.{everything}
 use Rattle.sqlite_trees.proofs.ListLemmas.{map-map}
 use Rattle.office_tables.specs.Prelude.{device_cmp, is_device, is_device_behind, is_of}
-pub use Rattle.office_tables.proofs.Places.{device_total}
+use Rattle.office_tables.proofs.Orders.{device_total}
 use Rattle.office_sql.specs.Prelude.{devices, office_schema, device_in_row, scan, is_parameter, env, passes, order_state, order_state_in, AreRows, IsDeviceRow}
 use Rattle.office_sql.specs.Prelude.{is_above_parameter}
 use Rattle.office_sql.proofs.Kept.{shows_kept, kept_is}

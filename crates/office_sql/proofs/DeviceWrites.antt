@@ -12,9 +12,10 @@ use Rattle.sqlite_trees.proofs.ListLemmas.{all_weaker}
 use Rattle.office_tables.specs.Prelude.{state_row, reason_text, state_of_texts, device_cmp, is_device, with_row, IsFree}
 use Rattle.office_sql.proofs.Types.{OfCustomer, Device, DeviceState, Quarantined, Scrapped, AddDevice, PutDevice}
 use Rattle.office_tables.specs.declared.rows.Reason.TheVariants as reason
+use Rattle.office_tables.proofs.Orders.{device_total}
 use Rattle.office_sql.specs.Prelude.{devices, SqlAdds, Wrote, device_in_row, device_columns, device_table, office_schema, rows_in, is_parameter, IsOffice}
 use Rattle.office_sql.specs.Prelude.{IsDeviceRow, tables_in, AreRows, state_in, text_if, text_value}
-use Rattle.office_sql.proofs.DeviceReads.{device_total, passes_device}
+use Rattle.office_sql.proofs.DeviceReads.{passes_device}
 use Rattle.office_sql.proofs.Finding.{both_true, same_text, texts_tied, unkeyed}
 use Rattle.office_sql.proofs.Inserting.{IsInsert}
 use Rattle.office_sql.proofs.Keyed.{Apart}
