@@ -4,11 +4,11 @@ use Rattle.text_core.proofs.Kit.{ℕ, zero, suc, max, min, Bool, true, false, no
 use Rattle.text_core.proofs.Kit.{bit_and, bit_or, bit_at, bit_not, w32, cases_Bool, cases_eq, and_parts, and_from, and_left, and_right, or_from, or_left}
 use Rattle.text_core.proofs.Kit.{eq-eqb, eqb-true, ne_eqb, true≢false, false_from_ne_true, and_lt, eq_by_cmp, Equal-is, tied_itself, get_or-set_at}
 use Rattle.text_core.proofs.Kit.{get_or-set_other, bit_at_or, bit_at_and, bit_at_not, bit_at-lt, bit_at-zero, bit_at_set_same, bit_at_set_other, shr_and_one}
-use Rattle.text_core.proofs.Kit.{same_from_bits_below}
+use Rattle.text_core.proofs.Kit.{same_from_bits_below, one_truth}
 use Rattle.std.specs.FinSet as set
 use Rattle.fusemap_core.specs.declared.pos.Pos.{Pos}
 use Rattle.fuse_image.specs.Prelude.{is_empty, sets_meet, Positions, pos_cmp, pos_total, pos_exact, is_place, IsPlace, places_where, contains-places_where}
-use Rattle.fuse_image.specs.Prelude.{same_bool, bit_in, position_of_bit, AreWords, contains-place_of}
+use Rattle.fuse_image.specs.Prelude.{bit_in, position_of_bit, AreWords, contains-place_of}
 use Rattle.fuse_image.proofs.Sets.{none_in, is_empty-from_none, is_empty-difference, is_place-from_IsPlace, IsPlace-from_is_place, same_places, none_outside}
 
 -- the positions at which words have ones
@@ -133,7 +133,7 @@ no_bit (suc (suc b)) h e = absurd (omega (arith, h))
 
 pub is_empty-zeros : (word : ℕ → ℕ) (s : Positions) → AreBitsOf word s → ((w : ℕ) → word w < 2 ^ 32) → (are_zeros : Bool)
     → ((are_zeros ≡ true) ↔ ((w : ℕ) → w < 32 → word w ≡ 0)) → are_zeros ≡ is_empty s
-is_empty-zeros word s are small_words are_zeros each = same_bool are_zeros (is_empty s)
+is_empty-zeros word s are small_words are_zeros each = one_truth are_zeros (is_empty s)
     (λ is. is_empty-from_none s (λ p. elim (cases_Bool (is_place p)) as (λ _. set.contains s p ≡ false) [
       | inl here ↦
           let place : IsPlace p = IsPlace-from_is_place p here in
@@ -199,7 +199,7 @@ contains-shifted words p index is place =
 
 -- one position more
 same_place : (p : Pos) (w i : ℕ) → IsPlace p → i < 32 → eq_by_cmp pos_cmp (position_of_bit w i) p ≡ (w == 8 * p.block + p.bit / 32 && i == p.bit % 32)
-same_place p w i place small = same_bool _ _
+same_place p w i place small = one_truth _ _
     (λ h.
     let same : position_of_bit w i ≡ p = pos_exact (position_of_bit w i) p ((Equal-is (pos_cmp (position_of_bit w i) p)).0 h) in
     let block : w / 8 ≡ p.block = ap (λ (q : Pos). q.block) same in

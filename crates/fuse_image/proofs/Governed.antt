@@ -1,7 +1,7 @@
 -- The positions of fields that pass a test, one field after another, and where the locks of a map lie.
 use Rattle.std.proofs.Common.{◌≡◌, ◌+◌, ◌<◌, ◌&&◌, ◌||◌, get_or}
 use Rattle.text_core.proofs.Kit.{ℕ, Bool, true, false, List, [], length, take, Option, Some, None, IfSome, refl, sym, ap, ap₂, ◌∙◌, slice_get, list_any}
-use Rattle.text_core.proofs.Kit.{list_any_more, and-true, or-false, and_right, slice_get_read}
+use Rattle.text_core.proofs.Kit.{list_any_more, and-true, or-false, and_right, slice_get_read, and-or_distrib_left}
 use Rattle.std.specs.FinSet as set
 use Rattle.fusemap_core.specs.declared.field.Field.{Field}
 use Rattle.fusemap_core.specs.declared.pos.Pos.{Pos}
@@ -10,10 +10,6 @@ use Rattle.fusemap_core.proofs.Bounds.{write_lock_is_small, read_lock_is_small}
 use Rattle.fuse_image.specs.declared.locks.Lock.{Lock}
 use Rattle.fuse_image.specs.declared.locks.Lock.TheVariants.{Write, Read}
 use Rattle.fuse_image.specs.Prelude.{IsPlace, pos_cmp, pos_total, pos_exact, is_place, contains-places_where, run, lock_of, positions_in}
-
-both_parts : (x a h : Bool) → (x && (a || h)) ≡ ((x && a) || (x && h))
-both_parts true a h = refl
-both_parts false a h = refl
 
 -- no field has no position
 pub positions_in-none : (test : Field → Bool) → set.empty ≡ positions_in test []
@@ -30,7 +26,7 @@ positions_in-passes test fields i f low e passes = set.same_set pos_total pos_ex
     (contains-places_where (λ q. list_any (λ g. holds g q && test g) (take i fields)) p)
     (contains-places_where (λ q. holds f q) p ∙ ap (λ (a : Bool). is_place p && a)
     (sym (and-true (holds f p)) ∙ (ap (λ (a : Bool). holds f p && a) (sym passes) ∙ ap at e)))
-    ∙ (sym (both_parts (is_place p) (list_any at (take i fields)) (at (get_or fields i f)))
+    ∙ (sym (and-or_distrib_left (is_place p) (list_any at (take i fields)) (at (get_or fields i f)))
     ∙ (ap (λ (a : Bool). is_place p && a) (sym (list_any_more at fields i f low))
     ∙ sym (contains-places_where (λ q. list_any (λ g. holds g q && test g) (take (i + 1) fields)) p)))))
 

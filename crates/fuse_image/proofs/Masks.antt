@@ -2,10 +2,10 @@
 use Rattle.std.proofs.Common.{◌≡◌, ◌+◌, ◌-◌, ◌*◌, ◌/◌, ◌^◌, ◌<◌, ◌≤◌, ◌&&◌, get_or, ◌==◌}
 use Rattle.text_core.proofs.Kit.{ℕ, min, Bool, List, bit_or, nat_le, nat_lt, sym, ap, ◌∙◌, inl, inr, arith, bit_at, and_parts, and_from, and_left, and_right}
 use Rattle.text_core.proofs.Kit.{ltb-true, lt-ltb, le-ltb, leb-true, le-leb, lt-leb, eq-eqb, eqb-true, cases_lt, bit_at_mask_inside, bit_at_mask_below}
-use Rattle.text_core.proofs.Kit.{bit_at_mask_above, pow_mono}
+use Rattle.text_core.proofs.Kit.{bit_at_mask_above, pow_mono, one_truth}
 use Rattle.std.specs.FinSet as set
 use Rattle.fusemap_core.specs.declared.pos.Pos.{Pos}
-use Rattle.fuse_image.specs.Prelude.{mask_of, run, same_bool, position_of_bit}
+use Rattle.fuse_image.specs.Prelude.{mask_of, run, position_of_bit}
 use Rattle.fuse_image.proofs.BitSets.{AreBitsOf, AreBitsOf-words, AreBitsOf-same, AreBitsOf-or, positions_of, positions_of-bits}
 use Rattle.fuse_image.proofs.Sets.{places_where-at, none_outside}
 
@@ -53,7 +53,7 @@ run_places : (first : Pos) (count w i : ℕ) → first.bit + count ≤ 256 → i
 run_places first count w i fits small =
     let start = 256 * first.block + first.bit in
     let place = position_of_bit w i in
-    same_bool (nat_le start (32 * w + i) && nat_lt (32 * w + i) (start + count)) (in_run first count place)
+    one_truth (nat_le start (32 * w + i) && nat_lt (32 * w + i) (start + count)) (in_run first count place)
     (λ h.
     let ends = and_parts (nat_le start (32 * w + i)) (nat_lt (32 * w + i) (start + count)) h in
     let low = leb-true start (32 * w + i) ends.0 in

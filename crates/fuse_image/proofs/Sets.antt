@@ -1,10 +1,10 @@
 -- Sets of positions, by their positions.
 use Rattle.std.proofs.Common.{◌≡◌, ◌+◌, ◌<◌, ◌&&◌, ◌||◌, get_or}
 use Rattle.text_core.proofs.Kit.{ℕ, Bool, true, false, not, List, length, take, refl, sym, ap, ◌∙◌, inl, inr, eq_by_cmp, take_more, or-false, eqb-true, eq-eqb}
-use Rattle.text_core.proofs.Kit.{and_parts, and_from, ltb-true, lt-ltb, cases_Bool, true≢false, false≢true}
+use Rattle.text_core.proofs.Kit.{and_parts, and_from, ltb-true, lt-ltb, cases_Bool, true≢false, false≢true, one_truth}
 use Rattle.std.specs.FinSet as set
 use Rattle.fusemap_core.specs.declared.pos.Pos.{Pos}
-use Rattle.fuse_image.specs.Prelude.{is_empty, Positions, pos_cmp, pos_total, pos_exact, is_place, IsPlace, places_where, contains-places_where, same_bool}
+use Rattle.fuse_image.specs.Prelude.{is_empty, Positions, pos_cmp, pos_total, pos_exact, is_place, IsPlace, places_where, contains-places_where}
 
 -- a set is empty exactly where it has no position
 pub none_in : (s : Positions) → is_empty s ≡ true → (p : Pos) → set.contains s p ≡ false
@@ -25,7 +25,7 @@ nothing_left true b h = ap not (h refl)
 nothing_left false b h = refl
 
 pub is_empty-difference : (s t : Positions) → is_empty (set.difference s t) ≡ set.is_subset s t
-is_empty-difference s t = same_bool (is_empty (set.difference s t)) (set.is_subset s t)
+is_empty-difference s t = one_truth (is_empty (set.difference s t)) (set.is_subset s t)
     (λ h. set.contains-is_subset pos_total s t (λ p e. neither (set.contains s p) (set.contains t p)
     (sym (set.contains-difference pos_total s t p) ∙ none_in (set.difference s t) h p) e))
     (λ h. is_empty-from_none (set.difference s t) (λ p. set.contains-difference pos_total s t p

@@ -2,9 +2,9 @@
 use Rattle.std.proofs.Common.{◌≡◌, ◌<◌, ◌∷◌, get_or, if◌then◌else◌, ◌==◌}
 use Rattle.text_core.proofs.Kit.{ℕ, Bool, true, List, [], length, refl, sym, ap, ◌∙◌, arith, zero, suc, nat_cmp, inl, inr, subst, Option, Some, None, IfSome}
 use Rattle.text_core.proofs.Kit.{is_none, nat_lt, nat_cmp-IsAntisymmetric, list_all, nat_cmp_total, unsigned_tied, cases_lt, lt-ltb, le-ltb, eqb-true, eq-eqb}
-use Rattle.text_core.proofs.Kit.{ne_eqb, cond-true, cond-false, false≢true, and_parts, and_from, get_or_default}
+use Rattle.text_core.proofs.Kit.{ne_eqb, cond-true, cond-false, false≢true, and_parts, and_from, get_or_default, one_truth}
 use Rattle.std.specs.FinMap as map
-use Rattle.fuse_image.specs.Prelude.{KeyTable, table, table_where, get-table_where, has_no_key, AreAmong, AreDigests, AreEachAmong, HoldsDigests, same_bool}
+use Rattle.fuse_image.specs.Prelude.{KeyTable, table, table_where, get-table_where, has_no_key, AreAmong, AreDigests, AreEachAmong, HoldsDigests}
 
 -- a table at one of the 4 blocks, and past them
 pub get_within : (f : ℕ → Option (List ℕ)) → (b : ℕ) → b < 4 → map.get (table_where f) b ≡ f b
@@ -67,7 +67,7 @@ insert-at digests block d b low = sym (
     ∙ (λ i. if (unsigned_tied b block ∙ turned b block) i then Some d else sym (get_table digests b low) i))
   where
     turned : (a b : ℕ) → (a == b) ≡ (b == a)
-    turned a b = same_bool (a == b) (b == a) (λ e. eq-eqb b a (sym (eqb-true a b e))) (λ e. eq-eqb a b (sym (eqb-true b a e)))
+    turned a b = one_truth (a == b) (b == a) (λ e. eq-eqb b a (sym (eqb-true a b e))) (λ e. eq-eqb a b (sym (eqb-true b a e)))
 
 pub table-insert : (digests : List (Option (List ℕ))) (block : ℕ) (d : List ℕ) → block < 4
     → table ((if block == 0 then Some d else get_or digests 0 None) ∷ (if block == 1 then Some d else get_or digests 1 None)
@@ -96,7 +96,7 @@ list_all_from p [] h = refl
 list_all_from p (x ∷ xs) h = and_from (p x) (list_all p xs) (h 0 x (omega arith)) (list_all_from p xs (λ k d low. h (suc k) d (omega (arith, low))))
 
 pub no_digest : (digests : List (Option (List ℕ))) → AreDigests digests → list_all is_none digests ≡ has_no_key (table digests)
-no_digest digests four = same_bool (list_all is_none digests) (has_no_key (table digests))
+no_digest digests four = one_truth (list_all is_none digests) (has_no_key (table digests))
     (λ h. has_no_key-from_none (table digests) (λ b.
     elim (cases_lt b 4) as (λ _. map.get (table digests) b ≡ None) [
       | inl low ↦

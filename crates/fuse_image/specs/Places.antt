@@ -4,6 +4,7 @@ use Rattle.std.proofs.Common.{sym, ap, ap₂, ◌∙◌, inl, inr, arith, Orderi
 use Rattle.std.specs.List.{list_any}
 use Rattle.std.specs.Ordering.{ordering_then, eq_by_cmp}
 use Rattle.std.specs.Cmp.{IsTotalOrder, then_total, on_total, nat_cmp_total, Equal-is, tied_itself}
+use Rattle.std.specs.Cmp.Derive.{one_truth}
 use Rattle.std.specs.Coded.{Coded, code_by, coded×, coded_ℕ}
 use Rattle.std.specs.FinSet as set
 use Rattle.std.specs.FinSet.{FinSet, IsAntisymmetric}
@@ -66,12 +67,6 @@ places_where test = set.retain places test
 abbrev pub run : Pos → ℕ → Positions
 run first count = places_where (λ p. first.block == p.block && (nat_le first.bit p.bit && nat_lt p.bit (first.bit + count)))
 
--- tests that hold of each other are the same
-pub same_bool : (a b : Bool) → (a ≡ true → b ≡ true) → (b ≡ true → a ≡ true) → a ≡ b
-same_bool true b f g = sym (f refl)
-same_bool false true f g = g refl
-same_bool false false f g = refl
-
 in_first : (n : ℕ) (p : Pos) → list_any (eq_by_cmp pos_cmp p) (first_places n) ≡ true → (256 * p.block + p.bit < n) × (p.bit < 256)
 unfolding first_places
 in_first zero p h = absurd (false≢true h)
@@ -103,7 +98,7 @@ contains-places : (p : Pos) → set.contains places p ≡ is_place p
 unfolding places
 contains-places p =
     set.contains-from_list pos_total (first_places 1024) p
-    ∙ same_bool _ _
+    ∙ one_truth _ _
     (λ h. let parts = in_first 1024 p h in and_from _ _ (lt-ltb p.block 4 (omega (arith, parts.0, parts.1))) (lt-ltb p.bit 256 parts.1))
     (λ h. let parts = and_parts _ _ h in let block = ltb-true p.block 4 parts.0 in let bit = ltb-true p.bit 256 parts.1
     in to_first 1024 p (omega (arith, block, bit)) bit)

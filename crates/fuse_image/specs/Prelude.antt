@@ -12,7 +12,7 @@ unfoldable pub use Rattle.fuse_image.specs.Locks.{is_hidden, is_hidden_key, is_k
 pub use Rattle.fuse_image.specs.Masks.{mask_of}
 pub use Rattle.fuse_image.specs.Pending.{IsPending, no_pending}
 pub use Rattle.fuse_image.specs.Places.{coded_pos, contains-places_where, is_empty, is_place, IsPlace, places_where, pos_cmp, pos_exact, pos_total, Positions}
-pub use Rattle.fuse_image.specs.Places.{run, same_bool, sets_meet}
+pub use Rattle.fuse_image.specs.Places.{run, sets_meet}
 pub use Rattle.fuse_image.specs.Redaction.{AreKeys, AreOutsideKeys, block_has_one, coding_field, has_coding_scheme, may_be_set, plain_ones, shown_key}
 pub use Rattle.fuse_image.specs.Redaction.{shows_what_is_hidden, some_key, words_have_one, WordsFitMap}
 unfoldable pub use Rattle.fuse_image.specs.Redaction.{redacted}

@@ -1,12 +1,12 @@
 -- Sets of positions by tests, and what wishes ask for, one wish after another.
 use Rattle.std.proofs.Common.{◌≡◌, ◌+◌, ◌<◌, ◌&&◌, ◌||◌, get_or, ◌==◌}
 use Rattle.text_core.proofs.Kit.{ℕ, Bool, true, false, not, List, [], length, take, refl, sym, ap, ap₂, ◌∙◌, arith, nat_le, nat_lt, Option, Some, None}
-use Rattle.text_core.proofs.Kit.{list_any, option_map_or, and_right, eqb-true, eq-eqb, lt-ltb, le-leb, leb-true, ltb-true, and_parts, and_from}
-use Rattle.text_core.proofs.Kit.{list_any_more}
+use Rattle.text_core.proofs.Kit.{list_any, option_map_or, and_right, eqb-true, eq-eqb, lt-ltb, le-leb, leb-true, ltb-true, and_parts, and_from, list_any_more}
+use Rattle.text_core.proofs.Kit.{one_truth}
 use Rattle.std.specs.FinSet as set
 use Rattle.fuse_plan.proofs.Types.{Field, Pos, Wish}
 use Rattle.fusemap_core.specs.Prelude.{is_lock}
-use Rattle.fuse_image.specs.Prelude.{pos_cmp, pos_total, pos_exact, is_place, places_where, contains-places_where, run, same_bool}
+use Rattle.fuse_image.specs.Prelude.{pos_cmp, pos_total, pos_exact, is_place, places_where, contains-places_where, run}
 use Rattle.fuse_image.proofs.Sets.{union-empty}
 use Rattle.fuse_plan.specs.Prelude.{asked_by}
 
@@ -70,7 +70,7 @@ in_no_field test o e = none_passes (λ p. option_map_or (λ g. test g p) o false
 
 -- a run of one position
 one_at : (a b : ℕ) → (nat_le a b && nat_lt b (a + 1)) ≡ (a == b)
-one_at a b = same_bool (nat_le a b && nat_lt b (a + 1)) (a == b)
+one_at a b = one_truth (nat_le a b && nat_lt b (a + 1)) (a == b)
     (λ h. let parts = and_parts _ _ h in let low = leb-true a b parts.0 in let high = ltb-true b (a + 1) parts.1 in eq-eqb a b (omega (arith, low, high)))
     (λ h. let e = eqb-true a b h in and_from _ _ (le-leb a b (omega (arith, e))) (lt-ltb b (a + 1) (omega (arith, e))))
 

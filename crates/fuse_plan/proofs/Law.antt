@@ -1,9 +1,9 @@
 -- The verdict is Match exactly where the chip shows what it had and all of the batch.
 use Rattle.std.proofs.Common.{◌≡◌, ◌<◌, ◌&&◌, ◌||◌, ◌∷◌, ◌==◌, if◌then◌else◌}
 use Rattle.text_core.proofs.Kit.{ℕ, Bool, true, false, not, List, [], refl, sym, ap, ap₂, ◌∙◌, inl, inr, Option, Some, None, is_some, cond, nat_lt, bytes_eq}
-use Rattle.text_core.proofs.Kit.{list_any, option_or, nat_cmp-IsAntisymmetric, nat_cmp_total, bytes_decides, and_parts, and_from, and_right, or_parts, or_from}
-use Rattle.text_core.proofs.Kit.{or_cases, or_right, true≢false, false≢true, not-true, not-false, not_from_false, not_from_true, cases_Bool, eqb-true}
-use Rattle.text_core.proofs.Kit.{false_from_ne_true, lt-ltb, ltb-true, cond-true, cond-false}
+use Rattle.text_core.proofs.Kit.{list_any, option_or, nat_cmp-IsAntisymmetric, nat_cmp_total, and_parts, and_from, and_right, or_parts, or_from, or_cases}
+use Rattle.text_core.proofs.Kit.{or_right, true≢false, false≢true, not-true, not-false, not_from_false, not_from_true, cases_Bool, eqb-true, false_from_ne_true}
+use Rattle.text_core.proofs.Kit.{lt-ltb, ltb-true, cond-true, cond-false, same_text, text_itself, none_from_test}
 use Rattle.std.specs.FinSet as set
 use Rattle.std.specs.FinMap as map
 use Rattle.fuse_plan.proofs.Types.{Image, ReadBack, ChipFault, Verdict, Match, Short, Fault, Lost, Stray, Field, Pos}
@@ -55,33 +55,24 @@ none_short b o true h e f = not_from_true o (e ∙ and_from (b || true) (not h) 
 none_short b o false h e f = refl
 
 -- ---- one key field: k known, q in the batch, s shown, h hidden
-same_bytes : (e d : List ℕ) → bytes_eq e d ≡ true → e ≡ d
-same_bytes e d h = (bytes_decides e d).0 h
-
-own_bytes : (d : List ℕ) → bytes_eq d d ≡ true
-own_bytes d = (bytes_decides d d).1 refl
 
 same_cond : {A : Type 0} (b : Bool) (x : A) → cond b x x ≡ x
 same_cond true x = refl
 same_cond false x = refl
 
-is_none : {A : Type 0} (s : Option A) → is_some s ≡ false → s ≡ None
-is_none None h = refl
-is_none (Some x) h = absurd (true≢false h)
-
 shows_key : (k q s : Option (List ℕ)) (h : Bool) → (if h then is_some s else is_other k q s) ≡ false → (if is_some k || is_some s then None else q) ≡ None
     → s ≡ (if h then None else option_or k q)
-shows_key k q s true b t = is_none s b
+shows_key k q s true b t = none_from_test s b
 shows_key (Some d) q None false b t = absurd (true≢false b)
-shows_key (Some d) q (Some e) false b t = ap Some (sym (same_bytes d e (not-false (bytes_eq d e) b)))
+shows_key (Some d) q (Some e) false b t = ap Some (sym (same_text d e (not-false (bytes_eq d e) b)))
 shows_key None q None false b t = sym t
 shows_key None None (Some e) false b t = absurd (true≢false b)
-shows_key None (Some d) (Some e) false b t = ap Some (sym (same_bytes d e (not-false (bytes_eq d e) b)))
+shows_key None (Some d) (Some e) false b t = ap Some (sym (same_text d e (not-false (bytes_eq d e) b)))
 
 good_key : (k q : Option (List ℕ)) → is_other k q (option_or k q) ≡ false
-good_key (Some d) q = ap not (own_bytes d)
+good_key (Some d) q = ap not (text_itself d d refl)
 good_key None None = refl
-good_key None (Some d) = ap not (own_bytes d)
+good_key None (Some d) = ap not (text_itself d d refl)
 
 none_bad : (k q s : Option (List ℕ)) (h : Bool) → s ≡ (if h then None else option_or k q) → (if h then is_some s else is_other k q s) ≡ false
 none_bad k q s true e = ap is_some e
@@ -120,10 +111,10 @@ no_key_passes (f ∷ fs) test h =
     or_from (f.key && test f.block) (list_any (λ f. f.key && test f.block) fs) (and_right f.key (test f.block) (h f.block)) (no_key_passes fs test h)
 
 no_key_here : (m : Map) (t : KeyTable) → AreKeys m t → (b : ℕ) → is_key_block m b ≡ false → map.get t b ≡ None
-no_key_here m t h b k = is_none (map.get t b) (false_from_ne_true (is_some (map.get t b)) (λ e. true≢false (sym (h b e).1 ∙ k)))
+no_key_here m t h b k = none_from_test (map.get t b) (false_from_ne_true (is_some (map.get t b)) (λ e. true≢false (sym (h b e).1 ∙ k)))
 
 no_key_above : (m : Map) (t : KeyTable) → AreKeys m t → (b : ℕ) → nat_lt b 4 ≡ false → map.get t b ≡ None
-no_key_above m t h b k = is_none (map.get t b) (false_from_ne_true (is_some (map.get t b)) (λ e. true≢false (sym (lt-ltb b 4 (h b e).0) ∙ k)))
+no_key_above m t h b k = none_from_test (map.get t b) (false_from_ne_true (is_some (map.get t b)) (λ e. true≢false (sym (lt-ltb b 4 (h b e).0) ∙ k)))
 
 -- where no key field is bad, no block is
 no_bad : (m : Map) (L : Positions) (K Q S : KeyTable) → AreKeys m K → AreKeys m Q → AreKeys m S → some_key m (is_bad_key m L K Q S) ≡ false → (b : ℕ)

@@ -1,32 +1,14 @@
 -- The ones of a number from a bit on, as it stands in a block.
 use Rattle.std.proofs.Common.{◌≡◌, ◌+◌, ◌-◌, ◌<◌, ◌≤◌, ◌&&◌, ◌==◌}
-use Rattle.text_core.proofs.Kit.{ℕ, zero, suc, Bool, true, not, List, inl, inr, sym, ap, ◌∙◌, arith, nat_le, nat_lt, list_any, range_with_len, and_from}
-use Rattle.text_core.proofs.Kit.{and_parts, both_ways, cases_lt, false_from_ne_true, false≢true, le-leb, leb-true, lt-ltb, ltb-true, not-true, not_from_false}
-use Rattle.text_core.proofs.Kit.{or_cases, or_left, or_right, true_from_ne_false}
+use Rattle.text_core.proofs.Kit.{ℕ, Bool, true, not, List, sym, ap, ◌∙◌, arith, nat_le, nat_lt, list_any, range_with_len, and_from, and_parts, both_ways}
+use Rattle.text_core.proofs.Kit.{false_from_ne_true, le-leb, leb-true, lt-ltb, ltb-true, not-true, not_from_false, true_from_ne_false, any_in_range}
+use Rattle.text_core.proofs.Kit.{in_range_any, one_truth}
 use Rattle.std.specs.FinSet as set
 use Rattle.fusemap_core.specs.declared.pos.Pos.{Pos}
-use Rattle.fuse_image.specs.Prelude.{Positions, contains-places_where, is_empty, is_place, sets_meet, places_where, run, same_bool}
+use Rattle.fuse_image.specs.Prelude.{Positions, contains-places_where, is_empty, is_place, sets_meet, places_where, run}
 use Rattle.fuse_image.proofs.Sets.{is_empty-from_none, none_in}
 use Rattle.fuse_plan.specs.Prelude.{number_has_one, is_one_from}
 use Rattle.fuse_plan.proofs.Asked.{intersection-of_tests}
-
--- a number of a range that passes
-any_in_range : (p : ℕ → Bool) (first count k : ℕ) → first ≤ k → k < first + count → p k ≡ true → list_any p (range_with_len first count) ≡ true
-any_in_range p first zero k low high passes = absurd (omega (arith, low, high))
-any_in_range p first (suc n) k low high passes =
-    elim (cases_lt first k) as (λ _. list_any p (range_with_len first (suc n)) ≡ true) [
-      | inl past ↦ or_right (p first) _ (any_in_range p (first + 1) n k (omega arith) (omega arith) passes)
-      | inr here ↦ let same : k ≡ first = omega arith in or_left (p first) _ (ap p (sym same) ∙ passes)
-    ]
-
--- the number that does, where one does
-in_range_any : (p : ℕ → Bool) (first count : ℕ) → list_any p (range_with_len first count) ≡ true → (k : ℕ) × (first ≤ k) × (k < first + count) × (p k ≡ true)
-in_range_any p first zero h = absurd (false≢true h)
-in_range_any p first (suc n) h =
-    elim (or_cases (p first) (list_any p (range_with_len (first + 1) n)) h) [
-      | inl here ↦ (first, omega arith, omega arith, here)
-      | inr later ↦ let found = in_range_any p (first + 1) n later in (found.0, omega (arith, found.1), omega (arith, found.2), found.3)
-    ]
 
 -- a bit of block 0
 abbrev at : ℕ → Pos
@@ -74,7 +56,7 @@ pub sets_meet-from : (v : List ℕ) (start : ℕ) → start ≤ 256 → sets_mee
     ≡ list_any (number_has_one v) (range_with_len start (256 - start))
 sets_meet-from v start within =
     ap (λ (s : Positions). not (is_empty s)) (intersection-of_tests (is_one_from v (at 0)) (is_past start))
-    ∙ same_bool _ _
+    ∙ one_truth _ _
     (λ met. true_from_ne_false _ (λ none.
     both_ways _ (not-true _ met) (is_empty-from_none _ (λ p. false_from_ne_true _ (λ there. both_ways _ none (one_of_past v start p there))))))
     (λ one. let found = in_range_any (number_has_one v) start (256 - start) one in

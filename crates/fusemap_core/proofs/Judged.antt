@@ -1,13 +1,14 @@
 -- A map in which no fault is found keeps the rules, and the other way round.
 use Rattle.std.proofs.Common.{◌≡◌, ◌≢◌, ◌<◌, if◌then◌else◌}
-use Rattle.text_core.proofs.Kit.{ℕ, Bool, true, false, not, Option, Some, None, Ok, Err, All, AllPairs, Decides, refl, ap, arith, list_all, false≢true}
+use Rattle.text_core.proofs.Kit.{ℕ, Bool, true, false, not, Option, Some, None, Ok, Err, All, AllPairs, Decides, refl, ap, arith, list_all, broken_by}
+use Rattle.text_core.proofs.Kit.{Decides-list_all}
 use Rattle.fusemap_core.specs.declared.fault.MapFault.{MapFault}
 use Rattle.fusemap_core.specs.declared.fault.MapFault.TheVariants.{NotToml, BadMember, NameTwice, OutOfBlock, FieldsOverlap, BadLockField, BadLockIndex}
 use Rattle.fusemap_core.specs.declared.fault.MapFault.TheVariants.{BadKeyField, OutOfMemory}
 use Rattle.fusemap_core.specs.Prelude.{Map, IsMap, IsInRange, IsInBlock, FieldsDisjoint, HasItsLocks, IsKeyField, all_pairs, have_other_names, is_in_block}
 use Rattle.fusemap_core.specs.Prelude.{are_apart, has_lock_fields, has_its_locks, is_plain_or_key, map_fault_number, lowest_fault, map_unless_faulty}
 use Rattle.fusemap_core.specs.Prelude.{map_or_fault, KeepsMapRule, IsLowestMapFault}
-use Rattle.fusemap_core.proofs.Pairs.{Decides-all_pairs, Decides-list_all}
+use Rattle.fusemap_core.proofs.Pairs.{Decides-all_pairs}
 use Rattle.fusemap_core.proofs.Rules.{Decides-have_other_names, Decides-is_in_block, Decides-are_apart, Decides-has_lock_fields, Decides-has_its_locks}
 use Rattle.fusemap_core.proofs.Rules.{Decides-is_plain_or_key}
 
@@ -94,10 +95,6 @@ rules_below m n names inside apart locks bits keys BadLockField low = locks low
 rules_below m n names inside apart locks bits keys BadLockIndex low = bits low
 rules_below m n names inside apart locks bits keys BadKeyField low = keys low
 rules_below m n names inside apart locks bits keys OutOfMemory low = tt
-
--- a test that fails decides that its rule is broken
-broken_by : {P : Type 0} → Decides false P → P → ⊥
-broken_by d holds = false≢true (d.1 holds)
 
 -- the fault that six tests tell is that of the first that fails, and what they decide tells which rules are kept
 lowest_of_tests : (m : Map) (fault : MapFault) (names inside apart locks bits keys : Bool)

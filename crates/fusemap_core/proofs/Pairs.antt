@@ -1,13 +1,8 @@
 -- Tests of a list's elements and of its pairs, and what they decide.
 use Rattle.std.proofs.Common.{◌≡◌, ◌||◌, ◌∷◌}
 use Rattle.text_core.proofs.Kit.{suc, Bool, true, false, not, List, [], Option, Some, None, All, AllPairs, IfSome, IsSomeAnd, Decides, refl, arith, is_none}
-use Rattle.text_core.proofs.Kit.{list_all, option_map_or, false≢true, not-true, not_from_false, Decides-and, Decides-like, Decides-by_and, AllPairs-cons}
+use Rattle.text_core.proofs.Kit.{list_all, option_map_or, false≢true, not-true, not_from_false, Decides-and, Decides-like, AllPairs-cons, Decides-list_all}
 use Rattle.fusemap_core.specs.Prelude.{all_pairs}
-
--- a test of each element
-pub Decides-list_all : {X : Type 0} (test : X → Bool) (P : X → Type 0) → ((x : X) → Decides (test x) (P x)) → (xs : List X)
-    → Decides (list_all test xs) (All P xs)
-Decides-list_all test P each xs = Decides-by_and test P (list_all test) each refl (λ _ _. refl) xs
 
 -- the pairs of the first element with the others, and those of the others
 pairs_of_first : {X : Type 0} (R : X → X → Type 0) (x : X) (xs : List X) → AllPairs R (x ∷ xs) → All (R x) xs

@@ -1,7 +1,7 @@
 -- The ranges of the numbers that a document gives.
 use Rattle.std.proofs.Common.{◌≡◌, ◌≤◌, ◌&&◌, ◌∷◌, if◌then◌else◌}
-use Rattle.text_core.proofs.Kit.{ℕ, suc, zero, ℤ, pos, negsuc, List, [], length, Option, Some, None, All, option_map, option_and_then, refl, ap, ◌∙◌, arith}
-use Rattle.text_core.proofs.Kit.{nat_le, codes, and_parts, leb-true, cond_some, option_and_then_some}
+use Rattle.text_core.proofs.Kit.{ℕ, suc, ℤ, pos, negsuc, List, [], length, Option, Some, None, All, option_map, option_and_then, refl, ap, ◌∙◌, arith, nat_le}
+use Rattle.text_core.proofs.Kit.{codes, and_parts, leb-true, cond_some, option_and_then_some, All-cons}
 use Rattle.toml.specs.Data.{Data, get, as_integer}
 use Rattle.toml_members.specs.Prelude.{integer_within, whole_within, whole_member, optional_whole, flag_member, name_member, items_member}
 use Rattle.text_core.specs.Prelude.{all_of, list_of_length}
@@ -43,17 +43,12 @@ length-all_of f (x ∷ xs) ys e =
     let parts = parts_of (f x) (all_of f xs) ys e in
     ap suc (length-all_of f xs parts.1 parts.3) ∙ ap length parts.4
 
--- what holds of what is read of each element
-first_and_others : {B : Type 0} (P : B → Type 0) (y : B) (ys : List B) → P y → All P ys → All P (y ∷ ys)
-first_and_others P y ys here others zero d low = here
-first_and_others P y ys here others (suc k) d low = others k d (omega arith)
-
 All-all_of : {A B : Type 0} (f : A → Option B) (P : B → Type 0) → ((x : A) (y : B) → f x ≡ Some y → P y) → (xs : List A) (ys : List B) → all_of f xs ≡ Some ys
     → All P ys
 All-all_of f P each [] ys e = let same : [] ≡ ys = cc in rw (← same) (λ k d low. absurd (omega (arith, low)))
 All-all_of f P each (x ∷ xs) ys e =
     let parts = parts_of (f x) (all_of f xs) ys e in
-    rw (← parts.4) (first_and_others P parts.0 parts.1 (each x parts.0 parts.2) (All-all_of f P each xs parts.1 parts.3))
+    rw (← parts.4) (All-cons P parts.0 parts.1 (each x parts.0 parts.2) (All-all_of f P each xs parts.1 parts.3))
 
 -- a list of so many items
 length_bounds : (least greatest : ℕ) (ds items : List Data) → list_of_length least greatest ds ≡ Some items → (least ≤ length items) × (length items ≤ greatest)

@@ -4,8 +4,11 @@ use Rattle.std.proofs.Common.{take, drop, sym, refl, ap, ◌∙◌, arith, add-o
 use Rattle.std.proofs.Common.{append-nil}
 use Rattle.std.specs.List.{list_all, list_any}
 use Rattle.std.specs.Bool.{then_some}
+use Rattle.std.proofs.Math.Bool.{and-false, or-false}
+use Rattle.std.proofs.lemmas.Bool.{or_parts}
 use Rattle.std.proofs.lemmas.List.{take_more, map_push}
 use Rattle.std.proofs.lemmas.List.Concat.{flat_map-append}
+use Rattle.std.proofs.lemmas.List.Folds.{list_all-append}
 use Rattle.httparse.specs.Grammar.{trim_ows}
 use Rattle.httparse.specs.declared.spans.HeaderSpan.{HeaderSpan}
 use Rattle.httparse.specs.Spans.{header_bytes}
@@ -15,48 +18,39 @@ use Rattle.http_frames.specs.Prelude.{is_header_named, values_named, parameters_
 eqb-same : (n : ℕ) → eqb n n ≡ true
 eqb-same n = eq-eqb n n refl
 
--- two tests that fail together fail each
-or_left : (a b : Bool) → (a || b) ≡ false → a ≡ false
-or_left false b e = refl
-or_left true b e = e
-
-or_right : (a b : Bool) → (a || b) ≡ false → b ≡ false
-or_right false b e = e
-or_right true b e = cc
-
 -- the first piece ends at the first such byte
 pub split_at : (at : ℕ) (front back : List ℕ) → Lacks at front → split_at_byte at (front ++ at ∷ back) ≡ front ∷ split_at_byte at back
 split_at at [] back none = ap (λ t. cond t ([] ∷ split_at_byte at back) (cons_first at (split_at_byte at back))) (eqb-same at)
 split_at at (b ∷ front) back none =
-    ap (λ t. cond t ([] ∷ split_at_byte at (front ++ at ∷ back)) (cons_first b (split_at_byte at (front ++ at ∷ back)))) (or_left _ _ none)
-    ∙ ap (cons_first b) (split_at at front back (or_right (eqb b at) _ none))
+    ap (λ t. cond t ([] ∷ split_at_byte at (front ++ at ∷ back)) (cons_first b (split_at_byte at (front ++ at ∷ back)))) (or_parts (eqb b at) _ none).0
+    ∙ ap (cons_first b) (split_at at front back (or_parts (eqb b at) _ none).1)
 
 pub split_whole : (at : ℕ) (xs : List ℕ) → Lacks at xs → split_at_byte at xs ≡ xs ∷ []
 split_whole at [] none = refl
 split_whole at (b ∷ bs) none =
-    ap (λ t. cond t ([] ∷ split_at_byte at bs) (cons_first b (split_at_byte at bs))) (or_left _ _ none)
-    ∙ ap (cons_first b) (split_whole at bs (or_right (eqb b at) _ none))
+    ap (λ t. cond t ([] ∷ split_at_byte at bs) (cons_first b (split_at_byte at bs))) (or_parts (eqb b at) _ none).0
+    ∙ ap (cons_first b) (split_whole at bs (or_parts (eqb b at) _ none).1)
 
 pub before_at : (at : ℕ) (front back : List ℕ) → Lacks at front → before_byte at (front ++ at ∷ back) ≡ front
 before_at at [] back none = ap (λ t. cond t [] (at ∷ before_byte at back)) (eqb-same at)
 before_at at (b ∷ front) back none =
-    ap (λ t. cond t [] (b ∷ before_byte at (front ++ at ∷ back))) (or_left _ _ none)
-    ∙ ap (λ bytes. b ∷ bytes) (before_at at front back (or_right (eqb b at) _ none))
+    ap (λ t. cond t [] (b ∷ before_byte at (front ++ at ∷ back))) (or_parts (eqb b at) _ none).0
+    ∙ ap (λ bytes. b ∷ bytes) (before_at at front back (or_parts (eqb b at) _ none).1)
 
 pub after_at : (at : ℕ) (front back : List ℕ) → Lacks at front → after_byte at (front ++ at ∷ back) ≡ back
 after_at at [] back none = ap (λ t. cond t back (after_byte at back)) (eqb-same at)
 after_at at (b ∷ front) back none =
-    ap (λ t. cond t (front ++ at ∷ back) (after_byte at (front ++ at ∷ back))) (or_left _ _ none)
-    ∙ after_at at front back (or_right (eqb b at) _ none)
+    ap (λ t. cond t (front ++ at ∷ back) (after_byte at (front ++ at ∷ back))) (or_parts (eqb b at) _ none).0
+    ∙ after_at at front back (or_parts (eqb b at) _ none).1
 
 pub before_whole : (at : ℕ) (xs : List ℕ) → Lacks at xs → before_byte at xs ≡ xs
 before_whole at [] none = refl
 before_whole at (b ∷ bs) none =
-    ap (λ t. cond t [] (b ∷ before_byte at bs)) (or_left _ _ none) ∙ ap (λ bytes. b ∷ bytes) (before_whole at bs (or_right (eqb b at) _ none))
+    ap (λ t. cond t [] (b ∷ before_byte at bs)) (or_parts (eqb b at) _ none).0 ∙ ap (λ bytes. b ∷ bytes) (before_whole at bs (or_parts (eqb b at) _ none).1)
 
 pub after_whole : (at : ℕ) (xs : List ℕ) → Lacks at xs → after_byte at xs ≡ []
 after_whole at [] none = refl
-after_whole at (b ∷ bs) none = ap (λ t. cond t bs (after_byte at bs)) (or_left _ _ none) ∙ after_whole at bs (or_right (eqb b at) _ none)
+after_whole at (b ∷ bs) none = ap (λ t. cond t bs (after_byte at bs)) (or_parts (eqb b at) _ none).0 ∙ after_whole at bs (or_parts (eqb b at) _ none).1
 
 -- a byte that differs from each of the bytes isn't there
 pub lacks : (at : ℕ) (xs : List ℕ) → ((k : ℕ) → k < length xs → get_or xs k 0 ≢ at) → Lacks at xs
@@ -88,10 +82,6 @@ is_close_piece piece = same_ignoring_case (trim_ows piece) (codes "close")
 pub has_close_at : (xs front back : List ℕ) → xs ≡ front ++ 44 ∷ back → Lacks 44 front → has_close xs ≡ (is_close_piece front || has_close back)
 unfolding has_close
 has_close_at xs front back e none = ap has_close e ∙ ap (list_any is_close_piece) (split_at 44 front back none)
-
-or-false : (b : Bool) → (b || false) ≡ b
-or-false true = refl
-or-false false = refl
 
 pub has_close_whole : (xs : List ℕ) → Lacks 44 xs → has_close xs ≡ is_close_piece xs
 unfolding has_close
@@ -135,10 +125,6 @@ pub bearer_token_by : (value : List ℕ) (same spaced : Bool) → same_ignoring_
 unfolding bearer_token
 bearer_token_by value same spaced a b = λ i. cond (a i && b i) (some_token (skip_spaces (drop 6 value))) None
 
-and-false : (b : Bool) → (b && false) ≡ false
-and-false true = refl
-and-false false = refl
-
 pub no_token_unspaced : (value : List ℕ) → get_or value 6 0 ≢ 32 → None ≡ bearer_token value
 no_token_unspaced value other =
     sym (bearer_token_by value _ false refl (ne_eqb (get_or value 6 0) 32 other)
@@ -160,14 +146,6 @@ past_end (x ∷ xs) (suc i) past = past_end xs i (omega arith)
 -- one digit more, where the number is capped
 pub capped_step : (seen size digit all cap : ℕ) → size ≡ min seen cap → all ≡ seen * 10 + digit → min (size * 10 + digit) cap ≡ min all cap
 capped_step seen size digit all cap e f = omega arith
-
-list_all-append : {X : Type 0} (p : X → Bool) (xs ys : List X) → list_all p (xs ++ ys) ≡ (list_all p xs && list_all p ys)
-list_all-append p [] ys = refl
-list_all-append p (x ∷ xs) ys = by_test (p x) (list_all-append p xs ys)
-  where
-    by_test : (t : Bool) → list_all p (xs ++ ys) ≡ (list_all p xs && list_all p ys) → (t && list_all p (xs ++ ys)) ≡ ((t && list_all p xs) && list_all p ys)
-    by_test true later = later
-    by_test false later = refl
 
 pub list_all_more : {X : Type 0} (p : X → Bool) (xs : List X) (i : ℕ) (d : X) → i < length xs → list_all p (take i xs) ≡ true → p (get_or xs i d) ≡ true
     → list_all p (take (i + 1) xs) ≡ true

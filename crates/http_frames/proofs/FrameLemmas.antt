@@ -10,6 +10,7 @@ use Rattle.httparse.specs.declared.spans.HeaderSpan.{HeaderSpan}
 use Rattle.httparse.specs.declared.spans.RequestSpans.{RequestSpans}
 use Rattle.httparse.specs.Grammar.{RequestHead, print_request, ReadsRequest, HasNoRequest}
 use Rattle.httparse.specs.Spans.{IsRequestAt, IsRequestWithin, RequestOverflows, header_bytes, name_and_value, IsHeaderWithin, span_bytes}
+use Rattle.httparse.proofs.GrammarLemmas.{ReadsRequest-append}
 
 -- what follows a front
 pub after_front : (xs p after : List ℕ) → xs ≡ p ++ after → after ≡ drop (length p) xs
@@ -29,10 +30,6 @@ pub reads_within : (xs more after : List ℕ) (head : RequestHead) → ReadsRequ
     → ReadsRequest xs head (drop (length (print_request head)) xs)
 reads_within xs more after head reads short = (reads.0, front_within xs more (print_request head) after reads.1 short)
 
--- bytes that follow
-pub reads_more : (xs more after : List ℕ) (head : RequestHead) → ReadsRequest xs head after → ReadsRequest (xs ++ more) head (after ++ more)
-reads_more xs more after head reads = (reads.0, ap (λ s. s ++ more) reads.1 ∙ append_assoc (print_request head) after more)
-
 split : (n : ℕ) (xs : List ℕ) → take n xs ++ drop n xs ≡ xs
 split n xs = take-append-drop n xs
 
@@ -45,7 +42,7 @@ overflows_window n window over more head rest reads =
 
 pub lacks_overflowing : (window : List ℕ) → RequestOverflows field_limit window → LacksHead window
 lacks_overflowing window over head after has =
-    let many = over [] head (after ++ []) (reads_more window [] after head has.0) in
+    let many = over [] head (after ++ []) (ReadsRequest-append window head after [] has.0) in
     let few = has.1.0 in
     omega arith
 
@@ -100,7 +97,7 @@ at_more : (front more : List ℕ) (spans : List HeaderSpan) (found : RequestSpan
     → IsRequestAt (front ++ more) spans found head
 at_more front more spans found head within at =
     let fits = within.section.len_fits in
-    let whole = reads_more front more _ head at.reads in
+    let whole = ReadsRequest-append front head _ more at.reads in
     let rest = after_front (front ++ more) (print_request head) _ whole.1 ∙ ap (λ k. drop k (front ++ more)) (sym at.len) in
     record {
       reads = subst (λ (s : List ℕ). ReadsRequest (front ++ more) head s) rest whole;

@@ -2,6 +2,7 @@
 use Rattle.std.proofs.Common.{◌≡◌, ℕ, List, [], ◌∷◌, ◌++◌, length, map, Bool, true, false, ◌||◌, sym, refl, ap, ◌∙◌, subst, arith, length-append, ◌⊎◌, inl, inr}
 use Rattle.std.proofs.Common.{Result, Ok, Err}
 use Rattle.std.specs.List.{list_any}
+use Rattle.text_core.proofs.Kit.{or_parts}
 use Rattle.httparse.specs.Grammar.{RequestHead, ReadsRequest}
 use Rattle.httparse.proofs.GrammarLemmas.{request_unique, print_request-append}
 use Rattle.http_frames.specs.Prelude.{body_size, Request, HasHead, HasRequest, IsRefused, IsCutOff, ends_after, is_head_method, headers_of}
@@ -10,7 +11,7 @@ use Rattle.http_serving.specs.declared.Served.{Served}
 use Rattle.http_serving.specs.declared.Served.TheVariants.{Ended, Closed, Cut, ReadFault, WriteFault, NoMemory, TurnLimit}
 use Rattle.http_serving.specs.Prelude.{HttpExchange, answered, refused, BeginsWithExchange, is_last, Cuts, IsOpen, Ends, cut_of, requests_of, is_by_bytes}
 use Rattle.http_serving.specs.Prelude.{IsCutWhole, IsEitherWay}
-use Rattle.http_serving.proofs.StreamLemmas.{one_request, or_split}
+use Rattle.http_serving.proofs.StreamLemmas.{one_request}
 
 -- no head stands in no bytes
 no_head : (head : RequestHead) (after : List ℕ) → ReadsRequest [] head after → ⊥
@@ -187,11 +188,11 @@ same_last exchange other same = cut_last other ∙ ap ends_cut (sym same) ∙ sy
 closes : (served : Served) (exchange : HttpExchange) (exchanges : List HttpExchange) (rest : List ℕ)
     → is_last exchange ≡ true → Stops served (exchange ∷ exchanges) rest → served ≡ Closed
 closes Ended exchange exchanges rest last stop =
-    let no = (or_split (is_last exchange) (list_any is_last exchanges) stop.0).0 in
+    let no = (or_parts (is_last exchange) (list_any is_last exchanges) stop.0).0 in
     absurd cc
 closes Closed exchange exchanges rest last stop = refl
 closes Cut exchange exchanges rest last stop =
-    let no = (or_split (is_last exchange) (list_any is_last exchanges) stop.0).0 in
+    let no = (or_parts (is_last exchange) (list_any is_last exchanges) stop.0).0 in
     absurd cc
 closes ReadFault exchange exchanges rest last stop = absurd stop
 closes WriteFault exchange exchanges rest last stop = absurd stop
@@ -202,9 +203,9 @@ closes NoMemory exchange exchanges rest last stop = absurd stop
 stops_later : (served : Served) (exchange : HttpExchange) (exchanges : List HttpExchange) (rest : List ℕ)
     → is_last exchange ≡ false → Stops served (exchange ∷ exchanges) rest
     → Stops served exchanges rest
-stops_later Ended exchange exchanges rest last stop = ((or_split (is_last exchange) (list_any is_last exchanges) stop.0).1, stop.1)
+stops_later Ended exchange exchanges rest last stop = ((or_parts (is_last exchange) (list_any is_last exchanges) stop.0).1, stop.1)
 stops_later Closed exchange exchanges rest last stop = sym (ap (λ t. t || list_any is_last exchanges) last) ∙ stop
-stops_later Cut exchange exchanges rest last stop = ((or_split (is_last exchange) (list_any is_last exchanges) stop.0).1, stop.1)
+stops_later Cut exchange exchanges rest last stop = ((or_parts (is_last exchange) (list_any is_last exchanges) stop.0).1, stop.1)
 stops_later ReadFault exchange exchanges rest last stop = absurd stop
 stops_later WriteFault exchange exchanges rest last stop = absurd stop
 stops_later TurnLimit exchange exchanges rest last stop = absurd stop

@@ -1,14 +1,14 @@
 -- Exchanges of a stream, one after another.
 use Rattle.std.proofs.Common.{◌≡◌, ◌≢◌, ◌≤◌, ◌∷◌, ◌++◌, ◌||◌}
 use Rattle.text_core.proofs.Kit.{ℕ, List, [], length, Bool, true, false, sym, refl, ap, ◌∙◌, subst, append_assoc, arith, length-append, inl, inr, Option, Some}
-use Rattle.text_core.proofs.Kit.{None, append-nil, list_any, flat_map-append, list_any-append}
+use Rattle.text_core.proofs.Kit.{None, append-nil, list_any, flat_map-append, list_any-append, or_parts}
 use Rattle.httparse.specs.Grammar.{ReadsRequest}
 use Rattle.httparse.specs.Spans.{RequestOverflows}
-use Rattle.httparse.proofs.GrammarLemmas.{request_unique}
+use Rattle.httparse.proofs.GrammarLemmas.{request_unique, ReadsRequest-append}
 use Rattle.http_frames.specs.Prelude.{body_size, Request, LacksHead, HasBadHead, HasRequest, IsRefused, HasRefusedHead, head_limit, field_limit, IsUndecided}
 use Rattle.http_frames.specs.Prelude.{IsCutOff, headers_of, KeepsBytes}
 use Rattle.http_frames.specs.declared.fields.FrameRefusal.{FrameRefusal}
-use Rattle.http_frames.proofs.FrameLemmas.{reads_more, reads_within, bad_overflowing}
+use Rattle.http_frames.proofs.FrameLemmas.{reads_within, bad_overflowing}
 use Rattle.http_serving.specs.Prelude.{Sends, Sending, ending_of_sent, StopsReading, StopsWriting, HttpExchange, answered, refused, BeginsWithExchange, is_last}
 use Rattle.http_serving.specs.Prelude.{text_of, texts_of, requests_with_answers, Cuts, IsOpen, Ends, ServesExchanges, ServesBytes, IsOneExchange}
 use Rattle.http_serving.specs.declared.Served.{Served}
@@ -20,13 +20,13 @@ use Rattle.text_core.proofs.MachineLemmas.{runs_both}
 -- a request stays one whatever bytes follow
 pub request_more : (rest more : List ℕ) (request : Request) (after : List ℕ) → HasRequest rest request after → HasRequest (rest ++ more) request (after ++ more)
 request_more rest more request after has =
-    let reads = reads_more rest more (request.body ++ after) request.head has.0.0 in
+    let reads = ReadsRequest-append rest request.head (request.body ++ after) more has.0.0 in
     ((subst (λ (s : List ℕ). ReadsRequest (rest ++ more) request.head s) (append_assoc request.body after more) reads, has.0.1), has.1)
 
 refused_head_more : (rest more : List ℕ) (refusal : FrameRefusal) (is_head : Bool) → HasRefusedHead rest refusal is_head
     → HasRefusedHead (rest ++ more) refusal is_head
 refused_head_more rest more refusal is_head has =
-    (has.0, has.1 ++ more, (reads_more rest more has.1 has.0 has.2.0, has.2.1), has.3, has.4)
+    (has.0, has.1 ++ more, (ReadsRequest-append rest has.0 has.1 more has.2.0, has.2.1), has.3, has.4)
 
 -- a full front without a head stays one
 lacks_more : (rest more : List ℕ) → head_limit ≤ length rest → LacksHead rest → LacksHead (rest ++ more)
@@ -44,11 +44,6 @@ bad_head_more rest more (none, inr over) = bad_overflowing (rest ++ more) (overf
 pub refused_more : (rest more : List ℕ) (refusal : FrameRefusal) (is_head : Bool) → IsRefused rest refusal is_head → IsRefused (rest ++ more) refusal is_head
 refused_more rest more refusal is_head (inl has) = inl (refused_head_more rest more refusal is_head has)
 refused_more rest more refusal is_head (inr bad) = inr (bad.0, bad.1, omega (arith, bad.2, length-append rest more), bad_head_more rest more bad.3)
-
--- neither of two
-pub or_split : (a b : Bool) → (a || b) ≡ false → (a ≡ false) × (b ≡ false)
-or_split false b e = (refl, e)
-or_split true b e = absurd cc
 
 one : (before text : List ℕ) → before ++ (text ++ []) ≡ before ++ text
 one before text = ap (λ s. before ++ s) (append-nil text)
@@ -199,7 +194,7 @@ cuts_both : (stream : List ℕ) (exchanges : List HttpExchange) (rest : List ℕ
     → Cuts stream exchanges rest → IsOpen exchanges → Cuts rest others after → Cuts stream (exchanges ++ others) after
 cuts_both stream [] rest others after cut open_exchanges more = subst (λ (s : List ℕ). Cuts s others after) cut more
 cuts_both stream (p ∷ exchanges) rest others after cut open_exchanges more =
-    let closed = or_split (is_last p) (list_any is_last exchanges) open_exchanges in
+    let closed = or_parts (is_last p) (list_any is_last exchanges) open_exchanges in
     (cut.0, cut.1, (λ yes. let no = closed.0 in absurd cc), cuts_both cut.0 exchanges rest others after cut.3 closed.1 more)
 
 reading_both : (p q : List HttpExchange) (rest left before middle written : List ℕ) → IsOpen p → middle ≡ before ++ texts_of p

@@ -1,19 +1,9 @@
 -- Free blocks of addresses.
-use Rattle.std.proofs.Common.{◌≡◌, ◌+◌, ◌<◌, ◌≤◌, ◌∷◌}
-use Rattle.text_core.proofs.Kit.{ℕ, max, Bool, true, false, not, List, [], length, Some, find, slice_index_or, All, inl, inr, ap, sym, ◌∙◌, arith, cases_Bool}
-use Rattle.text_core.proofs.Kit.{lt-ltb, ltb-true, le-leb, leb-true, not-true, and_from, and_parts, both_ways, false_from_ne_true, list_any_at, list_any_none}
-use Rattle.text_core.proofs.Kit.{none-some, same_Some, list_any}
+use Rattle.std.proofs.Common.{◌≡◌, ◌+◌, ◌<◌, ◌≤◌}
+use Rattle.text_core.proofs.Kit.{ℕ, max, true, false, not, List, length, slice_index_or, All, ap, sym, ◌∙◌, arith, lt-ltb, ltb-true, le-leb, leb-true, not-true}
+use Rattle.text_core.proofs.Kit.{and_from, and_parts, both_ways, false_from_ne_true, list_any_at, list_any_none, list_any}
 use Rattle.id_ranges.specs.Prelude.{is_in, blocks_overlap, is_free, IsIn, IsApart}
 use Rattle.id_ranges.proofs.Ranges.{list_all-range, in_list_all-range}
-
--- what is found passes
-pub find-passes : {X : Type 0} (p : X → Bool) (xs : List X) (x : X) → find p xs ≡ Some x → p x ≡ true
-find-passes p [] x found = absurd (none-some x found)
-find-passes p (y ∷ ys) x found =
-    elim (cases_Bool (p y)) [
-      | inl passes ↦ let same : y ≡ x = same_Some y x (rw passes at found) in rw same at passes
-      | inr fails ↦ find-passes p ys x (rw fails at found)
-    ]
 
 -- two intervals that meet have an address in common
 pub IsIn-from_meets : (a b : ℕ × ℕ) → blocks_overlap a b ≡ true → (mac : ℕ) × IsIn a mac × IsIn b mac

@@ -2,8 +2,8 @@
 use Rattle.std.proofs.Common.{◌≡◌, ◌+◌, ◌<◌, ◌≤◌, ◌&&◌}
 use Rattle.text_core.proofs.Kit.{ℕ, suc, zero, nat_le, Bool, true, false, Option, Some, None, find, option_map, inl, inr, refl, sym, ap, arith, both_ways}
 use Rattle.text_core.proofs.Kit.{cases_Bool, cases_lt, and_parts, le-leb, leb-true, not-true, false_from_ne_true, none-some, same_Some, range_with_len}
+use Rattle.text_core.proofs.Kit.{find-passes}
 use Rattle.id_ranges.specs.Prelude.{TextSet, is_unused, next_serial, next_serial_from, with_text, Range, Has, serial_text_of, IsLeastUnused}
-use Rattle.id_ranges.proofs.FreeBlocks.{find-passes}
 use Rattle.id_ranges.proofs.Ranges.{fails-from_find, find-range_some, find-range_none, in_range-from_find}
 
 -- two tests that agree on a range find the same in it

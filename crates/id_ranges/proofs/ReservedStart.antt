@@ -1,10 +1,10 @@
 -- The block that is taken from the pools.
 use Rattle.std.proofs.Math.Seq.{drop-cons}
 use Rattle.text_core.proofs.Kit.{add-one, ℕ, suc, zero, Bool, true, false, List, [], length, drop, Option, Some, None, find, All, Any, refl, sym, ◌∙◌, arith}
-use Rattle.text_core.proofs.Kit.{at_drop_all, find-append, none-some, flat_map, option_or}
+use Rattle.text_core.proofs.Kit.{at_drop_all, find-append, none-some, flat_map, option_or, find-passes}
 use Rattle.std.proofs.Common.{◌≡◌, ◌+◌, ◌-◌, ◌<◌, ◌≤◌, ◌∷◌, get_or}
 use Rattle.id_ranges.specs.Prelude.{is_free, starts, reserved_start, IsBlockWithin, IsApart, Pool}
-use Rattle.id_ranges.proofs.FreeBlocks.{find-passes, apart-from_free}
+use Rattle.id_ranges.proofs.FreeBlocks.{apart-from_free}
 use Rattle.id_ranges.proofs.Ranges.{in_range-from_find, fails-from_find}
 
 -- the search goes on to the later pools where the first has no free block

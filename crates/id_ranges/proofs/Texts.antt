@@ -76,7 +76,7 @@ value-zeros zero ds = refl
 value-zeros (suc count) ds = value-zeros count ds
 
 -- the value of a number's digits is the number
-value-padded : (width n : ℕ) → n < 2 ^ 64 → digits_value 10 (zero_padded width (decimal n)) ≡ n
+pub value-padded : (width n : ℕ) → n < 2 ^ 64 → digits_value 10 (zero_padded width (decimal n)) ≡ n
 value-padded width n small = value-zeros (width - length (decimal n)) (decimal n) ∙ (decimal_is_IsNumeral n small).1
 
 -- numbers of one serial number are one

@@ -17,8 +17,8 @@ use Rattle.office_tables.specs.declared.rows.Outcome.{Outcome}
 use Rattle.office_tables.specs.declared.rows.Reason.{Reason}
 use Rattle.office_tables.specs.declared.rows.Reason.TheVariants.{Lost, Stray, Key}
 use Rattle.office_commands.specs.Prelude.{text_data, outcome_data, plan_data, items_of, word_data, word_list, bits_data, key_at, with_digest, with_key_members}
-use Rattle.office_commands.specs.Prelude.{keys_data, batch_data, reason_data, device_data, entry_by, entry_data, fields_of, image_by, ledger_data}
-use Rattle.office_commands.specs.Prelude.{devices_data, listed_data}
+use Rattle.office_commands.specs.Prelude.{keys_data, batch_data, reason_data, device_data, entry_by, entry_data, fields_of, image_by, ledger_data, devices_data}
+use Rattle.office_commands.specs.Prelude.{listed_data}
 
 in_words_shown : (is_zero : Bool) (d : Data) (ds : List Data) → has_float d ≡ false → items_have_float (items_of ds) ≡ false
     → items_have_float (items_of (if is_zero then ds else d ∷ ds)) ≡ false
@@ -39,7 +39,8 @@ in_put_at Less k l d e ms new old others later = or_from _ _ new (or_from _ _ ol
 in_put_at Equal k l d e ms new old others later = or_from _ _ new others
 in_put_at Greater k l d e ms new old others later = or_from _ _ old later
 
-in_put : (k : List ℕ) (d : Data) (ms : Members) → has_float d ≡ false → members_have_float ms ≡ false → members_have_float (put k d ms) ≡ false
+-- a member that is no float leaves none
+pub in_put : (k : List ℕ) (d : Data) (ms : Members) → has_float d ≡ false → members_have_float ms ≡ false → members_have_float (put k d ms) ≡ false
 in_put k d no_members new others = or_from _ _ new refl
 in_put k d (member l e ms) new others =
     let parts = or_parts (has_float e) (members_have_float ms) others in

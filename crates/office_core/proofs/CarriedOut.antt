@@ -1,6 +1,6 @@
 -- A judgement that is carried out, with its reply kept.
-use Rattle.std.proofs.Common.{◌≡◌, ◌≤◌, ◌+◌, ◌⊎◌, inl, inr, ℕ, List, [], ◌∷◌, ◌++◌, length, Some, sym, ◌∙◌, ap, subst}
-use Rattle.std.proofs.Common.{IfOk, MatchResult, Result, Ok, Err, string_bytes, arith, length-append}
+use Rattle.std.proofs.Common.{◌≡◌, ◌≤◌, ◌+◌, ◌⊎◌, inl, inr, ℕ, List, [], ◌∷◌, ◌++◌, length, Some, sym, ◌∙◌, ap, subst, IfOk, MatchResult, Result, Ok, Err}
+use Rattle.std.proofs.Common.{string_bytes, arith, length-append}
 use Rattle.text_core.specs.Prelude.{first_that_holds}
 use Rattle.http_replies.specs.Prelude.{Answer, answer_of}
 use Rattle.http_replies.specs.declared.Reply.{Reply}
@@ -21,8 +21,8 @@ use Rattle.office_commands.specs.declared.command.Show.{Show as Showing}
 use Rattle.office_judges.specs.declared.judgement.Accepted.{Accepted}
 use Rattle.office_judges.specs.declared.judgement.Judgement.TheVariants.{Accepted as Accepts, Refused as Refuses}
 use Rattle.office_judges.specs.Prelude.{IsJudged}
-use Rattle.office_rules.specs.Prelude.{seat_put, decide, effect, refusals, reply_only, response, show_reply, office_sight, seat_row_after, kept_of}
-use Rattle.office_rules.specs.Prelude.{Performs, Step}
+use Rattle.office_rules.specs.Prelude.{seat_put, decide, effect, refusals, reply_only, response, show_reply, office_sight, seat_row_after, kept_of, Performs}
+use Rattle.office_rules.specs.Prelude.{Step}
 use Rattle.office_rules.proofs.Fulfilled.{last_put, puts_made}
 use Rattle.office_core.specs.Prelude.{CommitsReply, IsLastCall, PutsSome}
 
@@ -116,10 +116,6 @@ carries_out s seat r c a t mid t2 name (Err e) ruled is same made = made ∙ sam
 pub or_then : {A B C : Type 0} → A ⊎ B → (B → C) → A ⊎ C
 or_then (inl a) f = inl a
 or_then (inr b) f = inr (f b)
-
-pub carried_out : {A B C D : Type 0} → A ⊎ B → (A → C) → (B → D) → C ⊎ D
-carried_out (inl a) f h = inl (f a)
-carried_out (inr b) f h = inr (h b)
 
 -- what is accepted puts something into the books
 pub decides_puts : (s : Section) (seat : List ℕ) (r : Request) (t : Tables) (c : Change)

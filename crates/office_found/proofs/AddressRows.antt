@@ -3,12 +3,12 @@ use Rattle.std.proofs.Common.{◌≡◌, ◌↔◌, ◌∷◌, Ordering}
 use Rattle.text_core.proofs.Kit.{ℕ, Bool, true, false, cond, List, [], Some, None, codes, map, filter, refl, sym, ap, ap₂, subst, ◌∙◌, IsPermutation, is_eq}
 use Rattle.text_core.proofs.Kit.{is_ge, is_gt, bytes_eq, IsSorted, nat_cmp, on, IsTotalOrder, slice_cmp, AllByRecursion, cons_option, dedup_from, filter_map}
 use Rattle.text_core.proofs.Kit.{on_total, then_total, nat_list_cmp_total, nat_list_eq_equiv, IsStrictlySortedBy-dedup, IsPermutation-map, IsPermutation-sym}
-use Rattle.text_core.proofs.Kit.{IsDistinct-from_sorted, IsDistinct-IsPermutation, is_eq-slice_cmp}
+use Rattle.text_core.proofs.Kit.{IsDistinct-from_sorted, IsDistinct-IsPermutation, is_eq-slice_cmp, and-true}
 use Rattle.std.specs.List.{IsDistinct}
 use Rattle.std.specs.List.Sorted.{IsStrictlySortedBy}
-use Rattle.office_sql.proofs.Kit.{Value, Null, Int, Real, Binary, Row, column, bytes, is_true, from_truth, overlay, key_cmp, output, output_cmp, end, IsAnswer}
-use Rattle.office_sql.proofs.Kit.{Term, col, op2, lit, Trees, ascending_from_sorted, sorted_from_ascending, IsSorted-from_map, Compare, Ge, all-permutation}
-use Rattle.office_sql.proofs.Kit.{ascending-map, Key, ascending, value_cmp_total, value_cmp-Text, then-Equal}
+use Rattle.office_sql.proofs.Kit.{Value, Null, Int, Real, Binary, Row, column, bytes, is_true, overlay, key_cmp, output, output_cmp, end, IsAnswer, Term, col}
+use Rattle.office_sql.proofs.Kit.{op2, lit, Trees, ascending_from_sorted, sorted_from_ascending, IsSorted-from_map, Compare, Ge, all-permutation, ascending-map}
+use Rattle.office_sql.proofs.Kit.{Key, ascending, value_cmp_total, value_cmp-Text, then-Equal}
 use Rattle.sqlite.specs.declared.types.Value.TheVariants.{Text as Words, Blob as Bytes}
 use Rattle.sqlite.specs.Ops.{binary}
 use Rattle.sqlite.specs.Query.{Query}
@@ -19,7 +19,7 @@ use Rattle.office_sql.specs.Prelude.{rows_in, tree_of, given, over, env, passes,
 use Rattle.office_sql.proofs.Kept.{narrowed}
 use Rattle.office_sql.proofs.LedgerAsked.{IsReadAs}
 use Rattle.office_sql.proofs.Scan.{Scanned, scanned}
-use Rattle.office_sql.proofs.Values.{and_true, texts_cmp}
+use Rattle.office_sql.proofs.Values.{texts_cmp, level_total, told}
 use Rattle.office_found.proofs.Types.{Version, Earliest}
 use Rattle.office_found.specs.Prelude.{address_texts, HasApartAddresses, HasNoRepeat, schema_of}
 
@@ -51,10 +51,6 @@ text r = bytes (column r 6)
 abbrev IsWords : Row → Type 0
 IsWords r = column r 6 ≡ Words (text r)
 
-told : (b : Bool) → is_true (from_truth (Some b)) ≡ b
-told true = refl
-told false = refl
-
 reaches : (t : List ℕ) → is_ge (slice_cmp nat_cmp t []) ≡ true
 reaches [] = refl
 reaches (x ∷ t) = refl
@@ -74,10 +70,10 @@ abbrev passed : Row → Bool
 passed r = passes (is_there ∷ []) [] r
 
 is_passed : (r : Row) (t : List ℕ) → Words t ≡ column r 6 → passed r ≡ true
-is_passed r t is = and_true _ ∙ ap found (sym is) ∙ words_are t
+is_passed r t is = and-true _ ∙ ap found (sym is) ∙ words_are t
 
 is_left : (r : Row) → Null ≡ column r 6 → passed r ≡ false
-is_left r is = and_true _ ∙ ap found (sym is) ∙ null_is_not
+is_left r is = and-true _ ∙ ap found (sym is) ∙ null_is_not
 
 -- a row that has a text, or none
 module _ (r : Row) (texts : List (List ℕ)) (rows : List Row) (later : texts ≡ map text rows) where
@@ -146,9 +142,6 @@ never_repeated (r ∷ rows) h = (refl, unrepeated r rows h)
 
 -- ---- an answer ascends
 
-level_total : IsTotalOrder (λ (a b : Row). Ordering.Equal)
-level_total = record { antisymm = λ _ _. refl; trans = λ x y z p q. p; congr = λ x y z p. refl }
-
 abbrev by_text : Row → Row → Ordering
 by_text = on (λ r. column r 6 ∷ []) (key_cmp 0 (ascending Binary ∷ []))
 
@@ -161,9 +154,6 @@ texts_rise kept typed sorted =
     (λ a b s t up. sym (ap is_gt (then-Equal _ ∙ texts_cmp (column a 6) (column b 6) s t)) ∙ up) kept typed
     (ascending_from_sorted by_text by_text_total kept sorted) in
     sorted_from_ascending (slice_cmp nat_cmp) nat_list_cmp_total _ (ascending-map (λ a b. is_gt (slice_cmp nat_cmp a b) ≡ false) text kept up)
-
-flips : (x y : List ℕ) → bytes_eq x y ≡ bytes_eq y x
-flips x y = nat_list_eq_equiv.symm x y
 
 -- the rows that are shown have no repeat where the addresses are apart, and only then
 pub shows_apart : (db : Trees) (rows : List Row) → AllByRecursion (IsTextIf 6) (rows_in db given) → IsAnswer addresses_body (overlay db []) [] rows
@@ -179,6 +169,6 @@ shows_apart db rows typed a =
     let mixed : IsPermutation (address_texts db) (map head_text rows) =
     subst (IsPermutation (address_texts db)) (sym heads)
     (subst (λ l. IsPermutation l (map text s.kept)) (sym (shown_texts (rows_in db given) typed)) (IsPermutation-map text _ _ s.same)) in (
-      λ none. IsDistinct-IsPermutation bytes_eq flips _ _ (IsPermutation-sym _ _ mixed) (distinct_of rows rises none),
-      λ apart. never_repeated rows (IsDistinct-IsPermutation bytes_eq flips _ _ mixed apart),
+      λ none. IsDistinct-IsPermutation bytes_eq nat_list_eq_equiv.symm _ _ (IsPermutation-sym _ _ mixed) (distinct_of rows rises none),
+      λ apart. never_repeated rows (IsDistinct-IsPermutation bytes_eq nat_list_eq_equiv.symm _ _ mixed apart),
     )

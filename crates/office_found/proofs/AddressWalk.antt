@@ -10,6 +10,7 @@ use Rattle.sqlite_trees.proofs.ListLemmas.{all_weaker}
 use Rattle.office_sql.specs.Prelude.{rows_in}
 use Rattle.office_sql.specs.OfficeTable as table
 use Rattle.office_sql.proofs.LedgerAsked.{IsReadAs}
+use Rattle.office_sql.proofs.Visiting.{joined, still}
 use Rattle.office_found.specs.declared.version.Version.{Version}
 use Rattle.office_found.specs.Prelude.{shows_again, HasApartAddresses, HasNoRepeat, HasWalked, IsFound}
 use Rattle.office_found.proofs.AddressRows.{addresses_body, addresses_read, addresses_text, shows_apart}
@@ -17,10 +18,6 @@ use Rattle.office_found.proofs.FoundAsked.{of_a_version}
 use Rattle.office_found.proofs.FoundResults.{iff_then}
 
 -- ---- a row more
-
-joined : (given more : List Row) (row : Row) → given ++ row ∷ more ≡ (given ++ row ∷ []) ++ more
-joined [] more row = refl
-joined (x ∷ given) more row = ap (λ l. x ∷ l) (joined given more row)
 
 -- the rows so far have no repeat, and those that come are asked after this last one
 abbrev pub GoesOn : List Row → Option Row → Type 0
@@ -42,13 +39,6 @@ one_again given last row so_far again more none =
     true≢false (sym again ∙ ((so_far (row ∷ more)).0 (subst (HasNoRepeat None) (sym (joined given more row)) none)).0)
 
 -- ---- what a walk says
-
-still : (old new : State) → IsUnchanged old new → IsUnchanged new new
-still old new same = (
-  record { was_open = same.0.is_open; is_open = same.0.is_open; now_is = refl; committed_is = refl; mode = refl },
-  record { changes = refl; last_rowid = refl },
-  refl,
-)
 
 module _ (text : List ℕ) (body : Query) (old new : State) (read : IsReadAs old.now.schema text body) (same : IsUnchanged old new) where
   answers : (first : State) → first.now ≡ old.now → (rows : List Row) → Shown text [] first new rows → IsAnswer body (overlay old.now.trees []) [] rows

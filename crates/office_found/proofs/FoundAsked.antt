@@ -2,7 +2,7 @@
 use Rattle.std.proofs.Common.{◌≡◌, ◌≢◌}
 use Rattle.text_core.proofs.Kit.{sym, ap, refl, ℕ, List, [], false, subst, inl, inr, ◌∙◌, Result, Ok, Err, IfOk, IfErr, OnOk, IsTrue, IfOk-weaker, Vec, Global}
 use Rattle.office_sql.proofs.Kit.{Row, Trees, Error, Held, state, State, HasCleanDisk, Survives, IsUnchanged, Database, survives_then, IsAnswer, Schema}
-use Rattle.office_sql.proofs.Kit.{reads_as, Select, overlay, Null}
+use Rattle.office_sql.proofs.Kit.{reads_as, Select, overlay, Null, unchanged_then}
 use Rattle.sqlite.specs.Store.{Ghosts}
 use Rattle.sqlite.specs.State.{Shown, FailsToQuery, CommitsShowing}
 use Rattle.office_sql.specs.Prelude.{Rests}
@@ -66,21 +66,6 @@ module _ {S : Type 0} (g : Ghosts S) (text : List ℕ) (body : Query) (bare : Is
           let up = shown_open text [] (state g old) (state g new) v.items bare h in
           leaves (state g old).now.schema text [] (state g old) (state g new) (read (state g old).now.schema (known up)).plain refl v.items h
       unchanged (Err e) h = tt
-
-pub unchanged_then : (old mid new : State) → IsUnchanged old mid → IsUnchanged mid new → IsUnchanged old new
-unchanged_then old mid new h k = (
-  record {
-    was_open = h.0.was_open;
-    is_open = k.0.is_open;
-    now_is = k.0.now_is
-        ∙ h.0.now_is;
-    committed_is =
-        k.0.committed_is ∙ h.0.committed_is;
-    mode = k.0.mode ∙ h.0.mode;
-  },
-  record { changes = k.1.changes ∙ h.1.changes; last_rowid = k.1.last_rowid ∙ h.1.last_rowid },
-  k.2 ∙ h.2,
-)
 
 pub rests_then : (old mid new : State) → IsUnchanged old mid → Rests mid new → Rests old new
 rests_then old mid new h k = record {

@@ -2,7 +2,7 @@
 use Rattle.std.proofs.Common.{◌≡◌, ◌+◌, ◌&&◌, ◌==◌, ◌||◌, ◌∷◌, Ordering}
 use Rattle.text_core.proofs.Kit.{ℕ, zero, suc, Bool, true, false, not, cond, List, [], drop, Option, refl, sym, ap, subst, ◌∙◌, inl, inr, true≢false, IsTrue}
 use Rattle.text_core.proofs.Kit.{pos, negsuc, is_eq, is_lt, Less, Equal, Greater, nat_cmp, arith, AllByRecursion, list_any, ordering_reverse, ordering_then}
-use Rattle.text_core.proofs.Kit.{slice_cmp, cases_Bool, nat_tests, ints, is_eq-slice_cmp}
+use Rattle.text_core.proofs.Kit.{slice_cmp, cases_Bool, nat_tests, ints, is_eq-slice_cmp, and_parts}
 use Rattle.office_sql.proofs.Kit.{Value, Null, Int, Real, Row, column, bytes, Trees, rowid, IsShaped, is_int, is_null, Kind, Column, Table, Schema, Datatype}
 use Rattle.office_sql.proofs.Kit.{NotNull, is_key, is_of, are_typed, are_present, passes, agree, differ, equal, clashes, has_affinity, Ne, Binary, plain}
 use Rattle.office_sql.proofs.Kit.{first_key-plain, value_cmp_total, value_cmp-Int, Has, all_has, all_from, some_from, ascending-map}
@@ -17,10 +17,6 @@ use Rattle.office_found.specs.Prelude.{is_below}
 use Rattle.office_sql.proofs.Kept.{narrowed}
 use Rattle.office_sql.proofs.Values.{text_is, blob_is}
 use Rattle.office_sql.proofs.MapValues.{whole_is}
-
-pub both_true : (a b : Bool) → (a && b) ≡ true → (a ≡ true) × (b ≡ true)
-both_true true b h = (refl, h)
-both_true false b h = absurd (true≢false (sym h))
 
 -- ---- one column
 
@@ -49,9 +45,9 @@ typed_at key at (c ∷ cs) zero k is (v ∷ vs) h =
     subst (λ k. is_of k v
     ≡ true) is.0
     (strict_one (is_key key at) c.is_strict (is_null v) (is_of c.kind v) (has_affinity c.kind v)
-    is.2 is.1 (both_true _ _ h).0)
+    is.2 is.1 (and_parts _ _ h).0)
 typed_at key at (c ∷ cs) (suc i) k is [] h = refl
-typed_at key at (c ∷ cs) (suc i) k is (v ∷ vs) h = typed_at key (at + 1) cs i k is vs (both_true _ _ h).1
+typed_at key at (c ∷ cs) (suc i) k is (v ∷ vs) h = typed_at key (at + 1) cs i k is vs (and_parts _ _ h).1
 
 required_one : (low must there : Bool) → low ≡ false → must ≡ true → (low || not must || there) ≡ true → there ≡ true
 required_one true must there h m e = absurd (true≢false h)
@@ -63,12 +59,12 @@ present_at : (key : Option ℕ) (at : ℕ) (cs : List Column) (i : ℕ) → IsRe
     → not (is_null (column row (at + i + 1))) ≡ true
 present_at key at [] i is row h = absurd is
 present_at key at (c ∷ cs) zero is row h =
-    let here = required_one (is_key key at) c.not_null (not (is_null (column row (at + 1)))) is.1 is.0 (both_true _ _ h).0 in
+    let here = required_one (is_key key at) c.not_null (not (is_null (column row (at + 1)))) is.1 is.0 (and_parts _ _ h).0 in
     let same : at + 1 ≡ at + 0 + 1 = omega arith in
     subst (λ p. not (is_null (column row p)) ≡ true) same here
 present_at key at (c ∷ cs) (suc i) is row h =
     let same : at + 1 + i + 1 ≡ at + suc i + 1 = omega arith in
-    subst (λ p. not (is_null (column row p)) ≡ true) same (present_at key (at + 1) cs i is row (both_true _ _ h).1)
+    subst (λ p. not (is_null (column row p)) ≡ true) same (present_at key (at + 1) cs i is row (and_parts _ _ h).1)
 
 pub dropped : (row : Row) (i : ℕ) → column (drop 1 row) i ≡ column row (suc i)
 dropped [] zero = refl
@@ -115,7 +111,7 @@ whole_of (Bytes b) d n = absurd (true≢false (sym d))
 
 module _ (schema : Schema) (db : Trees) (table : Table) (r : Row) (typed : passes Datatype schema db table r ≡ true) where
   kind_at : (i : ℕ) (k : Kind) → IsKind table.key 0 table.columns i k → is_of k (column r (suc i)) ≡ true
-  kind_at i k is = subst (λ v. is_of k v ≡ true) (dropped r i) (typed_at table.key 0 table.columns i k is (drop 1 r) (both_true _ _ typed).0)
+  kind_at i k is = subst (λ v. is_of k v ≡ true) (dropped r i) (typed_at table.key 0 table.columns i k is (drop 1 r) (and_parts _ _ typed).0)
 
   pub text_if_at : (i : ℕ) → IsKind table.key 0 table.columns i kind.Text → IsTextIf (suc i) r
   text_if_at i is = text_if_of (column r (suc i)) (kind_at i kind.Text is)
@@ -194,10 +190,6 @@ none_of p xs x none has = elim (cases_Bool (p x)) [ inl there ↦ absurd (true�
 never_with : (p q : Bool) → (p && q) ≡ false → q ≡ true → p ≡ false
 never_with true q h e = absurd (true≢false (sym e ∙ h))
 never_with false q h e = refl
-
-pub not_true : (b : Bool) → not b ≡ true → b ≡ false
-not_true true h = absurd (true≢false (sym h))
-not_true false h = refl
 
 module _ {A : Type 0} (places : List ℕ) (Typed : Row → Type 0) (cmp : A → A → Ordering) (value : Row → A)
     (ties : (a b : Row) → Typed a → Typed b → is_eq (cmp (value a) (value b)) ≡ agree plain places b places a) where

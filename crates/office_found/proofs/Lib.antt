@@ -7,7 +7,6 @@ pub mod FoundReads
 pub mod FoundResults
 pub mod FoundRows
 pub mod MetaShows
-pub mod QueryRows
 pub mod Schemas
 pub mod StartKeys
 pub mod TextShows

@@ -5,12 +5,9 @@ use Rattle.office_sql.proofs.Kit.{Database, Held, state, Error, State, HasCleanD
 use Rattle.sqlite.specs.Store.{Ghosts}
 use Rattle.office_tables.specs.Prelude.{Tables, LooksUp}
 use Rattle.office_sql.specs.Prelude.{SqlReads, Rests, IsReady, IsOffice, tables_in}
+use Rattle.office_sql.proofs.Resting.{same_now}
 use Rattle.office_keep.specs.Prelude.{Kept, Agrees, RemembersRight, tables_of, is_open_at, is_honest_at, may_leave_at, tells_text_at, commits_at}
 use Rattle.office_keep.specs.declared.remembered.Remembered.{Remembered}
-
--- a connection that is ready shows after a read what it showed before
-pub same_now : (old new : State) → IsReady old → Rests old new → IsTrue new.is_open → new.now ≡ old.now
-same_now old new rest r up = elim (r.now up) [ inl e ↦ e | inr e ↦ e ∙ sym (rest.shows_committed (r.was_open up)) ]
 
 -- a connection that was ready is ready after a read
 pub rested : (old new : State) → IsReady old → (IsTrue new.is_open → Rests old new) → new.in_transaction ≡ false → IsReady new

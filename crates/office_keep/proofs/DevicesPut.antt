@@ -5,7 +5,8 @@ use Rattle.text_core.proofs.Kit.{is_eq, match_ordering, bytes_eq-Decides}
 use Rattle.office_keep.proofs.Types.{OfCustomer, Device, Order, Write, PutSeat, AddOrder, SetCursor, AddMap, AddLink, AddDevice, PutDevice, AddGiven, AddEntry}
 use Rattle.office_keep.proofs.Types.{WrittenDevices, Nothing, One, Several, PlaceCounts}
 use Rattle.office_tables.specs.Prelude.{place_of_device, device_cmp, is_device, order_at, with_row, with_cursor_of, IsInOrder, Tables, Writes, Written}
-use Rattle.office_tables.proofs.Places.{device_total, find_device, places, places_put, same_device, taken_by}
+use Rattle.office_tables.proofs.Places.{find_device, places, places_put, same_device, taken_by}
+use Rattle.office_tables.proofs.Orders.{device_total}
 use Rattle.office_keep.specs.Prelude.{AreCounts, AreRight, device_written, ArePut, AreTold}
 
 -- a device is put, if there is one

@@ -1,5 +1,6 @@
 -- What is asked, made from what was found.
-use Rattle.std.proofs.Common.{◌≡◌, ap, subst, ◌∙◌, Result, Ok, Err, IfOk, IsOkAnd}
+use Rattle.std.proofs.Common.{◌≡◌, ap, ◌∙◌, Result, Ok, Err, IfOk, IsOkAnd}
+use Rattle.std.proofs.lemmas.Result.{IfOk-at_ok}
 use Rattle.sqlite.specs.Store.{Ghosts}
 use Rattle.sqlite.specs.Held.{Held, state}
 use Rattle.office_tables.specs.Prelude.{Tables}
@@ -19,17 +20,12 @@ asks_made g old new f found (Ok a) (Ok b) is it = record {
 asks_made g old new f found (Err e) (Ok b) is it = absurd is
 asks_made g old new f found r (Err e) is it = record { answer = λ _. tt; same = λ _. tt; rests = it.rests; mode = it.mode; crash = it.crash }
 
--- what holds of an answer
-pub said : {A E : Type 0} (r : Result A E) (a : A) (P : A → Type 0) → r ≡ Ok a → IfOk r P → P a
-said (Ok y) a P is h = subst P (let e = is in cc) h
-said (Err e) a P is h = absurd (let f = is in cc)
-
 -- an answer that is made from another answers too
 pub asks_of : {S A B E : Type 0} (g : Ghosts S) (old new : Held S) (r : Result A E) (x : A) (a : B)
     (P : Tables → A → Type 0) (Q : Tables → B → Type 0) → r ≡ Ok x → SqlReads g old new r P
     → ((t : Tables) → P t x → Q t a) → SqlReads {E = E} g old new (Ok a) Q
 asks_of g old new (Ok y) x a P Q is it answer = record {
-  answer = λ clean. answer (tables_in (state g old).now.trees) (said (Ok y) x (P (tables_in (state g old).now.trees)) is (it.answer clean));
+  answer = λ clean. answer (tables_in (state g old).now.trees) (IfOk-at_ok (P (tables_in (state g old).now.trees)) is (it.answer clean));
   same = it.same;
   rests = it.rests;
   mode = it.mode;

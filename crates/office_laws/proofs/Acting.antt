@@ -1,11 +1,11 @@
 -- A request that comes again acts once.
 use Rattle.std.proofs.Common.{◌≡◌, ◌+◌, ◌≤◌, ◌<◌, ◌==◌, ◌⊎◌, ◌∷◌, ◌&&◌}
+use Rattle.std.proofs.lemmas.List.Elements.{All-filter}
 use Rattle.text_core.proofs.Kit.{◌∙◌, ℕ, inl, inr, arith, Bool, true, false, cond, List, [], Option, Some, None, refl, sym, ap, subst, bytes_eq, filter, not}
-use Rattle.text_core.proofs.Kit.{AllByRecursion, and_parts, eqb-true}
+use Rattle.text_core.proofs.Kit.{AllByRecursion, and_parts, eqb-true, same_text, kept_pass, recursion_from_All, All-from_recursion}
 use Rattle.office_tables.specs.declared.rows.SeatState.{SeatState}
 use Rattle.office_tables.specs.Prelude.{Tables}
 use Rattle.office_commands.specs.Prelude.{acceptance}
-use Rattle.office_rules.proofs.Ties.{same_text}
 use Rattle.office_laws.specs.Prelude.{SoloState, seat_named, view, Exchange, exchanges_of, last_number_of_seat, ActsOnce, AgreeWithFirst, firsts, is_accepted}
 use Rattle.office_laws.specs.Prelude.{is_again, number_of_wanted, once}
 use Rattle.office_laws.proofs.OwnRetries.{Accepts, takes}
@@ -79,22 +79,7 @@ again_same x s mid a old = by a.before
 -- a filter of what holds of each
 pub filter_all : {A : Type 0} (P : A → Type 0) (p : A → Bool) (xs : List A) → AllByRecursion P xs
     → AllByRecursion P (filter p xs)
-filter_all P p [] all = tt
-filter_all P p (x ∷ xs) all =
-    elim (p x) as (λ b. AllByRecursion P (cond b (x ∷ filter p xs) (filter p xs))) [
-      | true ↦ (all.0, filter_all P p xs all.1)
-      | false ↦ filter_all P p xs all.1
-    ]
-
-filter_passing : {A : Type 0} (p : A → Bool) (xs : List A)
-    → AllByRecursion (λ x. p x ≡ true) (filter p xs)
-filter_passing p [] = tt
-filter_passing p (x ∷ xs) =
-    elim (p x) as (λ b. p x ≡ b
-    → AllByRecursion (λ x. p x ≡ true) (cond b (x ∷ filter p xs) (filter p xs))) [
-      | true ↦ λ is. (is, filter_passing p xs)
-      | false ↦ λ _. filter_passing p xs
-    ] refl
+filter_all P p xs all = recursion_from_All P (filter p xs) (All-filter p P xs (All-from_recursion P xs all))
 
 firsts_all : (P : Exchange → Type 0) (xs : List Exchange) → AllByRecursion P xs
     → AllByRecursion P (firsts xs)
@@ -160,7 +145,7 @@ firsts_alone (x ∷ xs) s s2 all run =
 -- the own machine's state is that after each accepted command once
 pub once_alone : (xs : List Exchange) (s s2 : SoloState) → RunsAlone xs s s2 → RunsAlone (once xs) s s2
 once_alone xs s s2 run =
-    firsts_alone (filter is_accepted xs) s s2 (filter_passing is_accepted xs)
+    firsts_alone (filter is_accepted xs) s s2 (kept_pass is_accepted xs)
     (accepted_alone xs s s2 run)
 
 -- the reply is kept for the seat's number, or the seat is past it
@@ -232,6 +217,6 @@ acts_once customer xs t t2 run = record {
   rows = alone_state (once (exchanges_of customer xs)) (view customer t) (view customer t2)
       (once_alone (exchanges_of customer xs) (view customer t) (view customer t2) run);
   repeats = agree (filter is_accepted (exchanges_of customer xs)) (view customer t) (view customer t2)
-      (filter_passing is_accepted (exchanges_of customer xs))
+      (kept_pass is_accepted (exchanges_of customer xs))
       (accepted_alone (exchanges_of customer xs) (view customer t) (view customer t2) run);
 }

@@ -1,6 +1,6 @@
 -- A command that is accepted, and is no repeat, is its seat's next one, and nothing refuses it.
 use Rattle.std.proofs.Common.{◌≡◌, ◌∙◌, ◌==◌, ℕ, arith, true, false, List, Option, Some, None, sym, ap}
-use Rattle.text_core.proofs.Kit.{nat_lt, nat_tests}
+use Rattle.text_core.proofs.Kit.{nat_lt, nat_tests, same_Some}
 use Rattle.text_core.specs.Prelude.{first_that_holds}
 use Rattle.http_replies.specs.Prelude.{Answer, code_of}
 use Rattle.site_core.specs.Prelude.{Ownership, Section}
@@ -10,7 +10,6 @@ use Rattle.office_commands.specs.Prelude.{refusal}
 use Rattle.office_commands.specs.declared.command.Command.TheVariants.{Change}
 use Rattle.office_rules.specs.Prelude.{Put, Response, Step, office_sight, refusals, reply_only, retry_at, retry_of}
 use Rattle.office_laws.specs.Prelude.{IsSound, last_number_of_seat, seat_named, view}
-use Rattle.office_laws.proofs.Looking.{some_is}
 use Rattle.office_laws.proofs.OwnRetries.{not_success, retry_repeats}
 use Rattle.office_laws.proofs.Readings.{seat_own}
 use Rattle.office_laws.proofs.Responses.{of_change}
@@ -32,7 +31,7 @@ module _ {site : Ownership} (t : Tables) (sound : IsSound site t) (s : Section) 
 
   is_refused : {A : Type 0} (reason : Refusal) → Responds (Some (reply_only (refusal reason))) → A
   is_refused reason (puts, is) =
-      refused_is_not reply reason (sym (ap (λ (p : Response). p.reply) (some_is is))) accepted
+      refused_is_not reply reason (sym (ap (λ (p : Response). p.reply) (same_Some _ _ is))) accepted
 
   repeats : {A : Type 0} (r : Request) (body : List ℕ)
       → nat_lt (last_number_of_seat (seat_named seat (view s.name t))) r.number ≡ true

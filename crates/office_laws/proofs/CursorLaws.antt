@@ -6,11 +6,12 @@ use Rattle.site_core.specs.Prelude.{Ownership}
 use Rattle.office_laws.proofs.Types.{Given, Order, OfCustomer, Device}
 use Rattle.office_tables.specs.Prelude.{Tables, is_device, is_of, is_order, order_at, order_cmp, rows_of, with_row, with_cursor, with_cursor_of, with_order}
 use Rattle.office_tables.specs.Prelude.{IsInOrder}
+use Rattle.office_tables.proofs.Orders.{order_total}
 use Rattle.office_rules.proofs.Refusing.{is_some_map}
 use Rattle.office_laws.specs.Prelude.{Grows, AreDisjoint, EachApart, IsInPool, IsOrder, IsSound, IsIssuedBelow, IsOfDevice, IsOfOrder, IsRecordOf}
 use Rattle.office_rules.specs.Prelude.{at_first}
 use Rattle.office_laws.proofs.Growing.{OrderStays}
-use Rattle.office_laws.proofs.Readings.{find_holds, find_map, orders_total}
+use Rattle.office_laws.proofs.Readings.{find_holds, find_map}
 use Rattle.office_laws.proofs.SoundRows.{order_placed}
 
 -- an order's row without its cursor
@@ -37,13 +38,13 @@ moved_same p o n (y ∷ ys) order e =
           let same : y ≡ o = cc in
           let tied : order_cmp (moved n o) y ≡ Equal =
           subst (λ (z : OfCustomer Order). order_cmp (moved n o) z ≡ Equal) (sym same)
-          (tied_itself orders_total o) in
+          (tied_itself order_total o) in
           rw tied (λ i. row_at_first (sym same i) ∷ map row_at_first ys)
       | false ↦ λ later.
           let less : order_cmp y (moved n o) ≡ Less =
           (find_holds (λ z. order_cmp y z ≡ Less) p ys o order.0 later).0 in
           let greater : order_cmp (moved n o) y ≡ Greater =
-          orders_total.antisymm (moved n o) y ∙ ap ordering_reverse less in
+          order_total.antisymm (moved n o) y ∙ ap ordering_reverse less in
           rw greater (ap (λ zs. row_at_first y ∷ zs) (moved_same p o n ys order.1 later))
     ] e
 

@@ -2,8 +2,7 @@
 -- customers.
 use Rattle.std.proofs.Common.{◌≡◌, ◌+◌, ◌++◌, ◌∷◌, Ordering}
 use Rattle.text_core.proofs.Kit.{ℕ, arith, true, false, List, [], length, map, Some, None, Equal, refl, sym, ap, ◌∙◌, subst, bytes_eq, filter, find, is_some}
-use Rattle.text_core.proofs.Kit.{Option, AllByRecursion, nat_cmp, ordering_then, IsTotalOrder, and_parts, and_from, nat_cmp_total, on_total, then_total}
-use Rattle.text_core.proofs.Kit.{nat_list_cmp_total, tied_itself}
+use Rattle.text_core.proofs.Kit.{Option, AllByRecursion, nat_cmp, ordering_then, and_parts, and_from, nat_list_cmp_total, tied_itself, same_text, text_itself}
 use Rattle.site_core.specs.Prelude.{Ownership}
 use Rattle.office_laws.proofs.Types.{OfCustomer, Device, Entry, NewEntry, DeviceStep}
 use Rattle.office_tables.specs.Prelude.{Tables, device_at, device_cmp, entry_cmp, entry_under, entry_with, greatest, has_entry_id, is_device, is_entry_of}
@@ -11,27 +10,18 @@ use Rattle.office_tables.specs.Prelude.{is_of, last_number, link_at, order_at, t
 use Rattle.fusemap_core.specs.Prelude.{Map}
 use Rattle.office_tables.proofs.Finding.{filter_none, filter_only, filter_other, none_passes, some_placed, still_there}
 use Rattle.office_tables.proofs.Placing.{all_map, all_placed, placed_in_order}
+use Rattle.office_tables.proofs.Places.{same_place, own_device}
+use Rattle.office_tables.proofs.Orders.{device_total, entry_total}
 use Rattle.office_rules.specs.Prelude.{entry_of, map_named}
-use Rattle.office_rules.proofs.Ties.{first_equal, same_place, same_text, second_equal, text_itself}
+use Rattle.office_rules.proofs.Ties.{first_equal, second_equal}
 use Rattle.office_laws.proofs.OwnPlaces.{solo_device_cmp}
 use Rattle.office_laws.specs.Prelude.{AreNumberedFrom, AreSoundDevices, HasLedger, FitsFuseMap, IsReferred, SerialIsOfIdentified, IsRecordOf, IsSound}
 use Rattle.office_laws.proofs.Appended.{all_below, appended, last_of_numbered, numbered_appended}
 use Rattle.office_laws.proofs.DeviceRows.{ids_apart_placed}
 use Rattle.office_laws.proofs.Placed.{all_placed_apart}
 use Rattle.office_laws.proofs.Readings.{find_holds}
-use Rattle.office_laws.proofs.RecordRows.{Follows, each_device, own_device, record_after_device, tied_device}
+use Rattle.office_laws.proofs.RecordRows.{Follows, each_device, record_after_device, tied_device}
 use Rattle.office_laws.proofs.SoundRows.{owned_placed}
-
-pub devices_total : IsTotalOrder device_cmp
-devices_total =
-    then_total (on_total (λ o. o.customer) nat_list_cmp_total)
-    (on_total (λ o. o.row.chip) nat_list_cmp_total)
-
-pub entries_total : IsTotalOrder entry_cmp
-entries_total =
-    then_total (then_total (on_total (λ o. o.customer) nat_list_cmp_total)
-    (on_total (λ o. o.row.chip) nat_list_cmp_total))
-    (on_total (λ o. o.row.number) nat_cmp_total)
 
 tied_customers : (c : List ℕ) {A : Type 0} (a b : OfCustomer A) → is_of c a ≡ true → is_of c b ≡ true
     → text_cmp a.customer b.customer ≡ Equal
@@ -168,9 +158,9 @@ module _ {owners : Ownership} {t : Tables} (sound : IsSound owners t) (c seat : 
 
   devices_after : IsLawful → AreSoundDevices owners after.devices after.ledger
   devices_after lawful = record {
-    devices_in_order = placed_in_order device_cmp devices_total d t.devices
+    devices_in_order = placed_in_order device_cmp device_total d t.devices
         sound.devices.devices_in_order;
-    entries = owned_placed sound.devices.entries entry lawful.is_seat entries_total;
+    entries = owned_placed sound.devices.entries entry lawful.is_seat entry_total;
     ids_apart = ids_apart_placed entry t.ledger
         (none_passes (has_entry_id id) t.ledger lawful.new_id) sound.devices.ids_apart;
     customers = all_placed (λ o. owners.customer o.customer ≡ true) device_cmp d t.devices
@@ -199,7 +189,7 @@ module _ {owners : Ownership} {t : Tables} (sound : IsSound owners t) (c seat : 
     cursors = sound.cursors;
     references = all_placed (IsReferred t.orders t.links) device_cmp d t.devices
         (record { order = lawful.order; map = lawful.link }) sound.references;
-    ledgers = all_placed_apart device_cmp d (HasLedger named after.ledger) devices_total t.devices
+    ledgers = all_placed_apart device_cmp d (HasLedger named after.ledger) device_total t.devices
         lawful.ledger sound.devices.devices_in_order (ledgers_after t.devices sound.ledgers);
   }
 
@@ -260,7 +250,7 @@ module _ {owners : Ownership} {t : Tables} (sound : IsSound owners t) (c seat : 
       let was_numbered : AreNumberedFrom 1 es = rw (owner, chip) found.0.numbered in
       let last : last_number c step.device.chip t ≡ length es = last_of_numbered es was_numbered in
       let grown : filter (is_entry_of c step.device.chip) after.ledger ≡ es ++ entry ∷ [] =
-      appended entry (own_device d) (λ x y. entries_total.trans entry x y) t.ledger
+      appended entry (own_device d) (λ x y. entry_total.trans entry x y) t.ledger
       sound.devices.entries.in_order
       (all_below c step.device.chip t.ledger (last_number c step.device.chip t + 1)
       (omega arith)) in

@@ -2,7 +2,8 @@
 use Rattle.std.proofs.Common.{◌≡◌, ◌<◌, ◌≤◌, ◌-◌, ◌*◌, ◌++◌, ◌∷◌, Ordering, if◌then◌else◌}
 use Rattle.text_core.proofs.Kit.{ℕ, zero, suc, Bool, true, false, cond, List, [], length, take, filter, Option, Some, None, Less, Equal, Greater, refl, sym, ap}
 use Rattle.text_core.proofs.Kit.{◌∙◌, subst, arith, nat_tests, nat_lt, is_lt, ordering_reverse, AllByRecursion, nat_list_cmp_total, tied_itself, take_all}
-use Rattle.text_core.proofs.Kit.{length-take-le, length-append, append-nil, nil_from_length, option_map, option_map_or, slice_get}
+use Rattle.text_core.proofs.Kit.{length-take-le, length-append, append-nil, nil_from_length, option_map, option_map_or, slice_get, same_Some}
+use Rattle.text_core.proofs.Kit.{recursion_from_All, All-from_recursion, All-take}
 use Rattle.office_laws.proofs.Types.{Device}
 use Rattle.office_tables.specs.Prelude.{rows_of, text_cmp, AreInKeyOrder, IsInOrder, Tables, device_cmp}
 use Rattle.office_tables.proofs.Placing.{all_map, own_in_order}
@@ -10,7 +11,6 @@ use Rattle.office_rules.specs.Prelude.{devices_behind, last_chip, next_page, on_
 use Rattle.office_laws.specs.Prelude.{by_text, on_pages}
 use Rattle.office_laws.proofs.Acting.{filter_all}
 use Rattle.office_laws.proofs.DeviceLaws.{device_agree}
-use Rattle.office_laws.proofs.Looking.{some_is}
 
 abbrev chip_cmp : Device → Device → Ordering
 chip_cmp = by_text (λ (d : Device). d.chip)
@@ -27,9 +27,7 @@ filter_each p (x ∷ xs) all = rw all.0 (ap (λ rest. x ∷ rest) (filter_each p
 
 all_taken : {A : Type 0} (P : A → Type 0) (n : ℕ) (xs : List A) → AllByRecursion P xs
     → AllByRecursion P (take n xs)
-all_taken P zero xs all = tt
-all_taken P (suc n) [] all = tt
-all_taken P (suc n) (x ∷ xs) all = (all.0, all_taken P n xs all.1)
+all_taken P n xs all = recursion_from_All P (take n xs) (All-take P n xs (All-from_recursion P xs all))
 
 filtered_in_order : {A : Type 0} (cmp : A → A → Ordering) (p : A → Bool) (xs : List A)
     → IsInOrder cmp xs → IsInOrder cmp (filter p xs)
@@ -53,7 +51,7 @@ last_is_behind : (x : List ℕ) (ds : List Device) (chip : List ℕ)
     → AllByRecursion (λ d. text_cmp x d.chip ≡ Less) ds → last_chip ds ≡ Some chip
     → text_cmp x chip ≡ Less
 last_is_behind x [] chip all e = cc
-last_is_behind x (d ∷ []) chip all e = subst (λ c. text_cmp x c ≡ Less) (some_is e) all.0
+last_is_behind x (d ∷ []) chip all e = subst (λ c. text_cmp x c ≡ Less) (same_Some _ _ e) all.0
 last_is_behind x (d ∷ (f ∷ ds)) chip all e =
     last_is_behind x (f ∷ ds) chip all.1 (sym (last_later d f ds) ∙ e)
 
@@ -82,7 +80,7 @@ left_behind : (n : ℕ) (ds : List Device) (chip : List ℕ) → IsInOrder chip_
 left_behind zero ds chip up more e = cc
 left_behind (suc n) [] chip up more e = cc
 left_behind (suc zero) (d ∷ ds) chip up more e =
-    ap (λ rest. d ∷ rest) (sym (subst (λ c. filter (comes_behind c) (d ∷ ds) ≡ ds) (some_is e)
+    ap (λ rest. d ∷ rest) (sym (subst (λ c. filter (comes_behind c) (d ∷ ds) ≡ ds) (same_Some _ _ e)
     (only_first d ds up.0)))
 left_behind (suc (suc n)) (d ∷ []) chip up more e = absurd (omega (arith, more))
 left_behind (suc (suc n)) (d ∷ (f ∷ gs)) chip up more e =

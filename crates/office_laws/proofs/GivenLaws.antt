@@ -1,8 +1,7 @@
 -- A new record of a serial number keeps the tables sound, and forgets nothing.
 use Rattle.std.proofs.Common.{◌≡◌, ◌==◌, ◌∷◌}
 use Rattle.text_core.proofs.Kit.{ℕ, arith, true, false, List, [], Option, Some, None, Less, Equal, Greater, refl, sym, ◌∙◌, subst, bytes_eq, find, IfSome}
-use Rattle.text_core.proofs.Kit.{AllByRecursion, match_ordering, IsTotalOrder, and_parts, and_from, nat_tests, on_total, then_total, nat_list_cmp_total}
-use Rattle.text_core.proofs.Kit.{tied_itself}
+use Rattle.text_core.proofs.Kit.{AllByRecursion, match_ordering, and_parts, and_from, nat_tests, nat_list_cmp_total, tied_itself, same_text, text_itself}
 use Rattle.site_core.specs.Prelude.{Ownership}
 use Rattle.id_ranges.specs.Prelude.{serial_text_of}
 use Rattle.office_laws.proofs.Types.{OfCustomer, Given, Order}
@@ -10,15 +9,12 @@ use Rattle.office_tables.specs.Prelude.{Tables, IsAddressFree, given_at, given_b
 use Rattle.office_tables.specs.Prelude.{with_given}
 use Rattle.office_tables.proofs.Finding.{none_passes, other_placed, still_there}
 use Rattle.office_tables.proofs.Placing.{all_map, all_placed}
-use Rattle.office_rules.proofs.Ties.{first_equal, same_place, same_text, second_equal, text_itself}
+use Rattle.office_tables.proofs.Places.{same_place}
+use Rattle.office_tables.proofs.Orders.{given_total}
+use Rattle.office_rules.proofs.Ties.{first_equal, second_equal}
 use Rattle.office_laws.specs.Prelude.{Grows, IsSound, AreAddressesApart, AreKeysApart, IsIssuedBelow, IsRecordOf}
 use Rattle.office_laws.proofs.Placed.{found_replaced, others_fail}
 use Rattle.office_laws.proofs.SoundRows.{owned_placed}
-
-pub given_total : IsTotalOrder given_cmp
-given_total =
-    then_total (on_total (λ o. o.row.issuer) nat_list_cmp_total)
-    (on_total (λ o. o.row.serial) nat_list_cmp_total)
 
 -- a record that takes the place of another has its issuer and its serial number
 same_given : (issuer serial : List ℕ) (x y : OfCustomer Given) → given_cmp x y ≡ Equal

@@ -1,18 +1,16 @@
 -- What an identity gives in a run is given once.
 use Rattle.std.proofs.Common.{◌≡◌, ◌+◌, ◌==◌, ◌⊎◌, ◌∷◌, ◌&&◌}
 use Rattle.text_core.proofs.Kit.{◌∙◌, ℕ, inl, inr, arith, Bool, true, false, cond, List, [], Option, Some, None, refl, sym, ap, subst, bytes_eq, filter}
-use Rattle.text_core.proofs.Kit.{is_some, nat_lt, not, IfSome, MatchBool, AllByRecursion, and_parts, nat_tests}
+use Rattle.text_core.proofs.Kit.{is_some, nat_lt, not, IfSome, MatchBool, AllByRecursion, and_parts, nat_tests, same_text, filter_agree}
 use Rattle.http_replies.specs.Prelude.{code_of, is_unavailable}
 use Rattle.site_core.specs.Prelude.{Ownership}
 use Rattle.office_laws.proofs.Types.{Given, OfCustomer, SeatState, NewIdentity, Unkept}
 use Rattle.office_tables.specs.Prelude.{Tables, given_at, is_serial_of}
 use Rattle.office_commands.specs.Prelude.{refusal}
 use Rattle.office_rules.specs.Prelude.{row_of}
-use Rattle.office_rules.proofs.Ties.{same_text}
-use Rattle.office_laws.specs.Prelude.{BlocksDisjoint, IsFreshRecord, addresses_of, Grows, SoloState, IsSound, view, Exchange, IsRun, FulfilsWanted}
-use Rattle.office_laws.specs.Prelude.{Passes, Wanted, asks, reports, refused, calls_of, AreSeats, IsSeat, is_own, AreGifts, IssuesOnce, IsGift}
-use Rattle.office_laws.specs.Prelude.{identity_wanted, is_new_identity, last_number_of_seat, is_accepted, is_again}
-use Rattle.office_laws.specs.Prelude.{number_of_wanted, once, writes}
+use Rattle.office_laws.specs.Prelude.{BlocksDisjoint, IsFreshRecord, addresses_of, Grows, SoloState, IsSound, view, Exchange, IsRun, FulfilsWanted, Passes}
+use Rattle.office_laws.specs.Prelude.{Wanted, asks, reports, refused, calls_of, AreSeats, IsSeat, is_own, AreGifts, IssuesOnce, IsGift, identity_wanted}
+use Rattle.office_laws.specs.Prelude.{is_new_identity, last_number_of_seat, is_accepted, is_again, number_of_wanted, once, writes}
 use Rattle.office_laws.proofs.Fresh.{Shows}
 use Rattle.office_laws.proofs.Issuing.{identity_shows as request_shows}
 use Rattle.office_laws.proofs.Readings.{find_holds}
@@ -155,12 +153,6 @@ filter_twice p q r same (x ∷ xs) =
       | false ↦ λ e. filter_twice p q r same xs
           ∙ ap (λ (b : Bool). cond b (x ∷ filter r xs) (filter r xs)) e
     ] (same x)
-
-filter_same : {A : Type 0} (p q : A → Bool) → ((x : A) → p x ≡ q x) → (xs : List A)
-    → filter p xs ≡ filter q xs
-filter_same p q same [] = refl
-filter_same p q same (x ∷ xs) =
-    λ i. cond (same x i) (x ∷ filter_same p q same xs i) (filter_same p q same xs i)
 
 -- a record that is there stands on, and one that isn't there later wasn't before
 free_before : (issuer serial : List ℕ) (before : Option (OfCustomer Given))
@@ -375,7 +367,7 @@ module _ {site last : Ownership} (x : Exchange) (xs : List Exchange) (t mid t2 :
         ] refl (same_identities is)
     | false ↦ λ is. without
         (ap (filter (is_new_identity t)) (once_unaccepted x xs is)
-        ∙ filter_same (is_new_identity t) (is_new_identity mid)
+        ∙ filter_agree (is_new_identity t) (is_new_identity mid)
         (λ y. ap (λ (s : SoloState). is_some (identity_wanted y.0.wanted) && is_past s y)
         (sym (same_views is y.0.section.name))) (once xs))
   ] refl

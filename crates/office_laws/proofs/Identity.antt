@@ -2,6 +2,7 @@
 use Rattle.std.proofs.Common.{◌≡◌, ◌∙◌, ℕ, List, [], ◌∷◌, Option, Some, None, refl, subst, option_and_then, option_map, is_some, not}
 use Rattle.std.specs.Option.{option_map_or}
 use Rattle.text_core.specs.Prelude.{first_that_holds}
+use Rattle.text_core.proofs.Kit.{same_Some}
 use Rattle.fusemap_core.specs.Prelude.{Map}
 use Rattle.id_ranges.specs.Prelude.{with_text, Range, serial_text_of, IsLeastUnused}
 use Rattle.id_ranges.proofs.NextNumbers.{next_is_least}
@@ -10,12 +11,12 @@ use Rattle.office_laws.proofs.Types.{Device, Order, OfCustomer, NewIdentity}
 use Rattle.office_commands.specs.declared.refusal.Refusal.TheVariants.{Exhausted, KeyBound}
 use Rattle.office_tables.specs.Prelude.{Tables, device_at, order_at}
 use Rattle.office_commands.specs.Prelude.{identity_body}
-use Rattle.office_rules.specs.Prelude.{identified_from, state_refusal, Effect, number_put, step_put, step_of_identity, identity_effect}
-use Rattle.office_rules.specs.Prelude.{row_of, is_taken, map_named, next_of, office_order_sight, office_sight, OrderSight, Refusals}
-use Rattle.office_rules.specs.Prelude.{identity_refusals, idevid_of_order, Sight, map_in_sight, step_refusals}
+use Rattle.office_rules.specs.Prelude.{identified_from, state_refusal, Effect, number_put, step_put, step_of_identity, identity_effect, row_of, is_taken}
+use Rattle.office_rules.specs.Prelude.{map_named, next_of, office_order_sight, office_sight, OrderSight, Refusals, identity_refusals, idevid_of_order, Sight}
+use Rattle.office_rules.specs.Prelude.{map_in_sight, step_refusals}
 use Rattle.office_rules.proofs.Sights.{map_same}
 use Rattle.office_rules.proofs.Refusing.{NoneHolds, lowest_none}
-use Rattle.office_laws.proofs.Looking.{device_seen, gave, some_is}
+use Rattle.office_laws.proofs.Looking.{device_seen, gave}
 
 -- the next number comes with its serial number
 text_of_next : (r : Range) (found : Option ℕ) (next : ℕ × List ℕ)
@@ -90,7 +91,7 @@ module _ (s : Section) (seat : List ℕ) (t : Tables) (n : NewIdentity) where
             known = map_same s seat t old.row.map ∙ known;
             in_order = in_order;
             is_next = next.1;
-            is = some_is next.2;
+            is = same_Some _ _ next.2;
           }
 
       by : (found : Option (OfCustomer Device)) → device_at s.name n.chip t ≡ found

@@ -3,17 +3,16 @@ use Rattle.std.proofs.Common.{◌≡◌, ◌+◌, ◌≤◌, ◌<◌, ◌∙◌,
 use Rattle.std.proofs.Common.{IfSome}
 use Rattle.std.proofs.lemmas.Bool.{and_parts, cases_lt, not-false}
 use Rattle.text_core.specs.Prelude.{first_that_holds}
+use Rattle.text_core.proofs.Kit.{find-passes, same_text, none_from_test}
 use Rattle.fusemap_core.specs.Prelude.{Map}
 use Rattle.id_ranges.specs.Prelude.{Idevid, serial_text_of, IsLeastUnused}
-use Rattle.id_ranges.proofs.FreeBlocks.{find-passes}
 use Rattle.site_core.specs.Prelude.{IsSection, Ownership, Section}
 use Rattle.office_laws.proofs.Types.{Cursor, Device, Given, Order, OfCustomer, NewIdentity, DeviceStep}
 use Rattle.office_tables.specs.Prelude.{IsAddressFree, Tables, device_at, device_cmp, given_at, given_by_key, given_cmp, is_device, is_serial_of, is_order}
 use Rattle.office_tables.specs.Prelude.{order_at, with_row, with_cursor, with_given, is_one_of}
+use Rattle.office_tables.proofs.Places.{own_device}
 use Rattle.office_rules.specs.Prelude.{identified_from, Effect, step_of_identity, identity_effect, identity_refusals, idevid_of_order, row_of, MakesPuts}
 use Rattle.office_rules.specs.Prelude.{is_taken, its, map_named, map_text, next_of, office_sight}
-use Rattle.office_rules.proofs.Refusing.{none_from_test}
-use Rattle.office_rules.proofs.Ties.{same_text}
 use Rattle.office_laws.specs.Prelude.{IsSound, IsIssuedBelow, SerialIsOfIdentified, IsRecordOf}
 use Rattle.office_laws.proofs.CursorLaws.{cursor_grows, cursor_sound}
 use Rattle.office_laws.proofs.End.{identifies_unnumbered, identity_keeps}
@@ -25,7 +24,7 @@ use Rattle.office_laws.proofs.Lasting.{Lasts, lasts_named}
 use Rattle.office_laws.proofs.Placed.{found_replaced}
 use Rattle.office_laws.proofs.Plan.{unnumbered_where}
 use Rattle.office_laws.proofs.Readings.{find_holds, order_below, order_issuer}
-use Rattle.office_laws.proofs.RecordRows.{each_tied, own_device}
+use Rattle.office_laws.proofs.RecordRows.{each_tied}
 use Rattle.office_laws.proofs.Registration.{found_is_map}
 use Rattle.office_laws.proofs.StepKept.{step_kept, step_made, stepped}
 

@@ -4,12 +4,13 @@ use Rattle.std.proofs.Common.{option_and_then, Some, Result, Ok, Err}
 use Rattle.std.specs.Result.{result_ok}
 use Rattle.site_core.specs.Prelude.{IsSection, Ownership, Section}
 use Rattle.text_core.specs.Prelude.{result_map}
+use Rattle.text_core.proofs.Kit.{none_from_test}
 use Rattle.office_laws.proofs.Types.{ImportRow, Given, OfCustomer, NewImport}
 use Rattle.office_tables.specs.Prelude.{Tables, given_at, given_by_key, with_given}
 use Rattle.office_rules.specs.Prelude.{Effect, record_put, ImportResult, import_effect, merged_rows, import_result, row_of_import, is_conflict, is_present}
 use Rattle.office_rules.specs.Prelude.{with_added, with_present, with_import_row, MakesPuts, issued_in, office_sight, IssuedIn, Sight}
 use Rattle.office_rules.proofs.GivenRows.{given_with, owned_row}
-use Rattle.office_rules.proofs.Refusing.{is_some_map, none_from_test}
+use Rattle.office_rules.proofs.Refusing.{is_some_map}
 use Rattle.office_laws.specs.Prelude.{Grows, IsSound}
 use Rattle.office_laws.proofs.GivenLaws.{given_grows, given_sound}
 use Rattle.office_laws.proofs.Growing.{grows_itself}

@@ -1,7 +1,7 @@
 -- What the look-ups of a customer's seat found in the tables.
 use Rattle.std.proofs.Common.{◌≡◌, if◌then◌else◌}
 use Rattle.text_core.proofs.Kit.{◌∙◌, ℕ, Bool, true, false, List, Option, Some, None, Ok, refl, sym, subst, result_ok, bytes_eq, option_and_then, option_map}
-use Rattle.text_core.proofs.Kit.{list_any}
+use Rattle.text_core.proofs.Kit.{list_any, same_Some}
 use Rattle.fusemap_core.specs.Prelude.{Map}
 use Rattle.text_core.proofs.Results.{ok_is}
 use Rattle.office_laws.proofs.Types.{ImportRow, Device, OfCustomer, NewImport, FoundDevice}
@@ -17,20 +17,11 @@ pub gave : {A B : Type 0} (o : Option A) (f : A → Option B) (y : B) → option
 gave None f y e = cc
 gave (Some x) f y e = (x, refl, e)
 
-pub some_is : {A : Type 0} {x y : A} → Some x ≡ Some y → x ≡ y
-some_is e = cc
-
--- and what was made of what
-pub mapped : {A B : Type 0} (o : Option A) (f : A → B) (y : B) → option_map f o ≡ Some y
-    → (x : A) × (o ≡ Some x) × (f x ≡ y)
-mapped None f y e = cc
-mapped (Some x) f y e = (x, refl, some_is e)
-
 -- the puts of an effect that is known
 pub puts_of : (s : Section) (t mid : Tables) {made e : Effect} → Some made ≡ Some e
     → MakesPuts s e.puts t mid → MakesPuts s made.puts t mid
 puts_of s t mid {made} {e} is puts =
-    subst (λ (x : Effect). MakesPuts s x.puts t mid) (sym (some_is is)) puts
+    subst (λ (x : Effect). MakesPuts s x.puts t mid) (sym (same_Some _ _ is)) puts
 
 -- the rows of an import that was taken, in an issuer that was looked up
 pub rows_taken : (v : Sight) (n : NewImport) (i : ImportResult)
@@ -41,7 +32,7 @@ rows_taken v n i is =
     let made = gave (merged_rows v n) result_ok i is in
     let rows = gave n.rows _ made.0 made.1 in
     let given = gave (v.issuer n.issuer) _ made.0 rows.2 in
-    (rows.0, given.0, given.1, some_is given.2 ∙ ok_is made.0 i made.2)
+    (rows.0, given.0, given.1, same_Some _ _ given.2 ∙ ok_is made.0 i made.2)
 
 module _ (s : Section) (t : Tables) where
   -- an issuer that is looked up is one of the section's
@@ -53,7 +44,7 @@ module _ (s : Section) (t : Tables) where
       by : (mine : Bool) → list_any (bytes_eq issuer) s.issuers ≡ mine
           → (if mine then Some (issued_in issuer t) else None) ≡ Some given
           → (list_any (bytes_eq issuer) s.issuers ≡ true) × (issued_in issuer t ≡ given)
-      by true mine is = (mine, some_is is)
+      by true mine is = (mine, same_Some _ _ is)
       by false mine is = cc
 
   -- a device that is there with its fuse map is seen

@@ -1,8 +1,9 @@
 -- A step acts on the customer's view as the customer's own machine does, and leaves each other
 -- view.
 use Rattle.std.proofs.Common.{◌≡◌, ◌∷◌, ◌++◌, if◌then◌else◌}
+use Rattle.std.proofs.SliceLists.{all_by_recursion_push}
 use Rattle.text_core.proofs.Kit.{ℕ, false, List, [], map, Option, Some, None, refl, sym, ap, ◌∙◌, subst, result_ok, bytes_eq, is_some, option_and_then}
-use Rattle.text_core.proofs.Kit.{option_map, AllByRecursion}
+use Rattle.text_core.proofs.Kit.{option_map, AllByRecursion, mapped, same_Some}
 use Rattle.text_core.specs.Prelude.{first_that_holds}
 use Rattle.http_replies.specs.Prelude.{Answer}
 use Rattle.site_core.specs.Prelude.{Section, IsSection, Ownership}
@@ -12,12 +13,11 @@ use Rattle.office_rules.specs.Prelude.{rule_of, StepRule, Effect, Put, map_put, 
 use Rattle.office_rules.specs.Prelude.{refusals, response, map_fault, text_refusals, Step, office_sight, IssuedIn, Sight, map_in_sight, refused_for}
 use Rattle.office_laws.specs.Prelude.{SoloState, solo_step, with_puts, IsSound, view}
 use Rattle.office_laws.proofs.Identity.{identity_found}
-use Rattle.office_laws.proofs.Looking.{gave, issuer_found, mapped, rows_taken, some_is}
+use Rattle.office_laws.proofs.Looking.{gave, issuer_found, rows_taken}
 use Rattle.office_laws.proofs.Readings.{issuer_owner, order_issuer}
 use Rattle.office_laws.proofs.Responses.{of_command}
 use Rattle.office_laws.proofs.Seen.{seen_own}
 use Rattle.office_laws.proofs.Tidy.{IsDue, puts_act, sound_is_tidy}
-use Rattle.office_laws.proofs.Unread.{all_with}
 
 -- the reply to a seat's request, and the own machine's state after it
 abbrev after_response : SoloState → Response → Answer × SoloState
@@ -32,7 +32,7 @@ module _ {owners : Ownership} {t : Tables} (sound : IsSound owners t) (s : Secti
   AreDue ps = AllByRecursion (IsDue owners s.name) ps
 
   these : {made o : Effect} → Some made ≡ Some o → AreDue made.puts → AreDue o.puts
-  these {made} {o} e due = subst (λ (x : Effect). AreDue x.puts) (some_is e) due
+  these {made} {o} e due = subst (λ (x : Effect). AreDue x.puts) (same_Some _ _ e) due
 
   -- an issuer that is looked up is the customer's
   issuer_mine : (issuer : List ℕ) (given : IssuedIn) → v.issuer issuer ≡ Some given
@@ -78,11 +78,11 @@ module _ {owners : Ownership} {t : Tables} (sound : IsSound owners t) (s : Secti
   module _ (r : Request) where
     served_due : (p : Response) → response s seat v r ≡ Some p → AreDue p.puts
     served_due = of_command s seat v r (λ made. (p : Response) → made ≡ Some p → AreDue p.puts)
-        (λ reply p e. subst (λ (x : Response). AreDue x.puts) (some_is e) tt)
+        (λ reply p e. subst (λ (x : Response). AreDue x.puts) (same_Some _ _ e) tt)
         (λ c _ _ free p e.
         let o = mapped (effect s seat v c) (accept seat r) p e in
         subst (λ (x : Response). AreDue x.puts) o.2
-        (all_with (IsDue owners s.name) o.0.puts _ (outcome_due c o.0 free o.1) mine))
+        (all_by_recursion_push (IsDue owners s.name) o.0.puts _ (outcome_due c o.0 free o.1) mine))
 
     -- a step is the own machine's on the customer's view, and none on another's
     pub step_own : (reply : Answer) (t2 : Tables) → Step s seat t r reply t2

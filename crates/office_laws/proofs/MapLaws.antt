@@ -1,23 +1,20 @@
 -- A new map and a new link keep the tables sound, and how links lie with their customers.
 use Rattle.std.proofs.Common.{◌≡◌, ◌∷◌, Ordering}
-use Rattle.text_core.proofs.Kit.{ℕ, true, List, [], Option, None, Equal, sym, ap, ◌∙◌, subst, AllByRecursion, ordering_then, IsTotalOrder, on_total, then_total}
-use Rattle.text_core.proofs.Kit.{nat_list_cmp_total, tied_itself}
+use Rattle.text_core.proofs.Kit.{ℕ, true, List, [], Option, None, Equal, sym, ap, ◌∙◌, subst, AllByRecursion, ordering_then, nat_list_cmp_total, tied_itself}
+use Rattle.text_core.proofs.Kit.{same_text}
 use Rattle.fusemap_core.specs.Prelude.{Map}
 use Rattle.site_core.specs.Prelude.{Ownership}
 use Rattle.office_laws.proofs.Types.{OfCustomer, Link, MapRow}
 use Rattle.office_tables.specs.Prelude.{Tables, is_of, link_at, link_cmp, map_at, map_cmp, map_with, with_row, text_cmp, with_link, with_map}
 use Rattle.office_tables.proofs.Placing.{all_map, all_placed, placed_in_order}
+use Rattle.office_tables.proofs.Places.{same_place}
+use Rattle.office_tables.proofs.Orders.{map_total, link_total}
 use Rattle.office_rules.specs.Prelude.{map_named}
-use Rattle.office_rules.proofs.Ties.{first_equal, same_place, same_text}
+use Rattle.office_rules.proofs.Ties.{first_equal}
 use Rattle.office_laws.specs.Prelude.{AreSoundMaps, IsLinked, IsSound}
-use Rattle.office_laws.proofs.MapRows.{body_is_new, linked_after, maps_total, texts_apart_placed}
+use Rattle.office_laws.proofs.MapRows.{body_is_new, linked_after, texts_apart_placed}
 use Rattle.office_laws.proofs.NamedMaps.{named_after_link, named_after_map}
 use Rattle.office_laws.proofs.DeviceRows.{ledgers_kept, referred_after_link}
-
-pub links_total : IsTotalOrder link_cmp
-links_total =
-    then_total (on_total (λ o. o.customer) nat_list_cmp_total)
-    (on_total (λ o. o.row.digest) nat_list_cmp_total)
 
 abbrev pub solo_link_cmp : Link → Link → Ordering
 solo_link_cmp a b = text_cmp a.digest b.digest
@@ -46,7 +43,7 @@ module _ {owners : Ownership} (t : Tables) (sound : AreSoundMaps owners t.maps t
   maps_with_link l mine linked = record {
     maps_in_order = sound.maps_in_order;
     texts_apart = sound.texts_apart;
-    links_in_order = placed_in_order link_cmp links_total l t.links sound.links_in_order;
+    links_in_order = placed_in_order link_cmp link_total l t.links sound.links_in_order;
     owned = all_placed (λ l. owners.customer l.customer ≡ true) link_cmp l t.links mine sound.owned;
     linked = all_placed (IsLinked t.maps) link_cmp l t.links linked sound.linked;
   }
@@ -56,7 +53,7 @@ module _ {owners : Ownership} (t : Tables) (sound : AreSoundMaps owners t.maps t
   maps_with_map id body fresh new =
       let m : MapRow = record { id = id; body = body } in
       record {
-        maps_in_order = placed_in_order map_cmp maps_total m t.maps sound.maps_in_order;
+        maps_in_order = placed_in_order map_cmp map_total m t.maps sound.maps_in_order;
         texts_apart = texts_apart_placed m t.maps (body_is_new body t new) sound.texts_apart;
         links_in_order = sound.links_in_order;
         owned = sound.owned;

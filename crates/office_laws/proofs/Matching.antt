@@ -1,12 +1,12 @@
 -- A read-back of a device of sound tables is answered with a match exactly where the chip shows all of its batch.
 use Rattle.std.specs.Prelude.{◌↔◌}
-use Rattle.std.proofs.Common.{◌≡◌, ◌∙◌, ◌==◌, ◌∷◌, ℕ, true, List, [], Option, Some, None, refl, sym, ap, subst, bytes_eq, is_some, nat_cmp}
-use Rattle.std.proofs.Common.{option_and_then, option_map}
+use Rattle.std.proofs.Common.{◌≡◌, ◌∙◌, ◌==◌, ◌∷◌, ℕ, true, List, [], Option, Some, None, refl, sym, ap, subst, bytes_eq, is_some, nat_cmp, option_and_then}
+use Rattle.std.proofs.Common.{option_map}
 use Rattle.std.proofs.lemmas.Bool.{and_parts, not-false}
 use Rattle.std.specs.FinMap as table
 use Rattle.std.specs.FinSet as set
 use Rattle.text_core.specs.Prelude.{first_that_holds}
-use Rattle.text_core.proofs.Kit.{bytes_eq-Decides, nat_lt}
+use Rattle.text_core.proofs.Kit.{bytes_eq-Decides, nat_lt, same_text, mapped, same_Some}
 use Rattle.http_replies.specs.Prelude.{Answer, code_of}
 use Rattle.site_core.specs.Prelude.{Ownership, Section}
 use Rattle.fusemap_core.specs.Prelude.{IsMap, Map}
@@ -16,8 +16,8 @@ use Rattle.fuse_columns.proofs.LawProofs.{keys_lie_in_map}
 use Rattle.fuse_plan.specs.Prelude.{PendingFitsImage, rest_of, seen, verdict_of, with_batch}
 use Rattle.fuse_plan.proofs.Law.{match_law}
 use Rattle.fuse_plan.proofs.Pending.{first_batch_law, second_batch_law}
-use Rattle.office_laws.proofs.Types.{Batches, Device, FoundDevice, Image, Neither, Next, OfCustomer, Pending, ReadBack as Shown}
-use Rattle.office_laws.proofs.Types.{Refusal, Request, Retry, Verdict}
+use Rattle.office_laws.proofs.Types.{Batches, Device, FoundDevice, Image, Neither, Next, OfCustomer, Pending, ReadBack as Shown, Refusal, Request, Retry}
+use Rattle.office_laws.proofs.Types.{Verdict}
 use Rattle.fuse_plan.specs.declared.verdict.Verdict.TheVariants.{Fault, Match, Short}
 use Rattle.office_tables.specs.declared.rows.Batches.TheVariants.{Both, Second}
 use Rattle.fuse_plan.specs.declared.verdict.ChipFault.TheVariants as fault
@@ -26,17 +26,16 @@ use Rattle.office_tables.specs.Prelude.{Tables, device_at, is_device, state_row}
 use Rattle.office_commands.specs.Prelude.{acceptance}
 use Rattle.office_commands.specs.declared.command.Action.TheVariants.{ReadBack}
 use Rattle.office_commands.specs.declared.command.Change.TheVariants.{Act}
-use Rattle.office_rules.specs.Prelude.{accept, action_refusals, decide, Effect, known_of, map_in_sight, map_named, map_text, next_batch, office_sight}
-use Rattle.office_rules.specs.Prelude.{reads, reads_back, refusals, respond_by_retry, Response, retry_at, Sight, Step, step_effect, step_put, step_refusals}
+use Rattle.office_rules.specs.Prelude.{accept, action_refusals, decide, Effect, known_of, map_in_sight, map_named, map_text, next_batch, office_sight, reads}
+use Rattle.office_rules.specs.Prelude.{reads_back, refusals, respond_by_retry, Response, retry_at, Sight, Step, step_effect, step_put, step_refusals}
 use Rattle.office_rules.specs.Prelude.{outcome_of, verdict_of_read_back, words_fit_map}
 use Rattle.office_rules.proofs.Refusing.{lowest_none}
 use Rattle.office_rules.proofs.Sights.{map_same}
-use Rattle.office_rules.proofs.Ties.{same_text}
 use Rattle.fuse_columns.specs.Prelude.{pending_in}
-use Rattle.office_laws.specs.Prelude.{call_by, HasLedger, is_change, IsSound, last_number_of_seat, MatchesWhereSeen, seat_named, seen_with_batch}
-use Rattle.office_laws.specs.Prelude.{TellsMatch, view}
+use Rattle.office_laws.specs.Prelude.{call_by, HasLedger, is_change, IsSound, last_number_of_seat, MatchesWhereSeen, seat_named, seen_with_batch, TellsMatch}
+use Rattle.office_laws.specs.Prelude.{view}
 use Rattle.office_laws.proofs.Anew.{accepted_anew}
-use Rattle.office_laws.proofs.Looking.{device_seen, gave, mapped, some_is}
+use Rattle.office_laws.proofs.Looking.{device_seen, gave}
 use Rattle.office_laws.proofs.Readings.{find_holds}
 use Rattle.office_laws.proofs.Registration.{found_is_map}
 
@@ -126,7 +125,7 @@ module _ {site : Ownership} (t : Tables) (sound : IsSound site t) (s : Section) 
             outcome = outcome_of verdict;
             rest = rest_of verdict;
             state = (reads words m.0 old.row).0.device.state;
-            reply = sym (ap (λ (x : Response). x.reply) answered.2) ∙ ap (λ (e : Effect). acceptance e.body) (sym (some_is m.2));
+            reply = sym (ap (λ (x : Response). x.reply) answered.2) ∙ ap (λ (e : Effect). acceptance e.body) (sym (same_Some _ _ m.2));
             matches = (λ e. law.0 (same.0 e), λ h. same.1 (law.1 h));
           }
 

@@ -11,7 +11,6 @@ use Rattle.office_rules.specs.Prelude.{Step}
 use Rattle.office_laws.specs.Prelude.{Grows, SoloState, solo, IsSound, view}
 use Rattle.office_laws.proofs.Machine.{step_own}
 use Rattle.office_laws.proofs.StepLasts.{step_lasts}
-use Rattle.office_laws.proofs.Steps.{step_exists}
 
 -- a reply and tables after it are those of the customer's own machine; another view stays
 pub record Obeys (owners : Ownership) (c : List ℕ) (t : Tables) (reply : Answer) (t2 : Tables)
@@ -34,6 +33,3 @@ module _ {owners : Ownership} {t : Tables} (sound : IsSound owners t) (s : Secti
         own = sym (ap (λ made. option_map_or (λ x. x) made (refusal Unkept, view s.name t)) views.0);
         other = views.1;
       }
-
-  pub step_always : (r : Request) → (reply : Answer) × (t2 : Tables) × Step s seat t r reply t2
-  step_always r = step_exists sound s seat r

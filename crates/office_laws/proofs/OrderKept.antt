@@ -2,6 +2,7 @@
 use Rattle.std.proofs.Common.{◌≡◌, ◌∙◌, ℕ, List, None, Some, arith, refl, sym, ap, subst}
 use Rattle.std.specs.List.{AllByRecursion}
 use Rattle.text_core.specs.Prelude.{first_that_holds}
+use Rattle.text_core.proofs.Kit.{none_from_test}
 use Rattle.site_core.specs.Prelude.{PoolsDisjoint, IsSection, Ownership, Section}
 use Rattle.office_laws.proofs.Types.{Order, OfCustomer, NewOrder}
 use Rattle.office_tables.specs.Prelude.{Tables, is_order, order_at, order_cmp, rows_of, with_order}
@@ -9,7 +10,7 @@ use Rattle.office_tables.proofs.Finding.{still_there}
 use Rattle.office_commands.specs.Prelude.{IsNewOrder}
 use Rattle.office_rules.specs.Prelude.{Effect, MakesPuts, at_first, its, office_order_sight, office_sight, order_effect, order_refusals, order_of_request}
 use Rattle.office_rules.specs.Prelude.{made_order, Sight}
-use Rattle.office_rules.proofs.Refusing.{is_some_map, lowest_none, none_from_test}
+use Rattle.office_rules.proofs.Refusing.{is_some_map, lowest_none}
 use Rattle.office_laws.specs.Prelude.{AreDisjoint, IsInPool, IsOrder, IsSound}
 use Rattle.office_laws.proofs.Addresses.{each_apart_placed, wanted_apart, wanted_in_pool}
 use Rattle.office_laws.proofs.DeviceRows.{each_order}

@@ -2,6 +2,7 @@
 use Rattle.std.proofs.Common.{◌≡◌, ◌+◌, ◌==◌, ◌++◌, ◌⊎◌, ◌∷◌, ◌&&◌, if◌then◌else◌}
 use Rattle.text_core.proofs.Kit.{◌∙◌, ℕ, inl, inr, true, false, List, [], Option, Some, None, Equal, refl, sym, ap, Bool, bytes_eq, find, is_some, map}
 use Rattle.text_core.proofs.Kit.{MatchBool, option_and_then, option_map, result_ok, AllByRecursion, eqb-true, nat_list_cmp_total, tied_itself, option_map_or}
+use Rattle.text_core.proofs.Kit.{same_text, text_itself}
 use Rattle.sha2.specs.Sha256.{sha256}
 use Rattle.http_replies.specs.Prelude.{Answer, code_of}
 use Rattle.office_laws.proofs.Types.{ImportRow, SeatState, Change as Changing, MakeOrder, ImportMap, RegisterDevice, Act, Identify, Import, Command, Request}
@@ -10,13 +11,13 @@ use Rattle.office_rules.specs.declared.retry.Retry.TheVariants.{Differs, Skips}
 use Rattle.site_core.specs.Prelude.{Section}
 use Rattle.office_tables.specs.Prelude.{with_row}
 use Rattle.office_tables.proofs.Finding.{other_placed}
+use Rattle.office_tables.proofs.Places.{same_place}
 use Rattle.office_commands.specs.Prelude.{refusal_status, acceptance, refusal}
 use Rattle.office_commands.specs.declared.command.Command.TheVariants.{Change}
 use Rattle.office_rules.specs.Prelude.{rule_of, StepRule, Effect, Put, map_put, record_put, seat_put, step_effect, merged_rows, row_of_import, Response, accept}
 use Rattle.office_rules.specs.Prelude.{effect, reply_only, respond_to, kept_of, retry_of, Sight, map_in_sight}
-use Rattle.office_rules.proofs.Ties.{same_place, same_text, text_itself}
-use Rattle.office_laws.specs.Prelude.{SoloState, seat_named, solo_sight, with_put, with_puts, Call, Exchange, Wanted, asks, reports}
-use Rattle.office_laws.specs.Prelude.{refused, alone, alone_on, last_number_of_seat, is_accepted, is_change, number_of_wanted, writes}
+use Rattle.office_laws.specs.Prelude.{SoloState, seat_named, solo_sight, with_put, with_puts, Call, Exchange, Wanted, asks, reports, refused, alone, alone_on}
+use Rattle.office_laws.specs.Prelude.{last_number_of_seat, is_accepted, is_change, number_of_wanted, writes}
 use Rattle.office_laws.proofs.OwnPlaces.{solo_seat_cmp}
 use Rattle.office_laws.proofs.Placed.{found_replaced}
 use Rattle.office_laws.proofs.Responses.{of_change}

@@ -1,12 +1,12 @@
 -- What one exchange does to the tables and to each customer's view.
 use Rattle.std.proofs.Common.{◌≡◌, ◌∙◌, ℕ, true, false, List, refl, sym, ap, subst, bytes_eq, not, MatchBool}
 use Rattle.std.proofs.lemmas.Bool.{and_parts}
+use Rattle.text_core.proofs.Kit.{same_text}
 use Rattle.http_replies.specs.Prelude.{Answer, is_unavailable}
 use Rattle.site_core.specs.Prelude.{PoolsDisjoint, Ownership}
 use Rattle.office_tables.specs.Prelude.{Tables}
 use Rattle.office_commands.specs.declared.refusal.Refusal.TheVariants.{Unkept}
 use Rattle.office_commands.specs.Prelude.{refusal}
-use Rattle.office_rules.proofs.Ties.{same_text}
 use Rattle.office_laws.specs.Prelude.{Grows, SoloState, IsSound, view, Exchange, Wanted, asks, reports, refused, FulfilsWanted, Passes, report_reply, CanAsk}
 use Rattle.office_laws.specs.Prelude.{IsSeat, alone, alone_on, is_own}
 use Rattle.office_laws.proofs.Growing.{grows_itself}

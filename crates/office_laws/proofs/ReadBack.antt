@@ -5,6 +5,7 @@ use Rattle.std.specs.List.{AllByRecursion}
 use Rattle.std.specs.Option.{option_or}
 use Rattle.std.specs.FinMap as table
 use Rattle.std.specs.FinSet as set
+use Rattle.std.proofs.SliceLists.{all_by_recursion_push}
 use Rattle.fusemap_core.specs.Prelude.{IsMap, Map}
 use Rattle.fuse_image.specs.Image as image
 use Rattle.fuse_image.specs.Prelude.{IsImageWithin, KeyTable, table_where, keys_without, Positions, pos_exact, pos_total, AreBits, AreKeysOf, IsPending}
@@ -25,7 +26,6 @@ use Rattle.office_rules.specs.Prelude.{known_of, next_batch, pending_after, read
 use Rattle.office_laws.specs.Prelude.{IsAwaited, IsOfBatches, AreColumns}
 use Rattle.office_laws.proofs.Additions.{all_added_with}
 use Rattle.office_laws.proofs.Plan.{of_its_state}
-use Rattle.office_laws.proofs.Unread.{all_with}
 use Rattle.office_laws.proofs.Registration.{no_work_lies, nothing_pending}
 use Rattle.office_laws.proofs.Keeping.{Keeps}
 use Rattle.office_laws.proofs.Within.{left_within, within_after, within_both}
@@ -136,7 +136,7 @@ module _ (m : Map) (is : IsMap m) (d : Device) (r : ReadBack) where
           columns =
               record { bits_back = ap (bits_column m) (bits_come_back m is b.burnt burnt); keys_back = ap (keys_column m) (keys_come_back m b.keys known) };
           todo_back = ap (todo_column m) work_back;
-          entries_columns = all_with (λ (x : OfCustomer Entry). AreColumns m x.row.bits x.row.keys) es e was.entries_columns
+          entries_columns = all_by_recursion_push (λ (x : OfCustomer Entry). AreColumns m x.row.bits x.row.keys) es e was.entries_columns
               (rw (same_bits, same_keys) (record {
                 bits_back = ap (bits_column m) (bits_come_back m is (set.difference b.burnt a.burnt) new_bits);
                 keys_back = ap (keys_column m) (keys_come_back m (keys_without b.keys a.keys) new_keys);
@@ -151,7 +151,7 @@ module _ (m : Map) (is : IsMap m) (d : Device) (r : ReadBack) where
               let one : IsImageWithin (image_in m e.row.bits e.row.keys) b =
               rw (same_bits, same_keys) (subst (λ (x : Image). IsImageWithin x b) (sym added) new) in
               subst (λ (now : Image). AllByRecursion (λ (x : OfCustomer Entry). IsImageWithin (image_in m x.row.bits x.row.keys) now) (es ++ e ∷ []))
-              (sym back) (all_with (λ (x : OfCustomer Entry). IsImageWithin (image_in m x.row.bits x.row.keys) b) es e old one);
+              (sym back) (all_by_recursion_push (λ (x : OfCustomer Entry). IsImageWithin (image_in m x.row.bits x.row.keys) b) es e old one);
           added =
               let one : image_in m e.row.bits e.row.keys ≡ record { burnt = set.difference b.burnt a.burnt; keys = keys_without b.keys a.keys } =
               rw (same_bits, same_keys) added in

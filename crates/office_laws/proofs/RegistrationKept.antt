@@ -1,6 +1,7 @@
 -- The registration of a device keeps the tables sound, and forgets nothing.
 use Rattle.std.proofs.Common.{◌≡◌, ◌∷◌, ◌||◌}
 use Rattle.text_core.proofs.Kit.{◌∙◌, ℕ, Bool, true, false, List, [], Some, None, refl, sym, subst, option_map_or, is_some, not, not-false, bytes_eq-Decides}
+use Rattle.text_core.proofs.Kit.{none_from_test}
 use Rattle.text_core.specs.Prelude.{first_that_holds}
 use Rattle.fusemap_core.specs.Prelude.{Map}
 use Rattle.fuse_image.specs.Prelude.{WordsFitMap, redacted, shows_what_is_hidden}
@@ -10,7 +11,7 @@ use Rattle.office_tables.specs.Prelude.{Tables, device_at, entry_under, link_at,
 use Rattle.office_rules.specs.Prelude.{Effect, MakesPuts, its, map_named, map_text, office_order_sight, office_sight, device_of_registration, first_step}
 use Rattle.office_rules.specs.Prelude.{readback_refusals, registration_effect, registration_refusals, words_fit_map, Sight, map_in_sight}
 use Rattle.office_rules.proofs.Linked.{map_is_linked}
-use Rattle.office_rules.proofs.Refusing.{NoneHolds, is_some_map, lowest_none, none_from_test}
+use Rattle.office_rules.proofs.Refusing.{NoneHolds, is_some_map, lowest_none}
 use Rattle.office_rules.proofs.Sights.{map_same}
 use Rattle.office_laws.specs.Prelude.{IsSound, FitsFuseMap}
 use Rattle.office_laws.proofs.DeviceLaws.{new_ledger, step_sound}

@@ -1,7 +1,7 @@
 -- Over sound tables what is shown as the identity of a device is its record.
 use Rattle.std.proofs.Common.{◌≡◌, ◌∙◌}
-use Rattle.text_core.proofs.Kit.{ℕ, List, Option, Some, None, refl, sym, ap, subst, IsSomeAnd, and_parts, bytes_eq, option_and_then, option_map}
-use Rattle.id_ranges.proofs.FreeBlocks.{find-passes}
+use Rattle.text_core.proofs.Kit.{ℕ, List, Option, Some, None, refl, sym, ap, subst, IsSomeAnd, and_parts, bytes_eq, option_and_then, option_map, find-passes}
+use Rattle.text_core.proofs.Kit.{same_text, text_itself}
 use Rattle.site_core.specs.Prelude.{Ownership, Section}
 use Rattle.office_laws.proofs.Types.{Device, Given, Order, OfCustomer}
 use Rattle.office_tables.specs.Prelude.{Tables, device_at, given_at, is_device, order_at}
@@ -10,7 +10,6 @@ use Rattle.office_commands.specs.declared.command.Show.TheVariants.{Identity}
 use Rattle.office_commands.specs.declared.refusal.Refusal.TheVariants.{WrongState}
 use Rattle.office_rules.specs.Prelude.{found_or, identity_in_sight, office_order_sight, office_sight, OrderSight, own_record, own_row, record_of_chip}
 use Rattle.office_rules.specs.Prelude.{show_reply, shown_identity, Sight}
-use Rattle.office_rules.proofs.Ties.{same_text, text_itself}
 use Rattle.office_laws.specs.Prelude.{IsSound, IsOfDevice, IsOfOrder, IsRecordOf}
 use Rattle.office_laws.proofs.Readings.{find_holds}
 

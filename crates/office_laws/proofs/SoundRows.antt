@@ -5,9 +5,9 @@ use Rattle.site_core.specs.Prelude.{Ownership}
 use Rattle.office_laws.proofs.Types.{Given, Order, OfCustomer}
 use Rattle.office_tables.specs.Prelude.{Tables, is_order, order_cmp, with_row, with_order}
 use Rattle.office_tables.proofs.Placing.{all_map, all_placed, placed_in_order}
+use Rattle.office_tables.proofs.Orders.{order_total}
 use Rattle.office_laws.specs.Prelude.{EachApart, IsInPool, IsOrder, IsSound, IsIssuedBelow, IsRecordOf, AreOwned}
 use Rattle.office_laws.proofs.DeviceRows.{referred_after_orders}
-use Rattle.office_laws.proofs.Readings.{orders_total}
 
 module _ {A : Type 0} {cmp : OfCustomer A → OfCustomer A → Ordering} {owner : A → Option (List ℕ)}
     {rows : List (OfCustomer A)} (are : AreOwned cmp owner rows) (x : OfCustomer A)
@@ -41,7 +41,7 @@ module _ {owners : Ownership} {t : Tables} (sound : IsSound owners t) (o : OfCus
   order_placed mine terms in_pool apart origin there below = record {
     seats = sound.seats;
     orders = record {
-      rows = owned_placed sound.orders.rows o mine orders_total;
+      rows = owned_placed sound.orders.rows o mine order_total;
       terms = all_placed (λ o. IsOrder o.row) order_cmp o t.orders terms sound.orders.terms;
       in_pools = all_placed (IsInPool owners) order_cmp o t.orders in_pool sound.orders.in_pools;
       apart = apart;

@@ -2,6 +2,7 @@
 use Rattle.std.proofs.Common.{◌≡◌, ◌+◌, ◌∙◌, ◌++◌, ℕ, List, [], ◌∷◌, Option, Some, None, refl, sym, ap, subst, bytes_eq, option_and_then, option_map}
 use Rattle.std.proofs.lemmas.Bool.{and_parts}
 use Rattle.text_core.specs.Prelude.{first_that_holds}
+use Rattle.text_core.proofs.Kit.{same_text}
 use Rattle.fusemap_core.specs.Prelude.{Map}
 use Rattle.site_core.specs.Prelude.{IsSection, Ownership, Section}
 use Rattle.office_laws.proofs.Types.{Device, Entry, NewEntry, OfCustomer, Action, DeviceStep}
@@ -10,7 +11,6 @@ use Rattle.office_commands.specs.Prelude.{IsAction}
 use Rattle.office_rules.specs.Prelude.{action_refusals, rule_of, Effect, entry_of, step_effect, step_put, MakesPut, MakesPuts, its, map_named, map_text}
 use Rattle.office_rules.specs.Prelude.{office_sight, Sight, device_in_sight, map_in_sight, step_refusals}
 use Rattle.office_rules.proofs.Sights.{entry_same, map_same}
-use Rattle.office_rules.proofs.Ties.{same_text}
 use Rattle.office_laws.specs.Prelude.{DeviceStays, IsSound, FitsFuseMap, IsReferred, SerialIsOfIdentified}
 use Rattle.office_laws.proofs.Actions.{action_keeps}
 use Rattle.office_laws.proofs.DeviceLaws.{next_ledger, step_sound}

@@ -1,10 +1,12 @@
 -- Each step keeps the tables sound, and forgets nothing.
 use Rattle.std.proofs.Common.{◌≡◌, ◌++◌, ℕ, List, [], ◌∷◌, Option, Some, None, refl, sym, subst, option_map}
 use Rattle.text_core.specs.Prelude.{first_that_holds}
+use Rattle.text_core.proofs.Kit.{mapped, same_Some}
 use Rattle.http_replies.specs.Prelude.{Answer}
 use Rattle.site_core.specs.Prelude.{PoolsDisjoint, IsSection, Ownership, Section}
 use Rattle.office_laws.proofs.Types.{OfCustomer, SeatState, MakeOrder, ImportMap, RegisterDevice, Act, Identify, Import, Request, Change as Changing}
 use Rattle.office_tables.specs.Prelude.{Tables, with_seat}
+use Rattle.office_tables.proofs.Orders.{seat_total}
 use Rattle.office_commands.specs.Prelude.{IsAsked, IsChange, IsCommand}
 use Rattle.office_rules.specs.Prelude.{Effect, Put, seat_put, Response, accept, effect, refusals, MakesPut, MakesPuts, Step, its, office_sight, kept_of, Sight}
 use Rattle.office_laws.specs.Prelude.{IsSound}
@@ -12,10 +14,9 @@ use Rattle.office_laws.proofs.Growing.{seat_grows}
 use Rattle.office_laws.proofs.IdentityKept.{identity_kept}
 use Rattle.office_laws.proofs.ImportKept.{import_kept}
 use Rattle.office_laws.proofs.Lasting.{Lasts, lasts_itself, lasts_named}
-use Rattle.office_laws.proofs.Looking.{mapped, puts_of, some_is}
+use Rattle.office_laws.proofs.Looking.{puts_of}
 use Rattle.office_laws.proofs.MapKept.{map_kept}
 use Rattle.office_laws.proofs.OrderKept.{order_kept}
-use Rattle.office_laws.proofs.Readings.{seats_total}
 use Rattle.office_laws.proofs.RegistrationKept.{registration_kept}
 use Rattle.office_laws.proofs.SoundRows.{owned_placed}
 use Rattle.office_laws.proofs.Responses.{of_command}
@@ -25,7 +26,7 @@ use Rattle.office_laws.proofs.StepKept.{action_kept}
 seat_sound : {owners : Ownership} {t : Tables} → IsSound owners t → (r : OfCustomer SeatState)
     → owners.seat r.row.name ≡ Some r.customer → IsSound owners (with_seat r t)
 seat_sound sound r mine = record {
-  seats = owned_placed sound.seats r mine seats_total;
+  seats = owned_placed sound.seats r mine seat_total;
   orders = sound.orders;
   given = sound.given;
   maps = sound.maps;
@@ -78,7 +79,7 @@ module _ {owners : Ownership} {t : Tables} (sound : IsSound owners t) (apart : P
     pub step_lasts : (reply : Answer) → IsAsked r → Step s seat t r reply t2 → Lasts owners t t2
     step_lasts reply asked (puts, is, made) =
         of_command s seat v r AreKept
-        (λ other p is puts. lasts_named (puts_of_response (some_is is) puts) (lasts_itself sound))
+        (λ other p is puts. lasts_named (puts_of_response (same_Some _ _ is) puts) (lasts_itself sound))
         (λ c its _ free p is puts. accepted c (subst IsCommand its asked) free p is puts)
         (record { reply = reply; puts = puts }) is made
       where

@@ -2,6 +2,7 @@
 -- alone, as one into that customer's rows.
 use Rattle.std.proofs.Common.{◌≡◌, ◌+◌, ◌∷◌}
 use Rattle.text_core.proofs.Kit.{ℕ, true, false, List, [], map, Option, Some, None, Equal, refl, sym, ap, ◌∙◌, subst, bytes_eq, AllByRecursion, IsTotalOrder}
+use Rattle.text_core.proofs.Kit.{text_itself}
 use Rattle.std.specs.declared.cmp.Ordering.{Ordering}
 use Rattle.sha2.specs.Sha256.{sha256}
 use Rattle.site_core.specs.Prelude.{Section, IsSection, Ownership}
@@ -10,18 +11,19 @@ use Rattle.office_tables.specs.Prelude.{IsInOrder, Tables, device_cmp, entry_cmp
 use Rattle.office_tables.specs.Prelude.{order_at, order_cmp, rows_of, with_row, seat_cmp, with_cursor, with_cursor_of, with_device, with_given, with_link}
 use Rattle.office_tables.specs.Prelude.{with_map, with_new_entry, with_order, with_seat}
 use Rattle.office_tables.proofs.Placing.{all_map, placed_in_order, placed_other, placed_own}
+use Rattle.office_tables.proofs.Places.{same_place}
+use Rattle.office_tables.proofs.Orders.{seat_total, order_total, link_total, device_total, entry_total, given_total}
 use Rattle.office_rules.specs.Prelude.{Put, device_put, map_put, number_put, order_put, record_put, seat_put, map_fault, Links, MakesPut, MakesPuts, at_first}
 use Rattle.office_rules.specs.Prelude.{its, entry_of_chip, body_of_map}
-use Rattle.office_rules.proofs.Ties.{first_equal, same_place, text_itself}
+use Rattle.office_rules.proofs.Ties.{first_equal}
 use Rattle.office_laws.specs.Prelude.{SoloState, solo_entry_cmp, solo_given_cmp, with_put, with_puts, AreSoundMaps, IsLinked, IsSound, AreOwned, solo_map, view}
 use Rattle.office_laws.proofs.OwnPlaces.{solo_device_cmp, solo_map_cmp, solo_order_cmp, solo_seat_cmp}
 use Rattle.office_laws.proofs.CursorLaws.{moved, moved_same, own_same}
-use Rattle.office_laws.proofs.DeviceLaws.{device_agree, device_place, devices_total, entries_total, entry_agree, entry_place, entry_row_cmp}
-use Rattle.office_laws.proofs.GivenLaws.{given_total}
-use Rattle.office_laws.proofs.MapLaws.{link_agree, link_place, links_total, maps_with_link, maps_with_map, solo_link_cmp}
+use Rattle.office_laws.proofs.DeviceLaws.{device_agree, device_place, entry_agree, entry_place, entry_row_cmp}
+use Rattle.office_laws.proofs.MapLaws.{link_agree, link_place, maps_with_link, maps_with_map, solo_link_cmp}
 use Rattle.office_laws.proofs.MapRows.{map_of_text, new_map_found, own_maps_after}
 use Rattle.office_laws.proofs.Placed.{map_placed}
-use Rattle.office_laws.proofs.Readings.{order_agree, orders_total, seats_total}
+use Rattle.office_laws.proofs.Readings.{order_agree}
 use Rattle.office_laws.proofs.SoundRows.{owned_place, owned_placed}
 
 -- what views ask of tables: rows in order, seats, records and links with their owners, and links
@@ -104,7 +106,7 @@ module _ {owners : Ownership} {t : Tables} (tidy : IsTidy owners t) (c : List �
       (λ y same. ap owners.seat (same_place r.name y.row.name same)) in
       record {
         tidy = record {
-          seats = owned_placed tidy.seats (owned r) mine seats_total;
+          seats = owned_placed tidy.seats (owned r) mine seat_total;
           orders = tidy.orders;
           given = tidy.given;
           maps = tidy.maps;
@@ -112,7 +114,7 @@ module _ {owners : Ownership} {t : Tables} (tidy : IsTidy owners t) (c : List �
           ledger = tidy.ledger;
         };
         own = λ i. record (view c t) {
-          seats = row_own seat_cmp (owned r) t.seats place solo_seat_cmp seats_total
+          seats = row_own seat_cmp (owned r) t.seats place solo_seat_cmp seat_total
               (λ _ _ _ _. refl) tidy.seats.in_order i;
         };
         other = λ d ne i. record (view d t) {
@@ -124,7 +126,7 @@ module _ {owners : Ownership} {t : Tables} (tidy : IsTidy owners t) (c : List �
   with_order_tidy : (o : OfCustomer Order) → IsTidy owners (with_order o t)
   with_order_tidy o = record {
     seats = tidy.seats;
-    orders = placed_in_order order_cmp orders_total o t.orders tidy.orders;
+    orders = placed_in_order order_cmp order_total o t.orders tidy.orders;
     given = tidy.given;
     maps = tidy.maps;
     devices = tidy.devices;
@@ -137,7 +139,7 @@ module _ {owners : Ownership} {t : Tables} (tidy : IsTidy owners t) (c : List �
     tidy = with_order_tidy (owned o);
     own = λ i. record (view c t) {
       orders = (ap (map at_first) (row_own order_cmp (owned o) t.orders
-          (order_place (owned o) t.orders) solo_order_cmp orders_total (order_agree c) tidy.orders)
+          (order_place (owned o) t.orders) solo_order_cmp order_total (order_agree c) tidy.orders)
           ∙ (map_placed at_first solo_order_cmp solo_order_cmp (λ _ _. refl) o (rows_of c t.orders)
           ∙ ap (λ (x : Order). with_row solo_order_cmp x (map at_first (rows_of c t.orders))) first)) i;
     };
@@ -181,14 +183,14 @@ module _ {owners : Ownership} {t : Tables} (tidy : IsTidy owners t) (c : List �
           orders = tidy.orders;
           given = tidy.given;
           maps = tidy.maps;
-          devices = placed_in_order device_cmp devices_total _ t.devices tidy.devices;
-          ledger = placed_in_order entry_cmp entries_total entry t.ledger tidy.ledger;
+          devices = placed_in_order device_cmp device_total _ t.devices tidy.devices;
+          ledger = placed_in_order entry_cmp entry_total entry t.ledger tidy.ledger;
         };
         own = λ i. record (view c t) {
           devices = row_own device_cmp (owned d) t.devices (device_place (owned d) t.devices)
-              solo_device_cmp devices_total (device_agree c) tidy.devices i;
+              solo_device_cmp device_total (device_agree c) tidy.devices i;
           ledger = (ap (map entry_of_chip) (row_own entry_cmp entry t.ledger
-              (entry_place entry t.ledger) entry_row_cmp entries_total (entry_agree c) tidy.ledger)
+              (entry_place entry t.ledger) entry_row_cmp entry_total (entry_agree c) tidy.ledger)
               ∙ map_placed entry_of_chip entry_row_cmp solo_entry_cmp (λ _ _. refl) entry.row
               (rows_of c t.ledger)) i;
         };
@@ -237,7 +239,7 @@ module _ {owners : Ownership} {t : Tables} (tidy : IsTidy owners t) (c : List �
         (maps_with_link t tidy.maps (owned l) mine linked);
     own = λ i. record (view c t) {
       maps = (ap (map (solo_map t)) (row_own link_cmp (owned l) t.links
-          (link_place (owned l) t.links) solo_link_cmp links_total (link_agree c)
+          (link_place (owned l) t.links) solo_link_cmp link_total (link_agree c)
           tidy.maps.links_in_order)
           ∙ map_placed (solo_map t) solo_link_cmp solo_map_cmp (λ _ _. refl) l (rows_of c t.links)) i;
     };

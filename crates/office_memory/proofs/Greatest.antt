@@ -1,7 +1,7 @@
 -- The greatest of the numbers of rows, which is that of the last of them, and the number after it.
 use Rattle.std.proofs.Common.{◌≡◌, ◌≤◌, ◌+◌, ◌-◌, ◌∷◌}
 use Rattle.text_core.proofs.Kit.{ℕ, zero, suc, length, map, Some, arith, true, false, List, [], None, refl, sym, ap, slice_get, IfSome, nat_lt, cond}
-use Rattle.text_core.proofs.Kit.{slice_get-get_or, nat_tests, AllByRecursion, nat_cmp, is_lt}
+use Rattle.text_core.proofs.Kit.{slice_get-get_or, AllByRecursion}
 use Rattle.office_tables.specs.Prelude.{largest_number, one_more, greatest}
 
 module _ {A : Type 0} (number : A → ℕ) where
@@ -28,10 +28,6 @@ module _ {A : Type 0} (number : A → ℕ) where
       let low = below_greatest rows (length rows - 1) x (sym is) in
       let high = above_none (number x) rows all in
       omega (arith, low, high)
-
--- a number that isn't less than another isn't below it
-pub not_above : (a b : ℕ) → is_lt (nat_cmp a b) ≡ false → b ≤ a
-not_above a b low = grind (arith, nat_tests, low)
 
 -- what holds of the number after this one holds of it where there is room for it
 pub IfSome-one_more : (P : ℕ → Type 0) (n : ℕ) → P (n + 1) → IfSome (one_more n) P

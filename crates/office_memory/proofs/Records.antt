@@ -3,7 +3,7 @@ use mathlib.Core.Path.{fun_ext}
 use Rattle.std.proofs.Common.{◌≡◌, ◌∷◌, ◌&&◌, ◌||◌, ◌==◌}
 use Rattle.text_core.proofs.Kit.{◌∙◌, ℕ, Bool, true, false, cond, List, [], Option, Some, None, Less, Greater, refl, sym, ap, not, bytes_eq, filter, find}
 use Rattle.text_core.proofs.Kit.{is_some, option_map, AllByRecursion, get, is_at, BTreeSet, contains, unsigned_tied, nat_cmp, is_eq, is_le, is_lt}
-use Rattle.text_core.proofs.Kit.{ordering_then, nat_list_cmp_total, texts_ties, tied_itself, eqb-true, eq-eqb, bytes_eq-Decides}
+use Rattle.text_core.proofs.Kit.{ordering_then, nat_list_cmp_total, texts_ties, tied_itself, eqb-true, eq-eqb, bytes_eq-Decides, and_parts, find-passes}
 use Rattle.office_memory.specs.Prelude.{text_pair_cmp, has_mac, serial_of, AreIndexed, without}
 use Rattle.text_core.specs.Prelude.{is_serial, serial_of_text}
 use Rattle.office_tables.specs.declared.rows.OfCustomer.{OfCustomer}
@@ -11,9 +11,8 @@ use Rattle.office_tables.specs.declared.rows.Given.{Given}
 use Rattle.office_tables.specs.Prelude.{given_cmp, has_address, is_address, is_bound, is_serial_of, is_of_issuer, with_row, text_cmp, IsAddressFree}
 use Rattle.office_tables.proofs.Placing.{all_placed}
 use Rattle.office_memory.specs.declared.given.GivenIndex.{GivenIndex}
-use Rattle.office_memory.proofs.Truth.{both_true}
 use Rattle.office_memory.proofs.Alone.{find-placed, find-without, found_also, still_alone, alone_without}
-use Rattle.office_memory.proofs.Counted.{found_passes, same_both_ways}
+use Rattle.office_memory.proofs.Counted.{same_both_ways}
 use Rattle.office_memory.proofs.Entries.{all_without}
 use Rattle.office_memory.proofs.Keys.{between, both_equal}
 use Rattle.office_memory.proofs.MapNumbers.{without-placed_new}
@@ -52,7 +51,7 @@ no_record issuer text [] all none = refl
 no_record issuer text (y ∷ ys) all none =
     elim (is_serial_of issuer text y) as (λ b. is_serial_of issuer text y ≡ b → cond b (Some y) (find (is_serial_of issuer text) ys) ≡ None) [
       | true ↦ λ is.
-          let parts = both_true (bytes_eq issuer y.row.issuer) (bytes_eq text y.row.serial) is in
+          let parts = and_parts (bytes_eq issuer y.row.issuer) (bytes_eq text y.row.serial) is in
           let same : text ≡ y.row.serial = (bytes_eq-Decides text y.row.serial).0 parts.1 in
           let valid : is_serial text ≡ true = rw same all.0 in
           let some : serial_of_text text ≡ Some text = rw valid refl in
@@ -70,7 +69,7 @@ record_of_key rows i issuer key serial indexed is =
       | None ↦ λ found e. cc
       | Some o ↦ λ found e.
           let same : serial ≡ o.row.serial = cc in
-          let parts = both_true (bytes_eq issuer o.row.issuer) (bytes_eq key o.row.key) (found_passes (is_bound issuer key) o rows found) in
+          let parts = and_parts (bytes_eq issuer o.row.issuer) (bytes_eq key o.row.key) (find-passes (is_bound issuer key) rows o found) in
           let passes : is_serial_of issuer serial o ≡ true = rw (parts.0, (bytes_eq-Decides serial o.row.serial).1 same) refl in
           found_also (is_serial_of issuer serial) (is_bound issuer key) o rows found passes (indexed.one_serial issuer serial)
     ] refl there
@@ -98,19 +97,19 @@ serials_back o x v issuer key free =
 pub free_serial : (i : GivenIndex) (o : OfCustomer Given) → serial_of o.row.issuer o.row.key i ≡ None → (issuer key : List ℕ) → is_bound issuer key o ≡ true
     → serial_of issuer key i ≡ None
 free_serial i o free issuer key is =
-    let parts = both_true (bytes_eq issuer o.row.issuer) (bytes_eq key o.row.key) is in
+    let parts = and_parts (bytes_eq issuer o.row.issuer) (bytes_eq key o.row.key) is in
     rw ((bytes_eq-Decides issuer o.row.issuer).0 parts.0, (bytes_eq-Decides key o.row.key).0 parts.1) free
 
 pub free_bound : (rows : List (OfCustomer Given)) (o : OfCustomer Given) → find (is_bound o.row.issuer o.row.key) rows ≡ None → (issuer key : List ℕ)
     → is_bound issuer key o ≡ true → find (is_bound issuer key) rows ≡ None
 free_bound rows o free issuer key is =
-    let parts = both_true (bytes_eq issuer o.row.issuer) (bytes_eq key o.row.key) is in
+    let parts = and_parts (bytes_eq issuer o.row.issuer) (bytes_eq key o.row.key) is in
     rw ((bytes_eq-Decides issuer o.row.issuer).0 parts.0, (bytes_eq-Decides key o.row.key).0 parts.1) free
 
 free_given : (rows : List (OfCustomer Given)) (o : OfCustomer Given) → find (is_serial_of o.row.issuer o.row.serial) rows ≡ None → (issuer serial : List ℕ)
     → is_serial_of issuer serial o ≡ true → find (is_serial_of issuer serial) rows ≡ None
 free_given rows o free issuer serial is =
-    let parts = both_true (bytes_eq issuer o.row.issuer) (bytes_eq serial o.row.serial) is in
+    let parts = and_parts (bytes_eq issuer o.row.issuer) (bytes_eq serial o.row.serial) is in
     rw ((bytes_eq-Decides issuer o.row.issuer).0 parts.0, (bytes_eq-Decides serial o.row.serial).0 parts.1) free
 
 free_address : (rows : List (OfCustomer Given)) (own : Option ℕ) → IsAddressFree own rows → (mac : ℕ) → is_address mac own ≡ true

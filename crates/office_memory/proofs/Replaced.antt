@@ -1,13 +1,14 @@
 -- A device in place of another of its chip and its order.
 use Rattle.std.proofs.Common.{◌≡◌, ◌<◌, ◌+◌, ◌-◌, ◌^◌, ◌∙◌, ℕ, arith, Bool, true, false, List, length, Some, refl, sym, bytes_eq, find, not}
 use Rattle.std.proofs.lemmas.Slice.Eq.{bytes_eq-Decides}
+use Rattle.text_core.proofs.Kit.{and_parts, find-passes}
 use Rattle.office_tables.specs.declared.rows.OfCustomer.{OfCustomer}
 use Rattle.office_tables.specs.declared.rows.Device.{Device}
 use Rattle.office_tables.specs.Prelude.{device_cmp, is_device}
+use Rattle.office_tables.proofs.Places.{own_device}
 use Rattle.office_memory.specs.Prelude.{count_of_order, is_counted, place_of_device, AreCounted, KeepsCounts, unplaced, with_device_row, with_other}
 use Rattle.office_memory.specs.declared.devices.PlaceCounts.{PlaceCounts}
-use Rattle.office_memory.proofs.Counted.{all_kept, all_other, find_other, found_has, found_passes, itself, places_few, places_other, places_without}
-use Rattle.office_memory.proofs.Truth.{both_true}
+use Rattle.office_memory.proofs.Counted.{all_kept, all_other, find_other, found_has, places_few, places_other, places_without}
 use Rattle.office_memory.proofs.Keys.{with_other_device}
 
 -- what doesn't differ is the same
@@ -19,7 +20,7 @@ module _ (row old : OfCustomer Device) (rows : List (OfCustomer Device)) (found 
     (same_order : bytes_eq old.row.order row.row.order ≡ true) where
   parts : (bytes_eq row.customer old.customer ≡ true) × (bytes_eq row.row.chip old.row.chip ≡ true)
   parts =
-      both_true (bytes_eq row.customer old.customer) (bytes_eq row.row.chip old.row.chip) (found_passes (is_device row.customer row.row.chip) old rows found)
+      and_parts (bytes_eq row.customer old.customer) (bytes_eq row.row.chip old.row.chip) (find-passes (is_device row.customer row.row.chip) rows old found)
 
   customer : row.customer ≡ old.customer
   customer = (bytes_eq-Decides row.customer old.customer).0 parts.0
@@ -39,7 +40,7 @@ module _ (row old : OfCustomer Device) (rows : List (OfCustomer Device)) (found 
       → with_device_row old (with_other (is_device row.customer row.row.chip) row rows) ≡ rows
   with_device-back back =
       let there : find (is_device old.customer old.row.chip) (with_other (is_device row.customer row.row.chip) row rows) ≡ Some row =
-      rw (← customer, ← chip) (find_other (is_device row.customer row.row.chip) row old rows (itself row) found) in
+      rw (← customer, ← chip) (find_other (is_device row.customer row.row.chip) row old rows (own_device row) found) in
       let also : bytes_eq row.row.order old.row.order ≡ true = (bytes_eq-Decides row.row.order old.row.order).1 (sym order) in
       rw (there, also) (sym (with_other_device old.customer old.row.chip old (with_other (is_device row.customer row.row.chip) row rows)) ∙ back)
 

@@ -4,29 +4,19 @@ use Rattle.sqlite_disk.specs.declared.Disk.{Ghosts}
 use Rattle.sqlite_disk.specs.declared.Files.{Files}
 use Rattle.sqlite_wal.specs.Files.{outcomes}
 use Rattle.sqlite_wal.specs.Reads.{AreClean}
-use Rattle.sqlite_pool.specs.Pool.{files, state}
-use Rattle.sqlite_pool.specs.declared.pool.Pool.{Pool}
-use Rattle.sqlite_trees.proofs.Doubt.{no_doubt}
-use Rattle.sqlite_trees.specs.View.{doubt, IsClean}
+use Rattle.sqlite_trees.specs.View.{IsClean}
 use Rattle.sqlite_store.specs.FileStore as store
 use Rattle.sqlite_store.specs.declared.store.FileStore.{FileStore}
 use Rattle.sqlite.specs.Files.{HoldsDatabase}
 use Rattle.sqlite.specs.Recovery.{Image}
 use Rattle.sqlite.specs.Tree.{Trees}
 use Rattle.std.specs.Prelude.{ℕ}
+use Rattle.sqlite_pool.proofs.StateLemmas.{may_leave_is}
 use Rattle.office_tables.specs.Prelude.{Tables}
 use Rattle.office_store.specs.Prelude.{HasTablesOf}
 use Rattle.office_found.specs.Prelude.{IsOfSite}
+use Rattle.office_store.proofs.ClosedFiles.{is_clean}
 use Rattle.office_restart.specs.Crashing.{LeaveStore}
-
-module _ {D : Type 0} {g : Ghosts D} (it : Pool D g) (clean : AreClean g (files it).0 (files it).1) where
-  pub is_clean : doubt (state it).is_clean ≡ 0
-  unfolding state files
-  is_clean = no_doubt (state it).is_clean clean
-
-  pub leaves : (left : Image) → outcomes g (files it).0 (files it).1 left → (state it).may_leave left
-  unfolding state files
-  leaves left outcome = (clean, outcome)
 
 -- whatever a crash leaves of the files of a store that was ended is what the store could leave
 pub left_of_store : {D : Type 0} {g : Ghosts D} (it : FileStore D g) (stopped : Files D) (site : List ℕ) (may_leave : Tables → Type 0)
@@ -41,8 +31,8 @@ left_of_store {D} {g} it stopped site may_leave same held found calm =
     record {
       held = λ image may.
           held (is_clean it.pool was) image
-          (leaves it.pool was image (subst (λ p. outcomes g p.0 p.1 image) same may));
+          (may_leave_is it.pool image was (subst (λ p. outcomes g p.0 p.1 image) same may));
       found = λ image may.
           found (is_clean it.pool was) image
-          (leaves it.pool was image (subst (λ p. outcomes g p.0 p.1 image) same may));
+          (may_leave_is it.pool image was (subst (λ p. outcomes g p.0 p.1 image) same may));
     }

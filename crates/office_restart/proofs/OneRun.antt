@@ -1,24 +1,18 @@
 -- A run, the step that a stop may have left, and a run after it are one run.
-use Rattle.std.proofs.Common.{◌≡◌, ◌∙◌, ◌++◌, List, [], ◌∷◌, None, length, map, refl, sym, subst, ap, zip, append-nil}
+use Rattle.std.proofs.Common.{◌≡◌, ◌∙◌, ◌++◌, List, [], ◌∷◌, None, length, map, refl, sym, subst, append-nil}
 use Rattle.std.specs.List.{AllByRecursion}
 use Rattle.std.proofs.lemmas.List.{length-map}
-use Rattle.http_replies.specs.Prelude.{answer_of}
 use Rattle.http_replies.specs.declared.Reply.{Reply}
 use Rattle.site_core.specs.Prelude.{Ownership, OwnershipGrows, ownership_of, PoolsDisjoint, SiteValue}
 use Rattle.office_tables.specs.Prelude.{Tables}
-use Rattle.office_laws.specs.Prelude.{Call, calls_of, Exchange, IsLeft, IsRun, IsSeat, IsSound, IsStoppedRun, IsUnanswered, Promises, Session}
+use Rattle.office_laws.specs.Prelude.{calls_of, Exchange, IsLeft, IsRun, IsSeat, IsSound, IsStoppedRun, IsUnanswered, Promises, Session}
 use Rattle.office_laws.proofs.Grown.{growth_itself}
 use Rattle.office_laws.proofs.Leaving.{stop_leaves}
 use Rattle.office_laws.proofs.Promising.{promises}
 use Rattle.office_laws.proofs.Stopping.{stopped_runs, stopped_seats}
 use Rattle.office_core.specs.Prelude.{call_of, calls_in, exchanges_in}
 use Rattle.office_core.specs.declared.requests.SeatRequest.{SeatRequest}
-
--- each call has its exchange
-exchanges_calls : (cs : List Call) (replies : List Reply) → length replies ≡ length cs → calls_of (zip cs (map answer_of replies)) ≡ cs
-exchanges_calls [] replies same = refl
-exchanges_calls (c ∷ cs) [] same = cc
-exchanges_calls (c ∷ cs) (r ∷ rs) same = ap (λ (ds : List Call). c ∷ ds) (exchanges_calls cs rs (cc))
+use Rattle.office_core.proofs.Replaying.{exchanges_calls}
 
 -- the seats of requests are those of their exchanges
 pub seats_of : (site : SiteValue) (requests : List SeatRequest) (replies : List Reply) → length replies ≡ length requests

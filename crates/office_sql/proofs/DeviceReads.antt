@@ -1,7 +1,7 @@
 -- What the texts that read devices mean, and show.
 use Rattle.std.proofs.Common.{◌≡◌, ◌<◌, ◌+◌, ◌++◌, get_or, ◌&&◌, ◌∷◌, Ordering}
 use Rattle.text_core.proofs.Kit.{ℕ, take, List, [], codes, refl, sym, ap, ap₂, ◌∙◌, map, filter, length, Equal, on, ordering_then, IsTotalOrder, take_more}
-use Rattle.text_core.proofs.Kit.{map-append, on_total, then_total}
+use Rattle.text_core.proofs.Kit.{map-append, on_total, then_total, and-true}
 use Rattle.office_sql.proofs.Kit.{Null, Row, column, Term, col, eval_all, key_cmp, output, output_cmp, Binary, Key, ascending, value_cmp_total, then-Equal}
 use Rattle.office_sql.proofs.Kit.{sort_by}
 use Rattle.sqlite.specs.declared.types.Value.TheVariants.{Text as Words}
@@ -9,14 +9,14 @@ use Rattle.sqlite.specs.Listing.{understood}
 use Rattle.sqlite_tied.specs.Compute.{everything}
 use Rattle.sqlite_trees.proofs.ListLemmas.{map-map}
 use Rattle.office_tables.specs.Prelude.{device_cmp, is_device, is_device_behind, is_of}
-pub use Rattle.office_tables.proofs.Places.{device_total}
+use Rattle.office_tables.proofs.Orders.{device_total}
 use Rattle.office_sql.specs.Prelude.{devices, office_schema, device_in_row, scan, is_parameter, env, passes, order_state, order_state_in, AreRows, IsDeviceRow}
 use Rattle.office_sql.specs.Prelude.{is_above_parameter}
 use Rattle.office_sql.proofs.Kept.{shows_kept, kept_is}
 use Rattle.office_sql.proofs.Lists.{sorted_kept}
 use Rattle.office_sql.proofs.Reading.{IsRead}
 use Rattle.office_sql.proofs.Scan.{Scanned}
-use Rattle.office_sql.proofs.Values.{text_above, text_is, texts_cmp, and_true}
+use Rattle.office_sql.proofs.Values.{text_above, text_is, texts_cmp, level_total}
 
 abbrev pub one_text : List ℕ
 one_text = codes "SELECT customer, chip, ord, map, state, reason, bits, keys, todo, serial FROM device WHERE customer = ?1 AND chip = ?2 ORDER BY customer, chip"
@@ -62,9 +62,6 @@ pub states_read : IsRead office_schema states_text devices (is_parameter 1 0 ∷
 unfolding understood everything
 states_read = record { names = codes "ord" ∷ codes "state" ∷ codes "reason" ∷ []; is = refl; plain = (refl, refl); unlisted = refl; bare = λ schema base. refl; there = λ db. refl }
 
-level_total : IsTotalOrder (λ (a b : Row). Equal)
-level_total = record { antisymm = λ _ _. refl; trans = λ x y z p q. p; congr = λ x y z p. refl }
-
 abbrev pub by_chip : Row → Row → Ordering
 by_chip = on (λ r. column r 1 ∷ column r 2 ∷ []) (key_cmp 0 (ascending Binary ∷ ascending Binary ∷ []))
 
@@ -80,13 +77,13 @@ chips_order a b e f = ap₂ ordering_then (texts_cmp (column a 1) (column b 1) e
 pub passes_device : (c n : List ℕ) (r : Row) → IsDeviceRow r
     → passes (is_parameter 1 0 ∷ is_parameter 2 1 ∷ []) (Words c ∷ Words n ∷ []) r
     ≡ is_device c n (device_in_row r)
-passes_device c n r e = ap₂ ◌&&◌ (text_is (column r 1) c e.0) (and_true _ ∙ text_is (column r 2) n e.1)
+passes_device c n r e = ap₂ ◌&&◌ (text_is (column r 1) c e.0) (and-true _ ∙ text_is (column r 2) n e.1)
 
 pub passes_own : (c : List ℕ) (r : Row) → IsDeviceRow r → passes (is_parameter 1 0 ∷ []) (Words c ∷ []) r ≡ is_of c (device_in_row r)
-passes_own c r e = and_true _ ∙ text_is (column r 1) c e.0
+passes_own c r e = and-true _ ∙ text_is (column r 1) c e.0
 
 pub passes_behind : (c n : List ℕ) (r : Row) → IsDeviceRow r → passes behind_tests (Words c ∷ Words n ∷ []) r ≡ is_device_behind c n (device_in_row r)
-passes_behind c n r e = ap₂ ◌&&◌ (text_is (column r 1) c e.0) (and_true _ ∙ text_above (column r 2) n e.1)
+passes_behind c n r e = ap₂ ◌&&◌ (text_is (column r 1) c e.0) (and-true _ ∙ text_above (column r 2) n e.1)
 
 pub one_shown : (c n : List ℕ) (all rows : List Row)
     → AreRows IsDeviceRow device_cmp device_in_row all

@@ -1,7 +1,7 @@
 -- What the texts that write devices mean, and make of the tables.
-use Rattle.std.proofs.Common.{◌≡◌, ◌&&◌, ◌∷◌, Ordering}
-use Rattle.text_core.proofs.Kit.{inl, inr, ℕ, ℤ, true, List, [], codes, map, find, Option, Some, None, Ok, refl, sym, ap, ap₂, subst, ◌∙◌, arith, Less, Equal}
-use Rattle.text_core.proofs.Kit.{Greater, is_eq, option_map, unwrap_or, AllByRecursion, nat_cmp, ordering_then, slice_cmp, tied_itself, is_eq-slice_cmp}
+use Rattle.std.proofs.Common.{◌≡◌, ◌&&◌, ◌∷◌}
+use Rattle.text_core.proofs.Kit.{inl, inr, ℕ, ℤ, true, List, [], codes, map, find, Some, None, Ok, refl, sym, ap, ap₂, subst, ◌∙◌, arith, Equal, is_eq}
+use Rattle.text_core.proofs.Kit.{option_map, unwrap_or, AllByRecursion, nat_cmp, slice_cmp, tied_itself, is_eq-slice_cmp, and_parts, same_text, tied_then}
 use Rattle.office_sql.proofs.Kit.{Value, Null, Int, Row, column, bytes, Term, lit, col, eval_all, Database, cast, State, Executes, cast_row, next_rowid}
 use Rattle.office_sql.proofs.Kit.{sort_by}
 use Rattle.sqlite.specs.declared.types.Value.TheVariants.{Text as Words, Blob as Bytes}
@@ -12,16 +12,18 @@ use Rattle.sqlite_trees.proofs.ListLemmas.{all_weaker}
 use Rattle.office_tables.specs.Prelude.{state_row, reason_text, state_of_texts, device_cmp, is_device, with_row, IsFree}
 use Rattle.office_sql.proofs.Types.{OfCustomer, Device, DeviceState, Quarantined, Scrapped, AddDevice, PutDevice}
 use Rattle.office_tables.specs.declared.rows.Reason.TheVariants as reason
+use Rattle.office_tables.proofs.Orders.{device_total}
 use Rattle.office_sql.specs.Prelude.{devices, SqlAdds, Wrote, device_in_row, device_columns, device_table, office_schema, rows_in, is_parameter, IsOffice}
 use Rattle.office_sql.specs.Prelude.{IsDeviceRow, tables_in, AreRows, state_in, text_if, text_value}
-use Rattle.office_sql.proofs.DeviceReads.{device_total, passes_device}
-use Rattle.office_sql.proofs.Finding.{both_true, same_text, texts_tied, unkeyed}
+use Rattle.office_sql.proofs.DeviceReads.{passes_device}
+use Rattle.office_sql.proofs.Finding.{texts_tied, unkeyed}
 use Rattle.office_sql.proofs.Inserting.{IsInsert}
 use Rattle.office_sql.proofs.Keyed.{Apart}
 use Rattle.office_sql.proofs.Offices.{both_started, table_changed, told_stays}
 use Rattle.office_sql.proofs.Replacing.{IsUpdate, IsSet, remade, sets}
 use Rattle.office_sql.proofs.Stepping.{cast_null, cast_int}
 use Rattle.office_sql.proofs.TableRows.{row_added}
+use Rattle.office_sql.proofs.Missing.{text_back, text_cast}
 
 abbrev pub add_text : List ℕ
 add_text = codes "INSERT INTO device (customer, chip, ord, map, state, reason, bits, keys, todo, serial) VALUES (?1, ?2, ?3, ?4, ?5, ?6, ?7, ?8, ?9, ?10)"
@@ -48,10 +50,6 @@ put_update = record { is = refl; plain = (refl, refl); there = refl; same = λ d
 
 -- ---- what a row is read back as
 
-pub text_back : (t : Option (List ℕ)) → text_if (text_value t) ≡ t
-text_back None = refl
-text_back (Some t) = refl
-
 -- the texts of a state are those of no other
 pub state_read_back : (s : DeviceState) → state_of_texts (state_row s).text (option_map reason_text (state_row s).reason) ≡ Some s
 state_read_back (Quarantined reason.Lost) = refl
@@ -69,26 +67,17 @@ device_back id d = ap₂ (λ s t. record d { row = record d.row { state = s; ser
 
 -- ---- what the columns make of the values
 
-cast_text : (t : Option (List ℕ)) → cast TextKind (text_value t) ≡ text_value t
-cast_text None = refl
-cast_text (Some t) = refl
-
 cast_words : (v : Value) → v ≡ Words (bytes v) → cast TextKind v ≡ v
 cast_words v e = ap (cast TextKind) e ∙ sym e
 
 pub add_casts : (d : OfCustomer Device) → cast_row device_table (eval_all add_terms (device_columns d ∷ [])) ≡ Null ∷ device_columns d
-add_casts d = rw (cast_null, cast_text (option_map reason_text (state_row d.row.state).reason), cast_text d.row.serial) refl
+add_casts d = rw (cast_null, text_cast (option_map reason_text (state_row d.row.state).reason), text_cast d.row.serial) refl
 
 -- ---- keys
 
-tied_both : (a b : Ordering) → (is_eq a && is_eq b) ≡ is_eq (ordering_then a b)
-tied_both Less b = refl
-tied_both Equal b = refl
-tied_both Greater b = refl
-
 device_tied : (x y : OfCustomer Device) → is_eq (device_cmp x y) ≡ is_device x.customer x.row.chip y
 device_tied x y =
-    sym (tied_both (slice_cmp nat_cmp x.customer y.customer)
+    sym (tied_then (slice_cmp nat_cmp x.customer y.customer)
     (slice_cmp nat_cmp x.row.chip y.row.chip))
     ∙ ap₂ ◌&&◌ (is_eq-slice_cmp x.customer y.customer) (is_eq-slice_cmp x.row.chip y.row.chip)
 
@@ -132,8 +121,8 @@ put_columns d r = column r 1 ∷ column r 2 ∷ Words d.row.order ∷ Bytes d.ro
 -- devices of one key tie
 device_ties : (c n : List ℕ) (a b : OfCustomer Device) → is_device c n a ≡ true → is_device c n b ≡ true → device_cmp a b ≡ Equal
 device_ties c n a b p q =
-    let s = both_true _ _ p in
-    let t = both_true _ _ q in
+    let s = and_parts _ _ p in
+    let t = and_parts _ _ q in
     rw (texts_tied c _ _ s.0 t.0, texts_tied n _ _ s.1 t.1) refl
 
 put_set : (d : OfCustomer Device)
@@ -148,8 +137,8 @@ put_set d = record {
         cast_words (column r 1) typed.0,
         cast_words (column r 2)
             typed.1,
-        cast_text (option_map reason_text (state_row d.row.state).reason),
-        cast_text d.row.serial,
+        text_cast (option_map reason_text (state_row d.row.state).reason),
+        text_cast d.row.serial,
       )
       refl;
   typed = λ id r typed. (typed.0, typed.1, refl);
@@ -158,7 +147,7 @@ put_set d = record {
 
 put_back : (d : OfCustomer Device) (id : ℤ) (r : Row) → is_device d.customer d.row.chip (device_in_row r) ≡ true → device_in_row (Int id ∷ put_columns d r) ≡ d
 put_back d id r passed =
-    let same = both_true _ _ passed in
+    let same = and_parts _ _ passed in
     let back : OfCustomer Device = device_in_row (Int id ∷ device_columns d) in
     ap₂ (λ c n.
     record { customer = c; row = record back.row { chip = n } })
@@ -168,7 +157,7 @@ put_back d id r passed =
 -- its key is the device's, so that they are the device's columns
 put_same : (d : OfCustomer Device) (r : Row) → IsDeviceRow r → is_device d.customer d.row.chip (device_in_row r) ≡ true → put_columns d r ≡ device_columns d
 put_same d r typed passed =
-    let same = both_true _ _ passed in
+    let same = and_parts _ _ passed in
     let customer : column r 1 ≡ Words d.customer = typed.0 ∙ ap Words (sym (same_text d.customer (bytes (column r 1)) same.0)) in
     let chip : column r 2 ≡ Words d.row.chip = typed.1 ∙ ap Words (sym (same_text d.row.chip (bytes (column r 2)) same.1)) in
     rw (customer, chip) refl

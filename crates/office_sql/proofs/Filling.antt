@@ -1,6 +1,7 @@
 -- What an INSERT of what a query over one table shows does to an empty table, in a database of any schema.
-use Rattle.std.proofs.Common.{◌≡◌, ℕ, List, [], ◌∷◌, map, flat_map, Ok, ap, ap₂, subst, ◌∙◌, refl, IsPermutation}
+use Rattle.std.proofs.Common.{◌≡◌, ℕ, List, [], ◌∷◌, map, Ok, ap, ap₂, subst, ◌∙◌, IsPermutation}
 use Rattle.std.specs.List.{AllByRecursion}
+use Rattle.std.proofs.lemmas.List.Concat.{flat_map_single}
 use Rattle.office_sql.proofs.Kit.{Null, Collation, Row, Term, eval_all, inner, end, overlay, Program, numbered, Chosen, Schema, Trees, Database, IsDatabase}
 use Rattle.office_sql.proofs.Kit.{State, Executes, cast_row, put_all, all-permutation}
 use Rattle.sqlite.specs.Source.TheVariants.{Query as Selected}
@@ -25,10 +26,6 @@ pub record Fills (known : Schema) (columns : Row → Row) (from side : OfficeTab
   pub rows : rows_in new.trees side ≡ put_all [] (news_of columns [] kept)
   pub others : OthersStay known side old.trees new.trees
 
-each_alone : {X Y : Type 0} (f : X → Y) (xs : List X) → flat_map (λ x. f x ∷ []) xs ≡ map f xs
-each_alone f [] = refl
-each_alone f (x ∷ xs) = ap (λ l. f x ∷ l) (each_alone f xs)
-
 module _ (known : Schema) (text : List ℕ) (side from : OfficeTable) (by : List Collation) (shown : List Term)
     (fill : IsInsertOf known text side (Selected (shown_of from by shown)))
     (there : (db : Trees) → overlay db [] (tree_of from) ≡ rows_in db from)
@@ -41,7 +38,7 @@ module _ (known : Schema) (text : List ℕ) (side from : OfficeTable) (by : List
       let db = old.now.trees in
       let it = puts known text side (Selected (shown_of from by shown)) fill params old new count has ran in
       let s = listed by (inner (tree_of from) end) [] shown [] (overlay db []) params (env params)
-      (overlay db [] (tree_of from)) it.given (each_alone (env params) (overlay db [] (tree_of from)))
+      (overlay db [] (tree_of from)) it.given (flat_map_single (env params) (overlay db [] (tree_of from)))
       (it.from.answer Null) in
       let along : IsPermutation (rows_in db from) s.kept = subst (λ l. IsPermutation l s.kept) (there db) s.same in
       let sources : map (λ r. cast_row (table_of side) r) it.given ≡ map (λ r. Null ∷ columns r) s.kept =

@@ -1,36 +1,21 @@
 -- What is found among rows in order, and rows with one key.
-use Rattle.std.proofs.Common.{◌≡◌, ◌&&◌, ◌∷◌, Ordering}
-use Rattle.text_core.proofs.Kit.{map, ℕ, Bool, true, false, cond, List, [], filter, find, slice_get, IsPermutation, Some, None, refl, ap, subst, sym, ◌∙◌, Less}
+use Rattle.std.proofs.Common.{◌≡◌, ◌∷◌, Ordering}
+use Rattle.text_core.proofs.Kit.{map, ℕ, Bool, true, false, List, [], filter, find, slice_get, IsPermutation, Some, None, refl, ap, subst, sym, ◌∙◌, Less}
 use Rattle.text_core.proofs.Kit.{Equal, Greater, is_eq, true≢false, AllByRecursion, bytes_eq, nat_cmp, IsTotalOrder, slice_cmp, nat_list_eq_equiv}
-use Rattle.text_core.proofs.Kit.{is_eq-slice_cmp, bytes_eq-Decides, IsPermutation-refl}
+use Rattle.text_core.proofs.Kit.{is_eq-slice_cmp, IsPermutation-refl}
+use Rattle.office_tables.proofs.Finding.{none_passes, find_none}
 use Rattle.office_sql.proofs.Kit.{sort_by, IsPermutation-sort_by, all-permutation, filter-map, slice_get-filter, sorted_from_ascending, Row}
 use Rattle.office_sql.specs.Prelude.{AreKeyed}
 use Rattle.office_sql.proofs.Keyed.{all_sorted, kept_in_order}
 
-pub find_none : {A : Type 0} (p : A → Bool) (xs : List A) → find p xs ≡ None → AllByRecursion (λ x. p x ≡ false) xs
-find_none p [] e = tt
-find_none p (x ∷ xs) e = elim (p x) as (λ b. p x ≡ b → cond b (Some x) (find p xs) ≡ None → (p x ≡ false) × AllByRecursion (λ x. p x ≡ false) xs)
-    [ true ↦ λ _ h. absurd (let f = h in cc) | false ↦ λ fails h. (fails, find_none p xs h) ] refl e
-
-pub none_found : {A : Type 0} (p : A → Bool) (xs : List A) → AllByRecursion (λ x. p x ≡ false) xs → find p xs ≡ None
-none_found p [] all = refl
-none_found p (x ∷ xs) all = rw all.0 (none_found p xs all.1)
-
 module _ {A : Type 0} (cmp : A → A → Ordering) (total : IsTotalOrder cmp) (p : A → Bool) (xs : List A) where
   -- a key that isn't found is no row's
   pub unkeyed : find p (sort_by cmp xs) ≡ None → AllByRecursion (λ x. p x ≡ false) xs
-  unkeyed none = all-permutation (λ x. p x ≡ false) _ _ (IsPermutation-sort_by cmp total xs) (find_none p _ none)
+  unkeyed none = all-permutation (λ x. p x ≡ false) _ _ (IsPermutation-sort_by cmp total xs) (none_passes p _ none)
 
   -- a key that is no row's isn't found
   pub unfound : AllByRecursion (λ x. p x ≡ false) xs → find p (sort_by cmp xs) ≡ None
-  unfound all = none_found p _ (all_sorted cmp total (λ x. p x ≡ false) xs all)
-
-pub same_text : (a b : List ℕ) → bytes_eq a b ≡ true → a ≡ b
-same_text a b e = (bytes_eq-Decides a b).0 e
-
-pub both_true : (a b : Bool) → (a && b) ≡ true → (a ≡ true) × (b ≡ true)
-both_true true b h = (refl, h)
-both_true false b h = absurd (true≢false (sym h))
+  unfound all = find_none p _ (all_sorted cmp total (λ x. p x ≡ false) xs all)
 
 alike : (o : Ordering) → is_eq o ≡ true → o ≡ Equal
 alike Less h = absurd (true≢false (sym h))
@@ -43,9 +28,6 @@ texts_tied c a b p q = alike _ (is_eq-slice_cmp a b ∙ sym (nat_list_eq_equiv.c
 
 pub texts_alike : (a b t : List ℕ) → bytes_eq a t ≡ true → bytes_eq b t ≡ true → slice_cmp nat_cmp a b ≡ Equal
 texts_alike a b t e f = texts_tied t a b (nat_list_eq_equiv.symm t a ∙ e) (nat_list_eq_equiv.symm t b ∙ f)
-
-pub same_bytes : (t : List ℕ) → bytes_eq t t ≡ true
-same_bytes t = (bytes_eq-Decides t t).1 refl
 
 module _ {A : Type 0} (cmp : A → A → Ordering) (total : IsTotalOrder cmp) (value : Row → A) (p : A → Bool) where
   -- the one row that passes is found

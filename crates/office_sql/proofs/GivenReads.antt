@@ -1,7 +1,7 @@
 -- What the texts that read given serial numbers mean, and show.
 use Rattle.std.proofs.Common.{◌≡◌, ◌∷◌, ◌++◌, ◌&&◌, Ordering}
 use Rattle.text_core.proofs.Kit.{ℕ, List, [], codes, refl, sym, ap, ap₂, ◌∙◌, map, filter, Bool, Equal, is_eq, on, ordering_then, list_all, IsTotalOrder}
-use Rattle.text_core.proofs.Kit.{tied_then, on_total, then_total, nat_list_cmp_total, is_eq-slice_cmp}
+use Rattle.text_core.proofs.Kit.{tied_then, on_total, then_total, is_eq-slice_cmp, and-true}
 use Rattle.sqlite.specs.declared.types.Value.TheVariants.{Text as Words, Blob as Bytes}
 use Rattle.office_sql.proofs.Kit.{Row, column, Term, col, holds, Trees, is_true, Eq, Compare, key_cmp, IsAnswer, inner, end, Join, Binary, Key, ascending}
 use Rattle.office_sql.proofs.Kit.{value_cmp_total, then-Equal, sort_by}
@@ -10,11 +10,12 @@ use Rattle.sqlite.specs.Listing.{understood}
 use Rattle.sqlite_tied.specs.Compute.{everything}
 use Rattle.office_sql.proofs.Types.{OfCustomer, Given}
 use Rattle.office_tables.specs.Prelude.{given_cmp, is_serial_of, is_bound, is_of_issuer}
+use Rattle.office_tables.proofs.Orders.{given_total}
 use Rattle.office_sql.specs.Prelude.{given, given_starts, office_schema, rows_in, tree_of, given_in_row, starts_given, with_given_start, joined_given}
 use Rattle.office_sql.specs.Prelude.{is_parameter, passes, over, is_same, passes_join, pair, first_that, AreRows, AreStarted, IsGivenRow, IsStartRow, text_if}
 use Rattle.office_sql.proofs.Kept.{shows_joined, start_is}
 use Rattle.office_sql.proofs.Reading.{IsJoined}
-use Rattle.office_sql.proofs.Values.{text_is, blob_is, texts_cmp, and_true}
+use Rattle.office_sql.proofs.Values.{text_is, blob_is, texts_cmp, level_total}
 
 abbrev pub at_text : List ℕ
 at_text = codes "SELECT given.issuer, given.serial, customer, key, chip, mac, not_after, not_before FROM given JOIN given_start ON given_start.issuer = given.issuer AND given_start.serial = given.serial WHERE given.issuer = ?1 AND given.serial = ?2 ORDER BY given.issuer, given.serial"
@@ -63,12 +64,6 @@ pub all_read : IsJoined office_schema all_text with_starts (on_start ++ all_test
 unfolding understood everything
 all_read = record { names = names; is = refl; plain = (refl, refl); unlisted = refl; bare = λ schema base. refl }
 
-pub given_total : IsTotalOrder given_cmp
-given_total = then_total (on_total (λ g. g.row.issuer) nat_list_cmp_total) (on_total (λ g. g.row.serial) nat_list_cmp_total)
-
-level_total : IsTotalOrder (λ (a b : Row). Equal)
-level_total = record { antisymm = λ _ _. refl; trans = λ x y z p q. p; congr = λ x y z p. refl }
-
 abbrev pub by_serial : Row → Row → Ordering
 by_serial = on (λ r. column r 1 ∷ column r 2 ∷ []) (key_cmp 0 (ascending Binary ∷ ascending Binary ∷ []))
 
@@ -88,19 +83,19 @@ given_tied x y = sym (tied_then _ _) ∙ ap₂ ◌&&◌ (is_eq-slice_cmp x.row.i
 passes_at : (issuer serial : List ℕ) (r : Row) → IsGivenRow r
     → passes at_tests (Words issuer ∷ Words serial ∷ []) r
     ≡ is_serial_of issuer serial (given_in_row r)
-passes_at issuer serial r e = ap₂ ◌&&◌ (text_is (column r 1) issuer e.0) (and_true _ ∙ text_is (column r 2) serial e.1)
+passes_at issuer serial r e = ap₂ ◌&&◌ (text_is (column r 1) issuer e.0) (and-true _ ∙ text_is (column r 2) serial e.1)
 
 passes_key : (issuer key : List ℕ) (r : Row) → IsGivenRow r → passes key_tests (Words issuer ∷ Bytes key ∷ []) r ≡ is_bound issuer key (given_in_row r)
-passes_key issuer key r e = ap₂ ◌&&◌ (text_is (column r 1) issuer e.0) (and_true _ ∙ blob_is (column r 4) key e.2)
+passes_key issuer key r e = ap₂ ◌&&◌ (text_is (column r 1) issuer e.0) (and-true _ ∙ blob_is (column r 4) key e.2)
 
 passes_all : (issuer : List ℕ) (r : Row) → IsGivenRow r → passes all_tests (Words issuer ∷ []) r ≡ is_of_issuer issuer (given_in_row r)
-passes_all issuer r e = and_true _ ∙ text_is (column r 1) issuer e.0
+passes_all issuer r e = and-true _ ∙ text_is (column r 1) issuer e.0
 
 -- the start's key is the record's
 fits : (params r s : Row) → IsGivenRow r → IsStartRow s → passes_join on_start params r s ≡ starts_given (given_in_row r) s
 fits params r s e f =
     ap₂ ◌&&◌ (ap (λ v. is_true (binary (Compare Eq Binary) (column s 1) v)) e.0 ∙ text_is (column s 1) _ f.0)
-    (and_true _ ∙ ap (λ v. is_true (binary (Compare Eq Binary) (column s 2) v)) e.1 ∙ text_is (column s 2) _ f.1)
+    (and-true _ ∙ ap (λ v. is_true (binary (Compare Eq Binary) (column s 2) v)) e.1 ∙ text_is (column s 2) _ f.1)
 
 -- with what a row of starts says
 abbrev with_row : Row → OfCustomer Given → OfCustomer Given

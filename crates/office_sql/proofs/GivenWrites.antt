@@ -1,7 +1,8 @@
 -- What the texts that add a given serial number mean, and do.
 use Rattle.std.proofs.Common.{◌≡◌, ◌&&◌, ◌∷◌, ◌++◌}
-use Rattle.text_core.proofs.Kit.{ℕ, ℤ, Bool, true, false, List, [], map, filter, codes, length, arith, Option, Some, None, refl, sym, ap, ap₂, subst, subst₂}
-use Rattle.text_core.proofs.Kit.{◌∙◌, Equal, true≢false, option_map, option_and_then, ordering_then, bytes_eq, eqb-true, eq-eqb, bytes_eq-Decides}
+use Rattle.text_core.proofs.Kit.{ℕ, ℤ, true, false, List, [], map, filter, codes, length, arith, Option, Some, None, refl, sym, ap, ap₂, subst, subst₂, ◌∙◌}
+use Rattle.text_core.proofs.Kit.{Equal, true≢false, option_map, option_and_then, ordering_then, bytes_eq, eqb-true, eq-eqb, bytes_eq-Decides, and_parts}
+use Rattle.text_core.proofs.Kit.{text_itself, one_truth, and-true}
 use Rattle.office_sql.proofs.Kit.{Value, Null, Int, Row, column, bytes, is_true, cast_row, Trees, put_row, IsAnswer, Binary, Term, lit, col, Database, Eq}
 use Rattle.office_sql.proofs.Kit.{Compare, sort_by, all_unmap, IsPermutation-sort_by, next_rowid, all-permutation}
 use Rattle.sqlite.specs.declared.types.Value.TheVariants.{Text as Words}
@@ -14,11 +15,12 @@ use Rattle.id_ranges.proofs.MacTexts.{mac_text_only}
 use Rattle.office_sql.proofs.Types.{OfCustomer, Given, AddGiven}
 use Rattle.office_tables.specs.Prelude.{IsFree, IsAddressFree, is_address, has_address, given_cmp, is_serial_of, with_row}
 use Rattle.office_tables.proofs.Finding.{none_passes}
+use Rattle.office_tables.proofs.Orders.{given_total}
 use Rattle.office_sql.specs.Prelude.{given, given_starts, SqlAdds, SameBut, Wrote, over, given_in_row, given_columns, starts_given, given_start_columns}
 use Rattle.office_sql.specs.Prelude.{with_given_start, joined_given, is_parameter, passes, given_table, given_start_table, office_schema, rows_in, AreRows}
 use Rattle.office_sql.specs.Prelude.{AreStarted, IsGivenRow, IsOffice, tables_in, told_in, text_if, text_value, mac_if}
-use Rattle.office_sql.proofs.Finding.{both_true, texts_alike, same_bytes}
-use Rattle.office_sql.proofs.GivenReads.{shown, with_starts, by_key, names, on_start, given_total, given_tied, kept_shown}
+use Rattle.office_sql.proofs.Finding.{texts_alike}
+use Rattle.office_sql.proofs.GivenReads.{shown, with_starts, by_key, names, on_start, given_tied, kept_shown}
 use Rattle.office_sql.proofs.Inserting.{IsInsert}
 use Rattle.office_sql.proofs.Kept.{found}
 use Rattle.office_sql.proofs.Keyed.{Apart}
@@ -27,7 +29,7 @@ use Rattle.office_sql.proofs.Offices.{both_changed, both_started, told_stays}
 use Rattle.office_sql.proofs.Reading.{IsJoined}
 use Rattle.office_sql.proofs.Stepping.{cast_null}
 use Rattle.office_sql.proofs.StartedRows.{started_more}
-use Rattle.office_sql.proofs.Values.{text_is, and_true}
+use Rattle.office_sql.proofs.Values.{text_is}
 
 -- ---- the rows with an address
 
@@ -41,14 +43,9 @@ pub address_read : IsJoined office_schema address_text with_starts (on_start ++ 
 unfolding understood everything
 address_read = record { names = names; is = refl; plain = (refl, refl); unlisted = refl; bare = λ schema base. refl }
 
-both_ways : (a b : Bool) → (a ≡ true → b ≡ true) → (b ≡ true → a ≡ true) → a ≡ b
-both_ways true b f h = sym (f refl)
-both_ways false true f h = h refl
-both_ways false false f h = refl
-
 -- a text is that of an address where it reads as the address
 same_address : (mac : ℕ) (text t : List ℕ) → mac_of_text text ≡ Some mac → bytes_eq text t ≡ is_address mac (mac_of_text t)
-same_address mac text t is = both_ways _ _ to from
+same_address mac text t is = one_truth _ _ to from
   where
     to : bytes_eq text t ≡ true → is_address mac (mac_of_text t) ≡ true
     to e = ap (is_address mac) (sym (ap mac_of_text ((bytes_eq-Decides text t).0 e)) ∙ is) ∙ eq-eqb mac mac refl
@@ -80,7 +77,7 @@ mac_is mac text v is e = go (text_if v) refl
 
 passes_address : (mac : ℕ) (text : List ℕ) → mac_of_text text ≡ Some mac → (r : Row) → IsGivenRow r
     → passes address_tests (Words text ∷ []) r ≡ has_address mac (given_in_row r)
-passes_address mac text is r e = and_true _ ∙ mac_is mac text (column r 6) is e.3
+passes_address mac text is r e = and-true _ ∙ mac_is mac text (column r 6) is e.3
 
 pub address_shown : (mac : ℕ) (text : List ℕ) → mac_of_text text ≡ Some mac
     → (db : Trees) (rows : List Row) → AreRows IsGivenRow given_cmp given_in_row (rows_in db given)
@@ -134,8 +131,8 @@ start_casts g = rw (cast_null, text_cast g.row.not_before) refl
 -- two records with one start have one key
 given_ties : (a b : OfCustomer Given) (s : Row) → starts_given a s ≡ true → starts_given b s ≡ true → given_cmp a b ≡ Equal
 given_ties a b s e f =
-    let p = both_true _ _ e in
-    let q = both_true _ _ f in
+    let p = and_parts _ _ e in
+    let q = and_parts _ _ f in
     ap₂ ordering_then (texts_alike a.row.issuer b.row.issuer (bytes (column s 1)) p.0 q.0) (texts_alike a.row.serial b.row.serial (bytes (column s 2)) p.1 q.1)
 
 abbrev with_text : Option (List ℕ) → OfCustomer Given → OfCustomer Given
@@ -143,7 +140,7 @@ with_text t g = record g { row = record g.row { not_before = t } }
 
 -- its own start is for it
 own_start : (g : OfCustomer Given) (id : ℤ) → starts_given g (Int id ∷ given_start_columns g) ≡ true
-own_start g id = ap₂ ◌&&◌ (same_bytes g.row.issuer) (same_bytes g.row.serial)
+own_start g id = ap₂ ◌&&◌ (text_itself g.row.issuer g.row.issuer refl) (text_itself g.row.serial g.row.serial refl)
 
 -- a record and its beginning leave what the database tells of itself
 told_after : (old mid new : Trees) → SameBut given old mid → SameBut given_starts mid new → told_in new ≡ told_in old

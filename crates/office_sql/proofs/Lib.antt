@@ -1,4 +1,4 @@
-mod Lists
+pub mod Lists
 pub mod Scan
 pub mod Joined
 pub mod Asked
@@ -9,7 +9,7 @@ pub mod Keyed
 pub mod TableRows
 pub mod Kept
 pub mod Reading
-mod Visiting
+pub mod Visiting
 pub mod Values
 pub mod Names
 pub mod Offices
@@ -41,10 +41,9 @@ mod DeviceWrites
 pub mod GivenReads
 mod Looking
 mod GivenWrites
-mod GivenFound
 mod SeatWrites
 pub mod OrderReads
-mod ColumnKinds
+pub mod ColumnKinds
 mod OrderWrites
 pub mod Missing
 pub mod Kit

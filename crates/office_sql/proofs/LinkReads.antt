@@ -1,16 +1,17 @@
 -- What the texts that read links mean, and show.
 use Rattle.std.proofs.Common.{◌≡◌, ◌&&◌, ◌∷◌, Ordering}
-use Rattle.text_core.proofs.Kit.{ℕ, List, [], codes, refl, ap₂, ◌∙◌, map, filter, on, ordering_then, IsTotalOrder, on_total, then_total, nat_list_cmp_total}
+use Rattle.text_core.proofs.Kit.{ℕ, List, [], codes, refl, ap₂, ◌∙◌, map, filter, on, ordering_then, IsTotalOrder, on_total, and-true}
 use Rattle.office_sql.proofs.Kit.{Null, Row, column, Term, col, key_cmp, key_cmp_total, Binary, Key, ascending, then-Equal, sort_by}
 use Rattle.sqlite.specs.declared.types.Value.TheVariants.{Text as Words, Blob as Bytes}
 use Rattle.sqlite.specs.Listing.{understood}
 use Rattle.sqlite_tied.specs.Compute.{everything}
 use Rattle.office_tables.specs.Prelude.{link_cmp, is_link, is_of}
+use Rattle.office_tables.proofs.Orders.{link_total}
 use Rattle.office_sql.specs.Prelude.{links, office_schema, link_in_row, is_parameter, passes, AreRows, IsLinkRow}
 use Rattle.office_sql.proofs.Kept.{shows_kept}
 use Rattle.office_sql.proofs.Reading.{IsRead}
 use Rattle.office_sql.proofs.Scan.{Scanned}
-use Rattle.office_sql.proofs.Values.{text_is, blob_is, texts_cmp, blobs_cmp, and_true}
+use Rattle.office_sql.proofs.Values.{text_is, blob_is, texts_cmp, blobs_cmp}
 
 abbrev pub one_text : List ℕ
 one_text = codes "SELECT customer, digest, map FROM link WHERE customer = ?1 AND digest = ?2 ORDER BY customer, digest"
@@ -32,9 +33,6 @@ pub own_read : IsRead office_schema own_text links (is_parameter 1 0 ∷ []) sho
 unfolding understood everything
 own_read = record { names = codes "customer" ∷ codes "digest" ∷ codes "map" ∷ []; is = refl; plain = (refl, refl); unlisted = refl; bare = λ schema base. refl; there = λ db. refl }
 
-pub link_total : IsTotalOrder link_cmp
-link_total = then_total (on_total (λ l. l.customer) nat_list_cmp_total) (on_total (λ l. l.row.digest) nat_list_cmp_total)
-
 abbrev pub by_place : Row → Row → Ordering
 by_place = on (λ r. column r 1 ∷ column r 2 ∷ []) (key_cmp 0 (ascending Binary ∷ ascending Binary ∷ []))
 
@@ -47,10 +45,10 @@ ordered a b e f = ap₂ ordering_then (texts_cmp (column a 1) (column b 1) e.0 f
 pub passes_link : (c d : List ℕ) (r : Row) → IsLinkRow r
     → passes (is_parameter 1 0 ∷ is_parameter 2 1 ∷ []) (Words c ∷ Bytes d ∷ []) r
     ≡ is_link c d (link_in_row r)
-passes_link c d r e = ap₂ ◌&&◌ (text_is (column r 1) c e.0) (and_true _ ∙ blob_is (column r 2) d e.1)
+passes_link c d r e = ap₂ ◌&&◌ (text_is (column r 1) c e.0) (and-true _ ∙ blob_is (column r 2) d e.1)
 
 pub passes_customer : (c : List ℕ) (r : Row) → IsLinkRow r → passes (is_parameter 1 0 ∷ []) (Words c ∷ []) r ≡ is_of c (link_in_row r)
-passes_customer c r e = and_true _ ∙ text_is (column r 1) c e.0
+passes_customer c r e = and-true _ ∙ text_is (column r 1) c e.0
 
 pub one_shown : (c d : List ℕ) (all rows : List Row) → AreRows IsLinkRow link_cmp link_in_row all
     → Scanned (is_parameter 1 0 ∷ is_parameter 2 1 ∷ []) shown by_key (Words c ∷ Bytes d

@@ -1,7 +1,7 @@
 -- What the text that adds a link means, and what it does to the tables.
-use Rattle.std.proofs.Common.{◌≡◌, ◌&&◌, ◌∷◌, Ordering}
-use Rattle.text_core.proofs.Kit.{ℕ, pos, List, [], codes, map, refl, sym, ap, ap₂, ◌∙◌, subst, Less, Equal, Greater, is_eq, None, false, nat_cmp, find}
-use Rattle.text_core.proofs.Kit.{AllByRecursion, ordering_then, slice_cmp, is_eq-slice_cmp}
+use Rattle.std.proofs.Common.{◌≡◌, ◌&&◌, ◌∷◌}
+use Rattle.text_core.proofs.Kit.{ℕ, pos, List, [], codes, map, refl, sym, ap, ap₂, ◌∙◌, subst, is_eq, None, false, nat_cmp, find, AllByRecursion, slice_cmp}
+use Rattle.text_core.proofs.Kit.{is_eq-slice_cmp}
 use Rattle.office_sql.proofs.Kit.{Null, Row, Term, lit, col, eval_all, Database, cast_row, all-permutation, sort_by, IsPermutation-sort_by}
 use Rattle.sqlite.specs.Listing.{understood}
 use Rattle.sqlite_tied.specs.Compute.{everything}
@@ -9,11 +9,12 @@ use Rattle.sqlite_trees.proofs.ListLemmas.{all_weaker}
 use Rattle.office_sql.proofs.Types.{OfCustomer, Link, AddLink}
 use Rattle.office_tables.specs.Prelude.{link_cmp, is_link, IsFree}
 use Rattle.office_tables.proofs.Finding.{none_passes}
+use Rattle.office_tables.proofs.Orders.{link_total}
+use Rattle.office_tables.proofs.Places.{both_equal}
 use Rattle.office_sql.specs.Prelude.{links, link_table, office_schema, rows_in, link_in_row, link_columns, SqlAdds, Wrote, AreRows, IsLinkRow, IsOffice}
 use Rattle.office_sql.specs.Prelude.{tables_in}
 use Rattle.office_sql.proofs.Inserting.{IsInsert}
 use Rattle.office_sql.proofs.Keyed.{Apart}
-use Rattle.office_sql.proofs.LinkReads.{link_total}
 use Rattle.office_sql.proofs.Offices.{both_started, table_changed, told_stays}
 use Rattle.office_sql.proofs.Stepping.{cast_null, cast_int}
 use Rattle.office_sql.proofs.TableRows.{row_added}
@@ -31,14 +32,9 @@ add_insert = record { means = record { is = refl; plain = (refl, refl); there = 
 pub add_casts : (l : OfCustomer Link) → cast_row link_table (eval_all add_terms (link_columns l ∷ [])) ≡ Null ∷ link_columns l
 add_casts l = rw (cast_null, cast_int (pos l.row.map)) refl
 
-both : (a b : Ordering) → is_eq (ordering_then a b) ≡ (is_eq a && is_eq b)
-both Less b = refl
-both Equal b = refl
-both Greater b = refl
-
 tied : (x y : OfCustomer Link) → is_eq (link_cmp x y) ≡ is_link x.customer x.row.digest y
 tied x y =
-    both (slice_cmp nat_cmp x.customer y.customer) (slice_cmp nat_cmp x.row.digest y.row.digest)
+    both_equal (slice_cmp nat_cmp x.customer y.customer) (slice_cmp nat_cmp x.row.digest y.row.digest)
     ∙ ap₂ ◌&&◌ (is_eq-slice_cmp x.customer y.customer)
     (is_eq-slice_cmp x.row.digest y.row.digest)
 

@@ -1,17 +1,14 @@
 -- From what `query_all` promises in a transaction to what the functions of this crate do.
 use Rattle.std.proofs.Common.{◌≡◌, ◌⊎◌}
 use Rattle.text_core.proofs.Kit.{ℕ, List, [], inl, inr, subst, Result, Ok, Err, IfOk, IfErr, Vec, Global, IfOk-weaker}
-use Rattle.office_sql.proofs.Kit.{Key, Row, Term, overlay, Join, IsAnswer, Error, Held, state, State, HasCleanDisk, Survives, IsUnchanged, IsTooLate}
-use Rattle.office_sql.proofs.Kit.{KeepsCommit}
+use Rattle.office_sql.proofs.Kit.{Key, Row, Term, overlay, Join, IsAnswer, Error, Held, state, HasCleanDisk, Survives, IsUnchanged, IsTooLate, KeepsCommit}
 use Rattle.sqlite.specs.Store.{Ghosts}
 use Rattle.sqlite.specs.State.{Shown, FailsToQuery}
 use Rattle.office_tables.specs.Prelude.{Tables}
-use Rattle.office_sql.specs.Prelude.{office_schema, HasOffice, Rests, over, Looks, SqlUnchanged, IsOffice, tables_in}
+use Rattle.office_sql.specs.Prelude.{office_schema, HasOffice, over, Looks, SqlUnchanged, IsOffice, tables_in}
 use Rattle.office_sql.proofs.Asked.{leaves, reads_over, shown_open, shown_rests, failed_rests}
 use Rattle.office_sql.proofs.Reading.{IsJoined}
-
-rests_keeps : (old new : State) → Rests old new → KeepsCommit old new
-rests_keeps old new h = record { was_open = h.was_open; committed = h.committed }
+use Rattle.office_sql.proofs.Resting.{rests_keeps}
 
 module _ {S : Type 0} (g : Ghosts S) (text : List ℕ) (from : Join) (tests shown : List Term) (order : List (Term × Key))
     (read : IsJoined office_schema text from tests shown order) (params values : Row) (bound : params ≡ values) (old new : Held S) where

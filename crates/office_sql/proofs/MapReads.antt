@@ -1,17 +1,18 @@
 -- What the texts that read maps mean, and show.
 use Rattle.std.proofs.Common.{◌≡◌, ◌∷◌, Ordering}
-use Rattle.text_core.proofs.Kit.{ℕ, pos, List, [], codes, refl, ◌∙◌, map, filter, Option, Some, None, on, IsTotalOrder, on_total, nat_cmp_total, option_map}
+use Rattle.text_core.proofs.Kit.{ℕ, pos, List, [], codes, refl, ◌∙◌, map, filter, Option, Some, None, on, IsTotalOrder, on_total, option_map, and-true}
 use Rattle.office_sql.proofs.Kit.{Int, Row, column, Term, col, key_cmp, key_cmp_total, Binary, Key, ascending, then-Equal, sort_by}
 use Rattle.sqlite.specs.declared.types.Value.TheVariants.{Text as Words}
 use Rattle.sqlite.specs.Listing.{understood}
 use Rattle.sqlite_tied.specs.Compute.{everything}
 use Rattle.office_tables.specs.declared.rows.MapRow.{MapRow}
 use Rattle.office_tables.specs.Prelude.{map_cmp, has_id, has_body}
+use Rattle.office_tables.proofs.Orders.{map_total}
 use Rattle.office_sql.specs.Prelude.{maps, office_schema, number_in_cell, map_in_row, is_parameter, passes, AreRows, IsMapRow}
 use Rattle.office_sql.proofs.Kept.{shows_kept}
 use Rattle.office_sql.proofs.Reading.{IsRead}
 use Rattle.office_sql.proofs.Scan.{Scanned}
-use Rattle.office_sql.proofs.Values.{text_is, and_true}
+use Rattle.office_sql.proofs.Values.{text_is}
 use Rattle.office_sql.proofs.MapValues.{whole_is, wholes_cmp}
 
 abbrev pub one_text : List ℕ
@@ -38,9 +39,6 @@ body_read = record { names = codes "id" ∷ codes "body" ∷ []; is = refl; plai
 abbrev pub shown_map : Row → MapRow
 shown_map r = map_in_row (column r 0 ∷ r)
 
-pub map_total : IsTotalOrder map_cmp
-map_total = on_total (λ m. m.id) nat_cmp_total
-
 abbrev pub by_id : Row → Row → Ordering
 by_id = on (λ r. column r 0 ∷ []) (key_cmp 0 (ascending Binary ∷ []))
 
@@ -51,10 +49,10 @@ ordered : (a b : Row) → IsMapRow a → IsMapRow b → by_id a b ≡ map_cmp (m
 ordered a b e f = then-Equal _ ∙ wholes_cmp (column a 0) (column b 0) e.0 f.0
 
 pub passes_id : (id : ℕ) (r : Row) → IsMapRow r → passes (is_parameter 0 0 ∷ []) (Int (pos id) ∷ []) r ≡ has_id id (map_in_row r)
-passes_id id r e = and_true _ ∙ whole_is (column r 0) id e.0
+passes_id id r e = and-true _ ∙ whole_is (column r 0) id e.0
 
 pub passes_body : (body : List ℕ) (r : Row) → IsMapRow r → passes (is_parameter 2 0 ∷ []) (Words body ∷ []) r ≡ has_body body (map_in_row r)
-passes_body body r e = and_true _ ∙ text_is (column r 2) body e.1
+passes_body body r e = and-true _ ∙ text_is (column r 2) body e.1
 
 pub one_shown : (id : ℕ) (all rows : List Row) → AreRows IsMapRow map_cmp map_in_row all
     → Scanned (is_parameter 0 0 ∷ []) shown by_key (Int (pos id) ∷ []) all rows

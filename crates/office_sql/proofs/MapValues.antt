@@ -1,20 +1,20 @@
 -- The tests of SQL on columns of whole numbers, and their order.
 use Rattle.std.proofs.Common.{◌≡◌, ◌==◌}
-use Rattle.text_core.proofs.Kit.{ℕ, pos, Bool, true, false, refl, ap, ap₂, ◌∙◌, is_eq, Some, nat_cmp, int_cmp, arith, nat_tests, ints}
-use Rattle.office_sql.proofs.Kit.{Value, Int, is_true, from_truth, Eq, Compare, Binary, value_cmp-Int}
+use Rattle.text_core.proofs.Kit.{ℕ, pos, ap, ap₂, ◌∙◌, is_eq, nat_cmp, int_cmp, arith, nat_tests, ints}
+use Rattle.office_sql.proofs.Kit.{Value, Int, is_true, Eq, Compare, Binary, value_cmp-Int}
 use Rattle.sqlite.specs.Order.{value_cmp}
 use Rattle.sqlite.specs.Ops.{binary}
 use Rattle.office_sql.specs.Prelude.{number_in_cell}
-
-told : (b : Bool) → is_true (from_truth (Some b)) ≡ b
-told true = refl
-told false = refl
+use Rattle.office_sql.proofs.Values.{told}
 
 pub naturals_cmp : (m n : ℕ) → int_cmp (pos m) (pos n) ≡ nat_cmp m n
 naturals_cmp m n = grind (arith, ints, nat_tests)
 
 tied : (m n : ℕ) → is_eq (nat_cmp m n) ≡ (n == m)
 tied m n = grind (arith, nat_tests)
+
+pub numbers_tied : (m n : ℕ) → is_eq (nat_cmp m n) ≡ (m == n)
+numbers_tied m n = grind (arith, nat_tests)
 
 numbers_are : (m n : ℕ) → is_true (binary (Compare Eq Binary) (Int (pos m)) (Int (pos n))) ≡ (n == m)
 unfolding binary

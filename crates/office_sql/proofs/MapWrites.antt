@@ -1,7 +1,6 @@
 -- What the text that adds a map means, and what it does to the tables.
-use Rattle.std.proofs.Common.{◌≡◌, ◌==◌, ◌∷◌}
-use Rattle.text_core.proofs.Kit.{ℕ, ℤ, pos, Bool, not, cond, false, true, List, [], codes, map, filter, refl, sym, ap, ◌∙◌, subst, is_eq, nat_cmp, arith}
-use Rattle.text_core.proofs.Kit.{AllByRecursion, nat_tests}
+use Rattle.std.proofs.Common.{◌≡◌, ◌∷◌}
+use Rattle.text_core.proofs.Kit.{ℕ, ℤ, pos, not, false, true, List, [], codes, map, refl, sym, ap, ◌∙◌, subst, is_eq, AllByRecursion, kept_pass, not-true}
 use Rattle.office_sql.proofs.Kit.{Null, Int, Row, column, has_rowid, without_rowid, Term, lit, col, eval_all, Database, cast_row, next_rowid, all-map, all_both}
 use Rattle.office_sql.proofs.Kit.{sort_by}
 use Rattle.sqlite.specs.Order.{value_cmp}
@@ -11,12 +10,12 @@ use Rattle.sqlite_trees.proofs.ListLemmas.{all_weaker}
 use Rattle.office_sql.proofs.Types.{OfCustomer, NewMap, MapRow, Link, AddMap, AddLink}
 use Rattle.office_tables.specs.Prelude.{map_cmp, has_id, link_at, with_map, with_link, IsFree}
 use Rattle.office_tables.proofs.Finding.{find_none}
+use Rattle.office_tables.proofs.Orders.{map_total}
 use Rattle.office_sql.specs.Prelude.{maps, map_table, office_schema, rows_in, number_in_cell, map_in_row, map_columns, SqlAdds, Wrote, GainsMap, AreRows}
 use Rattle.office_sql.specs.Prelude.{IsMapRow, IsOffice, tables_in}
 use Rattle.office_sql.proofs.Inserting.{IsInsert}
 use Rattle.office_sql.proofs.Keyed.{Apart, apart_back, all_sorted}
-use Rattle.office_sql.proofs.MapReads.{map_total}
-use Rattle.office_sql.proofs.MapValues.{wholes_cmp}
+use Rattle.office_sql.proofs.MapValues.{wholes_cmp, numbers_tied}
 use Rattle.office_sql.proofs.Offices.{both_started, table_changed, told_stays}
 use Rattle.office_sql.proofs.Stepping.{cast_null}
 use Rattle.office_sql.proofs.TableRows.{next_is_free, row_added}
@@ -34,29 +33,13 @@ add_insert = record { means = record { is = refl; plain = (refl, refl); there = 
 pub add_casts : (m : OfCustomer NewMap) → cast_row map_table (eval_all add_terms (map_columns m ∷ [])) ≡ Null ∷ Null ∷ map_columns m
 add_casts m = rw cast_null refl
 
-kept_pass : {A : Type 0} (p : A → Bool) (xs : List A) → AllByRecursion (λ x. p x ≡ true) (filter p xs)
-kept_pass p [] = tt
-kept_pass p (x ∷ xs) = elim (p x) as (λ b. p x ≡ b
-    → AllByRecursion (λ x. p x ≡ true) (cond b (x ∷ filter p xs) (filter p xs))) [
-      | true ↦ λ e.
-          (e, kept_pass p xs)
-      | false ↦ λ _. kept_pass p xs
-    ] refl
-
-is_false : (b : Bool) → not b ≡ true → b ≡ false
-is_false true e = sym e
-is_false false e = refl
-
 -- where no row goes, none has the rowid
 left_whole : (id : ℤ) (rows : List Row) → without_rowid id rows ≡ rows → AllByRecursion (λ r. has_rowid id r ≡ false) rows
 left_whole id rows e =
     all_weaker (λ r. not (has_rowid id r) ≡ true) (λ r. has_rowid id r
     ≡ false) (λ r h.
-    is_false _ h) rows (subst (AllByRecursion (λ r. not (has_rowid id r)
+    not-true _ h) rows (subst (AllByRecursion (λ r. not (has_rowid id r)
     ≡ true)) e (kept_pass (λ r. not (has_rowid id r)) rows))
-
-tied : (m n : ℕ) → is_eq (nat_cmp m n) ≡ (m == n)
-tied m n = grind (arith, nat_tests)
 
 -- the next number is no map's
 next_apart : (id : ℕ) (body : List ℕ) (rows : List Row) → AreRows IsMapRow map_cmp map_in_row rows
@@ -92,7 +75,7 @@ map_gained m id old new office is adds =
     let now = table_changed old new office adds.schema adds.sound maps adds.others
     (subst (AreRows IsMapRow map_cmp map_in_row) (sym adds.row) it.0) (both_started old office) in
     let all = ap (λ l. sort_by map_cmp (map map_in_row l)) adds.row ∙ it.1 in
-    let none = all_weaker (Apart map_cmp map_total row) (λ y. has_id id y ≡ false) (λ y e. sym (tied id y.id) ∙ e) (map map_in_row rows) apart in
+    let none = all_weaker (Apart map_cmp map_total row) (λ y. has_id id y ≡ false) (λ y e. sym (numbers_tied id y.id) ∙ e) (map map_in_row rows) apart in
     record {
       office = now.0;
       free = find_none (has_id id) _ (all_sorted map_cmp map_total (λ y. has_id id y ≡ false) (map map_in_row rows) none);

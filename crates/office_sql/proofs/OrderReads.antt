@@ -1,7 +1,7 @@
 -- What the texts that read orders mean, and show.
 use Rattle.std.proofs.Common.{◌≡◌, ◌&&◌, ◌∷◌, ◌++◌, Ordering}
 use Rattle.text_core.proofs.Kit.{ℕ, List, [], codes, refl, sym, ap, ap₂, ◌∙◌, map, filter, Equal, is_eq, on, ordering_then, IsTotalOrder, tied_then, on_total}
-use Rattle.text_core.proofs.Kit.{then_total, nat_list_cmp_total, is_eq-slice_cmp}
+use Rattle.text_core.proofs.Kit.{then_total, is_eq-slice_cmp, and-true}
 use Rattle.sqlite.specs.declared.types.Value.TheVariants.{Text as Words}
 use Rattle.office_sql.proofs.Kit.{Row, column, Term, col, is_true, Eq, Compare, key_cmp, IsAnswer, inner, end, Join, Trees, Binary, Key, ascending}
 use Rattle.office_sql.proofs.Kit.{value_cmp_total, then-Equal, Database, overlay}
@@ -10,11 +10,12 @@ use Rattle.sqlite.specs.Listing.{understood}
 use Rattle.sqlite_tied.specs.Compute.{everything}
 use Rattle.office_sql.proofs.Types.{OfCustomer, Order}
 use Rattle.office_tables.specs.Prelude.{order_cmp, is_of, is_order}
+use Rattle.office_tables.proofs.Orders.{order_total}
 use Rattle.office_sql.specs.Prelude.{orders, order_starts, office_schema, rows_in, tree_of, order_in_row, starts_order, with_order_start, joined_order}
 use Rattle.office_sql.specs.Prelude.{is_parameter, passes, over, is_same, passes_join, first_that, IsOffice, IsOrderRow, IsStartRow, tables_in, text_if}
 use Rattle.office_sql.proofs.Kept.{shows_joined, start_is}
 use Rattle.office_sql.proofs.Reading.{IsJoined}
-use Rattle.office_sql.proofs.Values.{text_is, texts_cmp, and_true}
+use Rattle.office_sql.proofs.Values.{text_is, texts_cmp, level_total}
 
 abbrev pub one_text : List ℕ
 one_text = codes "SELECT orders.customer, name, issuer, prefix, width, first, quantity, macs, mac, cursor, not_before FROM orders JOIN order_start ON order_start.customer = orders.customer AND ord = name WHERE orders.customer = ?1 AND name = ?2 ORDER BY orders.customer, name"
@@ -53,12 +54,6 @@ pub own_read : IsJoined office_schema own_text with_starts (on_start ++ own_test
 unfolding understood everything
 own_read = record { names = names; is = refl; plain = (refl, refl); unlisted = refl; bare = λ schema base. refl }
 
-pub order_total : IsTotalOrder order_cmp
-order_total = then_total (on_total (λ o. o.customer) nat_list_cmp_total) (on_total (λ o. o.row.name) nat_list_cmp_total)
-
-level_total : IsTotalOrder (λ (a b : Row). Equal)
-level_total = record { antisymm = λ _ _. refl; trans = λ x y z p q. p; congr = λ x y z p. refl }
-
 abbrev pub by_name : Row → Row → Ordering
 by_name = on (λ r. column r 1 ∷ column r 2 ∷ []) (key_cmp 0 (ascending Binary ∷ ascending Binary ∷ []))
 
@@ -76,16 +71,16 @@ pub order_tied : (x y : OfCustomer Order) → is_eq (order_cmp x y) ≡ is_order
 order_tied x y = sym (tied_then _ _) ∙ ap₂ ◌&&◌ (is_eq-slice_cmp x.customer y.customer) (is_eq-slice_cmp x.row.name y.row.name)
 
 pub passes_order : (c n : List ℕ) (r : Row) → IsOrderRow r → passes one_tests (Words c ∷ Words n ∷ []) r ≡ is_order c n (order_in_row r)
-passes_order c n r e = ap₂ ◌&&◌ (text_is (column r 1) c e.0) (and_true _ ∙ text_is (column r 2) n e.1)
+passes_order c n r e = ap₂ ◌&&◌ (text_is (column r 1) c e.0) (and-true _ ∙ text_is (column r 2) n e.1)
 
 pub passes_customer : (c : List ℕ) (r : Row) → IsOrderRow r → passes own_tests (Words c ∷ []) r ≡ is_of c (order_in_row r)
-passes_customer c r e = and_true _ ∙ text_is (column r 1) c e.0
+passes_customer c r e = and-true _ ∙ text_is (column r 1) c e.0
 
 -- the start's key is the order's
 fits : (params r s : Row) → IsOrderRow r → IsStartRow s → passes_join on_start params r s ≡ starts_order (order_in_row r) s
 fits params r s e f =
     ap₂ ◌&&◌ (ap (λ v. is_true (binary (Compare Eq Binary) (column s 1) v)) e.0 ∙ text_is (column s 1) _ f.0)
-    (and_true _ ∙ ap (λ v. is_true (binary (Compare Eq Binary) (column s 2) v)) e.1 ∙ text_is (column s 2) _ f.1)
+    (and-true _ ∙ ap (λ v. is_true (binary (Compare Eq Binary) (column s 2) v)) e.1 ∙ text_is (column s 2) _ f.1)
 
 -- with what a row of starts says
 abbrev with_row : Row → OfCustomer Order → OfCustomer Order

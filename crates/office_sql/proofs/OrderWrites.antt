@@ -1,7 +1,7 @@
 -- What the texts that write an order mean, and do.
 use Rattle.std.proofs.Common.{◌≡◌, ◌&&◌, ◌∷◌}
 use Rattle.text_core.proofs.Kit.{inl, inr, ℕ, ℤ, pos, true, false, List, [], codes, map, Bool, arith, refl, sym, ap, ap₂, subst, subst₂, ◌∙◌, Equal, Option}
-use Rattle.text_core.proofs.Kit.{None, Ok, option_map, option_and_then, ordering_then, tied_itself, nat_list_cmp_total}
+use Rattle.text_core.proofs.Kit.{None, Ok, option_map, option_and_then, ordering_then, tied_itself, nat_list_cmp_total, and_parts, text_itself}
 use Rattle.office_sql.proofs.Kit.{Null, Int, Row, column, bytes, Term, lit, col, cast_row, put_row, Database, State, Executes, are_typed, next_rowid, sort_by}
 use Rattle.office_sql.proofs.Kit.{all_unmap, IsPermutation-sort_by, all-permutation}
 use Rattle.sqlite.specs.declared.types.Value.TheVariants.{Text as Words}
@@ -11,16 +11,18 @@ use Rattle.sqlite_tied.specs.Compute.{everything}
 use Rattle.id_ranges.specs.Prelude.{mac_text, mac_of_text}
 use Rattle.office_sql.proofs.Types.{OfCustomer, Order, Cursor, AddOrder, SetCursor}
 use Rattle.office_tables.specs.Prelude.{is_order, order_at, order_cmp, with_row, with_cursor_of}
+use Rattle.office_tables.proofs.Orders.{order_total}
+use Rattle.office_tables.proofs.Finding.{none_passes}
 use Rattle.office_sql.specs.Prelude.{orders, order_starts, orders_table, order_start_table, office_schema, rows_in, is_parameter, text_if, mac_if, mac_value}
 use Rattle.office_sql.specs.Prelude.{whole_value, columns_with_cursor, order_in_row, order_columns, starts_order, order_start_columns, with_order_start}
 use Rattle.office_sql.specs.Prelude.{AreRows, AreStarted, IsOffice, IsOrderRow, tables_in, told_in, SqlAdds, Wrote}
-use Rattle.office_sql.proofs.Finding.{find_none, only_found, both_true, texts_tied, texts_alike, same_bytes}
+use Rattle.office_sql.proofs.Finding.{only_found, texts_tied, texts_alike}
 use Rattle.office_sql.proofs.Inserting.{IsInsert}
 use Rattle.office_sql.proofs.Keyed.{Apart}
 use Rattle.office_sql.proofs.ColumnKinds.{AreOf, are_of, text_stays, number_stays}
 use Rattle.office_sql.proofs.Missing.{text_cast, text_back, text_typed}
 use Rattle.office_sql.proofs.Offices.{both_changed, table_changed, told_stays}
-use Rattle.office_sql.proofs.OrderReads.{order_total, order_tied, passes_order}
+use Rattle.office_sql.proofs.OrderReads.{order_tied, passes_order}
 use Rattle.office_sql.proofs.Replacing.{IsUpdate, IsSet, SetsOne, remade, sets}
 use Rattle.office_sql.proofs.Stepping.{cast_null, cast_int}
 use Rattle.office_sql.proofs.StartedRows.{find_made, started_more, started_as_was, replaced_with_starts}
@@ -59,8 +61,8 @@ address_back text mac is back = ap (option_and_then mac_of_text) (text_back (opt
 -- two orders with one start have one key
 order_ties : (a b : OfCustomer Order) (s : Row) → starts_order a s ≡ true → starts_order b s ≡ true → order_cmp a b ≡ Equal
 order_ties a b s e f =
-    let p = both_true _ _ e in
-    let q = both_true _ _ f in
+    let p = and_parts _ _ e in
+    let q = and_parts _ _ f in
     ap₂ ordering_then (texts_alike a.customer b.customer (bytes (column s 1)) p.0 q.0) (texts_alike a.row.name b.row.name (bytes (column s 2)) p.1 q.1)
 
 abbrev with_text : Option (List ℕ) → OfCustomer Order → OfCustomer Order
@@ -68,7 +70,7 @@ with_text t o = record o { row = record o.row { not_before = t } }
 
 -- its own start is for it
 own_start : (o : OfCustomer Order) (id : ℤ) → starts_order o (Int id ∷ order_start_columns o) ≡ true
-own_start o id = ap₂ ◌&&◌ (same_bytes o.customer) (same_bytes o.row.name)
+own_start o id = ap₂ ◌&&◌ (text_itself o.customer o.customer refl) (text_itself o.row.name o.row.name refl)
 
 pub order_added : (o : OfCustomer Order) → mac_if (mac_value o.row.mac) ≡ o.row.mac
     → (old mid new : Database) → IsOffice old
@@ -83,7 +85,7 @@ order_added o back old mid new office none adds starts =
     ∙ told_stays orders old.trees mid.trees (λ e. cc) (λ e. cc) adds.others in
     let beside : rows_in mid.trees order_starts ≡ rows_in old.trees order_starts = adds.others order_starts (λ e. cc) in
     let unkeyed = all-permutation (λ y. is_order o.customer o.row.name y ≡ false) _ _ (IsPermutation-sort_by order_cmp order_total (map order_in_row rows))
-    (all_unmap (λ y. is_order o.customer o.row.name y ≡ false) (with_order_start (rows_in old.trees order_starts)) _ (find_none _ _ none)) in
+    (all_unmap (λ y. is_order o.customer o.row.name y ≡ false) (with_order_start (rows_in old.trees order_starts)) _ (none_passes _ _ none)) in
     let apart = all_weaker _ (Apart order_cmp order_total (order_in_row new_row)) (λ y e. order_tied o y ∙ e) (map order_in_row rows) unkeyed in
     let own_row : Row = Int (next_rowid (rows_in old.trees order_starts)) ∷ order_start_columns o in
     let more = started_more IsOrderRow order_cmp order_total order_in_row starts_order with_text (λ t u a b. refl) order_ties
@@ -174,8 +176,8 @@ module _ (c : OfCustomer Cursor) where
 
   ties : (a b : OfCustomer Order) → is_its a ≡ true → is_its b ≡ true → order_cmp a b ≡ Equal
   ties a b e f =
-      let p = both_true _ _ e in
-      let q = both_true _ _ f in
+      let p = and_parts _ _ e in
+      let q = and_parts _ _ f in
       ap₂ ordering_then (texts_tied c.customer a.customer b.customer p.0 q.0) (texts_tied c.row.order a.row.name b.row.name p.1 q.1)
 
   -- where a cursor is set, it is the order's

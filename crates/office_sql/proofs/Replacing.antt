@@ -1,9 +1,9 @@
 -- What an UPDATE of the row with a key does. No reference acts on an update here, so a table that others refer to is as any other.
 use Rattle.std.proofs.Common.{◌≡◌, ◌≢◌, ◌⊎◌, ◌∷◌, Ordering, ◌==◌}
-use Rattle.text_core.proofs.Kit.{ℕ, ℤ, Bool, true, false, not, cond, List, [], map, filter, length, slice_get, Option, Some, None, Ok, refl, sym, ap, Less}
-use Rattle.text_core.proofs.Kit.{Equal, is_eq, is_lt, true≢false, subst, ◌∙◌, inl, inr, arith, AllByRecursion, filter_map, flat_map, IsPermutation}
-use Rattle.text_core.proofs.Kit.{length_permutation, unwrap_or, IsTotalOrder, cases_eq, tied_itself, IsPermutation-refl, IsPermutation-trans}
-use Rattle.text_core.proofs.Kit.{IsPermutation-cons, IsPermutation-middle}
+use Rattle.text_core.proofs.Kit.{ℕ, ℤ, Bool, true, false, not, List, [], map, filter, length, slice_get, Option, Some, None, Ok, refl, sym, ap, Less, Equal}
+use Rattle.text_core.proofs.Kit.{is_eq, is_lt, true≢false, subst, ◌∙◌, inl, inr, AllByRecursion, filter_map, flat_map, IsPermutation, length_permutation}
+use Rattle.text_core.proofs.Kit.{unwrap_or, IsTotalOrder, cases_eq, tied_itself, IsPermutation-refl, IsPermutation-trans, IsPermutation-cons}
+use Rattle.text_core.proofs.Kit.{IsPermutation-middle, nil_from_length}
 use Rattle.office_sql.proofs.Kit.{Null, Int, Row, Term, eval_all, overlay, Update, edit_of, edited, Given, Tally, Does, AtPlace, OnRows, Edited, Written, Table}
 use Rattle.office_sql.proofs.Kit.{Trees, put_row, without_rowid, Database, IsDatabase, State, mode_of, Executes, IsPlain, command_of, statement_of, runs_as}
 use Rattle.office_sql.proofs.Kit.{one_step, one_permutation, Enforced, cast_row, ids_of, works, work_by, pairs, deed_for, taken_by, parent_key, IsTable, rowid}
@@ -19,6 +19,7 @@ use Rattle.office_sql.proofs.Inserting.{enforced, task_on}
 use Rattle.office_sql.proofs.Scan.{scanned}
 use Rattle.office_sql.proofs.TableRows.{row_replaced}
 use Rattle.office_tables.specs.Prelude.{with_row}
+use Rattle.office_tables.proofs.Finding.{none_filtered}
 use Rattle.office_sql.proofs.Stepping.{went, same_value}
 
 -- the references of the office act on nothing
@@ -30,10 +31,6 @@ calm tree olds news =
     work_by 0 tree (pairs olds news) child ref (deed_for Enforced b ref)
     (parent_key office_schema.tables ref)) child.references) office_schema.tables ≡ [])
     [ true ↦ refl | false ↦ refl ]
-
-nothing : {X : Type 0} (xs : List X) → length xs ≡ 0 → xs ≡ []
-nothing [] e = refl
-nothing (x ∷ xs) e = absurd (omega arith)
 
 -- what the text of an UPDATE means
 pub record IsUpdate (text : List ℕ) (table : OfficeTable) (tests shown : List Term) : Type 0 where
@@ -130,7 +127,7 @@ module _ (text : List ℕ) (table : OfficeTable) (tests shown : List Term)
   -- where none passes, nothing changes
   pub stays : passing tests params (rows_in old.now.trees table) ≡ [] → SqlStays old.now new.now × (count ≡ 0)
   stays none =
-      let it = updates [] none (λ l same. nothing l (length_permutation [] l same)) in (
+      let it = updates [] none (λ l same. nil_from_length l (length_permutation [] l same)) in (
         record {
           schema = it.1.schema;
           sound = it.1.sound;
@@ -143,11 +140,6 @@ module _ (text : List ℕ) (table : OfficeTable) (tests shown : List Term)
       )
 
 -- ---- the row with a key
-
-none_passes : {A : Type 0} (p : A → Bool) (xs : List A) → filter p xs ≡ [] → AllByRecursion (λ x. p x ≡ false) xs
-none_passes p [] e = tt
-none_passes p (x ∷ xs) e = elim (p x) as (λ b. p x ≡ b → cond b (x ∷ filter p xs) (filter p xs) ≡ [] → (p x ≡ false) × AllByRecursion (λ x. p x ≡ false) xs)
-    [ true ↦ λ _ h. absurd (let f = h in cc) | false ↦ λ fails h. (fails, none_passes p xs h) ] refl e
 
 -- a row and the rest
 pub without_one : (rows : List Row) (r : Row) (id : ℤ) → IsTable rows → Has rows r → rowid r ≡ Int id → IsPermutation rows (r ∷ without_rowid id rows)
@@ -202,7 +194,7 @@ module _ {A : Type 0} (Typed : Row → Type 0) (cmp : A → A
           → ((passing tests params rows ≡ [])
           × AllByRecursion (λ x. p x ≡ false) (map value rows)) ⊎ ((r : Row) × (id : ℤ)
           × (passing tests params rows ≡ r ∷ []) × IsTheRow Typed value p rows r id)
-      go [] e = inl (same ∙ e, all-map (λ x. p x ≡ false) value rows (none_passes (λ r. p (value r)) rows e))
+      go [] e = inl (same ∙ e, all-map (λ x. p x ≡ false) value rows (none_filtered (λ r. p (value r)) rows e))
       go (r ∷ []) e =
           let has = has_filtered (λ r. p (value r)) rows r (subst (λ l. Has l r) (sym e) (inl refl)) in
           let numbered = int_is (rowid r) (all_has _ rows r are.numbered has.0) in

@@ -1,16 +1,17 @@
 -- What the text that reads a seat means, and shows.
 use Rattle.std.proofs.Common.{◌≡◌, ◌∷◌, Ordering}
-use Rattle.text_core.proofs.Kit.{ℕ, List, [], codes, refl, ◌∙◌, map, filter, Equal, on, IsTotalOrder, on_total, then_total, nat_list_cmp_total}
+use Rattle.text_core.proofs.Kit.{ℕ, List, [], codes, refl, ◌∙◌, map, filter, Equal, on, IsTotalOrder, on_total, then_total, and-true}
 use Rattle.office_sql.proofs.Kit.{Null, Row, column, Term, col, key_cmp, Binary, Key, ascending, value_cmp_total, then-Equal, sort_by}
 use Rattle.sqlite.specs.declared.types.Value.TheVariants.{Text as Words}
 use Rattle.sqlite.specs.Listing.{understood}
 use Rattle.sqlite_tied.specs.Compute.{everything}
 use Rattle.office_tables.specs.Prelude.{seat_cmp, is_seat}
+use Rattle.office_tables.proofs.Orders.{seat_total}
 use Rattle.office_sql.specs.Prelude.{seats, office_schema, seat_in_row, is_parameter, passes, AreRows, IsSeatRow}
 use Rattle.office_sql.proofs.Kept.{shows_kept}
 use Rattle.office_sql.proofs.Reading.{IsRead}
 use Rattle.office_sql.proofs.Scan.{Scanned}
-use Rattle.office_sql.proofs.Values.{text_is, texts_cmp, and_true}
+use Rattle.office_sql.proofs.Values.{text_is, texts_cmp, level_total}
 
 abbrev pub one_text : List ℕ
 one_text = codes "SELECT name, customer, last, digest, reply FROM seat WHERE name = ?1 ORDER BY name"
@@ -25,12 +26,6 @@ pub one_read : IsRead office_schema one_text seats (is_parameter 1 0 ∷ []) sho
 unfolding understood everything
 one_read = record { names = codes "name" ∷ codes "customer" ∷ codes "last" ∷ codes "digest" ∷ codes "reply" ∷ []; is = refl; plain = (refl, refl); unlisted = refl; bare = λ schema base. refl; there = λ db. refl }
 
-pub seat_total : IsTotalOrder seat_cmp
-seat_total = on_total (λ o. o.row.name) nat_list_cmp_total
-
-level_total : IsTotalOrder (λ (a b : Row). Equal)
-level_total = record { antisymm = λ _ _. refl; trans = λ x y z p q. p; congr = λ x y z p. refl }
-
 abbrev pub by_name : Row → Row → Ordering
 by_name = on (λ r. column r 1 ∷ []) (key_cmp 0 (ascending Binary ∷ []))
 
@@ -38,7 +33,7 @@ pub by_name_total : IsTotalOrder by_name
 by_name_total = on_total (λ r. column r 1 ∷ []) (then_total (on_total (λ r. column r 0) value_cmp_total) level_total)
 
 pub passes_seat : (n : List ℕ) (r : Row) → IsSeatRow r → passes (is_parameter 1 0 ∷ []) (Words n ∷ []) r ≡ is_seat n (seat_in_row r)
-passes_seat n r e = and_true _ ∙ text_is (column r 1) n e
+passes_seat n r e = and-true _ ∙ text_is (column r 1) n e
 
 pub one_shown : (n : List ℕ) (all rows : List Row) → AreRows IsSeatRow seat_cmp seat_in_row all
     → Scanned (is_parameter 1 0 ∷ []) shown by_key (Words n ∷ []) all rows

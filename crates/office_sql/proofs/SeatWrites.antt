@@ -2,6 +2,7 @@
 use Rattle.std.proofs.Common.{◌≡◌, filter, inl, inr, ℕ, pos, ◌==◌, List, [], ◌∷◌, codes, map, refl, sym, ap, subst, ◌∙◌, Ok, None, MatchBool}
 use Rattle.std.proofs.lemmas.Cmp.{tied_itself, nat_list_cmp_total}
 use Rattle.std.proofs.lemmas.Map.Text.{is_eq-slice_cmp}
+use Rattle.text_core.proofs.Kit.{same_text}
 use Rattle.office_sql.proofs.Kit.{Null, Int, Row, column, bytes, Term, lit, col, put_row, without_rowid, next_rowid, cast, cast_row, Database, State, Executes}
 use Rattle.office_sql.proofs.Kit.{sort_by}
 use Rattle.sqlite.specs.declared.types.Value.TheVariants.{Text as Words, Blob as Bytes}
@@ -11,14 +12,15 @@ use Rattle.sqlite_trees.proofs.ListLemmas.{all_weaker}
 use Rattle.sqlite_tied.specs.Compute.{everything}
 use Rattle.office_sql.proofs.Types.{OfCustomer, SeatState, PutSeat}
 use Rattle.office_tables.specs.Prelude.{Writes, is_seat, seat_at, seat_cmp, with_row}
+use Rattle.office_tables.proofs.Orders.{seat_total}
 use Rattle.office_sql.specs.Prelude.{seats, office_schema, seat_table, rows_in, is_parameter, whole_value, seat_in_row, seat_columns, AreRows, IsOffice}
 use Rattle.office_sql.specs.Prelude.{IsSeatRow, tables_in, SqlAdds, SameBut, SqlStays, WritesRows, Wrote, LacksSeat}
-use Rattle.office_sql.proofs.Finding.{unkeyed, unfound, same_text, texts_tied}
+use Rattle.office_sql.proofs.Finding.{unkeyed, unfound, texts_tied}
 use Rattle.office_sql.proofs.Inserting.{IsInsert}
 use Rattle.office_sql.proofs.Keyed.{Apart}
 use Rattle.office_sql.proofs.Offices.{both_started, office_stays, table_changed, told_same, told_stays}
 use Rattle.office_sql.proofs.Replacing.{IsUpdate, IsSet, SetsNone, SetsOne, remade, sets}
-use Rattle.office_sql.proofs.SeatReads.{seat_total, passes_seat}
+use Rattle.office_sql.proofs.SeatReads.{passes_seat}
 use Rattle.office_sql.proofs.Stepping.{cast_null, cast_int}
 use Rattle.office_sql.proofs.TableRows.{row_added}
 

@@ -6,8 +6,8 @@ use Rattle.text_core.proofs.Kit.{IsPermutation-sym}
 use Rattle.office_sql.proofs.Kit.{Int, Row, column, IsTable, put_row, without_rowid, next_rowid, sort_by, all_unmap, all-map, IsTable-put_row, all-put_row}
 use Rattle.sqlite_trees.proofs.ListLemmas.{all_weaker}
 use Rattle.office_tables.specs.Prelude.{with_row}
+use Rattle.office_tables.proofs.Finding.{find_none}
 use Rattle.office_sql.specs.Prelude.{start_in_rows, AreRows, AreStarted, IsStartRow, text_if}
-use Rattle.office_sql.proofs.Finding.{none_found}
 use Rattle.office_sql.proofs.Kept.{map_each}
 use Rattle.office_sql.proofs.Keyed.{Apart, all_sorted}
 use Rattle.office_sql.proofs.Starts.{start_added, start_kept}
@@ -60,7 +60,7 @@ module _ {A : Type 0} (Typed : Row → Type 0) (cmp : A → A
       one : (s : Row) → is_some (find (λ r. is_for (value r) s) rows) ≡ true → is_for a s ≡ false
       one s some =
           elim (is_for a s) as (λ v. is_for a s ≡ v → v ≡ false) [
-            | true ↦ λ its. absurd (true≢false (sym some ∙ ap is_some (none_found (λ r. is_for (value r) s) rows
+            | true ↦ λ its. absurd (true≢false (sym some ∙ ap is_some (find_none (λ r. is_for (value r) s) rows
                 (all_weaker _ (λ r. is_for (value r) s ≡ false) (λ r e. not_both a (value r) s e its) rows apart))))
             | false ↦ λ e. refl
           ] refl

@@ -1,15 +1,14 @@
 -- The tests of SQL on columns of one kind, and their order.
-use Rattle.std.proofs.Common.{◌≡◌, ◌&&◌, Ordering}
+use Rattle.std.proofs.Common.{◌≡◌, Ordering}
 use Rattle.text_core.proofs.Kit.{ℕ, ℤ, Bool, true, false, List, refl, ap, ap₂, ◌∙◌, is_eq, Some, bytes_eq, nat_cmp, slice_cmp, nat_list_eq_equiv, tied_itself}
-use Rattle.text_core.proofs.Kit.{Less, Equal, Greater, is_gt, is_lt, nat_list_cmp_total, ordering_reverse}
-use Rattle.text_core.proofs.Kit.{is_eq-slice_cmp}
+use Rattle.text_core.proofs.Kit.{Less, Equal, Greater, is_gt, is_lt, nat_list_cmp_total, ordering_reverse, is_eq-slice_cmp, IsTotalOrder}
 use Rattle.office_sql.proofs.Kit.{Value, Null, Int, bytes, is_true, from_truth, Eq, Gt, Compare, Is, Binary, value_cmp_total, value_cmp-apart, value_cmp-Text}
-use Rattle.office_sql.proofs.Kit.{value_cmp-Blob}
+use Rattle.office_sql.proofs.Kit.{value_cmp-Blob, Row}
 use Rattle.sqlite.specs.declared.types.Value.TheVariants.{Text as Words, Blob as Bytes}
 use Rattle.sqlite.specs.Order.{value_cmp}
 use Rattle.sqlite.specs.Ops.{binary}
 
-told : (b : Bool) → is_true (from_truth (Some b)) ≡ b
+pub told : (b : Bool) → is_true (from_truth (Some b)) ≡ b
 told true = refl
 told false = refl
 
@@ -41,9 +40,9 @@ text_is v t e = ap (λ w. is_true (binary (Compare Eq Binary) w (Words t))) e �
 pub blob_is : (v : Value) (t : List ℕ) → v ≡ Bytes (bytes v) → is_true (binary (Compare Eq Binary) v (Bytes t)) ≡ bytes_eq t (bytes v)
 blob_is v t e = ap (λ w. is_true (binary (Compare Eq Binary) w (Bytes t))) e ∙ blobs_are (bytes v) t
 
-pub and_true : (b : Bool) → (b && true) ≡ b
-and_true true = refl
-and_true false = refl
+-- rows that no key tells apart
+pub level_total : IsTotalOrder (λ (a b : Row). Equal)
+level_total = record { antisymm = λ _ _. refl; trans = λ x y z p q. p; congr = λ x y z p. refl }
 
 -- columns of one kind are in the order of what they stand for
 pub texts_cmp : (v w : Value) → v ≡ Words (bytes v) → w ≡ Words (bytes w) → value_cmp v w ≡ slice_cmp nat_cmp (bytes v) (bytes w)

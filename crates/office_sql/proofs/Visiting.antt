@@ -77,7 +77,7 @@ begun g sql params old new never (inl h) = h
 begun g sql params old new never (inr h) = absurd (never h.0)
 
 -- ---- a row more
-joined : (given more : List Row) (row : Row) → given ++ row ∷ more ≡ (given ++ row ∷ []) ++ more
+pub joined : (given more : List Row) (row : Row) → given ++ row ∷ more ≡ (given ++ row ∷ []) ++ more
 joined [] more row = refl
 joined (x ∷ given) more row = ap (λ l. x ∷ l) (joined given more row)
 
@@ -94,7 +94,8 @@ module _ {K R : Type 0} (takes : K → R → Bool → K → Type 0) (reads : Row
   pub no_more : Visits takes before (map reads given) mid
   no_more = subst (λ l. Visits takes before (map reads l) mid) (append-nil given) (so_far [] mid refl)
 
-still : (old new : State) → IsUnchanged old new → IsUnchanged new new
+-- a connection that is as it was is as it is
+pub still : (old new : State) → IsUnchanged old new → IsUnchanged new new
 still old new same = (
   record { was_open = same.0.is_open; is_open = same.0.is_open; now_is = refl; committed_is = refl; mode = refl },
   record { changes = refl; last_rowid = refl },

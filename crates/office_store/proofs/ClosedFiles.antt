@@ -1,8 +1,6 @@
 -- What a crash may leave of files is what the store that had them could leave.
 use Rattle.std.proofs.Common.{◌≡◌, IsTrue}
-use Rattle.sqlite.specs.Recovery.{Image}
 use Rattle.sqlite.specs.View.{doubt}
-use Rattle.sqlite.specs.WalFiles.{outcomes}
 use Rattle.sqlite.specs.WalReads.{AreClean}
 use Rattle.sqlite_disk.specs.declared.Disk.{Ghosts}
 use Rattle.sqlite_pool.specs.Pool.{files, state}
@@ -17,7 +15,3 @@ module _ {D : Type 0} {g : Ghosts D} (it : Pool D g) (clean : AreClean g (files 
   pub is_clean : doubt (state it).is_clean ≡ 0
   unfolding state files
   is_clean = no_doubt (state it).is_clean clean
-
-  pub leaves : (left : Image) → outcomes g (files it).0 (files it).1 left → (state it).may_leave left
-  unfolding state files
-  leaves left outcome = (clean, outcome)

@@ -3,6 +3,7 @@
 -- if no number of a map or of an entry is below zero. One lemma for each table.
 use Rattle.std.proofs.Common.{◌≡◌, ℕ, List, false, [], ◌∷◌, ◌++◌, refl, sym, ap, subst, ◌∙◌, inl, inr, is_eq, Less, IsTrue}
 use Rattle.std.specs.List.{AllByRecursion}
+use Rattle.text_core.proofs.Kit.{and_parts, not-true}
 use Rattle.office_sql.proofs.Kit.{Row, column, IsShaped, IsOrdered, is_int, Trees, rowid, Shape, catalog_tree, IsListed, Index, Schema, Table, Datatype}
 use Rattle.office_sql.proofs.Kit.{NotNull, Unique, clashes, plain, IsSound, table_shape, Has, all_both, ascending-map}
 use Rattle.sqlite.specs.Order.{value_cmp}
@@ -16,8 +17,8 @@ use Rattle.office_sql.specs.Prelude.{IsEntryRow}
 use Rattle.office_found.specs.Prelude.{HasWhole, IsNotBelow, given_keyed, schema_keyed}
 use Rattle.office_sql.proofs.Kept.{narrowed}
 use Rattle.office_sql.proofs.MapValues.{wholes_cmp}
-use Rattle.office_found.proofs.FoundRows.{both_true, not_true, text_at, blob_at, int_at, text_if_at, whole_of, texts_tie, blobs_tie, wholes_tie, then_ties}
-use Rattle.office_found.proofs.FoundRows.{entry_ties, last_ties, rows_found}
+use Rattle.office_found.proofs.FoundRows.{text_at, blob_at, int_at, text_if_at, whole_of, texts_tie, blobs_tie, wholes_tie, then_ties, entry_ties, last_ties}
+use Rattle.office_found.proofs.FoundRows.{rows_found}
 
 -- ids that are whole numbers are in the order of the rowids
 maps_apart : (a b : Row) → IsMapRow a → IsMapRow b → value_cmp (rowid a) (rowid b) ≡ Less → is_eq (map_cmp (map_in_row a) (map_in_row b)) ≡ false
@@ -51,7 +52,7 @@ module _ (one two three : List ℕ) (keyed : (P : List ℕ → Type 0) → P one
       (all_both _ _ IsSeatRow (λ r d n.
       text_at schema trees seat_table r d n 0 (refl, refl, refl) (refl, refl))
       rows (sound.obeys.rules Datatype).1.0 (sound.obeys.rules NotNull).1.0)
-      (all_weaker _ (λ r. clashes plain (1 ∷ []) rows r ≡ false) (λ r h. not_true _ (both_true _ _ h).0) rows (sound.obeys.rules Unique).1.0)
+      (all_weaker _ (λ r. clashes plain (1 ∷ []) rows r ≡ false) (λ r h. not-true _ (and_parts _ _ h).0) rows (sound.obeys.rules Unique).1.0)
 
   links_found : AreRows IsLinkRow link_cmp link_in_row (rows_in trees links)
   links_found =
@@ -65,7 +66,7 @@ module _ (one two three : List ℕ) (keyed : (P : List ℕ → Type 0) → P one
         blob_at schema trees link_table r d n 1 (refl, refl, refl) (refl, refl),
       ))
       rows (sound.obeys.rules Datatype).1.1.1.0 (sound.obeys.rules NotNull).1.1.1.0)
-      (all_weaker _ (λ r. clashes plain (1 ∷ 2 ∷ []) rows r ≡ false) (λ r h. not_true _ (both_true _ _ h).0) rows (sound.obeys.rules Unique).1.1.1.0)
+      (all_weaker _ (λ r. clashes plain (1 ∷ 2 ∷ []) rows r ≡ false) (λ r h. not-true _ (and_parts _ _ h).0) rows (sound.obeys.rules Unique).1.1.1.0)
 
   orders_found : AreRows IsOrderRow order_cmp order_in_row (rows_in trees orders)
   orders_found =
@@ -76,9 +77,9 @@ module _ (one two three : List ℕ) (keyed : (P : List ℕ → Type 0) → P one
       (all_both _ _ IsOrderRow (λ r d n. (
         text_at schema trees orders_table r d n 0 (refl, refl, refl) (refl, refl),
         text_at schema trees orders_table r d n 1 (refl, refl, refl) (refl, refl),
-        (both_true _ _ d).0,
+        (and_parts _ _ d).0,
       )) rows (sound.obeys.rules Datatype).1.1.1.1.0 (sound.obeys.rules NotNull).1.1.1.1.0)
-      (all_weaker _ (λ r. clashes plain (1 ∷ 2 ∷ []) rows r ≡ false) (λ r h. not_true _ (both_true _ _ h).0) rows (sound.obeys.rules Unique).1.1.1.1.0)
+      (all_weaker _ (λ r. clashes plain (1 ∷ 2 ∷ []) rows r ≡ false) (λ r h. not-true _ (and_parts _ _ h).0) rows (sound.obeys.rules Unique).1.1.1.1.0)
 
   devices_found : AreRows IsDeviceRow device_cmp device_in_row (rows_in trees devices)
   devices_found =
@@ -91,7 +92,7 @@ module _ (one two three : List ℕ) (keyed : (P : List ℕ → Type 0) → P one
         text_at schema trees device_table r d n 1 (refl, refl, refl) (refl, refl),
         text_at schema trees device_table r d n 2 (refl, refl, refl) (refl, refl),
       )) rows (sound.obeys.rules Datatype).1.1.1.1.1.0 (sound.obeys.rules NotNull).1.1.1.1.1.0)
-      (all_weaker _ (λ r. clashes plain (1 ∷ 2 ∷ []) rows r ≡ false) (λ r h. not_true _ (both_true _ _ h).0) rows (sound.obeys.rules Unique).1.1.1.1.1.0)
+      (all_weaker _ (λ r. clashes plain (1 ∷ 2 ∷ []) rows r ≡ false) (λ r h. not-true _ (and_parts _ _ h).0) rows (sound.obeys.rules Unique).1.1.1.1.1.0)
 
   given_found : AreRows IsGivenRow given_cmp given_in_row (rows_in trees given)
   given_found =
@@ -106,7 +107,7 @@ module _ (one two three : List ℕ) (keyed : (P : List ℕ → Type 0) → P one
         text_if_at schema trees given_table r d 5 (refl, refl, refl),
       )) rows (sound.obeys.rules Datatype).1.1.1.1.1.1.0 (sound.obeys.rules NotNull).1.1.1.1.1.1.0)
       (all_weaker _ (λ r. clashes plain (1 ∷ 2 ∷ []) rows r ≡ false)
-      (λ r h. keyed (λ places. clashes plain places rows r ≡ false) (not_true _ (both_true _ _ h).0) (not_true _ (both_true _ _ (both_true _ _ h).1).0))
+      (λ r h. keyed (λ places. clashes plain places rows r ≡ false) (not-true _ (and_parts _ _ h).0) (not-true _ (and_parts _ _ (and_parts _ _ h).1).0))
       rows (sound.obeys.rules Unique).1.1.1.1.1.1.0)
 
   module _ (whole : HasWhole trees) where
@@ -159,7 +160,7 @@ module _ (one two three : List ℕ) (keyed : (P : List ℕ → Type 0) → P one
         (all_both (λ r. IsWhole 0 r × IsText 2 r × IsText 3 r) (IsWhole 4) IsEntryRow (λ r h n. (h.0, h.1, h.2, n)) rows half numbers)
         (all_weaker _ (λ r. clashes plain (2 ∷ 3 ∷ 4 ∷ []) rows r
         ≡ false) (λ r h.
-        not_true _ (both_true _ _ h).0) rows (sound.obeys.rules Unique).1.1.1.1.1.1.1.0)
+        not-true _ (and_parts _ _ h).0) rows (sound.obeys.rules Unique).1.1.1.1.1.1.1.0)
 
     -- the rows of a found database
     pub rows_of_office : AreOfficeRows trees

@@ -3,6 +3,7 @@
 use Rattle.std.proofs.Common.{◌≡◌, ℕ, List, [], ◌∷◌, ◌&&◌, ◌||◌, codes, map, filter, find, Bool, true, false, Some, refl, sym, ap, subst, ◌∙◌, inl, inr, ◌≢◌}
 use Rattle.std.proofs.Common.{arith, None, Ordering, is_eq, true≢false, slice_get, is_some}
 use Rattle.std.specs.List.{AllByRecursion}
+use Rattle.text_core.proofs.Kit.{and-true, and_parts, not-true}
 use Rattle.office_sql.proofs.Kit.{Null, Row, column, Trees, IsAscending, IsOrdered, Shape, catalog_tree, IsListed, IsSound, ForeignKey, Unique, Index}
 use Rattle.office_sql.proofs.Kit.{Reference, Table, agree, clashes, has_null, is_held, parent_key, plain, Has, has_filtered, slice_get-filter}
 use Rattle.office_sql.proofs.Kit.{ascending_from_map, all_both, all_of, all-map, sort_by, Database}
@@ -14,7 +15,6 @@ use Rattle.office_tables.specs.Prelude.{order_cmp, given_cmp}
 use Rattle.office_sql.specs.Prelude.{orders, given, order_starts, given_starts, order_in_row, given_in_row, starts_order, starts_given, order_start_table}
 use Rattle.office_sql.specs.Prelude.{given_start_table, index_at, to, rows_in, tree_of, AreKeyed, AreOfficeRows, AreRows, AreStarted, HasOne, IsGivenRow}
 use Rattle.office_sql.specs.Prelude.{IsOffice, IsOrderRow, IsStartRow, IsText, site_text_table, start_in_rows, tables_in, with_order_start, with_given_start}
-use Rattle.office_sql.proofs.Values.{and_true}
 use Rattle.office_sql.proofs.OrderReads.{order_tied}
 use Rattle.office_sql.proofs.GivenReads.{given_tied}
 use Rattle.office_store.proofs.Types.{Version, First, Second, Third}
@@ -23,7 +23,7 @@ use Rattle.office_found.specs.Prelude.{AreAllStarted, AreStartsFound, HasMeta, H
 use Rattle.office_found.proofs.FoundLacks.{started, order_starts_typed, given_starts_typed}
 use Rattle.office_store.proofs.FoundNothing.{unstarted_found}
 use Rattle.office_store.proofs.FoundOffice.{shaped}
-use Rattle.office_found.proofs.FoundRows.{both_true, not_true, texts_tie, then_ties, last_ties, rows_found}
+use Rattle.office_found.proofs.FoundRows.{texts_tie, then_ties, last_ties, rows_found}
 use Rattle.office_store.proofs.Telling.{told_once}
 use Rattle.office_found.proofs.StartKeys.{agrees_its, any_found, is_its, its_twice}
 
@@ -70,7 +70,7 @@ parented : (tables : List Table) (db : Trees) (tree : ℕ) (ref : Reference) →
 parented tables db tree ref pointed typed s f h =
     let held : is_held db (1 ∷ 2 ∷ []) s (Some (tree, 1 ∷ 2 ∷ [], plain)) ≡ true =
     ap (λ b. b || is_held db (1 ∷ 2 ∷ []) s (Some (tree, 1 ∷ 2 ∷ [], plain))) (sym (there s f))
-    ∙ ap (λ k. has_null (1 ∷ 2 ∷ []) s || is_held db (1 ∷ 2 ∷ []) s k) (sym pointed) ∙ sym (and_true _) ∙ h in
+    ∙ ap (λ k. has_null (1 ∷ 2 ∷ []) s || is_held db (1 ∷ 2 ∷ []) s k) (sym pointed) ∙ sym (and-true _) ∙ h in
     any_found (λ r. agree plain (1 ∷ 2 ∷ []) r (1 ∷ 2 ∷ []) s) (λ r. is_its r s) (db tree) (all_weaker _ _ (λ r e. agrees_its r s e f) (db tree) typed) held
 
 abbrev to_orders : Reference
@@ -110,7 +110,7 @@ module _ (more : List Table) (shapes : ℕ → Shape) (reals : ℕ → ℕ) (tre
       order_start_table (inr (inr (inr (inr (inr (inr (inr (inr (inl refl)))))))))) (order_starts_typed more trees sound)
       (all_weaker _ (λ r. clashes plain (1 ∷ 2 ∷ []) starts r
       ≡ false) (λ r h.
-      not_true _ (both_true _ _ h).0) starts (sound.obeys.rules Unique).1.1.1.1.1.1.1.1.0)
+      not-true _ (and_parts _ _ h).0) starts (sound.obeys.rules Unique).1.1.1.1.1.1.1.1.0)
 
   starts_of_given : AreRows IsStartRow given_cmp given_in_row (rows_in trees given_starts)
   starts_of_given =
@@ -122,7 +122,7 @@ module _ (more : List Table) (shapes : ℕ → Shape) (reals : ℕ → ℕ) (tre
       given_start_table (inr (inr (inr (inr (inr (inr (inr (inr (inr (inl refl))))))))))) (given_starts_typed more trees sound)
       (all_weaker _ (λ r. clashes plain (1 ∷ 2 ∷ []) starts r
       ≡ false) (λ r h.
-      not_true _ (both_true _ _ h).0) starts (sound.obeys.rules Unique).1.1.1.1.1.1.1.1.1.0)
+      not-true _ (and_parts _ _ h).0) starts (sound.obeys.rules Unique).1.1.1.1.1.1.1.1.1.0)
 
   -- each start is one of an order, or of a record
   orders_back : AllByRecursion (λ s. is_some (find (λ r. is_its r s) (rows_in trees orders)) ≡ true) (rows_in trees order_starts)

@@ -22,7 +22,7 @@ mod Preparing
 mod LeftOfSite
 mod Telling
 mod Opened
-mod ClosedFiles
+pub mod ClosedFiles
 mod Spared
 mod TurnedAway
 mod Drops

@@ -4,7 +4,7 @@ use Rattle.std.proofs.Common.{refl, sym, ap, subst, ◌∙◌, Vec, IsUtf8}
 use Rattle.std.specs.declared.alloc.Global.{Global}
 use Rattle.sha2.specs.Sha256.{sha256}
 use Rattle.site_core.specs.Prelude.{TextOfSite}
-use Rattle.office_sql.proofs.Kit.{Row, Database, Held, state, HasCleanDisk, IsUnchanged, Trees, Error, survives_then}
+use Rattle.office_sql.proofs.Kit.{Row, Database, Held, state, HasCleanDisk, IsUnchanged, Trees, Error, survives_then, unchanged_then}
 use Rattle.sqlite.specs.Store.{Ghosts}
 use Rattle.office_store.proofs.Types.{OpenFault, OtherSite, OtherTables, Failed, Meta, Version, Earliest, Early, First, Third}
 use Rattle.office_store.specs.Prelude.{AreStartsAsked, CanTake, Examines, HasOtherTables, IsFoundAt, IsOfOtherSite, IsOther, IsShownText, TellsOther}
@@ -12,7 +12,7 @@ use Rattle.office_store.specs.Prelude.{IsGrownFrom, ShowsSame}
 use Rattle.office_found.specs.Prelude.{HasApartAddresses, HasStarts, HasWhole, IsFound, Tests, meta_of_version, metas_in, IsMetaOf, HasMeta, ShowTexts}
 use Rattle.office_found.specs.Prelude.{number_of_version, schema_of}
 use Rattle.office_sql.proofs.Asked.{was_clean}
-use Rattle.office_found.proofs.FoundAsked.{rests_then, still_found, unchanged_then}
+use Rattle.office_found.proofs.FoundAsked.{rests_then, still_found}
 use Rattle.office_found.proofs.MetaShows.{no_site}
 use Rattle.office_store.proofs.Telling.{shown_tells, tells_shown}
 

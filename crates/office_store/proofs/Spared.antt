@@ -5,7 +5,6 @@ use Rattle.sqlite.specs.Files.{image_of, AreFoundIn, HoldsDatabase, IsCleanLeft,
 use Rattle.sqlite.specs.Closing.{files_left}
 use Rattle.sqlite.specs.FileStore.{reading, recovers, schema_in, state}
 use Rattle.sqlite.specs.Recovery.{Image}
-use Rattle.sqlite.specs.Tree.{Trees}
 use Rattle.sqlite.specs.WalFiles.{outcomes}
 use Rattle.sqlite.specs.WalReads.{AreClean}
 use Rattle.sqlite.specs.declared.file.Leftover.{Leftover}
@@ -16,8 +15,9 @@ use Rattle.sqlite_disk.specs.Events.{Event, replay, settled}
 use Rattle.sqlite_disk.specs.History.{MayLeave}
 use Rattle.sqlite_pool.proofs.ResealLemmas.{adopts_of}
 use Rattle.sqlite_pool.specs.Stored.{stored_size, StandsAs}
+use Rattle.sqlite_pool.proofs.StateLemmas.{may_leave_is}
 use Rattle.sqlite_store.specs.Unopened.{state_of}
-use Rattle.office_store.proofs.ClosedFiles.{is_sure, leaves}
+use Rattle.office_store.proofs.ClosedFiles.{is_sure}
 use Rattle.office_store.specs.Prelude.{FilesHeld, IsSpared, ReadAs}
 
 -- what a crash may leave of the log or the database file of two that held this
@@ -39,7 +39,7 @@ module _ {D : Type 0} {g : Ghosts D} (first : Files D) (image : Image) (same : i
       → (left : Image) → outcomes g (files_left it).0 (files_left it).1 left → IsSpared image left
   spared_by (rest.Files now) leave clean left may = inl (only left (leave clean left may))
   spared_by (rest.Unopened now) leave clean left may =
-      let could = leaves now.pool clean left may in
+      let could = may_leave_is now.pool left clean may in
       elim (leave (is_sure now.pool clean)) [
         | inl none ↦
             let nothing = subst IsNothing same none.0 in
@@ -53,7 +53,7 @@ module _ {D : Type 0} {g : Ghosts D} (first : Files D) (image : Image) (same : i
             ]
       ]
   spared_by (rest.Store now) leave clean left may =
-      let could = leaves now.pool clean left may in
+      let could = may_leave_is now.pool left clean may in
       inr (inr (inr (∥∥₁_map now.safe (λ all.
       let pages = all left could in
       let db = reading now pages.0 in

@@ -7,11 +7,12 @@ use Rattle.sqlite.specs.Listing.{understood}
 use Rattle.sqlite.specs.Source.TheVariants.{Query as Selected}
 use Rattle.sqlite_tied.specs.Compute.{everything}
 use Rattle.office_tables.specs.Prelude.{order_cmp, given_cmp}
+use Rattle.office_tables.proofs.Orders.{given_total, order_total}
 use Rattle.office_sql.specs.Prelude.{OfficeTable, orders, given, order_starts, given_starts, order_start_table, given_start_table, rows_in, start_in_rows}
 use Rattle.office_sql.specs.Prelude.{text_if, env, order_in_row, given_in_row, starts_order, starts_given, AreRows, AreStarted, IsText, IsOrderRow, IsGivenRow}
 use Rattle.office_sql.proofs.Filled.{news_of, numbered_made, grows, started, each_made}
-use Rattle.office_sql.proofs.OrderReads.{order_total, order_tied}
-use Rattle.office_sql.proofs.GivenReads.{given_total, given_tied}
+use Rattle.office_sql.proofs.OrderReads.{order_tied}
+use Rattle.office_sql.proofs.GivenReads.{given_tied}
 use Rattle.office_sql.proofs.Filling.{Fills, fills, shown_of}
 use Rattle.office_sql.proofs.Inserting.{IsInsertOf}
 use Rattle.office_sql.proofs.Stepping.{cast_null}

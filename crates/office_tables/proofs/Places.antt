@@ -1,18 +1,14 @@
 -- The places of an order, counted device by device, and the key under which they are counted.
 use mathlib.Core.Path.{fun_ext}
 use Rattle.std.proofs.Common.{◌≡◌, ◌+◌, ◌∷◌, Ordering, ◌&&◌}
-use Rattle.text_core.proofs.Kit.{◌∙◌, ℕ, arith, true, false, Bool, cond, List, [], Option, Some, None, Less, Equal, Greater, refl, sym, ap, AllByRecursion}
-use Rattle.text_core.proofs.Kit.{bytes_eq, filter, find, map, not, is_at, IsTotalOrder, on_total, then_total, nat_list_cmp_total, texts_ties, is_eq}
-use Rattle.text_core.proofs.Kit.{match_ordering, ordering_then, bytes_eq-Decides}
+use Rattle.text_core.proofs.Kit.{◌∙◌, ℕ, arith, true, false, Bool, cond, List, [], Option, Some, None, Less, Equal, Greater, refl, ap, AllByRecursion, bytes_eq}
+use Rattle.text_core.proofs.Kit.{filter, find, map, not, is_at, IsTotalOrder, texts_ties, is_eq, match_ordering, ordering_then, bytes_eq-Decides}
+use Rattle.text_core.proofs.Kit.{nat_list_eq_equiv, same_text, text_itself, and_from}
 use Rattle.office_tables.specs.declared.rows.OfCustomer.{OfCustomer}
 use Rattle.office_tables.specs.declared.rows.Device.{Device}
-use Rattle.office_tables.specs.Prelude.{places_taken, takes_place, state_row, place_of_device, text_pair_cmp, device_cmp, is_device, is_of, rows_of, with_row}
-use Rattle.office_tables.specs.Prelude.{text_cmp, IsInOrder}
+use Rattle.office_tables.specs.Prelude.{places_taken, takes_place, state_row, place_of_device, text_pair_cmp, is_device, is_of, rows_of, with_row, text_cmp}
+use Rattle.office_tables.specs.Prelude.{IsInOrder}
 use Rattle.office_tables.proofs.Placing.{all_map}
-
--- devices are in a total order, by customer and chip
-pub device_total : IsTotalOrder device_cmp
-device_total = then_total (on_total (λ o. o.customer) nat_list_cmp_total) (on_total (λ o. o.row.chip) nat_list_cmp_total)
 
 -- keys of two parts are equal where both parts are
 pub both_equal : (a b : Ordering) → is_eq (ordering_then a b) ≡ (is_eq a && is_eq b)
@@ -20,26 +16,22 @@ both_equal Less b = refl
 both_equal Equal b = refl
 both_equal Greater b = refl
 
-pub both_true : (a b : Bool) → (a && b) ≡ true → (a ≡ true) × (b ≡ true)
-both_true true true is = (refl, refl)
-both_true true false is = cc
-both_true false b is = cc
+-- texts of equal place are one
+pub same_place : (a b : List ℕ) → text_cmp a b ≡ Equal → a ≡ b
+same_place a b e = same_text a b (texts_ties a b ∙ ap is_eq e)
 
 pub same_both_ways : (a b : List ℕ) → bytes_eq a b ≡ bytes_eq b a
-same_both_ways a b =
-    elim (bytes_eq a b) as (λ x. bytes_eq a b ≡ x → x ≡ bytes_eq b a) [
-      | true ↦ λ is. sym ((bytes_eq-Decides b a).1 (sym ((bytes_eq-Decides a b).0 is)))
-      | false ↦ λ is. elim (bytes_eq b a) as (λ y. bytes_eq b a ≡ y → false ≡ y) [
-        | true ↦ λ also. let same : bytes_eq a b ≡ true = (bytes_eq-Decides a b).1 (sym ((bytes_eq-Decides b a).0 also)) in cc
-        | false ↦ λ _. refl
-      ] refl
-    ] refl
+same_both_ways a b = nat_list_eq_equiv.symm a b
 
 -- a row has a device's key where it is the customer's device of the chip
 pub same_device : (customer chip : List ℕ) → (λ (d : OfCustomer Device). is_eq (ordering_then (text_cmp customer d.customer) (text_cmp chip d.row.chip)))
     ≡ is_device customer chip
 same_device customer chip =
     fun_ext (λ d. both_equal (text_cmp customer d.customer) (text_cmp chip d.row.chip) ∙ rw (texts_ties customer d.customer, texts_ties chip d.row.chip) refl)
+
+-- the device of a chip is the row's own
+pub own_device : (d : OfCustomer Device) → is_device d.customer d.row.chip d ≡ true
+own_device d = and_from _ _ (text_itself d.customer d.customer refl) (text_itself d.row.chip d.row.chip refl)
 
 -- the first row with a device's key
 pub find_device : (customer chip : List ℕ) (rows : List (OfCustomer Device)) → find (λ d.

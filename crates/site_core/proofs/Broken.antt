@@ -1,7 +1,8 @@
 -- The fault that a judgement tells is that of a broken rule, and no lower rule is broken.
 use Rattle.std.proofs.Common.{◌≡◌, ◌<◌, ℕ, Bool, true, false, not, List, Err, Ok, AllPairs, Decides, bytes_eq, refl, arith, if◌then◌else◌}
-use Rattle.std.proofs.lemmas.Bool.{both_ways, false_from_ne_true, false≢true, not-true, not_from_false}
+use Rattle.std.proofs.lemmas.Bool.{both_ways, false_from_ne_true, not-true, not_from_false}
 use Rattle.std.proofs.lemmas.Map.Keys.{IsDistinct-from_apart, apart_from_distinct}
+use Rattle.text_core.proofs.Kit.{broken_by}
 use Rattle.id_ranges.specs.Prelude.{Pool}
 use Rattle.id_ranges.proofs.FreeBlocks.{IsIn-from_meets, blocks_overlap-from_IsIn}
 use Rattle.site_core.specs.Prelude.{SiteValue, names_of, issuers_of, pools_of, seat_names_of, tokens_of, pools_meet, is_over_limit, has_pair, has_repeat}
@@ -54,10 +55,6 @@ rules_below site n once apart good within PoolsMeet low = apart low
 rules_below site n once apart good within BadPool low = good low
 rules_below site n once apart good within OverLimit low = within low
 rules_below site n once apart good within OutOfMemory low = tt
-
--- a test that fails decides that its rule is broken
-broken_by : {P : Type 0} → Decides false P → P → ⊥
-broken_by d holds = false≢true (d.1 holds)
 
 -- the fault that four tests tell is that of the first that finds a breach
 lowest_of_tests : (site : SiteValue) (fault : SiteFault) (repeat meet bad over : Bool)

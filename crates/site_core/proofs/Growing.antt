@@ -1,13 +1,10 @@
 -- The tests of a growth decide it.
 use Rattle.std.proofs.Common.{◌≡◌, ◌++◌, ◌==◌, get_or}
 use Rattle.text_core.proofs.Kit.{Bool, true, false, ℕ, List, length, drop, Some, bytes_eq, Decides, refl, sym, subst, ap, ◌∙◌, All, Any, Contains, IfSome}
-use Rattle.text_core.proofs.Kit.{list_all, list_any, starts_with, both_ways, Decides-and, Decides-by_and, Decides-eqb, Decides-like, Any-from_list_any}
-use Rattle.text_core.proofs.Kit.{list_any-from_Any, bytes_eq-Decides, starts_is}
+use Rattle.text_core.proofs.Kit.{list_all, list_any, starts_with, both_ways, Decides-and, Decides-eqb, Decides-like, Any-from_list_any, list_any-from_Any}
+use Rattle.text_core.proofs.Kit.{bytes_eq-Decides, starts_is, Decides-list_all}
 use Rattle.id_ranges.specs.Prelude.{Pool}
 use Rattle.site_core.specs.Prelude.{IsGrowth, KeepsSection, are_kept, is_same_pool, is_same_seat, keeps, SeatOf, Section, SiteValue}
-
-all_decided : {X : Type 0} (p : X → Bool) (P : X → Type 0) → ((x : X) → Decides (p x) (P x)) → (xs : List X) → Decides (list_all p xs) (All P xs)
-all_decided p P each xs = Decides-by_and p P (list_all p) each refl (λ _ _. refl) xs
 
 any_decided : {X : Type 0} (p : X → Bool) (P : X → Type 0) → ((x : X) → Decides (p x) (P x)) → (xs : List X) → Decides (list_any p xs) (Any P xs)
 any_decided p P each xs = (
@@ -24,7 +21,7 @@ contained_decided same each xs x =
     (any_decided (same x) (λ y. x ≡ y) (each x) xs)
 
 issuers_decided : (old new : List (List ℕ)) → Decides (list_all (λ issuer. list_any (bytes_eq issuer) new) old) (All (Contains new) old)
-issuers_decided old new = all_decided _ (Contains new) (contained_decided bytes_eq bytes_eq-Decides new) old
+issuers_decided old new = Decides-list_all _ (Contains new) (contained_decided bytes_eq bytes_eq-Decides new) old
 
 seat_decided : (a b : SeatOf) → Decides (is_same_seat a b) (a ≡ b)
 seat_decided a b =
@@ -54,12 +51,12 @@ keeps_decided old new =
     (Decides-and _ (list_all (λ seat. list_any (is_same_seat seat) new.seats) old.seats)
     (Decides-and (bytes_eq old.name new.name) (list_all (λ issuer. list_any (bytes_eq issuer) new.issuers) old.issuers) (bytes_eq-Decides old.name new.name)
     (issuers_decided old.issuers new.issuers))
-    (all_decided _ (Contains new.seats) (contained_decided is_same_seat seat_decided new.seats) old.seats))
+    (Decides-list_all _ (Contains new.seats) (contained_decided is_same_seat seat_decided new.seats) old.seats))
     (pools_decided old.pools new.pools))
 
 -- each customer is kept by one of the others
 kept_decided : (old new : List Section) → Decides (are_kept old new) (All (λ s. Any (KeepsSection s) new) old)
-kept_decided old new = all_decided _ (λ s. Any (KeepsSection s) new) (λ s. any_decided (keeps s) (KeepsSection s) (keeps_decided s) new) old
+kept_decided old new = Decides-list_all _ (λ s. Any (KeepsSection s) new) (λ s. any_decided (keeps s) (KeepsSection s) (keeps_decided s) new) old
 
 -- a site grew where its customers are kept and its manager is
 pub growth_if_managed : (old new : SiteValue) (kept managed : Bool) → kept ≡ are_kept old.customers new.customers → kept ≡ true

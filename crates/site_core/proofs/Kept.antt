@@ -1,9 +1,8 @@
 -- What was a customer's in a site stays the customer's in one that grew from it.
 use Rattle.std.proofs.Common.{◌≡◌, ◌<◌, ◌++◌}
 use Rattle.text_core.proofs.Kit.{ℕ, List, length, Bool, true, Option, Some, None, refl, sym, subst, ap, ◌∙◌, bytes_eq, Any, Contains, find, is_some, option_map}
-use Rattle.text_core.proofs.Kit.{list_any, get_or_read, All-contains, Contains-append_left, Any-from_list_any, Contains-from_any, bytes_eq-Decides}
+use Rattle.text_core.proofs.Kit.{list_any, get_or_read, All-contains, Contains-append_left, Any-from_list_any, Contains-from_any, bytes_eq-Decides, find-passes}
 use Rattle.id_ranges.specs.Prelude.{IsBlockWithin, Pool}
-use Rattle.id_ranges.proofs.FreeBlocks.{find-passes}
 use Rattle.site_core.specs.Prelude.{no_section, section_in, IsGrowth, KeepsSection, OwnershipGrows, has_seat, ownership_of, SeatOf, Section, SiteValue, IsSite}
 use Rattle.site_core.proofs.Owners.{IsDistinct-by_key, find-of_key, find-of_name, place_of_found, pool_of_found}
 

@@ -4,11 +4,11 @@ use Rattle.text_core.proofs.Kit.{ℕ, List, length, map, take, Bool, true, false
 use Rattle.text_core.proofs.Kit.{is_some, option_map, option_map_or, Any, Contains, flat_map, list_any, position_or_len, both_ways, cases_order}
 use Rattle.text_core.proofs.Kit.{nat_list_eq_equiv, get_or-take, get_or_read, length-map, length-take-le, take-take, get_or-flat_map, All-from_get_or}
 use Rattle.text_core.proofs.Kit.{recursion_from_All, find_at, length-flat_map-take, list_any_at, list_any_none, position_or_len_is, IsDistinct-from_apart}
-use Rattle.text_core.proofs.Kit.{Contains-get_or, apart_from_distinct, get_or_from_slice_get, slice_get-get_or, slice_get_within, bytes_eq-Decides}
+use Rattle.text_core.proofs.Kit.{Contains-get_or, apart_from_distinct, get_or_from_slice_get, slice_get-get_or, slice_get_within, bytes_eq-Decides, find-passes}
 use Rattle.std.specs.List.{IsDistinct}
 use Rattle.std.proofs.lemmas.List.{get_or-map}
 use Rattle.id_ranges.specs.Prelude.{Pool, IsIn, IsBlockWithin}
-use Rattle.id_ranges.proofs.FreeBlocks.{find-passes, blocks_overlap-from_IsIn}
+use Rattle.id_ranges.proofs.FreeBlocks.{blocks_overlap-from_IsIn}
 use Rattle.site_core.specs.Prelude.{IsSeatCaller, no_seat, no_section, seat_name_at, section_at, section_in, PoolsDisjoint, IsSection, ownership_of, SeatOf}
 use Rattle.site_core.specs.Prelude.{Section, SiteValue, IsSite, pools_meet}
 use Rattle.site_core.specs.declared.site.SeatCaller.{SeatCaller}

@@ -9,8 +9,8 @@ use Rattle.office_tables.specs.Prelude.{Tables}
 use Rattle.office_commands.specs.Prelude.{refusal}
 use Rattle.office_laws.proofs.Served.{step_is_served}
 use Rattle.office_laws.specs.Prelude.{IsSound, report_reply}
-use Rattle.office_laws.proofs.Obeying.{step_always}
 use Rattle.yield_report.specs.Prelude.{order_report_in, site_report_in}
+use Rattle.office_laws.proofs.Steps.{step_exists}
 use Rattle.station_api.specs.Prelude.{AnswersAnyCaller, ParsedOrUnkept, AnswersParsed, AnswersHttp, caller_at}
 use Rattle.station_requests.specs.Prelude.{parse_request, of_manager, of_seat}
 use Rattle.station_requests.proofs.AskedFor.{IsWithin, asked_within}
@@ -35,7 +35,7 @@ module _ (site : SiteValue) (t : Tables) (sound : IsSound (ownership_of site) t)
   seat_answers : (caller : SeatCaller) (wanted : Result Parsed Refusal) → IsWithin of_seat wanted → HasAnswer site (Seat caller) t wanted
   seat_answers caller (Err reason) within = told (Seat caller) (Err reason) (refusal reason) within (refl, refl)
   seat_answers caller (Ok (Office request)) within =
-      let step = step_always sound (section_at site caller) (seat_name_at site caller) request in
+      let step = step_exists sound (section_at site caller) (seat_name_at site caller) request in
       let served = step_is_served (section_at site caller) (seat_name_at site caller) t request step.0 step.1 step.2 in
       (step.0, step.1, answers site (Seat caller) (Ok (Office request)) t step.0 step.1 served step.2, served)
   seat_answers caller (Ok Report) within = told (Seat caller) (Ok Report) (report_reply (order_report_in (section_at site caller).name t)) refl (refl, refl)

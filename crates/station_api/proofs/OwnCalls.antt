@@ -2,11 +2,11 @@
 use Rattle.std.proofs.Common.{◌≡◌, ◌<◌, ◌∙◌, ℕ, Bool, false, cond, List, [], ◌∷◌, ◌++◌, length, Option, Some, None, refl, sym, ap, ◌&&◌, not, bytes_eq, filter}
 use Rattle.std.proofs.Common.{flat_map, is_some, Result}
 use Rattle.std.proofs.lemmas.List.Elements.{filter-append}
+use Rattle.text_core.proofs.Kit.{text_itself}
 use Rattle.http_frames.specs.Prelude.{Request as HttpRequest}
 use Rattle.http_replies.specs.Prelude.{Answer, is_unavailable}
 use Rattle.site_core.specs.Prelude.{seat_name_at, section_at, section_in, Section, SiteValue, IsSite}
 use Rattle.station_api.proofs.Types.{Caller, Seat, Manager, Refusal, Parsed}
-use Rattle.office_rules.proofs.Ties.{text_itself}
 use Rattle.office_laws.specs.Prelude.{is_own, exchanges_of, Exchange}
 use Rattle.station_api.specs.Prelude.{caller_at, exchange_any, exchange_in, exchange_of, exchanges_with_seats, section_exchange, section_exchanges}
 use Rattle.station_api.specs.Prelude.{seat_of_token}

@@ -3,7 +3,7 @@ use Rattle.std.proofs.Common.{◌≡◌, ◌<◌, get_or}
 use Rattle.text_core.proofs.Kit.{ℕ, arith, Bool, true, false, cond, List, length, map, Option, Some, None, inl, inr, refl, sym, ap, ◌∙◌, subst, true≢false}
 use Rattle.text_core.proofs.Kit.{bytes_eq, is_some, option_and_then, option_map, slice_index_or, flat_map, position, position_or_len, cases_order, nat_tests}
 use Rattle.text_core.proofs.Kit.{nat_list_eq_equiv, All-from_get_or, Contains-get_or, list_any_at, list_any_none, position-Some, position_or_len_is}
-use Rattle.text_core.proofs.Kit.{apart_from_distinct}
+use Rattle.text_core.proofs.Kit.{apart_from_distinct, same_text}
 use Rattle.std.specs.List.{IsDistinct}
 use Rattle.sha2.specs.Sha256.{sha256}
 use Rattle.text_core.specs.Prelude.{◌>>=◌}
@@ -13,7 +13,6 @@ use Rattle.site_core.specs.Prelude.{section_in, SeatOf, Section, SiteValue, has_
 use Rattle.station_api.proofs.Types.{Caller, Seat, Manager, SeatCaller}
 use Rattle.site_core.proofs.Callers.{caller_of-one}
 use Rattle.site_core.proofs.Owners.{IsDistinct-by_key, apart_in_pieces}
-use Rattle.office_rules.proofs.Ties.{same_text}
 use Rattle.station_api.specs.Prelude.{caller_at, seat_of_token}
 use Rattle.station_requests.proofs.Members.{bound}
 

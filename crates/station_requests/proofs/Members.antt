@@ -1,44 +1,22 @@
 -- The named members, one name after another, and that none of a request's is a float.
-use Rattle.std.proofs.Common.{◌≡◌, ◌∷◌, ◌||◌}
-use Rattle.text_core.proofs.Kit.{ℕ, List, [], Bool, true, false, Option, Some, None, Less, Equal, Greater, refl, fold, IfSome, codes, map, option_and_then}
-use Rattle.text_core.proofs.Kit.{nat_cmp, match_ordering, slice_cmp, AllByRecursion}
-use Rattle.serde_json.specs.Data.{Data, null, boolean, number, string, array, object, Num, unsigned, negative, float, Members, no_members, member, put}
+use Rattle.std.proofs.Common.{◌≡◌, ◌∷◌}
+use Rattle.text_core.proofs.Kit.{ℕ, List, [], false, Option, Some, None, refl, fold, IfSome, codes, map, option_and_then, AllByRecursion}
+use Rattle.serde_json.specs.Data.{Data, null, boolean, number, string, array, object, Num, unsigned, negative, float, Members, no_members, put}
 use Rattle.serde_json.specs.Find.{get, as_str, as_number, as_u64}
 use Rattle.serde_json.specs.Written.{has_float, items_have_float, members_have_float}
 use Rattle.json_members.specs.Prelude.{number_within, whole_member, text_member, text_if_member, text_or_null, name_member, digest_member, chip_member}
 use Rattle.text_core.specs.Prelude.{chip_of_text, digest_of_text, name_of_text, ◌>>=◌}
 use Rattle.station_requests.proofs.Types.{NewDevice, NewOrder}
 use Rattle.office_commands.specs.Prelude.{items_of}
+use Rattle.office_commands.proofs.Floats.{in_put}
 use Rattle.station_requests.specs.Prelude.{block_digest, blocks_member, device_members, new_device_of, LacksFloat, with_found, named_members, map_members}
 use Rattle.station_requests.specs.Prelude.{new_order_of, order_members}
-
-or_left : (a b : Bool) → (a || b) ≡ false → a ≡ false
-or_left true b e = e
-or_left false b e = refl
-
-or_right : (a b : Bool) → (a || b) ≡ false → b ≡ false
-or_right true b e = cc
-or_right false b e = e
-
--- a member that is no float leaves none
-pub put_no_float : (name : List ℕ) (d : Data) (members : Members) → has_float d ≡ false
-    → members_have_float members ≡ false → members_have_float (put name d members) ≡ false
-put_no_float name d no_members e all = rw e refl
-put_no_float name d (member l v ms) e all =
-    elim (slice_cmp nat_cmp name l) as (λ o.
-    members_have_float
-    (match_ordering o (member name d (member l v ms)) (member l d ms)
-    (member l v (put name d ms))) ≡ false) [
-      | Less ↦ rw e all
-      | Equal ↦ rw e (or_right (has_float v) (members_have_float ms) all)
-      | Greater ↦ rw (or_left (has_float v) (members_have_float ms) all) (put_no_float name d ms e (or_right (has_float v) (members_have_float ms) all))
-    ]
 
 found_no_float : (name : List ℕ) (found : Option Data) (ms : Members)
     → IfSome found (λ v. has_float v ≡ false) → members_have_float ms ≡ false
     → members_have_float (with_found name found ms) ≡ false
 found_no_float name None ms lacks all = all
-found_no_float name (Some v) ms lacks all = put_no_float name v ms lacks all
+found_no_float name (Some v) ms lacks all = in_put name v ms lacks all
 
 pub all_no_float : (names : List (List ℕ)) (d : Data) (ms : Members) → AllByRecursion (LacksFloat d) names → members_have_float ms ≡ false
     → members_have_float (fold (λ found n. with_found n (get n d) found) ms names) ≡ false
@@ -222,4 +200,4 @@ device_lacks_float d n o nr device =
         (whole_member_lacks (codes "nr") 1 9007199254740991 d n nr, (name_member_lacks (codes "order") d order.0 order.1, tt)),
       ),
     ) refl in
-    put_no_float (codes "blocks") (array (items_of (map block_digest o.blocks))) (named_members device_members d) (digests_lack_float o.blocks) others
+    in_put (codes "blocks") (array (items_of (map block_digest o.blocks))) (named_members device_members d) (digests_lack_float o.blocks) others

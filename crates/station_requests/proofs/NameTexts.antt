@@ -1,17 +1,10 @@
 -- A name is text, and so is a chip's identity, and where a list of devices begins.
 use Rattle.std.proofs.Common.{◌≡◌, ◌<◌, ◌∷◌, ◌&&◌, ◌==◌, if◌then◌else◌}
+use Rattle.std.specs.Cmp.{first_so, second_so}
 use Rattle.text_core.proofs.Kit.{ℕ, List, [], Bool, true, false, Some, None, refl, arith, length, nat_le, list_all, IsAscii, IsUtf8, nat_tests, Option}
 use Rattle.text_core.proofs.Kit.{option_map, ap, suc, IsUtf8-from_ascii, IsAscii-nil, IsAscii-cons}
 use Rattle.text_core.specs.Prelude.{is_lower_hex_digit, is_chip, chip_of_text, is_name_byte, is_name, name_of_text}
 use Rattle.station_requests.specs.Prelude.{start_of_text}
-
-and_left : (a b : Bool) → (a && b) ≡ true → a ≡ true
-and_left true b e = refl
-and_left false b e = cc
-
-and_right : (a b : Bool) → (a && b) ≡ true → b ≡ true
-and_right true b e = e
-and_right false b e = cc
 
 byte_is_ascii : (b : ℕ) → is_name_byte b ≡ true → b < 128
 byte_is_ascii b e = grind (arith, nat_tests, e)
@@ -22,7 +15,7 @@ digit_is_ascii b e = grind (arith, nat_tests, e)
 bytes_are_ascii : (test : ℕ → Bool) → ((b : ℕ) → test b ≡ true → b < 128) → (text : List ℕ) → list_all test text ≡ true → IsAscii text
 bytes_are_ascii test low [] e = IsAscii-nil
 bytes_are_ascii test low (b ∷ bytes) e =
-    IsAscii-cons b bytes (low b (and_left (test b) (list_all test bytes) e)) (bytes_are_ascii test low bytes (and_right (test b) (list_all test bytes) e))
+    IsAscii-cons b bytes (low b (first_so (test b) (list_all test bytes) e)) (bytes_are_ascii test low bytes (second_so (test b) (list_all test bytes) e))
 
 pub not_a_name : (text : List ℕ) → ¬ (IsUtf8 text) → name_of_text text ≡ None
 not_a_name text other =
@@ -30,7 +23,7 @@ not_a_name text other =
       | true ↦ λ e.
           absurd (other
           (IsUtf8-from_ascii text
-          (bytes_are_ascii is_name_byte byte_is_ascii text (and_right (nat_le 1 (length text)
+          (bytes_are_ascii is_name_byte byte_is_ascii text (second_so (nat_le 1 (length text)
           && nat_le (length text) 32) (list_all is_name_byte text) e))))
       | false ↦ λ _. refl
     ] refl
@@ -42,7 +35,7 @@ not_a_chip text other =
           absurd (other
           (IsUtf8-from_ascii text
           (bytes_are_ascii is_lower_hex_digit digit_is_ascii text
-          (and_right (length text == 12) (list_all is_lower_hex_digit text) e))))
+          (second_so (length text == 12) (list_all is_lower_hex_digit text) e))))
       | false ↦ λ _. refl
     ] refl
 

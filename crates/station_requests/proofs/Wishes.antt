@@ -1,23 +1,21 @@
 -- The named members of a request that takes a device a step on have no float.
-use Rattle.std.proofs.Common.{◌≡◌, ℕ, List, [], ◌∷◌, false, Option, Some, None, refl, sym, subst, ◌∙◌, codes, map, option_and_then, option_map}
+use Rattle.std.proofs.Common.{◌≡◌, ℕ, List, [], ◌∷◌, false, Option, Some, refl, sym, subst, ◌∙◌, codes, map, option_and_then, option_map}
 use Rattle.std.proofs.lemmas.Bool.{or_from}
 use Rattle.serde_json.specs.Data.{Data, array, object, no_members}
 use Rattle.serde_json.specs.Written.{has_float, items_have_float, members_have_float}
 use Rattle.text_core.specs.Prelude.{◌>>=◌, all_of}
+use Rattle.text_core.proofs.Kit.{mapped}
 use Rattle.json_members.specs.Prelude.{digest_member, name_member, text_member, whole_member}
 use Rattle.fuse_plan.specs.Prelude.{number_of_text}
 use Rattle.station_requests.proofs.Types.{Want, Wish, Kind}
 use Rattle.station_requests.specs.declared.plan.Kind.TheVariants.{Bit, Key, ReadLock, Value, WriteLock}
 use Rattle.fuse_plan.specs.declared.wish.Want.TheVariants as want
 use Rattle.office_commands.specs.Prelude.{items_of}
+use Rattle.office_commands.proofs.Floats.{in_put}
 use Rattle.station_requests.specs.Prelude.{act_members, block_digest, with_block_digests, LacksFloat, named_members, kind_of_wish, kind_of_text, named_plan}
 use Rattle.station_requests.specs.Prelude.{named_wish, want_of, wish_in, wish_members, wishes_in, wishes_of}
-use Rattle.station_requests.proofs.Members.{all_no_float, bound, digest_member_lacks, digests_lack_float, name_member_lacks, put_no_float, text_member_lacks}
+use Rattle.station_requests.proofs.Members.{all_no_float, bound, digest_member_lacks, digests_lack_float, name_member_lacks, text_member_lacks}
 use Rattle.station_requests.proofs.Members.{whole_member_lacks}
-
-made : {A B : Type 0} (f : A → B) (o : Option A) (y : B) → option_map f o ≡ Some y → (x : A) × (o ≡ Some x) × (f x ≡ y)
-made f None y e = cc
-made f (Some x) y e = (x, refl, cc)
 
 -- the members that each request of a step has
 pub act_members_lack : (d : Data) → LacksFloat d (codes "chip") → LacksFloat d (codes "nr") → members_have_float (named_members act_members d) ≡ false
@@ -26,19 +24,19 @@ act_members_lack d chip nr = all_no_float act_members d no_members (chip, (nr, t
 -- and those of a read-back
 pub read_back_lacks_float : (d : Data) (blocks : List (List ℕ)) → LacksFloat d (codes "chip") → LacksFloat d (codes "nr") → has_float (with_block_digests act_members d blocks) ≡ false
 read_back_lacks_float d blocks chip nr =
-    put_no_float (codes "blocks") (array (items_of (map block_digest blocks))) (named_members act_members d) (digests_lack_float blocks) (act_members_lack d chip nr)
+    in_put (codes "blocks") (array (items_of (map block_digest blocks))) (named_members act_members d) (digests_lack_float blocks) (act_members_lack d chip nr)
 
 -- the named members of a wish of a kind
 of_kind : (kind : Kind) (d : Data) (w : Want) → LacksFloat d (codes "kind") → LacksFloat d (codes "field") → want_of kind d ≡ Some w → has_float (object (named_members (wish_members kind) d)) ≡ false
 of_kind Bit d w kind field e =
-    let index = made want.Bit (whole_member (codes "index") 0 9007199254740991 d) w e in
+    let index = mapped (whole_member (codes "index") 0 9007199254740991 d) want.Bit w e in
     all_no_float (wish_members Bit) d no_members (field, (whole_member_lacks (codes "index") 0 9007199254740991 d index.0 index.1, (kind, tt))) refl
 of_kind Value d w kind field e =
-    let number = made want.Value (option_and_then number_of_text (text_member (codes "value") d)) w e in
+    let number = mapped (option_and_then number_of_text (text_member (codes "value") d)) want.Value w e in
     let text = bound (text_member (codes "value") d) number_of_text number.0 number.1 in
     all_no_float (wish_members Value) d no_members (field, (kind, (text_member_lacks (codes "value") d text.0 text.1, tt))) refl
 of_kind Key d w kind field e =
-    let digest = made want.Key (digest_member (codes "key_sha256") d) w e in
+    let digest = mapped (digest_member (codes "key_sha256") d) want.Key w e in
     all_no_float (wish_members Key) d no_members (field, (digest_member_lacks (codes "key_sha256") d digest.0 digest.1, (kind, tt))) refl
 of_kind WriteLock d w kind field e = all_no_float (wish_members WriteLock) d no_members (field, (kind, tt)) refl
 of_kind ReadLock d w kind field e = all_no_float (wish_members ReadLock) d no_members (field, (kind, tt)) refl
@@ -69,9 +67,9 @@ wishes_lack : (ds : List Data) (ws : List Wish) (named : List Data) → all_of w
 wishes_lack [] ws named wishes is = let same : [] ≡ named = cc in subst (λ (ns : List Data). items_have_float (items_of ns) ≡ false) same refl
 wishes_lack (d ∷ ds) ws named wishes is =
     let w = bound (wish_in d) (with_first (all_of wish_in ds)) ws wishes in
-    let later = made (λ ys. w.0 ∷ ys) (all_of wish_in ds) ws w.2 in
+    let later = mapped (all_of wish_in ds) (λ ys. w.0 ∷ ys) ws w.2 in
     let first = bound (named_wish d) (with_first (all_of named_wish ds)) named is in
-    let others = made (λ ys. first.0 ∷ ys) (all_of named_wish ds) named first.2 in
+    let others = mapped (all_of named_wish ds) (λ ys. first.0 ∷ ys) named first.2 in
     subst (λ (ns : List Data). items_have_float (items_of ns) ≡ false) others.2
     (or_from (has_float first.0) (items_have_float (items_of others.0))
     (wish_lacks d w.0 first.0 w.1 first.1) (wishes_lack ds later.0 others.0 later.1 others.1))
@@ -82,10 +80,10 @@ pub plan_lacks_float : (d : Data) (wishes : List Wish) (members : Data) → wish
 unfolding named_plan
 plan_lacks_float d wishes members plan is chip nr =
     let values = bound (wishes_in d) (all_of wish_in) wishes plan in
-    let named = made _ (wishes_in d >>= all_of named_wish) members is in
+    let named = mapped (wishes_in d >>= all_of named_wish) _ members is in
     let again = bound (wishes_in d) (all_of named_wish) named.0 named.1 in
     let both : Some again.0 ≡ Some values.0 = sym again.1 ∙ values.1 in
     let same : again.0 ≡ values.0 = cc in
     let those : all_of named_wish values.0 ≡ Some named.0 = subst (λ (ds : List Data). all_of named_wish ds ≡ Some named.0) same again.2 in
     subst (λ (v : Data). has_float v ≡ false) named.2
-    (put_no_float (codes "wishes") (array (items_of named.0)) (named_members act_members d) (wishes_lack values.0 wishes named.0 values.2 those) (act_members_lack d chip nr))
+    (in_put (codes "wishes") (array (items_of named.0)) (named_members act_members d) (wishes_lack values.0 wishes named.0 values.2 those) (act_members_lack d chip nr))

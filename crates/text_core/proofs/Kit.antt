@@ -1,4 +1,4 @@
--- The words of the kit that are used here and above, passed on from one place. Declares nothing.
+-- The words of the kit that are used here and above, and what this crate adds to them, passed on from one place. Declares nothing.
 pub use Rattle.std.proofs.Common.{[], ◌∙◌, add-one, All, AllPairs, Any, ap, append-nil, append_assoc, ap₂, arith, bit_and, bit_or, Bool, Bor, bytes_eq, codes}
 pub use Rattle.std.proofs.Common.{cond, Decides, decimal, drop, drop-drop, drop-set-lt, eqb, eqb-true, Equal, Err, false, filter, filter_map, find, flat_map}
 pub use Rattle.std.proofs.Common.{fold, Greater, IfErr, IfNone, IfOk, IfSome, inl, inr, int_cmp, is_eq, is_ge, is_gt, is_lt, is_some, IsErr, IsErrAnd, IsOk}
@@ -9,7 +9,7 @@ pub use Rattle.std.proofs.Common.{refl, remove, replicate, Result, rules, slice_
 pub use Rattle.std.proofs.Common.{subst, subst₂, suc, sum, swap, sym, take, take-append-drop, take_all, tests, true, true≢false, unwrap_or, Vec, vec_capacity}
 pub use Rattle.std.proofs.Common.{vec_len, w32, w64, zero, zip, ℕ, ℤ}
 pub use Rattle.std.proofs.DigitsParse.{digits_onto-nil, digits_onto_last, digits_onto_step}
-pub use Rattle.std.proofs.Math.Bool.{and-true, or-false, or-true}
+pub use Rattle.std.proofs.Math.Bool.{and-or_distrib_left, and-true, or-false, or-true, or_assoc}
 pub use Rattle.std.proofs.Math.Facts.{Fits-lt-pow}
 pub use Rattle.std.proofs.Math.ListN.{drop_of_length-le}
 pub use Rattle.std.proofs.Math.Logic.{∥∥₁_elim, ∥∥₁_map}
@@ -71,6 +71,7 @@ pub use Rattle.std.specs.BTreeMap.Range.{entries_between}
 pub use Rattle.std.specs.BTreeSet.{BTreeSet, contains, IsFromIterResult}
 pub use Rattle.std.specs.Char.{is_ascii_digit}
 pub use Rattle.std.specs.Cmp.{Equal-is, IsTotalOrder, nat_cmp_total, tied_itself, tied_then, unsigned_tied}
+pub use Rattle.std.specs.Cmp.Derive.{one_truth}
 pub use Rattle.std.specs.Cmp.Lexicographic.{bytes_decides, pointwise, slice_cmp, texts_ties}
 pub use Rattle.std.specs.FinMap.{nat_cmp-IsAntisymmetric}
 pub use Rattle.std.specs.Fmt.{digit_glyph, digits_onto, format_spec, styled_decimal}
@@ -93,3 +94,8 @@ pub use Rattle.std.specs.Vec.Iter.{into_iter_items}
 pub use Rattle.std.specs.declared.alloc.Global.{Global}
 pub use Rattle.std.specs.declared.ops.Bound.TheVariants.{Included}
 pub use Rattle.std.specs.declared.string.String.{String}
+pub use Rattle.text_core.proofs.Lists.{all_below, find-passes, kept_pass}
+pub use Rattle.text_core.proofs.Options.{mapped, none_from_test}
+pub use Rattle.text_core.proofs.Results.{IsOk-from_cases}
+pub use Rattle.text_core.proofs.Tests.{any_in_range, broken_by, Decides-list_all, in_range_any}
+pub use Rattle.text_core.proofs.Texts.{same_text, text_itself}

@@ -1,7 +1,11 @@
--- What a reader gives of each item of a list.
+-- What a reader gives of each item of a list, and what tests say of its elements.
 use Rattle.std.proofs.Common.{◌≡◌, ℕ, zero, suc, ◌+◌, ◌<◌, List, [], ◌∷◌, ◌++◌, length, get_or, take, map, Option, Some, None, option_map, option_and_then}
-use Rattle.std.proofs.Common.{refl, sym, ap, ◌∙◌, arith}
+use Rattle.std.proofs.Common.{refl, sym, ap, ◌∙◌, arith, Bool, true, filter, find, inl, inr, Ordering, Less}
+use Rattle.std.proofs.lemmas.Bool.{cases_Bool}
 use Rattle.std.proofs.lemmas.List.{take_more}
+use Rattle.std.proofs.lemmas.List.Elements.{filter_passes, recursion_from_All}
+use Rattle.std.proofs.lemmas.Option.{none-some, same_Some}
+use Rattle.std.specs.List.{AllByRecursion}
 use Rattle.text_core.specs.Prelude.{all_of}
 
 -- the results, with one more at the end
@@ -75,3 +79,22 @@ all_of_more f g vs i v ys y low item all one =
 pub all_of_stop : {A B C : Type 0} (f : B → Option C) (g : A → B) (vs : List A) (i : ℕ) (v : A)
     → i < length vs → v ≡ get_or vs i v → f (g v) ≡ None → all_of f (map g vs) ≡ None
 all_of_stop f g vs i v low item none = all_of-map f g vs ∙ all_of_end (λ w. f (g w)) vs i v low item none
+
+-- what is found passes the test
+pub find-passes : {X : Type 0} (p : X → Bool) (xs : List X) (x : X) → find p xs ≡ Some x → p x ≡ true
+find-passes p [] x found = absurd (none-some x found)
+find-passes p (y ∷ ys) x found =
+    elim (cases_Bool (p y)) [
+      | inl passes ↦ let same : y ≡ x = same_Some y x (rw passes at found) in rw same at passes
+      | inr fails ↦ find-passes p ys x (rw fails at found)
+    ]
+
+-- what is left of a filter passes it
+pub kept_pass : {A : Type 0} (p : A → Bool) (xs : List A) → AllByRecursion (λ x. p x ≡ true) (filter p xs)
+kept_pass p xs = recursion_from_All (λ x. p x ≡ true) (filter p xs) (filter_passes p xs)
+
+-- what comes before each element does so where f, which keeps the order, changes all of them
+pub all_below : {A : Type 0} (cmp : A → A → Ordering) (f : A → A) → ((x y : A) → cmp (f x) (f y) ≡ cmp x y) → (x : A) (xs : List A)
+    → AllByRecursion (λ y. cmp x y ≡ Less) xs → AllByRecursion (λ y. cmp (f x) y ≡ Less) (map f xs)
+all_below cmp f same x [] below = tt
+all_below cmp f same x (y ∷ ys) below = (same x y ∙ below.0, all_below cmp f same x ys below.1)

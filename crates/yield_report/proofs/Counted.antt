@@ -1,11 +1,12 @@
 -- Devices counted in the lines of orders.
 use Rattle.std.proofs.Common.{◌≡◌, ◌+◌, ◌<◌, ◌∷◌, get_or, Ordering}
-use Rattle.text_core.proofs.Kit.{ℕ, true, false, cond, List, [], map, length, slice_set, Less, Equal, Greater, Result, Ok, Err, inl, inr, refl, sym, ap, ◌∙◌}
-use Rattle.text_core.proofs.Kit.{subst, arith, bytes_eq, fold, IsBinarySearchResult, IsSortedBy, is_eq, is_lt, ordering_reverse, cases_lt, nat_list_cmp_total}
-use Rattle.text_core.proofs.Kit.{nat_list_eq_equiv, map-id, searchable_from_sorted, Less-from_sorted, is_eq-slice_cmp, bytes_eq-Decides}
+use Rattle.text_core.proofs.Kit.{ℕ, true, false, cond, List, [], map, length, slice_set, Less, Greater, Result, Ok, Err, inl, inr, refl, sym, ap, ◌∙◌, subst}
+use Rattle.text_core.proofs.Kit.{arith, bytes_eq, fold, IsBinarySearchResult, IsSortedBy, is_eq, is_lt, ordering_reverse, cases_lt, nat_list_cmp_total}
+use Rattle.text_core.proofs.Kit.{nat_list_eq_equiv, map-id, searchable_from_sorted, Less-from_sorted, is_eq-slice_cmp}
 use Rattle.office_tables.specs.Prelude.{text_cmp, Visits}
 use Rattle.office_tables.specs.declared.rows.Device.{Device}
 use Rattle.office_tables.specs.declared.rows.OfCustomer.{OfCustomer}
+use Rattle.office_tables.proofs.Places.{same_place}
 use Rattle.yield_report.specs.Prelude.{with_device, Yield, devices_of, counted, names_cmp, AreInOrder, AreLines, CountsDevice}
 use Rattle.yield_report.specs.declared.devices.DeviceScan.{DeviceScan}
 use Rattle.yield_report.specs.declared.lines.OrderLine.{OrderLine}
@@ -50,10 +51,7 @@ devices_fit = kept_on_walk CountsDevice (λ s. AreLines s.lines.items) (λ s. s.
 counted_other : (d : Device) (line : OrderLine) → bytes_eq line.name d.order ≡ false → counted (d ∷ []) line ≡ line
 counted_other d line other = rw other refl
 
--- a name that compares equal is the same, and one that doesn't differs
-equal_name : (a b : List ℕ) → text_cmp a b ≡ Equal → a ≡ b
-equal_name a b equal = (bytes_eq-Decides a b).0 (sym (is_eq-slice_cmp a b) ∙ ap is_eq equal)
-
+-- a name that doesn't compare equal differs
 other_name : (a b : List ℕ) (o : Ordering) → text_cmp a b ≡ o → is_eq o ≡ false → bytes_eq a b ≡ false
 other_name a b o is other = sym (is_eq-slice_cmp a b) ∙ (ap is_eq is ∙ other)
 
@@ -77,7 +75,7 @@ counted_at d lines slice r i line ordered same found is within read =
     (subst (λ ls. IsBinarySearchResult (λ (l : OrderLine). text_cmp l.name d.order) ls r) same found) in
     sym (map_at (counted (d ∷ [])) lines i line within read (λ k e inside other.
     counted_other d (get_or lines k e)
-    (ap (bytes_eq (get_or lines k e).name) (sym (equal_name (get_or lines i e).name d.order (here e)))
+    (ap (bytes_eq (get_or lines k e).name) (sym (same_place (get_or lines i e).name d.order (here e)))
     ∙ names_differ lines ordered i k e within inside other)))
 
 -- names in order can be searched

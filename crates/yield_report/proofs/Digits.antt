@@ -1,13 +1,12 @@
 -- The digits of a range's serial numbers, and the numbers that they write.
 use Rattle.std.proofs.Common.{◌≡◌, ◌≢◌, ◌+◌, ◌-◌, ◌*◌, ◌^◌, ◌<◌, ◌≤◌, ◌++◌, get_or, ◌&&◌}
-use Rattle.text_core.proofs.Kit.{ℕ, zero, suc, Bool, true, false, List, length, take, drop, replicate, decimal, Some, None, inl, inr, refl, sym, ap, ◌∙◌, arith}
-use Rattle.text_core.proofs.Kit.{bytes_eq, digits_value, AllDigits, nat_le, list_all, list_any, range_with_len, pow-le-pow_right, and_from, and_parts}
-use Rattle.text_core.proofs.Kit.{both_ways, cases_lt, le-leb, leb-true, or_left, or_right, or_from, false_from_ne_true, bytes_eq-Decides, none-some, same_Some}
-use Rattle.text_core.proofs.Kit.{digits_value-lt, digits_value_more, digit_value_digit, digit_at, digits_value-take-le, decimal_is_IsNumeral, drop_at, take_at}
-use Rattle.text_core.proofs.Kit.{take_rest}
+use Rattle.text_core.proofs.Kit.{ℕ, zero, suc, Bool, true, false, List, length, take, drop, replicate, decimal, Some, None, refl, sym, ap, ◌∙◌, arith, bytes_eq}
+use Rattle.text_core.proofs.Kit.{digits_value, AllDigits, nat_le, list_all, list_any, range_with_len, pow-le-pow_right, and_from, and_parts, both_ways, le-leb}
+use Rattle.text_core.proofs.Kit.{leb-true, or_from, false_from_ne_true, bytes_eq-Decides, none-some, same_Some, digits_value-lt, digits_value_more}
+use Rattle.text_core.proofs.Kit.{digit_value_digit, digit_at, digits_value-take-le, decimal_is_IsNumeral, drop_at, take_at, take_rest, any_in_range}
 use Rattle.text_core.specs.Prelude.{zero_padded, is_prefix, prefix_of_text, is_serial, is_serial_byte}
 use Rattle.id_ranges.specs.Prelude.{Range, IsRange, Has, serial_text_of}
-use Rattle.id_ranges.proofs.Texts.{is_small, length-serial_text_of}
+use Rattle.id_ranges.proofs.Texts.{is_small, length-serial_text_of, value-padded}
 use Rattle.yield_report.specs.Prelude.{has_serial}
 
 -- at most nine digits write a small number
@@ -34,15 +33,6 @@ zeros_are_digits (suc count) digits all = (omega arith, zeros_are_digits count d
 
 pub padded_digits : (width n : ℕ) → n < 2 ^ 64 → AllDigits 10 (zero_padded width (decimal n))
 padded_digits width n small = zeros_are_digits (width - length (decimal n)) (decimal n) (decimal_is_IsNumeral n small).0.1
-
--- zeros before digits don't change their value
-value-zeros : (count : ℕ) (digits : List ℕ) → digits_value 10 (replicate count 48 ++ digits) ≡ digits_value 10 digits
-value-zeros zero digits = refl
-value-zeros (suc count) digits = value-zeros count digits
-
--- the value of a number's digits is the number
-value-padded : (width n : ℕ) → n < 2 ^ 64 → digits_value 10 (zero_padded width (decimal n)) ≡ n
-value-padded width n small = value-zeros (width - length (decimal n)) (decimal n) ∙ (decimal_is_IsNumeral n small).1
 
 -- the digits of a serial number
 pub digits_of_text : (r : Range) (n : ℕ) (serial : List ℕ) → serial ≡ serial_text_of r n → drop (length r.prefix) serial ≡ zero_padded r.width (decimal n)
@@ -87,17 +77,6 @@ value_of_text r is n has serial text digits cut value answer =
     let small = is_small r is n has in
     answer (rw same (padded_digits r.width n small)) ∙ (ap (digits_value 10) same ∙ value-padded r.width n small)
 
--- a number of a range that passes
-any_at : (p : ℕ → Bool) (first count n : ℕ) → first ≤ n → n < first + count → p n ≡ true → list_any p (range_with_len first count) ≡ true
-any_at p first zero n low high h = absurd (omega arith)
-any_at p first (suc count) n low high h =
-    elim (cases_lt first n) [
-      | inl past ↦ or_right (p first) (list_any p (range_with_len (first + 1) count)) (any_at p (first + 1) count n (omega arith) (omega arith) h)
-      | inr here ↦
-          let same : n ≡ first = omega arith in
-          or_left (p first) (list_any p (range_with_len (first + 1) count)) (rw same at h)
-    ]
-
 -- a range whose numbers all fail
 pub any_none : (p : ℕ → Bool) (first count : ℕ) → ((n : ℕ) → first ≤ n → n < first + count → p n ≡ false) → list_any p (range_with_len first count) ≡ false
 any_none p first zero none = refl
@@ -107,7 +86,7 @@ any_none p first (suc count) none =
 
 -- a text that is the serial number of a number of the range
 pub has_at : (r : Range) (serial : List ℕ) (n : ℕ) → Has r n → serial ≡ serial_text_of r n → has_serial r serial ≡ true
-has_at r serial n has text = any_at (λ k.
+has_at r serial n has text = any_in_range (λ k.
     bytes_eq serial (serial_text_of r k))
     r.first r.quantity n has.0 has.1 ((bytes_eq-Decides serial (serial_text_of r n)).1 text)
 

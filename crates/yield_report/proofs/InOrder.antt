@@ -1,10 +1,10 @@
 -- Lists in order, and lists of which a function changes one element.
 use Rattle.std.proofs.Common.{◌≡◌, ◌⊎◌, ◌+◌, ◌<◌, ◌∷◌, get_or, Ordering}
 use Rattle.text_core.proofs.Kit.{ℕ, zero, suc, Bool, true, false, cond, List, [], map, length, slice_set, Less, Equal, Greater, inl, inr, refl, sym, ap, ap₂}
-use Rattle.text_core.proofs.Kit.{◌∙◌, subst, arith, IsTotalOrder, AllByRecursion, Contains, IsPermutation, IsSortedBy, eq_by_cmp, is_eq, is_gt, is_lt}
-use Rattle.text_core.proofs.Kit.{ordering_reverse, both_ways, cases_Bool, cases_eq, tied_itself, upto, get_or-set_other, get_or-set_same, get_or_read}
-use Rattle.text_core.proofs.Kit.{length-map, length-set, same_lists, All-contains, All-from_recursion, Contains-permutation, IsPermutation-sym}
-use Rattle.text_core.proofs.Kit.{apart_from_distinct, sorted_from_all_adjacent, sorted_head, sorted_tail, IsDistinct-IsPermutation, IsDistinct-from_sorted}
+use Rattle.text_core.proofs.Kit.{◌∙◌, subst, arith, IsTotalOrder, Contains, IsPermutation, IsSortedBy, eq_by_cmp, is_eq, is_gt, is_lt, ordering_reverse}
+use Rattle.text_core.proofs.Kit.{both_ways, cases_Bool, cases_eq, tied_itself, upto, get_or-set_other, get_or-set_same, get_or_read, length-map, length-set}
+use Rattle.text_core.proofs.Kit.{same_lists, All-contains, All-from_recursion, Contains-permutation, IsPermutation-sym, apart_from_distinct}
+use Rattle.text_core.proofs.Kit.{sorted_from_all_adjacent, sorted_head, sorted_tail, IsDistinct-IsPermutation, IsDistinct-from_sorted, all_below}
 use Rattle.std.specs.List.Sorted.{IsStrictlySortedBy}
 use Rattle.std.proofs.lemmas.List.{get_or-map}
 use Rattle.office_tables.specs.Prelude.{Visits}
@@ -51,17 +51,12 @@ map_none f xs same =
     let inside : k < length xs = omega (arith, low, length-map xs f) in
     get_or-map f xs k d d inside ∙ same k d inside)
 
-below_map : {X : Type 0} (c : X → X → Ordering) (f : X → X) → ((x y : X) → c (f x) (f y) ≡ c x y) → (x : X) (xs : List X)
-    → AllByRecursion (λ y. c x y ≡ Less) xs → AllByRecursion (λ y. c (f x) y ≡ Less) (map f xs)
-below_map c f same x [] below = tt
-below_map c f same x (y ∷ ys) below = (same x y ∙ below.0, below_map c f same x ys below.1)
-
 -- what compares as before is in order as before
 pub sorted_map : {X : Type 0} (c : X → X → Ordering) (f : X → X) → ((x y : X) → c (f x) (f y) ≡ c x y) → (xs : List X)
     → IsStrictlySortedBy c xs → IsStrictlySortedBy c (map f xs)
 unfolding IsStrictlySortedBy
 sorted_map c f same [] up = tt
-sorted_map c f same (x ∷ xs) up = (below_map c f same x xs up.0, sorted_map c f same xs up.1)
+sorted_map c f same (x ∷ xs) up = (all_below c f same x xs up.0, sorted_map c f same xs up.1)
 
 -- what an order's answers say
 pub lt_is_less : (o : Ordering) → is_lt o ≡ true → o ≡ Less

@@ -2,6 +2,7 @@
 use Rattle.std.proofs.Common.{◌≡◌, ◌+◌, ◌<◌, ◌≤◌, ◌∷◌, get_or, ◌==◌, if◌then◌else◌}
 use Rattle.text_core.proofs.Kit.{ℕ, true, false, List, [], map, length, slice_set, Option, Some, inl, inr, refl, sym, ap, ap₂, ◌∙◌, subst, arith, bytes_eq}
 use Rattle.text_core.proofs.Kit.{nat_lt, AllByRecursion, cases_Bool, cases_eq, cases_lt, nat_tests, All-get_or, recursion_from_All, bytes_eq-Decides, same_Some}
+use Rattle.text_core.proofs.Kit.{lt-ltb, le-ltb}
 use Rattle.id_ranges.specs.Prelude.{serial_text_of, Has, IsRange, Range}
 use Rattle.yield_report.specs.Prelude.{taken, taken_in, AreLines, IsLine, place_of, AreApart, AreBegun, has_serial}
 use Rattle.yield_report.specs.declared.lines.OrderLine.{OrderLine}
@@ -23,12 +24,6 @@ is_same a b e = grind (arith, nat_tests)
 
 is_other : (a b : ℕ) → (a ≡ b → ⊥) → (a == b) ≡ false
 is_other a b e = grind (arith, nat_tests)
-
-is_below : (a b : ℕ) → a < b → nat_lt a b ≡ true
-is_below a b e = grind (arith, nat_tests)
-
-is_above : (a b : ℕ) → b ≤ a → nat_lt a b ≡ false
-is_above a b e = grind (arith, nat_tests)
 
 -- the line has a number with this text, in this width and issuer
 abbrev pub HasText : ℕ → List ℕ → List ℕ → OrderLine → ℕ → Type 0
@@ -69,20 +64,20 @@ below_more width issuer serial line =
     let done = taken issuer (serial ∷ []) line in
     elim (cases_lt line.range.width width) [
       | inl low ↦
-          let now : nat_lt line.range.width width ≡ true = is_below _ _ low in
-          let after : nat_lt line.range.width (width + 1) ≡ true = is_below _ _ (omega arith) in
+          let now : nat_lt line.range.width width ≡ true = lt-ltb _ _ low in
+          let after : nat_lt line.range.width (width + 1) ≡ true = lt-ltb _ _ (omega arith) in
           let other : (done.range.width == width) ≡ false =
           is_other _ _ (λ e. let range = range_taken issuer (serial ∷ []) line in omega (arith, e, ap (λ r. r.width) range, low)) in
           rw (now, after, other) refl
       | inr high ↦
-          let now : nat_lt line.range.width width ≡ false = is_above _ _ high in
+          let now : nat_lt line.range.width width ≡ false = le-ltb _ _ high in
           elim (cases_eq line.range.width width) [
             | inl same ↦
-                let after : nat_lt line.range.width (width + 1) ≡ true = is_below _ _ (omega arith) in
+                let after : nat_lt line.range.width (width + 1) ≡ true = lt-ltb _ _ (omega arith) in
                 let here : (line.range.width == width) ≡ true = is_same _ _ same in
                 rw (now, after, here) refl
             | inr differs ↦
-                let after : nat_lt line.range.width (width + 1) ≡ false = is_above _ _ (omega arith) in
+                let after : nat_lt line.range.width (width + 1) ≡ false = le-ltb _ _ (omega arith) in
                 let here : (line.range.width == width) ≡ false = is_other _ _ differs in
                 rw (now, after, here) refl
           ]
@@ -92,7 +87,7 @@ below_more width issuer serial line =
 below_least : (issuer serial : List ℕ) (lines : List OrderLine) → AllByRecursion IsLine lines → lines ≡ map (taken_below 1 issuer serial) lines
 below_least issuer serial [] are = refl
 below_least issuer serial (line ∷ lines) are =
-    let none : nat_lt line.range.width 1 ≡ false = is_above _ _ are.0.0.least_width in
+    let none : nat_lt line.range.width 1 ≡ false = le-ltb _ _ are.0.0.least_width in
     ap₂ (λ (l : OrderLine) (ls : List OrderLine). l ∷ ls) (rw none refl) (below_least issuer serial lines are.1)
 
 pub first_width : (issuer serial : List ℕ) (lines : List OrderLine) → AreLines lines → lines ≡ map (taken_below 1 issuer serial) lines
@@ -103,7 +98,7 @@ below_largest : (width : ℕ) → 10 ≤ width → (issuer serial : List ℕ) (l
     → map (taken_below width issuer serial) lines ≡ map (taken issuer (serial ∷ [])) lines
 below_largest width high issuer serial [] are = refl
 below_largest width high issuer serial (line ∷ lines) are =
-    let all : nat_lt line.range.width width ≡ true = is_below _ _ (omega (arith, are.0.0.largest_width, high)) in
+    let all : nat_lt line.range.width width ≡ true = lt-ltb _ _ (omega (arith, are.0.0.largest_width, high)) in
     ap₂ (λ (l : OrderLine) (ls : List OrderLine). l ∷ ls) (rw all refl) (below_largest width high issuer serial lines are.1)
 
 pub last_width : (width : ℕ) → 10 ≤ width → (issuer serial : List ℕ) (lines : List OrderLine) → AreLines lines

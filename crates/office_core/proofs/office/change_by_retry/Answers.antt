@@ -1,5 +1,5 @@
-use Rattle.std.proofs.Common.{◌∙◌, sym, rules}
-use Rattle.office_core.proofs.CarriedOut.{carried_out, last_behind}
+use Rattle.std.proofs.Common.{◌∙◌, sym, rules, inl, inr}
+use Rattle.office_core.proofs.CarriedOut.{last_behind}
 use Rattle.office_core.proofs.office.change_by_retry.Goals as goal
 
 pub returns-in-Next : goal.returns-in-Next
@@ -14,11 +14,11 @@ returns-in-Next g c = record {
       rw (next, ← same) (c.make.ensures.change is);
   crash = λ honest t left.
       let reads = c.find_retry.ensures.read_only in
-      carried_out (c.make.ensures.crash honest t left)
-      (reads.crash (c.make.ensures.was_honest honest) t)
-      (λ made.
-      let next = sym (c.in_ok-body.ensures.answer made.0) ∙ c.in-Next.is in
-      (reads.was_open made.0, made.1, rw (next, ← reads.same made.0) made.2));
+      elim (c.make.ensures.crash honest t left) [
+        | inl old ↦ inl (reads.crash (c.make.ensures.was_honest honest) t old)
+        | inr made ↦ let next = sym (c.in_ok-body.ensures.answer made.0) ∙ c.in-Next.is in
+            inr (reads.was_open made.0, made.1, rw (next, ← reads.same made.0) made.2)
+      ];
   text = λ honest text told.
       c.make.ensures.text honest text (c.find_retry.ensures.read_only.text (c.make.ensures.was_honest honest) text told);
   commits =

@@ -1,4 +1,4 @@
-use Rattle.std.proofs.Common.{◌≡◌, ◌∙◌, ◌+◌, ◌++◌, List, [], ◌∷◌, append_assoc, map, take, refl, sym, subst, ap, arith, zip, append-nil, take_all}
+use Rattle.std.proofs.Common.{◌≡◌, ◌∙◌, ◌+◌, ◌++◌, List, [], ◌∷◌, append_assoc, map, take, refl, sym, subst, ap, arith, zip, append-nil, take_all, inl, inr}
 use Rattle.std.proofs.lemmas.List.{length-map, map-append, take_more}
 use Rattle.http_replies.specs.Prelude.{answer_of}
 use Rattle.http_replies.specs.declared.Reply.{Reply}
@@ -10,7 +10,6 @@ use Rattle.office_laws.proofs.Leaving.{leaves_more, leaves_none}
 use Rattle.office_laws.proofs.Seats.{run_more, seats_joined_more}
 use Rattle.office_core.specs.Prelude.{call_of, calls_in}
 use Rattle.office_core.proofs.Replaying.{exchanges_more, lengths_more}
-use Rattle.office_core.proofs.CarriedOut.{carried_out}
 use Rattle.office_core.proofs.requests.answer_all.Goals as goal
 
 pub loop-asked-init : goal.loop-asked-init
@@ -74,13 +73,15 @@ loop-asked-preserved g c =
                     (g.K.Keep.may_leave c.answer.new.keep) (g.K.Keep.is_open c.answer.new.keep)
                     refl step.1 first.1.crash (c.answer.ensures.stays_open is)
                     (λ opened left leaves. g.met.K.Keep.only_committed c.answer.new.keep left opened leaves ∙ step.6 opened)
-                    (λ left leaves. carried_out (c.answer.ensures.crash is left leaves) (λ old. old)
-                    (λ made. (
-                      made.1,
-                      subst (λ (m : Tables).
-                          Step (section_at site asked.caller) (seat_name_at site asked.caller) m
-                          asked.request made.1 left) (first.1.stands made.0) made.2,
-                    ))));
+                    (λ left leaves. elim (c.answer.ensures.crash is left leaves) [
+                      | inl old ↦ inl old
+                      | inr made ↦ inr (
+                        made.1,
+                        subst (λ (m : Tables).
+                            Step (section_at site asked.caller) (seat_name_at site asked.caller) m
+                            asked.request made.1 left) (first.1.stands made.0) made.2,
+                      )
+                    ]));
                 text = λ honest text told.
                     c.answer.ensures.text honest text (first.1.text (c.answer.ensures.was_honest honest) text told);
                 stands = step.6;

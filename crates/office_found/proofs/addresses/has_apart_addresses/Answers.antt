@@ -1,5 +1,5 @@
 use Rattle.sqlite.specs.Held.{state}
-use Rattle.office_found.proofs.QueryRows.{bare_returns}
+use Rattle.office_sql.proofs.Visiting.{bare_returns}
 use Rattle.office_found.proofs.AddressRows.{addresses_read, addresses_text}
 use Rattle.office_found.proofs.AddressWalk.{walk_tells}
 use Rattle.office_found.specs.declared.version.Version.TheVariants.{First}

@@ -1,6 +1,6 @@
 use Rattle.std.proofs.Common.{rules, arith, true, false, refl, sym, inl, inr, [], ◌∷◌, ◌++◌, ◌∙◌, None, subst, append-nil}
 use Rattle.office_sql.proofs.Kit.{state, HasCleanDisk, given_begin, unchanged_then, survives_then}
-use Rattle.office_found.proofs.QueryRows.{commits_nothing, refused_rests, shown_from, begun}
+use Rattle.office_sql.proofs.Visiting.{commits_nothing, refused_rests, shown_from, begun}
 use Rattle.office_found.specs.Prelude.{HasNoRepeat, HasWalked}
 use Rattle.office_found.proofs.AddressWalk.{one_again, one_more}
 use Rattle.office_found.proofs.addresses.has_no_repeat.Goals as goal

@@ -1,6 +1,6 @@
 use Rattle.std.proofs.Common.{◌≡◌, ◌∙◌, false, Some, None, sym, ap, rules, is_some, nat_le}
+use Rattle.text_core.proofs.Kit.{none_from_test}
 use Rattle.office_tables.specs.Prelude.{places_taken, device_at, order_at, rows_of}
-use Rattle.office_rules.proofs.Refusing.{none_from_test}
 use Rattle.office_judges.proofs.device.device_to_register.Goals as goal
 
 pub returns : goal.returns

@@ -1,12 +1,13 @@
 -- The states of the customer's devices tell the number of each order.
 use Rattle.std.proofs.Common.{◌≡◌, ◌∙◌, List, ap, sym, subst, length, map, filter, Vec}
 use Rattle.std.specs.declared.alloc.Global.{Global}
+use Rattle.std.proofs.lemmas.Result.{IfOk-at_ok}
 use Rattle.sqlite.specs.Held.{state}
 use Rattle.office_tables.specs.Prelude.{places_taken, is_of, rows_of}
 use Rattle.office_keep.proofs.Types.{OrderState, PlaceCounts}
 use Rattle.office_sql.specs.Prelude.{order_state, tables_in}
 use Rattle.office_keep.specs.Prelude.{takes, AreRight}
-use Rattle.office_keep.proofs.MadeAnswers.{asks_of, said}
+use Rattle.office_keep.proofs.MadeAnswers.{asks_of}
 use Rattle.office_keep.proofs.Numbers.{states_tell}
 use Rattle.office_keep.proofs.places.count_places.Goals as goal
 use Rattle.office_keep.proofs.places.count_places.Goals.{in-Ok-count_states, in_default-count_states}
@@ -30,7 +31,7 @@ returns-after-count_states-clause-right g c = λ up clean.
     let customer = c.args.customer.now in
     let states = c.in-Ok-order_states.states in
     let rows = (tables_in (state g.S.Store c.args.conn.now).now.trees).devices in
-    let is = said c.order_states.result states (λ (v : Vec OrderState Global). v.items
+    let is = IfOk-at_ok (λ (v : Vec OrderState Global). v.items
     ≡ map order_state (filter (is_of customer) rows))
     c.in-Ok-order_states.is (c.order_states.ensures.answer clean) in
     elim c.match-count_states.branch [

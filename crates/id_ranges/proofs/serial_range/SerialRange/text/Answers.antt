@@ -1,12 +1,8 @@
-use Rattle.std.proofs.Common.{◌≡◌, true, Result, Ok, Err, refl, IsOk, MatchResult}
+use Rattle.std.proofs.Common.{◌≡◌, true, refl, IsOk}
 use Rattle.text_core.specs.Prelude.{is_serial}
+use Rattle.text_core.proofs.Kit.{IsOk-from_cases}
 use Rattle.id_ranges.proofs.Texts.{serial_is_text}
 use Rattle.id_ranges.proofs.serial_range.SerialRange.text.Goals as goal
-
--- a result whose error can't be is a value
-IsOk-from_cases : {T E : Type 0} (r : Result T E) (P : T → Type 0) (Q : E → Type 0) → MatchResult r P Q → ((e : E) → ¬ Q e) → IsOk r
-IsOk-from_cases (Ok x) P Q h none = refl
-IsOk-from_cases (Err e) P Q h none = absurd (none e h)
 
 pub unwrap-requires : goal.unwrap-requires
 unwrap-requires c =
