@@ -1,7 +1,6 @@
 -- A judgement that is carried out, with its reply kept.
 use Rattle.std.proofs.Common.{◌≡◌, ◌≤◌, ◌+◌, ◌⊎◌, inl, inr, ℕ, List, [], ◌∷◌, ◌++◌, length, Some, sym, ◌∙◌, ap, subst, IfOk, MatchResult, Result, Ok, Err}
 use Rattle.std.proofs.Common.{string_bytes, arith, length-append}
-use Rattle.text_core.specs.Prelude.{first_that_holds}
 use Rattle.http_replies.specs.Prelude.{Answer, answer_of}
 use Rattle.http_replies.specs.declared.Reply.{Reply}
 use Rattle.site_core.specs.Prelude.{Section}
@@ -21,10 +20,9 @@ use Rattle.office_commands.specs.declared.command.Show.{Show as Showing}
 use Rattle.office_judges.specs.declared.judgement.Accepted.{Accepted}
 use Rattle.office_judges.specs.declared.judgement.Judgement.TheVariants.{Accepted as Accepts, Refused as Refuses}
 use Rattle.office_judges.specs.Prelude.{IsJudged}
-use Rattle.office_rules.specs.Prelude.{seat_put, decide, effect, refusals, reply_only, response, show_reply, office_sight, seat_row_after, kept_of, Performs}
-use Rattle.office_rules.specs.Prelude.{Step}
+use Rattle.office_rules.specs.Prelude.{seat_put, reply_only, response, show_reply, office_sight, seat_row_after, kept_of, Performs, Step}
 use Rattle.office_rules.proofs.Fulfilled.{last_put, puts_made}
-use Rattle.office_core.specs.Prelude.{CommitsReply, IsLastCall, PutsSome}
+use Rattle.office_core.specs.Prelude.{CommitsReply, IsLastCall, PutsSome, new_response}
 
 -- the row of a seat whose request has this number and this reply
 abbrev row_with : List ℕ → List ℕ → Request → ℕ → List ℕ → OfCustomer SeatState
@@ -46,8 +44,7 @@ commits_reply customer seat r judged number reply t t2 is said all =
 -- what is accepted is what the machine responds where nothing refuses
 pub decides : (s : Section) (seat : List ℕ) (r : Request) (t : Tables) (c : Change) (a : Accepted)
     (t2 : Tables) → IsJudged s seat t c (Accepts a) → CommitsReply s.name seat r a t t2
-    → Performs s (decide seat r (first_that_holds (refusals s (office_sight s seat t) c))
-    (effect s seat (office_sight s seat t) c)) t (acceptance (string_bytes a.body)) t2
+    → Performs s (new_response s seat r c t) t (acceptance (string_bytes a.body)) t2
 decides s seat r t c a t2 (free, can, made, is, body, writes) (mid, written, last) =
     let row : SeatState = kept_of seat r made.body in (
       made.puts ++ seat_put row ∷ [],
@@ -64,8 +61,7 @@ decides s seat r t c a t2 (free, can, made, is, body, writes) (mid, written, las
 pub refuses : (s : Section) (seat : List ℕ) (r : Request) (t : Tables) (c : Change)
     (reason : Refusal) (reply : Answer) (t2 : Tables) → IsJudged s seat t c (Refuses reason)
     → reply ≡ refusal reason → t2 ≡ t
-    → Performs s (decide seat r (first_that_holds (refusals s (office_sight s seat t) c))
-    (effect s seat (office_sight s seat t) c)) t reply t2
+    → Performs s (new_response s seat r c t) t reply t2
 refuses s seat r t c reason reply t2 ruled said same =
     ([], rw ruled (λ i. Some (record { reply = sym said i; puts = [] })), same)
 
@@ -101,15 +97,12 @@ pub carries_out : (s : Section) (seat : List ℕ) (r : Request) (c : Change) (a 
     → MatchResult result (λ reply. CommitsReply name seat r a mid t2
     × (answer_of reply ≡ acceptance (string_bytes a.body))) (λ _. t2 ≡ mid)
     → MatchResult result (λ reply. Performs s
-    (decide seat r (first_that_holds (refusals s (office_sight s seat t) c))
-    (effect s seat (office_sight s seat t) c)) t (answer_of reply) t2) (λ _. t2 ≡ t)
+    (new_response s seat r c t) t (answer_of reply) t2) (λ _. t2 ≡ t)
 carries_out s seat r c a t mid t2 name (Ok reply) ruled is same (made, said) =
     let commits_reply : CommitsReply s.name seat r a t t2 =
     subst (λ (n : List ℕ). CommitsReply n seat r a t t2) is
     (subst (λ (m : Tables). CommitsReply name seat r a m t2) same made) in
-    subst (λ (answer : Answer). Performs s
-    (decide seat r (first_that_holds (refusals s (office_sight s seat t) c))
-    (effect s seat (office_sight s seat t) c)) t answer t2) (sym said)
+    subst (λ (answer : Answer). Performs s (new_response s seat r c t) t answer t2) (sym said)
     (decides s seat r t c a t2 ruled commits_reply)
 carries_out s seat r c a t mid t2 name (Err e) ruled is same made = made ∙ same
 
@@ -120,8 +113,7 @@ or_then (inr b) f = inr (f b)
 -- what is accepted puts something into the books
 pub decides_puts : (s : Section) (seat : List ℕ) (r : Request) (t : Tables) (c : Change)
     (a : Accepted) → IsJudged s seat t c (Accepts a)
-    → PutsSome (decide seat r (first_that_holds (refusals s (office_sight s seat t) c))
-    (effect s seat (office_sight s seat t) c))
+    → PutsSome (new_response s seat r c t)
 decides_puts s seat r t c a (free, can, made, is, body, writes) =
     let enough : 1 ≤ length (made.puts ++ seat_put (kept_of seat r made.body) ∷ []) =
     omega (arith, length-append made.puts (seat_put (kept_of seat r made.body) ∷ [])) in

@@ -1,12 +1,12 @@
 -- From what the functions over SQL ask to what a keeper answers.
 use Rattle.std.proofs.Common.{◌≡◌, ℕ, List, inl, inr, false, refl, sym, ap, subst, ◌∙◌, Result, Ok, Err, IfOk, OnOk, IsTrue, arith}
 use Rattle.std.specs.Result.{result_ok}
-use Rattle.office_sql.proofs.Kit.{Database, Held, state, Error, State, HasCleanDisk, IsUnchanged}
+use Rattle.office_sql.proofs.Kit.{Database, Held, state, Error, State, HasCleanDisk, IsUnchanged, clean_if_open}
 use Rattle.sqlite.specs.Store.{Ghosts}
 use Rattle.office_tables.specs.Prelude.{Tables, LooksUp}
 use Rattle.office_sql.specs.Prelude.{SqlReads, Rests, IsReady, IsOffice, tables_in}
 use Rattle.office_sql.proofs.Resting.{same_now}
-use Rattle.office_keep.specs.Prelude.{Kept, Agrees, RemembersRight, tables_of, is_open_at, is_honest_at, may_leave_at, tells_text_at, commits_at}
+use Rattle.office_keep.specs.Prelude.{Kept, Agrees, RemembersRight, tables_of, is_open_at, is_honest_at, may_leave_at, tells_text_at, commits_at, LooksUpBySql}
 use Rattle.office_keep.specs.declared.remembered.Remembered.{Remembered}
 
 -- a connection that was ready is ready after a read
@@ -22,8 +22,18 @@ if_ok P (Ok x) (Ok y) e h = subst P (let f = e in cc) h
 if_ok P (Err x) (Ok y) e h = absurd (let f = e in cc)
 if_ok P r (Err y) e h = tt
 
-module _ {S : Type 0} (g : Ghosts S) (old new : Held S) (ready : IsReady (state g old))
-    (clean : IsTrue (state g new).is_open → HasCleanDisk (state g new)) where
+-- each store that isn't sure of its disk is shut
+abbrev pub ShutsIfDirty : {S : Type 0} → Ghosts S → Type 0
+ShutsIfDirty {S = S} g = (store : S) → (g.view store).is_clean ≡ false → (g.view store).is_open ≡ false
+
+-- a connection that is open is sure of its disk
+pub clean_at : {S : Type 0} (g : Ghosts S) → ShutsIfDirty g → (h : Held S) → IsTrue (state g h).is_open → HasCleanDisk (state g h)
+clean_at g shuts h = clean_if_open (g.view h.store) (shuts h.store)
+
+module _ {S : Type 0} (g : Ghosts S) (shuts : ShutsIfDirty g) (old new : Held S) (ready : IsReady (state g old)) where
+  clean : IsTrue (state g new).is_open → HasCleanDisk (state g new)
+  clean = clean_at g shuts new
+
   -- what is asked of a connection at rest is what a keeper answers
   pub answers : {A F : Type 0} (r : Result A Error) (q : Result A F) (Says : Tables → A → Type 0) → result_ok q ≡ result_ok r → SqlReads g old new r Says
       → LooksUp (is_open_at g) (is_honest_at g) (may_leave_at g) (tells_text_at g) (tables_of g) commits_at old new q Says
@@ -62,16 +72,11 @@ module _ {S : Type 0} (g : Ghosts S) (old new : Held S) (ready : IsReady (state 
   still_ready r Says asks = rested (state g old) (state g new) ready (λ up. asks.rests (clean up)) (asks.mode ready.mode)
 
 -- what is said of a connection is said of a keeper that has it
-abbrev pub Told : {S A F : Type 0} → Ghosts S → Kept S → Kept S → Result A F → (Tables → A → Type 0) → Type 0
-Told g old new q Says =
-    LooksUp (λ k. is_open_at g k.conn) (λ k. is_honest_at g k.conn) (λ k. may_leave_at g k.conn)
-    (λ k. tells_text_at g k.conn) (λ k. tables_of g k.conn) (λ k. commits_at k.conn) old new q Says
-
 pub told : {S A F : Type 0} (g : Ghosts S) (old new : Held S) (site : List ℕ) (self : Kept S)
     → record { conn = old; site = site } ≡ self → (q : Result A F) (Says : Tables → A → Type 0)
     → LooksUp (is_open_at g) (is_honest_at g) (may_leave_at g) (tells_text_at g) (tables_of g) commits_at old new q Says
-    → Told g self (record { conn = new; site = site }) q Says
-told g old new site self view q Says it = subst (λ k. Told g k (record { conn = new; site = site }) q Says) view (record {
+    → LooksUpBySql g self (record { conn = new; site = site }) q Says
+told g old new site self view q Says it = subst (λ k. LooksUpBySql g k (record { conn = new; site = site }) q Says) view (record {
   read_only = record {
     was_open = it.read_only.was_open;
     same = it.read_only.same;
@@ -84,22 +89,21 @@ told g old new site self view q Says it = subst (λ k. Told g k (record { conn =
   answer = it.answer;
 })
 
--- the same of a keeper, of whose value its connection is a part
-module _ {S : Type 0} (g : Ghosts S) (old new : Held S) {remembered : Remembered} {owner : List ℕ}
-    (is_kept : RemembersRight g old owner remembered) (clean : IsTrue (state g new).is_open
-    → HasCleanDisk (state g new)) where
+-- what is read by a keeper, of whose value the connection is a part
+module _ {S : Type 0} (g : Ghosts S) (shuts : ShutsIfDirty g) (old new : Held S) {remembered : Remembered} {owner : List ℕ}
+    (is_kept : RemembersRight g old owner remembered) where
   pub answered : {A F : Type 0} {site : List ℕ} (self : Kept S)
       → record { conn = old; site = site } ≡ self
       → (r : Result A Error) (q : Result A F) (Says : Tables → A → Type 0)
       → result_ok q ≡ result_ok r → SqlReads g old new r Says
-      → Told g self (record { conn = new; site = site }) q Says
-  answered {site = site} self view r q Says is asks = told g old new site self view q Says (answers g old new is_kept.ready clean r q Says is asks)
+      → LooksUpBySql g self (record { conn = new; site = site }) q Says
+  answered {site = site} self view r q Says is asks = told g old new site self view q Says (answers g shuts old new is_kept.ready r q Says is asks)
 
   -- the keeper is as good as before, and so is what it remembers
   pub ready_after : {A : Type 0} (r : Result A Error) (Says : Tables → A → Type 0) → SqlReads g old new r Says → RemembersRight g new owner remembered
   ready_after r Says asks = record {
-    ready = still_ready g old new is_kept.ready clean r Says asks;
-    right = λ up. let rests = asks.rests (clean up) in
+    ready = still_ready g shuts old new is_kept.ready r Says asks;
+    right = λ up. let rests = asks.rests (clean_at g shuts new up) in
         subst (λ (d : Database). Agrees remembered (tables_in d.trees)) (sym (rests.committed up)) (is_kept.right (rests.was_open up));
     left = λ honest db may.
         elim (asks.crash.crash honest db may) [

@@ -1,11 +1,10 @@
 -- What a list of writes makes of the devices, and of the places that they take.
-use Rattle.std.proofs.Common.{◌≡◌, ◌+◌, ◌-◌, ◌∷◌, Ordering}
-use Rattle.text_core.proofs.Kit.{◌∙◌, ℕ, arith, Bool, true, List, [], Option, Some, None, Less, Equal, Greater, refl, sym, ap, filter_map, find, cons_option}
-use Rattle.text_core.proofs.Kit.{is_eq, match_ordering, bytes_eq-Decides}
+use Rattle.std.proofs.Common.{◌≡◌, ◌+◌, ◌-◌, ◌∷◌}
+use Rattle.text_core.proofs.Kit.{◌∙◌, ℕ, arith, List, [], Option, Some, None, refl, sym, ap, filter_map, find, cons_option, is_eq}
 use Rattle.office_keep.proofs.Types.{OfCustomer, Device, Order, Write, PutSeat, AddOrder, SetCursor, AddMap, AddLink, AddDevice, PutDevice, AddGiven, AddEntry}
 use Rattle.office_keep.proofs.Types.{WrittenDevices, Nothing, One, Several, PlaceCounts}
 use Rattle.office_tables.specs.Prelude.{place_of_device, device_cmp, is_device, order_at, with_row, with_cursor_of, IsInOrder, Tables, Writes, Written}
-use Rattle.office_tables.proofs.Places.{find_device, places, places_put, same_device, taken_by}
+use Rattle.office_tables.proofs.Places.{find_device, places, places_put, taken_by}
 use Rattle.office_tables.proofs.Orders.{device_total}
 use Rattle.office_keep.specs.Prelude.{AreCounts, AreRight, device_written, ArePut, AreTold}
 
@@ -67,26 +66,3 @@ followed d replaced rows after counts ordered is put right customer order number
     ap (taken_by customer order) (find_device d.customer d.row.chip rows ∙ sym is) in
     let now : places customer order after ≡ places customer order (with_row device_cmp d rows) = ap (places customer order) put in
     omega (arith, was, moved, same, now)
-
--- what is put is found
-put_found : {A : Type 0} (cmp : A → A → Ordering) (x : A) → is_eq (cmp x x) ≡ true → (xs : List A) → find (λ y. is_eq (cmp x y)) (with_row cmp x xs) ≡ Some x
-put_found cmp x itself [] = rw itself refl
-put_found cmp x itself (y ∷ ys) =
-    elim (cmp x y) as (λ o. cmp x y ≡ o → find (λ y. is_eq (cmp x y)) (match_ordering o (x ∷ y ∷ ys) (x ∷ ys) (y ∷ with_row cmp x ys)) ≡ Some x) [
-      | Less ↦ λ _. rw itself refl
-      | Equal ↦ λ _. rw itself refl
-      | Greater ↦ λ e. rw e (put_found cmp x itself ys)
-    ] refl
-
--- and so is a device
-pub device_found : (d : OfCustomer Device) (rows : List (OfCustomer Device)) → find (is_device d.customer d.row.chip) (with_row device_cmp d rows) ≡ Some d
-device_found d rows =
-    let itself : is_device d.customer d.row.chip d
-    ≡ true = rw (
-      (bytes_eq-Decides d.customer d.customer).1 refl,
-      (bytes_eq-Decides d.row.chip d.row.chip).1
-          refl,
-    ) refl in
-    sym (find_device d.customer d.row.chip (with_row device_cmp d rows))
-    ∙ put_found device_cmp d (ap (λ (test : OfCustomer Device → Bool).
-    test d) (same_device d.customer d.row.chip) ∙ itself) rows

@@ -5,9 +5,9 @@ use Rattle.office_tables.specs.Prelude.{Tables, LooksUp}
 use Rattle.office_keep.specs.Kept.{Kept}
 use Rattle.office_keep.specs.Keeping.{tables_of, is_open_at, is_honest_at, may_leave_at, tells_text_at, commits_at}
 
--- the limit on the steps of a statement is as it was
-abbrev pub KeepsLimit : {S : Type 0} → Kept S → Kept S → Type 0
-KeepsLimit old new = new.conn.step_limit ≡ old.conn.step_limit
+-- the limit on the steps of a statement and the site are as they were
+abbrev pub StaysAsSet : {S : Type 0} → Kept S → Kept S → Type 0
+StaysAsSet old new = (new.conn.step_limit ≡ old.conn.step_limit) × (new.site ≡ old.site)
 
 -- a call that reads and answers, as any keeper's does
 abbrev pub LooksUpBySql : {S A E : Type 0} → Ghosts S → Kept S → Kept S → Result A E

@@ -3,7 +3,7 @@ ghost use Rattle.office_tables.specs.Prelude.{device_cmp, IsInOrder, Tables};
 ghost use Rattle.office_keep.specs.Prelude.{Agrees, StayMapped, ArePut, IsReplaced};
 
 use crate::places::PlaceCounts;
-use crate::written::{DeviceAnswer, WrittenDevices, answer_after};
+use crate::written::{DeviceAnswer, WrittenDevices};
 use map_shelf::NumberShelf;
 use office_tables::DeviceRow;
 use std::alloc::Global;
@@ -13,7 +13,7 @@ use std::alloc::Global;
 pub(crate) struct Remembered {
     /// The places that were counted.
     pub(crate) places: PlaceCounts,
-    /// The device that was read or written last.
+    /// The device that was read last, until a commit.
     pub(crate) device: Option<DeviceAnswer>,
     /// The fuse maps that were asked for last.
     pub(crate) maps: NumberShelf,
@@ -39,6 +39,6 @@ impl Remembered {
             → Agrees self.new after }
     {
         self.places.follow(written, replaced);
-        self.device = answer_after(written);
+        self.device = None;
     }
 }

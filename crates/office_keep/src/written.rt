@@ -7,7 +7,7 @@ ghost use Rattle.office_tables.specs.declared.rows.Device.{Device};
 ghost use Rattle.office_tables.specs.Prelude.{Reads, is_device};
 ghost use Rattle.office_sql.specs.Prelude.{IsReady};
 ghost use Rattle.office_keep.specs.Prelude.{commits_at, is_honest_at, is_open_at, may_leave_at, tables_of, tells_text_at};
-ghost use Rattle.office_keep.specs.Prelude.{IsAnswer, device_written, ArePut, AreTold};
+ghost use Rattle.office_keep.specs.Prelude.{IsAnswer, device_written, AreTold};
 ghost use Rattle.office_keep.specs.Prelude.{IsReplaced};
 
 use office_sql as sql;
@@ -69,22 +69,6 @@ pub(crate) fn written_devices(writes: &[Write]) -> WrittenDevices<'_>
     match found {
         Some(row) => WrittenDevices::One(row),
         None => WrittenDevices::Nothing,
-    }
-}
-
-/// What the tables have for the device once it is written, if it is one.
-pub(crate) fn answer_after(written: WrittenDevices<'_>) -> Option<DeviceAnswer>
-    ensures { (rows after : List (OfCustomer Device)) → ArePut written.entry rows after
-        → IsAnswer result after }
-{
-    match written {
-        WrittenDevices::One(row) => Some(DeviceAnswer {
-            customer: row.customer,
-            chip: row.row.chip,
-            row: Some(*row),
-        }),
-        WrittenDevices::Nothing => None,
-        WrittenDevices::Several => None,
     }
 }
 

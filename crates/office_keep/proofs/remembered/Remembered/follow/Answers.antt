@@ -4,6 +4,6 @@ use Rattle.office_keep.proofs.remembered.Remembered.follow.Goals as goal
 pub returns : goal.returns
 returns c = λ t after ordered is put stay right. record {
   places = c.follow.ensures t.devices after.devices ordered is put right.places;
-  device = c.answer_after-self.ensures t.devices after.devices put;
+  device = tt;
   maps = All-weaker _ _ (λ one h. stay one.id one.map h) _ right.maps;
 }
