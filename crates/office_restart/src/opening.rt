@@ -1,14 +1,13 @@
 // A keeper over files of any disk.
 ghost use Rattle.std.specs.Prelude.{◌≡◌, IsTrue, IfOk};
-ghost use Rattle.sqlite.specs.Files.{HoldsDatabase, image_of, over_files};
+ghost use Rattle.sqlite.specs.Files.{image_of, over_files};
 ghost use Rattle.sqlite.specs.Held.{state};
 ghost use Rattle.sqlite.specs.State.{HasCleanDisk};
-ghost use Rattle.sqlite.specs.Tree.{Trees};
 ghost use Rattle.sqlite_wal.specs.Reads.{AreClean};
 ghost use Rattle.office_tables.specs.Prelude.{Tables};
-ghost use Rattle.office_store.specs.Prelude.{TakesGrowth, HasTablesOf};
+ghost use Rattle.office_store.specs.Prelude.{FilesHeld, HasTablesOf, IsOpenedFor};
+ghost use Rattle.office_store.specs.declared.opening.Absent.TheVariants.{Make};
 ghost use Rattle.office_keep.specs.Prelude.{is_honest_at, is_open_at, may_leave_at, tables_of};
-ghost use Rattle.office_found.specs.Prelude.{HoldsText};
 
 use office_store::{Handed, OpenFault, SqlKeep, adopt};
 use site_core::SiteText;
@@ -23,13 +22,8 @@ fn adopted<S: Alter + Drop>(
     site: &SiteText,
 ) -> Result<SqlKeep<S>, (OpenFault, S)>
     requires { HasCleanDisk (state S.Store conn) → is_open_at S.Store conn }
-    ensures site { IfOk result (λ keep. keep.site ≡ site.now.digest) }
-    ensures text { IfOk result (λ keep. is_honest_at S.Store keep.conn
-        → HoldsText site.now.text (state S.Store keep.conn).now.trees) }
-    ensures grown { IfOk result (λ keep. is_honest_at S.Store keep.conn
-        → TakesGrowth site.now.site (state S.Store conn).committed.trees) }
-    ensures open { IfOk result (λ keep. is_honest_at S.Store keep.conn
-        → is_open_at S.Store keep.conn) }
+    ensures opened { IfOk result (IsOpenedFor S.Store site.now Make
+        (λ Says. Says (state S.Store conn).committed.trees)) }
     ensures was_honest { IfOk result (λ keep.
         is_honest_at S.Store keep.conn → is_honest_at S.Store conn) }
     ensures tables { IfOk result (λ keep.
@@ -61,13 +55,8 @@ pub fn open_files<D: Disk + Drop>(
 ) -> Result<SqlKeep<FileStore<D>>, OpenFault>
     requires log { IsTrue (D.Disk.is_usable files.log) }
     requires db { IsTrue (D.Disk.is_usable files.db) }
-    ensures site { IfOk result (λ keep. keep.site ≡ site.now.digest) }
-    ensures text { IfOk result (λ keep. is_honest_at over_files keep.conn
-        → HoldsText site.now.text (state over_files keep.conn).now.trees) }
-    ensures grown { IfOk result (λ keep. is_honest_at over_files keep.conn
-        → (db : Trees) → HoldsDatabase (image_of D.Disk files) db → TakesGrowth site.now.site db) }
-    ensures open { IfOk result (λ keep. is_honest_at over_files keep.conn
-        → is_open_at over_files keep.conn) }
+    ensures opened { IfOk result (IsOpenedFor over_files site.now Make
+        (FilesHeld (image_of D.Disk files))) }
     ensures was_honest { IfOk result (λ keep.
         is_honest_at over_files keep.conn → AreClean D.Disk files.log files.db) }
     ensures tables { IfOk result (λ keep. is_honest_at over_files keep.conn

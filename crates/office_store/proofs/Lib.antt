@@ -19,7 +19,6 @@ mod Upgrades
 mod UpgradeMeta
 mod Refusals
 mod Preparing
-mod LeftOfSite
 mod Telling
 mod Opened
 pub mod ClosedFiles

@@ -1,12 +1,36 @@
--- What an opening takes.
-use Rattle.std.proofs.Common.{◌≢◌, refl}
-use Rattle.sqlite.specs.Effect.{Database}
-use Rattle.office_sql.specs.Prelude.{no_schema}
-use Rattle.office_store.proofs.Types.{Absent, Make, Refuse}
-use Rattle.office_store.specs.Prelude.{IsTaken, LacksStore, IsStore, IsStoreOrNone}
+-- What an opening shows, by what was there before, and what a crash leaves of it.
+use Rattle.std.proofs.Common.{◌≡◌, sym, ap, subst, ◌∙◌, IsTrue}
+use Rattle.sha2.specs.Sha256.{sha256}
+use Rattle.site_core.specs.Prelude.{TextOfSite}
+use Rattle.sqlite.specs.Store.{Ghosts}
+use Rattle.sqlite_disk.specs.declared.Disk as disk
+use Rattle.sqlite_store.specs.declared.store.FileStore.{FileStore}
+use Rattle.office_sql.proofs.Kit.{file_state, Database, HasCleanDisk, Held, Image, State, Trees}
+use Rattle.office_sql.specs.Prelude.{IsOffice, IsReady, office_over}
+use Rattle.office_found.specs.Prelude.{IsOfSite, IsOurs}
+use Rattle.office_store.specs.Prelude.{FilesHeld, IsFoundOver, IsTakenFor}
 
--- a database that isn't turned away for lack of a store
-pub taken : (absent : Absent) (db : Database) → IsStoreOrNone db.trees → (db.schema ≢ no_schema → IsStore db.trees)
-    → ¬ LacksStore absent db → IsTaken absent db.trees
-taken Make db was there has = was
-taken Refuse db was there has = there (λ bare. has (refl, bare))
+module _ (site : TextOfSite) (before : Trees) (s : State) (settled : (db : Trees) → IsTrue s.is_open → s.may_leave db → db ≡ s.committed.trees)
+    (up : IsTrue s.is_open) (ready : IsReady s) (it : IsTakenFor site before s.now.trees) (named : sha256 site.text ≡ site.digest) where
+  -- a connection that is ready leaves what it shows
+  pub leaves_shown : (db : Trees) → s.may_leave db → db ≡ s.now.trees
+  leaves_shown db may = settled db up may ∙ sym (ap (λ (d : Database). d.trees) (ready.shows_committed up))
+
+  -- its store is of the site
+  pub ours : IsOurs site.digest s.now.trees
+  ours = record { text = site.text; tells = it.tells; named = named }
+
+  pub left_of_site : (db : Trees) → s.may_leave db → IsOfSite site.digest db
+  left_of_site db may =
+      let office = ready.office up in
+      let is = leaves_shown db may in
+      let same : office_over db ≡ s.now = λ i. record { schema = sym office.schema i; trees = is i } in
+      (subst IsOffice (sym same) office, subst (IsOurs site.digest) (sym is) ours)
+
+-- what is so of the database that a connection over files shows is so of what the files held
+pub held_before : {D : Type 0} {g : disk.Ghosts D} (image : Image) (conn : Held (FileStore D g)) → IsFoundOver image conn → HasCleanDisk (file_state conn)
+    → (Says : Trees → Type 0) → Says (file_state conn).now.trees → FilesHeld image Says
+held_before image conn found clean Says is =
+    let finds = found.finds clean in
+    let was = subst Says (ap (λ (d : Database). d.trees) (found.opened clean).0.clean) is in
+    record { held = λ db holds. subst Says (finds.holds db holds) was; found = ((file_state conn).committed.trees, finds.reads, was) }

@@ -6,10 +6,10 @@ use Rattle.office_sql.proofs.Kit.{Database, Held, state, State, HasCleanDisk, Is
 use Rattle.sqlite.specs.Store.{Ghosts}
 use Rattle.office_tables.specs.Prelude.{Tables}
 use Rattle.office_sql.specs.Prelude.{IsUndone, no_schema, IsOffice, office_over, tables_in}
-use Rattle.office_store.proofs.Types.{OpenFault, Failed, Version, First, Third}
+use Rattle.office_store.proofs.Types.{Absent, Make, Refuse, OpenFault, Failed, Version, First, Third}
 use Rattle.office_store.specs.Prelude.{AreUnstarted, CanPrepareTables, CanTake, Examines, IsApartAt, IsFoundAt, IsGrowable, IsOtherSchema, IsRefusedFor}
-use Rattle.office_store.specs.Prelude.{IsPreparedFor, LeavesAtMost, PreparesTables, StaysUnstarted, TakesGrowth, TakesOwn, HasGrown, IsGrown, IsBegun}
-use Rattle.office_store.specs.Prelude.{IsCreated, HasSchema, IsNoStore, IsStore, IsStoreOrNone, IsGrownFrom, IsUntouched, IsUpgrade, IsUpgraded}
+use Rattle.office_store.specs.Prelude.{IsPreparedFor, IsTakenFor, LeavesAtMost, PreparesTables, StaysUnstarted, TakesGrowth, TakesOwn, HasGrown, IsGrown}
+use Rattle.office_store.specs.Prelude.{IsBegun, IsCreated, HasSchema, IsNoStore, IsStore, IsTaken, LacksStore, IsGrownFrom, IsUntouched, IsUpgrade, IsUpgraded}
 use Rattle.office_found.specs.Prelude.{HasApartAddresses, IsFound, Tests, HoldsSite, HasMeta, HoldsText, schema_of}
 use Rattle.office_sql.proofs.Asked.{was_clean}
 use Rattle.office_store.proofs.FoundStarts.{office_of, starts_of}
@@ -42,14 +42,8 @@ pub unprepared : {S : Type 0} (g : Ghosts S) (site : TextOfSite) (old new : Held
 unprepared g site old new fault mode refused unchanged untouched crash = record {
   mode = mode;
   ready = λ clean. tt;
-  tells = λ clean. tt;
-  grown = λ clean. tt;
-  own = λ clean. tt;
-  apart = λ clean. tt;
   was = λ clean. tt;
-  there = λ clean. tt;
-  kept = λ clean. tt;
-  unstarted = λ clean. tt;
+  takes = λ clean. tt;
   refused = refused;
   unchanged = unchanged;
   untouched = untouched;
@@ -75,6 +69,16 @@ lists_schema version db found = subst (λ s. HasSchema s db.trees) found.schema 
 -- so it was a store, if it told of itself
 store_of : (version : Version) (site : List ℕ) (db : Database) → IsFound version db → HasMeta version site db.trees → IsStore db.trees
 store_of version site db found told = (version, record { schema = lists_schema version db found; told = (site, told) })
+
+-- a store is taken, whether one is to be made or not
+taken_store : (absent : Absent) (db : Trees) → IsStore db → IsTaken absent db
+taken_store Make db store = inr store
+taken_store Refuse db store = store
+
+-- none is taken where one is to be made
+taken_none : (absent : Absent) (db : Database) → db.schema ≡ no_schema → IsNoStore db.trees → ¬ LacksStore absent db → IsTaken absent db.trees
+taken_none Make db bare none has = inl none
+taken_none Refuse db bare none has = absurd (has (refl, bare))
 
 -- what making tables may leave: the tables of a store that had none
 leaves_made : (site : TextOfSite) (old new : State) → CanPrepareTables old → old.now.schema ≡ no_schema
@@ -136,14 +140,18 @@ module _ {S : Type 0} (g : Ghosts S) (site : TextOfSite) (old new : Held S) (cal
           shows_committed = λ up. sym (created clean).committed;
         },
       );
-      tells = λ clean. (created clean).begun.fresh.tells;
-      grown = λ clean older tells. absurd (not_silent Third (sha256 older) (state g old).now.trees (nothing clean).nothing.silent tells.named);
-      own = λ clean version other earlier told. absurd (not_silent version other (state g old).now.trees (nothing clean).nothing.silent told);
-      apart = λ clean. apart_if_none (state g new).now.trees (created clean).begun.fresh.tables;
-      was = λ clean. inl (nothing clean);
-      there = λ clean some. absurd (some bare);
-      kept = λ clean. (created clean).begun.fresh.tables ∙ sym (nothing clean).nothing.tables;
-      unstarted = λ clean other told. subst AreUnstarted (sym (created clean).begun.fresh.tables) (tt, tt);
+      was = λ clean absent has. taken_none absent (state g old).now bare (nothing clean) has;
+      takes = λ clean.
+          let none = (nothing clean).nothing in
+          let fresh = (created clean).begun.fresh in
+          record {
+            tells = fresh.tells;
+            grown = λ older tells. absurd (not_silent Third (sha256 older) (state g old).now.trees none.silent tells.named);
+            own = λ version other earlier told. absurd (not_silent version other (state g old).now.trees none.silent told);
+            apart = apart_if_none (state g new).now.trees fresh.tables;
+            tables = fresh.tables ∙ sym none.tables;
+            unstarted = λ other told. subst AreUnstarted (sym fresh.tables) (tt, tt);
+          };
       refused = tt;
       unchanged = λ clean. tt;
       untouched = tt;
@@ -184,17 +192,20 @@ module _ {S : Type 0} (g : Ghosts S) (site : TextOfSite) (old new : Held S) (cal
     upgraded it = record {
       mode = mode;
       ready = λ clean. ((it clean).is_open, record { mode = mode; office = λ up. (it clean).upgrade.office; shows_committed = λ up. sym (it clean).committed });
-      tells = λ clean. record { holds = (it clean).upgrade.holds; named = (it clean).upgrade.told (sha256 site.text) (told (before_upgrade clean)) };
-      grown = λ clean older tells.
-          absurd (not_third version (sha256 site.text) (sha256 older)
-          (state g old).now.trees earlier (told (before_upgrade clean)) tells.named);
-      own = λ clean version2 other earlier2 is. site_once version2 version other (sha256 site.text) (state g old).now.trees is (told (before_upgrade clean));
-      apart = λ clean. apart_upgraded version site.text (state g old).now.trees (state g new).now (it clean).upgrade (apart (before_upgrade clean));
-      was = λ clean. inr (earlier_store (before_upgrade clean));
-      there = λ clean some. earlier_store (before_upgrade clean);
-      kept = λ clean. (it clean).upgrade.tables;
-      unstarted = λ clean other is. subst AreUnstarted (sym (it clean).upgrade.tables)
-          (starts_of version (sha256 site.text) (state g old).now (found.found (before_upgrade clean)) earlier (told (before_upgrade clean)) other is);
+      was = λ clean absent has. taken_store absent (state g old).now.trees (earlier_store (before_upgrade clean));
+      takes = λ clean.
+          let before = before_upgrade clean in
+          let upgrade = (it clean).upgrade in
+          record {
+            tells = record { holds = upgrade.holds; named = upgrade.told (sha256 site.text) (told before) };
+            grown = λ older tells.
+                absurd (not_third version (sha256 site.text) (sha256 older) (state g old).now.trees earlier (told before) tells.named);
+            own = λ version2 other earlier2 is. site_once version2 version other (sha256 site.text) (state g old).now.trees is (told before);
+            apart = apart_upgraded version site.text (state g old).now.trees (state g new).now upgrade (apart before);
+            tables = upgrade.tables;
+            unstarted = λ other is. subst AreUnstarted (sym upgrade.tables)
+                (starts_of version (sha256 site.text) (state g old).now (found.found before) earlier (told before) other is);
+          };
       refused = tt;
       unchanged = λ clean. tt;
       untouched = tt;
@@ -208,6 +219,18 @@ module _ {S : Type 0} (g : Ghosts S) (site : TextOfSite) (old new : Held S) (cal
         undone_keeps (state g old) (state g new) (undone clean))
         (λ other. absurd (other refl))
         (leaves_upgraded site version (state g old) (state g new) earlier found told survives)
+
+  -- a store of the third version is taken with the tables that it has
+  taken_again : (before now : Trees) → CanTake site.site before → HoldsSite site.text now → HasApartAddresses now
+      → tables_in now ≡ tables_in before → IsTakenFor site before now
+  taken_again before now take tells apart tables = record {
+    tells = tells;
+    grown = takes site.site before take;
+    own = never_earlier site.text take.0 before take.1;
+    apart = apart;
+    tables = tables;
+    unstarted = never_first take.0 before (tables_in now) take.1;
+  }
 
   module _ (found : IsFoundAt Third (state g old)) (apart : IsApartAt (state g old)) (can : HasCleanDisk (state g old)
       → IsGrowable site.site (state g old).now) (mode : new.in_transaction ≡ false) where
@@ -225,14 +248,12 @@ module _ {S : Type 0} (g : Ghosts S) (site : TextOfSite) (old new : Held S) (cal
       grew it = record {
         mode = mode;
         ready = λ clean. ((it clean).is_open, record { mode = mode; office = λ up. (it clean).grown.office; shows_committed = λ up. sym (it clean).committed });
-        tells = λ clean. (it clean).grown.tells;
-        grown = λ clean. takes site.site (state g old).now.trees (can (before_growth clean)).1;
-        own = λ clean. let take = (can (before_growth clean)).1 in never_earlier site.text take.0 (state g old).now.trees take.1;
-        apart = λ clean. apart_grown site.text (state g old).now.trees (state g new).now (it clean).grown (apart (before_growth clean));
-        was = λ clean. inr (third_store (before_growth clean));
-        there = λ clean some. third_store (before_growth clean);
-        kept = λ clean. (it clean).grown.tables;
-        unstarted = λ clean. let take = (can (before_growth clean)).1 in never_first take.0 (state g old).now.trees (tables_in (state g new).now.trees) take.1;
+        was = λ clean absent has. taken_store absent (state g old).now.trees (third_store (before_growth clean));
+        takes = λ clean.
+            let before = before_growth clean in
+            let grown = (it clean).grown in
+            taken_again (state g old).now.trees (state g new).now.trees (can before).1 grown.tells
+            (apart_grown site.text (state g old).now.trees (state g new).now grown (apart before)) grown.tables;
         refused = tt;
         unchanged = λ clean. tt;
         untouched = tt;
@@ -256,8 +277,6 @@ module _ {S : Type 0} (g : Ghosts S) (site : TextOfSite) (old new : Held S) (cal
         → PreparesTables g site old new (Ok tt)
     has_it answer is tests =
         let before = before_test (Ok answer) tests in
-        let take = λ (clean : HasCleanDisk (state g new)). (can (before clean)).1 in
-        let holds = λ (clean : HasCleanDisk (state g new)). (tests.answer clean).0 is in
         record {
           mode = mode;
           ready = λ clean.
@@ -269,18 +288,13 @@ module _ {S : Type 0} (g : Ghosts S) (site : TextOfSite) (old new : Held S) (cal
                   shows_committed = λ up. same.now_is ∙ found.shows_committed (before clean) ∙ sym same.committed_is;
                 },
               );
-          tells = λ clean. subst (λ (d : Database). HoldsSite site.text d.trees) (sym (tests.same clean).0.now_is)
-              (subst (λ t.
-              HoldsSite t (state g old).now.trees)
-              (one_text (take clean).0 site.text (state g old).now.trees (take clean).1.holds
-              (holds clean)) (take clean).1);
-          grown = λ clean. takes site.site (state g old).now.trees (take clean);
-          own = λ clean. never_earlier site.text (take clean).0 (state g old).now.trees (take clean).1;
-          apart = λ clean. subst (λ (d : Database). HasApartAddresses d.trees) (sym (tests.same clean).0.now_is) (apart (before clean));
-          was = λ clean. inr (third_store (before clean));
-          there = λ clean some. third_store (before clean);
-          kept = λ clean. ap (λ (d : Database). tables_in d.trees) (tests.same clean).0.now_is;
-          unstarted = λ clean. never_first (take clean).0 (state g old).now.trees (tables_in (state g new).now.trees) (take clean).1;
+          was = λ clean absent has. taken_store absent (state g old).now.trees (third_store (before clean));
+          takes = λ clean.
+              let now = (state g old).now.trees in
+              let take = (can (before clean)).1 in
+              let tells = subst (λ t. HoldsSite t now) (one_text take.0 site.text now take.1.holds ((tests.answer clean).0 is)) take.1 in
+              subst (λ (d : Database). IsTakenFor site now d.trees) (sym (tests.same clean).0.now_is)
+              (taken_again now now take tells (apart (before clean)) refl);
           refused = tt;
           unchanged = λ clean. tt;
           untouched = tt;
@@ -322,14 +336,8 @@ pub prepared_after : {S : Type 0} (g : Ghosts S) (site : TextOfSite) (old mid ne
 prepared_after g site old mid new r Says test it = record {
   mode = it.mode;
   ready = it.ready;
-  tells = it.tells;
-  grown = λ clean. grown_too r (same clean) (it.grown clean);
-  own = λ clean. own_too r (same clean) (it.own clean);
-  apart = it.apart;
-  was = λ clean. was_too r (same clean) (it.was clean);
-  there = λ clean. there_too r (same clean) (it.there clean);
-  kept = λ clean. kept r (same clean) (it.kept clean);
-  unstarted = λ clean. unstarted_too r (same clean) (it.unstarted clean);
+  was = λ clean. of_before r (λ d. (absent : Absent) → ¬ LacksStore absent d → IsTaken absent d.trees) (same clean) (it.was clean);
+  takes = λ clean. of_before r (λ d. IsTakenFor site d.trees (state g new).now.trees) (same clean) (it.takes clean);
   refused = it.refused;
   unchanged = λ clean. keeps r (test.same (calm clean)) (it.unchanged clean);
   untouched = untouched_too r it.untouched;
@@ -346,40 +354,10 @@ prepared_after g site old mid new r Says test it = record {
     same : HasCleanDisk (state g new) → (state g mid).now ≡ (state g old).now
     same clean = (test.same (calm clean)).0.now_is
 
-    kept : (r : Result (Unit {0}) OpenFault) → (state g mid).now ≡ (state g old).now
-        → OnOk r (tables_in (state g new).now.trees ≡ tables_in (state g mid).now.trees)
-        → OnOk r (tables_in (state g new).now.trees ≡ tables_in (state g old).now.trees)
-    kept (Ok _) e h = h ∙ ap (λ (d : Database). tables_in d.trees) e
-    kept (Err _) e h = tt
-
-    unstarted_too : (r : Result (Unit {0}) OpenFault) → (state g mid).now ≡ (state g old).now
-        → OnOk r (StaysUnstarted (state g mid).now.trees (tables_in (state g new).now.trees))
-        → OnOk r (StaysUnstarted (state g old).now.trees (tables_in (state g new).now.trees))
-    unstarted_too (Ok _) e h = subst (λ (d : Database). StaysUnstarted d.trees (tables_in (state g new).now.trees)) e h
-    unstarted_too (Err _) e h = tt
-
-    grown_too : (r : Result (Unit {0}) OpenFault) → (state g mid).now ≡ (state g old).now
-        → OnOk r (TakesGrowth site.site (state g mid).now.trees)
-        → OnOk r (TakesGrowth site.site (state g old).now.trees)
-    grown_too (Ok _) e h = subst (λ (d : Database). TakesGrowth site.site d.trees) e h
-    grown_too (Err _) e h = tt
-
-    own_too : (r : Result (Unit {0}) OpenFault) → (state g mid).now ≡ (state g old).now
-        → OnOk r (TakesOwn site.text (state g mid).now.trees)
-        → OnOk r (TakesOwn site.text (state g old).now.trees)
-    own_too (Ok _) e h = subst (λ (d : Database). TakesOwn site.text d.trees) e h
-    own_too (Err _) e h = tt
-
-    was_too : (r : Result (Unit {0}) OpenFault) → (state g mid).now ≡ (state g old).now
-        → OnOk r (IsStoreOrNone (state g mid).now.trees) → OnOk r (IsStoreOrNone (state g old).now.trees)
-    was_too (Ok _) e h = subst (λ (d : Database). IsStoreOrNone d.trees) e h
-    was_too (Err _) e h = tt
-
-    there_too : (r : Result (Unit {0}) OpenFault) → (state g mid).now ≡ (state g old).now
-        → OnOk r ((state g mid).now.schema ≢ no_schema → IsStore (state g mid).now.trees)
-        → OnOk r ((state g old).now.schema ≢ no_schema → IsStore (state g old).now.trees)
-    there_too (Ok _) e h = subst (λ (d : Database). d.schema ≢ no_schema → IsStore d.trees) e h
-    there_too (Err _) e h = tt
+    of_before : (r : Result (Unit {0}) OpenFault) (Says : Database → Type 0) → (state g mid).now ≡ (state g old).now
+        → OnOk r (Says (state g mid).now) → OnOk r (Says (state g old).now)
+    of_before (Ok _) Says e h = subst Says e h
+    of_before (Err _) Says e h = tt
 
     untouched_too : (r : Result (Unit {0}) OpenFault) → IfErr r (λ fault. fault ≢ Failed → IsUntouched (state g mid) (state g new))
         → IfErr r (λ fault. fault ≢ Failed → IsUntouched (state g old) (state g new))

@@ -1,15 +1,15 @@
 -- What a test of a found store shows, where it is passed and where it is not.
-use Rattle.std.proofs.Common.{◌≡◌, ◌≢◌, ◌↔◌, inl, inr, ℕ, length, List, Bool, false, true≢false, Option, Some, Result, Ok, Err, OnOk, IfErr, IsErrAnd, IsTrue}
-use Rattle.std.proofs.Common.{refl, sym, ap, subst, ◌∙◌, Vec, IsUtf8}
+use Rattle.std.proofs.Common.{◌≡◌, ◌≢◌, ◌↔◌, inl, inr, ℕ, length, List, Bool, true, false, true≢false, Option, Some, Result, Ok, Err, OnOk, IfErr, IsErrAnd}
+use Rattle.std.proofs.Common.{refl, sym, ap, subst, ◌∙◌, Vec, IsTrue, IsUtf8}
 use Rattle.std.specs.declared.alloc.Global.{Global}
 use Rattle.sha2.specs.Sha256.{sha256}
 use Rattle.site_core.specs.Prelude.{TextOfSite}
 use Rattle.office_sql.proofs.Kit.{Row, Database, Held, state, HasCleanDisk, IsUnchanged, Trees, Error, survives_then, unchanged_then}
 use Rattle.sqlite.specs.Store.{Ghosts}
 use Rattle.office_store.proofs.Types.{OpenFault, OtherSite, OtherTables, Failed, Meta, Version, Earliest, Early, First, Third}
-use Rattle.office_store.specs.Prelude.{AreStartsAsked, CanTake, Examines, HasOtherTables, IsFoundAt, IsOfOtherSite, IsOther, IsShownText, TellsOther}
-use Rattle.office_store.specs.Prelude.{IsGrownFrom, ShowsSame}
-use Rattle.office_found.specs.Prelude.{HasApartAddresses, HasStarts, HasWhole, IsFound, Tests, meta_of_version, metas_in, IsMetaOf, HasMeta, ShowTexts}
+use Rattle.office_store.specs.Prelude.{AreStartsAsked, CanTake, Examines, HasOtherRows, HasOtherTables, IsFoundAt, IsOfOtherSite, IsOther, IsShownText}
+use Rattle.office_store.specs.Prelude.{IsGrownFrom, ShowsSame, TellsOther, result_of_test}
+use Rattle.office_found.specs.Prelude.{HasStarts, IsFound, Tests, meta_of_version, metas_in, IsMetaOf, HasMeta, ShowTexts}
 use Rattle.office_found.specs.Prelude.{number_of_version, schema_of}
 use Rattle.office_sql.proofs.Asked.{was_clean}
 use Rattle.office_found.proofs.FoundAsked.{rests_then, still_found}
@@ -180,88 +180,45 @@ module _ {S : Type 0} (g : Ghosts S) (site : TextOfSite) (old new : Held S)
     schema_after : HasCleanDisk (state g new) → (state g new).now.schema ≡ schema_of version
     schema_after clean = still (Ok answer) P tests (tests.same clean).0.is_open
 
-  -- a number below zero is one of other tables
-  pub low_found : (answer : Bool) → answer ≡ false → Tests {E = Error} g old new (Ok answer) (λ db whole. IsTrue whole ↔ HasWhole db)
-      → (Says : Database → Type 0) → Examines g site old new (Err OtherTables) Says
-  low_found answer low tests Says = not_passed (Ok answer) _ tests OtherTables Says (λ clean told. absurd (let e = told in cc))
-      (λ clean _.
-      let same = same_trees answer _ tests clean in
-      let lacks = λ (whole : HasWhole (state g new).now.trees). true≢false
-      (sym ((tests.answer clean).1 (subst (λ (d : Database). HasWhole d.trees) same whole))
-      ∙ low) in
-      inr (version, schema_after answer _ tests clean, inl lacks))
-      (λ clean other. same_trees answer _ tests clean)
-
-  -- and so is a start that lacks
-  pub lack_found : (HasCleanDisk (state g old) → AreStartsAsked (sha256 site.text) version (state g old).now.trees)
-      → (answer : Bool) → answer ≡ false → Tests {E = Error} g old new (Ok answer) (λ db whole. IsTrue whole ↔ HasStarts db)
-      → (Says : Database → Type 0) → Examines g site old new (Err OtherTables) Says
-  lack_found asked answer low tests Says = not_passed (Ok answer) _ tests OtherTables Says (λ clean told. absurd (let e = told in cc))
-      (λ clean _.
-      let same = same_trees answer _ tests clean in
-      let are_asked = subst (λ (d : Database).
-      AreStartsAsked (sha256 site.text) version d.trees) (sym same)
-      (asked (was_clean (state g old) (state g new) _ tests.crash clean)) in
-      let lacks = λ (whole : HasStarts (state g new).now.trees). true≢false
-      (sym ((tests.answer clean).1 (subst (λ (d : Database). HasStarts d.trees) same whole))
-      ∙ low) in
-      inr (version, schema_after answer _ tests clean, inr (inr (inl (are_asked, lacks)))))
-      (λ clean other. same_trees answer _ tests clean)
-
-  -- and one address in two records
-  pub twice_found : (answer : Bool) → answer ≡ false → Tests {E = Error} g old new (Ok answer) (λ db apart. IsTrue apart ↔ HasApartAddresses db)
-      → (Says : Database → Type 0) → Examines g site old new (Err OtherTables) Says
-  twice_found answer twice tests Says = not_passed (Ok answer) _ tests OtherTables Says (λ clean told. absurd (let e = told in cc))
-      (λ clean _.
-      let same = same_trees answer _ tests clean in
-      let meets = λ (apart : HasApartAddresses (state g new).now.trees). true≢false
-      (sym ((tests.answer clean).1 (subst (λ (d : Database). HasApartAddresses d.trees) same apart))
-      ∙ twice) in
-      inr (version, schema_after answer _ tests clean, inr (inr (inr (inr meets)))))
-      (λ clean other. same_trees answer _ tests clean)
+  -- what was asked is so and it is passed, or it isn't, and the tables are other ones, or it couldn't be read
+  pub answered : (P : Trees → Type 0) (Says : Database → Type 0) → (HasCleanDisk (state g old) → P (state g old).now.trees → Says (state g old).now)
+      → (HasCleanDisk (state g old) → ¬ P (state g old).now.trees → HasOtherRows (sha256 site.text) version (state g old).now.trees)
+      → (r : Result Bool Error) → Tests g old new r (λ db is. IsTrue is ↔ P db)
+      → (told : Result (Unit {0}) OpenFault) → told ≡ result_of_test r → Examines g site old new told Says
+  answered P Says says lacks r tests told is = subst (λ t. Examines g site old new t Says) (sym is) (by r tests)
+    where
+      by : (r : Result Bool Error) → Tests g old new r (λ db is. IsTrue is ↔ P db) → Examines g site old new (result_of_test r) Says
+      by (Ok true) tests = passed true _ tests Says (λ clean is. says clean (is.0 refl))
+      by (Ok false) tests = not_passed (Ok false) _ tests OtherTables Says (λ clean told. absurd (let e = told in cc))
+          (λ clean _.
+          let other = lacks (was_clean (state g old) (state g new) _ tests.crash clean) (λ is. true≢false (sym ((tests.answer clean).1 is))) in
+          inr (
+            version,
+            schema_after false _ tests clean,
+            subst (λ (d : Database). HasOtherRows (sha256 site.text) version d.trees) (sym (same_trees false _ tests clean)) other,
+          ))
+          (λ clean other. same_trees false _ tests clean)
+      by (Err error) tests = unread (Err error) _ tests Says
 
   module _ (meta : Option Meta) (tests : Tests {E = Error} g old new (Ok meta) (λ db row. IsMetaOf (metas_in db) row)) where
     told : HasCleanDisk (state g new) → IsMetaOf (metas_in (state g new).now.trees) meta
     told clean = subst (λ (d : Database). IsMetaOf (metas_in d.trees) meta) (sym (same_trees meta _ tests clean)) (tests.answer clean)
 
-    -- what the store tells of itself was read and judged
-    pub judged : version ≢ Third → (result : Result (Unit {0}) OpenFault) → OnOk result (meta ≡ Some (meta_of_version version (sha256 site.text)))
-        → IfErr result (λ fault. fault ≡ OtherSite → (other : List ℕ) × (length other ≡ 32)
-        × (meta ≡ Some (meta_of_version version other)) × (other ≢ sha256 site.text))
-        → IfErr result (λ fault. fault ≡ OtherTables → (other : List ℕ) → meta ≢ Some (meta_of_version version other))
-        → Examines g site old new result (λ db. HasMeta version (sha256 site.text) db.trees)
-    judged earlier (Ok _) ours others never = passed meta _ tests (λ db.
-        HasMeta version (sha256 site.text) db.trees) (λ clean is.
-        subst (IsMetaOf (metas_in (state g old).now.trees)) ours is)
-    judged earlier (Err fault) ours others never = not_passed (Ok meta) _ tests fault _
-        (λ clean is.
-        let it = others is in (
-          version,
-          schema_after meta _ tests clean,
-          is_other site version _ earlier (
-            it.0,
-            it.1,
-            subst (IsMetaOf (metas_in (state g new).now.trees))
-                it.2 (told clean),
-            it.3,
-          ),
-        ))
-        (λ clean is. inr (version, schema_after meta _ tests clean, inr (inl (no_site version _ meta (told clean) (never is)))))
-        (λ clean other. same_trees meta _ tests clean)
-
-    -- and judged by a name that is the site's
-    pub judged_as : version ≢ Third → (name : List ℕ) → name ≡ sha256 site.text
-        → (result : Result (Unit {0}) OpenFault)
+    -- what the store tells of itself was read and judged, by a name that is the site's
+    pub judged : version ≢ Third → (name : List ℕ) → name ≡ sha256 site.text → (result : Result (Unit {0}) OpenFault)
         → OnOk result (meta ≡ Some (meta_of_version version name))
         → IfErr result (λ fault. fault ≡ OtherSite → (other : List ℕ) × (length other ≡ 32) × (meta ≡ Some (meta_of_version version other)) × (other ≢ name))
         → IfErr result (λ fault. fault ≡ OtherTables → (other : List ℕ) → meta ≢ Some (meta_of_version version other))
         → Examines g site old new result (λ db. HasMeta version (sha256 site.text) db.trees)
-    judged_as earlier name is result ours others never = judged earlier result
-        (subst (λ n. OnOk result (meta ≡ Some (meta_of_version version n))) is ours)
-        (subst (λ n.
-        IfErr result (λ fault. fault ≡ OtherSite → (other : List ℕ) × (length other ≡ 32)
-        × (meta ≡ Some (meta_of_version version other)) × (other ≢ n))) is others)
-        never
+    judged earlier name same (Ok _) ours others never = passed meta _ tests (λ db. HasMeta version (sha256 site.text) db.trees) (λ clean is.
+        subst (IsMetaOf (metas_in (state g old).now.trees)) (ours ∙ ap (λ n. Some (meta_of_version version n)) same) is)
+    judged earlier name same (Err fault) ours others never = not_passed (Ok meta) _ tests fault _
+        (λ clean is.
+        let it = others is in
+        let found = subst (IsMetaOf (metas_in (state g new).now.trees)) it.2 (told clean) in
+        (version, schema_after meta _ tests clean, is_other site version _ earlier (it.0, it.1, found, λ e. it.3 (e ∙ sym same))))
+        (λ clean is. inr (version, schema_after meta _ tests clean, inr (inl (no_site version _ meta (told clean) (never is)))))
+        (λ clean other. same_trees meta _ tests clean)
 
   -- the text that the store tells of was read and judged
   module _ (third : version ≡ Third) (read : Option Meta
@@ -292,3 +249,19 @@ module _ {S : Type 0} (g : Ghosts S) (site : TextOfSite) (old new : Held S)
               never is text utf (tells_shown text _ read.0 read.1.items (after clean) tells))))),
         ))
         (λ clean other. same_trees read _ tests clean)
+
+module _ {S : Type 0} (g : Ghosts S) (site : TextOfSite) (old mid new : Held S) (calm : IsTrue (state g new).is_open → HasCleanDisk (state g new))
+    (shows_committed : HasCleanDisk (state g old) → (state g old).now ≡ (state g old).committed) where
+  -- beginnings of validity were asked for behind what was known
+  pub starts_asked : (version : Version) (Known Whole : Database → Type 0) → Examines g site old mid (Ok tt) Known
+      → ((db : Database) → Known db → IsFound version db × AreStartsAsked (sha256 site.text) version db.trees)
+      → ((db : Database) → Known db → HasStarts db.trees → Whole db)
+      → (r : Result Bool Error) → Tests g mid new r (λ db has. IsTrue has ↔ HasStarts db)
+      → (told : Result (Unit {0}) OpenFault) → told ≡ result_of_test r → Examines g site old new told Whole
+  starts_asked version Known Whole one known whole r tests told is =
+      let found = found_after g site old mid Known version one shows_committed (λ clean it. (known (state g old).now it).0) in
+      examines_then g site old mid new told Known (λ (db : Database). HasStarts db.trees) Whole one
+      (answered g site mid new calm version found.mode found.shows_committed (λ clean. (found.found clean).schema) HasStarts
+      (λ (db : Database). HasStarts db.trees) (λ clean has. has)
+      (λ clean lacks. inr (inr (inl ((known (state g mid).now (says_of g site old mid Known one clean)).1, lacks))))
+      r tests told is) (λ clean it has. whole (state g old).now it has)

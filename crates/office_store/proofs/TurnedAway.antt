@@ -12,6 +12,7 @@ use Rattle.office_sql.specs.Prelude.{tables_in}
 use Rattle.office_store.proofs.Types.{Absent, OpenFault, Failed, OtherSite, OtherTables}
 use Rattle.office_store.specs.declared.opening.Refused.{Refused}
 use Rattle.office_store.specs.Prelude.{AreTurnedAway, AreUnconnected, IsFoundAndTurnedAway, IsRefusal, IsUnopened}
+use Rattle.office_store.proofs.Opened.{held_before}
 use Rattle.office_store.specs.Prelude.{FilesHeld, HasOtherTables, HasTablesOf, IsDatabaseThat, IsFoundOver, IsKept, IsOfOtherSite, IsOtherSchema, IsPreparedFor}
 use Rattle.office_store.specs.Prelude.{IsSameOrPrepared, IsToldFor, IsTurnedAway, IsUntouched, LacksStore}
 
@@ -34,8 +35,7 @@ may_leave_for site OtherTables old new survives untouched clean db may settled =
     elim ((untouched (λ e. cc)).crash.crash clean db may) [ inl was ↦ inl (settled db was) | inr none ↦ absurd none ]
 
 module _ {D : Type 0} {g : Ghosts D} (image : Image) (absent : Absent) (site : TextOfSite) (fault : OpenFault) (conn left : Held (FileStore D g))
-    (found : IsFoundOver image conn) (away : IsTurnedAway over_files absent site conn left fault)
-    (untouched : fault ≢ Failed → IsUntouched (file_state conn) (file_state left)) (clean : HasCleanDisk (file_state left)) where
+    (found : IsFoundOver image conn) (away : IsTurnedAway over_files absent site conn left fault) (clean : HasCleanDisk (file_state left)) where
   calm : HasCleanDisk (file_state conn)
   calm = was_clean (file_state conn) (file_state left) _ away.crash clean
 
@@ -43,29 +43,22 @@ module _ {D : Type 0} {g : Ghosts D} (image : Image) (absent : Absent) (site : T
   held_of : (Says : Database → Type 0) → Says (file_state conn).now → FilesHeld image (IsDatabaseThat Says)
   held_of Says is =
       let opened = found.opened calm in
-      let finds = found.finds calm in
-      let live = (opened.1 opened.0.is_open).0 in
-      let shown : IsDatabaseThat Says (file_state conn).now.trees = ((file_state conn).now.schema, live, is) in
-      let was = subst (IsDatabaseThat Says) (ap (λ (d : Database). d.trees) opened.0.clean) shown in
-      record {
-        held = λ db holds. subst (IsDatabaseThat Says) (finds.holds db holds) was;
-        found = ((file_state conn).committed.trees, finds.reads, was);
-      }
+      held_before image conn found calm (IsDatabaseThat Says) ((file_state conn).now.schema, (opened.1 opened.0.is_open).0, is)
 
   -- it tells what was found
-  pub told_for : (IsOtherSchema (file_state conn).now.schema → fault ≡ OtherTables) → IsToldFor image absent site fault
-  told_for other_schema = record {
+  pub told_for : IsToldFor image absent site fault
+  told_for = record {
     other_site = λ told.
-        let same = (untouched (λ failed. let e = sym told ∙ failed in cc)).same clean in
+        let same = (away.untouched (λ failed. let e = sym told ∙ failed in cc)).same clean in
         let has : ¬ LacksStore absent (file_state conn).now = λ lacks. let e = sym told ∙ (away.lacks lacks).0 in cc in
         held_of (IsOfOtherSite site) (subst (IsOfOtherSite site) same ((away.refused has).other_site clean told));
     other_tables = λ told.
-        let same = (untouched (λ failed. let e = sym told ∙ failed in cc)).same clean in
+        let same = (away.untouched (λ failed. let e = sym told ∙ failed in cc)).same clean in
         held_of (λ db. (¬ LacksStore absent db) → HasOtherTables (sha256 site.text) db)
         (λ has. subst (HasOtherTables (sha256 site.text)) same ((away.refused has).other_tables clean told));
     others = λ not_tables.
         held_of (λ db. (¬ LacksStore absent db) × (¬ IsOtherSchema db.schema))
-        (λ lacks. not_tables (away.lacks lacks).0, λ other. not_tables (other_schema other));
+        (λ lacks. not_tables (away.lacks lacks).0, λ other. not_tables (away.other_schema other));
   }
 
   -- and leaves what was found, or what the one transaction makes of it
@@ -79,7 +72,7 @@ module _ {D : Type 0} {g : Ghosts D} (image : Image) (absent : Absent) (site : T
       let r : (now : Trees) × HoldsDatabase rest now × IsSameOrPrepared site fault base now = (
         it.0,
         it.2,
-        may_leave_for site fault (file_state conn) (file_state left) away.crash untouched clean it.0 it.1 (λ db was. settled db opened.0.is_open was),
+        may_leave_for site fault (file_state conn) (file_state left) away.crash away.untouched clean it.0 it.1 (λ db was. settled db opened.0.is_open was),
       ) in r) in
       record {
         database = record {

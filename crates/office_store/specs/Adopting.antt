@@ -16,6 +16,7 @@ use Rattle.office_store.specs.declared.adopting.Handed.{Handed}
 use Rattle.office_store.specs.declared.adopting.Handed.TheVariants as handed
 use Rattle.office_store.specs.declared.fault.OpenFault.{OpenFault}
 use Rattle.office_store.specs.declared.fault.OpenFault.TheVariants.{OtherSite, OtherTables, Failed}
+use Rattle.office_store.specs.declared.opening.Absent.{Absent}
 use Rattle.office_found.specs.declared.version.Version.{Version}
 use Rattle.office_found.specs.declared.version.Version.TheVariants.{First, Second, Third}
 use Rattle.office_found.specs.Addresses.{HasApartAddresses}
@@ -23,7 +24,7 @@ use Rattle.office_found.specs.Found.{HasStarts, HasWhole, IsFound}
 use Rattle.office_found.specs.Meta.{metas_in, HoldsSite, HasMeta, TellNoSite}
 use Rattle.office_store.specs.Making.{IsBegun, new_meta}
 use Rattle.office_store.specs.Growing.{IsGrown, IsGrownFrom}
-use Rattle.office_store.specs.Stores.{HasSchema, IsNoStore, IsStore, IsStoreOrNone}
+use Rattle.office_store.specs.Stores.{HasSchema, IsNoStore, IsTaken, LacksStore}
 use Rattle.office_found.specs.Texts.{HoldsText, IsOnlyText}
 use Rattle.office_found.specs.declared.meta.Meta.{Meta}
 use Rattle.office_store.specs.Upgrading.{IsUpgrade}
@@ -200,26 +201,29 @@ pub record IsUntouched (old new : State) : Type 0 where
   pub same : HasCleanDisk new → new.now ≡ old.now
   pub crash : Survives old new (λ _. ⊥)
 
--- an answer leaves the connection open and ready, with the tables that it had, and of the first
--- version with no beginning of validity; it was a store of a version, or there was none yet, and no
--- schema; the store tells of the site's text, and told of none of which the site is no growth, and
--- in an earlier version of this one; no two records have one address; a fault leaves what was
--- committed, and one that is told for what the store shows leaves all as it was; and a crash leaves
--- what it left before, or what the one transaction makes
+-- A database that is taken as the store of a site, by the one that was there before. It tells of the site's
+-- text; what was there told of none of which the site is no growth, and in an earlier version of this one.
+-- No two records have one address. It has the tables that were there, and of the first version no
+-- beginning of validity.
+pub record IsTakenFor (site : TextOfSite) (before now : Trees) : Type 0 where
+  pub tells : HoldsSite site.text now
+  pub grown : TakesGrowth site.site before
+  pub own : TakesOwn site.text before
+  pub apart : HasApartAddresses now
+  pub tables : tables_in now ≡ tables_in before
+  pub unstarted : StaysUnstarted before (tables_in now)
+
+-- An answer leaves the connection open and ready, and its database taken as the store of the site. That was
+-- a store of a version, or there was none yet, and no schema. A fault leaves what was committed, and one
+-- that is told for what the store shows leaves all as it was. A crash leaves what it left before, or what
+-- the one transaction makes.
 pub record PreparesTables {S : Type 0} (g : Ghosts S) (site : TextOfSite) (old new : Held S)
     (result : Result (Unit {0}) OpenFault) : Type 0 where
   pub mode : new.in_transaction ≡ false
   pub ready : HasCleanDisk (state g new) → OnOk result (IsTrue (state g new).is_open × IsReady (state g new))
-  pub tells : HasCleanDisk (state g new) → OnOk result (HoldsSite site.text (state g new).now.trees)
-  pub grown : HasCleanDisk (state g new) → OnOk result (TakesGrowth site.site (state g old).now.trees)
-  pub own : HasCleanDisk (state g new) → OnOk result (TakesOwn site.text (state g old).now.trees)
-  pub apart : HasCleanDisk (state g new) → OnOk result (HasApartAddresses (state g new).now.trees)
-  pub was : HasCleanDisk (state g new) → OnOk result (IsStoreOrNone (state g old).now.trees)
-  pub there : HasCleanDisk (state g new) → OnOk result
-      ((state g old).now.schema ≢ no_schema → IsStore (state g old).now.trees)
-  pub kept : HasCleanDisk (state g new) → OnOk result (tables_in (state g new).now.trees ≡ tables_in (state g old).now.trees)
-  pub unstarted : HasCleanDisk (state g new) → OnOk result
-      (StaysUnstarted (state g old).now.trees (tables_in (state g new).now.trees))
+  pub was : HasCleanDisk (state g new) → OnOk result
+      ((absent : Absent) → ¬ LacksStore absent (state g old).now → IsTaken absent (state g old).now.trees)
+  pub takes : HasCleanDisk (state g new) → OnOk result (IsTakenFor site (state g old).now.trees (state g new).now.trees)
   pub refused : IfErr result (IsRefusedFor site (state g new))
   pub unchanged : HasCleanDisk (state g new)
       → IfErr result (λ _. KeepsCommit (state g old) (state g new))

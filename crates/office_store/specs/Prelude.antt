@@ -2,21 +2,21 @@
 pub use Rattle.office_store.specs.Adopting.{AreStartsAsked, AreUnstarted, CanPrepareTables, CanTake, Examines, FindsVersion, HandedKeeps, HandedLeaves}
 pub use Rattle.office_store.specs.Adopting.{HasOtherRows, HasOtherTables, HoldsOther, IsApartAt, IsFoundApart, IsFoundAt, IsGrowable, IsGrownFor, IsHandedFor}
 pub use Rattle.office_store.specs.Adopting.{IsMadeFor, IsOfOtherSite, IsOther, IsOtherSchema, IsPreparedFor, IsPreparedFrom, IsRefusedFor, IsShownText}
-pub use Rattle.office_store.specs.Adopting.{IsTestedFor, IsUntouched, ShowsSame}
+pub use Rattle.office_store.specs.Adopting.{IsTakenFor, IsTestedFor, IsUntouched, ShowsSame}
 pub use Rattle.office_store.specs.Adopting.{IsUpgradedFor, LacksStarts, LacksText, LeavesAtMost, PreparesTables, StaysUnstarted, TakesGrowth, TakesOwn}
 pub use Rattle.office_store.specs.Adopting.{TellsOther}
 pub use Rattle.office_store.specs.Closing.{HoldLast, IsFoundSo, IsLeftOf, MayBeFound, MayBeLeft, MayHold}
-pub use Rattle.office_store.specs.Faults.{open_fault_number}
+pub use Rattle.office_store.specs.Faults.{open_fault_number, result_of_test}
 pub use Rattle.office_store.specs.Growing.{CanGrow, HasGrown, IsGrown, ReplacesName}
 pub use Rattle.office_store.specs.Making.{half_schema, HasEmptyTables, HasNothing, HasRun, IsBegun, IsCreated, IsFresh}
 pub use Rattle.office_store.specs.Making.{new_meta}
-pub use Rattle.office_store.specs.Opening.{FilesHeld, HasTablesOf, IsFoundAndTurnedAway, IsFoundOver, IsOpenedFor, IsTaken, IsTakenFrom, IsTurnedAway}
-pub use Rattle.office_store.specs.Opening.{IsUnopened, LacksStore, NamesNoFile, ShowsOpening, TellsWhy}
+pub use Rattle.office_store.specs.Opening.{FilesHeld, HasTablesOf, IsFoundAndTurnedAway, IsFoundOver, IsOpenedFor, IsTakenFrom, IsTurnedAway}
+pub use Rattle.office_store.specs.Opening.{IsUnopened, NamesNoFile, ShowsOpening, TellsWhy}
 pub use Rattle.office_store.specs.Refusing.{AreTurnedAway, AreUnconnected, IsDatabaseThat, IsKept, IsRefusal, IsSameOrPrepared, IsSpared, IsToldFor, ReadAs}
 pub use Rattle.office_store.specs.Remaking.{AreKept, entry_row, GainsRecords, HasFirstTables, IsCleared, IsEarlySchema, IsKeptBy, IsPutBack, IsRemade}
 pub use Rattle.office_store.specs.Remaking.{IsUnderWay, LooksAt, LosesRecords, PutsBack, PutsKept, PutsRows, ReplacesRows, SeesEarly}
 pub use Rattle.office_store.specs.Steps.{AreStartedAt, IsAt, IsRaised, IsStep, tables_at}
-pub use Rattle.office_store.specs.Stores.{HasSchema, IsNoStore, IsStore, IsStoreOf, IsStoreOrNone}
+pub use Rattle.office_store.specs.Stores.{HasSchema, IsNoStore, IsStore, IsStoreOf, IsStoreOrNone, IsTaken, LacksStore}
 pub use Rattle.office_store.specs.Growing.{IsGrownFrom}
 pub use Rattle.office_store.specs.Upgrading.{CanUpgrade, GainsNone, GainsNoStart, GainsStarts, GainsText, IsFilled, IsUpgrade, IsUpgraded}
 pub use Rattle.office_store.specs.Upgrading.{LacksGivenStarts, LacksOrderStarts, PutsText, TellsItself, TellsThird}

@@ -23,8 +23,8 @@ use Rattle.office_store.specs.declared.fault.OpenFault.TheVariants.{OtherSite, O
 use Rattle.office_store.specs.declared.opening.Absent.{Absent}
 use Rattle.office_store.specs.declared.opening.Refused.{Refused}
 use Rattle.office_store.specs.Adopting.{HasOtherTables, IsOfOtherSite, IsOtherSchema, IsPreparedFrom}
-use Rattle.office_store.specs.Opening.{FilesHeld, HasTablesOf, IsFoundAndTurnedAway, IsUnopened, LacksStore}
-use Rattle.office_store.specs.Stores.{HasSchema}
+use Rattle.office_store.specs.Opening.{FilesHeld, HasTablesOf, IsFoundAndTurnedAway, IsUnopened}
+use Rattle.office_store.specs.Stores.{HasSchema, LacksStore}
 
 -- the files stand for the pages of a sound file, which read as this database
 abbrev pub ReadAs : Image → Trees → Type 0

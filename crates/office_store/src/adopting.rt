@@ -2,20 +2,19 @@
 ghost use Rattle.std.specs.Prelude.{◌≡◌, ◌≢◌, ◌↔◌, ℕ, length, List, Some, IsTrue, IfOk, IfErr, OnOk, IsUtf8};
 ghost use Rattle.sqlite.specs.State.{HasCleanDisk};
 ghost use Rattle.sqlite.specs.Held.{state};
-ghost use Rattle.office_sql.specs.Prelude.{no_schema, tables_in};
-ghost use Rattle.office_store.specs.Prelude.{AreStartsAsked, CanPrepareTables, CanTake, Examines, HandedKeeps, HandedLeaves, IsFoundAt, IsGrowable, IsApartAt};
-ghost use Rattle.office_store.specs.Prelude.{IsFoundApart, IsHandedFor, IsShownText, LeavesAtMost, PreparesTables, StaysUnstarted, TakesGrowth, TakesOwn};
-ghost use Rattle.office_store.specs.Prelude.{new_meta, IsStoreOrNone, IsGrownFrom, IsOtherSchema, CanUpgrade, IsTestedFor};
-ghost use Rattle.office_found.specs.Prelude.{IsOurs, HasApartAddresses, HasStarts, IsFound, meta_of_version, HasMeta, HoldsText, number_of_version, schema_of};
+ghost use Rattle.office_store.specs.Prelude.{CanPrepareTables, CanTake, Examines, HandedKeeps, HandedLeaves, IsFoundAt, IsGrowable, IsApartAt};
+ghost use Rattle.office_store.specs.Prelude.{IsFoundApart, IsHandedFor, IsOpenedFor, IsShownText, LeavesAtMost, PreparesTables};
+ghost use Rattle.office_store.specs.Prelude.{new_meta, result_of_test, IsGrownFrom, IsOtherSchema, IsTestedFor};
+ghost use Rattle.office_found.specs.Prelude.{meta_of_version, HasMeta, HoldsText, schema_of};
 ghost use Rattle.office_store.specs.declared.fault.OpenFault.TheVariants.{OtherSite as TheSite, OtherTables as TheTables};
 ghost use Rattle.office_found.specs.declared.version.Version.TheVariants.{Third};
-ghost use Rattle.office_found.specs.declared.version.Version.{Version as TheVersion};
 ghost use Rattle.sha2.specs.Sha256.{sha256};
 ghost use Rattle.site_core.specs.Prelude.{TextOfSite};
 
 use crate::create::make_tables;
 use crate::fault::OpenFault;
 use crate::grow::grow_text;
+use crate::opening::{Absent, prepare_or_hand_back};
 use crate::reread::reread;
 use crate::upgrade::upgrade_tables;
 use office_found::{
@@ -24,7 +23,7 @@ use office_found::{
 };
 use office_keep::SqlKeep;
 use site_core::{Site, SiteFault, SiteText, read_site};
-use sqlite::{Alter, Connection, Row};
+use sqlite::{Alter, Connection, Error, Row};
 use std::alloc::Global;
 use text_core::Digest;
 
@@ -65,39 +64,11 @@ fn judge_meta(meta: Option<Meta>, site: &Digest, version: Version) -> Result<(),
     Ok(())
 }
 
-/// Makes the tables of a store that has none.
-fn make<S: Alter>(conn: &mut Connection<S>, site: &SiteText) -> Result<(), OpenFault>
-    requires can { CanPrepareTables (state S.Store conn.old) }
-    requires bare { (state S.Store conn.old).now.schema ≡ no_schema }
-    ensures { PreparesTables S.Store site.now conn.old conn.new result }
+/// What a test's answer comes to: it is passed, or the tables are other ones, or the store failed.
+fn judge_answer(answer: Result<bool, Error>) -> Result<(), OpenFault>
+    ensures { result ≡ result_of_test answer }
 {
-    match make_tables(conn, site) {
-        Ok(()) => Ok(()),
-        Err(_) => Err(OpenFault::Failed),
-    }
-}
-
-/// Tests the numbers of a store that has the tables of a version.
-fn test_numbers<S: Alter>(conn: &mut Connection<S>, version: Version) -> Result<(), OpenFault>
-    requires can { CanPrepareTables (state S.Store conn.old) }
-    requires has { (state S.Store conn.old).now.schema ≡ schema_of version }
-    ensures { (site : TextOfSite)
-        → Examines S.Store site conn.old conn.new result (IsFound version) }
-{
-    match has_whole_numbers(conn) {
-        Ok(true) => Ok(()),
-        Ok(false) => Err(OpenFault::OtherTables),
-        Err(_) => Err(OpenFault::Failed),
-    }
-}
-
-/// Tests that no two records have one address.
-fn test_addresses<S: Alter>(conn: &mut Connection<S>) -> Result<(), OpenFault>
-    requires { (version : TheVersion) × IsFoundAt version (state S.Store conn.old) }
-    ensures { (site : TextOfSite) → Examines S.Store site conn.old conn.new result (λ db.
-        HasApartAddresses db.trees) }
-{
-    match has_apart_addresses(conn) {
+    match answer {
         Ok(true) => Ok(()),
         Ok(false) => Err(OpenFault::OtherTables),
         Err(_) => Err(OpenFault::Failed),
@@ -111,8 +82,8 @@ fn test_rows<S: Alter>(conn: &mut Connection<S>, version: Version) -> Result<(),
     ensures { (site : TextOfSite)
         → Examines S.Store site conn.old conn.new result (IsFoundApart version) }
 {
-    test_numbers(conn, version)?;
-    test_addresses(conn)
+    judge_answer(has_whole_numbers(conn))?;
+    judge_answer(has_apart_addresses(conn))
 }
 
 /// Whether the store tells of a text: it is of the third version, and names the text's SHA-256.
@@ -191,23 +162,6 @@ fn grow<S: Alter>(conn: &mut Connection<S>, site: &SiteText) -> Result<(), OpenF
     }
 }
 
-/// Tests whose site a store of an earlier version is of.
-fn test_site<S: Alter>(
-    conn: &mut Connection<S>,
-    site: &SiteText,
-    version: Version,
-) -> Result<(), OpenFault>
-    requires earlier { version ≢ Third }
-    requires found { IsFoundAt version (state S.Store conn.old) }
-    ensures { Examines S.Store site.now conn.old conn.new result
-        (λ db. HasMeta version (sha256 site.now.text) db.trees) }
-{
-    match meta_row(conn) {
-        Ok(meta) => judge_meta(meta, &site.digest(), version),
-        Err(_) => Err(OpenFault::Failed),
-    }
-}
-
 /// Tests a store that has the tables of an earlier version: its rows, and whose site it is of.
 fn test_tables<S: Alter>(
     conn: &mut Connection<S>,
@@ -221,42 +175,8 @@ fn test_tables<S: Alter>(
         (λ db. IsFoundApart version db × HasMeta version (sha256 site.now.text) db.trees) }
 {
     test_rows(conn, version)?;
-    test_site(conn, site, version)
-}
-
-/// Tests that of each order and each record its beginning of validity is told.
-fn test_starts<S: Alter>(conn: &mut Connection<S>) -> Result<(), OpenFault>
-    requires { (version : TheVersion) × (number_of_version version ≢ 1)
-        × IsFoundAt version (state S.Store conn.old) }
-    ensures { (site : TextOfSite) → (version : TheVersion)
-        → (HasCleanDisk (state S.Store conn.old) → (state S.Store conn.old).now.schema ≡ schema_of version
-        × AreStartsAsked (sha256 site.text) version (state S.Store conn.old).now.trees)
-        → Examines S.Store site conn.old conn.new result (λ db. HasStarts db.trees) }
-{
-    match has_starts(conn) {
-        Ok(true) => Ok(()),
-        Ok(false) => Err(OpenFault::OtherTables),
-        Err(_) => Err(OpenFault::Failed),
-    }
-}
-
-/// Makes a store of an earlier version one of the third.
-fn upgrade<S: Alter>(
-    conn: &mut Connection<S>,
-    site: &SiteText,
-    version: Version,
-) -> Result<(), OpenFault>
-    requires found { IsFoundAt version (state S.Store conn.old) }
-    requires apart { IsApartAt (state S.Store conn.old) }
-    requires can { CanUpgrade version (state S.Store conn.old) }
-    requires names_site { HasCleanDisk (state S.Store conn.old)
-        → HasMeta version (sha256 site.now.text) (state S.Store conn.old).now.trees }
-    ensures { PreparesTables S.Store site.now conn.old conn.new result }
-{
-    match upgrade_tables(conn, site.text(), version) {
-        Ok(()) => Ok(()),
-        Err(_) => Err(OpenFault::Failed),
-    }
+    let meta = meta_row(conn)?;
+    judge_meta(meta, &site.digest(), version)
 }
 
 /// Tests a store that has the tables of an earlier version: its rows, whose site it is of, and its
@@ -276,7 +196,7 @@ fn test_earlier<S: Alter>(
     if version.tells_no_start() {
         return Ok(());
     }
-    test_starts(conn)
+    judge_answer(has_starts(conn))
 }
 
 /// Tests and upgrades a store of an earlier version.
@@ -291,7 +211,8 @@ fn find_earlier<S: Alter>(
     ensures { PreparesTables S.Store site.now conn.old conn.new result }
 {
     test_earlier(conn, site, version)?;
-    upgrade(conn, site, version)
+    upgrade_tables(conn, site.text(), version)?;
+    Ok(())
 }
 
 /// Tests a store of the third version: its rows, its beginnings of validity, and that the site is
@@ -307,7 +228,7 @@ fn test_third<S: Alter>(
         (λ db. IsFoundApart Third db × IsGrowable site.now.site db) }
 {
     test_rows(conn, Version::Third)?;
-    test_starts(conn)?;
+    judge_answer(has_starts(conn))?;
     test_growth(alloc, conn, site)
 }
 
@@ -326,6 +247,7 @@ fn hold_text<S: Alter>(conn: &mut Connection<S>, site: &SiteText) -> Result<(), 
     }
 }
 
+/// Tests a store of the third version, and holds the text of the site.
 fn find_third<S: Alter>(
     alloc: Global,
     conn: &mut Connection<S>,
@@ -370,7 +292,8 @@ pub(crate) fn prepare_tables<S: Alter>(
         → result ≡ Err OpenFault.OtherTables }
 {
     if is_empty_schema(conn.schema()) {
-        return make(conn, site);
+        make_tables(conn, site)?;
+        return Ok(());
     }
     match version_of(conn.schema()) {
         Some(version) => find(alloc, conn, site, version),
@@ -391,29 +314,10 @@ pub fn adopt<S: Alter + Drop>(
     conn: Connection<S>,
     site: &SiteText,
 ) -> Result<SqlKeep<S>, (OpenFault, Handed<S>)>
-    ensures site { IfOk result (λ keep. keep.site ≡ site.now.digest) }
-    ensures open { IfOk result (λ keep. HasCleanDisk (state S.Store keep.conn)
-        → IsTrue (state S.Store keep.conn).is_open) }
-    ensures same_site { IfOk result (λ keep. HasCleanDisk (state S.Store keep.conn)
-        → IsOurs site.now.digest (state S.Store keep.conn).now.trees) }
-    ensures text { IfOk result (λ keep. HasCleanDisk (state S.Store keep.conn)
-        → HoldsText site.now.text (state S.Store keep.conn).now.trees) }
-    ensures grown { IfOk result (λ keep. HasCleanDisk (state S.Store keep.conn)
-        → TakesGrowth site.now.site (state S.Store conn).committed.trees) }
-    ensures own { IfOk result (λ keep. HasCleanDisk (state S.Store keep.conn)
-        → TakesOwn site.now.text (state S.Store conn).committed.trees) }
-    ensures apart { IfOk result (λ keep. HasCleanDisk (state S.Store keep.conn)
-        → HasApartAddresses (state S.Store keep.conn).now.trees) }
+    ensures opened { IfOk result (IsOpenedFor S.Store site.now Absent.Make
+        (λ Says. Says (state S.Store conn).committed.trees)) }
     ensures clean { IfOk result (λ keep. HasCleanDisk (state S.Store keep.conn)
         → HasCleanDisk (state S.Store conn)) }
-    ensures tables { IfOk result (λ keep. HasCleanDisk (state S.Store keep.conn)
-        → tables_in (state S.Store keep.conn).now.trees
-        ≡ tables_in (state S.Store conn).committed.trees) }
-    ensures unstarted { IfOk result (λ keep. HasCleanDisk (state S.Store keep.conn)
-        → StaysUnstarted (state S.Store conn).committed.trees
-        (tables_in (state S.Store keep.conn).now.trees)) }
-    ensures was { IfOk result (λ keep. HasCleanDisk (state S.Store keep.conn)
-        → IsStoreOrNone (state S.Store conn).committed.trees) }
     ensures crash { IfOk result (λ keep. HasCleanDisk (state S.Store keep.conn)
         → LeavesAtMost site.now (state S.Store conn) (state S.Store keep.conn)) }
     ensures refused { IfErr result (λ e. IsHandedFor S.Store site.now e.0 e.1) }
@@ -421,12 +325,12 @@ pub fn adopt<S: Alter + Drop>(
     ensures crash_left { IfErr result (λ e.
         HandedLeaves S.Store site.now (state S.Store conn) e.1) }
 {
-    let mut conn = match reread(alloc, conn) {
+    let conn = match reread(alloc, conn) {
         Ok(conn) => conn,
         Err((_, store)) => return Err((OpenFault::Failed, Handed::Store(store))),
     };
-    match prepare_tables(alloc, &mut conn, site) {
-        Ok(()) => Ok(SqlKeep::over(alloc, conn, site.digest())),
-        Err(fault) => Err((fault, Handed::Connection(conn))),
+    match prepare_or_hand_back(alloc, conn, site, Absent::Make) {
+        Ok(keep) => Ok(keep),
+        Err((fault, conn)) => Err((fault, Handed::Connection(conn))),
     }
 }

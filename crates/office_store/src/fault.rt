@@ -1,7 +1,9 @@
 // Why a store isn't opened.
 ghost use Rattle.std.specs.Prelude.{◌≡◌};
 ghost use Rattle.office_store.specs.Prelude.{open_fault_number};
+ghost use Rattle.office_store.specs.declared.fault.OpenFault.TheVariants as faults;
 
+use sqlite::Error;
 use thiserror::Error as Faulty;
 
 /// Why a store isn't opened.
@@ -18,6 +20,14 @@ pub enum OpenFault {
     /// The store failed, or there is no memory.
     #[error("the store failed, or there is no memory")]
     Failed,
+}
+
+impl From<Error> for OpenFault {
+    ghost from_gives = { λ _ fault. fault ≡ faults.Failed };
+
+    fn from(_: Error) -> OpenFault {
+        OpenFault::Failed
+    }
 }
 
 impl OpenFault {

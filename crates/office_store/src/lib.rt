@@ -10,13 +10,14 @@
 //! transaction; in one of schema 3 this text takes the place of the one that is held, with its
 //! SHA-256, in one transaction too.
 //!
-//! A keeper that it answers is open and ready on a clean disk, is of schema 3 and this site
-//! (`same_site`), and holds its text (`text`), which is a growth of the one that was held (`grown`)
-//! and in schema 1 and 2 has the SHA-256 that was told (`own`). What was committed was a database
-//! with no schema and nothing in it, or had the schema of a version and the one row of `meta` that
-//! tells it (`was`). The keeper has the tables that the connection had last committed (`tables`),
-//! which of a store of schema 1 have no beginning of validity (`unstarted`), and in which no two
-//! records have one address (`apart`).
+//! What a keeper is that it answers is one record (`opened`, `IsOpenedFor`): on a clean disk it is
+//! open, and a crash leaves nothing but what it shows (`left`). That (`ShowsOpening`) is of schema 3
+//! and this site (`same_site`), and tells of its text (`tells`), which is a growth of the one that
+//! was held (`grown`) and in schema 1 and 2 has the SHA-256 that was told (`own`). What was committed
+//! was a database with no schema and nothing in it, or had the schema of a version and the one row of
+//! `meta` that tells it (`was`). The keeper has the tables that the connection had last committed
+//! (`tables`), which of a store of schema 1 have no beginning of validity (`unstarted`), and in which
+//! no two records have one address (`apart`).
 //!
 //! At a fault the connection or its store comes back (`refused`) with the tables that it had
 //! (`unchanged`). The fault of another site comes only with a held text of which this site is no
@@ -33,7 +34,7 @@
 //! which is held writes nothing.
 //!
 //! `open_or_hand_back` opens a file by `open_from` of the kit and tests what it found, without a
-//! second audit. What its keeper is, is one record (`opened`, `IsOpenedFor`). It has the tables of
+//! second audit. Its keeper is as that record says, of what the files held (`opened`): it has the tables of
 //! the database that the files held, or none where they held none, without beginnings where that was
 //! of schema 1, and with addresses that are apart. It is open and of this site, and holds its text, a
 //! growth of the one that the files held. They held a store of a version, or none where one is to be
@@ -50,8 +51,8 @@
 //! no database, and hold none or an empty one; or they read as the database that they held
 //! (`IsSpared`).
 //!
-//! `open` is the same call, and drops the files. Its clauses say each part of that record by itself,
-//! and of a refusal that no file was opened, or that a connection was turned away, which is gone.
+//! `open` is the same call, with the same record, and drops the files. Of a refusal it says that no
+//! file was opened, or that a connection was turned away, which is gone.
 //!
 //! Where a keeper ends by `into_store`, the files hold a store of its site that holds a text of that
 //! SHA-256 (`held`), the one that the keeper told of (`told`), and who opens them finds tables that

@@ -1,17 +1,14 @@
 // A store in files.
-ghost use Rattle.std.specs.Prelude.{◌≡◌, ◌≢◌, ◌↔◌, false, codes, IsTrue, IfOk, IfErr, IsErrAnd};
-ghost use Rattle.sqlite.specs.Files.{file_state, HoldsDatabase};
+ghost use Rattle.std.specs.Prelude.{◌≡◌, ◌↔◌, false, codes, IsTrue, IfOk, IfErr, IsErrAnd};
+ghost use Rattle.sqlite.specs.Files.{file_state, over_files, HoldsDatabase};
 ghost use Rattle.sqlite.specs.Recovery.{Image};
 ghost use Rattle.sqlite.specs.Tree.{Trees};
 ghost use Rattle.sqlite.specs.Held.{state};
 ghost use Rattle.sqlite.specs.State.{HasCleanDisk, Survives};
 ghost use Rattle.sqlite.specs.WalFiles.{image_at, outcomes};
 ghost use Rattle.sqlite.specs.WalReads.{AreClean};
-ghost use Rattle.office_sql.specs.Prelude.{tables_in};
-ghost use Rattle.office_store.specs.Prelude.{CanPrepareTables, IsPreparedFor, StaysUnstarted, TakesGrowth, TakesOwn, HasTablesOf, IsTaken, IsTakenFrom};
-ghost use Rattle.office_store.specs.Prelude.{IsTurnedAway, LacksStore, NamesNoFile, TellsWhy, FilesHeld, IsOpenedFor, IsOtherSchema, IsRefusal, IsUntouched};
-ghost use Rattle.office_found.specs.Prelude.{IsOurs, HasApartAddresses, HoldsText};
-ghost use Rattle.office_store.specs.declared.fault.OpenFault.TheVariants.{OtherTables};
+ghost use Rattle.office_store.specs.Prelude.{CanPrepareTables, FilesHeld, IsOpenedFor, IsPreparedFor, IsRefusal, IsTakenFrom, IsTurnedAway, LacksStore};
+ghost use Rattle.office_store.specs.Prelude.{NamesNoFile, TellsWhy};
 ghost use Rattle.office_store.specs.declared.opening.Absent.TheVariants.{Refuse};
 
 use crate::adopting::prepare_tables;
@@ -66,45 +63,18 @@ fn lacks_store<S: Alter>(conn: &Connection<S>, absent: Absent) -> bool
 }
 
 /// Makes or tests the tables of a connection. Where that fails it hands the connection back.
-fn prepare_or_hand_back<S: Alter>(
+pub(crate) fn prepare_or_hand_back<S: Alter>(
     alloc: Global,
     mut conn: Connection<S>,
     site: &SiteText,
     absent: Absent,
 ) -> Result<SqlKeep<S>, (OpenFault, Connection<S>)>
     requires { CanPrepareTables (state S.Store conn) }
-    ensures site { IfOk result (λ keep. keep.site ≡ site.now.digest) }
-    ensures open { IfOk result (λ keep. HasCleanDisk (state S.Store keep.conn)
-        → IsTrue (state S.Store keep.conn).is_open) }
-    ensures same_site { IfOk result (λ keep. HasCleanDisk (state S.Store keep.conn)
-        → IsOurs site.now.digest (state S.Store keep.conn).now.trees) }
-    ensures text { IfOk result (λ keep. HasCleanDisk (state S.Store keep.conn)
-        → HoldsText site.now.text (state S.Store keep.conn).now.trees) }
-    ensures grown { IfOk result (λ keep. HasCleanDisk (state S.Store keep.conn)
-        → TakesGrowth site.now.site (state S.Store conn).now.trees) }
-    ensures own { IfOk result (λ keep. HasCleanDisk (state S.Store keep.conn)
-        → TakesOwn site.now.text (state S.Store conn).now.trees) }
-    ensures apart { IfOk result (λ keep. HasCleanDisk (state S.Store keep.conn)
-        → HasApartAddresses (state S.Store keep.conn).now.trees) }
-    ensures clean { IfOk result (λ keep. HasCleanDisk (state S.Store keep.conn)
-        → HasCleanDisk (state S.Store conn)) }
-    ensures tables { IfOk result (λ keep. HasCleanDisk (state S.Store keep.conn)
-        → tables_in (state S.Store keep.conn).now.trees
-        ≡ tables_in (state S.Store conn).now.trees) }
-    ensures unstarted { IfOk result (λ keep. HasCleanDisk (state S.Store keep.conn)
-        → StaysUnstarted (state S.Store conn).now.trees
-        (tables_in (state S.Store keep.conn).now.trees)) }
-    ensures left { IfOk result (λ keep. HasCleanDisk (state S.Store keep.conn) → (db : Trees)
-        → (state S.Store keep.conn).may_leave db → db ≡ (state S.Store keep.conn).now.trees) }
-    ensures was { IfOk result (λ keep. HasCleanDisk (state S.Store keep.conn)
-        → IsTaken absent (state S.Store conn).now.trees) }
+    ensures opened { IfOk result (IsOpenedFor S.Store site.now absent
+        (λ Says. Says (state S.Store conn).now.trees)) }
     ensures crash { IfOk result (λ keep. Survives (state S.Store conn) (state S.Store keep.conn)
         (IsPreparedFor site.now (state S.Store conn))) }
     ensures turned_away { IfErr result (λ e. IsTurnedAway S.Store absent site.now conn e.1 e.0) }
-    ensures untouched { IfErr result (λ e. e.0 ≢ OpenFault.Failed
-        → IsUntouched (state S.Store conn) (state S.Store e.1)) }
-    ensures other_schema { IfErr result (λ e. IsOtherSchema (state S.Store conn).now.schema
-        → e.0 ≡ OpenFault.OtherTables) }
 {
     if lacks_store(&conn, absent) {
         return Err((OpenFault::OtherTables, conn));
@@ -158,7 +128,9 @@ pub fn open_or_hand_back<S: Start>(
     site: &SiteText,
     absent: Absent,
 ) -> Result<SqlKeep<FileStore<FileFrom<S>>>, Refused<FileFrom<S>>>
-    ensures opened { IfOk result (IsOpenedFor site.now (image_at S.Start) absent) }
+    ensures opened { IfOk result (IsOpenedFor over_files site.now absent
+        (FilesHeld (image_at S.Start))) }
+    ensures taken { IfOk result (IsTakenFrom (image_at S.Start) site.now) }
     ensures refused { IfErr result (IsRefusal ⟦<FileFrom<S> as Disk>⟧ (image_at S.Start) absent
         site.now path.now) }
     ensures memory { path.now ≡ codes ":memory:"
@@ -203,28 +175,8 @@ pub fn open<S: Start>(
     site: &SiteText,
     absent: Absent,
 ) -> Result<SqlKeep<FileStore<FileFrom<S>>>, OpenFault>
-    ensures site { IfOk result (λ keep. keep.site ≡ site.now.digest) }
-    ensures open { IfOk result (λ keep. HasCleanDisk (file_state keep.conn)
-        → IsTrue (file_state keep.conn).is_open) }
-    ensures same_site { IfOk result (λ keep. HasCleanDisk (file_state keep.conn)
-        → IsOurs site.now.digest (file_state keep.conn).now.trees) }
-    ensures text { IfOk result (λ keep. HasCleanDisk (file_state keep.conn)
-        → HoldsText site.now.text (file_state keep.conn).now.trees) }
-    ensures grown { IfOk result (λ keep. HasCleanDisk (file_state keep.conn)
-        → (db : Trees) → HoldsDatabase (image_at S.Start) db → TakesGrowth site.now.site db) }
-    ensures own { IfOk result (λ keep. HasCleanDisk (file_state keep.conn)
-        → (db : Trees) → HoldsDatabase (image_at S.Start) db → TakesOwn site.now.text db) }
-    ensures apart { IfOk result (λ keep. HasCleanDisk (file_state keep.conn)
-        → HasApartAddresses (file_state keep.conn).now.trees) }
-    ensures tables { IfOk result (λ keep. HasCleanDisk (file_state keep.conn)
-        → HasTablesOf (image_at S.Start) (tables_in (file_state keep.conn).now.trees)) }
-    ensures unstarted { IfOk result (λ keep. HasCleanDisk (file_state keep.conn)
-        → (db : Trees) → HoldsDatabase (image_at S.Start) db
-        → StaysUnstarted db (tables_in (file_state keep.conn).now.trees)) }
-    ensures left { IfOk result (λ keep. HasCleanDisk (file_state keep.conn) → (db : Trees)
-        → (file_state keep.conn).may_leave db → db ≡ (file_state keep.conn).now.trees) }
-    ensures was { IfOk result (λ keep. HasCleanDisk (file_state keep.conn)
-        → FilesHeld (image_at S.Start) (IsTaken absent)) }
+    ensures opened { IfOk result (IsOpenedFor over_files site.now absent
+        (FilesHeld (image_at S.Start))) }
     ensures taken { IfOk result (IsTakenFrom (image_at S.Start) site.now) }
     ensures refused { TellsWhy (image_at S.Start) path.now absent site.now result }
     ensures memory { path.now ≡ codes ":memory:" → result ≡ Err OpenFault.Failed }

@@ -24,7 +24,7 @@ pub fn opened_stores_tell_their_text<S: Alter>()
 
 /// The site of a start grew from that of the start before it. Where files are left with a database that
 /// tells of the text of the one (`told` of `into_store`), and an opening of these files takes the other
-/// for a growth of what they tell of (`grown` of `open`), the other is a growth of the one.
+/// for a growth of what they tell of (`grown` of an opening), the other is a growth of the one.
 pub fn later_sites_are_growths()
     ensures { (left : Image) (db : Trees) (before after : TextOfSite)
         → IsSiteText before.text before.site

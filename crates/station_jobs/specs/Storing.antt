@@ -1,13 +1,12 @@
 -- A store in a file that is opened, served over and ended, and what is left of its files.
 use Rattle.std.specs.Prelude.{◌≡◌, ℕ, List, Option, Some, None, Result, Err}
-use Rattle.sqlite.specs.Files.{file_state, over_files}
+use Rattle.sqlite.specs.Files.{over_files}
 use Rattle.sqlite.specs.Recovery.{Image}
-use Rattle.sqlite.specs.State.{HasCleanDisk}
 use Rattle.sqlite_disk.specs.declared.Disk.{Ghosts}
 use Rattle.sqlite_store.specs.declared.store.FileStore.{FileStore}
 use Rattle.site_core.specs.Prelude.{TextOfSite}
 use Rattle.office_keep.specs.Prelude.{is_honest_at, Kept}
-use Rattle.office_store.specs.Prelude.{IsLeftOf, IsRefusal, open_fault_number, ShowsOpening}
+use Rattle.office_store.specs.Prelude.{FilesHeld, IsLeftOf, IsOpenedFor, IsRefusal, open_fault_number}
 use Rattle.office_store.specs.declared.closing.Closed.{Closed}
 use Rattle.office_store.specs.declared.opening.Absent.{Absent}
 use Rattle.station_jobs.specs.declared.failure.Failure.{Failure}
@@ -18,9 +17,8 @@ use Rattle.station_jobs.specs.declared.stored.LeftFiles.TheVariants.{Ended, Refu
 -- a keeper as the opening of a site's store leaves it, with the limit of steps
 pub record IsOpening {D : Type 0} {g : Ghosts D} (site : TextOfSite) (image : Image)
     (absent : Absent) (keep : Kept (FileStore D g)) : Type 0 where
-  pub of_site : keep.site ≡ site.digest
   pub limit : keep.conn.step_limit ≡ Some 1000000000
-  pub shows : HasCleanDisk (file_state keep.conn) → ShowsOpening site image absent keep.conn
+  pub opened : IsOpenedFor over_files site absent (FilesHeld image) keep
 
 -- a store was opened for this site over files with this image; this leads from it as it was then to it
 -- as it was in the end; and these are what it left of the files

@@ -30,8 +30,8 @@ returns-in-Ok-clause-run g c = λ honest.
       image = c.crash_files-left.ensures.image;
       again = opened;
       is_opened = record {
-        of_site = c.in_ok-keep.ensures.site;
-        text = c.in_ok-keep.ensures.text again;
+        of_site = c.in_ok-keep.ensures.opened.of_site;
+        text = (c.in_ok-keep.ensures.opened.shows again).found.2.taken.tells.holds;
         tables = found;
         only = c.in_ok-keep.ensures.only_committed again;
       };

@@ -1,12 +1,11 @@
-use Rattle.std.proofs.Common.{◌≡◌, ◌≢◌, Ok, sym, true≢false, ◌∙◌}
-use Rattle.office_sql.proofs.Kit.{Database, Held, state, HasCleanDisk}
-use Rattle.sqlite.specs.Store.{Ghosts}
+use Rattle.std.proofs.Common.{◌≢◌, sym, true≢false, ◌∙◌}
+use Rattle.office_sql.proofs.Kit.{Database, clean_if_open}
 use Rattle.sha2.specs.Sha256.{sha256}
 use Rattle.site_core.specs.Prelude.{TextOfSite}
-use Rattle.office_store.proofs.Types.{Version, Third}
-use Rattle.office_store.specs.Prelude.{AreStartsAsked, Examines, IsFoundApart, IsTestedFor}
-use Rattle.office_found.specs.Prelude.{HasMeta, HasStarts, number_of_version, schema_of}
-use Rattle.office_store.proofs.Refusals.{are_asked, examines_then, examines_weaker, found_after, is_err, says_nothing, says_of}
+use Rattle.office_store.proofs.Types.{Version}
+use Rattle.office_store.specs.Prelude.{Examines, IsFoundApart, IsTestedFor}
+use Rattle.office_found.specs.Prelude.{HasMeta, number_of_version}
+use Rattle.office_store.proofs.Refusals.{are_asked, examines_weaker, found_after, is_err, says_nothing, starts_asked}
 use Rattle.office_store.proofs.adopting.test_earlier.Goals as goal
 
 -- what the first test says
@@ -17,35 +16,28 @@ Known version site db = IsFoundApart version db × HasMeta version (sha256 site.
 abbrev Whole : Version → TextOfSite → Database → Type 0
 Whole version site = IsTestedFor (sha256 site.text) version
 
--- what is known when the beginnings are asked for
-asked : {S : Type 0} (g : Ghosts S) (version : Version) → version ≢ Third → number_of_version version ≢ 1
-    → (site : TextOfSite) (old mid : Held S) → Examines g site old mid (Ok tt) (Known version site) → HasCleanDisk (state g mid)
-    → ((state g mid).now.schema ≡ schema_of version) × AreStartsAsked (sha256 site.text) version (state g mid).now.trees
-asked g version earlier later site old mid test clean =
-    let known = says_of g site old mid (Known version site) test clean in
-    (known.0.0.schema, are_asked (sha256 site.text) version (state g mid).now.trees earlier later known.1)
-
-pub test_starts-requires : goal.test_starts-requires
-test_starts-requires g c =
+pub has_starts-requires : goal.has_starts-requires
+has_starts-requires g c up =
     let v = c.args.version in
-    let site = c.args.site.now in (
+    let site = c.args.site.now in
+    let mid = c.test_tables.new.conn in (
       v,
       (λ e. true≢false (sym (c.tells_no_start.ensures.1 e) ∙ c.if-tells_no_start.false)),
-      found_after g.S.Store site c.args.conn.now c.test_tables.new.conn (Known v site)
-          v c.in_ok-test_tables.ensures c.requires.can.shows_committed (λ calm both. both.0.0),
+      (found_after g.S.Store site c.args.conn.now mid (Known v site) v c.in_ok-test_tables.ensures c.requires.can.shows_committed
+          (λ calm both. both.0.0)).found (clean_if_open (g.S.Store.view mid.store) (g.met.S.Store.shut_if_dirty mid.store) up),
     )
 
 pub returns : goal.returns
 returns g c =
     let v = c.args.version in
     let site = c.args.site.now in
-    let old = c.args.conn.now in
-    let mid = c.test_tables.new.conn in
+    let new = c.has_starts.new.conn in
     let later : number_of_version v ≢ 1 = λ e. true≢false (sym (c.tells_no_start.ensures.1 e) ∙ c.if-tells_no_start.false) in
-    examines_then g.S.Store site old mid c.test_starts.new.conn c.test_starts.result (Known v site) (λ (db : Database). HasStarts db.trees) (Whole v site)
-    c.in_ok-test_tables.ensures
-    (c.test_starts.ensures site v (asked g.S.Store v c.requires.earlier later site old mid c.in_ok-test_tables.ensures))
-    (λ calm known has. (known.0, known.1, λ _. has))
+    starts_asked g.S.Store site c.args.conn.now c.test_tables.new.conn new
+    (clean_if_open (g.S.Store.view new.store) (g.met.S.Store.shut_if_dirty new.store)) c.requires.can.shows_committed
+    v (Known v site) (Whole v site) c.in_ok-test_tables.ensures
+    (λ db known. (known.0.0, are_asked (sha256 site.text) v db.trees c.requires.earlier later known.1))
+    (λ db known has. (known.0, known.1, λ _. has)) _ c.has_starts.ensures _ c.judge_answer.ensures
 
 pub returns-then-tells_no_start : goal.returns-then-tells_no_start
 returns-then-tells_no_start g c =

@@ -1,32 +1,56 @@
-use Rattle.std.proofs.Common.{[], None}
+use Rattle.std.proofs.Common.{◌≡◌, ◌↔◌, [], None, Bool, Result, Ok, IsTrue, inl, inr}
 use Rattle.site_core.specs.Prelude.{TextOfSite}
-use Rattle.sqlite.specs.Effect.{Database}
-use Rattle.office_store.specs.Prelude.{Examines, IsFoundApart}
-use Rattle.office_found.specs.Prelude.{HasApartAddresses, IsFound}
-use Rattle.office_store.proofs.Refusals.{examines_then, found_after, is_err, says_nothing}
+use Rattle.office_sql.proofs.Kit.{Database, Error, HasCleanDisk, Held, clean_if_open, state}
+use Rattle.sqlite.specs.Store.{Ghosts}
+use Rattle.office_store.proofs.Types.{OpenFault, Version}
+use Rattle.office_store.specs.Prelude.{CanPrepareTables, Examines, IsFoundApart, result_of_test}
+use Rattle.office_found.specs.Prelude.{HasApartAddresses, HasWhole, IsFound, Tests, schema_of}
+use Rattle.office_store.proofs.Refusals.{answered, examines_then, found_after, is_err, says_nothing}
 use Rattle.office_store.proofs.adopting.test_rows.Goals as goal
 
 -- what was tested is so whatever the site
 anybody : TextOfSite
 anybody = record { text = []; site = record { customers = []; manager = None }; digest = [] }
 
-pub test_addresses-requires : goal.test_addresses-requires
-test_addresses-requires g c =
-    let v = c.args.version in (
-      v,
-      found_after g.S.Store anybody c.args.conn.now c.test_numbers.new.conn (IsFound v) v
-          (c.in_ok-test_numbers.ensures anybody) c.requires.can.shows_committed (λ clean found. found),
-    )
+-- the numbers were asked for
+numbers_asked : {S : Type 0} (g : Ghosts S) (site : TextOfSite) (old new : Held S) → (IsTrue (state g new).is_open → HasCleanDisk (state g new))
+    → (version : Version) → CanPrepareTables (state g old) → (state g old).now.schema ≡ schema_of version
+    → (r : Result Bool Error) → Tests g old new r (λ db whole. IsTrue whole ↔ HasWhole db)
+    → (told : Result (Unit {0}) OpenFault) → told ≡ result_of_test r → Examines g site old new told (IsFound version)
+numbers_asked g site old new calm version can has = answered g site old new calm version can.mode can.shows_committed (λ _. has) HasWhole (IsFound version)
+    (λ clean whole. can.found clean version has whole) (λ clean low. inl low)
+
+pub has_apart_addresses-requires : goal.has_apart_addresses-requires
+has_apart_addresses-requires g c =
+    let v = c.args.version in
+    let mid = c.has_whole_numbers.new.conn in
+    let calm = clean_if_open (g.S.Store.view mid.store) (g.met.S.Store.shut_if_dirty mid.store) in
+    let one = numbers_asked g.S.Store anybody c.args.conn.now mid calm v c.requires.can c.requires.has _ c.has_whole_numbers.ensures
+    (Ok tt) c.in_ok-judge_answer.ensures in
+    (v, λ up. (found_after g.S.Store anybody c.args.conn.now mid (IsFound v) v one c.requires.can.shows_committed (λ clean found. found)).found (calm up))
 
 pub returns : goal.returns
 returns g c site =
     let v = c.args.version in
-    examines_then g.S.Store site c.args.conn.now c.test_numbers.new.conn c.test_addresses.new.conn c.test_addresses.result
-    (IsFound v) (λ (db : Database). HasApartAddresses db.trees) (IsFoundApart v)
-    (c.in_ok-test_numbers.ensures site) (c.test_addresses.ensures site) (λ clean found apart. (found, apart))
+    let old = c.args.conn.now in
+    let mid = c.has_whole_numbers.new.conn in
+    let new = c.has_apart_addresses.new.conn in
+    let calm = clean_if_open (g.S.Store.view new.store) (g.met.S.Store.shut_if_dirty new.store) in
+    let one = numbers_asked g.S.Store site old mid (clean_if_open (g.S.Store.view mid.store) (g.met.S.Store.shut_if_dirty mid.store)) v
+    c.requires.can c.requires.has _ c.has_whole_numbers.ensures (Ok tt) c.in_ok-judge_answer.ensures in
+    let found = found_after g.S.Store site old mid (IsFound v) v one c.requires.can.shows_committed (λ clean found. found) in
+    let Apart = λ (db : Database). HasApartAddresses db.trees in
+    examines_then g.S.Store site old mid new c.judge_answer-2.result (IsFound v) Apart (IsFoundApart v) one
+    (answered g.S.Store site mid new calm v found.mode found.shows_committed (λ clean. (found.found clean).schema) HasApartAddresses Apart
+    (λ clean apart. apart) (λ clean meets. inr (inr (inr (inr meets)))) _ c.has_apart_addresses.ensures _ c.judge_answer-2.ensures)
+    (λ clean found apart. (found, apart))
 
-pub returns-in_err-test_numbers : goal.returns-in_err-test_numbers
-returns-in_err-test_numbers g c site =
+pub returns-in_err-judge_answer : goal.returns-in_err-judge_answer
+returns-in_err-judge_answer g c site =
     let v = c.args.version in
-    is_err (λ r. Examines g.S.Store site c.args.conn.now c.test_numbers.new.conn r (IsFoundApart v)) c.from_residual.result _ c.from_residual.ensures.1
-    (says_nothing g.S.Store site c.args.conn.now c.test_numbers.new.conn _ (IsFound v) (IsFoundApart v) (c.in_err-test_numbers.ensures site))
+    let old = c.args.conn.now in
+    let new = c.has_whole_numbers.new.conn in
+    let calm = clean_if_open (g.S.Store.view new.store) (g.met.S.Store.shut_if_dirty new.store) in
+    is_err (λ r. Examines g.S.Store site old new r (IsFoundApart v)) c.from_residual.result _ c.from_residual.ensures.1
+    (says_nothing g.S.Store site old new _ (IsFound v) (IsFoundApart v)
+    (numbers_asked g.S.Store site old new calm v c.requires.can c.requires.has _ c.has_whole_numbers.ensures _ c.in_err-judge_answer.ensures))

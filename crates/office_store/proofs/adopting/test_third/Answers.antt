@@ -1,10 +1,10 @@
 use Rattle.std.proofs.Common.{Ok}
-use Rattle.sqlite.specs.Effect.{Database}
+use Rattle.office_sql.proofs.Kit.{Database, clean_if_open}
 use Rattle.site_core.specs.Prelude.{TextOfSite}
 use Rattle.office_found.specs.declared.version.Version.TheVariants.{Third}
 use Rattle.office_store.specs.Prelude.{CanTake, Examines, IsFoundApart, IsGrowable}
 use Rattle.office_found.specs.Prelude.{HasStarts}
-use Rattle.office_store.proofs.Refusals.{examines_then, found_after, is_err, says_nothing, says_of}
+use Rattle.office_store.proofs.Refusals.{examines_then, found_after, is_err, says_nothing, starts_asked}
 use Rattle.office_store.proofs.adopting.test_third.Goals as goal
 
 -- what the three tests say
@@ -15,41 +15,37 @@ Says site db = IsFoundApart Third db × IsGrowable site.site db
 abbrev Whole : Database → Type 0
 Whole db = IsFoundApart Third db × HasStarts db.trees
 
-pub test_starts-requires : goal.test_starts-requires
-test_starts-requires g c =
-    let site = c.args.site.now in (
+pub has_starts-requires : goal.has_starts-requires
+has_starts-requires g c up =
+    let site = c.args.site.now in
+    let mid = c.test_rows.new.conn in (
       Third,
       (λ e.
           cc),
-      found_after g.S.Store site c.args.conn.now c.test_rows.new.conn (IsFoundApart Third)
-          Third (c.in_ok-test_rows.ensures site) c.requires.can.shows_committed (λ calm found.
-          found.0),
+      (found_after g.S.Store site c.args.conn.now mid (IsFoundApart Third) Third (c.in_ok-test_rows.ensures site) c.requires.can.shows_committed
+          (λ calm found. found.0)).found (clean_if_open (g.S.Store.view mid.store) (g.met.S.Store.shut_if_dirty mid.store) up),
     )
 
 pub test_growth-requires : goal.test_growth-requires
 test_growth-requires g c =
     let site = c.args.site.now in
-    let old = c.args.conn.now in
-    let mid = c.test_rows.new.conn in
-    let new = c.test_starts.new.conn in
-    let one = c.in_ok-test_rows.ensures site in
-    let two = c.in_ok-test_starts.ensures site Third (λ calm. ((says_of g.S.Store site old mid (IsFoundApart Third) one calm).0.schema, tt)) in
-    found_after g.S.Store site old new Whole Third
-    (examines_then g.S.Store site old mid new (Ok tt) (IsFoundApart Third) (λ (db : Database).
-    HasStarts db.trees) Whole one two (λ calm found has.
-    (found, has))) c.requires.can.shows_committed (λ calm whole. whole.0.0)
+    let new = c.has_starts.new.conn in
+    found_after g.S.Store site c.args.conn.now new Whole Third
+    (starts_asked g.S.Store site c.args.conn.now c.test_rows.new.conn new
+    (clean_if_open (g.S.Store.view new.store) (g.met.S.Store.shut_if_dirty new.store)) c.requires.can.shows_committed
+    Third (IsFoundApart Third) Whole (c.in_ok-test_rows.ensures site) (λ db known. (known.0, tt)) (λ db known has. (known, has))
+    _ c.has_starts.ensures (Ok tt) c.in_ok-judge_answer.ensures) c.requires.can.shows_committed (λ calm whole. whole.0.0)
 
 pub returns : goal.returns
 returns g c =
     let site = c.args.site.now in
     let old = c.args.conn.now in
-    let mid = c.test_rows.new.conn in
-    let last = c.test_starts.new.conn in
-    let one = c.in_ok-test_rows.ensures site in
-    let two = c.in_ok-test_starts.ensures site Third (λ calm. ((says_of g.S.Store site old mid (IsFoundApart Third) one calm).0.schema, tt)) in
+    let last = c.has_starts.new.conn in
     examines_then g.S.Store site old last c.test_growth.new.conn c.test_growth.result Whole (λ (db : Database). CanTake site.site db.trees) (Says site)
-    (examines_then g.S.Store site old mid last (Ok tt) (IsFoundApart Third) (λ (db : Database). HasStarts db.trees) Whole one two
-    (λ calm found has. (found, has)))
+    (starts_asked g.S.Store site old c.test_rows.new.conn last
+    (clean_if_open (g.S.Store.view last.store) (g.met.S.Store.shut_if_dirty last.store)) c.requires.can.shows_committed
+    Third (IsFoundApart Third) Whole (c.in_ok-test_rows.ensures site) (λ db known. (known.0, tt)) (λ db known has. (known, has))
+    _ c.has_starts.ensures (Ok tt) c.in_ok-judge_answer.ensures)
     c.test_growth.ensures (λ calm whole can. (whole.0, (whole.1, can)))
 
 pub returns-in_err-test_rows : goal.returns-in_err-test_rows
@@ -58,14 +54,14 @@ returns-in_err-test_rows g c =
     is_err (λ r. Examines g.S.Store site c.args.conn.now c.test_rows.new.conn r (Says site)) c.from_residual.result _ c.from_residual.ensures.1
     (says_nothing g.S.Store site c.args.conn.now c.test_rows.new.conn _ (IsFoundApart Third) (Says site) (c.in_err-test_rows.ensures site))
 
-pub returns-in_err-test_starts : goal.returns-in_err-test_starts
-returns-in_err-test_starts g c =
+pub returns-in_err-judge_answer : goal.returns-in_err-judge_answer
+returns-in_err-judge_answer g c =
     let site = c.args.site.now in
     let old = c.args.conn.now in
-    let mid = c.test_rows.new.conn in
-    let new = c.test_starts.new.conn in
-    let one = c.in_ok-test_rows.ensures site in
-    let two = c.in_err-test_starts.ensures site Third (λ calm. ((says_of g.S.Store site old mid (IsFoundApart Third) one calm).0.schema, tt)) in
-    is_err (λ r. Examines g.S.Store site old new r (Says site)) c.from_residual-in_err-test_starts.result _ c.from_residual-in_err-test_starts.ensures.1
+    let new = c.has_starts.new.conn in
+    is_err (λ r. Examines g.S.Store site old new r (Says site)) c.from_residual-in_err-judge_answer.result _ c.from_residual-in_err-judge_answer.ensures.1
     (says_nothing g.S.Store site old new _ Whole (Says site)
-    (examines_then g.S.Store site old mid new _ (IsFoundApart Third) (λ (db : Database). HasStarts db.trees) Whole one two (λ calm found has. (found, has))))
+    (starts_asked g.S.Store site old c.test_rows.new.conn new
+    (clean_if_open (g.S.Store.view new.store) (g.met.S.Store.shut_if_dirty new.store)) c.requires.can.shows_committed
+    Third (IsFoundApart Third) Whole (c.in_ok-test_rows.ensures site) (λ db known. (known.0, tt)) (λ db known has. (known, has))
+    _ c.has_starts.ensures _ c.in_err-judge_answer.ensures))

@@ -1,12 +1,11 @@
-use Rattle.std.proofs.Common.{◌≡◌, ℕ, Bool, true, false, cond, List, ap, ap₂, inl, inr, refl, subst, sym, ◌∙◌}
+use Rattle.std.proofs.Common.{ℕ, Bool, true, false, cond, List, ap₂, inl, inr, refl}
 use Rattle.sqlite_disk.specs.Events.{Event, replay}
 use Rattle.sqlite_store.specs.Laws.{settled_at}
-use Rattle.office_sql.proofs.Kit.{file_state, image_at, Database, Image}
-use Rattle.office_sql.specs.Prelude.{tables_in}
-use Rattle.office_found.specs.Prelude.{HoldsSite, HasMeta}
-use Rattle.office_found.specs.declared.version.Version.TheVariants.{First}
-use Rattle.office_store.specs.Prelude.{IsFoundOver, IsTaken}
+use Rattle.office_sql.proofs.Asked.{was_clean}
+use Rattle.office_sql.proofs.Kit.{file_state, image_at, Image}
+use Rattle.office_store.specs.Prelude.{IsFoundOver, ShowsOpening}
 use Rattle.office_store.proofs.FoundFiles.{can_prepare}
+use Rattle.office_store.proofs.Opened.{held_before}
 use Rattle.office_store.proofs.Spared.{alone, spared}
 use Rattle.office_store.proofs.TurnedAway.{kept_for, told_for}
 use Rattle.office_store.proofs.opening.open_or_hand_back.Goals as goal
@@ -23,54 +22,37 @@ prepare_or_hand_back-requires g c = can_prepare (image_at g.S.Start) (file_state
 
 pub returns-in-Ok-prepare_or_hand_back-clause-opened : goal.returns-in-Ok-prepare_or_hand_back-clause-opened
 returns-in-Ok-prepare_or_hand_back-clause-opened g c =
+    let keep = c.in-Ok-prepare_or_hand_back.keep in
     let it = c.in-Ok-prepare_or_hand_back.ensures in
     record {
-      of_site = it.site;
-      shows = λ clean.
-          let calm = it.clean clean in
-          let found = c.in-Ok.ensures.found calm in
-          let same = ap (λ (d : Database). d.trees) (c.in-Ok.ensures.opened calm).0.clean in
-          let tables = it.tables clean ∙ ap tables_in same in
-          let taken = subst (IsTaken c.args.absent) same (it.was clean) in
-          record {
-            was = record {
-              held = λ db holds. subst (IsTaken c.args.absent) (found.holds db holds) taken;
-              found = ((file_state c.in-Ok.conn).committed.trees, found.reads, taken);
-            };
-            is_open = it.open clean;
-            same_site = it.same_site clean;
-            apart = it.apart clean;
-            text = it.text clean;
-            grown = λ db holds older tells. it.grown clean older (subst (HoldsSite older) (sym (same ∙ found.holds db holds)) tells);
-            own = λ db holds version other earlier told.
-                it.own clean version other earlier (subst (HasMeta version other) (sym (same ∙ found.holds db holds)) told);
-            tables = record {
-              held = λ db holds. tables ∙ ap tables_in (found.holds db holds);
-              found = ((file_state c.in-Ok.conn).committed.trees, found.reads, tables);
-            };
-            unstarted = λ db holds site told. it.unstarted clean site (subst (HasMeta First site) (sym (same ∙ found.holds db holds)) told);
-            left = it.left clean;
-          };
-      taken = record {
-        conn = c.in-Ok.conn;
-        found = record { finds = c.in-Ok.ensures.found; opened = c.in-Ok.ensures.opened; plain = c.in-Ok.ensures.sums };
-        crash = it.crash;
-      };
+      of_site = it.opened.of_site;
+      is_open = it.opened.is_open;
+      shows = λ clean. held_before (image_at g.S.Start) c.in-Ok.conn
+          (record { finds = c.in-Ok.ensures.found; opened = c.in-Ok.ensures.opened; plain = c.in-Ok.ensures.sums })
+          (was_clean (file_state c.in-Ok.conn) (file_state keep.conn) _ it.crash clean)
+          (λ before. ShowsOpening c.args.site.now c.args.absent before (file_state keep.conn).now.trees) (it.opened.shows clean);
+      left = it.opened.left;
     }
+
+pub returns-in-Ok-prepare_or_hand_back-clause-taken : goal.returns-in-Ok-prepare_or_hand_back-clause-taken
+returns-in-Ok-prepare_or_hand_back-clause-taken g c = record {
+  conn = c.in-Ok.conn;
+  found = record { finds = c.in-Ok.ensures.found; opened = c.in-Ok.ensures.opened; plain = c.in-Ok.ensures.sums };
+  crash = c.in-Ok-prepare_or_hand_back.ensures.crash;
+}
 
 pub returns-in-Err-clause-refused : goal.returns-in-Err-clause-refused
 returns-in-Err-clause-refused g c =
     let it = c.in-Err in
-    let away = it.ensures in
+    let away = it.ensures.turned_away in
     let held = image_at g.S.Start in
     let found : IsFoundOver held c.in-Ok.conn =
     record { finds = c.in-Ok.ensures.found; opened = c.in-Ok.ensures.opened; plain = c.in-Ok.ensures.sums } in
     let site = c.args.site.now in
     inr (record {
-      away = record { conn = c.in-Ok.conn; left = it.conn; found = found; turned_away = away.turned_away };
-      told = λ clean. told_for held c.args.absent site it.fault c.in-Ok.conn it.conn found away.turned_away away.untouched
-          (c.close.ensures.was_clean clean) away.other_schema;
-      kept = λ clean left may. kept_for held c.args.absent site it.fault c.in-Ok.conn it.conn found away.turned_away away.untouched
+      away = record { conn = c.in-Ok.conn; left = it.conn; found = found; turned_away = away };
+      told = λ clean. told_for held c.args.absent site it.fault c.in-Ok.conn it.conn found away (c.close.ensures.was_clean clean);
+      kept = λ clean left may. kept_for held c.args.absent site it.fault c.in-Ok.conn it.conn found away
           (c.close.ensures.was_clean clean) (settled_at c.in-Ok.conn.store (λ f. inl refl)) left (c.close.ensures.left clean left may);
     })
 

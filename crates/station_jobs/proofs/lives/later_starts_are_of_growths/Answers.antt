@@ -1,4 +1,4 @@
-use Rattle.std.proofs.Common.{◌≡◌, ◌∙◌, Ok, refl, subst, sym}
+use Rattle.std.proofs.Common.{◌≡◌, ◌∙◌, refl, subst, sym}
 use Rattle.text_core.proofs.Kit.{∥∥₁_map}
 use Rattle.sqlite.specs.Files.{over_files}
 use Rattle.site_core.specs.Prelude.{IsGrowth, SiteValue}
@@ -11,8 +11,10 @@ use Rattle.station_jobs.proofs.lives.later_starts_are_of_growths.Goals as goal
 pub returns : goal.returns
 returns g c = λ site next absent files served is_text found.
     let honest = left_clean served.last files (TakesGrowth next.site) served.leaves found in
-    let shows = served.opens.shows (served.was_honest honest) in
-    let told = c.opened_stores_tell_their_text.ensures served.opened.conn site shows.left shows.text shows.same_site in
+    let clean = served.was_honest honest in
+    let opened = served.opens.opened in
+    let shows = (opened.shows clean).found.2 in
+    let told = c.opened_stores_tell_their_text.ensures served.opened.conn site (opened.left clean) shows.taken.tells.holds shows.same_site in
     let led = served.leads.2 honest (tables_of over_files served.opened.conn) (λ _. refl) in
     let tells = led.1.answered.text honest site.text told in
     ∥∥₁_map (left_told served.last files site.text (TakesGrowth next.site) served.leaves tells found) (λ it.
