@@ -4,7 +4,7 @@ pub use Rattle.office_tables.specs.Numbers.{largest_number, one_more}
 pub use Rattle.office_tables.specs.OrderPlaces.{places_taken, takes_place}
 pub use Rattle.office_tables.specs.PlaceCounting.{place_of_device, text_pair_cmp}
 pub use Rattle.office_tables.specs.Reading.{ReadsOnly}
-pub use Rattle.office_tables.specs.States.{is_one_of, state_row, StateRow}
+pub use Rattle.office_tables.specs.States.{is_one_of, plain_states, state_row, StateRow}
 pub use Rattle.office_tables.specs.Tables.{AreInKeyOrder, CanWrite, device_at, device_cmp, entry_at, entry_cmp, entry_under, entry_with, given_at, given_by_key}
 pub use Rattle.office_tables.specs.Tables.{given_cmp, is_device_behind}
 pub use Rattle.office_tables.specs.Tables.{greatest, has_address, has_body, has_entry_id, has_id, is_address, is_bound, is_device, is_entry, is_entry_of}

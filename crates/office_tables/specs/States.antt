@@ -1,5 +1,5 @@
 -- The states of a device on its way through the line: a row for each.
-use Rattle.std.specs.Prelude.{◌==◌, ℕ, Bool, true, false, List, codes, Option, Some, None}
+use Rattle.std.specs.Prelude.{◌==◌, ℕ, Bool, true, false, List, [], ◌∷◌, codes, Option, Some, None}
 use Rattle.std.specs.List.{list_any}
 use Rattle.office_tables.specs.declared.rows.Batches.{Batches}
 use Rattle.office_tables.specs.declared.rows.Batches.TheVariants.{Neither, Second, Both}
@@ -38,6 +38,10 @@ state_row (Quarantined why) =
     record { number = 6; text = codes "quarantined"; reason = Some why; is_given_up = true; may_have_serial = false; pending = Neither; column = 5 }
 state_row Scrapped =
     record { number = 7; text = codes "scrapped"; reason = None; is_given_up = true; may_have_serial = true; pending = Neither; column = 6 }
+
+-- the states but the quarantined one, which alone has a reason beside its text
+abbrev pub plain_states : List DeviceState
+plain_states = Registered ∷ AwaitingFirst ∷ AwaitingSecond ∷ Settled ∷ Identified ∷ Shipped ∷ Scrapped ∷ []
 
 -- the state is one of these, whatever the reason of a quarantine
 abbrev pub is_one_of : List DeviceState → DeviceState → Bool

@@ -38,6 +38,17 @@ fn row(text: &'static str, pending: Batches, column: usize) -> StateRow
     }
 }
 
+/// The states but the quarantined one: those that their text tells alone.
+pub(crate) const PLAIN_STATES: [DeviceState; 7] = [
+    DeviceState::Registered,
+    DeviceState::AwaitingFirst,
+    DeviceState::AwaitingSecond,
+    DeviceState::Settled,
+    DeviceState::Identified,
+    DeviceState::Shipped,
+    DeviceState::Scrapped,
+];
+
 impl DeviceState {
     /// What there is to know of the state.
     pub fn row(self) -> StateRow

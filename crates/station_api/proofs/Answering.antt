@@ -5,11 +5,7 @@ use Rattle.http_frames.specs.Prelude.{Request as HttpRequest}
 use Rattle.http_replies.specs.Prelude.{Answer, is_unavailable}
 use Rattle.site_core.specs.Prelude.{seat_name_at, section_at, SiteValue}
 use Rattle.station_api.proofs.Types.{Caller, Seat, Manager, Ghosts, Refusal, Parsed}
-use Rattle.office_commands.specs.declared.refusal.Refusal.TheVariants.{BadJson, BadMap, BadMember, BadNotBefore, BadPlan, BadReadback, BadSerial, CodingScheme}
-use Rattle.office_commands.specs.declared.refusal.Refusal.TheVariants.{Exhausted, Exists, ForeignIssuer, ImportConflict, KeyBound, Limit, MapDigestTaken}
-use Rattle.office_commands.specs.declared.refusal.Refusal.TheVariants.{NoMacRoom, NumberTooWide, OtherBody, QuantityReached, RangeOverlap, Unkept}
-use Rattle.office_commands.specs.declared.refusal.Refusal.TheVariants.{UnknownDevice, UnknownMap, UnknownOrder, UnknownPath, UnknownToken, WrongCaller}
-use Rattle.office_commands.specs.declared.refusal.Refusal.TheVariants.{WrongNumber, WrongState}
+use Rattle.office_commands.specs.declared.refusal.Refusal.TheVariants.{Unkept}
 use Rattle.office_tables.specs.Prelude.{Tables, ReadsOnly}
 use Rattle.office_tables.specs.declared.keep.Unkept.{Unkept as NoAnswer}
 use Rattle.office_commands.specs.Prelude.{refusal_status, refusal}
@@ -21,35 +17,8 @@ use Rattle.station_requests.specs.Prelude.{parse_request, kind_of_caller}
 
 -- only one refusal is answered 503
 unavailable_is_unkept : (reason : Refusal) → is_unavailable (refusal_status reason) ≡ true → reason ≡ Unkept
-unavailable_is_unkept UnknownToken e = cc
-unavailable_is_unkept UnknownPath e = cc
-unavailable_is_unkept WrongCaller e = cc
-unavailable_is_unkept BadJson e = cc
-unavailable_is_unkept BadMember e = cc
-unavailable_is_unkept (WrongNumber expected) e = cc
-unavailable_is_unkept OtherBody e = cc
-unavailable_is_unkept UnknownMap e = cc
-unavailable_is_unkept UnknownDevice e = cc
-unavailable_is_unkept WrongState e = cc
-unavailable_is_unkept (BadPlan fault) e = cc
-unavailable_is_unkept QuantityReached e = cc
-unavailable_is_unkept CodingScheme e = cc
-unavailable_is_unkept BadReadback e = cc
-unavailable_is_unkept BadNotBefore e = cc
-unavailable_is_unkept UnknownOrder e = cc
-unavailable_is_unkept Exists e = cc
-unavailable_is_unkept (BadMap fault) e = cc
-unavailable_is_unkept BadSerial e = cc
-unavailable_is_unkept NumberTooWide e = cc
-unavailable_is_unkept Exhausted e = cc
-unavailable_is_unkept NoMacRoom e = cc
-unavailable_is_unkept RangeOverlap e = cc
-unavailable_is_unkept KeyBound e = cc
-unavailable_is_unkept ForeignIssuer e = cc
-unavailable_is_unkept (ImportConflict serial) e = cc
-unavailable_is_unkept MapDigestTaken e = cc
-unavailable_is_unkept Limit e = cc
 unavailable_is_unkept Unkept e = refl
+unavailable_is_unkept _ e = cc
 
 -- a reply of 503
 pub unkept_asked : (site : SiteValue) (caller : Caller) (wanted : Result Parsed Refusal)

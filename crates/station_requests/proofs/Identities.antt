@@ -1,46 +1,30 @@
 -- The named members of a request for an identity and of an import have no float.
-use Rattle.std.proofs.Common.{◌≡◌, ℕ, List, false, Option, Some, refl, codes}
+use Rattle.std.proofs.Common.{◌≡◌, ℕ, false, Some, refl, codes}
 use Rattle.serde_json.specs.Data.{Data, object, no_members}
 use Rattle.serde_json.specs.Written.{has_float}
-use Rattle.text_core.specs.Prelude.{◌>>=◌}
-use Rattle.import_rows.specs.Prelude.{import_rows_of}
 use Rattle.json_members.specs.Prelude.{chip_member, name_member, text_member, whole_member}
 use Rattle.station_requests.proofs.Types.{NewIdentity, NewImport}
-use Rattle.station_requests.specs.Prelude.{named_members, identity_members, key_of_text, new_identity_of, import_members, new_import_of}
+use Rattle.station_requests.specs.Prelude.{named_members, identity_members, new_identity_of, import_members, new_import_of}
 use Rattle.station_requests.proofs.Members.{all_no_float, bound, chip_member_lacks, name_member_lacks, text_member_lacks, whole_member_lacks}
-
--- what is left of an identity's members, once so many are read
-abbrev after_text : List ℕ → List ℕ → Option NewIdentity
-after_text chip text = key_of_text text >>= (λ key. Some (record { chip = chip; key = key }))
-
-abbrev after_chip : Data → List ℕ → Option NewIdentity
-after_chip d chip = text_member (codes "public_key") d >>= after_text chip
 
 pub identity_lacks_float : (d : Data) (n : ℕ) (i : NewIdentity) → whole_member (codes "nr") 1 9007199254740991 d ≡ Some n → new_identity_of d ≡ Some i
     → has_float (object (named_members identity_members d)) ≡ false
 unfolding new_identity_of
 identity_lacks_float d n i nr identity =
-    let chip = bound (chip_member (codes "chip") d) (after_chip d) i identity in
-    let text = bound (text_member (codes "public_key") d) (after_text chip.0) i chip.2 in
+    let chip = bound (chip_member (codes "chip") d) _ i identity in
+    let text = bound (text_member (codes "public_key") d) _ i chip.2 in
     all_no_float identity_members d no_members (
       chip_member_lacks (codes "chip") d chip.0 chip.1,
       (whole_member_lacks (codes "nr") 1 9007199254740991 d n nr, (text_member_lacks (codes "public_key") d text.0 text.1, tt)),
     ) refl
-
--- what is left of an import's members, once so many are read
-abbrev after_csv : List ℕ → List ℕ → Option NewImport
-after_csv issuer text = import_rows_of text >>= (λ rows. Some (record { issuer = issuer; rows = rows }))
-
-abbrev after_issuer : Data → List ℕ → Option NewImport
-after_issuer d issuer = text_member (codes "csv") d >>= after_csv issuer
 
 -- and neither do those of an import
 pub import_lacks_float : (d : Data) (n : ℕ) (i : NewImport) → whole_member (codes "nr") 1 9007199254740991 d ≡ Some n → new_import_of d ≡ Some i
     → has_float (object (named_members import_members d)) ≡ false
 unfolding new_import_of
 import_lacks_float d n i nr import =
-    let issuer = bound (name_member (codes "issuer") d) (after_issuer d) i import in
-    let text = bound (text_member (codes "csv") d) (after_csv issuer.0) i issuer.2 in
+    let issuer = bound (name_member (codes "issuer") d) _ i import in
+    let text = bound (text_member (codes "csv") d) _ i issuer.2 in
     all_no_float import_members d no_members (
       text_member_lacks (codes "csv") d text.0 text.1,
       (name_member_lacks (codes "issuer") d issuer.0 issuer.1, (whole_member_lacks (codes "nr") 1 9007199254740991 d n nr, tt)),

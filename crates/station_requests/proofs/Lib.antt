@@ -3,5 +3,6 @@ pub mod AskedFor
 mod Identities
 pub mod Members
 mod NameTexts
+mod Reading
 pub mod Wishes
 mod Types

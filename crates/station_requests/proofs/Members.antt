@@ -9,8 +9,8 @@ use Rattle.text_core.specs.Prelude.{chip_of_text, digest_of_text, name_of_text, 
 use Rattle.station_requests.proofs.Types.{NewDevice, NewOrder}
 use Rattle.office_commands.specs.Prelude.{items_of}
 use Rattle.office_commands.proofs.Floats.{in_put}
-use Rattle.station_requests.specs.Prelude.{block_digest, blocks_member, device_members, new_device_of, LacksFloat, with_found, named_members, map_members}
-use Rattle.station_requests.specs.Prelude.{new_order_of, order_members}
+use Rattle.station_requests.specs.Prelude.{block_digest, device_members, new_device_of, LacksFloat, with_found, named_members, map_members, new_order_of}
+use Rattle.station_requests.specs.Prelude.{order_members}
 
 found_no_float : (name : List ℕ) (found : Option Data) (ms : Members)
     → IfSome found (λ v. has_float v ≡ false) → members_have_float ms ≡ false
@@ -95,54 +95,19 @@ pub bound : {A B : Type 0} (o : Option A) (f : A → Option B) (y : B) → (o >>
 bound None f y e = cc
 bound (Some x) f y e = (x, refl, e)
 
--- what is left of an order's members, once so many are read
-abbrev after_macs : Data → List ℕ → List ℕ → List ℕ → ℕ → ℕ → ℕ → ℕ → Option NewOrder
-after_macs d name issuer prefix width first quantity macs = text_if_member (codes "not_before") d >>= (λ not_before.
-    Some (record { name = name; issuer = issuer; prefix = prefix; width = width; first = first; quantity = quantity; macs = macs; not_before = not_before }))
-
-abbrev after_quantity : Data → List ℕ → List ℕ → List ℕ → ℕ → ℕ → ℕ → Option NewOrder
-after_quantity d name issuer prefix width first quantity = whole_member (codes "macs") 0 4 d >>= after_macs d name issuer prefix width first quantity
-
-abbrev after_first : Data → List ℕ → List ℕ → List ℕ → ℕ → ℕ → Option NewOrder
-after_first d name issuer prefix width first = whole_member (codes "quantity") 1 9007199254740991 d >>= after_quantity d name issuer prefix width first
-
-abbrev after_width : Data → List ℕ → List ℕ → List ℕ → ℕ → Option NewOrder
-after_width d name issuer prefix width = whole_member (codes "first") 0 9007199254740991 d >>= after_first d name issuer prefix width
-
-abbrev after_prefix : Data → List ℕ → List ℕ → List ℕ → Option NewOrder
-after_prefix d name issuer prefix = whole_member (codes "width") 1 9 d >>= after_width d name issuer prefix
-
-abbrev after_issuer : Data → List ℕ → List ℕ → Option NewOrder
-after_issuer d name issuer = text_member (codes "prefix") d >>= after_prefix d name issuer
-
-abbrev after_name : Data → List ℕ → Option NewOrder
-after_name d name = name_member (codes "issuer") d >>= after_issuer d name
-
 -- the named members of an order's request are no floats
 pub order_lacks_float : (d : Data) (n : ℕ) (o : NewOrder) → whole_member (codes "nr") 1 9007199254740991 d ≡ Some n → new_order_of d ≡ Some o
     → has_float (object (named_members order_members d)) ≡ false
 unfolding new_order_of
 order_lacks_float d n o nr order =
-    let name = bound (name_member (codes "name") d) (after_name d) o order in
-    let issuer = bound (name_member (codes "issuer") d) (after_issuer d name.0) o name.2 in
-    let prefix = bound (text_member (codes "prefix") d) (after_prefix d name.0 issuer.0) o issuer.2 in
-    let width = bound (whole_member (codes "width") 1 9 d) (after_width d name.0 issuer.0 prefix.0) o prefix.2 in
-    let first = bound (whole_member (codes "first") 0 9007199254740991 d) (after_first d name.0 issuer.0 prefix.0 width.0) o width.2 in
-    let quantity = bound (whole_member (codes "quantity") 1 9007199254740991 d) (after_quantity d name.0 issuer.0 prefix.0 width.0 first.0) o first.2 in
-    let macs = bound (whole_member (codes "macs") 0 4 d) (after_macs d name.0 issuer.0 prefix.0 width.0 first.0 quantity.0) o quantity.2 in
-    let start = bound (text_if_member (codes "not_before") d)
-    (λ not_before.
-    Some (record {
-      name = name.0;
-      issuer = issuer.0;
-      prefix = prefix.0;
-      width = width.0;
-      first =
-          first.0;
-      quantity = quantity.0;
-      macs = macs.0;
-      not_before = not_before;
-    })) o macs.2 in
+    let name = bound (name_member (codes "name") d) _ o order in
+    let issuer = bound (name_member (codes "issuer") d) _ o name.2 in
+    let prefix = bound (text_member (codes "prefix") d) _ o issuer.2 in
+    let width = bound (whole_member (codes "width") 1 9 d) _ o prefix.2 in
+    let first = bound (whole_member (codes "first") 0 9007199254740991 d) _ o width.2 in
+    let quantity = bound (whole_member (codes "quantity") 1 9007199254740991 d) _ o first.2 in
+    let macs = bound (whole_member (codes "macs") 0 4 d) _ o quantity.2 in
+    let start = bound (text_if_member (codes "not_before") d) _ o macs.2 in
     all_no_float order_members d no_members (
       whole_member_lacks (codes "first") 0 9007199254740991 d first.0 first.1,
       (
@@ -171,16 +136,6 @@ pub map_lacks_float : (d : Data) (n : ℕ) (text : List ℕ) → whole_member (c
     → has_float (object (named_members map_members d)) ≡ false
 map_lacks_float d n text nr is = all_no_float map_members d no_members (whole_member_lacks (codes "nr") 1 9007199254740991 d n nr, (text_member_lacks (codes "text") d text is, tt)) refl
 
--- what is left of a device's members, once so many are read
-abbrev after_map : Data → List ℕ → List ℕ → List ℕ → Option NewDevice
-after_map d chip order digest = blocks_member (codes "blocks") d >>= (λ blocks. Some (record { chip = chip; order = order; map = digest; blocks = blocks }))
-
-abbrev after_order : Data → List ℕ → List ℕ → Option NewDevice
-after_order d chip order = digest_member (codes "map") d >>= after_map d chip order
-
-abbrev after_chip : Data → List ℕ → Option NewDevice
-after_chip d chip = name_member (codes "order") d >>= after_order d chip
-
 pub digests_lack_float : (blocks : List (List ℕ)) → items_have_float (items_of (map block_digest blocks)) ≡ false
 digests_lack_float [] = refl
 digests_lack_float (block ∷ blocks) = digests_lack_float blocks
@@ -190,9 +145,9 @@ pub device_lacks_float : (d : Data) (n : ℕ) (o : NewDevice) → whole_member (
     → has_float (object (put (codes "blocks") (array (items_of (map block_digest o.blocks))) (named_members device_members d))) ≡ false
 unfolding new_device_of
 device_lacks_float d n o nr device =
-    let chip = bound (chip_member (codes "chip") d) (after_chip d) o device in
-    let order = bound (name_member (codes "order") d) (after_order d chip.0) o chip.2 in
-    let digest = bound (digest_member (codes "map") d) (after_map d chip.0 order.0) o order.2 in
+    let chip = bound (chip_member (codes "chip") d) _ o device in
+    let order = bound (name_member (codes "order") d) _ o chip.2 in
+    let digest = bound (digest_member (codes "map") d) _ o order.2 in
     let others = all_no_float device_members d no_members (
       chip_member_lacks (codes "chip") d chip.0 chip.1,
       (

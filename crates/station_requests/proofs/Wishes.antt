@@ -41,19 +41,12 @@ of_kind Key d w kind field e =
 of_kind WriteLock d w kind field e = all_no_float (wish_members WriteLock) d no_members (field, (kind, tt)) refl
 of_kind ReadLock d w kind field e = all_no_float (wish_members ReadLock) d no_members (field, (kind, tt)) refl
 
--- what is left of a wish's members
-abbrev after_field : Kind → Data → List ℕ → Option Wish
-after_field kind d field = want_of kind d >>= (λ want. Some (record { field = field; want = want }))
-
-abbrev after_kind : Data → Kind → Option Wish
-after_kind d kind = name_member (codes "field") d >>= after_field kind d
-
 wish_lacks : (d : Data) (w : Wish) (named : Data) → wish_in d ≡ Some w → named_wish d ≡ Some named → has_float named ≡ false
 wish_lacks d w named wish is =
-    let kind = bound (kind_of_wish d) (after_kind d) w wish in
+    let kind = bound (kind_of_wish d) _ w wish in
     let text = bound (text_member (codes "kind") d) kind_of_text kind.0 kind.1 in
-    let field = bound (name_member (codes "field") d) (after_field kind.0 d) w kind.2 in
-    let want = bound (want_of kind.0 d) (λ want. Some (record { field = field.0; want = want })) w field.2 in
+    let field = bound (name_member (codes "field") d) _ w kind.2 in
+    let want = bound (want_of kind.0 d) _ w field.2 in
     let same : Some (object (named_members (wish_members kind.0) d)) ≡ Some named = rw kind.1 at is in
     let its : object (named_members (wish_members kind.0) d) ≡ named = cc in
     subst (λ (v : Data). has_float v ≡ false) its

@@ -1,5 +1,6 @@
 -- What the contracts of this crate are made of.
 pub mod Digest
+pub mod Fault
 pub mod Map
 pub mod Number
 pub mod Device

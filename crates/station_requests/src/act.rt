@@ -1,15 +1,16 @@
 // The requests that take a device a step on: its chip, and what the step asks for besides.
-ghost use Rattle.std.specs.Prelude.{◌≡◌, false, IfOk, codes};
+ghost use Rattle.std.specs.Prelude.{◌≡◌, false, codes};
 ghost use Rattle.serde_json.specs.View.{view};
 ghost use Rattle.serde_json.specs.Written.{has_float};
-ghost use Rattle.station_requests.specs.Prelude.{act_of, end_of, LacksFloat};
+ghost use Rattle.station_requests.specs.Prelude.{act_of, end_of, LacksFloat, ReadsAs};
 
 use crate::digest::{named_members, request_digest};
+use crate::fault::MemberFault::{self, BadMember};
 use crate::number::number_member;
 use json_members::chip_member;
 use office_commands::{Action, Change, Command, Request};
 use serde_json::Value;
-use std::alloc::{AllocError, Global};
+use std::alloc::Global;
 
 /// The named members that each such request has.
 pub const ACT_MEMBERS: [&str; 2] = ["chip", "nr"];
@@ -23,23 +24,18 @@ pub fn act_request(
     path: &str,
     members: &Value,
     action: Action,
-) -> Result<Option<Request>, AllocError>
+) -> Result<Request, MemberFault>
     requires { LacksFloat (view value.now) (codes "chip")
         → LacksFloat (view value.now) (codes "nr") → has_float (view members.now) ≡ false }
-    ensures { IfOk result (λ request. request
-        ≡ act_of path.now (view members.now) action (view value.now)) }
+    ensures { ReadsAs result (act_of path.now (view members.now) action (view value.now)) }
 {
-    let Some(number) = number_member(value) else {
-        return Ok(None);
-    };
-    let Some(chip) = chip_member(value, "chip") else {
-        return Ok(None);
-    };
-    Ok(Some(Request {
+    let number = number_member(value).ok_or(BadMember)?;
+    let chip = chip_member(value, "chip").ok_or(BadMember)?;
+    Ok(Request {
         number,
         digest: request_digest(alloc, path, members)?,
         command: Command::Change(Change::Act(chip, action)),
-    }))
+    })
 }
 
 /// The same on the path of an action that asks for nothing but the chip.
@@ -48,8 +44,8 @@ pub fn end_request(
     value: &Value,
     path: &str,
     action: Action,
-) -> Result<Option<Request>, AllocError>
-    ensures { IfOk result (λ request. request ≡ end_of path.now action (view value.now)) }
+) -> Result<Request, MemberFault>
+    ensures { ReadsAs result (end_of path.now action (view value.now)) }
 {
     let members = named_members(alloc, value, &ACT_MEMBERS)?;
     act_request(alloc, value, path, &members, action)

@@ -1,13 +1,13 @@
 // The requests about devices.
-ghost use Rattle.std.specs.Prelude.{◌≡◌, IfOk, map, option_and_then, option_map};
+ghost use Rattle.std.specs.Prelude.{◌≡◌, IfOk, map};
 ghost use Rattle.serde_json.specs.Data.{put};
 ghost use Rattle.serde_json.specs.View.{view};
-ghost use Rattle.text_core.specs.Prelude.{all_of};
-ghost use Rattle.fuse_image.specs.Prelude.{blocks_of};
+ghost use Rattle.text_core.specs.Prelude.{all_of, result_map};
 ghost use Rattle.station_requests.specs.Prelude.{block_digest, block_in, blocks_member, chip_parameter, new_device_of, register_device_of, with_block_digests};
-ghost use Rattle.station_requests.specs.Prelude.{after_parameter, start_of_text, word_of_data, word_of_text};
+ghost use Rattle.station_requests.specs.Prelude.{after_parameter, ReadsAs, start_of_text, word_of_data, word_of_text};
 
 use crate::digest::{found_members, request_digest};
+use crate::fault::MemberFault::{self, BadMember};
 use crate::number::number_member;
 use fuse_image::BlockWords;
 use hex::FromHex;
@@ -48,60 +48,35 @@ fn read_word(value: &Value) -> Option<u32>
 
 /// The words of a block, if the JSON value is an array of words.
 #[tactic(auto, using(json_members::proofs::Lists::list_of_items))]
-fn read_block(alloc: Global, value: &Value) -> Result<Option<Vec<u32>>, AllocError>
-    ensures { IfOk result (λ found. option_map (λ words. words.items) found
-        ≡ block_in (view value.now)) }
+fn read_block(alloc: Global, value: &Value) -> Result<Vec<u32>, MemberFault>
+    ensures { ReadsAs (result_map (λ words. words.items) result) (block_in (view value.now)) }
 {
-    match value.as_array() {
-        Some(values) => read_all(alloc, values.as_slice(), read_word),
-        None => Ok(None),
-    }
+    let values = value.as_array().ok_or(BadMember)?;
+    read_all(alloc, values.as_slice(), read_word)?.ok_or(BadMember)
 }
 
 /// The words of blocks, if each JSON value is an array of words.
-fn read_blocks(alloc: Global, values: &[Value]) -> Result<Option<Vec<Vec<u32>>>, AllocError>
-    ensures { IfOk result (λ found.
-        option_map (λ blocks. map (λ words. words.items) blocks.items) found
-        ≡ all_of block_in (map view values.now)) }
+fn read_blocks(alloc: Global, values: &[Value]) -> Result<Vec<Vec<u32>>, MemberFault>
+    ensures { ReadsAs (result_map (λ blocks. map (λ words. words.items) blocks.items) result)
+        (all_of block_in (map view values.now)) }
 {
     let mut blocks = Vec::new(alloc);
     for value in values {
-        let Some(words) = read_block(alloc, value)? else {
-            return Ok(None);
-        };
+        let words = read_block(alloc, value)?;
         blocks.push(words)?;
     }
-    Ok(Some(blocks))
-}
-
-/// The words of 1 to 4 blocks of 1 to 8 words, if each JSON value is an array of words and there are
-/// so many.
-fn known_blocks(alloc: Global, values: &[Value]) -> Result<Option<BlockWords>, AllocError>
-    ensures { IfOk result (λ found. found
-        ≡ option_and_then blocks_of (all_of block_in (map view values.now))) }
-{
-    let Some(blocks) = read_blocks(alloc, values)? else {
-        return Ok(None);
-    };
-    Ok(BlockWords::new(blocks.as_slice()))
+    Ok(blocks)
 }
 
 /// A member that is an array of 1 to 4 blocks of 1 to 8 words.
 #[tactic(auto, using(json_members::proofs::Lists::list_of_items), unfolding(crate::specs::Device::blocks_member))]
-pub fn blocks_member(
-    alloc: Global,
-    value: &Value,
-    name: &str,
-) -> Result<Option<BlockWords>, AllocError>
-    ensures { IfOk result (λ blocks. blocks ≡ blocks_member name.now (view value.now)) }
+pub fn blocks_member(alloc: Global, value: &Value, name: &str) -> Result<BlockWords, MemberFault>
+    ensures { ReadsAs result (blocks_member name.now (view value.now)) }
 {
-    let Some(member) = value.get(name) else {
-        return Ok(None);
-    };
-    match member.as_array() {
-        Some(values) => known_blocks(alloc, values.as_slice()),
-        None => Ok(None),
-    }
+    let member = value.get(name).ok_or(BadMember)?;
+    let values = member.as_array().ok_or(BadMember)?;
+    let blocks = read_blocks(alloc, values.as_slice())?;
+    BlockWords::new(blocks.as_slice()).ok_or(BadMember)
 }
 
 /// The digests of the blocks' bytes.
@@ -135,46 +110,34 @@ pub fn with_block_digests(
 
 /// The device that a body asks for, if its members are of their forms.
 #[tactic(auto, unfolding(crate::specs::Device::new_device_of))]
-fn new_device(alloc: Global, value: &Value) -> Result<Option<NewDevice>, AllocError>
-    ensures { IfOk result (λ device. device ≡ new_device_of (view value.now)) }
+fn new_device(alloc: Global, value: &Value) -> Result<NewDevice, MemberFault>
+    ensures { ReadsAs result (new_device_of (view value.now)) }
 {
-    let Some(chip) = chip_member(value, "chip") else {
-        return Ok(None);
-    };
-    let Some(order) = name_member(value, "order") else {
-        return Ok(None);
-    };
-    let Some(map) = digest_member(value, "map") else {
-        return Ok(None);
-    };
-    let Some(blocks) = blocks_member(alloc, value, "blocks")? else {
-        return Ok(None);
-    };
-    Ok(Some(NewDevice {
+    let chip = chip_member(value, "chip").ok_or(BadMember)?;
+    let order = name_member(value, "order").ok_or(BadMember)?;
+    let map = digest_member(value, "map").ok_or(BadMember)?;
+    let blocks = blocks_member(alloc, value, "blocks")?;
+    Ok(NewDevice {
         chip,
         order,
         map,
         blocks,
-    }))
+    })
 }
 
 /// The request that the body of `POST /v1/device` asks for, if its members are of their forms.
 #[tactic(auto, unfolding(crate::specs::Device::register_device_of))]
-pub fn register_device_request(alloc: Global, value: &Value) -> Result<Option<Request>, AllocError>
-    ensures { IfOk result (λ request. request ≡ register_device_of (view value.now)) }
+pub fn register_device_request(alloc: Global, value: &Value) -> Result<Request, MemberFault>
+    ensures { ReadsAs result (register_device_of (view value.now)) }
 {
-    let Some(number) = number_member(value) else {
-        return Ok(None);
-    };
-    let Some(device) = new_device(alloc, value)? else {
-        return Ok(None);
-    };
+    let number = number_member(value).ok_or(BadMember)?;
+    let device = new_device(alloc, value)?;
     let members = with_block_digests(alloc, value, &DEVICE_MEMBERS, &device.blocks)?;
-    Ok(Some(Request {
+    Ok(Request {
         number,
         digest: request_digest(alloc, DEVICE_PATH, &members)?,
         command: Command::Change(Change::RegisterDevice(device)),
-    }))
+    })
 }
 
 /// The chip that a query gives, if it gives just one.

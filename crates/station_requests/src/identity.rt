@@ -1,16 +1,16 @@
 // The request for a device's identity.
-ghost use Rattle.std.specs.Prelude.{◌≡◌, IfOk};
 ghost use Rattle.serde_json.specs.View.{view};
-ghost use Rattle.station_requests.specs.Prelude.{identify_of, key_of_text, new_identity_of};
+ghost use Rattle.station_requests.specs.Prelude.{identify_of, key_of_text, new_identity_of, ReadsAs};
 
 use crate::digest::{named_members, request_digest};
+use crate::fault::MemberFault::{self, BadMember};
 use crate::number::number_member;
 use hex::FromHexError;
 use id_ranges::KeyDigest;
 use json_members::{chip_member, text_member};
 use office_commands::{Change, Command, NewIdentity, Request};
 use serde_json::Value;
-use std::alloc::{AllocError, Global};
+use std::alloc::Global;
 
 /// The path of identities.
 pub const IDENTITY_PATH: &str = "/v1/identity";
@@ -25,51 +25,41 @@ const LEAST_KEY_DIGITS: usize = 2;
 const MOST_KEY_DIGITS: usize = 2048;
 
 /// The digest of the public key that a text has as hexadecimal digits of either case, if it has one.
-fn read_key(alloc: Global, text: &str) -> Result<Option<KeyDigest>, AllocError>
-    ensures { IfOk result (λ key. key ≡ key_of_text text.now) }
+fn read_key(alloc: Global, text: &str) -> Result<KeyDigest, MemberFault>
+    ensures { ReadsAs result (key_of_text text.now) }
 {
     if text.len() < LEAST_KEY_DIGITS || MOST_KEY_DIGITS < text.len() {
-        return Ok(None);
+        return Err(BadMember);
     }
     match hex::decode(alloc, text) {
-        Ok(bytes) => Ok(Some(KeyDigest::of(bytes.as_slice()))),
-        Err(FromHexError::OutOfMemory) => Err(AllocError),
-        Err(_) => Ok(None),
+        Ok(bytes) => Ok(KeyDigest::of(bytes.as_slice())),
+        Err(FromHexError::OutOfMemory) => Err(MemberFault::OutOfMemory),
+        Err(_) => Err(BadMember),
     }
 }
 
 /// The identity that a body asks for, if its members are of their forms.
 #[tactic(auto, unfolding(crate::specs::Identity::new_identity_of))]
-fn new_identity(alloc: Global, value: &Value) -> Result<Option<NewIdentity>, AllocError>
-    ensures { IfOk result (λ identity. identity ≡ new_identity_of (view value.now)) }
+fn new_identity(alloc: Global, value: &Value) -> Result<NewIdentity, MemberFault>
+    ensures { ReadsAs result (new_identity_of (view value.now)) }
 {
-    let Some(chip) = chip_member(value, "chip") else {
-        return Ok(None);
-    };
-    let Some(text) = text_member(value, "public_key") else {
-        return Ok(None);
-    };
-    let Some(key) = read_key(alloc, text)? else {
-        return Ok(None);
-    };
-    Ok(Some(NewIdentity { chip, key }))
+    let chip = chip_member(value, "chip").ok_or(BadMember)?;
+    let text = text_member(value, "public_key").ok_or(BadMember)?;
+    let key = read_key(alloc, text)?;
+    Ok(NewIdentity { chip, key })
 }
 
 /// The request that the body of `POST /v1/identity` asks for, if its members are of their forms.
 #[tactic(auto, unfolding(crate::specs::Identity::identify_of))]
-pub fn identity_request(alloc: Global, value: &Value) -> Result<Option<Request>, AllocError>
-    ensures { IfOk result (λ request. request ≡ identify_of (view value.now)) }
+pub fn identity_request(alloc: Global, value: &Value) -> Result<Request, MemberFault>
+    ensures { ReadsAs result (identify_of (view value.now)) }
 {
-    let Some(number) = number_member(value) else {
-        return Ok(None);
-    };
-    let Some(identity) = new_identity(alloc, value)? else {
-        return Ok(None);
-    };
+    let number = number_member(value).ok_or(BadMember)?;
+    let identity = new_identity(alloc, value)?;
     let members = named_members(alloc, value, &IDENTITY_MEMBERS)?;
-    Ok(Some(Request {
+    Ok(Request {
         number,
         digest: request_digest(alloc, IDENTITY_PATH, &members)?,
         command: Command::Change(Change::Identify(identity)),
-    }))
+    })
 }

@@ -9,6 +9,7 @@
 mod act;
 mod device;
 mod digest;
+mod fault;
 mod identity;
 mod import;
 mod map;

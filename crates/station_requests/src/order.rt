@@ -1,9 +1,10 @@
 // The requests about orders.
 ghost use Rattle.std.specs.Prelude.{◌≡◌, IfOk, option_map};
 ghost use Rattle.serde_json.specs.View.{view};
-ghost use Rattle.station_requests.specs.Prelude.{make_order_of, new_order_of, name_parameter};
+ghost use Rattle.station_requests.specs.Prelude.{make_order_of, new_order_of, name_parameter, ReadsAs};
 
 use crate::digest::{named_members, request_digest};
+use crate::fault::MemberFault::{self, BadMember};
 use crate::number::number_member;
 use http_frames::fields::{Occurrence, only_parameter};
 use json_members::{name_member, text_if_member, text_member, whole_member};
@@ -41,34 +42,18 @@ fn copied(alloc: Global, text: Option<&str>) -> Result<Option<Text>, AllocError>
 
 /// The order that a body asks for, if its members are of their forms.
 #[tactic(auto, unfolding(crate::specs::Order::new_order_of))]
-fn new_order(alloc: Global, value: &Value) -> Result<Option<AskedOrder>, AllocError>
-    ensures { IfOk result (λ order. order ≡ new_order_of (view value.now)) }
+fn new_order(alloc: Global, value: &Value) -> Result<AskedOrder, MemberFault>
+    ensures { ReadsAs result (new_order_of (view value.now)) }
 {
-    let Some(name) = name_member(value, "name") else {
-        return Ok(None);
-    };
-    let Some(issuer) = name_member(value, "issuer") else {
-        return Ok(None);
-    };
-    let Some(prefix) = text_member(value, "prefix") else {
-        return Ok(None);
-    };
-    let Some(width) = whole_member(value, "width", 1, 9) else {
-        return Ok(None);
-    };
-    let Some(first) = whole_member(value, "first", 0, LARGEST_WHOLE) else {
-        return Ok(None);
-    };
-    let Some(quantity) = whole_member(value, "quantity", 1, LARGEST_WHOLE) else {
-        return Ok(None);
-    };
-    let Some(macs) = whole_member(value, "macs", 0, 4) else {
-        return Ok(None);
-    };
-    let Some(not_before) = text_if_member(value, "not_before") else {
-        return Ok(None);
-    };
-    Ok(Some(AskedOrder::new(NewOrder {
+    let name = name_member(value, "name").ok_or(BadMember)?;
+    let issuer = name_member(value, "issuer").ok_or(BadMember)?;
+    let prefix = text_member(value, "prefix").ok_or(BadMember)?;
+    let width = whole_member(value, "width", 1, 9).ok_or(BadMember)?;
+    let first = whole_member(value, "first", 0, LARGEST_WHOLE).ok_or(BadMember)?;
+    let quantity = whole_member(value, "quantity", 1, LARGEST_WHOLE).ok_or(BadMember)?;
+    let macs = whole_member(value, "macs", 0, 4).ok_or(BadMember)?;
+    let not_before = text_if_member(value, "not_before").ok_or(BadMember)?;
+    Ok(AskedOrder::new(NewOrder {
         name,
         issuer,
         prefix: Text::copy_of(alloc, prefix)?,
@@ -77,26 +62,22 @@ fn new_order(alloc: Global, value: &Value) -> Result<Option<AskedOrder>, AllocEr
         quantity,
         macs: macs as u8,
         not_before: copied(alloc, not_before)?,
-    })))
+    }))
 }
 
 /// The request that the body of `POST /v1/order` asks for, if its members are of their forms.
 #[tactic(auto, unfolding(crate::specs::Order::make_order_of))]
-pub fn make_order_request(alloc: Global, value: &Value) -> Result<Option<Request>, AllocError>
-    ensures { IfOk result (λ request. request ≡ make_order_of (view value.now)) }
+pub fn make_order_request(alloc: Global, value: &Value) -> Result<Request, MemberFault>
+    ensures { ReadsAs result (make_order_of (view value.now)) }
 {
-    let Some(number) = number_member(value) else {
-        return Ok(None);
-    };
-    let Some(order) = new_order(alloc, value)? else {
-        return Ok(None);
-    };
+    let number = number_member(value).ok_or(BadMember)?;
+    let order = new_order(alloc, value)?;
     let members = named_members(alloc, value, &ORDER_MEMBERS)?;
-    Ok(Some(Request {
+    Ok(Request {
         number,
         digest: request_digest(alloc, ORDER_PATH, &members)?,
         command: Command::Change(Change::MakeOrder(order)),
-    }))
+    })
 }
 
 /// The name that the query of `GET /v1/order` gives, if it gives just one.

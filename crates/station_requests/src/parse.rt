@@ -4,7 +4,7 @@ ghost use Rattle.serde_json.specs.View.{view};
 ghost use Rattle.text_core.specs.Prelude.{GivesUnless, result_map};
 ghost use Rattle.http_frames.specs.Prelude.{Request as HttpRequest, IsFrameAt};
 ghost use Rattle.json_members.specs.Prelude.{json_of};
-ghost use Rattle.station_requests.specs.Prelude.{IsFor, parse_request, body_read, is_route_entry, kind_of_caller, route_entry, query_read, request_of};
+ghost use Rattle.station_requests.specs.Prelude.{IsFor, parse_request, body_read, is_route_entry, kind_of_caller, ReadsAs, route_entry, query_read, request_of};
 ghost use Rattle.station_requests.specs.Prelude.{route_among, route_of, show_of};
 
 use crate::act::end_request;
@@ -12,6 +12,7 @@ use crate::device::{
     DEVICE_PATH, DEVICES_PATH, LEDGER_PATH, after_parameter, chip_parameter,
     register_device_request,
 };
+use crate::fault::MemberFault;
 use crate::identity::{IDENTITY_PATH, identity_request};
 use crate::import::{IMPORT_PATH, import_request};
 use crate::map::{MAP_PATH, import_map_request};
@@ -26,7 +27,7 @@ use json_members::{JsonFault, read_json};
 use office_commands::{Action, Command, Refusal, Request, RequestNumber, Show};
 use serde_json::Value;
 use site_core::Caller;
-use std::alloc::{AllocError, Global};
+use std::alloc::Global;
 use text_core::Digest;
 
 /// The path on which devices are shipped.
@@ -140,8 +141,8 @@ fn read_value(alloc: Global, body: &[u8]) -> Result<Value, Refusal>
 }
 
 /// The request that the value of a body makes, if its members are of their forms.
-fn find_request(alloc: Global, posted: Posted, value: &Value) -> Result<Option<Request>, AllocError>
-    ensures { IfOk result (λ found. found ≡ request_of posted (view value.now)) }
+fn find_request(alloc: Global, posted: Posted, value: &Value) -> Result<Request, MemberFault>
+    ensures { ReadsAs result (request_of posted (view value.now)) }
 {
     match posted {
         Posted::Order => make_order_request(alloc, value),
@@ -161,11 +162,7 @@ fn read_body(alloc: Global, posted: Posted, body: &[u8]) -> Result<Request, Refu
     ensures { GivesUnless Refusal.Unkept result (body_read posted body.now) }
 {
     let value = read_value(alloc, body)?;
-    match find_request(alloc, posted, &value) {
-        Ok(Some(request)) => Ok(request),
-        Ok(None) => Err(Refusal::BadMember),
-        Err(_) => Err(Refusal::Unkept),
-    }
+    Ok(find_request(alloc, posted, &value)?)
 }
 
 /// What a query asks to be shown, if its parameters are of their forms.
@@ -185,9 +182,7 @@ fn find_show(shown: Shown, query: &[u8]) -> Option<Show>
 fn read_query(shown: Shown, query: &[u8]) -> Result<Request, Refusal>
     ensures { result ≡ query_read shown query.now }
 {
-    let Some(show) = find_show(shown, query) else {
-        return Err(Refusal::BadMember);
-    };
+    let show = find_show(shown, query).ok_or(Refusal::BadMember)?;
     Ok(Request {
         number: RequestNumber::first(),
         digest: Digest::from_bytes([0; 32]),
@@ -212,9 +207,7 @@ pub fn parse_command(
     ensures caller { IfOk result (IsFor (kind_of_caller caller)) }
 {
     let (path, query) = split_target(frame.target(buffer));
-    let Some(route) = find_route(frame.method(buffer), path) else {
-        return Err(Refusal::UnknownPath);
-    };
+    let route = find_route(frame.method(buffer), path).ok_or(Refusal::UnknownPath)?;
     match (route, caller) {
         (Route::Posts(posted), Caller::Seat(_)) => {
             let request = read_body(alloc, posted, frame.body(buffer))?;

@@ -1,17 +1,18 @@
 // The request that plans a device.
-ghost use Rattle.std.specs.Prelude.{◌≡◌, IfOk, map, option_map};
+ghost use Rattle.std.specs.Prelude.{◌≡◌, map};
 ghost use Rattle.serde_json.specs.View.{view};
-ghost use Rattle.text_core.specs.Prelude.{all_of};
+ghost use Rattle.text_core.specs.Prelude.{all_of, result_map};
 ghost use Rattle.station_requests.specs.Plan as plans;
-ghost use Rattle.station_requests.specs.Prelude.{kind_of_text, named_plan, named_wish, plan_device_of, want_of, wish_in, wishes_of};
+ghost use Rattle.station_requests.specs.Prelude.{kind_of_text, named_plan, named_wish, plan_device_of, ReadsAs, want_of, wish_in, wishes_of};
 
 use crate::act::{ACT_MEMBERS, act_request};
 use crate::digest::{found_members, named_members};
+use crate::fault::MemberFault::{self, BadMember};
 use fuse_plan::{Number, Want, Wish};
 use json_members::{digest_member, list_member, name_member, read_all, text_member, whole_member};
 use office_commands::{Action, Request, Wishes};
 use serde_json::Value;
-use std::alloc::{AllocError, Global};
+use std::alloc::Global;
 use text_core::LARGEST_WHOLE;
 
 /// The path of plans.
@@ -92,74 +93,58 @@ fn read_wish(value: &Value) -> Option<Wish>
 }
 
 /// The wishes of a plan, if each is one and there are at most 64.
-fn read_wishes(alloc: Global, value: &Value) -> Result<Option<Vec<Wish>>, AllocError>
-    ensures { IfOk result (λ found. option_map (λ wishes. wishes.items) found
-        ≡ wishes_of (view value.now)) }
+fn read_wishes(alloc: Global, value: &Value) -> Result<Vec<Wish>, MemberFault>
+    ensures { ReadsAs (result_map (λ wishes. wishes.items) result) (wishes_of (view value.now)) }
 {
-    match list_member(value, "wishes", 0, WISH_LIMIT) {
-        Some(values) => read_all(alloc, values, read_wish),
-        None => Ok(None),
-    }
+    let values = list_member(value, "wishes", 0, WISH_LIMIT).ok_or(BadMember)?;
+    read_all(alloc, values, read_wish)?.ok_or(BadMember)
 }
 
 /// What a repeated wish is known by, as an object: the named members of its kind.
-fn named_wish(alloc: Global, value: &Value) -> Result<Option<Value>, AllocError>
-    ensures { IfOk result (λ found. option_map view found ≡ named_wish (view value.now)) }
+fn named_wish(alloc: Global, value: &Value) -> Result<Value, MemberFault>
+    ensures { ReadsAs (result_map view result) (named_wish (view value.now)) }
 {
-    let Some(kind) = kind_of(value) else {
-        return Ok(None);
-    };
-    let members = match kind {
+    let members = match kind_of(value).ok_or(BadMember)? {
         Kind::Bit => named_members(alloc, value, &BIT_MEMBERS)?,
         Kind::Value => named_members(alloc, value, &VALUE_MEMBERS)?,
         Kind::Key => named_members(alloc, value, &KEY_MEMBERS)?,
         Kind::WriteLock | Kind::ReadLock => named_members(alloc, value, &LOCK_MEMBERS)?,
     };
-    Ok(Some(members))
+    Ok(members)
 }
 
 /// What repeated wishes are known by, one after another.
-fn named_wishes(alloc: Global, values: &[Value]) -> Result<Option<Vec<Value>>, AllocError>
-    ensures { IfOk result (λ found. option_map (λ wishes. map view wishes.items) found
-        ≡ all_of named_wish (map view values.now)) }
+fn named_wishes(alloc: Global, values: &[Value]) -> Result<Vec<Value>, MemberFault>
+    ensures { ReadsAs (result_map (λ wishes. map view wishes.items) result)
+        (all_of named_wish (map view values.now)) }
 {
     let mut wishes = Vec::new(alloc);
     for value in values {
-        let Some(wish) = named_wish(alloc, value)? else {
-            return Ok(None);
-        };
+        let wish = named_wish(alloc, value)?;
         wishes.push(wish)?;
     }
-    Ok(Some(wishes))
+    Ok(wishes)
 }
 
 /// What a repeated plan is known by, as an object: its members, and its wishes by theirs.
 #[tactic(auto, unfolding(crate::specs::Plan::named_plan))]
-fn named_plan(alloc: Global, value: &Value) -> Result<Option<Value>, AllocError>
-    ensures { IfOk result (λ found. option_map view found ≡ named_plan (view value.now)) }
+fn named_plan(alloc: Global, value: &Value) -> Result<Value, MemberFault>
+    ensures { ReadsAs (result_map view result) (named_plan (view value.now)) }
 {
-    let Some(values) = list_member(value, "wishes", 0, WISH_LIMIT) else {
-        return Ok(None);
-    };
-    let Some(wishes) = named_wishes(alloc, values)? else {
-        return Ok(None);
-    };
+    let values = list_member(value, "wishes", 0, WISH_LIMIT).ok_or(BadMember)?;
+    let wishes = named_wishes(alloc, values)?;
     let mut members = found_members(alloc, value, &ACT_MEMBERS)?;
     serde_json::put(&mut members, alloc, "wishes", Value::from(wishes))?;
-    Ok(Some(Value::Object(members)))
+    Ok(Value::Object(members))
 }
 
 /// The request that the body of `POST /v1/plan` asks for, if its members are of their forms.
 #[tactic(auto, unfolding(crate::specs::Plan::plan_device_of))]
-pub fn plan_device_request(alloc: Global, value: &Value) -> Result<Option<Request>, AllocError>
-    ensures { IfOk result (λ request. request ≡ plan_device_of (view value.now)) }
+pub fn plan_device_request(alloc: Global, value: &Value) -> Result<Request, MemberFault>
+    ensures { ReadsAs result (plan_device_of (view value.now)) }
 {
-    let Some(wishes) = read_wishes(alloc, value)? else {
-        return Ok(None);
-    };
-    let Some(members) = named_plan(alloc, value)? else {
-        return Ok(None);
-    };
+    let wishes = read_wishes(alloc, value)?;
+    let members = named_plan(alloc, value)?;
     let action = Action::Plan(Wishes::new(wishes));
     act_request(alloc, value, PLAN_PATH, &members, action)
 }

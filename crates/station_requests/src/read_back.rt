@@ -1,25 +1,23 @@
 // The request that hands in a read-back.
-ghost use Rattle.std.specs.Prelude.{◌≡◌, IfOk};
 ghost use Rattle.serde_json.specs.View.{view};
-ghost use Rattle.station_requests.specs.Prelude.{read_back_of};
+ghost use Rattle.station_requests.specs.Prelude.{read_back_of, ReadsAs};
 
 use crate::act::{ACT_MEMBERS, act_request};
 use crate::device::{blocks_member, with_block_digests};
+use crate::fault::MemberFault;
 use office_commands::{Action, Request};
 use serde_json::Value;
-use std::alloc::{AllocError, Global};
+use std::alloc::Global;
 
 /// The path of read-backs.
 pub const READ_BACK_PATH: &str = "/v1/readback";
 
 /// The request that the body of `POST /v1/readback` asks for, if its members are of their forms.
 #[tactic(auto, unfolding(crate::specs::ReadBack::read_back_of))]
-pub fn read_back_request(alloc: Global, value: &Value) -> Result<Option<Request>, AllocError>
-    ensures { IfOk result (λ request. request ≡ read_back_of (view value.now)) }
+pub fn read_back_request(alloc: Global, value: &Value) -> Result<Request, MemberFault>
+    ensures { ReadsAs result (read_back_of (view value.now)) }
 {
-    let Some(blocks) = blocks_member(alloc, value, "blocks")? else {
-        return Ok(None);
-    };
+    let blocks = blocks_member(alloc, value, "blocks")?;
     let members = with_block_digests(alloc, value, &ACT_MEMBERS, &blocks)?;
     let action = Action::ReadBack(blocks);
     act_request(alloc, value, READ_BACK_PATH, &members, action)

@@ -4,5 +4,4 @@ use Rattle.station_requests.proofs.identity.identity_request.Goals as goal
 
 pub request_digest-requires : goal.request_digest-requires
 request_digest-requires c = rw c.in_ok-members.ensures
-    (identity_lacks_float _ _ _ (sym c.in-Some.ensures.value) (sym c.in_ok-identity.ensures
-    ∙ c.in-Some-2.is))
+    (identity_lacks_float _ _ _ (sym c.number_member.ensures.value ∙ c.in_ok-number.ensures.ok_part) (sym c.in_ok-identity.ensures))

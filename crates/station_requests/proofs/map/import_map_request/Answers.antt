@@ -1,9 +1,9 @@
-use Rattle.std.proofs.Common.{sym}
+use Rattle.std.proofs.Common.{sym, ap, ◌∙◌, option_map}
 use Rattle.serde_json.specs.View.{view}
 use Rattle.station_requests.proofs.Members.{map_lacks_float}
 use Rattle.station_requests.proofs.map.import_map_request.Goals as goal
 
 pub request_digest-requires : goal.request_digest-requires
 request_digest-requires c = rw c.in_ok-members.ensures
-    (map_lacks_float (view c.args.value.now) _ _ (sym c.in-Some.ensures.value)
-    (sym c.in-Some-text_member.ensures))
+    (map_lacks_float (view c.args.value.now) _ _ (sym c.number_member.ensures.value ∙ c.in_ok-number.ensures.ok_part)
+    (sym c.text_member.ensures ∙ ap (option_map (λ text. text.now)) c.in_ok-text.ensures.ok_part))

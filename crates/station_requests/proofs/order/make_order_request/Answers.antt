@@ -3,4 +3,5 @@ use Rattle.station_requests.proofs.Members.{order_lacks_float}
 use Rattle.station_requests.proofs.order.make_order_request.Goals as goal
 
 pub request_digest-requires : goal.request_digest-requires
-request_digest-requires c = rw c.in_ok-members.ensures (order_lacks_float _ _ _ (sym c.in-Some.ensures.value) (sym c.in_ok-order.ensures ∙ c.in-Some-2.is))
+request_digest-requires c = rw c.in_ok-members.ensures
+    (order_lacks_float _ _ _ (sym c.number_member.ensures.value ∙ c.in_ok-number.ensures.ok_part) (sym c.in_ok-order.ensures))
