@@ -1,6 +1,6 @@
 -- What the text that adds a map means, and what it does to the tables.
 use Rattle.std.proofs.Common.{◌≡◌, ◌==◌, ◌∷◌}
-use Rattle.text_core.proofs.Kit.{ℕ, ℤ, pos, Bool, not, cond, false, true, List, [], codes, map, filter, refl, sym, ap, ◌∙◌, subst, is_eq, nat_cmp, arith}
+use Rattle.text_core.proofs.Kit.{ℕ, ℤ, pos, Bool, not, cond, false, true, List, [], map, filter, refl, sym, ap, ◌∙◌, subst, is_eq, nat_cmp, arith}
 use Rattle.text_core.proofs.Kit.{AllByRecursion, nat_tests}
 use Rattle.office_sql.proofs.Kit.{Null, Int, Row, column, has_rowid, without_rowid, Term, lit, col, eval_all, Database, cast_row, next_rowid, all-map, all_both}
 use Rattle.office_sql.proofs.Kit.{sort_by}
@@ -13,6 +13,7 @@ use Rattle.office_tables.specs.Prelude.{map_cmp, has_id, link_at, with_map, with
 use Rattle.office_tables.proofs.Finding.{find_none}
 use Rattle.office_sql.specs.Prelude.{maps, map_table, office_schema, rows_in, number_in_cell, map_in_row, map_columns, SqlAdds, Wrote, GainsMap, AreRows}
 use Rattle.office_sql.specs.Prelude.{IsMapRow, IsOffice, tables_in}
+use Rattle.office_sql.specs.declared.maps.TheConstants.{INSERT_INTO_MAP}
 use Rattle.office_sql.proofs.Inserting.{IsInsert}
 use Rattle.office_sql.proofs.Keyed.{Apart, apart_back, all_sorted}
 use Rattle.office_sql.proofs.MapReads.{map_total}
@@ -21,13 +22,10 @@ use Rattle.office_sql.proofs.Offices.{both_started, table_changed, told_stays}
 use Rattle.office_sql.proofs.Stepping.{cast_null}
 use Rattle.office_sql.proofs.TableRows.{next_is_free, row_added}
 
-abbrev pub add_text : List ℕ
-add_text = codes "INSERT INTO map (body, digest) VALUES (?1, ?2)"
-
 abbrev pub add_terms : List Term
 add_terms = lit Null ∷ lit Null ∷ col 0 0 ∷ col 0 1 ∷ []
 
-pub add_insert : IsInsert office_schema add_text maps add_terms 4
+pub add_insert : IsInsert office_schema INSERT_INTO_MAP.now maps add_terms 4
 unfolding understood everything
 add_insert = record { means = record { is = refl; plain = (refl, refl); there = refl; uncounted = refl; unstamped = refl }; one = λ params. refl }
 
