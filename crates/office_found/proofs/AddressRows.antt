@@ -1,6 +1,6 @@
 -- That no two records have one address, by the texts that a walk shows in their order.
 use Rattle.std.proofs.Common.{◌≡◌, ◌↔◌, ◌∷◌, Ordering}
-use Rattle.text_core.proofs.Kit.{ℕ, Bool, true, false, cond, List, [], Some, None, codes, map, filter, refl, sym, ap, ap₂, subst, ◌∙◌, IsPermutation, is_eq}
+use Rattle.text_core.proofs.Kit.{ℕ, Bool, true, false, cond, List, [], Some, None, map, filter, refl, sym, ap, ap₂, subst, ◌∙◌, IsPermutation, is_eq}
 use Rattle.text_core.proofs.Kit.{is_ge, is_gt, bytes_eq, IsSorted, nat_cmp, on, IsTotalOrder, slice_cmp, AllByRecursion, cons_option, dedup_from, filter_map}
 use Rattle.text_core.proofs.Kit.{on_total, then_total, nat_list_cmp_total, nat_list_eq_equiv, IsStrictlySortedBy-dedup, IsPermutation-map, IsPermutation-sym}
 use Rattle.text_core.proofs.Kit.{IsDistinct-from_sorted, IsDistinct-IsPermutation, is_eq-slice_cmp, and-true}
@@ -22,11 +22,9 @@ use Rattle.office_sql.proofs.Scan.{Scanned, scanned}
 use Rattle.office_sql.proofs.Values.{texts_cmp, level_total, told}
 use Rattle.office_found.proofs.Types.{Version, Earliest}
 use Rattle.office_found.specs.Prelude.{address_texts, HasApartAddresses, HasNoRepeat, schema_of}
+use Rattle.office_found.specs.declared.addresses.TheConstants.{SELECT_ADDRESSES}
 
 -- ---- the text
-
-abbrev pub addresses_text : List ℕ
-addresses_text = codes "SELECT mac FROM given WHERE mac >= '' ORDER BY mac"
 
 -- from the empty text on there is each text, and no NULL
 abbrev pub is_there : Term
@@ -38,10 +36,10 @@ by_address = (col 1 6, ascending Binary) ∷ []
 abbrev pub addresses_body : Query
 addresses_body = scan (tree_of given) (is_there ∷ []) (col 1 6 ∷ []) by_address
 
-pub addresses_read : (version : Version) → IsReadAs (schema_of version) addresses_text addresses_body
+pub addresses_read : (version : Version) → IsReadAs (schema_of version) SELECT_ADDRESSES.now addresses_body
 unfolding understood everything
-addresses_read Earliest = record { names = codes "mac" ∷ []; is = refl; plain = (refl, refl); unlisted = refl; bare = λ schema base. refl }
-addresses_read _ = record { names = codes "mac" ∷ []; is = refl; plain = (refl, refl); unlisted = refl; bare = λ schema base. refl }
+addresses_read Earliest = record { names = _; is = refl; plain = (refl, refl); unlisted = refl; bare = λ schema base. refl }
+addresses_read _ = record { names = _; is = refl; plain = (refl, refl); unlisted = refl; bare = λ schema base. refl }
 
 -- ---- the rows that pass have a text
 

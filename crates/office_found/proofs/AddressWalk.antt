@@ -13,7 +13,8 @@ use Rattle.office_sql.proofs.LedgerAsked.{IsReadAs}
 use Rattle.office_sql.proofs.Visiting.{joined, still}
 use Rattle.office_found.specs.declared.version.Version.{Version}
 use Rattle.office_found.specs.Prelude.{shows_again, HasApartAddresses, HasNoRepeat, HasWalked, IsFound}
-use Rattle.office_found.proofs.AddressRows.{addresses_body, addresses_read, addresses_text, shows_apart}
+use Rattle.office_found.specs.declared.addresses.TheConstants.{SELECT_ADDRESSES}
+use Rattle.office_found.proofs.AddressRows.{addresses_body, addresses_read, shows_apart}
 use Rattle.office_found.proofs.FoundAsked.{of_a_version}
 use Rattle.office_found.proofs.FoundResults.{iff_then}
 
@@ -63,11 +64,11 @@ module _ (text : List ℕ) (body : Query) (old new : State) (read : IsReadAs old
 
 -- and says of a database that was found whether its addresses are apart
 pub walk_tells : (old new : State) → (version : Version) → (IsTrue old.is_open → IsFound version old.now)
-    → (r : Result Bool Error) → IfOk r (HasWalked addresses_text old new) → OnOk r (IsUnchanged old new)
+    → (r : Result Bool Error) → IfOk r (HasWalked SELECT_ADDRESSES.now old new) → OnOk r (IsUnchanged old new)
     → IfOk r (λ apart. IsTrue apart ↔ HasApartAddresses old.now.trees)
 walk_tells old new version found (Ok apart) walked same =
     let it = found same.0.was_open in
-    let read = of_a_version addresses_text addresses_body addresses_read old.now.schema (version, it.schema) in
-    let rows = walked_rows addresses_text addresses_body old new read same apart walked in
+    let read = of_a_version SELECT_ADDRESSES.now addresses_body addresses_read old.now.schema (version, it.schema) in
+    let rows = walked_rows SELECT_ADDRESSES.now addresses_body old new read same apart walked in
     iff_then rows.2 (shows_apart old.now.trees rows.0 (all_weaker _ _ (λ r e. e.3) (rows_in old.now.trees table.given) (it.rows table.given).typed) rows.1)
 walk_tells old new version found (Err e) walked same = tt

@@ -1,6 +1,6 @@
 -- What the text that reads the row of meta means, and shows.
 use Rattle.std.proofs.Common.{◌≡◌, ◌≢◌, ◌<◌, ◌≤◌, get_or, ◌∷◌}
-use Rattle.text_core.proofs.Kit.{ℕ, length, arith, true, Option, Some, None, IfSome, IfNone, List, [], codes, map, refl, sym, ap, subst, ◌∙◌, IsPermutation}
+use Rattle.text_core.proofs.Kit.{ℕ, length, arith, true, Option, Some, None, IfSome, IfNone, List, [], map, refl, sym, ap, subst, ◌∙◌, IsPermutation}
 use Rattle.text_core.proofs.Kit.{IsPermutation-map, IsPermutation-sym, AllByRecursion}
 use Rattle.office_sql.proofs.Kit.{Row, Trees, Database, IsSound, Datatype, NotNull, Term, col, eval_all, Binary, one_permutation, Key, ascending, all_both}
 use Rattle.office_sql.proofs.Kit.{all_of, all-map, all-permutation, filter_all, overlay, IsAnswer}
@@ -11,12 +11,10 @@ use Rattle.office_sql.specs.OfficeTable as table
 use Rattle.office_sql.specs.Prelude.{env, passes, scan, meta_table, rows_in, tree_of, IsBlob}
 use Rattle.office_found.proofs.Types.{Version, Earliest, Meta}
 use Rattle.office_found.specs.Prelude.{IsFound, meta_in, meta_of, meta_of_version, metas_in, IsMetaOf, ShowMeta, TellNoSite, schema_of}
+use Rattle.office_found.specs.declared.meta.TheConstants.{SELECT_META}
 use Rattle.office_found.proofs.FoundRows.{blob_at}
 use Rattle.office_sql.proofs.LedgerAsked.{IsReadAs}
 use Rattle.office_sql.proofs.Scan.{Scanned, scanned}
-
-abbrev pub row_text : List ℕ
-row_text = codes "SELECT id, schema, site FROM meta ORDER BY id"
 
 abbrev pub row_shown : List Term
 row_shown = col 1 0 ∷ col 1 2 ∷ col 1 3 ∷ []
@@ -24,10 +22,10 @@ row_shown = col 1 0 ∷ col 1 2 ∷ col 1 3 ∷ []
 abbrev pub row_order : List (Term × Key)
 row_order = (col 1 0, ascending Binary) ∷ []
 
-pub row_read : (version : Version) → IsReadAs (schema_of version) row_text (scan (tree_of table.meta) [] row_shown row_order)
+pub row_read : (version : Version) → IsReadAs (schema_of version) SELECT_META.now (scan (tree_of table.meta) [] row_shown row_order)
 unfolding understood everything
-row_read Earliest = record { names = codes "id" ∷ codes "schema" ∷ codes "site" ∷ []; is = refl; plain = (refl, refl); unlisted = refl; bare = λ schema base. refl }
-row_read _ = record { names = codes "id" ∷ codes "schema" ∷ codes "site" ∷ []; is = refl; plain = (refl, refl); unlisted = refl; bare = λ schema base. refl }
+row_read Earliest = record { names = _; is = refl; plain = (refl, refl); unlisted = refl; bare = λ schema base. refl }
+row_read _ = record { names = _; is = refl; plain = (refl, refl); unlisted = refl; bare = λ schema base. refl }
 
 -- meta, in some order
 shows_metas : (all rows : List Row) → Scanned [] row_shown row_order [] all rows → IsPermutation (map meta_in all) (map meta_of rows)

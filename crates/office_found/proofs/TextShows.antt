@@ -1,5 +1,5 @@
 -- What the text that reads the text of the site means, and shows.
-use Rattle.std.proofs.Common.{◌≡◌, ◌↔◌, ℕ, Bool, true, false, true≢false, IsTrue, List, [], ◌∷◌, codes, map, refl, sym, ap, subst, ◌∙◌, IsPermutation, bytes_eq}
+use Rattle.std.proofs.Common.{◌≡◌, ◌↔◌, ℕ, Bool, true, false, true≢false, IsTrue, List, [], ◌∷◌, map, refl, sym, ap, subst, ◌∙◌, IsPermutation, bytes_eq}
 use Rattle.std.proofs.lemmas.Slice.Eq.{bytes_eq-Decides}
 use Rattle.std.proofs.lemmas.List.Sorted.{IsPermutation-map, IsPermutation-sym}
 use Rattle.sqlite.specs.declared.types.Value.TheVariants.{Text as Words}
@@ -10,9 +10,7 @@ use Rattle.office_sql.specs.Prelude.{texts, passes, scan, office_schema, rows_in
 use Rattle.office_sql.proofs.LedgerAsked.{IsReadAs}
 use Rattle.office_sql.proofs.Scan.{Scanned, scanned}
 use Rattle.office_found.specs.Prelude.{HoldsText, IsOnlyText, ShowTexts}
-
-abbrev pub body_text : List ℕ
-body_text = codes "SELECT id, body FROM site_text ORDER BY id"
+use Rattle.office_found.specs.declared.site_text.TheConstants.{SELECT_SITE_TEXT}
 
 abbrev pub body_shown : List Term
 body_shown = col 1 0 ∷ col 1 2 ∷ []
@@ -20,9 +18,9 @@ body_shown = col 1 0 ∷ col 1 2 ∷ []
 abbrev pub body_order : List (Term × Key)
 body_order = (col 1 0, ascending Binary) ∷ []
 
-pub body_read : IsReadAs office_schema body_text (scan (tree_of texts) [] body_shown body_order)
+pub body_read : IsReadAs office_schema SELECT_SITE_TEXT.now (scan (tree_of texts) [] body_shown body_order)
 unfolding understood everything
-body_read = record { names = codes "id" ∷ codes "body" ∷ []; is = refl; plain = (refl, refl); unlisted = refl; bare = λ schema base. refl }
+body_read = record { names = _; is = refl; plain = (refl, refl); unlisted = refl; bare = λ schema base. refl }
 
 -- what is shown of a row
 abbrev shown : Row → Row

@@ -24,7 +24,7 @@ table_of_form f = table_at f.tree f.name.now (map column_of_form f.columns.now) 
     (map (λ places. places.now) f.uniques.now) (map reference_of f.references.now)
 
 abbrev pub index_of : IndexForm → Index
-index_of f = index_at f.tree f.name.now f.table f.columns.now
+index_of f = index_at f.0 f.1.now f.2 f.3.now
 
 -- the table in this tree, with this name and these columns
 abbrev pub with_columns : TableForm → Table → Table

@@ -16,6 +16,9 @@ use sqlite::{Alter, Connection, Error, ErrorCode, Row};
 /// No table has as many rows.
 const TOO_MANY_ROWS: u64 = u64::MAX;
 
+/// Reads the addresses of all records in their order.
+const SELECT_ADDRESSES: &str = "SELECT mac FROM given WHERE mac >= '' ORDER BY mac";
+
 fn shown_text(row: &Row) -> Result<&[u8], Error>
     ensures { IfOk result (λ text. text.now ≡ bytes (column row.now 0)) }
 {
@@ -74,5 +77,5 @@ pub fn has_apart_addresses<S: Alter>(conn: &mut Connection<S>) -> Result<bool, E
     ensures { Tests S.Store conn.old conn.new result (λ db apart.
         IsTrue apart ↔ HasApartAddresses db) }
 {
-    has_no_repeat(conn, "SELECT mac FROM given WHERE mac >= '' ORDER BY mac")
+    has_no_repeat(conn, SELECT_ADDRESSES)
 }

@@ -14,6 +14,9 @@ use text_core::Digest;
 /// The number of the one row of `meta`.
 pub const META_ID: u64 = 1;
 
+/// Reads the rows that may tell of the store itself.
+const SELECT_META: &str = "SELECT id, schema, site FROM meta ORDER BY id";
+
 /// What a store tells of itself: the row's own number, the number of the schema, and whose site it
 /// is of.
 #[derive(Clone, Copy, Drop)]
@@ -27,7 +30,7 @@ fn meta_rows<S: Alter>(conn: &mut Connection<S>) -> Result<Vec<Row>, Error>
     requires { (version : Version) × Sees (IsFound version) (state S.Store conn.old) }
     ensures { Tests S.Store conn.old conn.new result (λ db rows. ShowMeta db rows.items) }
 {
-    conn.query_all("SELECT id, schema, site FROM meta ORDER BY id", &[])
+    conn.query_all(SELECT_META, &[])
 }
 
 /// A whole number that isn't below zero, if the column is one.

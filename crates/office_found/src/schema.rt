@@ -1,16 +1,13 @@
 // The schema of an opened database, tested column by column, so that a file with other tables is
 // refused and not misread.
 ghost use Rattle.std.specs.Prelude.{◌≡◌, ◌↔◌, IsTrue, IfSome, IfNone, map, []};
-ghost use Rattle.sqlite.specs.declared.types.Value.TheVariants.{Null as TheNull};
-ghost use Rattle.sqlite.specs.Collation.TheVariants.{Binary as TheBinary};
-ghost use Rattle.sqlite_schema.specs.declared.schema.Action.TheVariants.{NoAction as TheNoAction};
 ghost use Rattle.sqlite_value.specs.Keys.{plain};
 ghost use Rattle.office_found.specs.Prelude.{column_of_form, reference_of, table_of_form, index_of, with_columns, with_table_keys, schema_of_forms, bare};
 ghost use Rattle.office_found.specs.Prelude.{schema_of, IsOfNoVersion};
-ghost use Rattle.office_found.specs.declared.version.Version.TheVariants.{Earliest, Early, First, Second, Third};
 ghost use Rattle.office_sql.specs.Schema as spec;
 
 use crate::version::Version;
+use sqlite_items::Items;
 use sqlite_schema::code::Terms;
 use sqlite_schema::schema::{Action, Column, Index, Kind, Reference, Schema, Stamps, Table};
 use sqlite_value::keys::{Collation, Order};
@@ -41,13 +38,34 @@ struct TableForm<'a> {
     references: &'a [ReferenceForm<'a>],
 }
 
-/// An index as the office has it: unique, and each column ascends by its bytes.
+/// An index as the office has it, unique, and each column ascends by its bytes: its tree, its name,
+/// the tree of its table, and its columns.
 #[derive(Clone, Copy)]
-struct IndexForm<'a> {
-    tree: u32,
-    name: &'a [u8],
-    table: u32,
-    columns: &'a [usize],
+struct IndexForm<'a>(u32, &'a [u8], u32, &'a [usize]);
+
+/// A description of a part of a schema.
+trait Describes<T> {
+    /// The part that is described.
+    ghost part: { Self → T };
+
+    /// Whether what was found is the part that is described.
+    fn fits(&self, found: &T) -> bool
+        ensures { IsTrue result ↔ (found.now ≡ part self.now) };
+}
+
+/// Whether what was found are the parts that are described, in their order.
+fn are_all<T, D: Describes<T>>(found: &[T], forms: &[D]) -> bool
+    ensures { IsTrue result ↔ (found.now ≡ map D.part forms.now) }
+{
+    if found.len() != forms.len() {
+        return false;
+    }
+    for (at, form) in forms.iter().enumerate() {
+        if !form.fits(&found[at]) {
+            return false;
+        }
+    }
+    true
 }
 
 fn is_named(name: &Bytes, wanted: &[u8]) -> bool
@@ -56,28 +74,12 @@ fn is_named(name: &Bytes, wanted: &[u8]) -> bool
     name.as_slice() == wanted
 }
 
-fn is_kind(kind: Kind, wanted: Kind) -> bool
-    ensures { IsTrue result ↔ (kind ≡ wanted) }
-{
-    kind == wanted
-}
+impl Describes<Bytes> for &[u8] {
+    ghost part = { λ name. name.now };
 
-fn is_null(value: &Value) -> bool
-    ensures { IsTrue result ↔ (value.now ≡ TheNull) }
-{
-    matches!(value, Value::Null)
-}
-
-fn is_binary(collation: Collation) -> bool
-    ensures { IsTrue result ↔ (collation ≡ TheBinary) }
-{
-    matches!(collation, Collation::Binary)
-}
-
-fn is_no_action(action: Action) -> bool
-    ensures { IsTrue result ↔ (action ≡ TheNoAction) }
-{
-    matches!(action, Action::NoAction)
+    fn fits(&self, found: &Bytes) -> bool {
+        is_named(found, *self)
+    }
 }
 
 fn is_plain(order: Order) -> bool
@@ -92,6 +94,14 @@ fn are_places(places: &[usize], wanted: &[usize]) -> bool
     places == wanted
 }
 
+impl Describes<Items<usize>> for &[usize] {
+    ghost part = { λ places. places.now };
+
+    fn fits(&self, found: &Items<usize>) -> bool {
+        are_places(found.as_slice(), *self)
+    }
+}
+
 fn is_no_term(terms: &Terms) -> bool
     ensures { IsTrue result ↔ (terms.now ≡ []) }
 {
@@ -101,90 +111,39 @@ fn is_no_term(terms: &Terms) -> bool
 fn has_rule(column: &Column, kind: Kind, required: bool) -> bool
     ensures { IsTrue result ↔ (column.now ≡ spec.column column.now.name kind required) }
 {
-    is_kind(column.kind, kind)
+    column.kind == kind
         && column.is_strict
         && column.not_null == required
-        && is_null(&column.default)
-        && is_binary(column.collation)
+        && matches!(column.default, Value::Null)
+        && matches!(column.collation, Collation::Binary)
 }
 
-fn is_column(column: &Column, form: ColumnForm<'_>) -> bool
-    ensures { IsTrue result ↔ (column.now ≡ column_of_form form.entry) }
-{
-    is_named(&column.name, form.0) && has_rule(column, form.1, form.2)
-}
+impl Describes<Column> for ColumnForm<'_> {
+    ghost part = { column_of_form };
 
-fn are_columns(columns: &[Column], forms: &[ColumnForm<'_>]) -> bool
-    ensures { IsTrue result ↔ (columns.now ≡ map column_of_form forms.now) }
-{
-    if columns.len() != forms.len() {
-        return false;
+    fn fits(&self, found: &Column) -> bool {
+        is_named(&found.name, self.0) && has_rule(found, self.1, self.2)
     }
-    for (at, form) in forms.iter().enumerate() {
-        if !is_column(&columns[at], *form) {
-            return false;
-        }
-    }
-    true
-}
-
-fn are_named(names: &[Bytes], wanted: &[&[u8]]) -> bool
-    ensures { IsTrue result ↔ (names.now ≡ map (λ n. n.now) wanted.now) }
-{
-    if names.len() != wanted.len() {
-        return false;
-    }
-    for (at, name) in wanted.iter().enumerate() {
-        if !is_named(&names[at], *name) {
-            return false;
-        }
-    }
-    true
 }
 
 fn is_at_once(reference: &Reference) -> bool
     ensures { IsTrue result ↔ (reference.now
         ≡ spec.to reference.now.columns reference.now.parent reference.now.parent_columns) }
 {
-    is_no_action(reference.on_delete) && is_no_action(reference.on_update) && !reference.is_deferred
+    matches!(reference.on_delete, Action::NoAction)
+        && matches!(reference.on_update, Action::NoAction)
+        && !reference.is_deferred
 }
 
-fn is_reference(reference: &Reference, form: ReferenceForm<'_>) -> bool
-    ensures { IsTrue result ↔ (reference.now ≡ reference_of form.entry) }
-{
-    are_places(reference.columns.as_slice(), form.columns)
-        && is_named(&reference.parent, form.parent)
-        && are_named(reference.parent_columns.as_slice(), form.names)
-        && is_at_once(reference)
-}
+impl Describes<Reference> for ReferenceForm<'_> {
+    ghost part = { reference_of };
 
-fn are_references(references: &[Reference], forms: &[ReferenceForm<'_>]) -> bool
-    ensures { IsTrue result ↔ (references.now ≡ map reference_of forms.now) }
-{
-    if references.len() != forms.len() {
-        return false;
+    fn fits(&self, found: &Reference) -> bool {
+        are_places(found.columns.as_slice(), self.columns)
+            && is_named(&found.parent, self.parent)
+            && are_all(found.parent_columns.as_slice(), self.names)
+            && is_at_once(found)
     }
-    for (at, form) in forms.iter().enumerate() {
-        if !is_reference(&references[at], *form) {
-            return false;
-        }
-    }
-    true
-}
-
-fn has_uniques(table: &Table, wanted: &[&[usize]]) -> bool
-    ensures { IsTrue result ↔ (table.now.uniques ≡ map (λ places. places.now) wanted.now) }
-{
-    let uniques = table.uniques.as_slice();
-    if uniques.len() != wanted.len() {
-        return false;
-    }
-    for (at, places) in wanted.iter().enumerate() {
-        if !are_places(uniques[at].as_slice(), *places) {
-            return false;
-        }
-    }
-    true
 }
 
 fn has_plain_orders(table: &Table) -> bool
@@ -208,29 +167,17 @@ fn is_no_stamp(stamps: &Stamps) -> bool
     stamps.places.is_empty() && is_no_term(&stamps.terms) && stamps.formats.is_empty()
 }
 
-fn is_index(index: &Index, form: IndexForm<'_>) -> bool
-    ensures { IsTrue result ↔ (index.now ≡ index_of form.entry) }
-{
-    index.tree == form.tree
-        && is_named(&index.name, form.name)
-        && index.table == form.table
-        && are_places(index.columns.as_slice(), form.columns)
-        && is_plain(index.order)
-        && index.is_unique
-}
+impl Describes<Index> for IndexForm<'_> {
+    ghost part = { index_of };
 
-fn are_indexes(indexes: &[Index], forms: &[IndexForm<'_>]) -> bool
-    ensures { IsTrue result ↔ (indexes.now ≡ map index_of forms.now) }
-{
-    if indexes.len() != forms.len() {
-        return false;
+    fn fits(&self, found: &Index) -> bool {
+        found.tree == self.0
+            && is_named(&found.name, self.1)
+            && found.table == self.2
+            && are_places(found.columns.as_slice(), self.3)
+            && is_plain(found.order)
+            && found.is_unique
     }
-    for (at, form) in forms.iter().enumerate() {
-        if !is_index(&indexes[at], *form) {
-            return false;
-        }
-    }
-    true
 }
 
 /// Whether the database has nothing in it.
@@ -245,7 +192,7 @@ fn has_columns(table: &Table, form: TableForm<'_>) -> bool
 {
     table.tree == form.tree
         && is_named(&table.name, form.name)
-        && are_columns(table.columns.as_slice(), form.columns)
+        && are_all(table.columns.as_slice(), form.columns)
 }
 
 fn has_keys(table: &Table, form: TableForm<'_>) -> bool
@@ -253,7 +200,7 @@ fn has_keys(table: &Table, form: TableForm<'_>) -> bool
 {
     table.key == form.key
         && are_places(table.primary.as_slice(), form.primary)
-        && has_uniques(table, form.uniques)
+        && are_all(table.uniques.as_slice(), form.uniques)
         && has_plain_orders(table)
 }
 
@@ -278,21 +225,15 @@ fn is_table(table: &Table, form: TableForm<'_>) -> bool
     if !is_bare(table) {
         return false;
     }
-    are_references(table.references.as_slice(), form.references)
+    are_all(table.references.as_slice(), form.references)
 }
 
-fn are_tables(tables: &[Table], forms: &[TableForm<'_>]) -> bool
-    ensures { IsTrue result ↔ (tables.now ≡ map table_of_form forms.now) }
-{
-    if tables.len() != forms.len() {
-        return false;
+impl Describes<Table> for TableForm<'_> {
+    ghost part = { table_of_form };
+
+    fn fits(&self, found: &Table) -> bool {
+        is_table(found, *self)
     }
-    for (at, form) in forms.iter().enumerate() {
-        if !is_table(&tables[at], *form) {
-            return false;
-        }
-    }
-    true
 }
 
 const META: TableForm<'static> = TableForm {
@@ -501,82 +442,26 @@ const SITE_TEXT: TableForm<'static> = TableForm {
     references: &[],
 };
 
-const SEAT_KEY: IndexForm<'static> = IndexForm {
-    tree: 2,
-    name: b"sqlite_autoindex_seat_1",
-    table: 1,
-    columns: &[1],
-};
+const SEAT_KEY: IndexForm<'static> = IndexForm(2, b"sqlite_autoindex_seat_1", 1, &[1]);
 
-const MAP_KEY: IndexForm<'static> = IndexForm {
-    tree: 4,
-    name: b"sqlite_autoindex_map_1",
-    table: 3,
-    columns: &[2],
-};
+const MAP_KEY: IndexForm<'static> = IndexForm(4, b"sqlite_autoindex_map_1", 3, &[2]);
 
-const LINK_KEY: IndexForm<'static> = IndexForm {
-    tree: 6,
-    name: b"sqlite_autoindex_link_1",
-    table: 5,
-    columns: &[1, 2],
-};
+const LINK_KEY: IndexForm<'static> = IndexForm(6, b"sqlite_autoindex_link_1", 5, &[1, 2]);
 
-const ORDERS_KEY: IndexForm<'static> = IndexForm {
-    tree: 8,
-    name: b"sqlite_autoindex_orders_1",
-    table: 7,
-    columns: &[1, 2],
-};
+const ORDERS_KEY: IndexForm<'static> = IndexForm(8, b"sqlite_autoindex_orders_1", 7, &[1, 2]);
 
-const DEVICE_KEY: IndexForm<'static> = IndexForm {
-    tree: 10,
-    name: b"sqlite_autoindex_device_1",
-    table: 9,
-    columns: &[1, 2],
-};
+const DEVICE_KEY: IndexForm<'static> = IndexForm(10, b"sqlite_autoindex_device_1", 9, &[1, 2]);
 
-const GIVEN_KEY: IndexForm<'static> = IndexForm {
-    tree: 12,
-    name: b"sqlite_autoindex_given_1",
-    table: 11,
-    columns: &[1, 2],
-};
+const GIVEN_KEY: IndexForm<'static> = IndexForm(12, b"sqlite_autoindex_given_1", 11, &[1, 2]);
 
-const GIVEN_PUBLIC_KEY: IndexForm<'static> = IndexForm {
-    tree: 13,
-    name: b"sqlite_autoindex_given_2",
-    table: 11,
-    columns: &[1, 4],
-};
+const GIVEN_PUBLIC_KEY: IndexForm<'static> = IndexForm(
+    13,
+    b"sqlite_autoindex_given_2",
+    11,
+    &[1, 4],
+);
 
-const GIVEN_ADDRESS: IndexForm<'static> = IndexForm {
-    tree: 14,
-    name: b"sqlite_autoindex_given_3",
-    table: 11,
-    columns: &[6, 1, 2],
-};
-
-const LEDGER_KEY: IndexForm<'static> = IndexForm {
-    tree: 16,
-    name: b"sqlite_autoindex_ledger_1",
-    table: 15,
-    columns: &[2, 3, 4],
-};
-
-const ORDER_START_KEY: IndexForm<'static> = IndexForm {
-    tree: 18,
-    name: b"sqlite_autoindex_order_start_1",
-    table: 17,
-    columns: &[1, 2],
-};
-
-const GIVEN_START_KEY: IndexForm<'static> = IndexForm {
-    tree: 20,
-    name: b"sqlite_autoindex_given_start_1",
-    table: 19,
-    columns: &[1, 2],
-};
+const LEDGER_KEY: IndexForm<'static> = IndexForm(16, b"sqlite_autoindex_ledger_1", 15, &[2, 3, 4]);
 
 /// The tables, in the order in which they are made.
 const TABLES: [TableForm<'static>; 11] = [
@@ -602,138 +487,64 @@ const INDEXES: [IndexForm<'static>; 11] = [
     DEVICE_KEY,
     GIVEN_KEY,
     GIVEN_PUBLIC_KEY,
-    GIVEN_ADDRESS,
+    IndexForm(14, b"sqlite_autoindex_given_3", 11, &[6, 1, 2]),
     LEDGER_KEY,
-    ORDER_START_KEY,
-    GIVEN_START_KEY,
+    IndexForm(18, b"sqlite_autoindex_order_start_1", 17, &[1, 2]),
+    IndexForm(20, b"sqlite_autoindex_given_start_1", 19, &[1, 2]),
 ];
 
-/// `given` of the first program.
-const EARLIEST_GIVEN: TableForm<'static> = TableForm {
-    uniques: &[&[1, 2], &[1, 4], &[6]],
-    ..GIVEN
-};
+// The tables of a version before the first, with the keys of its `given`.
+macro_rules! first_tables {
+    ($keys:expr) => {
+        [META, SEAT, MAP, LINK, ORDERS, DEVICE, TableForm { uniques: $keys, ..GIVEN }, LEDGER]
+    };
+}
 
-const EARLIEST_ADDRESS: IndexForm<'static> = IndexForm {
-    tree: 14,
-    name: b"sqlite_autoindex_given_3",
-    table: 11,
-    columns: &[6],
-};
+// The indexes of their keys, with those of `given`.
+macro_rules! first_indexes {
+    ($($given:expr),+) => {
+        [SEAT_KEY, MAP_KEY, LINK_KEY, ORDERS_KEY, DEVICE_KEY, $($given),+, LEDGER_KEY]
+    };
+}
 
 /// The tables of the first program.
-const EARLIEST_TABLES: [TableForm<'static>; 8] = [
-    META,
-    SEAT,
-    MAP,
-    LINK,
-    ORDERS,
-    DEVICE,
-    EARLIEST_GIVEN,
-    LEDGER,
-];
+const EARLIEST_TABLES: [TableForm<'static>; 8] = first_tables!(&[&[1, 2], &[1, 4], &[6]]);
 
 /// The indexes of their keys.
-const EARLIEST_INDEXES: [IndexForm<'static>; 9] = [
-    SEAT_KEY,
-    MAP_KEY,
-    LINK_KEY,
-    ORDERS_KEY,
-    DEVICE_KEY,
+const EARLIEST_INDEXES: [IndexForm<'static>; 9] = first_indexes!(
     GIVEN_KEY,
     GIVEN_PUBLIC_KEY,
-    EARLIEST_ADDRESS,
-    LEDGER_KEY,
-];
+    IndexForm(14, b"sqlite_autoindex_given_3", 11, &[6])
+);
 
-/// `given` of the program after it.
-const EARLY_GIVEN: TableForm<'static> = TableForm {
-    uniques: &[&[6], &[1, 2], &[1, 4]],
-    ..GIVEN
-};
-
-const EARLY_ADDRESS: IndexForm<'static> = IndexForm {
-    tree: 12,
-    name: b"sqlite_autoindex_given_1",
-    table: 11,
-    columns: &[6],
-};
-
-const EARLY_KEY: IndexForm<'static> = IndexForm {
-    tree: 13,
-    name: b"sqlite_autoindex_given_2",
-    table: 11,
-    columns: &[1, 2],
-};
-
-const EARLY_PUBLIC_KEY: IndexForm<'static> = IndexForm {
-    tree: 14,
-    name: b"sqlite_autoindex_given_3",
-    table: 11,
-    columns: &[1, 4],
-};
-
-/// The tables of that program.
-const EARLY_TABLES: [TableForm<'static>; 8] = [
-    META,
-    SEAT,
-    MAP,
-    LINK,
-    ORDERS,
-    DEVICE,
-    EARLY_GIVEN,
-    LEDGER,
-];
+/// The tables of the program after it.
+const EARLY_TABLES: [TableForm<'static>; 8] = first_tables!(&[&[6], &[1, 2], &[1, 4]]);
 
 /// The indexes of their keys.
-const EARLY_INDEXES: [IndexForm<'static>; 9] = [
-    SEAT_KEY,
-    MAP_KEY,
-    LINK_KEY,
-    ORDERS_KEY,
-    DEVICE_KEY,
-    EARLY_ADDRESS,
-    EARLY_KEY,
-    EARLY_PUBLIC_KEY,
-    LEDGER_KEY,
-];
+const EARLY_INDEXES: [IndexForm<'static>; 9] = first_indexes!(
+    IndexForm(12, b"sqlite_autoindex_given_1", 11, &[6]),
+    IndexForm(13, b"sqlite_autoindex_given_2", 11, &[1, 2]),
+    IndexForm(14, b"sqlite_autoindex_given_3", 11, &[1, 4])
+);
 
 fn has_forms(schema: &Schema, tables: &[TableForm<'_>], indexes: &[IndexForm<'_>]) -> bool
     ensures { IsTrue result ↔ (schema.now ≡ schema_of_forms tables.now indexes.now) }
 {
-    are_tables(schema.tables.as_slice(), tables)
-        && are_indexes(schema.indexes.as_slice(), indexes)
+    are_all(schema.tables.as_slice(), tables)
+        && are_all(schema.indexes.as_slice(), indexes)
         && schema.views.is_empty()
 }
 
-fn is_earliest(schema: &Schema) -> bool
-    ensures { IsTrue result ↔ (schema.now ≡ schema_of Earliest) }
+fn is_of(schema: &Schema, version: Version) -> bool
+    ensures { IsTrue result ↔ (schema.now ≡ schema_of version) }
 {
-    has_forms(schema, &EARLIEST_TABLES, &EARLIEST_INDEXES)
-}
-
-fn is_early(schema: &Schema) -> bool
-    ensures { IsTrue result ↔ (schema.now ≡ schema_of Early) }
-{
-    has_forms(schema, &EARLY_TABLES, &EARLY_INDEXES)
-}
-
-fn is_first(schema: &Schema) -> bool
-    ensures { IsTrue result ↔ (schema.now ≡ schema_of First) }
-{
-    has_forms(schema, &TABLES[..8], &INDEXES[..9])
-}
-
-fn is_second(schema: &Schema) -> bool
-    ensures { IsTrue result ↔ (schema.now ≡ schema_of Second) }
-{
-    has_forms(schema, &TABLES[..10], &INDEXES)
-}
-
-fn is_third(schema: &Schema) -> bool
-    ensures { IsTrue result ↔ (schema.now ≡ schema_of Third) }
-{
-    has_forms(schema, &TABLES, &INDEXES)
+    match version {
+        Version::Earliest => has_forms(schema, &EARLIEST_TABLES, &EARLIEST_INDEXES),
+        Version::Early => has_forms(schema, &EARLY_TABLES, &EARLY_INDEXES),
+        Version::First => has_forms(schema, &TABLES[..8], &INDEXES[..9]),
+        Version::Second => has_forms(schema, &TABLES[..10], &INDEXES),
+        Version::Third => has_forms(schema, &TABLES, &INDEXES),
+    }
 }
 
 /// Which schema of the office the database has, if one: each column and key is as it has to be.
@@ -741,15 +552,15 @@ pub fn version_of(schema: &Schema) -> Option<Version>
     ensures some { IfSome result (λ version. schema.now ≡ schema_of version) }
     ensures none { IfNone result (IsOfNoVersion schema.now) }
 {
-    if is_earliest(schema) {
+    if is_of(schema, Version::Earliest) {
         Some(Version::Earliest)
-    } else if is_early(schema) {
+    } else if is_of(schema, Version::Early) {
         Some(Version::Early)
-    } else if is_first(schema) {
+    } else if is_of(schema, Version::First) {
         Some(Version::First)
-    } else if is_second(schema) {
+    } else if is_of(schema, Version::Second) {
         Some(Version::Second)
-    } else if is_third(schema) {
+    } else if is_of(schema, Version::Third) {
         Some(Version::Third)
     } else {
         None

@@ -11,11 +11,14 @@ use sqlite::types::ValueRef;
 use sqlite::{Alter, Connection, Error, Row};
 use std::str;
 
+/// Reads the rows that may have the text of the site.
+const SELECT_SITE_TEXT: &str = "SELECT id, body FROM site_text ORDER BY id";
+
 fn text_rows<S: Alter>(conn: &mut Connection<S>) -> Result<Vec<Row>, Error>
     requires { Sees (IsFound Third) (state S.Store conn.old) }
     ensures { Tests S.Store conn.old conn.new result (λ db rows. ShowTexts db rows.items) }
 {
-    conn.query_all("SELECT id, body FROM site_text ORDER BY id", &[])
+    conn.query_all(SELECT_SITE_TEXT, &[])
 }
 
 /// Whether the row has the one id.

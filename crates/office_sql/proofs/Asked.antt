@@ -1,13 +1,13 @@
 -- What follows from a query of the office.
-use Rattle.std.proofs.Common.{◌≡◌, ℕ, List, [], false, sym, ap, subst, ◌∙◌, arith, IsTrue, inl, inr, Result, Ok, Err, IfOk, IfErr, Vec}
-use Rattle.office_sql.proofs.Kit.{Null, Key, Row, Schema, Term, Join, IsAnswer, overlay, Select, reads_listing, State, HasCleanDisk, Survives, ShowsRows}
-use Rattle.office_sql.proofs.Kit.{IsUnchanged, IsRolledBack, FailsToShow, IsPlain, command_of, reads_as, Error}
+use Rattle.std.proofs.Common.{◌≡◌, ℕ, List, sym, ap, subst, ◌∙◌, arith, IsTrue, inl, inr, Result, Ok, Err, IfOk, IfErr, Vec}
+use Rattle.office_sql.proofs.Kit.{Row, Schema, State, HasCleanDisk, Survives, ShowsRows}
+use Rattle.office_sql.proofs.Kit.{IsUnchanged, IsRolledBack, FailsToShow, IsPlain, Error}
 use Rattle.sqlite.specs.Listing.{understood}
 use Rattle.sqlite.specs.Clock.{timed}
 use Rattle.sqlite.specs.State.{Shown, IsNotRun, FailsToQuery}
 use Rattle.office_sql.proofs.Bare.{IsBare, bare_understood}
 use Rattle.std.specs.declared.alloc.Global.{Global}
-use Rattle.office_sql.specs.Prelude.{Rests, over}
+use Rattle.office_sql.specs.Prelude.{Rests}
 
 pub was_clean : (old new : State) (P : _) → Survives old new P → HasCleanDisk new → HasCleanDisk old
 was_clean old new P s clean = omega (arith, s.clean)
@@ -18,15 +18,6 @@ module _ (schema : Schema) (sql : List ℕ) (params : Row) (old new : State) (pl
   leaves has rows h =
       let none = (subst IsPlain (sym (ap (λ o. understood o sql) has) ∙ h.1.is) plain).0 in
       (subst (ShowsRows old new sql h.0 (timed params h.0.formats h.1.now) rows) none h.2).3
-
-  module _ (from : Join) (tests shown : List Term) (order : List (Term × Key)) (names : List (List ℕ))
-      (is : command_of (understood schema sql)
-      ≡ Select (record { lets = []; body = over from tests shown order }) names)
-      (unlisted : reads_listing schema sql ≡ false) where
-    pub reads_over : old.now.schema ≡ schema → (rows : List Row) → Shown sql params old new rows
-        → IsAnswer (over from tests shown order) (overlay old.now.trees []) params rows
-    reads_over has rows h =
-        (reads_as sql params old new schema has (Select (record { lets = []; body = over from tests shown order }) names) is plain unlisted rows h).answer Null
 
 -- a query that was answered found the store open
 pub shown_open : (sql : List ℕ) (params : Row) (old new : State) (rows : List Row) → IsBare sql → Shown sql params old new rows → IsTrue old.is_open

@@ -1,7 +1,7 @@
 -- What the texts that read devices mean, and show.
 use Rattle.std.proofs.Common.{◌≡◌, ◌<◌, ◌+◌, ◌++◌, get_or, ◌&&◌, ◌∷◌, Ordering}
-use Rattle.text_core.proofs.Kit.{ℕ, take, List, [], codes, refl, sym, ap, ap₂, ◌∙◌, map, filter, length, Equal, on, ordering_then, IsTotalOrder, take_more}
-use Rattle.text_core.proofs.Kit.{map-append, on_total, then_total, and-true}
+use Rattle.text_core.proofs.Kit.{ℕ, take, List, [], refl, sym, ap, ap₂, ◌∙◌, map, filter, length, Equal, on, ordering_then, IsTotalOrder, take_more, map-append}
+use Rattle.text_core.proofs.Kit.{on_total, then_total, and-true, Bool}
 use Rattle.office_sql.proofs.Kit.{Null, Row, column, Term, col, eval_all, key_cmp, output, output_cmp, Binary, Key, ascending, value_cmp_total, then-Equal}
 use Rattle.office_sql.proofs.Kit.{sort_by}
 use Rattle.sqlite.specs.declared.types.Value.TheVariants.{Text as Words}
@@ -12,23 +12,13 @@ use Rattle.office_tables.specs.Prelude.{device_cmp, is_device, is_device_behind,
 use Rattle.office_tables.proofs.Orders.{device_total}
 use Rattle.office_sql.specs.Prelude.{devices, office_schema, device_in_row, scan, is_parameter, env, passes, order_state, order_state_in, AreRows, IsDeviceRow}
 use Rattle.office_sql.specs.Prelude.{is_above_parameter}
-use Rattle.office_sql.proofs.Kept.{shows_kept, kept_is}
+use Rattle.office_sql.proofs.Kept.{shows_kept, kept_is, Shows}
 use Rattle.office_sql.proofs.Lists.{sorted_kept}
 use Rattle.office_sql.proofs.Reading.{IsRead}
 use Rattle.office_sql.proofs.Scan.{Scanned}
 use Rattle.office_sql.proofs.Values.{text_above, text_is, texts_cmp, level_total}
-
-abbrev pub one_text : List ℕ
-one_text = codes "SELECT customer, chip, ord, map, state, reason, bits, keys, todo, serial FROM device WHERE customer = ?1 AND chip = ?2 ORDER BY customer, chip"
-
-abbrev pub own_text : List ℕ
-own_text = codes "SELECT customer, chip, ord, map, state, reason, bits, keys, todo, serial FROM device WHERE customer = ?1 ORDER BY customer, chip"
-
-abbrev pub behind_text : List ℕ
-behind_text = codes "SELECT customer, chip, ord, map, state, reason, bits, keys, todo, serial FROM device WHERE customer = ?1 AND chip > ?2 ORDER BY customer, chip"
-
-abbrev pub states_text : List ℕ
-states_text = codes "SELECT ord, state, reason FROM device WHERE customer = ?1 ORDER BY customer, chip"
+use Rattle.office_sql.proofs.Types.{OfCustomer, Device}
+use Rattle.office_sql.specs.declared.devices.TheConstants.{SELECT_DEVICE, SELECT_DEVICES, SELECT_DEVICES_BEHIND, SELECT_STATES}
 
 abbrev pub shown : List Term
 shown = col 1 1 ∷ col 1 2 ∷ col 1 3 ∷ col 1 4 ∷ col 1 5 ∷ col 1 6 ∷ col 1 7 ∷ col 1 8 ∷ col 1 9 ∷ col 1 10 ∷ []
@@ -43,24 +33,21 @@ states_shown = col 1 3 ∷ col 1 5 ∷ col 1 6 ∷ []
 abbrev pub by_key : List (Term × Key)
 by_key = (col 1 1, ascending Binary) ∷ (col 1 2, ascending Binary) ∷ []
 
-abbrev names : List (List ℕ)
-names = codes "customer" ∷ codes "chip" ∷ codes "ord" ∷ codes "map" ∷ codes "state" ∷ codes "reason" ∷ codes "bits" ∷ codes "keys" ∷ codes "todo" ∷ codes "serial" ∷ []
-
-pub one_read : IsRead office_schema one_text devices (is_parameter 1 0 ∷ is_parameter 2 1 ∷ []) shown by_key
+pub one_read : IsRead office_schema SELECT_DEVICE.now devices (is_parameter 1 0 ∷ is_parameter 2 1 ∷ []) shown by_key
 unfolding understood everything
-one_read = record { names = names; is = refl; plain = (refl, refl); unlisted = refl; bare = λ schema base. refl; there = λ db. refl }
+one_read = record { names = _; is = refl; plain = (refl, refl); unlisted = refl; bare = λ schema base. refl; there = λ db. refl }
 
-pub own_read : IsRead office_schema own_text devices (is_parameter 1 0 ∷ []) shown by_key
+pub own_read : IsRead office_schema SELECT_DEVICES.now devices (is_parameter 1 0 ∷ []) shown by_key
 unfolding understood everything
-own_read = record { names = names; is = refl; plain = (refl, refl); unlisted = refl; bare = λ schema base. refl; there = λ db. refl }
+own_read = record { names = _; is = refl; plain = (refl, refl); unlisted = refl; bare = λ schema base. refl; there = λ db. refl }
 
-pub behind_read : IsRead office_schema behind_text devices behind_tests shown by_key
+pub behind_read : IsRead office_schema SELECT_DEVICES_BEHIND.now devices behind_tests shown by_key
 unfolding understood everything
-behind_read = record { names = names; is = refl; plain = (refl, refl); unlisted = refl; bare = λ schema base. refl; there = λ db. refl }
+behind_read = record { names = _; is = refl; plain = (refl, refl); unlisted = refl; bare = λ schema base. refl; there = λ db. refl }
 
-pub states_read : IsRead office_schema states_text devices (is_parameter 1 0 ∷ []) states_shown by_key
+pub states_read : IsRead office_schema SELECT_STATES.now devices (is_parameter 1 0 ∷ []) states_shown by_key
 unfolding understood everything
-states_read = record { names = codes "ord" ∷ codes "state" ∷ codes "reason" ∷ []; is = refl; plain = (refl, refl); unlisted = refl; bare = λ schema base. refl; there = λ db. refl }
+states_read = record { names = _; is = refl; plain = (refl, refl); unlisted = refl; bare = λ schema base. refl; there = λ db. refl }
 
 abbrev pub by_chip : Row → Row → Ordering
 by_chip = on (λ r. column r 1 ∷ column r 2 ∷ []) (key_cmp 0 (ascending Binary ∷ ascending Binary ∷ []))
@@ -85,34 +72,24 @@ passes_own c r e = and-true _ ∙ text_is (column r 1) c e.0
 pub passes_behind : (c n : List ℕ) (r : Row) → IsDeviceRow r → passes behind_tests (Words c ∷ Words n ∷ []) r ≡ is_device_behind c n (device_in_row r)
 passes_behind c n r e = ap₂ ◌&&◌ (text_is (column r 1) c e.0) (and-true _ ∙ text_above (column r 2) n e.1)
 
-pub one_shown : (c n : List ℕ) (all rows : List Row)
-    → AreRows IsDeviceRow device_cmp device_in_row all
-    → Scanned (is_parameter 1 0 ∷ is_parameter 2 1 ∷ []) shown by_key (Words c ∷ Words n
-    ∷ []) all rows
-    → map (λ r. device_in_row (Null ∷ r)) rows ≡ filter (is_device c n) (sort_by device_cmp (map device_in_row all))
-one_shown c n all rows are s =
-    shows_kept IsDeviceRow device_cmp device_total device_in_row by_chip by_chip_total chips_order
-    (is_device c n) (is_parameter 1 0 ∷ is_parameter 2 1 ∷ []) (Words c ∷ Words n
-    ∷ []) (passes_device c n)
-    shown by_key (λ r. device_in_row (Null ∷ r)) (λ r. refl) (λ a b. refl) all rows are s
+-- what is read of the rows that a query of whole devices shows
+abbrev ShowsDevices : List Term → Row → (OfCustomer Device → Bool) → Type 0
+ShowsDevices tests params p = Shows IsDeviceRow device_cmp device_in_row tests shown by_key params (λ r. device_in_row (Null ∷ r)) p
 
-pub own_shown : (c : List ℕ) (all rows : List Row)
-    → AreRows IsDeviceRow device_cmp device_in_row all
-    → Scanned (is_parameter 1 0 ∷ []) shown by_key (Words c ∷ []) all rows
-    → map (λ r. device_in_row (Null ∷ r)) rows ≡ filter (is_of c) (sort_by device_cmp (map device_in_row all))
-own_shown c all rows are s =
+shows_devices : (tests : List Term) (params : Row) (p : OfCustomer Device → Bool)
+    → ((r : Row) → IsDeviceRow r → passes tests params r ≡ p (device_in_row r)) → ShowsDevices tests params p
+shows_devices tests params p is =
     shows_kept IsDeviceRow device_cmp device_total device_in_row by_chip by_chip_total chips_order
-    (is_of c) (is_parameter 1 0 ∷ []) (Words c ∷ []) (passes_own c)
-    shown by_key (λ r. device_in_row (Null ∷ r)) (λ r. refl) (λ a b. refl) all rows are s
+    p tests params is shown by_key (λ r. device_in_row (Null ∷ r)) (λ r. refl) (λ a b. refl)
 
-pub behind_shown : (c n : List ℕ) (all rows : List Row)
-    → AreRows IsDeviceRow device_cmp device_in_row all
-    → Scanned behind_tests shown by_key (Words c ∷ Words n ∷ []) all rows
-    → map (λ r. device_in_row (Null ∷ r)) rows ≡ filter (is_device_behind c n) (sort_by device_cmp (map device_in_row all))
-behind_shown c n all rows are s =
-    shows_kept IsDeviceRow device_cmp device_total device_in_row by_chip by_chip_total chips_order
-    (is_device_behind c n) behind_tests (Words c ∷ Words n ∷ []) (passes_behind c n)
-    shown by_key (λ r. device_in_row (Null ∷ r)) (λ r. refl) (λ a b. refl) all rows are s
+pub one_shown : (c n : List ℕ) → ShowsDevices (is_parameter 1 0 ∷ is_parameter 2 1 ∷ []) (Words c ∷ Words n ∷ []) (is_device c n)
+one_shown c n = shows_devices (is_parameter 1 0 ∷ is_parameter 2 1 ∷ []) _ (is_device c n) (passes_device c n)
+
+pub own_shown : (c : List ℕ) → ShowsDevices (is_parameter 1 0 ∷ []) (Words c ∷ []) (is_of c)
+own_shown c = shows_devices (is_parameter 1 0 ∷ []) _ (is_of c) (passes_own c)
+
+pub behind_shown : (c n : List ℕ) → ShowsDevices behind_tests (Words c ∷ Words n ∷ []) (is_device_behind c n)
+behind_shown c n = shows_devices behind_tests _ (is_device_behind c n) (passes_behind c n)
 
 pub states_shown_are : (c : List ℕ) (all rows : List Row)
     → AreRows IsDeviceRow device_cmp device_in_row all

@@ -1,7 +1,7 @@
 -- What the texts that write devices mean, and make of the tables.
 use Rattle.std.proofs.Common.{◌≡◌, ◌&&◌, ◌∷◌}
-use Rattle.text_core.proofs.Kit.{inl, inr, ℕ, ℤ, true, List, [], codes, map, find, Some, None, Ok, refl, sym, ap, ap₂, subst, ◌∙◌, arith, Equal, is_eq}
-use Rattle.text_core.proofs.Kit.{option_map, unwrap_or, AllByRecursion, nat_cmp, slice_cmp, tied_itself, is_eq-slice_cmp, and_parts, same_text, tied_then}
+use Rattle.text_core.proofs.Kit.{inl, inr, ℕ, ℤ, true, List, [], map, find, Some, None, Ok, refl, sym, ap, ap₂, subst, ◌∙◌, arith, Equal, is_eq, option_map}
+use Rattle.text_core.proofs.Kit.{unwrap_or, AllByRecursion, nat_cmp, slice_cmp, tied_itself, is_eq-slice_cmp, and_parts, same_text, tied_then}
 use Rattle.office_sql.proofs.Kit.{Value, Null, Int, Row, column, bytes, Term, lit, col, eval_all, Database, cast, State, Executes, cast_row, next_rowid}
 use Rattle.office_sql.proofs.Kit.{sort_by}
 use Rattle.sqlite.specs.declared.types.Value.TheVariants.{Text as Words, Blob as Bytes}
@@ -11,7 +11,6 @@ use Rattle.sqlite_tied.specs.Compute.{everything}
 use Rattle.sqlite_trees.proofs.ListLemmas.{all_weaker}
 use Rattle.office_tables.specs.Prelude.{state_row, reason_text, state_of_texts, device_cmp, is_device, with_row, IsFree}
 use Rattle.office_sql.proofs.Types.{OfCustomer, Device, DeviceState, Quarantined, Scrapped, AddDevice, PutDevice}
-use Rattle.office_tables.specs.declared.rows.Reason.TheVariants as reason
 use Rattle.office_tables.proofs.Orders.{device_total}
 use Rattle.office_sql.specs.Prelude.{devices, SqlAdds, Wrote, device_in_row, device_columns, device_table, office_schema, rows_in, is_parameter, IsOffice}
 use Rattle.office_sql.specs.Prelude.{IsDeviceRow, tables_in, AreRows, state_in, text_if, text_value}
@@ -24,19 +23,15 @@ use Rattle.office_sql.proofs.Replacing.{IsUpdate, IsSet, remade, sets}
 use Rattle.office_sql.proofs.Stepping.{cast_null, cast_int}
 use Rattle.office_sql.proofs.TableRows.{row_added}
 use Rattle.office_sql.proofs.Missing.{text_back, text_cast}
-
-abbrev pub add_text : List ℕ
-add_text = codes "INSERT INTO device (customer, chip, ord, map, state, reason, bits, keys, todo, serial) VALUES (?1, ?2, ?3, ?4, ?5, ?6, ?7, ?8, ?9, ?10)"
+use Rattle.office_sql.specs.declared.devices.TheConstants.{INSERT_INTO_DEVICE, UPDATE_OF_DEVICE}
+use Rattle.office_tables.specs.declared.rows.Reason.TheVariants as reason
 
 abbrev pub add_terms : List Term
 add_terms = lit Null ∷ col 0 0 ∷ col 0 1 ∷ col 0 2 ∷ col 0 3 ∷ col 0 4 ∷ col 0 5 ∷ col 0 6 ∷ col 0 7 ∷ col 0 8 ∷ col 0 9 ∷ []
 
-pub add_insert : IsInsert office_schema add_text devices add_terms 11
+pub add_insert : IsInsert office_schema INSERT_INTO_DEVICE.now devices add_terms 11
 unfolding understood everything
 add_insert = record { means = record { is = refl; plain = (refl, refl); there = refl; uncounted = refl; unstamped = refl }; one = λ params. refl }
-
-abbrev pub put_text : List ℕ
-put_text = codes "UPDATE device SET ord = ?3, map = ?4, state = ?5, reason = ?6, bits = ?7, keys = ?8, todo = ?9, serial = ?10 WHERE customer = ?1 AND chip = ?2"
 
 abbrev pub put_shown : List Term
 put_shown = col 1 0 ∷ col 1 0 ∷ col 1 1 ∷ col 1 2 ∷ col 0 2 ∷ col 0 3 ∷ col 0 4 ∷ col 0 5 ∷ col 0 6 ∷ col 0 7 ∷ col 0 8 ∷ col 0 9 ∷ []
@@ -44,7 +39,7 @@ put_shown = col 1 0 ∷ col 1 0 ∷ col 1 1 ∷ col 1 2 ∷ col 0 2 ∷ col 0 3 
 abbrev pub put_tests : List Term
 put_tests = is_parameter 1 0 ∷ is_parameter 2 1 ∷ []
 
-pub put_update : IsUpdate put_text devices put_tests put_shown
+pub put_update : IsUpdate UPDATE_OF_DEVICE.now devices put_tests put_shown
 unfolding understood everything
 put_update = record { is = refl; plain = (refl, refl); there = refl; same = λ db. refl }
 
@@ -163,11 +158,11 @@ put_same d r typed passed =
     rw (customer, chip) refl
 
 pub device_put : (d : OfCustomer Device) (old new : State) (count : ℕ) → IsOffice old.now
-    → Executes put_text (device_columns d) old new (Ok count) → count ≡ 1
+    → Executes UPDATE_OF_DEVICE.now (device_columns d) old new (Ok count) → count ≡ 1
     → Wrote (PutDevice d) old.now new.now
 device_put d old new count office ran one =
     elim (sets IsDeviceRow device_cmp device_total device_in_row (is_device d.customer d.row.chip)
-    (device_ties d.customer d.row.chip) put_text devices put_tests put_shown put_update
+    (device_ties d.customer d.row.chip) UPDATE_OF_DEVICE.now devices put_tests put_shown put_update
     (device_columns d) (put_columns d) (put_set d) old new count office.schema
     (office.rows devices) ran) [
       | inl it ↦ absurd (omega (arith, it.counted))

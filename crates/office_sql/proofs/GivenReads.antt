@@ -1,7 +1,7 @@
 -- What the texts that read given serial numbers mean, and show.
 use Rattle.std.proofs.Common.{◌≡◌, ◌∷◌, ◌++◌, ◌&&◌, Ordering}
-use Rattle.text_core.proofs.Kit.{ℕ, List, [], codes, refl, sym, ap, ap₂, ◌∙◌, map, filter, Bool, Equal, is_eq, on, ordering_then, list_all, IsTotalOrder}
-use Rattle.text_core.proofs.Kit.{tied_then, on_total, then_total, is_eq-slice_cmp, and-true}
+use Rattle.text_core.proofs.Kit.{ℕ, List, [], refl, sym, ap, ap₂, ◌∙◌, map, filter, Bool, Equal, is_eq, on, ordering_then, list_all, IsTotalOrder, tied_then}
+use Rattle.text_core.proofs.Kit.{on_total, then_total, is_eq-slice_cmp, and-true}
 use Rattle.sqlite.specs.declared.types.Value.TheVariants.{Text as Words, Blob as Bytes}
 use Rattle.office_sql.proofs.Kit.{Row, column, Term, col, holds, Trees, is_true, Eq, Compare, key_cmp, IsAnswer, inner, end, Join, Binary, Key, ascending}
 use Rattle.office_sql.proofs.Kit.{value_cmp_total, then-Equal, sort_by}
@@ -14,26 +14,15 @@ use Rattle.office_tables.proofs.Orders.{given_total}
 use Rattle.office_sql.specs.Prelude.{given, given_starts, office_schema, rows_in, tree_of, given_in_row, starts_given, with_given_start, joined_given}
 use Rattle.office_sql.specs.Prelude.{is_parameter, passes, over, is_same, passes_join, pair, first_that, AreRows, AreStarted, IsGivenRow, IsStartRow, text_if}
 use Rattle.office_sql.proofs.Kept.{shows_joined, start_is}
-use Rattle.office_sql.proofs.Reading.{IsJoined}
 use Rattle.office_sql.proofs.Values.{text_is, blob_is, texts_cmp, level_total}
-
-abbrev pub at_text : List ℕ
-at_text = codes "SELECT given.issuer, given.serial, customer, key, chip, mac, not_after, not_before FROM given JOIN given_start ON given_start.issuer = given.issuer AND given_start.serial = given.serial WHERE given.issuer = ?1 AND given.serial = ?2 ORDER BY given.issuer, given.serial"
-
-abbrev pub key_text : List ℕ
-key_text = codes "SELECT given.issuer, given.serial, customer, key, chip, mac, not_after, not_before FROM given JOIN given_start ON given_start.issuer = given.issuer AND given_start.serial = given.serial WHERE given.issuer = ?1 AND key = ?2 ORDER BY given.issuer, given.serial"
-
-abbrev pub all_text : List ℕ
-all_text = codes "SELECT given.issuer, given.serial, customer, key, chip, mac, not_after, not_before FROM given JOIN given_start ON given_start.issuer = given.issuer AND given_start.serial = given.serial WHERE given.issuer = ?1 ORDER BY given.issuer, given.serial"
+use Rattle.office_sql.specs.declared.given.TheConstants.{SELECT_GIVEN, SELECT_GIVEN_BY_KEY, SELECT_GIVEN_OF_ISSUER}
+use Rattle.office_sql.proofs.LedgerAsked.{IsReadAs}
 
 abbrev pub shown : List Term
 shown = col 1 1 ∷ col 1 2 ∷ col 1 3 ∷ col 1 4 ∷ col 1 5 ∷ col 1 6 ∷ col 1 7 ∷ col 2 3 ∷ []
 
 abbrev pub by_key : List (Term × Key)
 by_key = (col 1 1, ascending Binary) ∷ (col 1 2, ascending Binary) ∷ []
-
-abbrev pub names : List (List ℕ)
-names = codes "issuer" ∷ codes "serial" ∷ codes "customer" ∷ codes "key" ∷ codes "chip" ∷ codes "mac" ∷ codes "not_after" ∷ codes "not_before" ∷ []
 
 abbrev pub at_tests : List Term
 at_tests = is_parameter 1 0 ∷ is_parameter 2 1 ∷ []
@@ -52,17 +41,17 @@ with_starts = inner (tree_of given) (inner (tree_of given_starts) end)
 abbrev pub on_start : List Term
 on_start = is_same 1 1 ∷ is_same 2 2 ∷ []
 
-pub at_read : IsJoined office_schema at_text with_starts (on_start ++ at_tests) shown by_key
+pub at_read : IsReadAs office_schema SELECT_GIVEN.now (over with_starts (on_start ++ at_tests) shown by_key)
 unfolding understood everything
-at_read = record { names = names; is = refl; plain = (refl, refl); unlisted = refl; bare = λ schema base. refl }
+at_read = record { names = _; is = refl; plain = (refl, refl); unlisted = refl; bare = λ schema base. refl }
 
-pub key_read : IsJoined office_schema key_text with_starts (on_start ++ key_tests) shown by_key
+pub key_read : IsReadAs office_schema SELECT_GIVEN_BY_KEY.now (over with_starts (on_start ++ key_tests) shown by_key)
 unfolding understood everything
-key_read = record { names = names; is = refl; plain = (refl, refl); unlisted = refl; bare = λ schema base. refl }
+key_read = record { names = _; is = refl; plain = (refl, refl); unlisted = refl; bare = λ schema base. refl }
 
-pub all_read : IsJoined office_schema all_text with_starts (on_start ++ all_tests) shown by_key
+pub all_read : IsReadAs office_schema SELECT_GIVEN_OF_ISSUER.now (over with_starts (on_start ++ all_tests) shown by_key)
 unfolding understood everything
-all_read = record { names = names; is = refl; plain = (refl, refl); unlisted = refl; bare = λ schema base. refl }
+all_read = record { names = _; is = refl; plain = (refl, refl); unlisted = refl; bare = λ schema base. refl }
 
 abbrev pub by_serial : Row → Row → Ordering
 by_serial = on (λ r. column r 1 ∷ column r 2 ∷ []) (key_cmp 0 (ascending Binary ∷ ascending Binary ∷ []))
@@ -104,16 +93,21 @@ with_row s g = record g { row = record g.row { not_before = text_if (column s 3)
 starts : (l : List Row) (all : List (OfCustomer Given)) → map (λ g. with_row (first_that (starts_given g) l) g) all ≡ map (with_given_start l) all
 starts l all = ap (λ (f : OfCustomer Given → OfCustomer Given). map f all) (λ i g. record g { row = record g.row { not_before = start_is starts_given l g i } })
 
+-- what is read of the rows that a query of whole records shows
+abbrev pub ShowsGiven : List Term → Row → (OfCustomer Given → Bool) → Type 0
+ShowsGiven tests params p =
+    (db : Trees) (rows : List Row) → AreRows IsGivenRow given_cmp given_in_row (rows_in db given)
+    → AreStarted starts_given given_in_row (rows_in db given) (rows_in db given_starts)
+    → IsAnswer (over with_starts (on_start ++ tests) shown by_key) db params rows
+    → map joined_given rows ≡ filter p (map (with_given_start (rows_in db given_starts)) (sort_by given_cmp (map given_in_row (rows_in db given))))
+
 -- a query that sorts by the key shows the records that pass its tests, which read the first table alone
 pub kept_shown : (p : OfCustomer Given → Bool)
     → ((s : Row) (g : OfCustomer Given) → p (with_row s g) ≡ p g)
     → (tests : List Term) (params : Row)
     → ((r : Row) → IsGivenRow r → passes tests params r ≡ p (given_in_row r))
     → ((r s : Row) → list_all (holds (pair params r s)) tests ≡ passes tests params r)
-    → (db : Trees) (rows : List Row) → AreRows IsGivenRow given_cmp given_in_row (rows_in db given)
-    → AreStarted starts_given given_in_row (rows_in db given) (rows_in db given_starts)
-    → IsAnswer (over with_starts (on_start ++ tests) shown by_key) db params rows
-    → map joined_given rows ≡ filter p (map (with_given_start (rows_in db given_starts)) (sort_by given_cmp (map given_in_row (rows_in db given))))
+    → ShowsGiven tests params p
 kept_shown p same tests params is blind db rows are started a =
     shows_joined IsGivenRow given_cmp given_total given_in_row by_serial by_serial_total ordered p
     tests params is IsStartRow starts_given on_start (fits params) shown by_key joined_given
@@ -121,27 +115,12 @@ kept_shown p same tests params is blind db rows are started a =
     blind (λ r s. refl) (λ a b s t. refl) db (tree_of given) (tree_of given_starts) rows are started.typed started.one a
     ∙ ap (filter p) (starts (rows_in db given_starts) _)
 
-pub at_shown : (issuer serial : List ℕ) (db : Trees) (rows : List Row)
-    → AreRows IsGivenRow given_cmp given_in_row (rows_in db given)
-    → AreStarted starts_given given_in_row (rows_in db given) (rows_in db given_starts)
-    → IsAnswer (over with_starts (on_start ++ at_tests) shown by_key) db (Words issuer ∷ Words serial ∷ []) rows
-    → map joined_given rows ≡ filter (is_serial_of issuer serial)
-    (map (with_given_start (rows_in db given_starts)) (sort_by given_cmp (map given_in_row (rows_in db given))))
+pub at_shown : (issuer serial : List ℕ) → ShowsGiven at_tests (Words issuer ∷ Words serial ∷ []) (is_serial_of issuer serial)
 at_shown issuer serial = kept_shown (is_serial_of issuer serial) (λ s g.
     refl) at_tests (Words issuer ∷ Words serial ∷ []) (passes_at issuer serial) (λ r s. refl)
 
-pub key_shown : (issuer key : List ℕ) (db : Trees) (rows : List Row)
-    → AreRows IsGivenRow given_cmp given_in_row (rows_in db given)
-    → AreStarted starts_given given_in_row (rows_in db given) (rows_in db given_starts)
-    → IsAnswer (over with_starts (on_start ++ key_tests) shown by_key) db (Words issuer ∷ Bytes key ∷ []) rows
-    → map joined_given rows ≡ filter (is_bound issuer key)
-    (map (with_given_start (rows_in db given_starts)) (sort_by given_cmp (map given_in_row (rows_in db given))))
+pub key_shown : (issuer key : List ℕ) → ShowsGiven key_tests (Words issuer ∷ Bytes key ∷ []) (is_bound issuer key)
 key_shown issuer key = kept_shown (is_bound issuer key) (λ s g. refl) key_tests (Words issuer ∷ Bytes key ∷ []) (passes_key issuer key) (λ r s. refl)
 
-pub all_shown : (issuer : List ℕ) (db : Trees) (rows : List Row)
-    → AreRows IsGivenRow given_cmp given_in_row (rows_in db given)
-    → AreStarted starts_given given_in_row (rows_in db given) (rows_in db given_starts)
-    → IsAnswer (over with_starts (on_start ++ all_tests) shown by_key) db (Words issuer ∷ []) rows
-    → map joined_given rows ≡ filter (is_of_issuer issuer)
-    (map (with_given_start (rows_in db given_starts)) (sort_by given_cmp (map given_in_row (rows_in db given))))
+pub all_shown : (issuer : List ℕ) → ShowsGiven all_tests (Words issuer ∷ []) (is_of_issuer issuer)
 all_shown issuer = kept_shown (is_of_issuer issuer) (λ s g. refl) all_tests (Words issuer ∷ []) (passes_all issuer) (λ r s. refl)

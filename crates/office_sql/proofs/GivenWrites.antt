@@ -1,10 +1,10 @@
 -- What the texts that add a given serial number mean, and do.
 use Rattle.std.proofs.Common.{◌≡◌, ◌&&◌, ◌∷◌, ◌++◌}
-use Rattle.text_core.proofs.Kit.{ℕ, ℤ, true, false, List, [], map, filter, codes, length, arith, Option, Some, None, refl, sym, ap, ap₂, subst, subst₂, ◌∙◌}
-use Rattle.text_core.proofs.Kit.{Equal, true≢false, option_map, option_and_then, ordering_then, bytes_eq, eqb-true, eq-eqb, bytes_eq-Decides, and_parts}
-use Rattle.text_core.proofs.Kit.{text_itself, one_truth, and-true}
-use Rattle.office_sql.proofs.Kit.{Value, Null, Int, Row, column, bytes, is_true, cast_row, Trees, put_row, IsAnswer, Binary, Term, lit, col, Database, Eq}
-use Rattle.office_sql.proofs.Kit.{Compare, sort_by, all_unmap, IsPermutation-sort_by, next_rowid, all-permutation}
+use Rattle.text_core.proofs.Kit.{ℕ, ℤ, true, false, List, [], map, filter, length, arith, Option, Some, None, refl, sym, ap, ap₂, subst, subst₂, ◌∙◌, Equal}
+use Rattle.text_core.proofs.Kit.{true≢false, option_map, option_and_then, ordering_then, bytes_eq, eqb-true, eq-eqb, bytes_eq-Decides, and_parts, text_itself}
+use Rattle.text_core.proofs.Kit.{one_truth, and-true}
+use Rattle.office_sql.proofs.Kit.{Value, Null, Int, Row, column, bytes, is_true, cast_row, Trees, put_row, Binary, Term, lit, col, Database, Eq, Compare}
+use Rattle.office_sql.proofs.Kit.{sort_by, all_unmap, IsPermutation-sort_by, next_rowid, all-permutation}
 use Rattle.sqlite.specs.declared.types.Value.TheVariants.{Text as Words}
 use Rattle.sqlite.specs.Ops.{binary}
 use Rattle.sqlite.specs.Listing.{understood}
@@ -20,28 +20,26 @@ use Rattle.office_sql.specs.Prelude.{given, given_starts, SqlAdds, SameBut, Wrot
 use Rattle.office_sql.specs.Prelude.{with_given_start, joined_given, is_parameter, passes, given_table, given_start_table, office_schema, rows_in, AreRows}
 use Rattle.office_sql.specs.Prelude.{AreStarted, IsGivenRow, IsOffice, tables_in, told_in, text_if, text_value, mac_if}
 use Rattle.office_sql.proofs.Finding.{texts_alike}
-use Rattle.office_sql.proofs.GivenReads.{shown, with_starts, by_key, names, on_start, given_tied, kept_shown}
+use Rattle.office_sql.proofs.GivenReads.{shown, with_starts, by_key, on_start, given_tied, kept_shown, ShowsGiven}
 use Rattle.office_sql.proofs.Inserting.{IsInsert}
 use Rattle.office_sql.proofs.Kept.{found}
 use Rattle.office_sql.proofs.Keyed.{Apart}
 use Rattle.office_sql.proofs.Missing.{text_cast, text_back}
 use Rattle.office_sql.proofs.Offices.{both_changed, both_started, told_stays}
-use Rattle.office_sql.proofs.Reading.{IsJoined}
 use Rattle.office_sql.proofs.Stepping.{cast_null}
 use Rattle.office_sql.proofs.StartedRows.{started_more}
 use Rattle.office_sql.proofs.Values.{text_is}
+use Rattle.office_sql.specs.declared.given.TheConstants.{SELECT_GIVEN_WITH_ADDRESS, INSERT_INTO_GIVEN, INSERT_INTO_GIVEN_START}
+use Rattle.office_sql.proofs.LedgerAsked.{IsReadAs}
 
 -- ---- the rows with an address
-
-abbrev pub address_text : List ℕ
-address_text = codes "SELECT given.issuer, given.serial, customer, key, chip, mac, not_after, not_before FROM given JOIN given_start ON given_start.issuer = given.issuer AND given_start.serial = given.serial WHERE mac = ?1 ORDER BY given.issuer, given.serial"
 
 abbrev pub address_tests : List Term
 address_tests = is_parameter 6 0 ∷ []
 
-pub address_read : IsJoined office_schema address_text with_starts (on_start ++ address_tests) shown by_key
+pub address_read : IsReadAs office_schema SELECT_GIVEN_WITH_ADDRESS.now (over with_starts (on_start ++ address_tests) shown by_key)
 unfolding understood everything
-address_read = record { names = names; is = refl; plain = (refl, refl); unlisted = refl; bare = λ schema base. refl }
+address_read = record { names = _; is = refl; plain = (refl, refl); unlisted = refl; bare = λ schema base. refl }
 
 -- a text is that of an address where it reads as the address
 same_address : (mac : ℕ) (text t : List ℕ) → mac_of_text text ≡ Some mac → bytes_eq text t ≡ is_address mac (mac_of_text t)
@@ -79,12 +77,7 @@ passes_address : (mac : ℕ) (text : List ℕ) → mac_of_text text ≡ Some mac
     → passes address_tests (Words text ∷ []) r ≡ has_address mac (given_in_row r)
 passes_address mac text is r e = and-true _ ∙ mac_is mac text (column r 6) is e.3
 
-pub address_shown : (mac : ℕ) (text : List ℕ) → mac_of_text text ≡ Some mac
-    → (db : Trees) (rows : List Row) → AreRows IsGivenRow given_cmp given_in_row (rows_in db given)
-    → AreStarted starts_given given_in_row (rows_in db given) (rows_in db given_starts)
-    → IsAnswer (over with_starts (on_start ++ address_tests) shown by_key) db (Words text ∷ []) rows
-    → map joined_given rows ≡ filter (has_address mac)
-    (map (with_given_start (rows_in db given_starts)) (sort_by given_cmp (map given_in_row (rows_in db given))))
+pub address_shown : (mac : ℕ) (text : List ℕ) → mac_of_text text ≡ Some mac → ShowsGiven address_tests (Words text ∷ []) (has_address mac)
 address_shown mac text is = kept_shown (has_address mac) (λ s g. refl) address_tests (Words text ∷ []) (passes_address mac text is) (λ r s. refl)
 
 -- where no row is shown, no record has the address
@@ -98,13 +91,10 @@ none_shown (Some mac) (r ∷ rows) l empty is = absurd (omega arith)
 
 -- ---- the insert
 
-abbrev pub add_text : List ℕ
-add_text = codes "INSERT INTO given (issuer, serial, customer, key, chip, mac, not_after) VALUES (?1, ?2, ?3, ?4, ?5, ?6, ?7)"
-
 abbrev pub add_terms : List Term
 add_terms = lit Null ∷ col 0 0 ∷ col 0 1 ∷ col 0 2 ∷ col 0 3 ∷ col 0 4 ∷ col 0 5 ∷ col 0 6 ∷ []
 
-pub add_insert : IsInsert office_schema add_text given add_terms 8
+pub add_insert : IsInsert office_schema INSERT_INTO_GIVEN.now given add_terms 8
 unfolding understood everything
 add_insert = record { means = record { is = refl; plain = (refl, refl); there = refl; uncounted = refl; unstamped = refl }; one = λ params. refl }
 
@@ -113,13 +103,10 @@ add_casts g = rw (cast_null, text_cast g.row.chip, text_cast (option_map mac_tex
 
 -- ---- its beginning of validity
 
-abbrev pub start_text : List ℕ
-start_text = codes "INSERT INTO given_start (issuer, serial, not_before) VALUES (?1, ?2, ?3)"
-
 abbrev pub start_terms : List Term
 start_terms = lit Null ∷ col 0 0 ∷ col 0 1 ∷ col 0 2 ∷ []
 
-pub start_insert : IsInsert office_schema start_text given_starts start_terms 4
+pub start_insert : IsInsert office_schema INSERT_INTO_GIVEN_START.now given_starts start_terms 4
 unfolding understood everything
 start_insert = record { means = record { is = refl; plain = (refl, refl); there = refl; uncounted = refl; unstamped = refl }; one = λ params. refl }
 

@@ -196,22 +196,22 @@ module _ {S : Type 0} (g : Ghosts S) (text : List ℕ) (params values : Row) (bo
   changes has answer = changed (λ count up ran. answer count up (has up) ran)
 
 -- a call of `execute` with the text of an INSERT, where the schema is the office's, adds a row
-pub inserted : {S : Type 0} (g : Ghosts S) (text : List ℕ) (table : OfficeTable)
-    (terms : List Term) (width : ℕ) (insert : IsInsert office_schema text table terms width)
+pub inserted : {S : Type 0} (g : Ghosts S) {text : List ℕ} {table : OfficeTable}
+    {terms : List Term} {width : ℕ} (insert : IsInsert office_schema text table terms width)
     (params values columns : Row) → params ≡ values → cast_row (table_of table) (eval_all terms (values ∷ [])) ≡ Null ∷ columns
     → (old new : Held S) (r : Result ℕ Error) → HasOfficeSchema (state g old)
     → (old.in_transaction ≡ false → (r ≡ Err (SqliteFailure TransactionState)) × (new ≡ old))
     → (HasCleanDisk (state g new) → IsTrue old.in_transaction
     → ExecutesInside 0 text params (state g old) (state g new) r)
     → Survives (state g old) (state g new) (λ _. ⊥) → SqlWrites g old new r (λ x y _. SqlAdds table columns x y)
-inserted g text table terms width insert params values columns bound casts old new r has =
+inserted g {text} {table} {terms} {width} insert params values columns bound casts old new r has =
     changed g text params values bound old new r _ (λ count up ran.
     adds text table terms width insert values columns casts (state g old) (state g new) count
     (has up) ran)
 
 -- a call of `execute` with the text of an INSERT, on the office's tables in a transaction, changes what the row that it adds means
-pub inserts : {S : Type 0} (g : Ghosts S) (text : List ℕ) (table : OfficeTable)
-    (terms : List Term) (width : ℕ) (insert : IsInsert office_schema text table terms width)
+pub inserts : {S : Type 0} (g : Ghosts S) {text : List ℕ} {table : OfficeTable}
+    {terms : List Term} {width : ℕ} (insert : IsInsert office_schema text table terms width)
     (params values columns : Row) → params ≡ values → cast_row (table_of table) (eval_all terms (values ∷ [])) ≡ Null ∷ columns
     → (old new : Held S) (r : Result ℕ Error) (Says : Database → Database → ℕ → Type 0) → HasOffice (state g old)
     → ((count : ℕ) → IsTrue (state g old).is_open → IsOffice (state g old).now
@@ -221,7 +221,7 @@ pub inserts : {S : Type 0} (g : Ghosts S) (text : List ℕ) (table : OfficeTable
     → (HasCleanDisk (state g new) → IsTrue old.in_transaction
     → ExecutesInside 0 text params (state g old) (state g new) r)
     → Survives (state g old) (state g new) (λ _. ⊥) → SqlWrites g old new r Says
-inserts g text table terms width insert params values columns bound casts old new r Says has answer =
+inserts g {text} {table} {terms} {width} insert params values columns bound casts old new r Says has answer =
     changes g text params values bound old new r Says has (λ count up office ran.
     answer count up office
     (adds text table terms width insert values columns casts (state g old) (state g new)

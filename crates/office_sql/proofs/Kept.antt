@@ -32,6 +32,13 @@ pub map_each : {X Y : Type 0} (f g : X → Y) (xs : List X) → AllByRecursion (
 map_each f g [] all = refl
 map_each f g (x ∷ xs) all = ap₂ ◌∷◌ all.0 (map_each f g xs all.1)
 
+-- what is read of the rows that a scan shows is what the test keeps of the table, in the order of its key
+abbrev pub Shows : {A : Type 0} → (Row → Type 0) → (A → A → Ordering) → (Row → A) → List Term → List Term → List (Term × Key)
+    → Row → (Row → A) → (A → Bool) → Type 0
+Shows Typed cmp value tests shown order params read p =
+    (all rows : List Row) → AreRows Typed cmp value all → Scanned tests shown order params all rows
+    → map read rows ≡ filter p (sort_by cmp (map value all))
+
 module _ {A : Type 0} (Typed : Row → Type 0) (cmp : A → A
     → Ordering) (total : IsTotalOrder cmp) (value : Row → A) (by : Row → Row
     → Ordering) (by_total : IsTotalOrder by)
@@ -77,7 +84,7 @@ module _ {A : Type 0} (Typed : Row → Type 0) (cmp : A → A
       → ((a b : Row)
       → output_cmp (over end [] shown order) (output (over end [] shown order) (env params a))
       (output (over end [] shown order) (env params b)) ≡ by a b)
-      → (all rows : List Row) → AreRows Typed cmp value all → Scanned tests shown order params all rows → map read rows ≡ filter p (sort_by cmp (map value all))
+      → Shows Typed cmp value tests shown order params read p
   shows_kept shown order read reads orders all rows are s =
       shows_listed shown order (env params) read (λ a. a) (λ a. refl) (λ r t.
       reads r) orders all rows are s ∙ ap (filter p) (map-id (sort_by cmp (map value all)))

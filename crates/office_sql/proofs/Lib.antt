@@ -23,7 +23,6 @@ pub mod StartedRows
 pub mod Filled
 pub mod Filling
 pub mod Lacking
-pub mod Told
 mod Finding
 mod EntryReads
 pub mod LedgerAsked

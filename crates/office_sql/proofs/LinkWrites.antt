@@ -1,6 +1,6 @@
 -- What the text that adds a link means, and what it does to the tables.
 use Rattle.std.proofs.Common.{◌≡◌, ◌&&◌, ◌∷◌}
-use Rattle.text_core.proofs.Kit.{ℕ, pos, List, [], codes, map, refl, sym, ap, ap₂, ◌∙◌, subst, is_eq, None, false, nat_cmp, find, AllByRecursion, slice_cmp}
+use Rattle.text_core.proofs.Kit.{pos, List, [], map, refl, sym, ap, ap₂, ◌∙◌, subst, is_eq, None, false, nat_cmp, find, AllByRecursion, slice_cmp}
 use Rattle.text_core.proofs.Kit.{is_eq-slice_cmp}
 use Rattle.office_sql.proofs.Kit.{Null, Row, Term, lit, col, eval_all, Database, cast_row, all-permutation, sort_by, IsPermutation-sort_by}
 use Rattle.sqlite.specs.Listing.{understood}
@@ -18,14 +18,12 @@ use Rattle.office_sql.proofs.Keyed.{Apart}
 use Rattle.office_sql.proofs.Offices.{both_started, table_changed, told_stays}
 use Rattle.office_sql.proofs.Stepping.{cast_null, cast_int}
 use Rattle.office_sql.proofs.TableRows.{row_added}
-
-abbrev pub add_text : List ℕ
-add_text = codes "INSERT INTO link (customer, digest, map) VALUES (?1, ?2, ?3)"
+use Rattle.office_sql.specs.declared.links.TheConstants.{INSERT_INTO_LINK}
 
 abbrev pub add_terms : List Term
 add_terms = lit Null ∷ col 0 0 ∷ col 0 1 ∷ col 0 2 ∷ []
 
-pub add_insert : IsInsert office_schema add_text links add_terms 4
+pub add_insert : IsInsert office_schema INSERT_INTO_LINK.now links add_terms 4
 unfolding understood everything
 add_insert = record { means = record { is = refl; plain = (refl, refl); there = refl; uncounted = refl; unstamped = refl }; one = λ params. refl }
 

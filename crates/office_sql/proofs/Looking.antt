@@ -1,23 +1,23 @@
 -- From what `query_all` promises in a transaction to what the functions of this crate do.
 use Rattle.std.proofs.Common.{◌≡◌, ◌⊎◌}
 use Rattle.text_core.proofs.Kit.{ℕ, List, [], inl, inr, subst, Result, Ok, Err, IfOk, IfErr, Vec, Global, IfOk-weaker}
-use Rattle.office_sql.proofs.Kit.{Key, Row, Term, overlay, Join, IsAnswer, Error, Held, state, HasCleanDisk, Survives, IsUnchanged, IsTooLate, KeepsCommit}
+use Rattle.office_sql.proofs.Kit.{Row, overlay, IsAnswer, Error, Held, state, HasCleanDisk, Survives, IsUnchanged, IsTooLate, KeepsCommit}
 use Rattle.sqlite.specs.Store.{Ghosts}
 use Rattle.sqlite.specs.State.{Shown, FailsToQuery}
 use Rattle.office_tables.specs.Prelude.{Tables}
-use Rattle.office_sql.specs.Prelude.{office_schema, HasOffice, over, Looks, SqlUnchanged, IsOffice, tables_in}
-use Rattle.office_sql.proofs.Asked.{leaves, reads_over, shown_open, shown_rests, failed_rests}
-use Rattle.office_sql.proofs.Reading.{IsJoined}
+use Rattle.office_sql.specs.Prelude.{office_schema, HasOffice, Looks, SqlUnchanged, IsOffice, tables_in}
+use Rattle.office_sql.proofs.Asked.{leaves, shown_open, shown_rests, failed_rests}
 use Rattle.office_sql.proofs.Resting.{rests_keeps}
+use Rattle.sqlite.specs.Query.{Query}
+use Rattle.office_sql.proofs.LedgerAsked.{IsReadAs, shows_as}
 
-module _ {S : Type 0} (g : Ghosts S) (text : List ℕ) (from : Join) (tests shown : List Term) (order : List (Term × Key))
-    (read : IsJoined office_schema text from tests shown order) (params values : Row) (bound : params ≡ values) (old new : Held S) where
+module _ {S : Type 0} (g : Ghosts S) (text : List ℕ) (body : Query)
+    (read : IsReadAs office_schema text body) (params values : Row) (bound : params ≡ values) (old new : Held S) where
   -- a call of `query_all` in a transaction on the office's tables asks what its text means
   pub looked : (r : Result (Vec Row Global) Error) (Says : Tables → Vec Row Global → Type 0)
       → HasOffice (state g old)
       → ((rows : Vec Row Global) → IsOffice (state g old).now
-      → IsAnswer (over from tests shown order) (overlay (state g old).now.trees []) values
-      rows.items → Says (tables_in (state g old).now.trees) rows)
+      → IsAnswer body (overlay (state g old).now.trees []) values rows.items → Says (tables_in (state g old).now.trees) rows)
       → (HasCleanDisk (state g new) → IfOk r (λ v. Shown text params (state g old) (state g new) v.items))
       → (HasCleanDisk (state g new)
       → IfErr r (λ e.
@@ -27,10 +27,8 @@ module _ {S : Type 0} (g : Ghosts S) (text : List ℕ) (from : Join) (tests show
   looked r Says has answer ok err survives = record {
     answer = λ clean. IfOk-weaker r _ _ (λ rows h.
         let office = has (shown_open text params (state g old) (state g new) rows.items read.bare h) in
-        answer rows office (subst (λ p. IsAnswer (over from tests shown order) (overlay (state g old).now.trees []) p rows.items) bound
-        (reads_over office_schema text params (state g old) (state g new)
-        read.plain from tests shown order read.names read.is read.unlisted office.schema
-        rows.items h))) (ok clean);
+        answer rows office (subst (λ p. IsAnswer body (overlay (state g old).now.trees []) p rows.items) bound
+        (shows_as text body read params (state g old) (state g new) office.schema rows.items h))) (ok clean);
     stands = λ clean. IfOk-weaker r _ _ (λ rows h.
         let office = has (shown_open text params (state g old) (state g new) rows.items read.bare h) in
         stands (leaves office_schema text params (state g old) (state g new) read.plain office.schema rows.items h)) (ok clean);

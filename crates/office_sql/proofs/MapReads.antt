@@ -1,25 +1,19 @@
 -- What the texts that read maps mean, and show.
 use Rattle.std.proofs.Common.{◌≡◌, ◌∷◌, Ordering}
-use Rattle.text_core.proofs.Kit.{ℕ, pos, List, [], codes, refl, ◌∙◌, map, filter, Option, Some, None, on, IsTotalOrder, on_total, option_map, and-true}
-use Rattle.office_sql.proofs.Kit.{Int, Row, column, Term, col, key_cmp, key_cmp_total, Binary, Key, ascending, then-Equal, sort_by}
+use Rattle.text_core.proofs.Kit.{ℕ, pos, List, [], refl, ◌∙◌, Option, Some, None, on, IsTotalOrder, on_total, option_map, and-true}
+use Rattle.office_sql.proofs.Kit.{Int, Row, column, Term, col, key_cmp, key_cmp_total, Binary, Key, ascending, then-Equal}
 use Rattle.sqlite.specs.declared.types.Value.TheVariants.{Text as Words}
 use Rattle.sqlite.specs.Listing.{understood}
 use Rattle.sqlite_tied.specs.Compute.{everything}
 use Rattle.office_tables.specs.declared.rows.MapRow.{MapRow}
 use Rattle.office_tables.specs.Prelude.{map_cmp, has_id, has_body}
 use Rattle.office_tables.proofs.Orders.{map_total}
-use Rattle.office_sql.specs.Prelude.{maps, office_schema, number_in_cell, map_in_row, is_parameter, passes, AreRows, IsMapRow}
-use Rattle.office_sql.proofs.Kept.{shows_kept}
+use Rattle.office_sql.specs.Prelude.{maps, office_schema, number_in_cell, map_in_row, is_parameter, passes, IsMapRow}
+use Rattle.office_sql.proofs.Kept.{shows_kept, Shows}
 use Rattle.office_sql.proofs.Reading.{IsRead}
-use Rattle.office_sql.proofs.Scan.{Scanned}
 use Rattle.office_sql.proofs.Values.{text_is}
 use Rattle.office_sql.proofs.MapValues.{whole_is, wholes_cmp}
-
-abbrev pub one_text : List ℕ
-one_text = codes "SELECT id, body FROM map WHERE id = ?1 ORDER BY id"
-
-abbrev pub body_text : List ℕ
-body_text = codes "SELECT id, body FROM map WHERE body = ?1 ORDER BY id"
+use Rattle.office_sql.specs.declared.maps.TheConstants.{SELECT_MAP, SELECT_MAP_WITH_BODY}
 
 abbrev pub shown : List Term
 shown = col 1 0 ∷ col 1 2 ∷ []
@@ -27,13 +21,13 @@ shown = col 1 0 ∷ col 1 2 ∷ []
 abbrev pub by_key : List (Term × Key)
 by_key = (col 1 0, ascending Binary) ∷ []
 
-pub one_read : IsRead office_schema one_text maps (is_parameter 0 0 ∷ []) shown by_key
+pub one_read : IsRead office_schema SELECT_MAP.now maps (is_parameter 0 0 ∷ []) shown by_key
 unfolding understood everything
-one_read = record { names = codes "id" ∷ codes "body" ∷ []; is = refl; plain = (refl, refl); unlisted = refl; bare = λ schema base. refl; there = λ db. refl }
+one_read = record { names = _; is = refl; plain = (refl, refl); unlisted = refl; bare = λ schema base. refl; there = λ db. refl }
 
-pub body_read : IsRead office_schema body_text maps (is_parameter 2 0 ∷ []) shown by_key
+pub body_read : IsRead office_schema SELECT_MAP_WITH_BODY.now maps (is_parameter 2 0 ∷ []) shown by_key
 unfolding understood everything
-body_read = record { names = codes "id" ∷ codes "body" ∷ []; is = refl; plain = (refl, refl); unlisted = refl; bare = λ schema base. refl; there = λ db. refl }
+body_read = record { names = _; is = refl; plain = (refl, refl); unlisted = refl; bare = λ schema base. refl; there = λ db. refl }
 
 -- a row that a query shows
 abbrev pub shown_map : Row → MapRow
@@ -54,19 +48,15 @@ passes_id id r e = and-true _ ∙ whole_is (column r 0) id e.0
 pub passes_body : (body : List ℕ) (r : Row) → IsMapRow r → passes (is_parameter 2 0 ∷ []) (Words body ∷ []) r ≡ has_body body (map_in_row r)
 passes_body body r e = and-true _ ∙ text_is (column r 2) body e.1
 
-pub one_shown : (id : ℕ) (all rows : List Row) → AreRows IsMapRow map_cmp map_in_row all
-    → Scanned (is_parameter 0 0 ∷ []) shown by_key (Int (pos id) ∷ []) all rows
-    → map shown_map rows ≡ filter (has_id id) (sort_by map_cmp (map map_in_row all))
-one_shown id all rows are s =
-    shows_kept IsMapRow map_cmp map_total map_in_row by_id by_id_total ordered (has_id id) (is_parameter 0 0 ∷ []) (Int (pos id) ∷ []) (passes_id id)
-    shown by_key shown_map (λ r. refl) (λ a b. refl) all rows are s
+pub one_shown : (id : ℕ) → Shows IsMapRow map_cmp map_in_row (is_parameter 0 0 ∷ []) shown by_key (Int (pos id) ∷ []) shown_map (has_id id)
+one_shown id =
+    shows_kept IsMapRow map_cmp map_total map_in_row by_id by_id_total ordered (has_id id)
+    (is_parameter 0 0 ∷ []) _ (passes_id id) shown by_key shown_map (λ r. refl) (λ a b. refl)
 
-pub body_shown : (body : List ℕ) (all rows : List Row) → AreRows IsMapRow map_cmp map_in_row all
-    → Scanned (is_parameter 2 0 ∷ []) shown by_key (Words body ∷ []) all rows
-    → map shown_map rows ≡ filter (has_body body) (sort_by map_cmp (map map_in_row all))
-body_shown body all rows are s =
-    shows_kept IsMapRow map_cmp map_total map_in_row by_id by_id_total ordered (has_body body) (is_parameter 2 0 ∷ []) (Words body ∷ []) (passes_body body)
-    shown by_key shown_map (λ r. refl) (λ a b. refl) all rows are s
+pub body_shown : (body : List ℕ) → Shows IsMapRow map_cmp map_in_row (is_parameter 2 0 ∷ []) shown by_key (Words body ∷ []) shown_map (has_body body)
+body_shown body =
+    shows_kept IsMapRow map_cmp map_total map_in_row by_id by_id_total ordered (has_body body)
+    (is_parameter 2 0 ∷ []) _ (passes_body body) shown by_key shown_map (λ r. refl) (λ a b. refl)
 
 pub id_shown : (row : Option Row) → option_map (λ r. number_in_cell (column r 0)) row ≡ option_map (λ m. m.id) (option_map shown_map row)
 id_shown None = refl

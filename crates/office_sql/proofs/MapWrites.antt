@@ -1,6 +1,6 @@
 -- What the text that adds a map means, and what it does to the tables.
 use Rattle.std.proofs.Common.{◌≡◌, ◌∷◌}
-use Rattle.text_core.proofs.Kit.{ℕ, ℤ, pos, not, false, true, List, [], codes, map, refl, sym, ap, ◌∙◌, subst, is_eq, AllByRecursion, kept_pass, not-true}
+use Rattle.text_core.proofs.Kit.{ℕ, ℤ, pos, not, false, true, List, [], map, refl, sym, ap, ◌∙◌, subst, is_eq, AllByRecursion, kept_pass, not-true}
 use Rattle.office_sql.proofs.Kit.{Null, Int, Row, column, has_rowid, without_rowid, Term, lit, col, eval_all, Database, cast_row, next_rowid, all-map, all_both}
 use Rattle.office_sql.proofs.Kit.{sort_by}
 use Rattle.sqlite.specs.Order.{value_cmp}
@@ -19,14 +19,12 @@ use Rattle.office_sql.proofs.MapValues.{wholes_cmp, numbers_tied}
 use Rattle.office_sql.proofs.Offices.{both_started, table_changed, told_stays}
 use Rattle.office_sql.proofs.Stepping.{cast_null}
 use Rattle.office_sql.proofs.TableRows.{next_is_free, row_added}
-
-abbrev pub add_text : List ℕ
-add_text = codes "INSERT INTO map (body, digest) VALUES (?1, ?2)"
+use Rattle.office_sql.specs.declared.maps.TheConstants.{INSERT_INTO_MAP}
 
 abbrev pub add_terms : List Term
 add_terms = lit Null ∷ lit Null ∷ col 0 0 ∷ col 0 1 ∷ []
 
-pub add_insert : IsInsert office_schema add_text maps add_terms 4
+pub add_insert : IsInsert office_schema INSERT_INTO_MAP.now maps add_terms 4
 unfolding understood everything
 add_insert = record { means = record { is = refl; plain = (refl, refl); there = refl; uncounted = refl; unstamped = refl }; one = λ params. refl }
 

@@ -1,6 +1,6 @@
 -- What the texts that read orders mean, and show.
 use Rattle.std.proofs.Common.{◌≡◌, ◌&&◌, ◌∷◌, ◌++◌, Ordering}
-use Rattle.text_core.proofs.Kit.{ℕ, List, [], codes, refl, sym, ap, ap₂, ◌∙◌, map, filter, Equal, is_eq, on, ordering_then, IsTotalOrder, tied_then, on_total}
+use Rattle.text_core.proofs.Kit.{ℕ, List, [], refl, sym, ap, ap₂, ◌∙◌, map, filter, Equal, is_eq, on, ordering_then, IsTotalOrder, tied_then, on_total}
 use Rattle.text_core.proofs.Kit.{then_total, is_eq-slice_cmp, and-true}
 use Rattle.sqlite.specs.declared.types.Value.TheVariants.{Text as Words}
 use Rattle.office_sql.proofs.Kit.{Row, column, Term, col, is_true, Eq, Compare, key_cmp, IsAnswer, inner, end, Join, Trees, Binary, Key, ascending}
@@ -14,23 +14,15 @@ use Rattle.office_tables.proofs.Orders.{order_total}
 use Rattle.office_sql.specs.Prelude.{orders, order_starts, office_schema, rows_in, tree_of, order_in_row, starts_order, with_order_start, joined_order}
 use Rattle.office_sql.specs.Prelude.{is_parameter, passes, over, is_same, passes_join, first_that, IsOffice, IsOrderRow, IsStartRow, tables_in, text_if}
 use Rattle.office_sql.proofs.Kept.{shows_joined, start_is}
-use Rattle.office_sql.proofs.Reading.{IsJoined}
 use Rattle.office_sql.proofs.Values.{text_is, texts_cmp, level_total}
-
-abbrev pub one_text : List ℕ
-one_text = codes "SELECT orders.customer, name, issuer, prefix, width, first, quantity, macs, mac, cursor, not_before FROM orders JOIN order_start ON order_start.customer = orders.customer AND ord = name WHERE orders.customer = ?1 AND name = ?2 ORDER BY orders.customer, name"
-
-abbrev pub own_text : List ℕ
-own_text = codes "SELECT orders.customer, name, issuer, prefix, width, first, quantity, macs, mac, cursor, not_before FROM orders JOIN order_start ON order_start.customer = orders.customer AND ord = name WHERE orders.customer = ?1 ORDER BY orders.customer, name"
+use Rattle.office_sql.specs.declared.orders.TheConstants.{SELECT_ORDER, SELECT_ORDERS}
+use Rattle.office_sql.proofs.LedgerAsked.{IsReadAs}
 
 abbrev pub shown : List Term
 shown = col 1 1 ∷ col 1 2 ∷ col 1 3 ∷ col 1 4 ∷ col 1 5 ∷ col 1 6 ∷ col 1 7 ∷ col 1 8 ∷ col 1 9 ∷ col 1 10 ∷ col 2 3 ∷ []
 
 abbrev pub by_key : List (Term × Key)
 by_key = (col 1 1, ascending Binary) ∷ (col 1 2, ascending Binary) ∷ []
-
-abbrev pub names : List (List ℕ)
-names = codes "customer" ∷ codes "name" ∷ codes "issuer" ∷ codes "prefix" ∷ codes "width" ∷ codes "first" ∷ codes "quantity" ∷ codes "macs" ∷ codes "mac" ∷ codes "cursor" ∷ codes "not_before" ∷ []
 
 -- each row with its start
 abbrev pub with_starts : Join
@@ -46,13 +38,13 @@ one_tests = is_parameter 1 0 ∷ is_parameter 2 1 ∷ []
 abbrev pub own_tests : List Term
 own_tests = is_parameter 1 0 ∷ []
 
-pub one_read : IsJoined office_schema one_text with_starts (on_start ++ one_tests) shown by_key
+pub one_read : IsReadAs office_schema SELECT_ORDER.now (over with_starts (on_start ++ one_tests) shown by_key)
 unfolding understood everything
-one_read = record { names = names; is = refl; plain = (refl, refl); unlisted = refl; bare = λ schema base. refl }
+one_read = record { names = _; is = refl; plain = (refl, refl); unlisted = refl; bare = λ schema base. refl }
 
-pub own_read : IsJoined office_schema own_text with_starts (on_start ++ own_tests) shown by_key
+pub own_read : IsReadAs office_schema SELECT_ORDERS.now (over with_starts (on_start ++ own_tests) shown by_key)
 unfolding understood everything
-own_read = record { names = names; is = refl; plain = (refl, refl); unlisted = refl; bare = λ schema base. refl }
+own_read = record { names = _; is = refl; plain = (refl, refl); unlisted = refl; bare = λ schema base. refl }
 
 abbrev pub by_name : Row → Row → Ordering
 by_name = on (λ r. column r 1 ∷ column r 2 ∷ []) (key_cmp 0 (ascending Binary ∷ ascending Binary ∷ []))

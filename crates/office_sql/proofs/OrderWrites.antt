@@ -1,7 +1,7 @@
 -- What the texts that write an order mean, and do.
 use Rattle.std.proofs.Common.{◌≡◌, ◌&&◌, ◌∷◌}
-use Rattle.text_core.proofs.Kit.{inl, inr, ℕ, ℤ, pos, true, false, List, [], codes, map, Bool, arith, refl, sym, ap, ap₂, subst, subst₂, ◌∙◌, Equal, Option}
-use Rattle.text_core.proofs.Kit.{None, Ok, option_map, option_and_then, ordering_then, tied_itself, nat_list_cmp_total, and_parts, text_itself}
+use Rattle.text_core.proofs.Kit.{inl, inr, ℕ, ℤ, pos, true, false, List, [], map, Bool, arith, refl, sym, ap, ap₂, subst, subst₂, ◌∙◌, Equal, Option, None, Ok}
+use Rattle.text_core.proofs.Kit.{option_map, option_and_then, ordering_then, tied_itself, nat_list_cmp_total, and_parts, text_itself}
 use Rattle.office_sql.proofs.Kit.{Null, Int, Row, column, bytes, Term, lit, col, cast_row, put_row, Database, State, Executes, are_typed, next_rowid, sort_by}
 use Rattle.office_sql.proofs.Kit.{all_unmap, IsPermutation-sort_by, all-permutation}
 use Rattle.sqlite.specs.declared.types.Value.TheVariants.{Text as Words}
@@ -26,16 +26,14 @@ use Rattle.office_sql.proofs.OrderReads.{order_tied, passes_order}
 use Rattle.office_sql.proofs.Replacing.{IsUpdate, IsSet, SetsOne, remade, sets}
 use Rattle.office_sql.proofs.Stepping.{cast_null, cast_int}
 use Rattle.office_sql.proofs.StartedRows.{find_made, started_more, started_as_was, replaced_with_starts}
+use Rattle.office_sql.specs.declared.orders.TheConstants.{INSERT_INTO_ORDERS, INSERT_INTO_ORDER_START, UPDATE_OF_CURSOR}
 
 -- ---- a new order
-
-abbrev pub add_text : List ℕ
-add_text = codes "INSERT INTO orders (customer, name, issuer, prefix, width, first, quantity, macs, mac, cursor) VALUES (?1, ?2, ?3, ?4, ?5, ?6, ?7, ?8, ?9, ?10)"
 
 abbrev pub add_terms : List Term
 add_terms = lit Null ∷ col 0 0 ∷ col 0 1 ∷ col 0 2 ∷ col 0 3 ∷ col 0 4 ∷ col 0 5 ∷ col 0 6 ∷ col 0 7 ∷ col 0 8 ∷ col 0 9 ∷ []
 
-pub add_insert : IsInsert office_schema add_text orders add_terms 11
+pub add_insert : IsInsert office_schema INSERT_INTO_ORDERS.now orders add_terms 11
 unfolding understood everything
 add_insert = record { means = record { is = refl; plain = (refl, refl); there = refl; uncounted = refl; unstamped = refl }; one = λ params. refl }
 
@@ -105,13 +103,10 @@ order_added o back old mid new office none adds starts =
 
 -- ---- its beginning of validity
 
-abbrev pub start_text : List ℕ
-start_text = codes "INSERT INTO order_start (customer, ord, not_before) VALUES (?1, ?2, ?3)"
-
 abbrev pub start_terms : List Term
 start_terms = lit Null ∷ col 0 0 ∷ col 0 1 ∷ col 0 2 ∷ []
 
-pub start_insert : IsInsert office_schema start_text order_starts start_terms 4
+pub start_insert : IsInsert office_schema INSERT_INTO_ORDER_START.now order_starts start_terms 4
 unfolding understood everything
 start_insert = record { means = record { is = refl; plain = (refl, refl); there = refl; uncounted = refl; unstamped = refl }; one = λ params. refl }
 
@@ -120,13 +115,10 @@ start_casts o = rw (cast_null, text_cast o.row.not_before) refl
 
 -- ---- a new cursor
 
-abbrev pub set_text : List ℕ
-set_text = codes "UPDATE orders SET cursor = ?3 WHERE customer = ?1 AND name = ?2"
-
 abbrev pub set_shown : List Term
 set_shown = col 1 0 ∷ col 1 0 ∷ col 1 1 ∷ col 1 2 ∷ col 1 3 ∷ col 1 4 ∷ col 1 5 ∷ col 1 6 ∷ col 1 7 ∷ col 1 8 ∷ col 1 9 ∷ col 0 2 ∷ []
 
-pub set_update : IsUpdate set_text orders (is_parameter 1 0 ∷ is_parameter 2 1 ∷ []) set_shown
+pub set_update : IsUpdate UPDATE_OF_CURSOR.now orders (is_parameter 1 0 ∷ is_parameter 2 1 ∷ []) set_shown
 unfolding understood everything
 set_update = record { is = refl; plain = (refl, refl); there = refl; same = λ db. refl }
 
@@ -182,10 +174,10 @@ module _ (c : OfCustomer Cursor) where
 
   -- where a cursor is set, it is the order's
   pub cursor_set : (old new : State) (count : ℕ) → IsOffice old.now
-      → Executes set_text set_values old new (Ok count) → count ≡ 1
+      → Executes UPDATE_OF_CURSOR.now set_values old new (Ok count) → count ≡ 1
       → Wrote (SetCursor c) old.now new.now
   cursor_set old new count office ran one =
-      elim (sets IsOrderRow order_cmp order_total order_in_row is_its ties set_text orders
+      elim (sets IsOrderRow order_cmp order_total order_in_row is_its ties UPDATE_OF_CURSOR.now orders
       (is_parameter 1 0 ∷ is_parameter 2 1
       ∷ []) set_shown set_update set_values set_columns is_set old new count office.schema
       (office.rows orders) ran)

@@ -1,5 +1,5 @@
 -- What the texts that write a seat mean, and do.
-use Rattle.std.proofs.Common.{◌≡◌, filter, inl, inr, ℕ, pos, ◌==◌, List, [], ◌∷◌, codes, map, refl, sym, ap, subst, ◌∙◌, Ok, None, MatchBool}
+use Rattle.std.proofs.Common.{◌≡◌, filter, inl, inr, ℕ, pos, ◌==◌, List, [], ◌∷◌, map, refl, sym, ap, subst, ◌∙◌, Ok, None, MatchBool}
 use Rattle.std.proofs.lemmas.Cmp.{tied_itself, nat_list_cmp_total}
 use Rattle.std.proofs.lemmas.Map.Text.{is_eq-slice_cmp}
 use Rattle.text_core.proofs.Kit.{same_text}
@@ -23,27 +23,22 @@ use Rattle.office_sql.proofs.Replacing.{IsUpdate, IsSet, SetsNone, SetsOne, rema
 use Rattle.office_sql.proofs.SeatReads.{passes_seat}
 use Rattle.office_sql.proofs.Stepping.{cast_null, cast_int}
 use Rattle.office_sql.proofs.TableRows.{row_added}
-
-abbrev pub add_text : List ℕ
-add_text = codes "INSERT INTO seat (name, customer, last, digest, reply) VALUES (?1, ?2, ?3, ?4, ?5)"
+use Rattle.office_sql.specs.declared.seats.TheConstants.{INSERT_INTO_SEAT, UPDATE_OF_SEAT}
 
 abbrev pub add_terms : List Term
 add_terms = lit Null ∷ col 0 0 ∷ col 0 1 ∷ col 0 2 ∷ col 0 3 ∷ col 0 4 ∷ []
 
-pub add_insert : IsInsert office_schema add_text seats add_terms 6
+pub add_insert : IsInsert office_schema INSERT_INTO_SEAT.now seats add_terms 6
 unfolding understood everything
 add_insert = record { means = record { is = refl; plain = (refl, refl); there = refl; uncounted = refl; unstamped = refl }; one = λ params. refl }
 
 pub add_casts : (s : OfCustomer SeatState) → cast_row seat_table (Null ∷ seat_columns s) ≡ Null ∷ seat_columns s
 add_casts s = rw (cast_null, cast_int (pos s.row.last)) refl
 
-abbrev pub set_text : List ℕ
-set_text = codes "UPDATE seat SET customer = ?2, last = ?3, digest = ?4, reply = ?5 WHERE name = ?1"
-
 abbrev pub set_shown : List Term
 set_shown = col 1 0 ∷ col 1 0 ∷ col 1 1 ∷ col 0 1 ∷ col 0 2 ∷ col 0 3 ∷ col 0 4 ∷ []
 
-pub set_update : IsUpdate set_text seats (is_parameter 1 0 ∷ []) set_shown
+pub set_update : IsUpdate UPDATE_OF_SEAT.now seats (is_parameter 1 0 ∷ []) set_shown
 unfolding understood everything
 set_update = record { is = refl; plain = (refl, refl); there = refl; same = λ db. refl }
 
@@ -65,12 +60,12 @@ module _ (s : OfCustomer SeatState) where
 
   -- the setting of a seat's row finds none, or one that it replaces
   pub seat_set : (old new : State) (count : ℕ) → IsOffice old.now
-      → Executes set_text (seat_columns s) old new (Ok count)
+      → Executes UPDATE_OF_SEAT.now (seat_columns s) old new (Ok count)
       → MatchBool (count == 0) (LacksSeat s.row.name old.now new.now)
       (Wrote (PutSeat s) old.now new.now)
   seat_set old new count office ran =
       elim (sets IsSeatRow seat_cmp seat_total seat_in_row (is_seat s.row.name) (λ a b e f.
-      texts_tied s.row.name a.row.name b.row.name e f) set_text seats (is_parameter 1 0
+      texts_tied s.row.name a.row.name b.row.name e f) UPDATE_OF_SEAT.now seats (is_parameter 1 0
       ∷ []) set_shown set_update (seat_columns s) set_columns is_set
       old new count office.schema (office.rows seats) ran) [ inl none ↦ rw none.counted (lacks none) | inr one ↦ rw one.counted (wrote one) ]
     where

@@ -3,16 +3,18 @@ use Rattle.std.proofs.Common.{◌≡◌, ℕ, ◌++◌, List, [], ◌∷◌, Boo
 use Rattle.std.proofs.Common.{Err, IfOk, OnOk, rules, IsSome, MatchBool}
 use Rattle.office_sql.proofs.Kit.{Key, Returning, Compiled, CompileError, Schema, Error, Select, Database, Returns, HasGiven, HasBegun, Held, state}
 use Rattle.office_sql.proofs.Kit.{reads_listing, IsSourceOf, Row, overlay, State, HasCleanDisk, Survives, ShowsRows, IsUnchanged, FailsToShow, Term, Trees}
-use Rattle.office_sql.proofs.Kit.{Join, inner, end, IsAnswer, command_of, EndsIn, begins_shown, unchanged_then, survives_weaker}
+use Rattle.office_sql.proofs.Kit.{IsAnswer, command_of, EndsIn, begins_shown, unchanged_then, survives_weaker}
 use Rattle.sqlite.specs.Clock.{timed}
 use Rattle.sqlite.specs.Listing.{understood}
+use Rattle.sqlite.specs.Query.{Query}
 use Rattle.sqlite.specs.State.{Shown, IsNotRun, FailsToQuery, CommitsShowing}
 use Rattle.sqlite.specs.Store.{Ghosts}
 use Rattle.office_tables.specs.Prelude.{Visits, Tables}
-use Rattle.office_sql.specs.Prelude.{OfficeTable, SqlReads, HasOffice, Rests, office_schema, rows_in, tree_of, over, IsOffice, tables_in, HasVisited}
-use Rattle.office_sql.proofs.Asked.{reads_over, unchanged_rests, undone_rests}
+use Rattle.office_sql.specs.Prelude.{OfficeTable, SqlReads, HasOffice, Rests, office_schema, rows_in, tree_of, scan, IsOffice, tables_in, HasVisited}
+use Rattle.office_sql.proofs.Asked.{unchanged_rests, undone_rests}
 use Rattle.office_sql.proofs.Bare.{IsBare, bare_understood}
-use Rattle.office_sql.proofs.Reading.{IsJoined, IsRead, joined_of, scanned_of}
+use Rattle.office_sql.proofs.LedgerAsked.{IsReadAs, shows_as}
+use Rattle.office_sql.proofs.Reading.{IsRead, read_as, scanned_of}
 use Rattle.office_sql.proofs.Scan.{Scanned}
 
 -- ---- a text without RETURNING
@@ -102,18 +104,15 @@ still old new same = (
   refl,
 )
 
-module _ (text : List ℕ) (from : Join) (tests shown : List Term) (order : List (Term
-    × Key)) (read : IsJoined office_schema text from tests shown order) (params : Row)
-    (old new : State)
+module _ (text : List ℕ) (body : Query) (read : IsReadAs office_schema text body) (params : Row) (old new : State)
     (has : old.now.schema ≡ office_schema) (same : IsUnchanged old new) where
   abbrev Answers : List Row → Type 0
-  Answers rows = IsAnswer (over from tests shown order) (overlay old.now.trees []) params rows
+  Answers rows = IsAnswer body (overlay old.now.trees []) params rows
 
   answers : (first : State) → first.now ≡ old.now → (rows : List Row) → Shown text params first new rows → Answers rows
   answers first is rows h =
-      subst (λ (d : Database). IsAnswer (over from tests shown order) (overlay d.trees []) params rows) is
-      (reads_over office_schema text params first new read.plain from tests shown order read.names
-      read.is read.unlisted (ap (λ (d : Database). d.schema) is ∙ has) rows h)
+      subst (λ (d : Database). IsAnswer body (overlay d.trees []) params rows) is
+      (shows_as text body read params first new (ap (λ (d : Database). d.schema) is ∙ has) rows h)
 
   -- what a sink has visited are rows that the text means
   pub visited_rows : {K R : Type 0} (takes : K → R → Bool → K → Type 0) (reads : Row
@@ -122,19 +121,19 @@ module _ (text : List ℕ) (from : Join) (tests shown : List Term) (order : List
   visited_rows takes reads before after (given, inl h) = (given, answers old refl given h.0, h.1)
   visited_rows takes reads before after (given, inr h) =
       let whole = begins_shown text params new new given h.0 (still old new same) (λ c db it source.
-      let is : c.command ≡ Select (record { lets = []; body = over from tests shown order }) read.names =
+      let is : c.command ≡ Select (record { lets = []; body = body }) read.names =
       ap command_of (sym it.is ∙ ap (λ s. understood s text) (ap (λ (d : Database). d.schema) same.0.now_is ∙ has)) ∙ read.is in
       subst (λ k. EndsIn k db (timed params c.formats it.now)) (sym is) tt) in
       (given ++ whole.0, answers new same.0.now_is (given ++ whole.0) whole.1, h.1 whole.0)
 
-module _ {S : Type 0} (g : Ghosts S) (text : List ℕ) (from : Join) (tests shown : List Term) (order : List (Term × Key))
-    (read : IsJoined office_schema text from tests shown order) (params values : Row) (bound : params ≡ values) (old new : Held S) where
+module _ {S : Type 0} (g : Ghosts S) (text : List ℕ) (body : Query)
+    (read : IsReadAs office_schema text body) (params values : Row) (bound : params ≡ values) (old new : Held S) where
   -- a sink that visits the office's database, with these values for the parameters, takes what the text means
-  pub visits_joined : {K R : Type 0} (takes : K → R → Bool → K → Type 0) (reads : Row
+  pub visits_as : {K R : Type 0} (takes : K → R → Bool → K → Type 0) (reads : Row
       → R) (r : Result (Unit {0}) Error) (before after : K) (kept : Tables → List R)
       → HasOffice (state g old)
       → ((rows : List Row) → IsOffice (state g old).now
-      → IsAnswer (over from tests shown order) (overlay (state g old).now.trees []) values rows
+      → IsAnswer body (overlay (state g old).now.trees []) values rows
       → map reads rows ≡ kept (tables_in (state g old).now.trees))
       → (HasCleanDisk (state g new)
       → OnOk r (HasVisited takes reads text params (state g old) (state g new) before after))
@@ -143,7 +142,7 @@ module _ {S : Type 0} (g : Ghosts S) (text : List ℕ) (from : Join) (tests show
       → (old.in_transaction ≡ false → new.in_transaction ≡ false)
       → Survives (state g old) (state g new) (λ _. ⊥)
       → SqlReads g old new r (λ t _. Visits takes before (kept t) after)
-  visits_joined takes reads r before after kept has answer visited same rests mode crash =
+  visits_as takes reads r before after kept has answer visited same rests mode crash =
       record {
         answer = λ clean. said r (visited clean) (same clean);
         same = same;
@@ -159,14 +158,14 @@ module _ {S : Type 0} (g : Ghosts S) (text : List ℕ) (from : Join) (tests show
           → IfOk r (λ _. Visits takes before (kept (tables_in (state g old).now.trees)) after)
       said (Ok x) h s =
           let office = has s.0.was_open in
-          let it = visited_rows text from tests shown order read params (state g old) (state g new) office.schema s takes reads before after h in
+          let it = visited_rows text body read params (state g old) (state g new) office.schema s takes reads before after h in
           subst (λ l.
           Visits takes before l after) (answer it.0 office (subst (λ p.
-          IsAnswer (over from tests shown order) (overlay (state g old).now.trees []) p it.0)
+          IsAnswer body (overlay (state g old).now.trees []) p it.0)
           bound it.1)) it.2
       said (Err e) h s = tt
 
-module _ {S : Type 0} (g : Ghosts S) (text : List ℕ) (table : OfficeTable) (tests shown : List Term) (order : List (Term × Key))
+module _ {S : Type 0} (g : Ghosts S) {text : List ℕ} {table : OfficeTable} {tests shown : List Term} {order : List (Term × Key)}
     (read : IsRead office_schema text table tests shown order) (params values : Row) (bound : params ≡ values) (old new : Held S) where
   -- and of one table
   pub visits : {K R : Type 0} (takes : K → R → Bool → K → Type 0) (reads : Row → R) (r : Result (Unit {0}) Error) (before after : K) (kept : Tables → List R)
@@ -182,7 +181,6 @@ module _ {S : Type 0} (g : Ghosts S) (text : List ℕ) (table : OfficeTable) (te
       → Survives (state g old) (state g new) (λ _. ⊥)
       → SqlReads g old new r (λ t _. Visits takes before (kept t) after)
   visits takes reads r before after kept has answer =
-      visits_joined g text (inner (tree_of table) end) tests shown order
-      (joined_of office_schema text table tests shown order read) params values bound old new
+      visits_as g text (scan (tree_of table) tests shown order) (read_as read) params values bound old new
       takes reads r before after kept has
-      (λ rows office a. answer rows office (scanned_of office_schema text table tests shown order read (state g old).now.trees values rows a))
+      (λ rows office a. answer rows office (scanned_of read (state g old).now.trees values rows a))

@@ -1,5 +1,5 @@
 // The table of devices.
-ghost use Rattle.std.specs.Prelude.{◌≡◌, ◌∷◌, IsTrue, IfOk, map, filter, option_map, slice_get};
+ghost use Rattle.std.specs.Prelude.{◌≡◌, ◌∷◌, IsTrue, IfOk, map, filter, option_map};
 ghost use Rattle.sqlite.specs.declared.types.Value.TheVariants.{Null};
 ghost use Rattle.sqlite.specs.Held.{state};
 ghost use Rattle.sqlite.specs.Order.{column, bytes};
@@ -12,12 +12,49 @@ ghost use Rattle.office_sql.specs.Prelude.{state_in, text_if};
 use crate::read::{
     DAMAGED, chip_at, column_at, digest_at, name_at, serial_if_at, text_at, text_if_at,
 };
-use crate::visit::{ReadRow, visit_rows};
+use crate::visit::{ReadRow, first_row, visit_rows};
 use office_tables::{Device, DeviceRow, DeviceState, OfCustomer, Sink};
 use sqlite::types::{ToSql, ValueRef};
 use sqlite::{Alter, Connection, Error, Row, Transaction, params};
 use std::alloc::Global;
 use text_core::{Chip, Name, Serial};
+
+// A text with the columns of a device.
+macro_rules! device_text {
+    ($before:literal, $($behind:literal),+) => {
+        concat!($before, "customer, chip, ord, map, state, reason, bits, keys, todo, serial", $($behind),+)
+    };
+}
+
+// Reads the devices that pass the tests, by customer and chip.
+macro_rules! devices_where {
+    ($tests:literal) => {
+        device_text!("SELECT ", " FROM device WHERE ", $tests, " ORDER BY customer, chip")
+    };
+}
+
+/// Reads the device of a customer's chip.
+const SELECT_DEVICE: &str = devices_where!("customer = ?1 AND chip = ?2");
+
+/// Reads a customer's devices.
+const SELECT_DEVICES: &str = devices_where!("customer = ?1");
+
+/// Reads those of a customer's devices whose chips come behind one.
+const SELECT_DEVICES_BEHIND: &str = devices_where!("customer = ?1 AND chip > ?2");
+
+/// Reads the orders and states of a customer's devices.
+const SELECT_STATES: &str =
+    "SELECT ord, state, reason FROM device WHERE customer = ?1 ORDER BY customer, chip";
+
+/// Adds a device.
+const INSERT_INTO_DEVICE: &str = device_text!(
+    "INSERT INTO device (",
+    ") VALUES (?1, ?2, ?3, ?4, ?5, ?6, ?7, ?8, ?9, ?10)"
+);
+
+/// Writes all that a device may change.
+const UPDATE_OF_DEVICE: &str =
+    "UPDATE device SET ord = ?3, map = ?4, state = ?5, reason = ?6, bits = ?7, keys = ?8, todo = ?9, serial = ?10 WHERE customer = ?1 AND chip = ?2";
 
 /// The order of a device, and where the device stands on its way through the line.
 #[derive(Clone, Copy, Drop)]
@@ -37,10 +74,7 @@ fn device_rows<S: Alter>(
         map (λ r. device_in_row (Null ∷ r)) rows.items
         ≡ filter (is_device customer.now chip.now) t.devices) }
 {
-    conn.query_all(
-        "SELECT customer, chip, ord, map, state, reason, bits, keys, todo, serial FROM device WHERE customer = ?1 AND chip = ?2 ORDER BY customer, chip",
-        params![customer.as_str(), chip.as_str()],
-    )
+    conn.query_all(SELECT_DEVICE, params![customer.as_str(), chip.as_str()])
 }
 
 fn state_rows<S: Alter>(conn: &mut Connection<S>, customer: &Name) -> Result<Vec<Row>, Error>
@@ -48,10 +82,7 @@ fn state_rows<S: Alter>(conn: &mut Connection<S>, customer: &Name) -> Result<Vec
     ensures { SqlReads S.Store conn.old conn.new result (λ t rows. map order_state_in rows.items
         ≡ map order_state (filter (is_of customer.now) t.devices)) }
 {
-    conn.query_all(
-        "SELECT ord, state, reason FROM device WHERE customer = ?1 ORDER BY customer, chip",
-        params![customer.as_str()],
-    )
+    conn.query_all(SELECT_STATES, params![customer.as_str()])
 }
 
 fn state_at(row: &Row, text: usize, reason: usize) -> Result<DeviceState, Error>
@@ -80,16 +111,6 @@ fn read_device(row: &Row, serial: Option<Serial>) -> Result<DeviceRow, Error>
             serial,
         },
     })
-}
-
-fn first_device(rows: &[Row]) -> Result<Option<DeviceRow>, Error>
-    ensures { IfOk result (λ device. device
-        ≡ option_map (λ r. device_in_row (Null ∷ r)) (slice_get rows.now 0)) }
-{
-    match rows.first() {
-        Some(row) => Ok(Some(DeviceRow::read_row(row)?)),
-        None => Ok(None),
-    }
 }
 
 fn read_state(row: &Row) -> Result<OrderState, Error>
@@ -122,7 +143,7 @@ pub fn device_row<S: Alter>(
         ≡ device_at customer.now chip.now t) }
 {
     let rows = device_rows(conn, customer, chip)?;
-    first_device(rows.as_slice())
+    first_row(rows.as_slice())
 }
 
 impl ReadRow for DeviceRow {
@@ -144,12 +165,7 @@ pub fn visit_devices<S: Alter, K: Sink<DeviceRow>>(
     ensures { SqlReads S.Store conn.old conn.new result (λ t _.
         Visits K.takes sink.old (filter (is_of customer.now) t.devices) sink.new) }
 {
-    visit_rows::<S, DeviceRow, K>(
-        conn,
-        "SELECT customer, chip, ord, map, state, reason, bits, keys, todo, serial FROM device WHERE customer = ?1 ORDER BY customer, chip",
-        params![customer.as_str()],
-        sink,
-    )
+    visit_rows::<S, DeviceRow, K>(conn, SELECT_DEVICES, params![customer.as_str()], sink)
 }
 
 /// Hands those of a customer's devices whose chips come behind one to the sink, by chip, while it
@@ -167,7 +183,7 @@ pub fn visit_devices_behind<S: Alter, K: Sink<DeviceRow>>(
 {
     visit_rows::<S, DeviceRow, K>(
         conn,
-        "SELECT customer, chip, ord, map, state, reason, bits, keys, todo, serial FROM device WHERE customer = ?1 AND chip > ?2 ORDER BY customer, chip",
+        SELECT_DEVICES_BEHIND,
         params![customer.as_str(), chip.as_str()],
         sink,
     )
@@ -231,10 +247,7 @@ fn insert_device<S: Alter>(tx: &mut Transaction<'_, S>, device: &DeviceRow) -> R
     ensures changes { SqlWrites S.Store tx.old.conn.now tx.new.conn.now result (λ old new _.
         Wrote (TheNewDevice device.now) old new) }
 {
-    tx.execute(
-        "INSERT INTO device (customer, chip, ord, map, state, reason, bits, keys, todo, serial) VALUES (?1, ?2, ?3, ?4, ?5, ?6, ?7, ?8, ?9, ?10)",
-        &values_of(device),
-    )
+    tx.execute(INSERT_INTO_DEVICE, &values_of(device))
 }
 
 fn update_device<S: Alter>(tx: &mut Transaction<'_, S>, device: &DeviceRow) -> Result<usize, Error>
@@ -243,10 +256,7 @@ fn update_device<S: Alter>(tx: &mut Transaction<'_, S>, device: &DeviceRow) -> R
     ensures changes { SqlWrites S.Store tx.old.conn.now tx.new.conn.now result (λ old new count.
         count ≡ 1 → Wrote (TheDevice device.now) old new) }
 {
-    tx.execute(
-        "UPDATE device SET ord = ?3, map = ?4, state = ?5, reason = ?6, bits = ?7, keys = ?8, todo = ?9, serial = ?10 WHERE customer = ?1 AND chip = ?2",
-        &values_of(device),
-    )
+    tx.execute(UPDATE_OF_DEVICE, &values_of(device))
 }
 
 /// Adds a device.

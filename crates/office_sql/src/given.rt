@@ -1,5 +1,5 @@
 // The table of given serial numbers.
-ghost use Rattle.std.specs.Prelude.{◌≡◌, ℕ, Some, IfOk, IsTrue, map, filter, option_map, option_and_then, slice_get, string_bytes};
+ghost use Rattle.std.specs.Prelude.{◌≡◌, ℕ, Some, IfOk, IsTrue, map, filter, option_map, option_and_then, string_bytes};
 ghost use Rattle.sqlite.specs.Held.{state};
 ghost use Rattle.office_tables.specs.Prelude.{Visits, IsAddressFree, IsFree, is_serial_of, is_bound, is_of_issuer, has_address, given_at, given_by_key};
 ghost use Rattle.office_tables.specs.declared.rows.Write.TheVariants.{AddGiven as TheGiven};
@@ -15,12 +15,45 @@ use crate::read::{
     DAMAGED, chip_if_at, key_at, mac_if_at, name_at, serial_at, start_if_at, time_at,
 };
 use crate::start::start_text;
-use crate::visit::{ReadRow, visit_rows};
+use crate::visit::{ReadRow, first_row, visit_rows};
 use id_ranges::{KeyDigest, Mac, NotBefore};
 use office_tables::{Given, GivenRow, OfCustomer, Sink};
 use sqlite::{Alter, Connection, Error, Row, Transaction, params};
 use std::alloc::Global;
 use text_core::{Chip, Name};
+
+// Reads the records that pass the tests, each with its beginning of validity, by issuer and serial
+// number.
+macro_rules! given_where {
+    ($tests:literal) => {
+        concat!(
+            "SELECT given.issuer, given.serial, customer, key, chip, mac, not_after, not_before FROM given ",
+            "JOIN given_start ON given_start.issuer = given.issuer AND given_start.serial = given.serial WHERE ",
+            $tests,
+            " ORDER BY given.issuer, given.serial"
+        )
+    };
+}
+
+/// Reads the record of a serial number of an issuer.
+const SELECT_GIVEN: &str = given_where!("given.issuer = ?1 AND given.serial = ?2");
+
+/// Reads the record of a key in an issuer.
+const SELECT_GIVEN_BY_KEY: &str = given_where!("given.issuer = ?1 AND key = ?2");
+
+/// Reads the records of an issuer.
+const SELECT_GIVEN_OF_ISSUER: &str = given_where!("given.issuer = ?1");
+
+/// Reads the records with an address, of any issuer.
+const SELECT_GIVEN_WITH_ADDRESS: &str = given_where!("mac = ?1");
+
+/// Adds a record.
+const INSERT_INTO_GIVEN: &str =
+    "INSERT INTO given (issuer, serial, customer, key, chip, mac, not_after) VALUES (?1, ?2, ?3, ?4, ?5, ?6, ?7)";
+
+/// Adds the beginning of validity of a record.
+const INSERT_INTO_GIVEN_START: &str =
+    "INSERT INTO given_start (issuer, serial, not_before) VALUES (?1, ?2, ?3)";
 
 fn rows_at<S: Alter>(
     conn: &mut Connection<S>,
@@ -31,10 +64,7 @@ fn rows_at<S: Alter>(
     ensures { SqlReads S.Store conn.old conn.new result (λ t rows. map joined_given rows.items
         ≡ filter (is_serial_of issuer.now serial.now) t.given) }
 {
-    conn.query_all(
-        "SELECT given.issuer, given.serial, customer, key, chip, mac, not_after, not_before FROM given JOIN given_start ON given_start.issuer = given.issuer AND given_start.serial = given.serial WHERE given.issuer = ?1 AND given.serial = ?2 ORDER BY given.issuer, given.serial",
-        params![issuer.as_str(), serial],
-    )
+    conn.query_all(SELECT_GIVEN, params![issuer.as_str(), serial])
 }
 
 fn rows_by_key<S: Alter>(
@@ -47,7 +77,7 @@ fn rows_by_key<S: Alter>(
         ≡ filter (is_bound issuer.now key.now) t.given) }
 {
     conn.query_all(
-        "SELECT given.issuer, given.serial, customer, key, chip, mac, not_after, not_before FROM given JOIN given_start ON given_start.issuer = given.issuer AND given_start.serial = given.serial WHERE given.issuer = ?1 AND key = ?2 ORDER BY given.issuer, given.serial",
+        SELECT_GIVEN_BY_KEY,
         params![issuer.as_str(), key.as_bytes().as_slice()],
     )
 }
@@ -85,15 +115,6 @@ fn read_given(
     })
 }
 
-fn first_given(rows: &[Row]) -> Result<Option<GivenRow>, Error>
-    ensures { IfOk result (λ given. given ≡ option_map joined_given (slice_get rows.now 0)) }
-{
-    match rows.first() {
-        Some(row) => Ok(Some(GivenRow::read_row(row)?)),
-        None => Ok(None),
-    }
-}
-
 /// The record of a serial number of an issuer.
 pub fn given_row<S: Alter>(
     conn: &mut Connection<S>,
@@ -105,7 +126,7 @@ pub fn given_row<S: Alter>(
         ≡ given_at issuer.now serial.now t) }
 {
     let rows = rows_at(conn, issuer, serial)?;
-    first_given(rows.as_slice())
+    first_row(rows.as_slice())
 }
 
 /// The record of a key in an issuer.
@@ -119,7 +140,7 @@ pub fn given_by_key<S: Alter>(
         ≡ given_by_key issuer.now key.now t) }
 {
     let rows = rows_by_key(conn, issuer, key)?;
-    first_given(rows.as_slice())
+    first_row(rows.as_slice())
 }
 
 impl ReadRow for GivenRow {
@@ -142,12 +163,7 @@ pub fn visit_given<S: Alter, K: Sink<GivenRow>>(
     ensures { SqlReads S.Store conn.old conn.new result (λ t _.
         Visits K.takes sink.old (filter (is_of_issuer issuer.now) t.given) sink.new) }
 {
-    visit_rows::<S, GivenRow, K>(
-        conn,
-        "SELECT given.issuer, given.serial, customer, key, chip, mac, not_after, not_before FROM given JOIN given_start ON given_start.issuer = given.issuer AND given_start.serial = given.serial WHERE given.issuer = ?1 ORDER BY given.issuer, given.serial",
-        params![issuer.as_str()],
-        sink,
-    )
+    visit_rows::<S, GivenRow, K>(conn, SELECT_GIVEN_OF_ISSUER, params![issuer.as_str()], sink)
 }
 
 fn rows_with_address<S: Alter>(tx: &mut Transaction<'_, S>, text: &str) -> Result<Vec<Row>, Error>
@@ -157,10 +173,7 @@ fn rows_with_address<S: Alter>(tx: &mut Transaction<'_, S>, text: &str) -> Resul
         → mac_of_text text.now ≡ Some mac
         → map joined_given rows.items ≡ filter (has_address mac) t.given) }
 {
-    tx.query_all(
-        "SELECT given.issuer, given.serial, customer, key, chip, mac, not_after, not_before FROM given JOIN given_start ON given_start.issuer = given.issuer AND given_start.serial = given.serial WHERE mac = ?1 ORDER BY given.issuer, given.serial",
-        params![text],
-    )
+    tx.query_all(SELECT_GIVEN_WITH_ADDRESS, params![text])
 }
 
 fn find_text_free<S: Alter>(tx: &mut Transaction<'_, S>, text: &str) -> Result<(), Error>
@@ -216,7 +229,7 @@ fn insert_given<S: Alter>(
         SqlAdds table.given (given_columns given.now) old new) }
 {
     tx.execute(
-        "INSERT INTO given (issuer, serial, customer, key, chip, mac, not_after) VALUES (?1, ?2, ?3, ?4, ?5, ?6, ?7)",
+        INSERT_INTO_GIVEN,
         params![
             given.row.issuer.as_str(),
             given.row.serial.as_str(),
@@ -240,7 +253,7 @@ fn insert_given_start<S: Alter>(
         SqlAdds table.given_starts (given_start_columns given.now) old new) }
 {
     tx.execute(
-        "INSERT INTO given_start (issuer, serial, not_before) VALUES (?1, ?2, ?3)",
+        INSERT_INTO_GIVEN_START,
         params![
             given.row.issuer.as_str(),
             given.row.serial.as_str(),

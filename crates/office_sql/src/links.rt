@@ -1,5 +1,5 @@
 // The table of links.
-ghost use Rattle.std.specs.Prelude.{◌≡◌, ◌∷◌, IfOk, IsTrue, map, filter, option_map, slice_get};
+ghost use Rattle.std.specs.Prelude.{◌≡◌, ◌∷◌, IsTrue, map, filter};
 ghost use Rattle.sqlite.specs.Held.{state};
 ghost use Rattle.sqlite.specs.declared.types.Value.TheVariants.{Null};
 ghost use Rattle.office_tables.specs.declared.rows.Write.TheVariants.{AddLink as TheLink};
@@ -8,11 +8,22 @@ ghost use Rattle.office_sql.specs.Prelude.{link_in_row, tables_in, Wrote, SqlRea
 
 use crate::number::whole;
 use crate::read::{digest_at, name_at, whole_at};
-use crate::visit::{ReadRow, visit_rows};
+use crate::visit::{ReadRow, first_row, visit_rows};
 use office_tables::{Link, LinkRow, OfCustomer, Sink};
 use sqlite::{Alter, Connection, Error, Row, Transaction, params};
 use std::alloc::Global;
 use text_core::{Digest, Name};
+
+/// Reads a customer's link to a map, by the digest of the map's text.
+const SELECT_LINK: &str =
+    "SELECT customer, digest, map FROM link WHERE customer = ?1 AND digest = ?2 ORDER BY customer, digest";
+
+/// Reads a customer's links.
+const SELECT_LINKS: &str =
+    "SELECT customer, digest, map FROM link WHERE customer = ?1 ORDER BY customer, digest";
+
+/// Adds a customer's link to a map.
+const INSERT_INTO_LINK: &str = "INSERT INTO link (customer, digest, map) VALUES (?1, ?2, ?3)";
 
 fn link_rows<S: Alter>(
     conn: &mut Connection<S>,
@@ -25,31 +36,9 @@ fn link_rows<S: Alter>(
         ≡ filter (is_link customer.now digest.now) t.links) }
 {
     conn.query_all(
-        "SELECT customer, digest, map FROM link WHERE customer = ?1 AND digest = ?2 ORDER BY customer, digest",
+        SELECT_LINK,
         params![customer.as_str(), digest.as_bytes().as_slice()],
     )
-}
-
-fn read_link(row: &Row) -> Result<LinkRow, Error>
-    ensures { IfOk result (λ link. link ≡ link_in_row (Null ∷ row.now)) }
-{
-    Ok(OfCustomer {
-        customer: name_at(row, 0)?,
-        row: Link {
-            digest: digest_at(row, 1)?,
-            map: whole_at(row, 2)?,
-        },
-    })
-}
-
-fn first_link(rows: &[Row]) -> Result<Option<LinkRow>, Error>
-    ensures { IfOk result (λ link. link
-        ≡ option_map (λ r. link_in_row (Null ∷ r)) (slice_get rows.now 0)) }
-{
-    match rows.first() {
-        Some(row) => Ok(Some(read_link(row)?)),
-        None => Ok(None),
-    }
 }
 
 /// A customer's link to a map, by the digest of the map's text.
@@ -63,14 +52,20 @@ pub fn link_row<S: Alter>(
         ≡ link_at customer.now digest.now t) }
 {
     let rows = link_rows(conn, customer, digest)?;
-    first_link(rows.as_slice())
+    first_row(rows.as_slice())
 }
 
 impl ReadRow for LinkRow {
     ghost reads = { λ r. link_in_row (Null ∷ r) };
 
     fn read_row(row: &Row) -> Result<LinkRow, Error> {
-        read_link(row)
+        Ok(OfCustomer {
+            customer: name_at(row, 0)?,
+            row: Link {
+                digest: digest_at(row, 1)?,
+                map: whole_at(row, 2)?,
+            },
+        })
     }
 }
 
@@ -84,12 +79,7 @@ pub fn visit_links<S: Alter, K: Sink<LinkRow>>(
     ensures { SqlReads S.Store conn.old conn.new result (λ t _.
         Visits K.takes sink.old (filter (is_of customer.now) t.links) sink.new) }
 {
-    visit_rows::<S, LinkRow, K>(
-        conn,
-        "SELECT customer, digest, map FROM link WHERE customer = ?1 ORDER BY customer, digest",
-        params![customer.as_str()],
-        sink,
-    )
+    visit_rows::<S, LinkRow, K>(conn, SELECT_LINKS, params![customer.as_str()], sink)
 }
 
 /// Adds a customer's link to a map.
@@ -103,7 +93,7 @@ pub(crate) fn add_link<S: Alter>(tx: &mut Transaction<'_, S>, link: &LinkRow) ->
 {
     let map = whole(link.row.map)?;
     tx.execute(
-        "INSERT INTO link (customer, digest, map) VALUES (?1, ?2, ?3)",
+        INSERT_INTO_LINK,
         params![
             link.customer.as_str(),
             link.row.digest.as_bytes().as_slice(),

@@ -13,16 +13,22 @@ use office_tables::{Link, MapRow, NewMap, OfCustomer};
 use sqlite::{Alter, Connection, Error, Row, Transaction, params};
 use std::alloc::Global;
 
+/// Reads the map with a number.
+const SELECT_MAP: &str = "SELECT id, body FROM map WHERE id = ?1 ORDER BY id";
+
+/// Reads the map with a text.
+const SELECT_MAP_WITH_BODY: &str = "SELECT id, body FROM map WHERE body = ?1 ORDER BY id";
+
+/// Adds a map, whose number SQL draws.
+const INSERT_INTO_MAP: &str = "INSERT INTO map (body, digest) VALUES (?1, ?2)";
+
 fn id_rows<S: Alter>(conn: &mut Connection<S>, id: u64) -> Result<Vec<Row>, Error>
     requires { HasOffice (state S.Store conn.old) }
     ensures { SqlReads S.Store conn.old conn.new result (λ t rows.
         map (λ r. map_in_row (column r 0 ∷ r)) rows.items ≡ filter (has_id id) t.maps) }
 {
     let id = whole(id)?;
-    conn.query_all(
-        "SELECT id, body FROM map WHERE id = ?1 ORDER BY id",
-        params![id],
-    )
+    conn.query_all(SELECT_MAP, params![id])
 }
 
 fn body_rows<S: Alter>(conn: &mut Connection<S>, body: &str) -> Result<Vec<Row>, Error>
@@ -30,10 +36,7 @@ fn body_rows<S: Alter>(conn: &mut Connection<S>, body: &str) -> Result<Vec<Row>,
     ensures { SqlReads S.Store conn.old conn.new result (λ t rows.
         map (λ r. map_in_row (column r 0 ∷ r)) rows.items ≡ filter (has_body body.now) t.maps) }
 {
-    conn.query_all(
-        "SELECT id, body FROM map WHERE body = ?1 ORDER BY id",
-        params![body],
-    )
+    conn.query_all(SELECT_MAP_WITH_BODY, params![body])
 }
 
 fn read_map(alloc: Global, row: &Row) -> Result<MapRow, Error>
@@ -102,7 +105,7 @@ fn new_map<S: Alter>(tx: &mut Transaction<'_, S>, map: &OfCustomer<NewMap>) -> R
         GainsMap map.now id old new) }
 {
     tx.execute(
-        "INSERT INTO map (body, digest) VALUES (?1, ?2)",
+        INSERT_INTO_MAP,
         params![map.row.body.as_str(), map.row.digest.as_bytes().as_slice()],
     )?;
     number_of(tx.last_insert_rowid())

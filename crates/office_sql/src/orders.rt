@@ -1,5 +1,5 @@
 // The table of orders.
-ghost use Rattle.std.specs.Prelude.{◌≡◌, pos, IfOk, IsTrue, Some, map, filter, option_map, slice_get, string_bytes};
+ghost use Rattle.std.specs.Prelude.{◌≡◌, pos, IfOk, IsTrue, map, filter, option_map, string_bytes};
 ghost use Rattle.id_ranges.specs.Mac as spec;
 ghost use Rattle.sqlite.specs.Held.{state};
 ghost use Rattle.sqlite.specs.Order.{column};
@@ -13,7 +13,7 @@ use crate::address::address_text;
 use crate::number::whole;
 use crate::read::{DAMAGED, mac_if_at, name_at, start_if_at, text_at, whole_at};
 use crate::start::start_text;
-use crate::visit::{ReadRow, visit_rows};
+use crate::visit::{ReadRow, first_row, visit_rows};
 use id_ranges::{Mac, NotBefore, SerialRange};
 use office_tables::{Cursor, OfCustomer, Order, OrderRow, Sink};
 use sqlite::{Alter, Connection, Error, Row, Transaction, params};
@@ -26,6 +26,25 @@ const LARGEST_QUANTITY: u64 = 10_000;
 /// How many addresses a device of an order has at most. A row with more is damaged.
 const LARGEST_MACS: u8 = 4;
 
+/// Reads an order of a customer, with its beginning of validity.
+const SELECT_ORDER: &str =
+    "SELECT orders.customer, name, issuer, prefix, width, first, quantity, macs, mac, cursor, not_before FROM orders JOIN order_start ON order_start.customer = orders.customer AND ord = name WHERE orders.customer = ?1 AND name = ?2 ORDER BY orders.customer, name";
+
+/// Reads a customer's orders, each with its beginning of validity.
+const SELECT_ORDERS: &str =
+    "SELECT orders.customer, name, issuer, prefix, width, first, quantity, macs, mac, cursor, not_before FROM orders JOIN order_start ON order_start.customer = orders.customer AND ord = name WHERE orders.customer = ?1 ORDER BY orders.customer, name";
+
+/// Adds an order.
+const INSERT_INTO_ORDERS: &str =
+    "INSERT INTO orders (customer, name, issuer, prefix, width, first, quantity, macs, mac, cursor) VALUES (?1, ?2, ?3, ?4, ?5, ?6, ?7, ?8, ?9, ?10)";
+
+/// Adds the beginning of validity of an order.
+const INSERT_INTO_ORDER_START: &str =
+    "INSERT INTO order_start (customer, ord, not_before) VALUES (?1, ?2, ?3)";
+
+/// Writes the cursor of an order.
+const UPDATE_OF_CURSOR: &str = "UPDATE orders SET cursor = ?3 WHERE customer = ?1 AND name = ?2";
+
 fn order_rows<S: Alter>(
     conn: &mut Connection<S>,
     customer: &Name,
@@ -35,10 +54,7 @@ fn order_rows<S: Alter>(
     ensures { SqlReads S.Store conn.old conn.new result (λ t rows. map joined_order rows.items
         ≡ filter (is_order customer.now name.now) t.orders) }
 {
-    conn.query_all(
-        "SELECT orders.customer, name, issuer, prefix, width, first, quantity, macs, mac, cursor, not_before FROM orders JOIN order_start ON order_start.customer = orders.customer AND ord = name WHERE orders.customer = ?1 AND name = ?2 ORDER BY orders.customer, name",
-        params![customer.as_str(), name.as_str()],
-    )
+    conn.query_all(SELECT_ORDER, params![customer.as_str(), name.as_str()])
 }
 
 fn small_at(row: &Row, at: usize) -> Result<u8, Error>
@@ -95,15 +111,6 @@ fn read_order(row: &Row, mac: Option<Mac>, not_before: Option<NotBefore>) -> Res
     })
 }
 
-fn first_order(rows: &[Row]) -> Result<Option<OrderRow>, Error>
-    ensures { IfOk result (λ order. order ≡ option_map joined_order (slice_get rows.now 0)) }
-{
-    match rows.first() {
-        Some(row) => Ok(Some(OrderRow::read_row(row)?)),
-        None => Ok(None),
-    }
-}
-
 /// The row of an order.
 pub fn order_row<S: Alter>(
     conn: &mut Connection<S>,
@@ -115,7 +122,7 @@ pub fn order_row<S: Alter>(
         ≡ order_at customer.now name.now t) }
 {
     let rows = order_rows(conn, customer, name)?;
-    first_order(rows.as_slice())
+    first_row(rows.as_slice())
 }
 
 impl ReadRow for OrderRow {
@@ -138,12 +145,7 @@ pub fn visit_orders<S: Alter, K: Sink<OrderRow>>(
     ensures { SqlReads S.Store conn.old conn.new result (λ t _.
         Visits K.takes sink.old (filter (is_of customer.now) t.orders) sink.new) }
 {
-    visit_rows::<S, OrderRow, K>(
-        conn,
-        "SELECT orders.customer, name, issuer, prefix, width, first, quantity, macs, mac, cursor, not_before FROM orders JOIN order_start ON order_start.customer = orders.customer AND ord = name WHERE orders.customer = ?1 ORDER BY orders.customer, name",
-        params![customer.as_str()],
-        sink,
-    )
+    visit_rows::<S, OrderRow, K>(conn, SELECT_ORDERS, params![customer.as_str()], sink)
 }
 
 // Adds the row of an order, with the text of its address.
@@ -165,7 +167,7 @@ fn insert_order<S: Alter>(
     let quantity = whole(range.quantity())?;
     let cursor = whole(order.row.cursor)?;
     tx.execute(
-        "INSERT INTO orders (customer, name, issuer, prefix, width, first, quantity, macs, mac, cursor) VALUES (?1, ?2, ?3, ?4, ?5, ?6, ?7, ?8, ?9, ?10)",
+        INSERT_INTO_ORDERS,
         params![
             order.customer.as_str(),
             order.row.name.as_str(),
@@ -192,7 +194,7 @@ fn insert_order_start<S: Alter>(
         SqlAdds table.order_starts (order_start_columns order.now) old new) }
 {
     tx.execute(
-        "INSERT INTO order_start (customer, ord, not_before) VALUES (?1, ?2, ?3)",
+        INSERT_INTO_ORDER_START,
         params![
             order.customer.as_str(),
             order.row.name.as_str(),
@@ -233,7 +235,7 @@ fn update_cursor<S: Alter>(
         count ≡ 1 → Wrote (TheCursor cursor.now) old new) }
 {
     tx.execute(
-        "UPDATE orders SET cursor = ?3 WHERE customer = ?1 AND name = ?2",
+        UPDATE_OF_CURSOR,
         params![cursor.customer.as_str(), cursor.row.order.as_str(), number],
     )
 }

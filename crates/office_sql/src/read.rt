@@ -28,10 +28,7 @@ pub(crate) fn text_if_at(row: &Row, at: usize) -> Result<Option<&str>, Error>
 {
     match row.get_ref(at)? {
         ValueRef::Null => Ok(None),
-        ValueRef::Text(text) => match str::from_utf8(text) {
-            Ok(text) => Ok(Some(text)),
-            Err(_) => Err(DAMAGED),
-        },
+        ValueRef::Text(text) => Ok(Some(str::from_utf8(text).map_err(|_| DAMAGED)?)),
         _ => Err(DAMAGED),
     }
 }
@@ -112,10 +109,7 @@ pub(crate) fn chip_if_at(row: &Row, at: usize) -> Result<Option<Chip>, Error>
     ensures { IfOk result (λ chip. chip ≡ text_if (column row.now at)) }
 {
     match text_if_at(row, at)? {
-        Some(text) => match Chip::parse(text) {
-            Some(chip) => Ok(Some(chip)),
-            None => Err(DAMAGED),
-        },
+        Some(text) => Ok(Some(Chip::parse(text).ok_or(DAMAGED)?)),
         None => Ok(None),
     }
 }
@@ -124,10 +118,7 @@ pub(crate) fn serial_if_at(row: &Row, at: usize) -> Result<Option<Serial>, Error
     ensures { IfOk result (λ serial. serial ≡ text_if (column row.now at)) }
 {
     match text_if_at(row, at)? {
-        Some(text) => match Serial::parse(text) {
-            Some(serial) => Ok(Some(serial)),
-            None => Err(DAMAGED),
-        },
+        Some(text) => Ok(Some(Serial::parse(text).ok_or(DAMAGED)?)),
         None => Ok(None),
     }
 }
@@ -136,10 +127,7 @@ pub(crate) fn mac_if_at(row: &Row, at: usize) -> Result<Option<Mac>, Error>
     ensures { IfOk result (λ mac. mac ≡ mac_if (column row.now at)) }
 {
     match text_if_at(row, at)? {
-        Some(text) => match Mac::parse(text) {
-            Some(mac) => Ok(Some(mac)),
-            None => Err(DAMAGED),
-        },
+        Some(text) => Ok(Some(Mac::parse(text).ok_or(DAMAGED)?)),
         None => Ok(None),
     }
 }

@@ -13,15 +13,24 @@ use sqlite::{Alter, Connection, Error, Row, Transaction, params};
 use std::alloc::Global;
 use text_core::Name;
 
+/// Reads the row of a seat.
+const SELECT_SEAT: &str =
+    "SELECT name, customer, last, digest, reply FROM seat WHERE name = ?1 ORDER BY name";
+
+/// Writes the row of a seat that has one.
+const UPDATE_OF_SEAT: &str =
+    "UPDATE seat SET customer = ?2, last = ?3, digest = ?4, reply = ?5 WHERE name = ?1";
+
+/// Adds the row of a seat.
+const INSERT_INTO_SEAT: &str =
+    "INSERT INTO seat (name, customer, last, digest, reply) VALUES (?1, ?2, ?3, ?4, ?5)";
+
 fn seat_rows<S: Alter>(conn: &mut Connection<S>, name: &Name) -> Result<Vec<Row>, Error>
     requires { HasOffice (state S.Store conn.old) }
     ensures { SqlReads S.Store conn.old conn.new result (λ t rows.
         map (λ r. seat_in_row (Null ∷ r)) rows.items ≡ filter (is_seat name.now) t.seats) }
 {
-    conn.query_all(
-        "SELECT name, customer, last, digest, reply FROM seat WHERE name = ?1 ORDER BY name",
-        params![name.as_str()],
-    )
+    conn.query_all(SELECT_SEAT, params![name.as_str()])
 }
 
 fn read_seat(alloc: Global, row: &Row) -> Result<SeatRow, Error>
@@ -75,7 +84,7 @@ fn set_seat<S: Alter>(
         (Wrote (ThePut seat.now) old new)) }
 {
     tx.execute(
-        "UPDATE seat SET customer = ?2, last = ?3, digest = ?4, reply = ?5 WHERE name = ?1",
+        UPDATE_OF_SEAT,
         params![
             seat.row.name.as_str(),
             seat.customer.as_str(),
@@ -101,7 +110,7 @@ fn new_seat<S: Alter>(
         Wrote (ThePut seat.now) old new) }
 {
     tx.execute(
-        "INSERT INTO seat (name, customer, last, digest, reply) VALUES (?1, ?2, ?3, ?4, ?5)",
+        INSERT_INTO_SEAT,
         params![
             seat.row.name.as_str(),
             seat.customer.as_str(),

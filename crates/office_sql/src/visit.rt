@@ -1,5 +1,5 @@
-// Rows of a query, which a sink takes one at a time.
-ghost use Rattle.std.specs.Prelude.{◌≡◌, IfOk, List, OnOk, false};
+// Rows of a query as what they stand for: the first alone, or all, which a sink takes one at a time.
+ghost use Rattle.std.specs.Prelude.{◌≡◌, IfOk, List, OnOk, false, option_map, slice_get};
 ghost use Rattle.sqlite.specs.Given.{Returns};
 ghost use Rattle.sqlite.specs.Held.{state};
 ghost use Rattle.sqlite.specs.Listing.{understood};
@@ -25,6 +25,16 @@ pub(crate) trait ReadRow: Sized {
     /// Reads a row. A column that isn't of its form is the fault of a damaged database.
     fn read_row(row: &Row) -> Result<Self, Error>
         ensures { IfOk result (λ it. it ≡ reads row.now) };
+}
+
+/// What the first of the rows is read as, if there is one.
+pub(crate) fn first_row<R: ReadRow>(rows: &[Row]) -> Result<Option<R>, Error>
+    ensures { IfOk result (λ found. found ≡ option_map R.reads (slice_get rows.now 0)) }
+{
+    match rows.first() {
+        Some(row) => Ok(Some(R::read_row(row)?)),
+        None => Ok(None),
+    }
 }
 
 /// Hands the rows of a query to the sink, one at a time, while it goes on. The rows behind aren't

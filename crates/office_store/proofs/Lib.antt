@@ -1,4 +1,3 @@
-mod Texts
 mod Creates
 mod Changing
 mod FoundOffice
@@ -13,6 +12,7 @@ mod CreateStarts
 mod CreateRow
 mod Counts
 mod StartsMade
+mod Told
 mod Steps
 mod Raising
 mod Upgrades

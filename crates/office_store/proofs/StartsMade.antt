@@ -1,6 +1,6 @@
 -- What is left of the starts by the texts that fill them, in a database of the second version.
 use Rattle.std.proofs.Common.{◌≡◌, ◌∷◌, Ordering}
-use Rattle.text_core.proofs.Kit.{ℕ, ℤ, Bool, true, false, cond, Some, None, find, option_and_then, ap, codes, List, [], Ok, refl, sym, subst, append-nil}
+use Rattle.text_core.proofs.Kit.{ℕ, ℤ, Bool, true, false, cond, Some, None, find, option_and_then, ap, List, [], Ok, refl, sym, subst, append-nil}
 use Rattle.text_core.proofs.Kit.{AllByRecursion, IsTotalOrder, is_eq, IsPermutation-trans}
 use Rattle.office_sql.proofs.Kit.{Null, Int, Row, column, Term, lit, col, eval_all, Collation, Binary, Database, State, Executes, cast_row, IsPermutation-same}
 use Rattle.sqlite.specs.Listing.{understood}
@@ -17,6 +17,7 @@ use Rattle.office_sql.proofs.Filling.{Fills, fills, shown_of}
 use Rattle.office_sql.proofs.Inserting.{IsInsertOf}
 use Rattle.office_sql.proofs.Stepping.{cast_null}
 use Rattle.office_store.specs.Prelude.{GainsNone, LacksOrderStarts, LacksGivenStarts}
+use Rattle.office_store.specs.declared.upgrade.TheConstants.{INSERT_NO_ORDER_STARTS, INSERT_NO_GIVEN_STARTS}
 use Rattle.office_found.specs.Prelude.{schema_of}
 use Rattle.office_found.specs.declared.version.Version.TheVariants.{Second}
 use Rattle.office_store.proofs.Counts.{first_but}
@@ -65,40 +66,34 @@ filled Typed cmp total value is_for tied texts table side old new are it =
 
 -- ---- the starts of orders
 
-abbrev pub order_fill_text : List ℕ
-order_fill_text = codes "INSERT INTO order_start (customer, ord, not_before) SELECT customer, name, NULL FROM orders"
-
-order_fill : IsInsertOf (schema_of Second) order_fill_text order_starts (Selected (shown_of orders plainly fill_shown))
+order_fill : IsInsertOf (schema_of Second) INSERT_NO_ORDER_STARTS.now order_starts (Selected (shown_of orders plainly fill_shown))
 unfolding understood everything
 order_fill = record { is = refl; plain = (refl, refl); there = refl; uncounted = refl; unstamped = refl }
 
 order_casts : (r : Row) → IsOrderRow r → cast_row order_start_table (eval_all fill_shown (env [] r)) ≡ Null ∷ start_columns r
 order_casts r e = rw (cast_null, e.0, e.1) refl
 
-pub orders_filled : (old new : State) (count : ℕ) → LacksOrderStarts old.now → Executes order_fill_text [] old new (Ok count)
+pub orders_filled : (old new : State) (count : ℕ) → LacksOrderStarts old.now → Executes INSERT_NO_ORDER_STARTS.now [] old new (Ok count)
     → GainsNone starts_order order_in_row orders order_starts old.now new.now
 orders_filled old new count lacks ran =
     filled IsOrderRow order_cmp order_total order_in_row starts_order (λ a id r e.
     sym (order_tied a (order_in_row r))) (λ r e. (e.0, e.1)) orders order_starts old.now new.now lacks.rows
-    (fills (schema_of Second) order_fill_text order_starts orders plainly fill_shown order_fill (λ db.
+    (fills (schema_of Second) INSERT_NO_ORDER_STARTS.now order_starts orders plainly fill_shown order_fill (λ db.
     refl) [] IsOrderRow start_columns order_casts old new count lacks.schema lacks.none lacks.rows.typed ran)
 
 -- ---- the starts of records
 
-abbrev pub given_fill_text : List ℕ
-given_fill_text = codes "INSERT INTO given_start (issuer, serial, not_before) SELECT issuer, serial, NULL FROM given"
-
-given_fill : IsInsertOf (schema_of Second) given_fill_text given_starts (Selected (shown_of given plainly fill_shown))
+given_fill : IsInsertOf (schema_of Second) INSERT_NO_GIVEN_STARTS.now given_starts (Selected (shown_of given plainly fill_shown))
 unfolding understood everything
 given_fill = record { is = refl; plain = (refl, refl); there = refl; uncounted = refl; unstamped = refl }
 
 given_casts : (r : Row) → IsGivenRow r → cast_row given_start_table (eval_all fill_shown (env [] r)) ≡ Null ∷ start_columns r
 given_casts r e = rw (cast_null, e.0, e.1) refl
 
-pub given_filled : (old new : State) (count : ℕ) → LacksGivenStarts old.now → Executes given_fill_text [] old new (Ok count)
+pub given_filled : (old new : State) (count : ℕ) → LacksGivenStarts old.now → Executes INSERT_NO_GIVEN_STARTS.now [] old new (Ok count)
     → GainsNone starts_given given_in_row given given_starts old.now new.now
 given_filled old new count lacks ran =
     filled IsGivenRow given_cmp given_total given_in_row starts_given (λ a id r e.
     sym (given_tied a (given_in_row r))) (λ r e. (e.0, e.1)) given given_starts old.now new.now lacks.rows
-    (fills (schema_of Second) given_fill_text given_starts given plainly fill_shown given_fill (λ db.
+    (fills (schema_of Second) INSERT_NO_GIVEN_STARTS.now given_starts given plainly fill_shown given_fill (λ db.
     refl) [] IsGivenRow start_columns given_casts old new count lacks.schema lacks.none lacks.rows.typed ran)

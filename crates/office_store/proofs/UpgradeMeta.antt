@@ -5,9 +5,11 @@ use Rattle.office_sql.proofs.Kit.{Value, Null, Int, Real, Row, column, bytes, Tr
 use Rattle.sqlite.specs.declared.types.Value.TheVariants.{Text as Words, Blob as Bytes}
 use Rattle.sqlite.specs.Order.{value_cmp}
 use Rattle.office_sql.specs.Prelude.{meta, texts, office_schema, rows_in, number_in_cell}
-use Rattle.office_sql.proofs.Told.{tell_text, told, name_text, named, write_text, written}
+use Rattle.office_store.proofs.Told.{told, named, written}
 use Rattle.office_store.proofs.Types.{Meta, Version, Third}
 use Rattle.office_store.specs.Prelude.{ReplacesName, PutsText, TellsItself, TellsThird}
+use Rattle.office_store.specs.declared.upgrade.TheConstants.{UPDATE_OF_SCHEMA}
+use Rattle.office_store.specs.declared.grow.TheConstants.{UPDATE_OF_SITE, UPDATE_OF_SITE_TEXT}
 use Rattle.office_found.specs.Prelude.{meta_in, meta_of_version, HasMeta, HoldsText}
 
 -- the row that is there alone
@@ -49,7 +51,7 @@ meta_row version site db is =
 
 -- the third version is told of the same site
 pub tells_third : (old new : State) (count : ℕ) → old.now.schema ≡ office_schema
-    → (version : Version) → TellsItself version old.now.trees → Executes tell_text [] old new (Ok count) → TellsThird old.now new.now
+    → (version : Version) → TellsItself version old.now.trees → Executes UPDATE_OF_SCHEMA.now [] old new (Ok count) → TellsThird old.now new.now
 tells_third old new count has version itself ran =
     let it = meta_row version itself.0 old.now.trees itself.1 in
     let r = it.0 in
@@ -68,7 +70,7 @@ tells_third old new count has version itself ran =
 
 -- another site is told
 pub names_site : (site : List ℕ) (old new : State) (count : ℕ) → old.now.schema ≡ office_schema → (older : List ℕ) → HasMeta Third older old.now.trees
-    → Executes name_text (Bytes site ∷ []) old new (Ok count) → ReplacesName site old.now new.now
+    → Executes UPDATE_OF_SITE.now (Bytes site ∷ []) old new (Ok count) → ReplacesName site old.now new.now
 names_site site old new count has older itself ran =
     let it = meta_row Third older old.now.trees itself in
     let r = it.0 in
@@ -80,7 +82,7 @@ names_site site old new count has older itself ran =
 
 -- another text is held
 pub writes_text : (text : List ℕ) (old new : State) (count : ℕ) → old.now.schema ≡ office_schema → (older : List ℕ) → HoldsText older old.now.trees
-    → Executes write_text (Words text ∷ []) old new (Ok count) → PutsText text old.now new.now
+    → Executes UPDATE_OF_SITE_TEXT.now (Words text ∷ []) old new (Ok count) → PutsText text old.now new.now
 writes_text text old new count has older it ran =
     let r = it.0 in
     let made = (written r text old new count has it.1 it.2.id ran).0 in

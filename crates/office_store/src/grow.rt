@@ -11,6 +11,12 @@ use site_core::SiteText;
 use sqlite::{Alter, Connection, Error, Transaction, params};
 use text_core::Digest;
 
+/// Writes another text of the site.
+const UPDATE_OF_SITE_TEXT: &str = "UPDATE site_text SET body = ?1 WHERE id = 1";
+
+/// Writes the SHA-256 of another text of the site.
+const UPDATE_OF_SITE: &str = "UPDATE meta SET site = ?1 WHERE id = 1";
+
 /// Holds another text of the site.
 fn replace_text<S: Alter>(tx: &mut Transaction<'_, S>, text: &str) -> Result<(), Error>
     requires has { Sees (λ db. db.schema ≡ office_schema) (state S.Store tx.old.conn.now) }
@@ -20,7 +26,7 @@ fn replace_text<S: Alter>(tx: &mut Transaction<'_, S>, text: &str) -> Result<(),
     ensures changes { SqlWrites S.Store tx.old.conn.now tx.new.conn.now result
         (λ old new _. PutsText text.now old new) }
 {
-    tx.execute("UPDATE site_text SET body = ?1 WHERE id = 1", params![text])?;
+    tx.execute(UPDATE_OF_SITE_TEXT, params![text])?;
     Ok(())
 }
 
@@ -33,10 +39,7 @@ fn replace_name<S: Alter>(tx: &mut Transaction<'_, S>, site: &Digest) -> Result<
     ensures changes { SqlWrites S.Store tx.old.conn.now tx.new.conn.now result
         (λ old new _. ReplacesName site.now old new) }
 {
-    tx.execute(
-        "UPDATE meta SET site = ?1 WHERE id = 1",
-        params![site.as_bytes().as_slice()],
-    )?;
+    tx.execute(UPDATE_OF_SITE, params![site.as_bytes().as_slice()])?;
     Ok(())
 }
 

@@ -16,6 +16,17 @@ use crate::remake::remake_tables;
 use office_found::Version;
 use sqlite::{Alter, Connection, Error, Transaction};
 
+/// Adds a row without a beginning of validity for each order.
+const INSERT_NO_ORDER_STARTS: &str =
+    "INSERT INTO order_start (customer, ord, not_before) SELECT customer, name, NULL FROM orders";
+
+/// Adds a row without a beginning of validity for each record.
+const INSERT_NO_GIVEN_STARTS: &str =
+    "INSERT INTO given_start (issuer, serial, not_before) SELECT issuer, serial, NULL FROM given";
+
+/// Writes the number of the schema.
+const UPDATE_OF_SCHEMA: &str = "UPDATE meta SET schema = 3 WHERE id = 1";
+
 /// Tells of each order that it has no beginning of validity.
 fn fill_order_starts<S: Alter>(tx: &mut Transaction<'_, S>) -> Result<(), Error>
     requires { Sees LacksOrderStarts (state S.Store tx.old.conn.now) }
@@ -23,10 +34,7 @@ fn fill_order_starts<S: Alter>(tx: &mut Transaction<'_, S>) -> Result<(), Error>
     ensures changes { SqlWrites S.Store tx.old.conn.now tx.new.conn.now result
         (λ old new _. GainsNone starts_order order_in_row orders order_starts old new) }
 {
-    tx.execute(
-        "INSERT INTO order_start (customer, ord, not_before) SELECT customer, name, NULL FROM orders",
-        &[],
-    )?;
+    tx.execute(INSERT_NO_ORDER_STARTS, &[])?;
     Ok(())
 }
 
@@ -37,10 +45,7 @@ fn fill_given_starts<S: Alter>(tx: &mut Transaction<'_, S>) -> Result<(), Error>
     ensures changes { SqlWrites S.Store tx.old.conn.now tx.new.conn.now result
         (λ old new _. GainsNone starts_given given_in_row given given_starts old new) }
 {
-    tx.execute(
-        "INSERT INTO given_start (issuer, serial, not_before) SELECT issuer, serial, NULL FROM given",
-        &[],
-    )?;
+    tx.execute(INSERT_NO_GIVEN_STARTS, &[])?;
     Ok(())
 }
 
@@ -126,7 +131,7 @@ fn tell_schema<S: Alter>(tx: &mut Transaction<'_, S>) -> Result<(), Error>
     ensures changes { SqlWrites S.Store tx.old.conn.now tx.new.conn.now result
         (λ old new _. TellsThird old new) }
 {
-    tx.execute("UPDATE meta SET schema = 3 WHERE id = 1", &[])?;
+    tx.execute(UPDATE_OF_SCHEMA, &[])?;
     Ok(())
 }
 

@@ -1,12 +1,12 @@
 use Rattle.sqlite.specs.Held.{state}
 use Rattle.office_sql.proofs.Visiting.{bare_returns}
-use Rattle.office_found.proofs.AddressRows.{addresses_read, addresses_text}
+use Rattle.office_found.proofs.AddressRows.{addresses_read}
 use Rattle.office_found.proofs.AddressWalk.{walk_tells}
 use Rattle.office_found.specs.declared.version.Version.TheVariants.{First}
 use Rattle.office_found.proofs.addresses.has_apart_addresses.Goals as goal
 
 pub has_no_repeat-requires : goal.has_no_repeat-requires
-has_no_repeat-requires g c = bare_returns addresses_text (addresses_read First).bare c.args.conn.now.schema
+has_no_repeat-requires g c = bare_returns _ (addresses_read First).bare c.args.conn.now.schema
 
 pub returns : goal.returns
 returns g c =

@@ -1,15 +1,13 @@
-use Rattle.std.proofs.Common.{[]}
 use Rattle.sqlite.specs.Held.{state}
-use Rattle.office_sql.specs.Prelude.{tree_of, meta, scan}
 use Rattle.office_found.proofs.FoundAsked.{of_a_version, tested}
-use Rattle.office_found.proofs.MetaShows.{row_text, row_shown, row_order, row_read, shows_meta}
+use Rattle.office_found.proofs.MetaShows.{row_read, shows_meta}
 use Rattle.office_found.specs.declared.version.Version.TheVariants.{First}
 use Rattle.office_found.proofs.meta.meta_rows.Goals as goal
 
 pub returns : goal.returns
 returns g c =
-    tested g.S.Store row_text (scan (tree_of meta) [] row_shown row_order) (row_read First).bare _
-    (of_a_version row_text (scan (tree_of meta) [] row_shown row_order) row_read)
+    tested g.S.Store _ _ (row_read First).bare _
+    (of_a_version _ _ row_read)
     c.args.conn.now c.query_all.new.self c.query_all.result _
     (λ up. (c.requires.0, (c.requires.1 up).schema))
     (λ rows up a. shows_meta c.requires.0 (state g.S.Store c.args.conn.now).now rows.items (c.requires.1 up) a)

@@ -16,6 +16,6 @@ pub returns : goal.returns
 returns c = (
   λ b. joined c.args.form c.args.table.now (c.has_columns.ensures.0 c.if-not-has_columns.false)
       (c.has_keys.ensures.0 c.if-not-has_keys.false) (sym c.as_slice.ensures
-      ∙ c.are_references.ensures.0 b) (c.is_bare.ensures.0 c.if-not-is_bare.false),
-  λ e. c.are_references.ensures.1 (c.as_slice.ensures ∙ ap (λ t. t.references) e),
+      ∙ c.are_all.ensures.0 b) (c.is_bare.ensures.0 c.if-not-is_bare.false),
+  λ e. c.are_all.ensures.1 (c.as_slice.ensures ∙ ap (λ t. t.references) e),
 )

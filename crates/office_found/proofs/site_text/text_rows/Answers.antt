@@ -1,14 +1,13 @@
-use Rattle.std.proofs.Common.{◌≡◌, []}
+use Rattle.std.proofs.Common.{◌≡◌}
 use Rattle.sqlite.specs.Held.{state}
-use Rattle.office_sql.specs.Prelude.{texts, scan, office_schema, tree_of}
+use Rattle.office_sql.specs.Prelude.{office_schema}
 use Rattle.office_found.proofs.FoundAsked.{read_under, tested}
-use Rattle.office_found.proofs.TextShows.{body_text, body_shown, body_order, body_read, shows_texts}
+use Rattle.office_found.proofs.TextShows.{body_read, shows_texts}
 use Rattle.office_found.proofs.site_text.text_rows.Goals as goal
 
 pub returns : goal.returns
 returns g c =
-    let body = scan (tree_of texts) [] body_shown body_order in
-    tested g.S.Store body_text body body_read.bare (λ schema. schema ≡ office_schema) (read_under body_text body office_schema body_read)
+    tested g.S.Store _ _ body_read.bare (λ schema. schema ≡ office_schema) (read_under _ _ office_schema body_read)
     c.args.conn.now c.query_all.new.self c.query_all.result _
     (λ up. (c.requires up).schema)
     (λ rows up a. shows_texts (state g.S.Store c.args.conn.now).now.trees rows.items a)

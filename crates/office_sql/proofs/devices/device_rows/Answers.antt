@@ -1,16 +1,16 @@
 -- What the query of a device shows is that device.
 use Rattle.std.proofs.Common.{refl, [], ◌∷◌}
 use Rattle.sqlite.specs.declared.types.Value.TheVariants.{Text}
-use Rattle.office_sql.specs.Prelude.{devices, is_parameter}
+use Rattle.office_sql.specs.Prelude.{devices}
 use Rattle.office_sql.proofs.Reading.{asked}
-use Rattle.office_sql.proofs.DeviceReads.{one_text, shown, by_key, one_read, one_shown}
+use Rattle.office_sql.proofs.DeviceReads.{one_read, one_shown}
 use Rattle.office_sql.proofs.devices.device_rows.Goals as goal
 
 pub returns : goal.returns
 returns g c =
     let customer = c.args.customer.now in
     let chip = c.args.chip.now in
-    asked g.S.Store one_text devices (is_parameter 1 0 ∷ is_parameter 2 1 ∷ []) shown by_key one_read _ (Text customer ∷ Text chip ∷ [])
+    asked g.S.Store one_read _ (Text customer ∷ Text chip ∷ [])
     (rw (
       c.params-to_sql.ensures,
       c.params-to_sql-2.ensures,

@@ -1,14 +1,14 @@
 -- The insert adds the device.
 use Rattle.sqlite.specs.Held.{state}
-use Rattle.office_sql.specs.Prelude.{devices, device_columns}
-use Rattle.office_sql.proofs.DeviceWrites.{add_text, add_terms, add_insert, add_casts, device_added}
+use Rattle.office_sql.specs.Prelude.{device_columns}
+use Rattle.office_sql.proofs.DeviceWrites.{add_insert, add_casts, device_added}
 use Rattle.office_sql.proofs.Inserting.{inserts}
 use Rattle.office_sql.proofs.devices.insert_device.Goals as goal
 
 pub returns-clause-changes : goal.returns-clause-changes
 returns-clause-changes g c =
     let device = c.args.device.now in
-    inserts g.S.Store add_text devices add_terms 11 add_insert _ (device_columns device) (device_columns device)
+    inserts g.S.Store add_insert _ (device_columns device) (device_columns device)
     c.values_of.ensures (add_casts device) c.args.tx.now.conn.now c.execute.new.self.conn.now c.execute.result _ c.requires.office
     (λ count up office adds.
     device_added device (state g.S.Store c.args.tx.now.conn.now).now

@@ -1,16 +1,15 @@
 -- What the query of a customer's devices shows are their orders and states.
 use Rattle.std.proofs.Common.{refl, [], ◌∷◌}
 use Rattle.sqlite.specs.declared.types.Value.TheVariants.{Text}
-use Rattle.office_sql.specs.Prelude.{devices, is_parameter}
+use Rattle.office_sql.specs.Prelude.{devices}
 use Rattle.office_sql.proofs.Reading.{asked}
-use Rattle.office_sql.proofs.DeviceReads.{states_text, states_shown, by_key, states_read, states_shown_are}
+use Rattle.office_sql.proofs.DeviceReads.{states_read, states_shown_are}
 use Rattle.office_sql.proofs.devices.state_rows.Goals as goal
 
 pub returns : goal.returns
 returns g c =
     let customer = c.args.customer.now in
-    asked g.S.Store states_text devices (is_parameter 1 0
-    ∷ []) states_shown by_key states_read _ (Text customer
+    asked g.S.Store states_read _ (Text customer
     ∷ []) (rw (c.params-to_sql.ensures, c.as_str.ensures.same) refl)
     c.args.conn.now c.query_all.new.self c.query_all.result _ c.requires
     (λ rows office s. states_shown_are customer _ rows.items (office.rows devices) s)

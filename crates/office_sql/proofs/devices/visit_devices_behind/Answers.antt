@@ -2,18 +2,18 @@ use Rattle.std.proofs.Common.{rules, [], ◌∷◌, filter}
 use Rattle.sqlite.specs.declared.types.Value.TheVariants.{Null, Text}
 use Rattle.office_tables.specs.Prelude.{is_device_behind}
 use Rattle.office_sql.specs.Prelude.{devices, device_in_row}
-use Rattle.office_sql.proofs.DeviceReads.{behind_text, behind_tests, shown, by_key, behind_read, behind_shown}
+use Rattle.office_sql.proofs.DeviceReads.{behind_read, behind_shown}
 use Rattle.office_sql.proofs.Visiting.{bare_returns, visits}
 use Rattle.office_sql.proofs.devices.visit_devices_behind.Goals as goal
 
 pub visit_rows-requires : goal.visit_rows-requires
-visit_rows-requires g c = bare_returns behind_text behind_read.bare c.args.conn.now.schema
+visit_rows-requires g c = bare_returns _ behind_read.bare c.args.conn.now.schema
 
 pub returns : goal.returns
 returns g c =
     let customer = c.args.customer.now in
     let chip = c.args.chip.now in
-    visits g.S.Store behind_text devices behind_tests shown by_key behind_read _ (Text customer ∷ Text chip ∷ []) (search rules)
+    visits g.S.Store behind_read _ (Text customer ∷ Text chip ∷ []) (search rules)
     c.args.conn.now c.visit_rows.new.conn
     g.K.Sink.takes (λ r. device_in_row (Null ∷ r)) c.visit_rows.result c.args.sink.now c.visit_rows.new.sink
     (λ t. filter (is_device_behind customer chip) t.devices) c.requires

@@ -1,14 +1,10 @@
-use Rattle.text_core.proofs.Kit.{rules, ◌∙◌, IfOk-weaker}
+use Rattle.text_core.proofs.Kit.{rules}
 use Rattle.office_tables.specs.Prelude.{is_serial_of}
 use Rattle.office_sql.specs.Prelude.{joined_given}
-use Rattle.office_sql.proofs.Kept.{found}
-use Rattle.office_sql.proofs.Reading.{asks_more}
+use Rattle.office_sql.proofs.Reading.{asks_first}
 use Rattle.office_sql.proofs.given.given_row.Goals as goal
 
 pub returns : goal.returns
 returns g c =
-    asks_more g.S.Store c.args.conn.now c.rows_at.new.conn c.rows_at.result c.first_given.result _ _ c.rows_at.ensures
-    (λ t is. IfOk-weaker c.first_given.result _ _ (λ row e. e
-    ∙ found joined_given (is_serial_of c.args.issuer.now c.args.serial.now) t.given _
-    (search rules)) c.first_given.ensures)
-    (search rules)
+    asks_first g.S.Store c.args.conn.now c.rows_at.new.conn c.rows_at.result _ c.first_row.result joined_given
+    (is_serial_of c.args.issuer.now c.args.serial.now) (λ t. t.given) c.rows_at.ensures c.first_row.ensures (λ t is. search rules) (search rules)

@@ -1,15 +1,14 @@
-use Rattle.std.proofs.Common.{rules, [], ◌∷◌, ◌++◌}
+use Rattle.std.proofs.Common.{rules, [], ◌∷◌}
 use Rattle.sqlite.specs.declared.types.Value.TheVariants.{Text}
 use Rattle.office_sql.proofs.Kit.{state, overlay}
 use Rattle.office_sql.specs.Prelude.{given}
-use Rattle.office_sql.proofs.Reading.{asked_joined}
-use Rattle.office_sql.proofs.GivenReads.{at_text, on_start, at_tests, shown, by_key, at_read, at_shown, with_starts}
+use Rattle.office_sql.proofs.LedgerAsked.{asked_as}
+use Rattle.office_sql.proofs.GivenReads.{at_read, at_shown}
 use Rattle.office_sql.proofs.given.rows_at.Goals as goal
 
 pub returns : goal.returns
 returns g c =
-    asked_joined g.S.Store at_text with_starts (on_start
-    ++ at_tests) shown by_key at_read _ (Text c.args.issuer.now ∷ Text c.args.serial.now
+    asked_as g.S.Store _ _ at_read _ (Text c.args.issuer.now ∷ Text c.args.serial.now
     ∷ []) (search rules)
     c.args.conn.now c.query_all.new.self c.query_all.result _ c.requires
     (λ rows office a.

@@ -1,15 +1,14 @@
-use Rattle.std.proofs.Common.{rules, [], ◌∷◌, ◌++◌}
+use Rattle.std.proofs.Common.{rules, [], ◌∷◌}
 use Rattle.sqlite.specs.declared.types.Value.TheVariants.{Text, Blob}
 use Rattle.office_sql.proofs.Kit.{state, overlay}
 use Rattle.office_sql.specs.Prelude.{given}
-use Rattle.office_sql.proofs.Reading.{asked_joined}
-use Rattle.office_sql.proofs.GivenReads.{key_text, on_start, key_tests, shown, by_key, key_read, key_shown, with_starts}
+use Rattle.office_sql.proofs.LedgerAsked.{asked_as}
+use Rattle.office_sql.proofs.GivenReads.{key_read, key_shown}
 use Rattle.office_sql.proofs.given.rows_by_key.Goals as goal
 
 pub returns : goal.returns
 returns g c =
-    asked_joined g.S.Store key_text with_starts (on_start
-    ++ key_tests) shown by_key key_read _ (Text c.args.issuer.now ∷ Blob c.args.key.now
+    asked_as g.S.Store _ _ key_read _ (Text c.args.issuer.now ∷ Blob c.args.key.now
     ∷ []) (search rules)
     c.args.conn.now c.query_all.new.self c.query_all.result _ c.requires
     (λ rows office a.

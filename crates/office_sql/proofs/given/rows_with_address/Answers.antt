@@ -1,15 +1,14 @@
-use Rattle.std.proofs.Common.{rules, [], ◌∷◌, ◌++◌}
+use Rattle.std.proofs.Common.{rules, [], ◌∷◌}
 use Rattle.sqlite.specs.declared.types.Value.TheVariants.{Text}
 use Rattle.office_sql.proofs.Kit.{state, overlay}
 use Rattle.office_sql.specs.Prelude.{given}
-use Rattle.office_sql.proofs.GivenReads.{shown, by_key, on_start, with_starts}
-use Rattle.office_sql.proofs.GivenWrites.{address_text, address_tests, address_read, address_shown}
+use Rattle.office_sql.proofs.GivenWrites.{address_read, address_shown}
 use Rattle.office_sql.proofs.Looking.{looked}
 use Rattle.office_sql.proofs.given.rows_with_address.Goals as goal
 
 pub returns-clause-looks : goal.returns-clause-looks
 returns-clause-looks g c =
-    looked g.S.Store address_text with_starts (on_start ++ address_tests) shown by_key address_read _ (Text c.args.text.now ∷ []) (search rules)
+    looked g.S.Store _ _ address_read _ (Text c.args.text.now ∷ []) (search rules)
     c.args.tx.now.conn.now c.query_all.new.self.conn.now c.query_all.result _ c.requires
     (λ rows office a mac is.
     address_shown mac c.args.text.now is

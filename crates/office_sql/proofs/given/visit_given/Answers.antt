@@ -1,20 +1,19 @@
-use Rattle.std.proofs.Common.{rules, [], ◌∷◌, ◌++◌, filter}
+use Rattle.std.proofs.Common.{rules, [], ◌∷◌, filter}
 use Rattle.sqlite.specs.declared.types.Value.TheVariants.{Text}
 use Rattle.office_sql.proofs.Kit.{state, overlay}
 use Rattle.office_tables.specs.Prelude.{is_of_issuer}
 use Rattle.office_sql.specs.Prelude.{given, joined_given}
-use Rattle.office_sql.proofs.GivenReads.{all_text, on_start, all_tests, shown, by_key, all_read, all_shown, with_starts}
-use Rattle.office_sql.proofs.Visiting.{bare_returns, visits_joined}
+use Rattle.office_sql.proofs.GivenReads.{all_read, all_shown}
+use Rattle.office_sql.proofs.Visiting.{bare_returns, visits_as}
 use Rattle.office_sql.proofs.given.visit_given.Goals as goal
 
 pub visit_rows-requires : goal.visit_rows-requires
-visit_rows-requires g c = bare_returns all_text all_read.bare c.args.conn.now.schema
+visit_rows-requires g c = bare_returns _ all_read.bare c.args.conn.now.schema
 
 pub returns : goal.returns
 returns g c =
     let issuer = c.args.issuer.now in
-    visits_joined g.S.Store all_text with_starts (on_start
-    ++ all_tests) shown by_key all_read _ (Text issuer
+    visits_as g.S.Store _ _ all_read _ (Text issuer
     ∷ []) (search rules) c.args.conn.now c.visit_rows.new.conn
     g.K.Sink.takes joined_given c.visit_rows.result c.args.sink.now c.visit_rows.new.sink (λ t. filter (is_of_issuer issuer) t.given) c.requires
     (λ rows office a. all_shown issuer (overlay (state g.S.Store c.args.conn.now).now.trees []) rows (office.rows given) office.given_started a)

@@ -1,18 +1,18 @@
 use Rattle.std.proofs.Common.{rules, [], ◌∷◌, filter}
 use Rattle.sqlite.specs.declared.types.Value.TheVariants.{Null, Text}
 use Rattle.office_tables.specs.Prelude.{is_of}
-use Rattle.office_sql.specs.Prelude.{links, link_in_row, is_parameter}
-use Rattle.office_sql.proofs.LinkReads.{own_text, shown, by_key, own_read, own_shown}
+use Rattle.office_sql.specs.Prelude.{links, link_in_row}
+use Rattle.office_sql.proofs.LinkReads.{own_read, own_shown}
 use Rattle.office_sql.proofs.Visiting.{bare_returns, visits}
 use Rattle.office_sql.proofs.links.visit_links.Goals as goal
 
 pub visit_rows-requires : goal.visit_rows-requires
-visit_rows-requires g c = bare_returns own_text own_read.bare c.args.conn.now.schema
+visit_rows-requires g c = bare_returns _ own_read.bare c.args.conn.now.schema
 
 pub returns : goal.returns
 returns g c =
     let customer = c.args.customer.now in
-    visits g.S.Store own_text links (is_parameter 1 0 ∷ []) shown by_key own_read _ (Text customer ∷ []) (search rules) c.args.conn.now c.visit_rows.new.conn
+    visits g.S.Store own_read _ (Text customer ∷ []) (search rules) c.args.conn.now c.visit_rows.new.conn
     g.K.Sink.takes (λ r. link_in_row (Null ∷ r)) c.visit_rows.result c.args.sink.now c.visit_rows.new.sink (λ t. filter (is_of customer) t.links) c.requires
     (λ rows office s. own_shown customer _ rows (office.rows links) s)
     c.visit_rows.ensures.visited c.visit_rows.ensures.same c.visit_rows.ensures.rests c.visit_rows.ensures.mode c.visit_rows.ensures.crash

@@ -5,7 +5,7 @@ use Rattle.office_sql.specs.Prelude.{maps, map_columns, GainsMap}
 use Rattle.office_sql.proofs.Inserting.{adds, changes}
 use Rattle.office_sql.proofs.MapChanges.{answered, refused}
 use Rattle.office_sql.proofs.MapIds.{last_is_next}
-use Rattle.office_sql.proofs.MapWrites.{add_text, add_terms, add_insert, add_casts, map_gained}
+use Rattle.office_sql.proofs.MapWrites.{add_terms, add_insert, add_casts, map_gained}
 use Rattle.office_sql.proofs.maps.new_map.Goals as goal
 
 pub returns-in_err-execute-clause-changes : goal.returns-in_err-execute-clause-changes
@@ -22,12 +22,12 @@ returns-clause-changes g c =
     let Gains = λ (x y : Database) (_ : ℕ). (id : ℕ) → (state g.S.Store new).last_rowid ≡ pos id → GainsMap m id x y in
     let back = to_z-of_z w64 c.last_insert_rowid.result (record { sfits = c.last_insert_rowid.type_inv }) in
     answered g.S.Store old new c.in_ok-execute.field-0 c.number_of.result Gains _
-    (changes g.S.Store add_text _ (map_columns m) (search rules) old new (Ok c.in_ok-execute.field-0) Gains c.requires
+    (changes g.S.Store _ _ (map_columns m) (search rules) old new (Ok c.in_ok-execute.field-0) Gains c.requires
     (λ count up office ran id is.
-    let last = last_is_next add_text maps add_terms 4 add_insert (map_columns m) (Null
+    let last = last_is_next _ maps add_terms 4 add_insert (map_columns m) (Null
     ∷ map_columns m) (add_casts m) (state g.S.Store old) (state g.S.Store new)
     count office.schema ran in
-    let row = adds add_text maps add_terms 4 add_insert (map_columns m) (Null
+    let row = adds _ maps add_terms 4 add_insert (map_columns m) (Null
     ∷ map_columns m) (add_casts m) (state g.S.Store old) (state g.S.Store new)
     count office.schema ran in
     map_gained m id _ _ office (sym last ∙ is) row)

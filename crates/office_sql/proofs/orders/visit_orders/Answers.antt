@@ -1,20 +1,19 @@
-use Rattle.std.proofs.Common.{rules, [], ◌∷◌, ◌++◌, filter}
+use Rattle.std.proofs.Common.{rules, [], ◌∷◌, filter}
 use Rattle.sqlite.specs.declared.types.Value.TheVariants.{Text}
 use Rattle.office_sql.proofs.Kit.{state}
 use Rattle.office_tables.specs.Prelude.{is_of}
 use Rattle.office_sql.specs.Prelude.{joined_order}
-use Rattle.office_sql.proofs.OrderReads.{own_text, on_start, own_tests, shown, by_key, own_read, own_shown, with_starts}
-use Rattle.office_sql.proofs.Visiting.{bare_returns, visits_joined}
+use Rattle.office_sql.proofs.OrderReads.{own_read, own_shown}
+use Rattle.office_sql.proofs.Visiting.{bare_returns, visits_as}
 use Rattle.office_sql.proofs.orders.visit_orders.Goals as goal
 
 pub visit_rows-requires : goal.visit_rows-requires
-visit_rows-requires g c = bare_returns own_text own_read.bare c.args.conn.now.schema
+visit_rows-requires g c = bare_returns _ own_read.bare c.args.conn.now.schema
 
 pub returns : goal.returns
 returns g c =
     let customer = c.args.customer.now in
-    visits_joined g.S.Store own_text with_starts (on_start
-    ++ own_tests) shown by_key own_read _ (Text customer
+    visits_as g.S.Store _ _ own_read _ (Text customer
     ∷ []) (search rules) c.args.conn.now c.visit_rows.new.conn
     g.K.Sink.takes joined_order c.visit_rows.result c.args.sink.now c.visit_rows.new.sink (λ t. filter (is_of customer) t.orders) c.requires
     (λ rows office a. own_shown customer (state g.S.Store c.args.conn.now).now office rows a)

@@ -3,7 +3,6 @@ use Rattle.sqlite.specs.declared.types.Value.TheVariants.{Blob as Bytes}
 use Rattle.sqlite.specs.Held.{state}
 use Rattle.office_sql.proofs.Inserting.{changed, done}
 use Rattle.office_sql.proofs.MapChanges.{refused}
-use Rattle.office_sql.proofs.Told.{name_text}
 use Rattle.office_store.specs.Prelude.{ReplacesName}
 use Rattle.office_store.proofs.UpgradeMeta.{names_site}
 use Rattle.office_store.proofs.grow.replace_name.Goals as goal
@@ -19,7 +18,7 @@ returns-clause-changes g c =
     let old = c.args.tx.now.conn.now in
     let new = c.execute.new.self.conn.now in
     done g.S.Store old new c.in_ok-execute.field-0 tt (λ x y _. ReplacesName site x y) _
-    (changed g.S.Store name_text _ (Bytes site ∷ []) (search rules) old new (Ok c.in_ok-execute.field-0) (λ x y _. ReplacesName site x y)
+    (changed g.S.Store _ _ (Bytes site ∷ []) (search rules) old new (Ok c.in_ok-execute.field-0) (λ x y _. ReplacesName site x y)
     (λ count up ran.
     let told = c.requires.third up in
     names_site site (state g.S.Store old) (state g.S.Store new) count (c.requires.has up) told.0 told.1 ran)

@@ -3,7 +3,7 @@ use Rattle.sqlite.specs.Held.{state}
 use Rattle.office_sql.specs.Prelude.{orders, order_starts, order_in_row, starts_order}
 use Rattle.office_sql.proofs.Inserting.{changed, done}
 use Rattle.office_store.specs.Prelude.{GainsNone}
-use Rattle.office_store.proofs.StartsMade.{order_fill_text, orders_filled}
+use Rattle.office_store.proofs.StartsMade.{orders_filled}
 use Rattle.office_store.proofs.upgrade.fill_order_starts.Goals as goal
 
 pub returns-clause-changes : goal.returns-clause-changes
@@ -11,7 +11,7 @@ returns-clause-changes g c =
     let old = c.args.tx.now.conn.now in
     let new = c.execute.new.self.conn.now in
     done g.S.Store old new c.in_ok-execute.field-0 tt (λ x y _. GainsNone starts_order order_in_row orders order_starts x y) _
-    (changed g.S.Store order_fill_text _ [] (search rules) old new (Ok c.in_ok-execute.field-0)
+    (changed g.S.Store _ _ [] (search rules) old new (Ok c.in_ok-execute.field-0)
     (λ x y _. GainsNone starts_order order_in_row orders order_starts x y)
     (λ count up ran. orders_filled (state g.S.Store old) (state g.S.Store new) count (c.requires up) ran)
     c.in_ok-execute.ensures.ended c.in_ok-execute.ensures.runs c.in_ok-execute.ensures.survives)

@@ -1,7 +1,0 @@
--- The columns so far are those that are wanted.
-use Rattle.std.proofs.Common.{◌≡◌, map, take}
-use Rattle.office_found.specs.Prelude.{column_of_form}
-use Rattle.office_found.proofs.schema.are_columns.Given as goal
-
-abbrev pub invariant-loop-at : goal.invariant-loop-at
-invariant-loop-at l = take l.at l.columns ≡ map column_of_form (take l.at l.forms)

@@ -1,7 +1,0 @@
--- The indexes so far are those that are wanted.
-use Rattle.std.proofs.Common.{◌≡◌, map, take}
-use Rattle.office_found.specs.Prelude.{index_of}
-use Rattle.office_found.proofs.schema.are_indexes.Given as goal
-
-abbrev pub invariant-loop-at : goal.invariant-loop-at
-invariant-loop-at l = take l.at l.indexes ≡ map index_of (take l.at l.forms)
