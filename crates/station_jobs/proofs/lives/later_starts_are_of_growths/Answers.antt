@@ -1,4 +1,4 @@
-use Rattle.std.proofs.Common.{◌≡◌, ◌∙◌, Ok, refl, subst, sym}
+use Rattle.std.proofs.Common.{◌≡◌, ◌∙◌, refl, subst, sym}
 use Rattle.text_core.proofs.Kit.{∥∥₁_map}
 use Rattle.sqlite.specs.Files.{over_files}
 use Rattle.site_core.specs.Prelude.{IsGrowth, SiteValue}
