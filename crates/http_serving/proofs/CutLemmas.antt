@@ -8,7 +8,7 @@ use Rattle.httparse.proofs.GrammarLemmas.{request_unique, print_request-append}
 use Rattle.http_frames.specs.Prelude.{body_size, Request, HasHead, HasRequest, IsRefused, IsCutOff, ends_after, is_head_method, headers_of}
 use Rattle.http_frames.specs.declared.fields.FrameRefusal.{FrameRefusal}
 use Rattle.http_serving.specs.declared.Served.{Served}
-use Rattle.http_serving.specs.declared.Served.TheVariants.{Ended, Closed, Cut, ReadFault, WriteFault, NoMemory, TurnLimit}
+use Rattle.http_serving.specs.declared.Served.TheVariants.{Ended, Closed, Cut}
 use Rattle.http_serving.specs.Prelude.{HttpExchange, answered, refused, BeginsWithExchange, is_last, Cuts, IsOpen, Ends, cut_of, requests_of, is_by_bytes}
 use Rattle.http_serving.specs.Prelude.{IsCutWhole, IsEitherWay}
 use Rattle.http_serving.proofs.StreamLemmas.{one_request}
@@ -96,10 +96,7 @@ abbrev Stops : Served → List HttpExchange → List ℕ → Type 0
 Stops Ended exchanges rest = IsOpen exchanges × (rest ≡ [])
 Stops Closed exchanges rest = list_any is_last exchanges ≡ true
 Stops Cut exchanges rest = IsOpen exchanges × IsCutOff rest
-Stops ReadFault exchanges rest = ⊥
-Stops WriteFault exchanges rest = ⊥
-Stops TurnLimit exchanges rest = ⊥
-Stops NoMemory exchanges rest = ⊥
+Stops _ exchanges rest = ⊥
 
 -- what the bytes have to do with it
 stops : (served : Served) (exchanges : List HttpExchange) (rest left before written : List ℕ)
@@ -108,10 +105,7 @@ stops : (served : Served) (exchanges : List HttpExchange) (rest left before writ
 stops Ended exchanges rest left before written by_bytes ends = (ends.0, ends.1)
 stops Closed exchanges rest left before written by_bytes ends = ends.0
 stops Cut exchanges rest left before written by_bytes ends = (ends.0, ends.1)
-stops ReadFault exchanges rest left before written by_bytes ends = absurd cc
-stops WriteFault exchanges rest left before written by_bytes ends = absurd cc
-stops TurnLimit exchanges rest left before written by_bytes ends = absurd cc
-stops NoMemory exchanges rest left before written by_bytes ends = absurd cc
+stops _ exchanges rest left before written by_bytes ends = absurd cc
 
 -- no bytes are not cut off
 not_cut_off : IsCutOff [] → ⊥
@@ -125,10 +119,7 @@ no_end : (served : Served) (rest : List ℕ) → Stops served [] rest → (serve
 no_end Ended rest stop = inl (refl, stop.1)
 no_end Closed rest stop = absurd cc
 no_end Cut rest stop = inr (refl, stop.1)
-no_end ReadFault rest stop = absurd stop
-no_end WriteFault rest stop = absurd stop
-no_end TurnLimit rest stop = absurd stop
-no_end NoMemory rest stop = absurd stop
+no_end _ rest stop = absurd stop
 
 -- it ends there in one way
 one_end : (served other : Served) (rest : List ℕ) → (served ≡ Ended × rest ≡ []) ⊎ (served ≡ Cut × IsCutOff rest)
@@ -194,10 +185,7 @@ closes Closed exchange exchanges rest last stop = refl
 closes Cut exchange exchanges rest last stop =
     let no = (or_parts (is_last exchange) (list_any is_last exchanges) stop.0).0 in
     absurd cc
-closes ReadFault exchange exchanges rest last stop = absurd stop
-closes WriteFault exchange exchanges rest last stop = absurd stop
-closes TurnLimit exchange exchanges rest last stop = absurd stop
-closes NoMemory exchange exchanges rest last stop = absurd stop
+closes _ exchange exchanges rest last stop = absurd stop
 
 -- an exchange that does not end the stream leaves its end to the others
 stops_later : (served : Served) (exchange : HttpExchange) (exchanges : List HttpExchange) (rest : List ℕ)
@@ -206,10 +194,7 @@ stops_later : (served : Served) (exchange : HttpExchange) (exchanges : List Http
 stops_later Ended exchange exchanges rest last stop = ((or_parts (is_last exchange) (list_any is_last exchanges) stop.0).1, stop.1)
 stops_later Closed exchange exchanges rest last stop = sym (ap (λ t. t || list_any is_last exchanges) last) ∙ stop
 stops_later Cut exchange exchanges rest last stop = ((or_parts (is_last exchange) (list_any is_last exchanges) stop.0).1, stop.1)
-stops_later ReadFault exchange exchanges rest last stop = absurd stop
-stops_later WriteFault exchange exchanges rest last stop = absurd stop
-stops_later TurnLimit exchange exchanges rest last stop = absurd stop
-stops_later NoMemory exchange exchanges rest last stop = absurd stop
+stops_later _ exchange exchanges rest last stop = absurd stop
 
 -- the same exchange in front of exchanges that agree
 one_more : (served other : Served) (exchange twin : HttpExchange) (exchanges others : List HttpExchange) (rest later : List ℕ) → cut_of exchange ≡ cut_of twin

@@ -2,19 +2,12 @@
 use Rattle.std.proofs.Common.{◌≡◌, ℕ, List, [], ◌++◌, sym, ap, ◌∙◌, append_assoc, append-nil, Option, Some, None, subst}
 use Rattle.http_serving.specs.Prelude.{Sends, Sending}
 use Rattle.http_serving.specs.declared.send.Sent.{Sent}
-use Rattle.http_serving.specs.declared.send.Sent.TheVariants.{All, Fault, TurnLimit}
+use Rattle.http_serving.specs.declared.send.Sent.TheVariants.{All}
 
 sends_then : (before middle after head body : List ℕ) (result : Sent) → Sends before middle head All → Sends middle after body result
     → Sends before after (head ++ body) result
 sends_then before middle after head body All first second = second ∙ ap (λ s. s ++ body) first ∙ append_assoc before head body
-sends_then before middle after head body Fault first second = (
-  head ++ second.0,
-  second.1,
-  ap (λ s. head ++ s) second.2 ∙ sym (append_assoc head second.0 second.1),
-  second.3 ∙ ap (λ s.
-      s ++ second.0) first ∙ append_assoc before head second.0,
-)
-sends_then before middle after head body TurnLimit first second = (
+sends_then before middle after head body _ first second = (
   head ++ second.0,
   second.1,
   ap (λ s. head ++ s) second.2 ∙ sym (append_assoc head second.0 second.1),
@@ -31,8 +24,7 @@ sending_then (Some before) (Some middle) (Some after) head body result first sec
 
 sends_whole : (before after bytes : List ℕ) (result : Sent) → Sends before after bytes All → Sends before after bytes result
 sends_whole before after bytes All whole = whole
-sends_whole before after bytes Fault whole = (bytes, [], sym (append-nil bytes), whole)
-sends_whole before after bytes TurnLimit whole = (bytes, [], sym (append-nil bytes), whole)
+sends_whole before after bytes _ whole = (bytes, [], sym (append-nil bytes), whole)
 
 sending_still : (old new : Option (List ℕ)) (bytes : List ℕ) (result : Sent) → Sending old new bytes All → Sending old new bytes result
 sending_still None new bytes result whole = whole

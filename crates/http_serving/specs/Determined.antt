@@ -4,7 +4,7 @@ use Rattle.httparse.specs.Spans.{RequestOverflows}
 use Rattle.http_frames.specs.declared.fields.FrameRefusal.{FrameRefusal}
 use Rattle.http_frames.specs.Prelude.{Request, IsCutInHead, field_limit}
 use Rattle.http_serving.specs.declared.Served.{Served}
-use Rattle.http_serving.specs.declared.Served.TheVariants.{Ended, Closed, Cut, ReadFault, WriteFault, TurnLimit, NoMemory}
+use Rattle.http_serving.specs.declared.Served.TheVariants.{Ended, Closed, Cut}
 use Rattle.http_serving.specs.Streams.{HttpExchange, answered, refused, requests_with_answers, Cuts, Ends}
 
 -- what stands in the stream where the exchange is: a request, or what is refused. The answer is left out
@@ -21,10 +21,7 @@ abbrev pub is_by_bytes : Served → Bool
 is_by_bytes Ended = true
 is_by_bytes Closed = true
 is_by_bytes Cut = true
-is_by_bytes ReadFault = false
-is_by_bytes WriteFault = false
-is_by_bytes TurnLimit = false
-is_by_bytes NoMemory = false
+is_by_bytes _ = false
 
 -- the stream is these exchanges up to its end, which its bytes make, and `rest` follows them
 pub record IsCutWhole (stream : List ℕ) (served : Served) (exchanges : List HttpExchange) (rest : List ℕ) : Type 0 where

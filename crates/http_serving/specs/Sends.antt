@@ -1,13 +1,12 @@
 -- What a writer was handed of some bytes.
 use Rattle.std.specs.Prelude.{◌≡◌, ℕ, List, ◌++◌, Option, IfSome, IsSomeAnd}
 use Rattle.http_serving.specs.declared.send.Sent.{Sent}
-use Rattle.http_serving.specs.declared.send.Sent.TheVariants.{All, Fault, TurnLimit}
+use Rattle.http_serving.specs.declared.send.Sent.TheVariants.{All, Fault}
 
 -- a front of the bytes was written: all of them where the answer says so
 abbrev pub Sends : List ℕ → List ℕ → List ℕ → Sent → Type 0
 Sends before after bytes All = after ≡ before ++ bytes
-Sends before after bytes Fault = (sent : List ℕ) × (rest : List ℕ) × (bytes ≡ sent ++ rest) × (after ≡ before ++ sent)
-Sends before after bytes TurnLimit = (sent : List ℕ) × (rest : List ℕ) × (bytes ≡ sent ++ rest) × (after ≡ before ++ sent)
+Sends before after bytes _ = (sent : List ℕ) × (rest : List ℕ) × (bytes ≡ sent ++ rest) × (after ≡ before ++ sent)
 
 -- the same, where the writer tells its bytes
 abbrev pub Sending : Option (List ℕ) → Option (List ℕ) → List ℕ → Sent → Type 0
@@ -20,6 +19,5 @@ SendsPart old new bytes rest =
 
 -- the failures that the answer tells
 abbrev pub sent_faults : Sent → ℕ
-sent_faults All = 0
 sent_faults Fault = 1
-sent_faults TurnLimit = 0
+sent_faults _ = 0

@@ -100,25 +100,3 @@ ending_of_sent All true = Some Closed
 ending_of_sent All false = None
 ending_of_sent Sent.Fault last = Some WriteFault
 ending_of_sent Sent.TurnLimit last = Some TurnLimit
-
--- the failures of the reader that the end of a stream tells
-abbrev pub read_faults : Option Served → ℕ
-read_faults None = 0
-read_faults (Some Ended) = 0
-read_faults (Some Closed) = 0
-read_faults (Some Cut) = 0
-read_faults (Some ReadFault) = 1
-read_faults (Some WriteFault) = 0
-read_faults (Some TurnLimit) = 0
-read_faults (Some NoMemory) = 0
-
--- and of the writer
-abbrev pub write_faults : Option Served → ℕ
-write_faults None = 0
-write_faults (Some Ended) = 0
-write_faults (Some Closed) = 0
-write_faults (Some Cut) = 0
-write_faults (Some ReadFault) = 0
-write_faults (Some WriteFault) = 1
-write_faults (Some TurnLimit) = 0
-write_faults (Some NoMemory) = 0

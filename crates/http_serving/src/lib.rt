@@ -12,11 +12,12 @@
 //! refused or cut off (`requests_are_unique`, `streams_are_determined`).
 #![tactic(auto)]
 
-ghost use Rattle.std.specs.Prelude.{◌≡◌, ◌≢◌, ℕ, ◌+◌, ◌<◌, ◌≤◌, ◌^◌, ◌⊎◌, List, Option, map};
+ghost use Rattle.std.specs.Prelude.{◌≡◌, ◌≢◌, ℕ, ◌+◌, ◌<◌, ◌≤◌, ◌⊎◌, List, Option, map};
 ghost use Rattle.http_replies.specs.Prelude.{Answer, answer_of};
 ghost use Rattle.text_core.specs.Prelude.{Runs};
 ghost use Rattle.http_frames.specs.Prelude.{Request, HasRequest, IsFrameAt, unread};
-ghost use Rattle.http_serving.specs.Streams.{HttpExchange, refusal_answer, requests_with_answers, Tells, ending_of_sent, read_faults, write_faults};
+ghost use Rattle.http_serving.specs.Streams.{HttpExchange, refusal_answer, requests_with_answers, Tells, ending_of_sent};
+ghost use Rattle.http_serving.specs.Calls.{HasCallsLeft, StaysWithinCalls, read_faults, write_faults};
 ghost use Rattle.http_serving.specs.Cycles.{ServesBytes, IsOneExchange};
 ghost use Rattle.http_serving.specs.Determined.{cut_of, requests_of, IsCutWhole, IsEitherWay};
 
@@ -107,8 +108,8 @@ fn serve_one<S, V: Service<S>, R: Source, W: Drain>(
     buffer: &mut Buffer,
     room: &mut [u8; HEAD_ROOM],
 ) -> Option<Served>
-    requires reader { R.calls reader.old + 2 ^ 25 < 2 ^ 64 + buffer.old.calls }
-    requires writer { W.calls writer.old + 2 ^ 25 < 2 ^ 64 + buffer.old.calls }
+    requires reader { HasCallsLeft (R.calls reader.old) buffer.old.calls }
+    requires writer { HasCallsLeft (W.calls writer.old) buffer.old.calls }
     ensures served_one { (exchanges : List HttpExchange) × IsOneExchange result exchanges
         × ServesBytes (unread buffer.old) (R.left reader.old) (unread buffer.new) (R.left reader.new)
         (W.written writer.old) (W.written writer.new) result exchanges
@@ -184,22 +185,14 @@ pub fn serve_stream<S, V: Service<S>, R: Source, W: Drain>(
     reader: &mut R,
     writer: &mut W,
 ) -> Served
-    requires reader { R.calls reader.old + 2 ^ 25 < 2 ^ 64 }
-    requires writer { W.calls writer.old + 2 ^ 25 < 2 ^ 64 }
+    requires reader { HasCallsLeft (R.calls reader.old) 0 }
+    requires writer { HasCallsLeft (W.calls writer.old) 0 }
     ensures run { (exchanges : List HttpExchange)
         × Tells (R.left reader.old) (R.left reader.new)
         (W.written writer.old) (W.written writer.new) result exchanges
         × Runs (V.steps service.now) state.old (requests_with_answers exchanges) state.new }
-    ensures calls { R.calls reader.new + W.calls writer.new ≤ R.calls reader.old + W.calls
-        writer.old + CALL_LIMIT }
-    ensures limit { result ≡ Served.TurnLimit → R.calls reader.new + W.calls writer.new
-        ≡ R.calls reader.old + W.calls writer.old + CALL_LIMIT }
-    ensures read_faults { R.failures reader.new ≡ R.failures reader.old + read_faults
-        (Some result) }
-    ensures write_faults { W.failures writer.new ≡ W.failures writer.old + write_faults
-        (Some result) }
-    ensures no_memory { result ≡ Served.NoMemory → (R.calls reader.new ≡ R.calls reader.old)
-        × (W.calls writer.new ≡ W.calls writer.old) }
+    ensures within { StaysWithinCalls R.Source W.Drain reader.old reader.new writer.old writer.new
+        result }
     ensures unserved { result ≡ Served.NoMemory → state.new ≡ state.old }
 {
     let mut buffer = match Buffer::new(alloc) {

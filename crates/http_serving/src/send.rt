@@ -1,9 +1,9 @@
 //! Writes replies, and counts the calls of the writer.
 
-ghost use Rattle.std.specs.Prelude.{◌≡◌, ◌≢◌, ◌+◌, ◌-◌, ◌<◌, ◌≤◌, ◌^◌, [], false, length};
+ghost use Rattle.std.specs.Prelude.{◌≡◌, ◌≢◌, ◌+◌, ◌-◌, ◌<◌, ◌≤◌, [], false, length};
 ghost use Rattle.http_frames.specs.Prelude.{unread};
 ghost use Rattle.http_replies.specs.Prelude.{answer_of, reply_text};
-ghost use Rattle.http_serving.specs.Prelude.{Sending, sent_faults};
+ghost use Rattle.http_serving.specs.Prelude.{HasCallsLeft, Sending, sent_faults};
 
 use http_frames::buffer::{Buffer, CALL_LIMIT};
 use http_frames::transfer::{Drain, Transfer};
@@ -22,7 +22,7 @@ pub enum Sent {
 
 /// Writes all the bytes, or a front of them where the writer fails or no call is left. An interrupted call is made again.
 pub fn write_all<W: Drain>(writer: &mut W, bytes: &[u8], buffer: &mut Buffer) -> Sent
-    requires { W.calls writer.old + 2 ^ 25 < 2 ^ 64 + buffer.old.calls }
+    requires { HasCallsLeft (W.calls writer.old) buffer.old.calls }
     ensures sent { Sending (W.written writer.old) (W.written writer.new) bytes.now result }
     ensures same_window { buffer.new ≡ record buffer.old { calls = buffer.new.calls } }
     ensures calls { W.calls writer.new + buffer.old.calls ≡ W.calls writer.old + buffer.new.calls }
@@ -55,7 +55,7 @@ fn write_parts<W: Drain>(
     reply: &Reply,
     flags: Flags,
 ) -> Sent
-    requires { W.calls writer.old + 2 ^ 25 < 2 ^ 64 + buffer.old.calls }
+    requires { HasCallsLeft (W.calls writer.old) buffer.old.calls }
     ensures sent { Sending (W.written writer.old) (W.written writer.new)
         (reply_text (answer_of reply.now) flags.is_head flags.is_last) result }
     ensures same_window { buffer.new ≡ record buffer.old { calls = buffer.new.calls } }
@@ -82,7 +82,7 @@ fn write_parts<W: Drain>(
 /// where something of the next request was read already. Where the writer takes no more, or no call
 /// is left to ask it, the stream ends with that reply.
 fn end_reply<W: Drain>(writer: &mut W, buffer: &mut Buffer) -> Sent
-    requires { W.calls writer.old + 2 ^ 25 < 2 ^ 64 + buffer.old.calls }
+    requires { HasCallsLeft (W.calls writer.old) buffer.old.calls }
     ensures written { W.written writer.new ≡ W.written writer.old }
     ensures same_window { buffer.new ≡ record buffer.old { calls = buffer.new.calls } }
     ensures calls { W.calls writer.new + buffer.old.calls ≡ W.calls writer.old + buffer.new.calls }
@@ -123,7 +123,7 @@ pub fn write_reply<W: Drain>(
     reply: &Reply,
     flags: Flags,
 ) -> Sent
-    requires { W.calls writer.old + 2 ^ 25 < 2 ^ 64 + buffer.old.calls }
+    requires { HasCallsLeft (W.calls writer.old) buffer.old.calls }
     ensures sent { Sending (W.written writer.old) (W.written writer.new)
         (reply_text (answer_of reply.now) flags.is_head flags.is_last) result }
     ensures same_window { buffer.new ≡ record buffer.old { calls = buffer.new.calls } }

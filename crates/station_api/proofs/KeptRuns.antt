@@ -13,7 +13,7 @@ use Rattle.office_tables.specs.Prelude.{KeepsText, Stands, Tables}
 use Rattle.office_tables.specs.declared.keep.Keep.{Ghosts}
 use Rattle.office_commands.specs.Prelude.{refusal}
 use Rattle.office_laws.specs.Prelude.{IsSound, IsAsAlone, Call, Exchange, IsRun, FulfilsWanted, Passes, calls_of, CanAsk, IsSeat, LeavesAfter}
-use Rattle.office_laws.proofs.Grown.{growth_itself, sound_grown}
+use Rattle.office_laws.proofs.Grown.{sound_grown}
 use Rattle.office_laws.proofs.Promising.{promises}
 use Rattle.office_laws.proofs.Seats.{IsSeatOf, all_seats}
 use Rattle.station_api.specs.Prelude.{IsLed, StreamKeepsPromises, SiteRun, AnswersAnyCaller, ParsedOrUnkept, AnswersParsed, AnswersHttp, caller_at}
@@ -144,12 +144,4 @@ led k site old new w exchanges t t2 run crash text stands = record {
   apart = owners_apart site w;
   seats = seats_alone (ownership_of site) (calls_of (exchanges_with_seats site exchanges)) (seats_of site w exchanges);
   books = λ first growth sound. kept site w exchanges t t2 (sound_grown first (ownership_of site) t growth sound) run;
-}
-
--- no requests keep the books
-pub kept_none : (site : SiteValue) (t : Tables) → IsSound (ownership_of site) t → StreamKeepsPromises site t [] t
-kept_none site t sound = record {
-  promises = promises (ownership_of site) [] (ownership_of site) t t sound (growth_itself (ownership_of site)) refl;
-  own = λ place low. refl;
-  isolated = λ place low. record { replies = refl; rows = refl };
 }

@@ -1,15 +1,17 @@
 -- What a stream's requests make of the books.
-use Rattle.std.specs.Prelude.{◌≡◌, ◌<◌, ℕ, List, length}
+use Rattle.std.specs.Prelude.{◌≡◌, ◌<◌, ℕ, List, length, Option}
 use Rattle.std.specs.List.{AllByRecursion}
 use Rattle.http_frames.specs.Prelude.{Request as HttpRequest}
 use Rattle.http_replies.specs.Prelude.{Answer}
+use Rattle.http_serving.specs.Prelude.{HttpExchange, requests_with_answers, Tells}
+use Rattle.http_serving.specs.declared.Served.{Served}
 use Rattle.text_core.specs.Prelude.{Runs}
 use Rattle.site_core.specs.Prelude.{section_in, PoolsDisjoint, Ownership, OwnershipGrows, ownership_of, SiteValue}
 use Rattle.office_tables.specs.Prelude.{Stands, Tables}
 use Rattle.office_tables.specs.declared.keep.Keep.{Ghosts}
 use Rattle.office_laws.specs.Prelude.{IsSound, IsAsAlone, IsSeat, calls_of, exchanges_of, Promises}
 use Rattle.office_core.specs.Prelude.{Answered}
-use Rattle.station_api.specs.HttpAnswers.{AnswersHttp}
+use Rattle.station_api.specs.HttpAnswers.{AnswersHttp, AreSaid}
 use Rattle.station_api.specs.SectionExchanges.{exchanges_with_seats, section_exchanges}
 
 -- All is kept that is promised of a run. Each customer's own exchanges among those with the site's
@@ -38,3 +40,13 @@ pub record IsLed {K : Type 0} (k : Ghosts K) (site : SiteValue) (old new : K) (e
 abbrev pub Leads : {K : Type 0} → Ghosts K → SiteValue → K → K → List (HttpRequest × Answer) → Type 0
 Leads k site old new exchanges =
     k.is_honest new → (t : Tables) → Stands k.is_open k.tables old t → (t2 : Tables) × IsLed k site old new exchanges t t2
+
+-- a stream that ended so was served over a keeper: its exchanges are what its bytes hold, where reader and writer
+-- tell theirs; each is answered as it has to be whatever the store does; and they lead from the tables that stood
+abbrev pub ServesOver : {K : Type 0} → Ghosts K → SiteValue → Option (List ℕ) → Option (List ℕ)
+    → Option (List ℕ) → Option (List ℕ) → Served → K → K → Type 0
+ServesOver k site left_old left_new written_old written_new served old new =
+    (exchanges : List HttpExchange)
+    × Tells left_old left_new written_old written_new served exchanges
+    × AreSaid site (requests_with_answers exchanges)
+    × Leads k site old new (requests_with_answers exchanges)

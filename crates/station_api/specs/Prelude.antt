@@ -1,5 +1,5 @@
 -- The words of this crate, passed on from one place. Declares nothing.
-pub use Rattle.station_api.specs.Books.{IsLed, Leads, StreamKeepsPromises}
+pub use Rattle.station_api.specs.Books.{IsLed, Leads, ServesOver, StreamKeepsPromises}
 pub use Rattle.station_api.specs.HttpAnswers.{AnswersAnyCaller, AnswersHttp, AnswersKnownCaller, AnswersParsed, AreSaid, caller_at, DeskSteps, ParsedOrUnkept}
 pub use Rattle.station_api.specs.HttpAnswers.{Says, SaysAny, SaysRefusal}
 pub use Rattle.station_api.specs.Lives.{AreLives, exchanges_of_lives, IsLifeOf, Life, ServedStore, sites_of_lives}

@@ -1,8 +1,7 @@
 // Serves a stream of a site's callers.
-ghost use Rattle.std.specs.Prelude.{◌≡◌, ◌+◌, ◌<◌, ◌≤◌, ◌^◌, List, Some};
-ghost use Rattle.http_frames.specs.Prelude.{call_limit};
-ghost use Rattle.http_serving.specs.Prelude.{HttpExchange, Tells, read_faults, requests_with_answers, write_faults};
-ghost use Rattle.station_api.specs.Prelude.{Leads, AreSaid};
+ghost use Rattle.std.specs.Prelude.{◌≡◌};
+ghost use Rattle.http_serving.specs.Prelude.{HasCallsLeft, StaysWithinCalls};
+ghost use Rattle.station_api.specs.Prelude.{ServesOver};
 
 use crate::desk::Desk;
 use http_frames::transfer::{Drain, Source};
@@ -33,25 +32,13 @@ pub fn serve_stream<K: Keep, R: Source, W: Drain>(
     reader: &mut R,
     writer: &mut W,
 ) -> Served
-    requires reader { R.calls reader.old + 2 ^ 25 < 2 ^ 64 }
-    requires writer { W.calls writer.old + 2 ^ 25 < 2 ^ 64 }
+    requires reader { HasCallsLeft (R.calls reader.old) 0 }
+    requires writer { HasCallsLeft (W.calls writer.old) 0 }
     ensures was_honest { K.is_honest keep.new → K.is_honest keep.old }
-    ensures run { (exchanges : List HttpExchange)
-        × Tells (R.left reader.old) (R.left reader.new)
-        (W.written writer.old) (W.written writer.new) result exchanges
-        × AreSaid site.now (requests_with_answers exchanges)
-        × Leads K.Keep site.now keep.old keep.new (requests_with_answers exchanges) }
-    ensures calls { R.calls reader.new + W.calls writer.new
-        ≤ R.calls reader.old + W.calls writer.old + call_limit }
-    ensures limit { result ≡ Served.TurnLimit
-        → R.calls reader.new + W.calls writer.new
-        ≡ R.calls reader.old + W.calls writer.old + call_limit }
-    ensures read_faults { R.failures reader.new
-        ≡ R.failures reader.old + read_faults (Some result) }
-    ensures write_faults { W.failures writer.new
-        ≡ W.failures writer.old + write_faults (Some result) }
-    ensures no_memory { result ≡ Served.NoMemory
-        → (R.calls reader.new ≡ R.calls reader.old) × (W.calls writer.new ≡ W.calls writer.old) }
+    ensures run { ServesOver K.Keep site.now (R.left reader.old) (R.left reader.new)
+        (W.written writer.old) (W.written writer.new) result keep.old keep.new }
+    ensures within { StaysWithinCalls R.Source W.Drain reader.old reader.new writer.old writer.new
+        result }
     ensures unserved { result ≡ Served.NoMemory → keep.new ≡ keep.old }
 {
     site.fact_rules();

@@ -1,5 +1,5 @@
 -- What is said of a store's books by the bytes of the site's file.
-use Rattle.std.proofs.Common.{◌≡◌, ℕ, List, Some, Result, Ok, Err, inl, inr, subst, IfOk, IfErr}
+use Rattle.std.proofs.Common.{◌≡◌, ℕ, List, Some, Result, Ok, Err, inl, inr, subst, IfErr, IfOk}
 use Rattle.std.specs.Borrow.{Bor}
 use Rattle.sqlite.specs.Recovery.{Image}
 use Rattle.sqlite_disk.specs.declared.Disk.{Ghosts}
@@ -62,17 +62,18 @@ books_unread name items (Ok b) failure Says read all =
     said_of_none (site_in name (items b)) failure (Says (items b)) read.described (λ memory. all memory (items b))
 books_unread name items (Err error) failure Says read all = tt
 
--- where a site was read there is no failure in the bytes
-no_failure : (wanted : Result SiteValue Failure) (site : SiteValue) (Says : Failure → Type 0)
-    → GivesUnless Failure.NoMemory (Ok site) wanted → IfErr wanted Says
-no_failure (Ok other) site Says given = tt
-no_failure (Err failure) site Says given = elim given [
-  | inl same ↦ cc
-  | inr none ↦ cc
-]
+-- what holds whatever the file describes
+pub of_any_site : {B E : Type 0} (name : Bor (List ℕ)) (items : B → List ℕ) (file : Result B E) (P : Type 0) → P
+    → IfOk file (λ b. IfOk (site_in name (items b)) (λ _. P))
+of_any_site name items (Ok b) P holds = by (site_in name (items b))
+  where
+    by : (wanted : Result SiteValue Failure) → IfOk wanted (λ _. P)
+    by (Ok site) = holds
+    by (Err failure) = tt
+of_any_site name items (Err error) P holds = tt
 
-pub none_read : {B E : Type 0} (name : Bor (List ℕ)) (items : B → List ℕ) (file : Result B E) (t : TextOfSite) (Says : Failure → Type 0)
-    → IfOk file (λ b. IsSiteOfFile name (items b) (Ok t))
-    → IfOk file (λ b. IfErr (site_in name (items b)) Says)
-none_read name items (Ok b) t Says read = no_failure (site_in name (items b)) t.site Says read.described
-none_read name items (Err error) t Says read = tt
+-- what holds of each failure of this kind
+pub failing : {A : Type 0} (result : Result A Failure) (P Q : Failure → Type 0)
+    → ((failure : Failure) → P failure → Q failure) → IfErr result P → IfErr result Q
+failing (Ok done) P Q all holds = tt
+failing (Err failure) P Q all holds = all failure holds

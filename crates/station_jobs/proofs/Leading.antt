@@ -1,17 +1,17 @@
 -- How the tables that stand are led on by one stream after another.
-use Rattle.std.proofs.Common.{◌≡◌, ℕ, Option, Result, List, [], ◌∷◌, ◌++◌, refl, sym, subst}
+use Rattle.std.proofs.Common.{◌≡◌, ℕ, Option, List, [], ◌∷◌, ◌++◌, refl, sym, subst}
 use Rattle.std.proofs.lemmas.Grind.{flat_map-append}
 use Rattle.http_frames.specs.Prelude.{Request}
 use Rattle.http_replies.specs.Prelude.{Answer}
+use Rattle.http_serving.specs.declared.Served.{Served}
 use Rattle.text_core.proofs.MachineLemmas.{runs_both}
 use Rattle.office_laws.specs.Prelude.{Exchange, LeavesAfter}
 use Rattle.office_laws.proofs.Leaving.{leaves_joined, leaves_none}
 use Rattle.office_tables.specs.declared.keep.Keep.{Ghosts}
 use Rattle.site_core.specs.Prelude.{SiteValue, IsSite}
-use Rattle.station_api.specs.Prelude.{AreSaid, AnswersHttp, exchange_in, exchanges_with_seats}
+use Rattle.station_api.specs.Prelude.{AreSaid, AnswersHttp, exchange_in, exchanges_with_seats, ServesOver}
 use Rattle.station_api.proofs.KeptRuns.{led}
-use Rattle.station_jobs.specs.Prelude.{LeadsOn, ServesOver}
-use Rattle.station_jobs.specs.declared.failure.Failure.{Failure}
+use Rattle.station_jobs.specs.Prelude.{LeadsOn}
 
 said_both : (site : SiteValue) (first second : List (Request × Answer)) → AreSaid site first → AreSaid site second → AreSaid site (first ++ second)
 said_both site [] second one other = other
@@ -30,10 +30,10 @@ pub leads_for : {K : Type 0} {k : Ghosts K} {site other : SiteValue} {old new : 
 leads_for {k = k} {old = old} {new = new} same led = subst (λ (s : SiteValue). LeadsOn k s old new) same led
 
 pub serves_for : {K : Type 0} {k : Ghosts K} {site other : SiteValue} (left_old left_new written_old written_new : Option (List ℕ))
-    {result : Result (Unit {0}) Failure} {old new : K} → site ≡ other
-    → ServesOver k site left_old left_new written_old written_new result old new → ServesOver k other left_old left_new written_old written_new result old new
-serves_for {k = k} left_old left_new written_old written_new {result = result} {old = old} {new = new} same served =
-    subst (λ (s : SiteValue). ServesOver k s left_old left_new written_old written_new result old new) same served
+    (ended : Served) {old new : K} → site ≡ other
+    → ServesOver k site left_old left_new written_old written_new ended old new → ServesOver k other left_old left_new written_old written_new ended old new
+serves_for {k = k} left_old left_new written_old written_new ended {old = old} {new = new} same served =
+    subst (λ (s : SiteValue). ServesOver k s left_old left_new written_old written_new ended old new) same served
 
 -- streams, and then others
 pub leads_both : {K : Type 0} (k : Ghosts K) (site : SiteValue) (old middle new : K) → IsSite site

@@ -1,6 +1,5 @@
 -- The lemmas of this crate.
 pub mod Books
-pub mod Ending
 pub mod TwoEnds
 pub mod FileTexts
 pub mod Fronts

@@ -8,17 +8,15 @@ use Rattle.std.specs.Str.{is_utf8}
 use Rattle.std.specs.declared.io.Error.{Error}
 use Rattle.fusemap_core.specs.Prelude.{Map, map_read}
 use Rattle.fusemap_core.specs.declared.fault.MapFault.{MapFault}
-use Rattle.office_tables.specs.Prelude.{Tables}
+use Rattle.http_serving.specs.declared.Served.{Served}
 use Rattle.site_core.specs.Prelude.{site_read}
 use Rattle.site_core.specs.declared.fault.SiteFault.{SiteFault}
-use Rattle.station_jobs.proofs.Ending.{failing, of_stream}
-use Rattle.station_jobs.specs.Prelude.{EndsAs, IsOfFile, IsOfJob, IsOfPort, IsOfStore, IsOfStream, IsTold, IsUnread, map_failure, map_of_file}
-use Rattle.station_jobs.specs.Prelude.{or_failure, Replays, site_failure, site_in, status_of, text_of_file}
+use Rattle.station_jobs.specs.Prelude.{EndsAs, IsOfFile, IsOfJob, IsOfSite, IsOfStream, IsTold, IsUnread, map_failure, map_of_file}
+use Rattle.station_jobs.specs.Prelude.{or_failure, result_of_ending, site_failure, site_in, status_of, text_of_file}
 use Rattle.station_jobs.specs.declared.failure.Failure.{Failure}
 use Rattle.station_jobs.specs.declared.failure.Failure.TheVariants.{CannotRead, NoMemory, WriteFailed}
 use Rattle.station_jobs.specs.declared.job.Job.{Job}
 use Rattle.station_jobs.specs.declared.job.Job.TheVariants.{CheckMap, Replay, Serve}
-use Rattle.station_jobs.specs.declared.job.StoreName.{StoreName}
 use Rattle.text_core.specs.Prelude.{result_and_then}
 
 -- ---- the file that a job reads first
@@ -55,74 +53,74 @@ map_fails name bytes =
     (text_fails map_failure MapFault.BadMember name bytes (nat_lt 32768 (length bytes)) (is_utf8 bytes))
 
 described_fails : {A V Fault : Type 0} (failure_of : Fault → Failure) (memory : Fault) (file : List ℕ) (wanted : Result V Failure) (result : Result A Failure)
-    (P : Failure → Type 0) → NoMemory ≡ failure_of memory → IfErr wanted (IsOfText failure_of file)
-    → IfErr wanted (λ failure. (result ≡ Err failure) ⊎ (result ≡ Err NoMemory)) → IfOk wanted (λ _. IfErr result P)
-    → IfErr result (λ failure. IsOfText failure_of file failure ⊎ P failure)
-described_fails failure_of memory file wanted (Ok done) P none of_text undescribed behind = tt
-described_fails failure_of memory file (Ok value) (Err failure) P none of_text undescribed behind = inr behind
-described_fails failure_of memory file (Err fault) (Err failure) P none of_text undescribed behind = elim undescribed [
+    (Behind Q : Failure → Type 0) → NoMemory ≡ failure_of memory
+    → ((failure : Failure) → IsOfText failure_of file failure → Q failure) → ((failure : Failure) → Behind failure → Q failure)
+    → IfErr wanted (IsOfText failure_of file)
+    → IfErr wanted (λ failure. (result ≡ Err failure) ⊎ (result ≡ Err NoMemory)) → IfOk wanted (λ _. IfErr result Behind)
+    → IfErr result Q
+described_fails failure_of memory file wanted (Ok done) Behind Q none first next of_text undescribed behind = tt
+described_fails failure_of memory file (Ok value) (Err failure) Behind Q none first next of_text undescribed behind = next failure behind
+described_fails failure_of memory file (Err fault) (Err failure) Behind Q none first next of_text undescribed behind = elim undescribed [
   | inl same ↦
       let is : fault ≡ failure = cc in
-      inl (subst (IsOfText failure_of file) is of_text)
+      first failure (subst (IsOfText failure_of file) is of_text)
   | inr lacks ↦
       let is : failure ≡ NoMemory = cc in
-      inl (inr (memory, is ∙ none))
+      first failure (inr (memory, is ∙ none))
 ]
 
 -- a job that reads a file first fails by it, or by what comes behind
 pub file_fails : {A B V Fault : Type 0} (failure_of : Fault → Failure) (memory : Fault) (name : Bor (List ℕ)) (describes : B → Result V Failure)
-    (file : Result B Error) (result : Result A Failure) (P : Failure → Type 0)
+    (file : Result B Error) (result : Result A Failure) (Behind Q : Failure → Type 0)
     → NoMemory ≡ failure_of memory → ((bytes : B) → IfErr (describes bytes) (IsOfText failure_of name.now))
+    → ((failure : Failure) → IsOfText failure_of name.now failure → Q failure) → ((failure : Failure) → Behind failure → Q failure)
     → IfErr file (λ error. IsErrAnd result (IsUnread name error))
     → IfOk file (λ bytes. IfErr (describes bytes) (λ failure. (result ≡ Err failure) ⊎ (result ≡ Err NoMemory)))
-    → IfOk file (λ bytes. IfOk (describes bytes) (λ _. IfErr result P))
-    → IfErr result (λ failure. IsOfText failure_of name.now failure ⊎ P failure)
-file_fails failure_of memory name describes file (Ok done) P none of_text unread undescribed behind = tt
-file_fails failure_of memory name describes (Err error) (Err failure) P none of_text unread undescribed behind = elim unread [
-  | inl is ↦ inl (inr (memory, is.1 ∙ none))
-  | inr is ↦ inl (inl (name, refl, is.1))
+    → IfOk file (λ bytes. IfOk (describes bytes) (λ _. IfErr result Behind))
+    → IfErr result Q
+file_fails failure_of memory name describes file (Ok done) Behind Q none of_text first next unread undescribed behind = tt
+file_fails failure_of memory name describes (Err error) (Err failure) Behind Q none of_text first next unread undescribed behind = elim unread [
+  | inl is ↦ first failure (inr (memory, is.1 ∙ none))
+  | inr is ↦ first failure (inl (name, refl, is.1))
 ]
-file_fails failure_of memory name describes (Ok bytes) (Err failure) P none of_text unread undescribed behind =
-    described_fails failure_of memory name.now (describes bytes) (Err failure) P none (of_text bytes) undescribed behind
+file_fails failure_of memory name describes (Ok bytes) (Err failure) Behind Q none of_text first next unread undescribed behind =
+    described_fails failure_of memory name.now (describes bytes) (Err failure) Behind Q none first next (of_text bytes) undescribed behind
 
 -- ---- each job
 
--- what serving says of a failure, of a job that serves
+-- a job that reads a site first
+pub site_job_fails : {A B : Type 0} (items : B → List ℕ) (name : Bor (List ℕ)) (site : List ℕ) (file : Result B Error) (result : Result A Failure)
+    (Behind Q : Failure → Type 0) → name.now ≡ site
+    → ((failure : Failure) → IsOfSite site failure → Q failure) → ((failure : Failure) → Behind failure → Q failure)
+    → IfErr file (λ error. IsErrAnd result (IsUnread name error))
+    → IfOk file (λ bytes. IfErr (site_in name (items bytes)) (λ failure. (result ≡ Err failure) ⊎ (result ≡ Err NoMemory)))
+    → IfOk file (λ bytes. IfOk (site_in name (items bytes)) (λ _. IfErr result Behind))
+    → IfErr result Q
+site_job_fails items name site file result Behind Q named first =
+    file_fails site_failure SiteFault.OutOfMemory name (λ bytes. site_in name (items bytes)) file result Behind Q refl (λ bytes. site_fails name (items bytes))
+    (λ failure of_site. first failure (subst (λ (s : List ℕ). IsOfSite s failure) named of_site))
+
+-- what serving connections says of a failure, of a job that serves them
 pub of_served : {A : Type 0} (served : Result A Failure) (result : Result Unit Failure) (P : Failure → Type 0)
     → MatchResult served (λ _. result ≡ Ok tt) (λ failure. result ≡ Err failure) → IfErr served P → IfErr result P
 of_served (Ok count) result P is fails = subst (λ (r : Result Unit Failure). IfErr r P) (sym is) tt
 of_served (Err failure) result P is fails = subst (λ (r : Result Unit Failure). IfErr r P) (sym is) fails
 
-pub serve_ends : {A B : Type 0} (items : B → List ℕ) (name : Bor (List ℕ)) (site : List ℕ) (store : StoreName) (port connections : ℕ)
-    (file : Result B Error) (served : Result A Failure) (result : Result Unit Failure) → name.now ≡ site
-    → MatchResult served (λ _. result ≡ Ok tt) (λ failure. result ≡ Err failure)
-    → IfErr file (λ error. IsErrAnd served (IsUnread name error))
-    → IfOk file (λ bytes. IfErr (site_in name (items bytes)) (λ failure. (served ≡ Err failure) ⊎ (served ≡ Err NoMemory)))
-    → IfOk file (λ bytes. IfOk (site_in name (items bytes)) (λ _.
-    IfErr served (λ failure. (failure ≡ NoMemory) ⊎ IsOfStore failure ⊎ IsOfPort failure)))
-    → IfErr result (IsOfJob (Serve site store port connections))
-serve_ends items name site store port connections file served result named is unread no_site behind =
-    let P : Failure → Type 0 = λ failure. (failure ≡ NoMemory) ⊎ IsOfStore failure ⊎ IsOfPort failure in
-    let fails = file_fails site_failure SiteFault.OutOfMemory name (λ bytes. site_in name (items bytes)) file served P refl
-    (λ bytes. site_fails name (items bytes)) unread no_site behind in
-    let of_job = failing served (λ failure. IsOfText site_failure name.now failure ⊎ P failure) (IsOfJob (Serve name.now store port connections))
-    (λ failure given. elim given [
-      | inl first ↦ inl first
-      | inr next ↦ elim next [ inl memory ↦ inl (inr (SiteFault.OutOfMemory, memory)) | inr other ↦ inr other ]
-    ]) fails in
-    subst (λ (s : List ℕ). IfErr result (IsOfJob (Serve s store port connections))) named
-    (of_served served result (IsOfJob (Serve name.now store port connections)) is of_job)
+-- want of memory is a failure of the site's file
+pub no_memory_of_site : (site : List ℕ) (failure : Failure) → failure ≡ NoMemory → IsOfSite site failure
+no_memory_of_site site failure is = inr (SiteFault.OutOfMemory, is)
 
-pub stored_replay_ends : {B : Type 0} (items : B → List ℕ) (name : Bor (List ℕ)) (site : List ℕ) (store : StoreName) (file : Result B Error)
-    (result : Result Unit Failure) → name.now ≡ site
-    → IfErr file (λ error. IsErrAnd result (IsUnread name error))
-    → IfOk file (λ bytes. IfErr (site_in name (items bytes)) (λ failure. (result ≡ Err failure) ⊎ (result ≡ Err NoMemory)))
-    → IfOk file (λ bytes. IfOk (site_in name (items bytes)) (λ _. IfErr result (λ failure. IsOfStore failure ⊎ IsOfStream failure)))
-    → IfErr result (IsOfJob (Replay site (Some store)))
-stored_replay_ends items name site store file result named unread no_site behind =
-    let fails = file_fails site_failure SiteFault.OutOfMemory name (λ bytes. site_in name (items bytes)) file result
-    (λ failure. IsOfStore failure ⊎ IsOfStream failure) refl (λ bytes. site_fails name (items bytes)) unread no_site behind in
-    subst (λ (s : List ℕ). IfErr result (IsOfJob (Replay s (Some store)))) named fails
+-- a job that serves a stream fails by what comes before, or by the stream's end
+pub stream_job_fails : (served : Result Served Failure) (result : Result Unit Failure) (Before Q : Failure → Type 0)
+    → result ≡ result_and_then result_of_ending served
+    → ((failure : Failure) → Before failure → Q failure) → ((failure : Failure) → IsOfStream failure → Q failure)
+    → IfErr served Before → IfErr result Q
+stream_job_fails (Err failure) result Before Q is first next before = subst (λ r. IfErr r Q) (sym is) (first failure before)
+stream_job_fails (Ok ended) result Before Q is first next before = by result (sym is)
+  where
+    by : (r : Result Unit Failure) → result_of_ending ended ≡ r → IfErr r Q
+    by (Ok done) ends = tt
+    by (Err failure) ends = next failure (ended, ends)
 
 of_value : {V : Type 0} (wanted : Result V Failure) (P : V → Type 0) (Q : Type 0) → ((value : V) → P value → Q)
     → IfOk wanted P → IfOk wanted (λ _. Q)
@@ -135,19 +133,6 @@ in_file : {B V : Type 0} (file : Result B Error) (describes : B → Result V Fai
     → IfOk file (λ bytes. IfOk (describes bytes) P) → IfOk file (λ bytes. IfOk (describes bytes) (λ _. Q))
 in_file {B} {V} (Ok bytes) describes P Q all holds = of_value (describes bytes) P Q all holds
 in_file (Err error) describes P Q all holds = tt
-
-pub replay_ends : {B : Type 0} (items : B → List ℕ) (name : Bor (List ℕ)) (site : List ℕ) (file : Result B Error) (result : Result Unit Failure)
-    (t : Tables) (left_old left_new written_old written_new : Option (List ℕ)) → name.now ≡ site
-    → IfErr file (λ error. IsErrAnd result (IsUnread name error))
-    → IfOk file (λ bytes. IfErr (site_in name (items bytes)) (λ failure. (result ≡ Err failure) ⊎ (result ≡ Err NoMemory)))
-    → IfOk file (λ bytes. IfOk (site_in name (items bytes)) (λ value. Replays value t left_old left_new written_old written_new result))
-    → IfErr result (IsOfJob (Replay site None))
-replay_ends items name site file result t left_old left_new written_old written_new named unread no_site served =
-    let behind = in_file file (λ bytes. site_in name (items bytes)) (λ value. Replays value t left_old left_new written_old written_new result)
-    (IfErr result IsOfStream) (λ value replayed. of_stream result replayed.0 replayed.1) served in
-    let fails = file_fails site_failure SiteFault.OutOfMemory name (λ bytes. site_in name (items bytes)) file result IsOfStream refl
-    (λ bytes. site_fails name (items bytes)) unread no_site behind in
-    subst (λ (s : List ℕ). IfErr result (IsOfJob (Replay s None))) named fails
 
 match_fails : {A : Type 0} (result : Result A Failure) (Q : A → Type 0) (P : Failure → Type 0) → MatchResult result Q P → IfErr result P
 match_fails (Ok done) Q P holds = tt
@@ -164,14 +149,10 @@ check_ends items name map file result Written named unread no_map written =
     let P : Failure → Type 0 = λ failure. (failure ≡ WriteFailed) ⊎ (failure ≡ NoMemory) in
     let behind = in_file file (λ bytes. map_of_file name (items bytes)) (λ value. MatchResult result (λ _. Written value) P)
     (IfErr result P) (λ value holds. match_fails result (λ _. Written value) P holds) written in
-    let fails = file_fails map_failure MapFault.OutOfMemory name (λ bytes. map_of_file name (items bytes)) file result P refl
-    (λ bytes. map_fails name (items bytes)) unread no_map behind in
-    let of_job = failing result (λ failure. IsOfText map_failure name.now failure ⊎ P failure) (IsOfJob (CheckMap name.now))
-    (λ failure given. elim given [
-      | inl first ↦ inl first
-      | inr next ↦ elim next [ inl failed ↦ inr failed | inr memory ↦ inl (inr (MapFault.OutOfMemory, memory)) ]
-    ]) fails in
-    subst (λ (m : List ℕ). IfErr result (IsOfJob (CheckMap m))) named of_job
+    let fails = file_fails map_failure MapFault.OutOfMemory name (λ bytes. map_of_file name (items bytes)) file result P (IsOfJob (CheckMap name.now)) refl
+    (λ bytes. map_fails name (items bytes)) (λ failure of_map. inl of_map)
+    (λ failure next. elim next [ inl failed ↦ inr failed | inr memory ↦ inl (inr (MapFault.OutOfMemory, memory)) ]) unread no_map behind in
+    subst (λ (m : List ℕ). IfErr result (IsOfJob (CheckMap m))) named fails
 
 -- ---- the status, and what is told
 

@@ -10,7 +10,7 @@ pub use Rattle.station_jobs.specs.MapFile.{map_failure, map_line, map_of_file}
 pub use Rattle.station_jobs.specs.Moved.{moved_or_failed}
 pub use Rattle.station_jobs.specs.Outcomes.{AppendsFront, EndsAs, IsOfFile, IsOfJob, IsOfMap, IsOfSite, IsTold}
 pub use Rattle.station_jobs.specs.Patience.{AreOfProgram, GivesWay, IsNextRead, IsOutOfTime, IsOver, IsTooLong, IsTurnOver, MayLook, passed}
-pub use Rattle.station_jobs.specs.Replaying.{failed_reads, failed_writes, IsOfStore, IsOfStream, Replays, ServesOver}
+pub use Rattle.station_jobs.specs.Replaying.{IsOfStore, IsOfStream, Replays}
 pub use Rattle.station_jobs.specs.SiteFile.{IsSiteOfFile, site_failure, site_in, text_of_site}
 pub use Rattle.station_jobs.specs.Statuses.{HasStatus, IsReported, line_of, result_of_ending, status_of}
 pub use Rattle.station_jobs.specs.Storing.{IsOpening, IsServedOver, Leaves, LeavesIfRead}

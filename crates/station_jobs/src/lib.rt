@@ -11,19 +11,19 @@
 //! blocks and fields it has. `report` has help and the version on the output alone, and nothing
 //! else there.
 //!
-//! `serve` (a stream over a keeper) comes to what `serve_stream` says of the bytes and the tables,
-//! and its result is what that end says: nothing where the stream ended, was closed or was cut,
-//! else the failure (`served`, with the counts of calls and failures). `replay` has that from no
-//! rows on, and nothing is read or written before the site is known (`prints_nothing`).
+//! `replay` (a stream over a keeper without rows) comes to what `serve_stream` says of the bytes and
+//! the tables (`served`), and answers how the stream ended. It stays within the stream's calls, and
+//! nothing is read or written before the site is known (`within`). What an end says is told once:
+//! nothing where the stream ended, was closed or was cut, else the failure (`result_of_stream`).
 //!
 //! A job over the store in a file hands back what it left of the files (`Done`), and `books` of
 //! `replay_stored` and of `serve_site` is said of these. Either the store was refused: then the
 //! failure is its fault, and what comes back is as `open_or_hand_back` says. Or a keeper was as its
 //! opening says, requests led on from its tables, and what comes back is what the keeper left
 //! (`IsServedOver`). For `replay_stored` these are the requests of the stream, with its bytes and
-//! its result. The store that either serves over has the limit of steps, and the port the program's
-//! bounds (what `serve_limited` and `serve_at_bounds` require); what the files held before has a
-//! name in all of these, which `main` alone fills.
+//! how it ended. The store that either serves over has the limit of steps (`IsOpening`), and the port
+//! the program's bounds too (what `serve_port` requires); what the files held before has a name in
+//! all of these, which `main` alone fills.
 //!
 //! The job `serve` prints its line once the port is listened on, and nothing before; and it is done
 //! only when the listener gave as many connections as it was asked for (`accepted`). Whatever they

@@ -1,9 +1,10 @@
 //! Does the jobs of the command line.
-ghost use Rattle.std.specs.Prelude.{◌≡◌, ◌≢◌, ◌+◌, ◌<◌, ◌≤◌, ◌^◌, ◌⊎◌, ◌++◌, ◌∷◌, [], IfOk, IfErr, IsErrAnd, MatchResult, OnOk};
+ghost use Rattle.std.specs.Prelude.{◌≡◌, ◌≢◌, ◌≤◌, ◌⊎◌, ◌++◌, ◌∷◌, [], IfOk, IfErr, IsErrAnd, MatchResult, OnOk};
 ghost use Rattle.std.specs.Io.KnownBytes.{Appends, Keeps};
+ghost use Rattle.http_serving.specs.Prelude.{HasCallsLeft, StaysWithinCalls};
 ghost use Rattle.office_tables.specs.Prelude.{no_rows};
-ghost use Rattle.station_jobs.specs.Prelude.{IsUnread, map_of_file, map_line, IsOfStream, Replays, ServesOver, failed_reads, failed_writes, site_in};
-ghost use Rattle.station_jobs.specs.Prelude.{EndsAs, IsOfJob, IsTold, result_of_ending, status_of};
+ghost use Rattle.station_jobs.specs.Prelude.{EndsAs, IsOfJob, IsTold, IsUnread, map_line, map_of_file, Replays, result_of_ending, site_in, status_of};
+ghost use Rattle.text_core.specs.Prelude.{result_and_then};
 
 use crate::failure::Failure;
 use crate::job::Job;
@@ -12,8 +13,7 @@ use crate::serving::{Door, serve_site};
 use crate::site_file::{read_site_file, site_of_file};
 use crate::stored::{Done, StoreFile, put_away, replay_stored};
 use crate::telling::tell;
-use office_core::{Keep, MemKeep};
-use site_core::Site;
+use office_core::MemKeep;
 use sqlite_disk::{Disk, Start};
 use station_api::{Counted, Drain, Served, Source, serve_stream};
 use std::alloc::Global;
@@ -89,9 +89,10 @@ fn outcome<'a, S: Start>(
                         &mut reader,
                         &mut writer,
                     );
-                    result_of(done)
+                    put_away(done.files);
+                    result_of_stream(done.result)
                 }
-                None => replay(alloc, name, file, &mut reader, &mut writer),
+                None => result_of_stream(replay(alloc, name, file, &mut reader, &mut writer)),
             }
         }
         Job::CheckMap { map } => {
@@ -115,75 +116,43 @@ fn result_of<T: Drop, D: Disk + Drop>(done: Done<'_, T, D>) -> Result<(), Failur
 }
 
 /// Serves one stream over a keeper in memory that has no rows, for the site that a file describes,
-/// by what reading the file with this name gave.
+/// by what reading the file with this name gave. Answers how the stream ended.
+///
+/// # Errors
+///
+/// The site's file wasn't read or describes no site, or memory ran out.
 fn replay<'a, R: Source, W: Drain>(
     alloc: Global,
     name: &'a str,
     file: io::Result<Vec<u8>>,
     reader: &mut R,
     writer: &mut W,
-) -> Result<(), Failure<'a>>
-    requires reader { R.calls reader.old + 2 ^ 25 < 2 ^ 64 }
-    requires writer { W.calls writer.old + 2 ^ 25 < 2 ^ 64 }
+) -> Result<Served, Failure<'a>>
+    requires reader { HasCallsLeft (R.calls reader.old) 0 }
+    requires writer { HasCallsLeft (W.calls writer.old) 0 }
     ensures unread { IfErr file (λ error. IsErrAnd result (IsUnread name.entry error)) }
 
     // A file that describes no site is the failure, whatever the stream.
     ensures no_site { IfOk file (λ bytes. IfErr (site_in name.entry bytes.items) (λ failure.
         (result ≡ Err failure) ⊎ (result ≡ Err Failure.NoMemory))) }
 
+    // With a site, what fails is memory.
+    ensures failed { IfOk file (λ bytes. IfOk (site_in name.entry bytes.items) (λ _.
+        IfErr result (λ failure. failure ≡ Failure.NoMemory))) }
+
     // The stream is served from no rows on, where the reader and the writer tell their bytes.
     ensures served { IfOk file (λ bytes. IfOk (site_in name.entry bytes.items) (λ site.
-        Replays site no_rows (R.left reader.old) (R.left reader.new)
-        (W.written writer.old) (W.written writer.new) result)) }
+        IfOk result (Replays site no_rows (R.left reader.old) (R.left reader.new)
+        (W.written writer.old) (W.written writer.new)))) }
 
     // Nothing is read or written before the site is known.
-    ensures prints_nothing { IfErr result (λ failure. IsOfStream failure
-        ⊎ ((reader.new ≡ reader.old) × (writer.new ≡ writer.old))) }
-    ensures calls { R.calls reader.new + W.calls writer.new
-        ≤ R.calls reader.old + W.calls writer.old + 16777216 }
-    ensures limit { result ≡ Err Failure.TurnLimit → R.calls reader.new + W.calls writer.new
-        ≡ R.calls reader.old + W.calls writer.old + 16777216 }
-    ensures read_faults { R.failures reader.new ≡ R.failures reader.old + failed_reads result }
-    ensures write_faults { W.failures writer.new ≡ W.failures writer.old + failed_writes result }
-    ensures no_memory { result ≡ Err Failure.NoMemory →
-        (R.calls reader.new ≡ R.calls reader.old) × (W.calls writer.new ≡ W.calls writer.old) }
+    ensures within { MatchResult result
+        (StaysWithinCalls R.Source W.Drain reader.old reader.new writer.old writer.new)
+        (λ _. (reader.new ≡ reader.old) × (writer.new ≡ writer.old)) }
 {
     let site = site_of_file(alloc, name, file)?;
     let mut keep = MemKeep::new(alloc);
-    serve(alloc, &mut keep, site.site(), reader, writer)
-}
-
-/// Serves one stream over a keeper.
-///
-/// # Errors
-///
-/// What the end of the stream says: `ReadFailed`, `WriteFailed`, `TurnLimit` or `NoMemory`. That a
-/// stream ends inside a request is no failure, nor that its last reply ends it.
-pub fn serve<K: Keep, R: Source, W: Drain>(
-    alloc: Global,
-    keep: &mut K,
-    site: &Site,
-    reader: &mut R,
-    writer: &mut W,
-) -> Result<(), Failure<'static>>
-    requires reader { R.calls reader.old + 2 ^ 25 < 2 ^ 64 }
-    requires writer { W.calls writer.old + 2 ^ 25 < 2 ^ 64 }
-    ensures was_honest { K.is_honest keep.new → K.is_honest keep.old }
-
-    // The result is what an end of the stream says, and the stream came to that end, over this keeper.
-    ensures served { ServesOver K.Keep site.now (R.left reader.old) (R.left reader.new)
-        (W.written writer.old) (W.written writer.new) result keep.old keep.new }
-    ensures calls { R.calls reader.new + W.calls writer.new
-        ≤ R.calls reader.old + W.calls writer.old + 16777216 }
-    ensures limit { result ≡ Err Failure.TurnLimit → R.calls reader.new + W.calls writer.new
-        ≡ R.calls reader.old + W.calls writer.old + 16777216 }
-    ensures read_faults { R.failures reader.new ≡ R.failures reader.old + failed_reads result }
-    ensures write_faults { W.failures writer.new ≡ W.failures writer.old + failed_writes result }
-    ensures no_memory { result ≡ Err Failure.NoMemory →
-        (R.calls reader.new ≡ R.calls reader.old) × (W.calls writer.new ≡ W.calls writer.old) }
-    ensures unserved { result ≡ Err Failure.NoMemory → keep.new ≡ keep.old }
-{
-    result_of_ending(serve_stream(alloc, keep, site, reader, writer))
+    Ok(serve_stream(alloc, &mut keep, site.site(), reader, writer))
 }
 
 /// Writes the line of the fuse map that a file describes, by what reading the file with this name
@@ -215,11 +184,12 @@ fn check_map<'a, W: Write>(
     }
 }
 
-/// What the end of a stream says of a failure.
-fn result_of_ending(served: Served) -> Result<(), Failure<'static>>
-    ensures { result ≡ result_of_ending served }
+/// What the end of a stream says of a failure, or why none was served. That a stream ends inside a
+/// request is no failure, nor that its last reply ends it.
+fn result_of_stream(served: Result<Served, Failure<'_>>) -> Result<(), Failure<'_>>
+    ensures { result ≡ result_and_then result_of_ending served.entry }
 {
-    match served {
+    match served? {
         Served::Ended | Served::Closed | Served::Cut => Ok(()),
         Served::ReadFault => Err(Failure::ReadFailed),
         Served::WriteFault => Err(Failure::WriteFailed),

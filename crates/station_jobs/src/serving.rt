@@ -1,13 +1,12 @@
 //! Connections of a port of this machine, served one after another over the store in a file.
-ghost use Rattle.std.specs.Prelude.{◌≡◌, ◌≢◌, ◌⊎◌, ◌+◌, ◌<◌, ◌^◌, ◌++◌, ◌∷◌, [], List, Some, IfOk, IfErr, IsErrAnd, OnOk};
+ghost use Rattle.std.specs.Prelude.{◌≡◌, ◌≢◌, ◌⊎◌, ◌+◌, ◌<◌, ◌^◌, ◌++◌, ◌∷◌, [], Some, IfOk, IfErr, IsErrAnd, OnOk};
 ghost use Rattle.std.specs.Io.KnownBytes.{Appends, Keeps};
 ghost use Rattle.std.specs.Net.Addr.{ipv4_octets};
 ghost use Rattle.std.specs.Net.Socket.{v4_ip, v4_port};
-ghost use Rattle.http_serving.specs.Prelude.{HttpExchange, Tells, requests_with_answers};
 ghost use Rattle.sqlite.specs.WalFiles.{image_at};
-ghost use Rattle.station_api.specs.Prelude.{Leads, AreSaid};
 ghost use Rattle.office_keep.specs.Prelude.{is_honest_at};
-ghost use Rattle.station_jobs.specs.Prelude.{AreOfProgram, IsUnread, IsOfPort, Leaves, LeavesIfRead, LeadsOn, listening_line, IsOfStore, site_in, text_of_site};
+ghost use Rattle.station_api.specs.Prelude.{ServesOver};
+ghost use Rattle.station_jobs.specs.Prelude.{AreOfProgram, IsUnread, IsOfPort, LeavesIfRead, LeadsOn, listening_line, IsOfStore, site_in, text_of_site};
 
 use crate::arrivals::Arrivals;
 use crate::duplex::Duplex;
@@ -18,10 +17,10 @@ use crate::site_file::site_of_file;
 use crate::stored::{Done, LeftFiles, StoreFile, open_limited, store_failure};
 use office_core::Keep;
 use office_store::{SqlKeep, close};
-use site_core::{Site, SiteText};
+use site_core::Site;
 use sqlite::{Alter, FileFrom, FileStore};
 use sqlite_disk::Start;
-use station_api::{Drain, Served, Source, serve_stream};
+use station_api::{Served, serve_stream};
 use std::alloc::Global;
 use std::io;
 use std::io::Write;
@@ -91,58 +90,36 @@ pub fn serve_site<'a, S: Start, W: Write>(
             };
         }
     };
-    let served = serve_store(rt, alloc, &site, store, door, output);
+    let mut keep = match open_limited(rt, alloc, store, &site) {
+        Ok(keep) => keep,
+        Err(refused) => {
+            return Done {
+                result: Err(store_failure(refused.fault)),
+                files: Some(LeftFiles::Refused(refused)),
+            };
+        }
+    };
+    let bounds = Bounds::of_program();
+    let served = serve_port(rt, alloc, &mut keep, site.site(), door, bounds, output);
     Done {
-        result: served.0,
-        files: Some(served.1),
+        result: served,
+        files: Some(LeftFiles::Ended(close(keep))),
     }
 }
 
-/// Serves connections over the store of a site in a file, and closes it: how many were accepted, and
-/// what is left of the files.
-fn serve_store<S: Start, W: Write>(
-    rt: &HostRuntime,
-    alloc: Global,
-    site: &SiteText,
-    store: StoreFile<'_, S>,
-    door: Door,
-    output: &mut W,
-) -> (Result<u32, Failure<'static>>, LeftFiles<FileFrom<S>>)
-    ensures failed { IfErr result.0 (λ failure. IsOfStore failure ⊎ IsOfPort failure) }
-    ensures accepted { IfOk result.0 (λ accepted. accepted ≡ door.connections) }
-
-    // The store was refused, or it was as its opening says, and what the connections asked for leads
-    // from its tables to those that the files hold that come back.
-    ensures books { Leaves site.now (image_at S.Start) store.entry.name.now store.entry.absent
-        (LeadsOn ⟦<SqlKeep<FileStore<FileFrom<S>>> as Keep>⟧ site.now.site) result.0 result.1 }
-    ensures printed { OnOk result.0 (Appends (W.contents output.old) (W.contents output.new)
-        (listening_line door.port ++ 10 ∷ [])) }
-    ensures prints_nothing { IfErr result.0 (λ failure. failure ≢ Failure.WriteFailed
-        → failure ≢ Failure.AcceptFailed
-        → Keeps (W.contents output.old) (W.contents output.new)) }
-{
-    let mut keep = match open_limited(rt, alloc, store, site) {
-        Ok(keep) => keep,
-        Err(refused) => {
-            let failure = store_failure(refused.fault);
-            return (Err(failure), LeftFiles::Refused(refused));
-        }
-    };
-    let served = serve_port(rt, alloc, &mut keep, site.site(), door, output);
-    (served, LeftFiles::Ended(close(keep)))
-}
-
 /// Listens on the port of the door, tells so, and serves its connections over a store, whose statements
-/// have the limit of steps. Answers how many were accepted.
+/// have the limit of steps, at the bounds of the program. Answers how many were accepted.
 fn serve_port<S: Alter, W: Write>(
     rt: &HostRuntime,
     alloc: Global,
     keep: &mut SqlKeep<S>,
     site: &Site,
     door: Door,
+    bounds: Bounds,
     output: &mut W,
 ) -> Result<u32, Failure<'static>>
     requires limit { keep.old.conn.step_limit ≡ Some 1000000000 }
+    requires bounds { AreOfProgram bounds }
     ensures was_honest { is_honest_at S.Store keep.new.conn → is_honest_at S.Store keep.old.conn }
     ensures reaches { LeadsOn ⟦<SqlKeep<S> as Keep>⟧ site.now keep.old keep.new }
     ensures accepted { IfOk result (λ accepted. accepted ≡ door.connections) }
@@ -158,32 +135,7 @@ fn serve_port<S: Alter, W: Write>(
     if write_listening_line(door.port, output).is_err() {
         return Err(Failure::WriteFailed);
     }
-    let bounds = Bounds::of_program();
-    serve_at_bounds(rt, alloc, keep, site, &listener, bounds, door.connections)
-}
-
-/// Serves so many connections of a listener over a store, whose statements have the limit of steps, at
-/// the bounds of the program. Answers how many were accepted.
-fn serve_at_bounds<S: Alter, R: Clock, C, L>(
-    clock: &R,
-    alloc: Global,
-    keep: &mut SqlKeep<S>,
-    site: &Site,
-    listener: &L,
-    bounds: Bounds,
-    count: u32,
-) -> Result<u32, Failure<'static>>
-where
-    C: Duplex,
-    L: OpenListener<Stream = C>,
-    requires limit { keep.old.conn.step_limit ≡ Some 1000000000 }
-    requires bounds { AreOfProgram bounds }
-    ensures was_honest { is_honest_at S.Store keep.new.conn → is_honest_at S.Store keep.old.conn }
-    ensures reaches { LeadsOn ⟦<SqlKeep<S> as Keep>⟧ site.now keep.old keep.new }
-    ensures accepted { IfOk result (λ accepted. accepted ≡ count) }
-    ensures failed { IfErr result (λ failure. failure ≡ Failure.AcceptFailed) }
-{
-    serve_connections(clock, alloc, keep, site, listener, bounds, count)
+    serve_connections(rt, alloc, keep, site, &listener, bounds, door.connections)
 }
 
 /// Listens on a port of this machine, which no other machine can reach.
@@ -304,11 +256,9 @@ where
 
     // Where the connection tells its bytes, what was sent begins with the requests that lead to the
     // tables that stand, and what its client got is their replies.
-    ensures told { IfOk result (λ parted. (exchanges : List HttpExchange)
-        × Tells (C.sends stream) (C.Incoming.remaining parted.incoming)
-        (C.got stream) (C.Outgoing.contents parted.outgoing) parted.served exchanges
-        × AreSaid site.now (requests_with_answers exchanges)
-        × Leads K.Keep site.now keep.old keep.new (requests_with_answers exchanges)) }
+    ensures told { IfOk result (λ parted. ServesOver K.Keep site.now
+        (C.sends stream) (C.Incoming.remaining parted.incoming)
+        (C.got stream) (C.Outgoing.contents parted.outgoing) parted.served keep.old keep.new) }
     ensures unserved { IfErr result (λ _. keep.new ≡ keep.old) }
 {
     site.fact_rules();
@@ -317,35 +267,12 @@ where
     let (incoming, outgoing) = stream.split()?;
     let mut reader = ClientReader::new(&line, incoming);
     let mut writer = ClientWriter::new(&line, outgoing);
-    let served = serve_connection(alloc, keep, site, &mut reader, &mut writer);
+    let served = serve_stream(alloc, keep, site, &mut reader, &mut writer);
     Ok(Parted {
         served,
         incoming: reader.into_stream(),
         outgoing: writer.into_stream(),
     })
-}
-
-/// Serves a connection by its two ends over a keeper, and answers how its stream ended.
-fn serve_connection<K: Keep, R: Source, W: Drain>(
-    alloc: Global,
-    keep: &mut K,
-    site: &Site,
-    reader: &mut R,
-    writer: &mut W,
-) -> Served
-    requires reader { R.calls reader.old + 2 ^ 25 < 2 ^ 64 }
-    requires writer { W.calls writer.old + 2 ^ 25 < 2 ^ 64 }
-    ensures was_honest { K.is_honest keep.new → K.is_honest keep.old }
-
-    // Each request that was read whole has its reply, where the ends tell their bytes.
-    ensures served { (exchanges : List HttpExchange)
-        × Tells (R.left reader.old) (R.left reader.new)
-        (W.written writer.old) (W.written writer.new) result exchanges
-        × AreSaid site.now (requests_with_answers exchanges)
-        × Leads K.Keep site.now keep.old keep.new (requests_with_answers exchanges) }
-    ensures unserved { result ≡ Served.NoMemory → keep.new ≡ keep.old }
-{
-    serve_stream(alloc, keep, site, reader, writer)
 }
 
 /// Has a connection send each reply at once, and wait for its client so long at a time.

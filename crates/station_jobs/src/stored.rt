@@ -1,22 +1,21 @@
 //! A store in a file: how it is opened, and a replay over it.
-ghost use Rattle.std.specs.Prelude.{◌≡◌, ◌⊎◌, ◌+◌, ◌<◌, ◌≤◌, ◌^◌, Some, None, IfOk, IfErr, IsErrAnd, MatchResult};
-ghost use Rattle.station_jobs.specs.Prelude.{IsUnread, IsOfStore, IsOfStream, IsOpening, Leaves, LeavesIfRead, ServesOver, failed_reads, failed_writes};
-ghost use Rattle.station_jobs.specs.Prelude.{site_in, text_of_site};
-ghost use Rattle.office_keep.specs.Prelude.{is_honest_at};
+ghost use Rattle.std.specs.Prelude.{◌≡◌, ◌⊎◌, IfOk, IfErr, IsErrAnd, IsOkAnd, MatchResult};
+ghost use Rattle.station_jobs.specs.Prelude.{IsUnread, IsOfStore, IsOpening, LeavesIfRead, site_in, text_of_site};
+ghost use Rattle.http_serving.specs.Prelude.{HasCallsLeft, StaysWithinCalls};
 ghost use Rattle.office_store.specs.Prelude.{IsRefusal, open_fault_number};
 ghost use Rattle.sqlite.specs.WalFiles.{image_at};
+ghost use Rattle.station_api.specs.Prelude.{ServesOver};
 
 use crate::failure::Failure;
 use crate::job::StoreName;
 use crate::private::make_private;
-use crate::running::serve;
 use crate::site_file::site_of_file;
 use office_core::Keep;
 use office_store::{Absent, Closed, OpenFault, Refused, SqlKeep, close, open_or_hand_back};
-use site_core::{Site, SiteText};
-use sqlite::{Alter, FileFrom, FileStore};
+use site_core::SiteText;
+use sqlite::{FileFrom, FileStore};
 use sqlite_disk::{Disk, Start};
-use station_api::{Drain, Source};
+use station_api::{Drain, Served, Source, serve_stream};
 use std::alloc::Global;
 use std::io;
 
@@ -39,7 +38,11 @@ pub struct Done<'a, T: Drop, D: Disk + Drop> {
 }
 
 /// Serves one stream over the store in a file, for the site that a file describes, by what reading the
-/// file with this name gave. The store is closed at the end.
+/// file with this name gave. The store is closed at the end. Answers how the stream ended.
+///
+/// # Errors
+///
+/// The site's file wasn't read or describes no site, memory ran out, or the store isn't opened.
 pub fn replay_stored<'a, S: Start, R: Source, W: Drain>(
     rt: &HostRuntime,
     alloc: Global,
@@ -48,40 +51,32 @@ pub fn replay_stored<'a, S: Start, R: Source, W: Drain>(
     store: StoreFile<'_, S>,
     reader: &mut R,
     writer: &mut W,
-) -> Done<'a, (), FileFrom<S>>
-    requires reader { R.calls reader.old + 2 ^ 25 < 2 ^ 64 }
-    requires writer { W.calls writer.old + 2 ^ 25 < 2 ^ 64 }
+) -> Done<'a, Served, FileFrom<S>>
+    requires reader { HasCallsLeft (R.calls reader.old) 0 }
+    requires writer { HasCallsLeft (W.calls writer.old) 0 }
     ensures unread { IfErr file (λ error. IsErrAnd result.result (IsUnread name.entry error)) }
 
     // A file that describes no site is the failure, whatever the store and the stream.
     ensures no_site { IfOk file (λ bytes. IfErr (site_in name.entry bytes.items) (λ failure.
         (result.result ≡ Err failure) ⊎ (result.result ≡ Err Failure.NoMemory))) }
 
-    // With a site, what fails is the store or the stream.
+    // With a site, what fails is memory or the store.
     ensures failed { IfOk file (λ bytes. IfOk (site_in name.entry bytes.items) (λ _.
-        IfErr result.result (λ failure. IsOfStore failure ⊎ IsOfStream failure))) }
+        IfErr result.result (λ failure. (failure ≡ Failure.NoMemory) ⊎ IsOfStore failure))) }
 
     // The store was refused, or it was as its opening says, and the stream was served over it: its
     // requests lead from the tables of then to those that the files hold that come back.
     ensures books { IfOk file (λ bytes. IfOk (site_in name.entry bytes.items) (λ site.
         LeavesIfRead (text_of_site bytes.items site) (image_at S.Start) store.entry.name.now
-        store.entry.absent (ServesOver ⟦<SqlKeep<FileStore<FileFrom<S>>> as Keep>⟧ site
-        (R.left reader.old) (R.left reader.new) (W.written writer.old) (W.written writer.new)
-        result.result) result.result result.files)) }
+        store.entry.absent (λ opened last. IsOkAnd result.result (λ served.
+        ServesOver ⟦<SqlKeep<FileStore<FileFrom<S>>> as Keep>⟧ site (R.left reader.old)
+        (R.left reader.new) (W.written writer.old) (W.written writer.new) served opened last))
+        result.result result.files)) }
 
     // Nothing is read or written before the site is known and the store is open.
-    ensures prints_nothing { IfErr result.result (λ failure. IsOfStream failure
-        ⊎ ((reader.new ≡ reader.old) × (writer.new ≡ writer.old))) }
-    ensures calls { R.calls reader.new + W.calls writer.new
-        ≤ R.calls reader.old + W.calls writer.old + 16777216 }
-    ensures limit { result.result ≡ Err Failure.TurnLimit → R.calls reader.new + W.calls writer.new
-        ≡ R.calls reader.old + W.calls writer.old + 16777216 }
-    ensures read_faults { R.failures reader.new
-        ≡ R.failures reader.old + failed_reads result.result }
-    ensures write_faults { W.failures writer.new
-        ≡ W.failures writer.old + failed_writes result.result }
-    ensures no_memory { result.result ≡ Err Failure.NoMemory →
-        (R.calls reader.new ≡ R.calls reader.old) × (W.calls writer.new ≡ W.calls writer.old) }
+    ensures within { MatchResult result.result
+        (StaysWithinCalls R.Source W.Drain reader.old reader.new writer.old writer.new)
+        (λ _. (reader.new ≡ reader.old) × (writer.new ≡ writer.old)) }
 {
     let site = match site_of_file(alloc, name, file) {
         Ok(site) => site,
@@ -92,54 +87,20 @@ pub fn replay_stored<'a, S: Start, R: Source, W: Drain>(
             };
         }
     };
-    let served = serve_stored(rt, alloc, &site, store, reader, writer);
-    Done {
-        result: served.0,
-        files: Some(served.1),
-    }
-}
-
-/// Serves one stream over the store of a site in a file, and closes it: the result, and what is left
-/// of the files.
-fn serve_stored<S: Start, R: Source, W: Drain>(
-    rt: &HostRuntime,
-    alloc: Global,
-    site: &SiteText,
-    store: StoreFile<'_, S>,
-    reader: &mut R,
-    writer: &mut W,
-) -> (Result<(), Failure<'static>>, LeftFiles<FileFrom<S>>)
-    requires reader { R.calls reader.old + 2 ^ 25 < 2 ^ 64 }
-    requires writer { W.calls writer.old + 2 ^ 25 < 2 ^ 64 }
-    ensures failed { IfErr result.0 (λ failure. IsOfStore failure ⊎ IsOfStream failure) }
-
-    // The store was refused, or it was as its opening says, and the stream was served over it: its
-    // requests lead from the tables of then to those that the files hold that come back.
-    ensures books { Leaves site.now (image_at S.Start) store.entry.name.now store.entry.absent
-        (ServesOver ⟦<SqlKeep<FileStore<FileFrom<S>>> as Keep>⟧ site.now.site (R.left reader.old)
-        (R.left reader.new) (W.written writer.old) (W.written writer.new) result.0)
-        result.0 result.1 }
-    ensures prints_nothing { IfErr result.0 (λ failure. IsOfStream failure
-        ⊎ ((reader.new ≡ reader.old) × (writer.new ≡ writer.old))) }
-    ensures calls { R.calls reader.new + W.calls writer.new
-        ≤ R.calls reader.old + W.calls writer.old + 16777216 }
-    ensures limit { result.0 ≡ Err Failure.TurnLimit → R.calls reader.new + W.calls writer.new
-        ≡ R.calls reader.old + W.calls writer.old + 16777216 }
-    ensures read_faults { R.failures reader.new ≡ R.failures reader.old + failed_reads result.0 }
-    ensures write_faults { W.failures writer.new
-        ≡ W.failures writer.old + failed_writes result.0 }
-    ensures no_memory { result.0 ≡ Err Failure.NoMemory →
-        (R.calls reader.new ≡ R.calls reader.old) × (W.calls writer.new ≡ W.calls writer.old) }
-{
-    let mut keep = match open_limited(rt, alloc, store, site) {
+    let mut keep = match open_limited(rt, alloc, store, &site) {
         Ok(keep) => keep,
         Err(refused) => {
-            let failure = store_failure(refused.fault);
-            return (Err(failure), LeftFiles::Refused(refused));
+            return Done {
+                result: Err(store_failure(refused.fault)),
+                files: Some(LeftFiles::Refused(refused)),
+            };
         }
     };
-    let served = serve_limited(alloc, &mut keep, site.site(), reader, writer);
-    (served, LeftFiles::Ended(close(keep)))
+    let served = serve_stream(alloc, &mut keep, site.site(), reader, writer);
+    Done {
+        result: Ok(served),
+        files: Some(LeftFiles::Ended(close(keep))),
+    }
 }
 
 /// Closes what a job left of a store's files.
@@ -151,32 +112,6 @@ pub fn put_away<D: Disk + Drop>(files: Option<LeftFiles<D>>) {
 
 /// How many steps a statement may take: a read of a hundred million rows takes fewer.
 const STATEMENT_STEPS: u64 = 1_000_000_000;
-
-/// Serves one stream over a store, whose statements have the limit of steps.
-fn serve_limited<S: Alter, R: Source, W: Drain>(
-    alloc: Global,
-    keep: &mut SqlKeep<S>,
-    site: &Site,
-    reader: &mut R,
-    writer: &mut W,
-) -> Result<(), Failure<'static>>
-    requires limit { keep.old.conn.step_limit ≡ Some 1000000000 }
-    requires reader { R.calls reader.old + 2 ^ 25 < 2 ^ 64 }
-    requires writer { W.calls writer.old + 2 ^ 25 < 2 ^ 64 }
-    ensures was_honest { is_honest_at S.Store keep.new.conn → is_honest_at S.Store keep.old.conn }
-    ensures served { ServesOver ⟦<SqlKeep<S> as Keep>⟧ site.now (R.left reader.old)
-        (R.left reader.new) (W.written writer.old) (W.written writer.new) result keep.old keep.new }
-    ensures calls { R.calls reader.new + W.calls writer.new
-        ≤ R.calls reader.old + W.calls writer.old + 16777216 }
-    ensures limit { result ≡ Err Failure.TurnLimit → R.calls reader.new + W.calls writer.new
-        ≡ R.calls reader.old + W.calls writer.old + 16777216 }
-    ensures read_faults { R.failures reader.new ≡ R.failures reader.old + failed_reads result }
-    ensures write_faults { W.failures writer.new ≡ W.failures writer.old + failed_writes result }
-    ensures no_memory { result ≡ Err Failure.NoMemory →
-        (R.calls reader.new ≡ R.calls reader.old) × (W.calls writer.new ≡ W.calls writer.old) }
-{
-    serve(alloc, keep, site, reader, writer)
-}
 
 /// A store that is served over.
 #[derive(Drop)]

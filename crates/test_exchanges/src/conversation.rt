@@ -1,5 +1,6 @@
 //! Conversations that are held with the server over a keeper.
-ghost use Rattle.std.specs.Prelude.{◌<◌, ◌+◌, ◌^◌};
+ghost use Rattle.std.specs.Prelude.{◌<◌};
+ghost use Rattle.http_serving.specs.Prelude.{HasCallsLeft};
 
 use http_frames::memory::{Pieces, Written};
 use office_core::Keep;
@@ -19,8 +20,8 @@ pub fn served_by<K: Keep, R: Source, W: Drain>(
     reader: &mut R,
     writer: &mut W,
 ) -> Result<Served, Fail>
-    requires reader { R.calls reader.old + 2 ^ 25 < 2 ^ 64 }
-    requires writer { W.calls writer.old + 2 ^ 25 < 2 ^ 64 }
+    requires reader { HasCallsLeft (R.calls reader.old) 0 }
+    requires writer { HasCallsLeft (W.calls writer.old) 0 }
 {
     let site = read_site(alloc, site)?;
     Ok(serve_stream(alloc, keep, &site, reader, writer))

@@ -1,4 +1,4 @@
-use Rattle.std.proofs.Common.{[], ◌++◌, arith, Some, None}
+use Rattle.std.proofs.Common.{[], ◌++◌, ap, arith, Some, None}
 use Rattle.http_frames.specs.Prelude.{unread}
 use Rattle.http_serving.proofs.StreamLemmas.{cycles_both, runs_on}
 use Rattle.http_serving.proofs.serve_stream.Goals as goal
@@ -15,6 +15,18 @@ returns-in-Some-clause-run g c =
           c.in-Some.ensures.no_memory seen.1 exchange.2,
       runs_on (g.V.Service.steps c.args.service.now) c.args.state.now seen.0 c.loop-served.state exchange.0 c.serve_one.new.state seen.2 exchange.3,
     )
+
+pub returns-in-Some-clause-within : goal.returns-in-Some-clause-within
+returns-in-Some-clause-within g c =
+    let seen = c.loop-served.invariant in
+    let exchange = c.in-Some.ensures in
+    record {
+      calls = omega (arith, seen.calls, exchange.calls, exchange.within);
+      limit = λ is. let met = exchange.limit (ap Some is) in omega (arith, met, seen.calls, exchange.calls);
+      failed_reads = omega (arith, seen.read_faults, exchange.read_faults);
+      failed_writes = omega (arith, seen.write_faults, exchange.write_faults);
+      no_memory = λ is. absurd (exchange.no_memory (ap Some is));
+    }
 
 pub loop-served-preserved : goal.loop-served-preserved
 loop-served-preserved g c =

@@ -1,5 +1,5 @@
 use Rattle.std.proofs.Common.{◌≡◌, ◌+◌, ◌-◌, ◌≤◌}
-use Rattle.http_frames.specs.Prelude.{unread, KeepsBytes}
+use Rattle.http_frames.specs.Prelude.{call_limit, unread, KeepsBytes}
 use Rattle.http_frames.proofs.buffer.read_request.Given as goal
 
 abbrev pub invariant-loop-framed : goal.invariant-loop-framed
@@ -12,4 +12,4 @@ invariant-loop-framed g l = record {
 }
 
 abbrev pub decreases-loop-framed : goal.decreases-loop-framed
-decreases-loop-framed g l = 16777216 - l.buffer.calls
+decreases-loop-framed g l = call_limit - l.buffer.calls

@@ -1,4 +1,5 @@
 use Rattle.std.proofs.Common.{◌≡◌, ◌+◌, ◌-◌, ◌≤◌, ◌<◌, length, ◌⊎◌}
+use Rattle.http_frames.specs.Prelude.{call_limit}
 use Rattle.http_serving.specs.Prelude.{SendsPart}
 use Rattle.http_serving.proofs.send.write_all.Given as goal
 
@@ -8,10 +9,10 @@ invariant-loop-rest g l = record {
   kept : l.buffer ≡ record l.fn.buffer { calls = l.buffer.calls };
   calls : g.W.Drain.calls l.writer + l.fn.buffer.calls ≡ g.W.Drain.calls l.fn.writer + l.buffer.calls;
   more : l.fn.buffer.calls ≤ l.buffer.calls;
-  within : l.fn.buffer.calls ≤ 16777216 → l.buffer.calls ≤ 16777216;
+  within : l.fn.buffer.calls ≤ call_limit → l.buffer.calls ≤ call_limit;
   some : (length l.rest ≡ length l.bytes) ⊎ (l.fn.buffer.calls < l.buffer.calls);
   failures : g.W.Drain.failures l.writer ≡ g.W.Drain.failures l.fn.writer;
 }
 
 abbrev pub decreases-loop-rest : goal.decreases-loop-rest
-decreases-loop-rest g l = 16777216 - l.buffer.calls
+decreases-loop-rest g l = call_limit - l.buffer.calls

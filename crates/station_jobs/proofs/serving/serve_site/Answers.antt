@@ -1,23 +1,45 @@
-use Rattle.std.proofs.Common.{◌≡◌, ◌⊎◌, Result, Ok, Err, IfOk, inr}
+use Rattle.std.proofs.Common.{◌≡◌, ◌⊎◌, Result, Ok, Err, IfOk, inr, ap, IfErr, inl}
 use Rattle.sqlite.specs.WalFiles.{image_at}
 use Rattle.station_jobs.specs.Prelude.{IsOfPort, IsOfStore, site_in}
 use Rattle.station_jobs.specs.declared.failure.Failure.TheVariants.{NoMemory}
-use Rattle.station_jobs.proofs.Books.{books_left}
+use Rattle.station_jobs.proofs.Books.{books_left, failing, of_any_site}
 use Rattle.station_jobs.proofs.Ending.{failing}
+use Rattle.station_jobs.proofs.Leading.{leads_for}
+use Rattle.station_jobs.specs.declared.failure.Failure.{Failure}
+use Rattle.station_jobs.specs.declared.stored.LeftFiles.TheVariants.{Ended, Refused}
 use Rattle.station_jobs.proofs.serving.serve_site.Goals as goal
 
--- what is so of each value is so of a result's
-each : {A B : Type 0} (r : Result A B) (Says : A → Type 0) → ((a : A) → Says a) → IfOk r Says
-each (Ok a) Says so = so a
-each (Err _) Says so = tt
+pub returns-in-Err-open_limited-clause-books : goal.returns-in-Err-open_limited-clause-books
+returns-in-Err-open_limited-clause-books g c =
+    books_left c.args.name (λ b. b.items) c.args.file c.in-Ok.site (image_at g.S.Start) c.args.store.name.now c.args.store.absent (λ _ _ _. Unit {0})
+    (Err c.store_failure.result) (Refused c.in-Err-open_limited.refused) c.in-Ok.ensures.read (ap Err c.store_failure.ensures, c.in-Err-open_limited.ensures.refused)
+
+-- what fails with a site
+abbrev IsBehindSite : Failure → Type 0
+IsBehindSite failure = (failure ≡ NoMemory) ⊎ IsOfStore failure ⊎ IsOfPort failure
+
+pub returns-in-Err-open_limited-clause-failed : goal.returns-in-Err-open_limited-clause-failed
+returns-in-Err-open_limited-clause-failed g c =
+    of_any_site c.args.name (λ b. b.items) c.args.file (IsBehindSite c.store_failure.result)
+    (inr (inl (c.in-Err-open_limited.refused.fault, c.store_failure.ensures)))
 
 pub returns-clause-failed : goal.returns-clause-failed
 returns-clause-failed g c =
-    let fails = failing c.serve_store-served.result.0 (λ failure. IsOfStore failure ⊎ IsOfPort failure)
-    (λ failure. (failure ≡ NoMemory) ⊎ IsOfStore failure ⊎ IsOfPort failure) (λ failure h. inr h) c.serve_store-served.ensures.failed in
-    each c.args.file _ (λ bytes. each (site_in c.args.name bytes.items) _ (λ _. fails))
+    let served = c.serve_port-served in
+    of_any_site c.args.name (λ b. b.items) c.args.file (IfErr served.result IsBehindSite)
+    (failing served.result IsOfPort IsBehindSite (λ failure port. inr (inr port)) served.ensures.failed)
+
+pub serve_port-served-requires-clause-limit : goal.serve_port-served-requires-clause-limit
+serve_port-served-requires-clause-limit g c = c.in-Ok-open_limited.ensures.opened.limit
 
 pub returns-clause-books : goal.returns-clause-books
 returns-clause-books g c =
     books_left c.args.name (λ b. b.items) c.args.file c.in-Ok.site (image_at g.S.Start) c.args.store.name.now c.args.store.absent _
-    c.serve_store-served.result.0 c.serve_store-served.result.1 c.in-Ok.ensures.read c.serve_store-served.ensures.books
+    c.serve_port-served.result (Ended c.close.result) c.in-Ok.ensures.read (record {
+      opened = c.in-Ok-open_limited.keep;
+      last = c.serve_port-served.new.keep;
+      opens = c.in-Ok-open_limited.ensures.opened;
+      leads = leads_for c.site-2.ensures.same c.serve_port-served.ensures.reaches;
+      was_honest = c.serve_port-served.ensures.was_honest;
+      leaves = c.close.ensures;
+    })
