@@ -112,7 +112,7 @@ read_faults (Some WriteFault) = 0
 read_faults (Some TurnLimit) = 0
 read_faults (Some NoMemory) = 0
 
--- and of the writer
+-- the failures of the writer that the end of a stream tells
 abbrev pub write_faults : Option Served → ℕ
 write_faults None = 0
 write_faults (Some Ended) = 0

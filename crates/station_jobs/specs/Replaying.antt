@@ -47,7 +47,7 @@ failed_reads (Ok done) = 0
 failed_reads (Err ReadFailed) = 1
 failed_reads (Err failure) = 0
 
--- and of the writer
+-- the failures of the writer that the result tells
 abbrev pub failed_writes : Result Unit Failure → ℕ
 failed_writes (Ok done) = 0
 failed_writes (Err WriteFailed) = 1
