@@ -57,7 +57,7 @@ pub fn replay_stored<'a, S: Start, R: Source, W: Drain>(
     ensures no_site { IfOk file (λ bytes. IfErr (site_in name.entry bytes.items) (λ failure.
         (result.result ≡ Err failure) ⊎ (result.result ≡ Err Failure.NoMemory))) }
 
-    // With a site, what fails is the store or the stream.
+    // Once the site is read, what fails is the store or the stream.
     ensures failed { IfOk file (λ bytes. IfOk (site_in name.entry bytes.items) (λ _.
         IfErr result.result (λ failure. IsOfStore failure ⊎ IsOfStream failure))) }
 
