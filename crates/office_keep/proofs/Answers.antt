@@ -87,7 +87,7 @@ told g old new site self view q Says it = subst (λ k. Told g k (record { conn =
   answer = it.answer;
 })
 
--- the same of a keeper, of whose value its connection is a part
+-- a look-up of a connection is one of the keeper of whose value the connection is a part
 module _ {S : Type 0} (g : Ghosts S) (old new : Held S) {remembered : Remembered} {owner : List ℕ}
     (is_kept : RemembersRight g old owner remembered) (clean : IsTrue (state g new).is_open
     → HasCleanDisk (state g new)) where

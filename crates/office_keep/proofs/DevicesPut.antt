@@ -77,7 +77,7 @@ put_found cmp x itself (y ∷ ys) =
       | Greater ↦ λ e. rw e (put_found cmp x itself ys)
     ] refl
 
--- and so is a device
+-- a device that is put is found by its customer and its chip
 pub device_found : (d : OfCustomer Device) (rows : List (OfCustomer Device)) → find (is_device d.customer d.row.chip) (with_row device_cmp d rows) ≡ Some d
 device_found d rows =
     let itself : is_device d.customer d.row.chip d

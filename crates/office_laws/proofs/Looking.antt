@@ -20,7 +20,7 @@ gave (Some x) f y e = (x, refl, e)
 pub some_is : {A : Type 0} {x y : A} → Some x ≡ Some y → x ≡ y
 some_is e = cc
 
--- and what was made of what
+-- the value of an option from which f made another
 pub mapped : {A B : Type 0} (o : Option A) (f : A → B) (y : B) → option_map f o ≡ Some y
     → (x : A) × (o ≡ Some x) × (f x ≡ y)
 mapped None f y e = cc

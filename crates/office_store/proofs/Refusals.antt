@@ -106,7 +106,7 @@ module _ {S : Type 0} (g : Ghosts S) (site : TextOfSite) where
     crash = it.crash;
   }
 
-  -- and one that is passed what follows
+  -- a test that is passed says what follows from what it says
   pub examines_weaker : (old new : Held S) (P Q : Database → Type 0) → Examines g site old new (Ok tt) P
       → (HasCleanDisk (state g old) → P (state g old).now → Q (state g old).now) → Examines g site old new (Ok tt) Q
   examines_weaker old new P Q it says = record {
@@ -192,7 +192,7 @@ module _ {S : Type 0} (g : Ghosts S) (site : TextOfSite) (old new : Held S)
       inr (version, schema_after answer _ tests clean, inl lacks))
       (λ clean other. same_trees answer _ tests clean)
 
-  -- and so is a start that lacks
+  -- a start that lacks is one of other tables
   pub lack_found : (HasCleanDisk (state g old) → AreStartsAsked (sha256 site.text) version (state g old).now.trees)
       → (answer : Bool) → answer ≡ false → Tests {E = Error} g old new (Ok answer) (λ db whole. IsTrue whole ↔ HasStarts db)
       → (Says : Database → Type 0) → Examines g site old new (Err OtherTables) Says
@@ -208,7 +208,7 @@ module _ {S : Type 0} (g : Ghosts S) (site : TextOfSite) (old new : Held S)
       inr (version, schema_after answer _ tests clean, inr (inr (inl (are_asked, lacks)))))
       (λ clean other. same_trees answer _ tests clean)
 
-  -- and one address in two records
+  -- one address in two records is one of other tables
   pub twice_found : (answer : Bool) → answer ≡ false → Tests {E = Error} g old new (Ok answer) (λ db apart. IsTrue apart ↔ HasApartAddresses db)
       → (Says : Database → Type 0) → Examines g site old new (Err OtherTables) Says
   twice_found answer twice tests Says = not_passed (Ok answer) _ tests OtherTables Says (λ clean told. absurd (let e = told in cc))
@@ -249,7 +249,7 @@ module _ {S : Type 0} (g : Ghosts S) (site : TextOfSite) (old new : Held S)
         (λ clean is. inr (version, schema_after meta _ tests clean, inr (inl (no_site version _ meta (told clean) (never is)))))
         (λ clean other. same_trees meta _ tests clean)
 
-    -- and judged by a name that is the site's
+    -- what the store tells of itself was read, and judged by a name that is the site's
     pub judged_as : version ≢ Third → (name : List ℕ) → name ≡ sha256 site.text
         → (result : Result (Unit {0}) OpenFault)
         → OnOk result (meta ≡ Some (meta_of_version version name))

@@ -52,7 +52,7 @@ module _ {D : Type 0} {g : Ghosts D} (image : Image) (absent : Absent) (site : T
         found = ((file_state conn).committed.trees, finds.reads, was);
       }
 
-  -- it tells what was found
+  -- the fault of a connection that is turned away tells what was found
   pub told_for : (IsOtherSchema (file_state conn).now.schema → fault ≡ OtherTables) → IsToldFor image absent site fault
   told_for other_schema = record {
     other_site = λ told.
@@ -68,7 +68,7 @@ module _ {D : Type 0} {g : Ghosts D} (image : Image) (absent : Absent) (site : T
         (λ lacks. not_tables (away.lacks lacks).0, λ other. not_tables (other_schema other));
   }
 
-  -- and leaves what was found, or what the one transaction makes of it
+  -- a connection that is turned away leaves what was found, or what the one transaction makes of it
   pub kept_for : ((db : Trees) → IsTrue (file_state conn).is_open → (file_state conn).may_leave db → db ≡ (file_state conn).committed.trees)
       → (rest : Image) → ∥ ((db : Trees) × (file_state left).may_leave db × HoldsDatabase rest db) ∥₁ → IsKept image site fault rest
   kept_for settled rest may =

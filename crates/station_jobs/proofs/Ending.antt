@@ -20,7 +20,7 @@ limit_end WriteFault is = cc
 limit_end TurnLimit is = refl
 limit_end NoMemory is = cc
 
--- and want of memory of one that had none
+-- want of memory is told of a stream that had none alone
 pub no_memory_end : (served : Served) → result_of_ending served ≡ Err Failure.NoMemory → served ≡ NoMemory
 no_memory_end Ended is = cc
 no_memory_end Closed is = cc
@@ -30,7 +30,7 @@ no_memory_end WriteFault is = cc
 no_memory_end TurnLimit is = cc
 no_memory_end NoMemory is = refl
 
--- the failures of the reader
+-- the result tells the failures of the reader that the stream's end tells
 pub failed_reads_end : (served : Served) → failed_reads (result_of_ending served) ≡ read_faults (Some served)
 failed_reads_end Ended = refl
 failed_reads_end Closed = refl
@@ -40,7 +40,7 @@ failed_reads_end WriteFault = refl
 failed_reads_end TurnLimit = refl
 failed_reads_end NoMemory = refl
 
--- and of the writer
+-- the result tells the failures of the writer that the stream's end tells
 pub failed_writes_end : (served : Served) → failed_writes (result_of_ending served) ≡ write_faults (Some served)
 failed_writes_end Ended = refl
 failed_writes_end Closed = refl
@@ -69,7 +69,7 @@ pub failing : {A : Type 0} (result : Result A Failure) (P Q : Failure → Type 0
 failing (Ok done) P Q all holds = tt
 failing (Err failure) P Q all holds = all failure holds
 
--- with another kind before it or behind it
+-- where another kind of failure may be named too, a stream fails as its end says
 pub fails_before : (P : Failure → Type 0) (result : Result Unit Failure) (served : Served) → result ≡ result_of_ending served
     → IfErr result (λ failure. IsOfStream failure ⊎ P failure)
 fails_before P result served is = failing result IsOfStream (λ failure. IsOfStream failure ⊎ P failure) (λ failure h. inl h) (of_stream result served is)

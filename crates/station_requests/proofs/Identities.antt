@@ -34,7 +34,7 @@ after_csv issuer text = import_rows_of text >>= (λ rows. Some (record { issuer 
 abbrev after_issuer : Data → List ℕ → Option NewImport
 after_issuer d issuer = text_member (codes "csv") d >>= after_csv issuer
 
--- and neither do those of an import
+-- the named members of an import are no floats
 pub import_lacks_float : (d : Data) (n : ℕ) (i : NewImport) → whole_member (codes "nr") 1 9007199254740991 d ≡ Some n → new_import_of d ≡ Some i
     → has_float (object (named_members import_members d)) ≡ false
 unfolding new_import_of
