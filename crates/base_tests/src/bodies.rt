@@ -109,7 +109,7 @@ fn open_order() -> Option<Order> {
     })
 }
 
-/// The same with both, all of whose serial numbers are given.
+/// An order with addresses and a beginning of validity, all of whose serial numbers are given.
 fn full_order(order: Order) -> Option<Order> {
     Some(Order {
         macs: 2,

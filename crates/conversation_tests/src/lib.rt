@@ -1,6 +1,6 @@
 //! Tests of the server by conversations, over both keepers: each request gets its reply, whatever
-//! other customers ask, in streams and in lists, and what few steps leave. And those of streams: where
-//! they end, in what pieces they come, and readers and writers that fail.
+//! other customers ask, in streams and in lists, and what few steps leave. Streams are tested too:
+//! where they end, in what pieces they come, and readers and writers that fail.
 #![tactic(auto)]
 
 #[cfg(test)]

@@ -38,13 +38,14 @@ a1 POST /v1/order {"nr":1,"name":"o1","issuer":"acme-ca","prefix":"A","width":3,
   "prefix":"A","quantity":2,"width":3}
 "#;
 
-/// The same with a beginning of validity, and with one that is null: three requests.
+/// An order like `ORDERED` but with a beginning of validity, which makes it another request.
 const BEGUN: &str = r#"
 a1 POST /v1/order {"nr":1,"name":"o1","issuer":"acme-ca","prefix":"A","width":3,"first":998,"quantity":2,"macs":0,"not_before":"20240229120000Z"}
 200 {"first":998,"issuer":"acme-ca","mac":null,"macs":0,"name":"o1","next":"A998",
   "not_before":"20240229120000Z","prefix":"A","quantity":2,"width":3}
 "#;
 
+/// An order like `ORDERED` but with a beginning of validity that is null: a third request.
 const NOT_BEGUN: &str = r#"
 a1 POST /v1/order {"nr":1,"name":"o1","issuer":"acme-ca","prefix":"A","width":3,"first":998,"quantity":2,"macs":0,"not_before":null}
 200 {"first":998,"issuer":"acme-ca","mac":null,"macs":0,"name":"o1","next":"A998","not_before":null,

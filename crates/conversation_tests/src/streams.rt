@@ -95,7 +95,8 @@ fn difference_in_pieces<K: Fresh>(
     difference_of_end(alloc, (row.2, wanted.as_bytes()), (served, writer.bytes()))
 }
 
-/// The same in pieces of each length: what differs first, behind the length.
+/// Serves a stream in pieces of each length: what differs first of its end and of what is written, behind
+/// the length.
 fn first_difference_in_pieces<K: Fresh>(
     alloc: Global,
     row: &(&str, &str, Served),

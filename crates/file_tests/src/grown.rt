@@ -225,7 +225,8 @@ fn a_killed_growth_goes_on(rt: HostRuntime) -> Result<(), Fail> {
     Ok(())
 }
 
-/// The same, where what wasn't synced is lost at each stop.
+/// A growth is stopped at each call of either file, and what wasn't synced is lost: the store is as it was or as
+/// the growth leaves it, and the next opening takes the new text, with the same books.
 #[test]
 fn a_growth_goes_on_after_a_power_cut(rt: HostRuntime) -> Result<(), Fail> {
     assert_eq!(rt; over_files::<GrowthWithoutPower>(rt.alloc())?.as_str(), "");

@@ -94,7 +94,8 @@ fn held_through_crash(
     ended(alloc, (before, after), done)
 }
 
-/// The same: what differs first, in a reply or in what stands in the store at the end, which must be this.
+/// Asks what is asked in exchanges, has the files in memory lose what wasn't synced, and asks for more: what differs
+/// first, in a reply or in what stands in the store at the end, which must be this.
 fn difference_through_crash<K: InFiles>(
     alloc: Global,
     before: &[Exchange<'_>],
@@ -154,7 +155,7 @@ fn difference_at_growth<K: InFiles>(alloc: Global, growth: &Growth) -> Result<St
     )
 }
 
-/// Of each growth: what differs first, behind its name.
+/// A growth of the sample site behind a crash, for each growth: what differs first, behind the growth's name.
 fn first_difference_at_growths<K: InFiles>(alloc: Global) -> Result<String, Fail> {
     for growth in GROWTHS {
         let found = difference_at_growth::<K>(alloc, growth)?;
@@ -191,7 +192,8 @@ fn lists_go_on_behind_a_crash(rt: HostRuntime) -> Result<(), Fail> {
     Ok(())
 }
 
-/// The same, where the site grew behind the crash.
+/// A list of requests, a crash of the files, a growth of the site and a second list: what was replied is there,
+/// and the tables are those of a store that was closed where this one crashed.
 #[test]
 fn grown_sites_go_on_behind_a_crash(rt: HostRuntime) -> Result<(), Fail> {
     assert_eq!(rt; over_files::<CrashedGrowths>(rt.alloc())?.as_str(), "");

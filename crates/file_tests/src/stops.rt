@@ -13,7 +13,7 @@ use test_texts::samples::SITE;
 /// More calls than a run makes.
 const CALL_LIMIT: u64 = 20_000;
 
-/// Of how many stops of a run one has a second stop, at each call of the opening behind it.
+/// One stop of a run in so many is followed by a second one, at each call of the opening behind it.
 const STOPS_OF_SECOND: u64 = 4;
 
 /// The file of a store whose calls are counted.
@@ -352,7 +352,8 @@ fn a_killed_run_goes_on(rt: HostRuntime) -> Result<(), Fail> {
     Ok(())
 }
 
-/// The same, where what wasn't synced is lost at each stop.
+/// A run over files is stopped at each call of either, and what wasn't synced is lost: the request that was cut off
+/// gets its reply when it is sent again, and the tables and the books are those of a run that nothing stops.
 #[test]
 fn a_run_goes_on_after_a_power_cut(rt: HostRuntime) -> Result<(), Fail> {
     assert_eq!(rt; over_files::<RunWithoutPower>(rt.alloc())?.as_str(), "");

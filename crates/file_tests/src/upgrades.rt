@@ -172,14 +172,16 @@ fn a_killed_upgrade_goes_on(rt: HostRuntime) -> Result<(), Fail> {
     Ok(())
 }
 
-/// The same, where what wasn't synced is lost at each stop.
+/// An upgrade of a store of schema 1 is stopped at each call of either file, and what wasn't synced is lost: the
+/// next opening ends in schema 3, with the same books.
 #[test]
 fn an_upgrade_goes_on_after_a_power_cut(rt: HostRuntime) -> Result<(), Fail> {
     assert_eq!(rt; over_files::<UpgradeWithoutPower>(rt.alloc())?.as_str(), "");
     Ok(())
 }
 
-/// Both of a store of schema 2.
+/// An upgrade of a store of schema 2 is stopped at each call of either file, with and without the loss of what wasn't
+/// synced: the next opening ends in schema 3, with the same books.
 #[test]
 fn a_stopped_upgrade_of_schema_two_goes_on(rt: HostRuntime) -> Result<(), Fail> {
     assert_eq!(rt;
@@ -189,7 +191,8 @@ fn a_stopped_upgrade_of_schema_two_goes_on(rt: HostRuntime) -> Result<(), Fail> 
     Ok(())
 }
 
-/// Of the stores of schema 1 whose `given` is made anew, one each.
+/// An upgrade of a store of schema 1 whose `given` is made anew goes on behind each stop: of one such store behind a
+/// kill, and of another behind a power cut.
 #[test]
 fn a_stopped_upgrade_of_an_early_store_goes_on(rt: HostRuntime) -> Result<(), Fail> {
     assert_eq!(rt;

@@ -11,11 +11,11 @@ use Rattle.fuse_columns.specs.Images.{image_in}
 use Rattle.fuse_columns.specs.KeysColumns.{key_blocks, key_bytes, keys_column, keys_in, keys_length}
 use Rattle.fuse_columns.specs.TodoColumns.{todo_column, pending_in}
 
--- of any set its positions that are the map's, outside key fields, come back from its column
+-- the column of any set brings back those of its positions that are the map's and lie in no key field
 abbrev pub PlainBitsComeBack : Type 0
 PlainBitsComeBack = (m : Map) → IsMap m → (s : Positions) → bits_in m (bits_column m s) ≡ set.retain s (is_plain m)
 
--- a set of such positions comes back as it was
+-- a set of positions of the map that lie in no key field comes back as it was
 abbrev pub BitsComeBack : Type 0
 BitsComeBack = (m : Map) → IsMap m → (s : Positions) → AreBits m s → bits_in m (bits_column m s) ≡ s
 
@@ -58,7 +58,7 @@ pub record IsBitsColumn (m : Map) (bytes : List ℕ) : Type 0 where
   pub small : All (λ byte. byte < 256) bytes
   pub keys : (p : Pos) → IsPosition m.blocks p → is_key_position m p ≡ true → bytes_have_one m.blocks bytes p ≡ false
 
--- such bytes come back from the set that they stand for
+-- the bytes of a column of bits come back from the set that they stand for
 abbrev pub BitsBytesComeBack : Type 0
 BitsBytesComeBack = (m : Map) → IsMap m → (bytes : List ℕ) → IsBitsColumn m bytes → bits_column m (bits_in m bytes) ≡ bytes
 
@@ -71,7 +71,7 @@ abbrev pub AreKeyBytes : ℕ → List ℕ → Type 0
 AreKeyBytes zero bytes = bytes ≡ []
 AreKeyBytes (suc count) bytes = IsKeyBytes (take 33 bytes) × AreKeyBytes count (drop 33 bytes)
 
--- such bytes, one key for each key field, come back from the table that they stand for
+-- the bytes of keys, one for each key field, come back from the table that they stand for
 abbrev pub KeyBytesComeBack : Type 0
 KeyBytesComeBack = (m : Map) → IsMap m → (bytes : List ℕ) → AreKeyBytes (length (key_blocks m.fields)) bytes → keys_column m (keys_in m bytes) ≡ bytes
 
@@ -81,6 +81,6 @@ pub record IsTodoColumn (m : Map) (bytes : List ℕ) : Type 0 where
   pub second : IsBitsColumn m (take (bits_length m) (drop (bits_length m) bytes))
   pub keys : AreKeyBytes (length (key_blocks m.fields)) (drop (bits_length m + bits_length m) bytes)
 
--- such bytes come back from the work that they stand for
+-- the bytes of a column of pending work come back from the work that they stand for
 abbrev pub WorkBytesComeBack : Type 0
 WorkBytesComeBack = (m : Map) → IsMap m → (bytes : List ℕ) → IsTodoColumn m bytes → todo_column m (pending_in m bytes) ≡ bytes

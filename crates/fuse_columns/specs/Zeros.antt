@@ -15,7 +15,7 @@ pub record ZerosAreNothing (m : Map) (count : ℕ) : Type 0 where
   pub keys : keys_in m (zeros count) ≡ map.empty
   pub work : pending_in m (zeros count) ≡ no_pending
 
--- and nothing is zeros, as many as the map says
+-- a column that stands for nothing is zeros, as many as the map says
 pub record NothingIsZeros (m : Map) : Type 0 where
   pub bits : bits_column m set.empty ≡ zeros (bits_length m)
   pub keys : keys_column m map.empty ≡ zeros (keys_length m)

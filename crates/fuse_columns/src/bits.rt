@@ -27,7 +27,7 @@ pub fn decode_bits(map: &FuseMap, column: &BitsBytes) -> Bits
     read_bits(map, column.as_bytes())
 }
 
-/// The same of bytes wherever they lie.
+/// The positions of the map's blocks, outside key fields, that read 1 in bytes, wherever these lie.
 pub(crate) fn read_bits(map: &FuseMap, bytes: &[u8]) -> Bits
     ensures { result ≡ bits_in map.now bytes.now }
 {

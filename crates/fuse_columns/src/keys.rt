@@ -36,7 +36,7 @@ pub fn decode_keys(map: &FuseMap, column: &KeysBytes) -> Keys
     read_keys(map, column.as_bytes())
 }
 
-/// The same of bytes wherever they lie.
+/// The keys of the map's key fields that stand in bytes, wherever these lie.
 pub(crate) fn read_keys(map: &FuseMap, bytes: &[u8]) -> Keys
     ensures { result ≡ keys_in map.now bytes.now }
 {

@@ -2,7 +2,7 @@
 use Rattle.std.proofs.Common.{◌≡◌, ◌+◌, ◌<◌, ◌≤◌, get_or, set as list_set}
 use Rattle.text_core.proofs.Kit.{ℕ, List, length, refl, sym, ap, ◌∙◌, inl, inr, arith, cases_eq, get_or-set_at, get_or-set_other, length-set}
 
--- of the words, the first n are those of `own` changed by f, a function of the index and of the word, and the others are still those of `own`
+-- the first n words are those of `own` changed by f, a function of the index and of the word, and the others are still those of `own`
 pub record AreChanged (f : ℕ → ℕ → ℕ) (own words : List ℕ) (n : ℕ) : Type 0 where
   pub count : length words ≡ length own
   pub done : (k : ℕ) → k < n → get_or words k 0 ≡ f k (get_or own k 0)

@@ -12,7 +12,7 @@ pub block_again : (words : List ℕ) (len : ℕ) → AreAtFront 8 0 words len
 block_again words len h =
     ap₂ (λ (a : List ℕ) (n : ℕ). let r : block.Inside = record { words = a; len = n } in r) (array_again 8 0 words len h) (length_again 8 0 words len h)
 
--- and so are the blocks at the front of an array of blocks, with empty ones behind them
+-- the blocks at the front of an array of blocks, with empty ones behind them, are that array again, and as many as `len` says
 pub blocks_again : (array : List (List ℕ)) (len : ℕ) → AreAtFront 4 [] array len
     → ◌≡◌ {A = blocks.Inside} (record { array = take len array ++ replicate (4 - length (take len array)) []; len = length (take len array) })
     (record { array = array; len = len })

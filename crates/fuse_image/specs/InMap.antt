@@ -29,11 +29,11 @@ pub record TablesStay (m : Map) : Type 0 where
   pub joined : (t u : KeyTable) → AreKeysOf m t → AreKeysOf m u → AreKeysOf m (keys_union t u)
   pub without : (t u : KeyTable) → AreKeysOf m t → AreKeysOf m (keys_without t u)
 
--- what is left of a chip's words once its keys are replaced by their digests
+-- a read-back of these words lies in the map: its ones are positions of the map outside key fields, and its digests those of key fields
 pub record ReadBackInMap (m : Map) (blocks : List (List ℕ)) : Type 0 where
   pub ones : AreBits m (redacted m blocks).ones
   pub shown : AreKeysOf m (redacted m blocks).shown
 
--- so it is of all words that fit the map
+-- a read-back of words that fit the map lies in the map
 abbrev pub ReadBacksInMap : Type 0
 ReadBacksInMap = (m : Map) (blocks : List (List ℕ)) → WordsFitMap m blocks → ReadBackInMap m blocks

@@ -8,7 +8,7 @@ use Rattle.std.specs.FinMap as map
 use Rattle.std.specs.FinMap.{FinMap}
 use Rattle.std.specs.Cmp.{nat_cmp_total, unsigned_tied}
 
--- from the number of a key block to the digest of its key
+-- the digests of keys, each under the number of its key block
 abbrev pub KeyTable : Type 0
 KeyTable = FinMap nat_cmp (List ℕ)
 

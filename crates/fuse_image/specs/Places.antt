@@ -30,7 +30,7 @@ pos_exact a b h =
     ap (λ (p : ℕ × ℕ). let r : Pos = record { block = p.0; bit = p.1 } in r)
     (exact_pairs nat_cmp nat_cmp exact_unsigned exact_unsigned (a.block, a.bit) (b.block, b.bit) h)
 
--- and it is a total one
+-- the order of positions is total
 pub pos_total : IsTotalOrder pos_cmp
 pos_total = then_total (on_total (λ (p : Pos). p.block) nat_cmp_total) (on_total (λ (p : Pos). p.bit) nat_cmp_total)
 
@@ -46,7 +46,7 @@ sets_meet s t = not (is_empty (set.intersection s t))
 abbrev pub is_place : Pos → Bool
 is_place p = nat_lt p.block 4 && nat_lt p.bit 256
 
--- the same as a fact
+-- the fact that a position lies in 4 blocks of 8 words of 32 bits
 abbrev pub IsPlace : Pos → Type 0
 IsPlace p = (p.block < 4) × (p.bit < 256)
 

@@ -35,7 +35,7 @@ impl Image {
         }
     }
 
-    /// With these positions too.
+    /// The image with these positions burnt too.
     pub fn with_bits(&self, positions: &[Pos]) -> Image
         requires { All IsPlace positions.now }
         ensures { result ≡ record self.now {
@@ -48,7 +48,7 @@ impl Image {
         }
     }
 
-    /// With this digest at a block in place of any other.
+    /// The image with this digest of a block's key, in place of any other.
     pub fn with_key(&self, block: u8, digest: Digest) -> Image
         requires { block < 4 }
         ensures { result ≡ record self.now { keys = table.insert self.now.keys block digest } }

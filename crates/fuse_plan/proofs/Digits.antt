@@ -49,7 +49,7 @@ from value (d ∷ ds) =
     ∙ ap (λ (n : ℕ). value * n + (16 * 0 + digit_value d) * r) (sym (reach-suc (length ds))))
     ∙ let later = from (step 0 d) ds in omega (arith, later))
 
--- so many digits stay below their reach
+-- what digits make is below their reach
 pub below : (digits : List ℕ) → fold step 0 digits < reach (length digits)
 below [] = omega arith
 below (d ∷ ds) =

@@ -35,7 +35,7 @@ shows false true false h l s t = absurd (true≢false s)
 shows false false true h l s t = absurd (true≢false t)
 shows false false false h l s t = refl
 
--- and back
+-- where a chip shows what it would with all of a batch, a bit is burnt or shown exactly where it is burnt or asked for
 same_before : (b o q h : Bool) → o ≡ ((b || q) && not h) → (q ≡ true → h ≡ false) → (b || o) ≡ (b || q)
 same_before true o q h e f = refl
 same_before false o true h e f = e ∙ ap not (f refl)

@@ -27,7 +27,7 @@ apart_from fs named f g q all e here =
     let apart : IfSome (Some g) (FieldsDisjoint f) = subst (λ (o : Option Field). IfSome o (FieldsDisjoint f)) e (found named (FieldsDisjoint f) fs all) in
     apart q here
 
--- of fields that are apart, where the one that is found has a position and fails a test, none has the position and passes
+-- where fields are apart, and the one that is found has a position and fails a test, no other has the position and passes
 pub found_alone : (fs : List Field) (named test : Field → Bool) (q : Pos) → AllPairs FieldsDisjoint fs → (g : Field) → find named fs ≡ Some g → holds g q ≡ true
     → test g ≡ false → list_any (λ f. holds f q && test f) fs ≡ false
 found_alone [] named test q pairs g e has fails = refl

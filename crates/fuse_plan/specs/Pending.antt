@@ -76,7 +76,8 @@ FirstBatchLaw = (m : Map) (a : Image) (w : Pending) (r : ReadBack)
     → AreKeys m a.keys → AreKeys m r.shown → PendingFitsImage m a w
     → (verdict_of m a w.first w.keys r ≡ Match) ↔ (r ≡ seen m (with_batch a w.first w.keys))
 
--- and so does one of the second batch, which has no keys
+-- where keys are those of key blocks alone, a read-back of the second batch, which has no keys,
+-- matches exactly where the chip shows what it would with all of that batch burnt
 abbrev pub SecondBatchLaw : Type 0
 SecondBatchLaw = (m : Map) → IsMap m → (a : Image) (w : Pending) (r : ReadBack)
     → AreKeys m a.keys → AreKeys m r.shown → PendingFitsImage m a w

@@ -48,7 +48,7 @@ abbrev pub is_wide : Want → Field → Bool
 is_wide (Value v) f = list_any (number_has_one v) (range_with_len f.count (256 - f.count))
 is_wide _ f = false
 
--- both are for keys, and the digests differ
+-- two wishes are for keys, and their digests differ
 abbrev pub are_two_keys : Want → Want → Bool
 are_two_keys (Key digest) (Key other) = not (bytes_eq digest other)
 are_two_keys _ _ = false
@@ -129,7 +129,7 @@ faults_with m image ws w lacking =
     ∷ (list_any (wish_passes m (lacks_lock m)) ws, NoLock)
     ∷ []
 
--- the same for wishes alone
+-- the faults of wishes on a chip, each with whether it holds, the lowest first
 abbrev pub faults : Map → Image → List Wish → List (Bool × PlanFault)
 faults m image ws = faults_with m image ws (wants_of m ws) (missing image (wants_of m ws))
 

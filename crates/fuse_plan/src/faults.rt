@@ -52,7 +52,7 @@ pub(crate) fn lowest_fault(
     ])
 }
 
-/// Of conditions in the order of their faults, the first that holds.
+/// The fault of the first condition that holds, where the conditions are in the order of their faults.
 fn first_fault(faults: &[(bool, PlanFault)]) -> Option<PlanFault>
     ensures { result ≡ first_that_holds faults.now }
 {

@@ -14,13 +14,14 @@ pub fn plan_law()
     ensures { PlanLaw }
 {}
 
-/// The same holds of what a read-back of the first batch leaves, unless it says that something is
-/// wrong.
+/// What a read-back of the first batch leaves is pending on the chip as it is then, unless the read-back
+/// says that something is wrong.
 pub fn first_rest_law()
     ensures { FirstRestLaw }
 {}
 
-/// The same holds of what a read-back of the second batch leaves.
+/// What a read-back of the second batch leaves is pending on the chip as it is then, whatever the
+/// read-back says.
 pub fn second_rest_law()
     ensures { SecondRestLaw }
 {}

@@ -6,7 +6,8 @@ use Rattle.fusemap_core.specs.declared.field.Field.{Field}
 use Rattle.fusemap_core.specs.declared.map.FieldId.{FieldId}
 use Rattle.fusemap_core.specs.declared.pos.Pos.{Pos}
 
--- its name, the words of each block, the fields in the text's order, and the names of the write lock field, of the read lock field and of the coding field
+-- a fuse map: its name, the words of each block, the fields in the text's order, and the names of
+-- the write lock field, of the read lock field and of the coding field
 pub record Map : Type 0 where
   pub name : List ℕ
   pub blocks : List ℕ

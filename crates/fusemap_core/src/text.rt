@@ -34,7 +34,7 @@ pub fn read_map(alloc: Global, text: &str) -> Result<FuseMap, MapFault>
     ensures exact { GivesUnless MapFault.OutOfMemory result (map_read text.now) }
     ensures valid { IfOk result (IsMapText text.now) }
 
-    // Of a text with all its members the fault is that of a broken rule, and no lower rule is broken.
+    // The fault of a text with all its members is that of a broken rule, and no lower rule is broken.
     ensures lowest { IfErr result (λ fault. fault ≢ MapFault.OutOfMemory
         → (map : Map) → HasMapMembers text.now map → IsLowestMapFault fault map) }
 

@@ -59,7 +59,7 @@ lacks at (x ∷ xs) other =
     ap (λ t. t || list_any (λ b. eqb b at) xs) (ne_eqb x at (other 0 (omega arith)))
     ∙ lacks at xs (λ k below. other (suc k) (omega arith))
 
--- the same of the bytes in front of an index
+-- a byte that differs from each of the bytes in front of an index isn't among them
 pub lacks-take : (at : ℕ) (xs : List ℕ) (i : ℕ) → ((k : ℕ) → k < i → get_or xs k 0 ≢ at) → Lacks at (take i xs)
 lacks-take at xs zero other = refl
 lacks-take at [] (suc i) other = refl

@@ -25,7 +25,7 @@ front_within (x ∷ xs) more (b ∷ p) after e short =
     let head : x ≡ b = cc in
     (λ i. head i ∷ front_within xs more p after tail (omega arith) i)
 
--- the same of a head
+-- a head that ends inside the first part is read of that part
 pub reads_within : (xs more after : List ℕ) (head : RequestHead) → ReadsRequest (xs ++ more) head after → length (print_request head) ≤ length xs
     → ReadsRequest xs head (drop (length (print_request head)) xs)
 reads_within xs more after head reads short = (reads.0, front_within xs more (print_request head) after reads.1 short)

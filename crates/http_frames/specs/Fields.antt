@@ -25,7 +25,7 @@ frame_refusal_number Chunked = 4
 abbrev pub Header : Type 0
 Header = List ℕ × List ℕ
 
--- the same text, in any case
+-- the texts are the same, in any case of their letters
 unfoldable pub same_ignoring_case : List ℕ → List ℕ → Bool
 same_ignoring_case a b = bytes_eq (map to_ascii_lowercase a) (map to_ascii_lowercase b)
 

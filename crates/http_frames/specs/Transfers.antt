@@ -3,7 +3,7 @@ use Rattle.std.specs.Prelude.{◌≡◌, ℕ, ◌==◌, if◌then◌else◌, ◌
 use Rattle.http_frames.specs.declared.transfer.Transfer.{Transfer}
 use Rattle.http_frames.specs.declared.transfer.Transfer.TheVariants.{Moved, Interrupted, Failed}
 
--- at most so many bytes
+-- a call moves at most so many bytes
 abbrev pub MovesAtMost : Transfer → ℕ → Type 0
 MovesAtMost (Moved count) most = count ≤ most
 MovesAtMost Interrupted most = Unit {0}
@@ -21,7 +21,7 @@ Takes left after room (Moved count) = (left ≡ take count room ++ after) × (co
 Takes left after room Interrupted = after ≡ left
 Takes left after room Failed = after ≡ left
 
--- the same, where the reader tells its bytes
+-- a read moves bytes from the front of what is left into the room, where the reader tells its bytes
 abbrev pub ReadsBytes : Option (List ℕ) → Option (List ℕ) → List ℕ → Transfer → Type 0
 ReadsBytes old new room result = IfSome old (λ left. IsSomeAnd new (λ after. Takes left after room result))
 
@@ -31,7 +31,7 @@ AddsFront before after bytes (Moved count) = after ≡ before ++ take count byte
 AddsFront before after bytes Interrupted = after ≡ before
 AddsFront before after bytes Failed = after ≡ before
 
--- the same, where the writer tells its bytes
+-- a write adds a front of the bytes to what was written, where the writer tells its bytes
 abbrev pub WritesBytes : Option (List ℕ) → Option (List ℕ) → List ℕ → Transfer → Type 0
 WritesBytes old new bytes result = IfSome old (λ before. IsSomeAnd new (λ after. AddsFront before after bytes result))
 

@@ -66,7 +66,7 @@ fn read_behind<R: Source>(reader: &mut R, bytes: &mut [u8], len: usize) -> Trans
     reader.read(&mut bytes[len..])
 }
 
-/// The same, by what the first bytes come to.
+/// Reads behind the first `len` bytes: with the bytes that are left, the first ones are the same bytes as before.
 fn read_more<R: Source>(reader: &mut R, bytes: &mut [u8], len: usize) -> Transfer
     requires room { len ≤ length bytes.old }
     requires calls { R.calls reader.old + 1 < 2 ^ 64 }

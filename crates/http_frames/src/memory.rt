@@ -118,7 +118,7 @@ pub struct Interrupted<T: Drop> {
 }
 
 impl<T: Drop> Interrupted<T> {
-    /// The same reader or writer, with interruptions.
+    /// The reader or writer `inner`, with interruptions.
     pub fn new(inner: T) -> Interrupted<T>
         ensures inner { result.inner ≡ inner }
         ensures none { result.interruptions ≡ 0 }
@@ -198,7 +198,7 @@ pub struct Failing<T: Drop> {
 }
 
 impl<T: Drop> Failing<T> {
-    /// The same reader or writer, which makes `calls` calls and then fails at each.
+    /// The reader or writer `inner`, which makes `calls` calls and then fails at each.
     pub fn new(inner: T, calls: u32) -> Failing<T>
         ensures inner { result.inner ≡ inner }
         ensures none { result.failures ≡ 0 }
@@ -278,7 +278,7 @@ pub struct Counted<T: Drop> {
 }
 
 impl<T: Drop> Counted<T> {
-    /// The same reader or writer, at which no call was counted yet.
+    /// The reader or writer `inner`, at which no call was counted yet.
     pub fn new(inner: T) -> Counted<T>
         ensures calls { result.calls ≡ 0 }
         ensures failures { result.failures ≡ 0 }

@@ -6,7 +6,7 @@ ghost use Rattle.http_frames.specs.Transfers.{MovesAtMost, failures_of, write_fa
 /// What one call of a reader or writer did.
 #[derive(Clone, Copy)]
 pub enum Transfer {
-    /// So many bytes were moved.
+    /// This many bytes were moved.
     Moved(usize),
     /// No byte was moved, and the call may be made again.
     Interrupted,

@@ -20,7 +20,7 @@ fn put(room: &mut [u8], at: usize, text: &[u8]) -> usize
     end
 }
 
-/// The same of a number, in decimal digits.
+/// Puts a number in decimal digits behind the first `at` bytes, and answers where it ends.
 fn put_number(room: &mut [u8], at: usize, number: u64) -> usize
     requires { at + 20 ≤ length room.old }
     ensures short { (at ≤ result) × (result ≤ at + 20) }
@@ -30,7 +30,7 @@ fn put_number(room: &mut [u8], at: usize, number: u64) -> usize
     put(room, at, digits.format(number).as_bytes())
 }
 
-/// The same of a line that may be left out.
+/// Puts a line behind the first `at` bytes if it is to be there, and answers where the bytes end.
 fn put_if(room: &mut [u8], at: usize, holds: bool, line: &[u8]) -> usize
     requires { at + length line.now ≤ length room.old }
     ensures short { (at ≤ result) × (result ≤ at + length line.now) }

@@ -171,7 +171,7 @@ unfolding ends_cut
 cut_last (answered request answer) = refl
 cut_last (refused refusal is_head) = refl
 
--- so two exchanges that are cut alike both end the stream, or neither does
+-- two exchanges that are cut alike both end the stream, or neither does
 same_last : (exchange other : HttpExchange) → cut_of exchange ≡ cut_of other → is_last other ≡ is_last exchange
 same_last exchange other same = cut_last other ∙ ap ends_cut (sym same) ∙ sym (cut_last exchange)
 
@@ -196,7 +196,7 @@ stops_later Closed exchange exchanges rest last stop = sym (ap (λ t. t || list_
 stops_later Cut exchange exchanges rest last stop = ((or_parts (is_last exchange) (list_any is_last exchanges) stop.0).1, stop.1)
 stops_later _ exchange exchanges rest last stop = absurd stop
 
--- the same exchange in front of exchanges that agree
+-- exchanges that agree do so with exchanges in front that are cut alike
 one_more : (served other : Served) (exchange twin : HttpExchange) (exchanges others : List HttpExchange) (rest later : List ℕ) → cut_of exchange ≡ cut_of twin
     → Agrees served other exchanges others rest later → Agrees served other (exchange ∷ exchanges) (twin ∷ others) rest later
 one_more served other exchange twin exchanges others rest later same (requests, rests, inl (ends, cuts)) =
@@ -254,7 +254,7 @@ agrees served other (exchange ∷ exchanges) (twin ∷ others) stream rest later
     at_exchange (is_last exchange) served other exchange twin exchanges others stream rest later cut had refl stop stopped (λ after.
     agrees served other exchanges others after rest later)
 
--- the same, as `streams_are_determined` says it
+-- what two services cut of one stream agrees, as `streams_are_determined` says it
 pub one_stream : (stream : List ℕ) (served other : Served) (exchanges others : List HttpExchange) (rest later : List ℕ)
     → IsCutWhole stream served exchanges rest → IsCutWhole stream other others later → Agrees served other exchanges others rest later
 one_stream stream served other exchanges others rest later is_cut had_cut =

@@ -55,7 +55,7 @@ none_more before = sym (append-nil before)
 one_cut : (rest after : List ℕ) (exchange : HttpExchange) → BeginsWithExchange rest exchange after → Cuts rest (exchange ∷ []) after
 one_cut rest after exchange begins = (after, begins, (λ _. refl), refl)
 
--- of one exchange a front of the reply was written
+-- writing stopped at one exchange, where a front of its reply was written
 one_part : (before written sent unsent : List ℕ) (exchange : HttpExchange) → text_of exchange ≡ sent ++ unsent → written ≡ before ++ sent
     → StopsWriting (exchange ∷ []) before written
 one_part before written sent unsent exchange text written_is = record {
@@ -251,7 +251,7 @@ takes_both (Some served) p q stream rest next left before middle written some cu
   ends_both served p q serves.0 left before middle written open_exchanges told (λ none. some (ap Some none)) serves.2,
 )
 
--- the same of their bytes
+-- exchanges that are served one part after the other, where the reader and the writer tell their bytes
 pub cycles_both : (result : Option Served) (p q : List HttpExchange) (front next further : List ℕ)
     (left_old left_mid left_new written_old written_mid written_new : Option (List ℕ)) → result ≢ Some Served.NoMemory
     → ServesBytes front left_old next left_mid written_old written_mid None p → ServesBytes next left_mid further left_new written_mid written_new result q

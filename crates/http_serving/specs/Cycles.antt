@@ -9,7 +9,7 @@ ServesExchanges None exchanges rest next left before written = Cuts rest exchang
 ServesExchanges (Some served) exchanges rest next left before written =
     (last : List ℕ) × Cuts rest exchanges last × Ends served exchanges last left before written
 
--- the same, where the reader and the writer tell their bytes. Of what they left, `front` was read before, and `next` is
+-- the exchanges that are served between a reader and a writer that tell their bytes: `front` was read but not served before them, and `next` is after
 abbrev pub ServesBytes : List ℕ → Option (List ℕ) → List ℕ → Option (List ℕ) → Option (List ℕ) → Option (List ℕ) → Option Served → List HttpExchange → Type 0
 ServesBytes front left_old next left_new written_old written_new result exchanges =
     IfSome left_old (λ left. IfSome written_old (λ before.

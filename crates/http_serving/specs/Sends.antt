@@ -8,11 +8,11 @@ abbrev pub Sends : List ℕ → List ℕ → List ℕ → Sent → Type 0
 Sends before after bytes All = after ≡ before ++ bytes
 Sends before after bytes _ = (sent : List ℕ) × (rest : List ℕ) × (bytes ≡ sent ++ rest) × (after ≡ before ++ sent)
 
--- the same, where the writer tells its bytes
+-- a writer that tells its bytes has got a front of these: all of them where the answer says so
 abbrev pub Sending : Option (List ℕ) → Option (List ℕ) → List ℕ → Sent → Type 0
 Sending old new bytes result = IfSome old (λ before. IsSomeAnd new (λ after. Sends before after bytes result))
 
--- so far `sent` was written, and `rest` is left
+-- a writer that tells its bytes has got all of these up to `rest`, which is left to be written
 abbrev pub SendsPart : Option (List ℕ) → Option (List ℕ) → List ℕ → List ℕ → Type 0
 SendsPart old new bytes rest =
     IfSome old (λ before. IsSomeAnd new (λ after. (sent : List ℕ) × (bytes ≡ sent ++ rest) × (after ≡ before ++ sent)))

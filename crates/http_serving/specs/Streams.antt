@@ -4,13 +4,13 @@ use Rattle.std.specs.List.{list_any}
 use Rattle.http_frames.specs.declared.fields.FrameRefusal.{FrameRefusal}
 use Rattle.http_frames.specs.declared.fields.FrameRefusal.TheVariants.{BadHead, BadLength, TooLarge, Chunked}
 use Rattle.http_frames.specs.Prelude.{Request, HasRequest, IsRefused, IsCutOff, IsUndecided, is_head_method, ends_after}
-use Rattle.http_replies.specs.declared.Status.TheVariants as Status
 use Rattle.http_replies.specs.declared.Kind.TheVariants.{Json}
 use Rattle.http_replies.specs.Prelude.{Answer, reply_text}
 use Rattle.http_serving.specs.declared.send.Sent.{Sent}
 use Rattle.http_serving.specs.declared.send.Sent.TheVariants.{All}
 use Rattle.http_serving.specs.declared.Served.{Served}
 use Rattle.http_serving.specs.declared.Served.TheVariants.{Ended, Closed, Cut, ReadFault, WriteFault, TurnLimit, NoMemory}
+use Rattle.http_replies.specs.declared.Status.TheVariants as Status
 
 -- a request with its answer, or a refusal of the framing
 pub data HttpExchange : Type 0 where

@@ -16,7 +16,7 @@ below_billion width n few low =
 pub fits_width : (r : Range) → IsRange r → (n : ℕ) → Has r n → n < 10 ^ r.width
 fits_width r is n has = omega (arith, is.fits, has.1)
 
--- and it is small
+-- each number of a range is below 2^64
 pub is_small : (r : Range) → IsRange r → (n : ℕ) → Has r n → n < 2 ^ 64
 is_small r is n has =
     let low = below_billion r.width n is.largest_width (fits_width r is n has) in omega (arith, low)
@@ -25,17 +25,17 @@ is_small r is n has =
 both_parts : (xs ys : List ℕ) → list_all is_serial_byte xs ≡ true → list_all is_serial_byte ys ≡ true → list_all is_serial_byte (xs ++ ys) ≡ true
 both_parts xs ys one other = list_all-append is_serial_byte xs ys ∙ and_from _ _ one other
 
--- a digit is such a byte
+-- a digit is a byte of serial numbers
 digit_passes : (n : ℕ) → n < 10 → is_serial_byte (48 + n) ≡ true
 digit_passes n low = grind (arith, nat_tests)
 
--- and so are a number's digits
+-- the digits of a number are bytes of serial numbers
 pub digits_pass : (n : ℕ) → n < 2 ^ 64 → list_all is_serial_byte (decimal n) ≡ true
 digits_pass n small =
     decimal_by_steps (λ _ ds. list_all is_serial_byte ds ≡ true) (λ k low. and_from _ _ (digit_passes k low) refl)
     (λ k ds high pass. both_parts ds ((48 + k % 10) ∷ []) pass (and_from _ _ (digit_passes (k % 10) (omega arith)) refl)) n small
 
--- and zeros
+-- zeros are bytes of serial numbers
 pub zeros_pass : (count : ℕ) → list_all is_serial_byte (replicate count 48) ≡ true
 zeros_pass zero = refl
 zeros_pass (suc count) = zeros_pass count
@@ -85,7 +85,7 @@ same_number r is m n one other same =
     let padded = append_cancel_left r.prefix (zero_padded r.width (decimal m)) (zero_padded r.width (decimal n)) same in
     sym (value-padded r.width m (is_small r is m one)) ∙ (ap (digits_value 10) padded ∙ value-padded r.width n (is_small r is n other))
 
--- so are widths, under one prefix
+-- two ranges of one prefix that have a serial number in common have one width
 pub same_width : (r s : Range) → IsRange r → IsRange s → r.prefix ≡ s.prefix → (m n : ℕ) → Has r m
     → Has s n → serial_text_of r m ≡ serial_text_of s n → r.width ≡ s.width
 same_width r s is also prefix m n one other same =
@@ -104,7 +104,7 @@ bytes_are_ascii [] pass i = omega arith
 bytes_are_ascii (b ∷ bs) pass zero = byte_is_ascii b (and_parts (is_serial_byte b) (list_all is_serial_byte bs) pass).0
 bytes_are_ascii (b ∷ bs) pass (suc i) = bytes_are_ascii bs (and_parts (is_serial_byte b) (list_all is_serial_byte bs) pass).1 i
 
--- so a serial number is a text
+-- a serial number is a text
 pub serial_is_text : (text : List ℕ) → is_serial text ≡ true → IsUtf8 text
 serial_is_text text is =
     IsUtf8-from_ascii text (bytes_are_ascii text (and_parts (nat_le 1 (length text) && nat_le (length text) 64) (list_all is_serial_byte text) is).1)

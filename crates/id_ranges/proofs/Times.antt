@@ -20,7 +20,7 @@ time_digit text is place low =
     let bounds = and_parts (nat_le 48 (get_or text place 0)) (nat_le (get_or text place 0) 57) (rw same at passes) in
     (leb-true _ _ bounds.0, leb-true _ _ bounds.1)
 
--- and so are two of them
+-- two bytes beside each other, of the first 14 of a time, are digits
 pub digit_pair : (text : List ℕ) → is_time text ≡ true → (place : ℕ) → place < 13
     → IsInRange 48 57 (get_or text place 0) × IsInRange 48 57 (get_or text (place + 1) 0)
 digit_pair text is place low = (time_digit text is place (omega arith), time_digit text is (place + 1) (omega arith))
@@ -52,11 +52,11 @@ pub refused_form : (text : List ℕ) → None ≡ time_of_text text → not_befo
 refused_form text none =
     unless_first (Ok text) (Err BadNotBefore) (is_time text) (has_date text) (has_clock text) (unless_chosen (is_time text) text none)
 
--- and so is one whose day doesn't exist
+-- a text whose day doesn't exist is refused
 pub refused_date : (text : List ℕ) → has_date text ≡ false → not_before_of text ≡ Err BadNotBefore
 refused_date text fails = unless_second (Ok text) (Err BadNotBefore) (is_time text) (has_date text) (has_clock text) fails
 
--- or whose hour, minute and second aren't those of a day
+-- a text whose hour, minute and second aren't those of a day is refused
 pub refused_clock : (text : List ℕ) → has_clock text ≡ false → not_before_of text ≡ Err BadNotBefore
 refused_clock text fails = unless_third (Ok text) (Err BadNotBefore) (is_time text) (has_date text) (has_clock text) fails
 

@@ -16,7 +16,7 @@ is_free intervals count start =
 abbrev pub starts : ℕ → Pool → List ℕ
 starts count pool = range_with_len pool.first (pool.count + 1 - count)
 
--- of the starts in the pools, in the pools' order, the first from which so many addresses are free
+-- the first start, in the pools' order, from which so many addresses of a pool are free
 abbrev pub reserved_start : List Pool → List (ℕ × ℕ) → ℕ → Option ℕ
 reserved_start pools intervals count = find (is_free intervals count) (flat_map (starts count) pools)
 

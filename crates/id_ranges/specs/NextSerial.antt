@@ -14,11 +14,11 @@ is_unused given r n = not (given (serial_text_of r n))
 abbrev pub with_text : Range → ℕ → ℕ × List ℕ
 with_text r n = (n, serial_text_of r n)
 
--- of the range's numbers the least whose serial number isn't given, with it
+-- the least of the range's numbers whose serial number isn't given, with its serial number
 abbrev pub next_serial : TextSet → Range → Option (ℕ × List ℕ)
 next_serial given r = option_map (with_text r) (find (is_unused given r) (numbers r))
 
--- the same of those that aren't below the cursor
+-- the least of the range's numbers from the cursor on whose serial number isn't given, with its serial number
 abbrev pub next_serial_from : ℕ → TextSet → Range → Option (ℕ × List ℕ)
 next_serial_from cursor given r = option_map (with_text r) (find (λ n. nat_le cursor n && is_unused given r n) (numbers r))
 

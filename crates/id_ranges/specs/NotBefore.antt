@@ -19,7 +19,7 @@ year_of text = two_digits text 0 * 100 + two_digits text 2
 abbrev pub has_date : List ℕ → Bool
 has_date text = is_date (year_of text) (two_digits text 4) (two_digits text 6)
 
--- its hour is below 24, its minute and its second below 60
+-- the hour of a time is below 24, its minute and its second below 60
 abbrev pub has_clock : List ℕ → Bool
 has_clock text = nat_lt (two_digits text 8) 24 && nat_lt (two_digits text 10) 60 && nat_lt (two_digits text 12) 60
 

@@ -16,7 +16,7 @@ abbrev pub is_pool : ℕ → ℕ → Bool
 is_pool first count =
     nat_le 1 count && nat_le count 16777216 && nat_le (first + count) (2 ^ 48) && list_all is_individual (range_with_len first count)
 
--- so many addresses from this one on, if they make a pool
+-- the pool of so many addresses from a first one on, if they make one
 abbrev pub pool_of : ℕ → ℕ → Option Pool
 pool_of first count = if is_pool first count then Some (record { first = first; count = count }) else None
 

@@ -29,7 +29,7 @@ pub record IsRange (r : Range) : Type 0 where
   pub some : 1 ≤ r.quantity
   pub fits : r.first + r.quantity ≤ 10 ^ r.width
 
--- so many numbers from this one on, or the lowest fault
+-- a range by its prefix, width, first number and quantity, or its lowest fault
 abbrev pub range_of : List ℕ → ℕ → ℕ → ℕ → Result Range RangeFault
 range_of prefix width first quantity =
     if not (is_prefix prefix) then Err BadText

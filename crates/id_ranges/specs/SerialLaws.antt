@@ -34,7 +34,7 @@ abbrev pub NextIsLeast : Type 0
 NextIsLeast =
     (cursor : ℕ) (given : TextSet) (r : Range) (n : ℕ) → (next_serial_from cursor given r ≡ Some (n, serial_text_of r n)) ↔ IsLeastUnused cursor given r n
 
--- and there is none just where each number from the cursor on is given
+-- a range has no next serial number from the cursor on just where each of its numbers from there on is given
 abbrev pub NoneIsLeft : Type 0
 NoneIsLeft =
     (cursor : ℕ) (given : TextSet) (r : Range)

@@ -4,7 +4,7 @@ use Rattle.text_core.specs.Prelude.{serial_of_text}
 use Rattle.import_rows.specs.declared.read.FoundRow.{FoundRow}
 use Rattle.import_rows.specs.declared.rows.ImportRow.{ImportRow}
 
--- its serial number, where its first field is one, and its digest
+-- a row of an import as it was found: its serial number, where its first field is one, and its digest
 abbrev pub found_row : List ℕ × List ℕ → FoundRow
 found_row row = record { serial = serial_of_text row.0; key = row.1 }
 

@@ -1,4 +1,4 @@
-//! Bodies as JSON, and the members of a JSON value.
+//! Reads bodies as JSON, and the members of JSON values.
 //!
 //! `read_json` gives the JSON value of a body, or that there is none, or want of memory. Each
 //! reader of a member (`whole_member`, `text_member`, ..) is a function of that value.
@@ -145,7 +145,7 @@ pub fn read_all<T: Drop, F: Fn(&Value) -> Option<T>>(
     text_core::read_all(alloc, values, read)
 }
 
-/// The same of a `read` that takes memory.
+/// What a `read` that takes memory makes of each value, or `None` where it makes nothing of one of them.
 pub fn try_read_all<T: Drop, F: Fn(&Value) -> Result<Option<T>, AllocError>>(
     alloc: Global,
     values: &[Value],

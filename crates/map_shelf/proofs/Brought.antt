@@ -15,7 +15,7 @@ module _ {X Y : Type 0} (f : X → Y) where
   pub map-with_first : (x : X) (xs : List X) → map f (with_first x xs) ≡ with_first (f x) (map f xs)
   map-with_first x xs = sym (take-map f 16 (x ∷ xs))
 
-  -- and one of them
+  -- f of each element, where one of them was brought to the front
   pub map-brought : (x : X) (xs : List X) (place : ℕ) → map f (with_first x (remove xs place)) ≡ with_first (f x) (remove (map f xs) place)
   map-brought x xs place = map-with_first x (remove xs place) ∙ ap (λ (ys : List Y). with_first (f x) ys) (map-remove xs place)
 
@@ -33,7 +33,7 @@ module _ {X : Type 0} (P : X → Type 0) where
   pub All-with_first : (x : X) (xs : List X) → P x → All P xs → All P (with_first x xs)
   All-with_first x xs here all = All-take P 16 (x ∷ xs) (All-cons P x xs here all)
 
-  -- and of those that are left
+  -- what holds of one and of the others holds where the one was brought to the front
   pub All-brought : (x : X) (xs : List X) (place : ℕ) → P x → All P xs → All P (with_first x (remove xs place))
   All-brought x xs place here all =
       All-with_first x (remove xs place) here (All-append P (take place xs) (drop (suc place) xs) (All-take P place xs all) (All-drop P (suc place) xs all))

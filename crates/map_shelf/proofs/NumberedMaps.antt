@@ -21,7 +21,7 @@ pub number_at_place : (id : ℕ) (kept : List NumberedMap) (place : ℕ) (d : Nu
 number_at_place id kept place d found =
     sym (eqb-true id (get_or kept place d).id (passes_at_place (λ (one : NumberedMap). nat_eq id one.id) kept place d found))
 
--- and its map is that of its number
+-- the map at the place of a number is that of the number
 pub right_at_place : (map_of : ℕ → Option Map) (id : ℕ) (kept : List NumberedMap) (place : ℕ) (d : NumberedMap)
     → position (λ (one : NumberedMap). nat_eq id one.id) kept ≡ Some place → All (IsMapOfNumber map_of) kept → IsMapOfNumber map_of (get_or kept place d)
 right_at_place map_of id kept place d found right = right place d (place_within (λ (one : NumberedMap). nat_eq id one.id) kept place found)

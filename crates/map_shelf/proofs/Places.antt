@@ -19,7 +19,7 @@ passes_at_place p xs place d found =
     let first = position_or_len p xs in
     at_first p xs first place d (nat_lt first (length xs)) refl refl found
 
--- of a text, it is the text itself
+-- the text at the place of a text is the text itself
 pub text_at_place : (text : List ℕ) (texts : List (List ℕ)) (place : ℕ) (d : List ℕ) → position (bytes_eq text) texts ≡ Some place → get_or texts place d ≡ text
 text_at_place text texts place d found = sym ((bytes_eq-Decides text (get_or texts place d)).0 (passes_at_place (bytes_eq text) texts place d found))
 

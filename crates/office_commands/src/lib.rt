@@ -1,4 +1,4 @@
-//! What a seat can ask for, and what it is answered.
+//! The commands that a seat of a customer can give, what refuses them, and the texts of replies.
 //!
 //! The body and the status of each refusal, and the JSON texts of an order, a map, a device, a
 //! plan, a verdict, a ledger and a list of devices, an identity, a state and an import, are exactly

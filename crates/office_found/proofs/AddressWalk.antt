@@ -33,7 +33,7 @@ one_more given last row copy so_far other same more =
       λ none. subst (HasNoRepeat None) (joined given more row) (it.1 (other, subst (λ r. HasNoRepeat (Some r) more) same none)),
     )
 
--- with a row that shows the same there is a repeat, whatever comes
+-- a row that shows the same as the last one is a repeat, whatever comes
 pub one_again : (given : List Row) (last : Option Row) (row : Row) → GoesOn given last → shows_again last row ≡ true
     → (more : List Row) → ¬ HasNoRepeat None ((given ++ row ∷ []) ++ more)
 one_again given last row so_far again more none =
@@ -62,7 +62,7 @@ module _ (text : List ℕ) (body : Query) (old new : State) (read : IsReadAs old
         (λ up. absurd (true≢false (sym up ∙ h.0)), λ none. absurd (h.2 whole.0 none)),
       )
 
--- and says of a database that was found whether its addresses are apart
+-- the walk says of a database that was found whether its addresses are apart
 pub walk_tells : (old new : State) → (version : Version) → (IsTrue old.is_open → IsFound version old.now)
     → (r : Result Bool Error) → IfOk r (HasWalked SELECT_ADDRESSES.now old new) → OnOk r (IsUnchanged old new)
     → IfOk r (λ apart. IsTrue apart ↔ HasApartAddresses old.now.trees)

@@ -23,7 +23,7 @@ pub of_a_later : (text : List ℕ) (body : Query) → ((version : Version) → n
     → (schema : Schema) → (version : Version) × (number_of_version version ≢ 1) × (schema ≡ schema_of version) → IsReadAs schema text body
 of_a_later text body read schema it = subst (λ s. IsReadAs s text body) (sym it.2) (read it.0 it.1)
 
--- and under one schema
+-- a text that means a query under one schema means it under a schema that is the same
 pub read_under : (text : List ℕ) (body : Query) (of : Schema) → IsReadAs of text body → (schema : Schema) → schema ≡ of → IsReadAs schema text body
 read_under text body of read schema is = subst (λ s. IsReadAs s text body) (sym is) read
 
@@ -115,7 +115,7 @@ pub still_known : {old new : State} → IsUnchanged old new → (version : Versi
     × (new.now.schema ≡ schema_of version)
 still_known same it = (it.0, ap (λ (d : Database). d.schema) same.0.now_is ∙ it.1)
 
--- and so is what was found
+-- what was found is so after a test
 pub still_found : {old new : State} (version : Version) → IsUnchanged old new → IsFound version old.now → IsFound version new.now
 still_found version same it = subst (IsFound version) (sym same.0.now_is) it
 

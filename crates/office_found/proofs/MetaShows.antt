@@ -46,7 +46,7 @@ sites_are_blobs version db sound =
     blob_at (schema_of version) db meta_table r d n 2 (refl, refl, refl) (refl, refl)) (rows_in db table.meta)
     (sound.obeys.rules Datatype).0 (sound.obeys.rules NotNull).0
 
--- and so is each that is shown
+-- each site that is shown of meta is a blob
 shows_blobs : (all rows : List Row) → AllByRecursion (IsBlob 3) all → Scanned [] row_shown row_order [] all rows → AllByRecursion (IsBlob 2) rows
 shows_blobs all rows blobs s =
     let every = filter_all (passes [] []) all (all_of (λ r. passes [] [] r ≡ true) (λ r. refl) all) in

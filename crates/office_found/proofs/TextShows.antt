@@ -67,7 +67,7 @@ one_text text other db held also =
     let words : Words text ≡ Words other = sym held.2.body ∙ ap (λ r. column r 2) row ∙ also.2.body in
     cc
 
--- of rows that show one text, another is held where it is the same, and only then
+-- where rows show one text, another is held exactly where it is the same
 pub held_if_same : (text other : List ℕ) (db : Trees) (rows : List Row) (same : Bool) → ShowTexts db rows → IsOnlyText 1 text rows → same ≡ bytes_eq text other
     → IsTrue same ↔ HoldsText other db
 held_if_same text other db rows same shows only is =
@@ -76,7 +76,7 @@ held_if_same text other db rows same shows only is =
       λ also. is ∙ (bytes_eq-Decides text other).1 (one_text text other db held also),
     )
 
--- and of rows that don't show a text it isn't held
+-- where rows don't show a text alone, it isn't held
 pub not_held : (text : List ℕ) (db : Trees) (rows : List Row) → ShowTexts db rows → ¬ IsOnlyText 1 text rows → IsTrue false ↔ HoldsText text db
 not_held text db rows shows none = (
   λ no. absurd (true≢false (sym no)),

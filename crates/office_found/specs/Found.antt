@@ -40,7 +40,7 @@ HasVersionSchema s = IsTrue s.is_open → (version : Version) × (s.now.schema �
 abbrev pub HasStart : {A : Type 0} → (A → Row → Bool) → (Row → A) → List Row → Row → Type 0
 HasStart is_for value starts r = is_some (find (is_for (value r)) starts) ≡ true
 
--- and so it is of each row
+-- for each of the rows there is a start, at least one
 abbrev pub HaveStarts : {A : Type 0} → (A → Row → Bool) → (Row → A) → List Row → List Row → Type 0
 HaveStarts is_for value rows starts = AllByRecursion (HasStart is_for value starts) rows
 
@@ -49,7 +49,7 @@ pub record HasStarts (trees : Trees) : Type 0 where
   pub orders : HaveStarts starts_order order_in_row (rows_in trees orders) (rows_in trees order_starts)
   pub given : HaveStarts starts_given given_in_row (rows_in trees given) (rows_in trees given_starts)
 
--- each order and each record has exactly one
+-- each order and each record has exactly one beginning of validity told
 pub record AreAllStarted (trees : Trees) : Type 0 where
   pub orders : AreStarted starts_order order_in_row (rows_in trees orders) (rows_in trees order_starts)
   pub given : AreStarted starts_given given_in_row (rows_in trees given) (rows_in trees given_starts)

@@ -19,7 +19,7 @@ meta_in r = record { id = number_in_cell (column r 0); schema = number_in_cell (
 abbrev pub metas_in : Trees → List Meta
 metas_in db = map meta_in (rows_in db meta)
 
--- of a row that shows these columns alone
+-- what a row of meta says that shows the id, the schema and the site alone
 abbrev pub meta_of : Row → Meta
 meta_of r = meta_in (column r 0 ∷ r)
 

@@ -34,7 +34,7 @@ count_of _ = 8
 abbrev pub KeepsFirst : ℕ → Trees → Trees → Type 0
 KeepsFirst count old new = (table : OfficeTable) → place_of table < count → rows_in new table ≡ rows_in old table
 
--- and where one of them changes, those of the others
+-- the rows of the first tables stand, but for one table that may change
 abbrev pub KeepsFirstBut : OfficeTable → ℕ → Trees → Trees → Type 0
 KeepsFirstBut changed count old new =
     (table : OfficeTable) → place_of table < count → table ≢ changed → rows_in new table ≡ rows_in old table
@@ -56,7 +56,7 @@ abbrev pub given_keyed : List ℕ → List ℕ → List ℕ → Table
 given_keyed one two three =
     record given_table { uniques = one ∷ two ∷ three ∷ []; orders = plain ∷ plain ∷ plain ∷ [] }
 
--- and the indexes of its keys
+-- the indexes of the table `given` by these three keys
 abbrev pub given_indexes : List ℕ → List ℕ → List ℕ → List Index
 given_indexes one two three =
     index_at 12 (codes "sqlite_autoindex_given_1") (tree_of given) one

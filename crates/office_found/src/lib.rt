@@ -1,4 +1,5 @@
-//! What a database that was found is asked before it counts as the office's.
+//! Tests a database that was found: whether it is one of the office's, of which version, and what
+//! it tells of its site.
 //!
 //! `version_of` tells the version whose schema a database has, column by column, and none where it
 //! has that of no version (exact); `is_empty_schema` whether it has none.

@@ -38,7 +38,7 @@ page_shown old (row ∷ rows) new (false, mid, taken, later) room low =
     ∙ sym (take-append-le page_limit old.devices.items (devices_in (row ∷ rows)) (taken.full refl fits)
     ∙ take_all page_limit old.devices.items low)
 
--- and knows whether it leaves some
+-- a walk that didn't run out of memory knows whether it leaves devices behind the page
 pub page_left : (old : PageScan) (rows : List (OfCustomer Device)) (new : PageScan) → Visits GathersPage old rows new → new.is_full ≡ false
     → length old.devices.items ≤ page_limit → old.has_more ≡ false
     → new.has_more ≡ nat_lt page_limit (length (old.devices.items ++ devices_in rows))

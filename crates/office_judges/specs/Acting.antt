@@ -19,6 +19,6 @@ IsActedUnless against made (Ok a) =
 abbrev pub IsActed : Action → Map → Device → Result Acted Refusal → Type 0
 IsActed a m d acted = IsActedUnless (action_refusals a m d) ((rule_of a).does m d) acted
 
--- and of one in a state from which it goes on
+-- an action of a device that is in a state from which the action goes on: its lowest refusal, or what it makes of the device
 abbrev pub IsActedOn : Action → Map → Device → Result Acted Refusal → Type 0
 IsActedOn a m d acted = IsActedUnless ((rule_of a).refuses m d) ((rule_of a).does m d) acted

@@ -19,13 +19,14 @@ with_rows (r ∷ rs) g = with_rows rs (with_import_row r g)
 abbrev pub binding_of : IssuedIn → ImportRow → Binding
 binding_of g r = record { key = g.key_of r.serial; is_bound = is_some (g.serial_of r.key) }
 
--- and once another row was added, or others in turn
+-- what a row's serial number and key are bound to, once another row was added
 abbrev pub with_other : ImportRow → ImportRow → Binding → Binding
 with_other r other found = record {
   key = if bytes_eq r.serial other.serial then Some other.key else found.key;
   is_bound = bytes_eq r.key other.key || found.is_bound;
 }
 
+-- what a row's serial number and key are bound to, once other rows were added in turn
 abbrev pub with_others : ImportRow → List ImportRow → Binding → Binding
 with_others r [] found = found
 with_others r (other ∷ others) found = with_others r others (with_other r other found)
@@ -41,7 +42,7 @@ verdict_by found r =
     else if is_bound_to_key r found then Present
     else New
 
--- and by what is given
+-- what a row is by what is given: a conflict, present, or new
 abbrev pub verdict_of_row : IssuedIn → ImportRow → RowVerdict
 verdict_of_row g r = if is_conflict g r then Conflict else if is_present g r then Present else New
 

@@ -1,4 +1,4 @@
-//! The keeper of the tables over SQL.
+//! Keeps the tables of all customers in an SQL database.
 //!
 //! `SqlKeep` meets every clause of `Keep`, that on crashes included, over any store of the kit's
 //! `sqlite` whose connection is ready. While it lives, whatever a crash leaves is a store of its

@@ -101,7 +101,7 @@ accepted_alone (x ∷ xs) s s2 run =
           (unaccepted x s run.0 run.1 is) later
     ] refl
 
--- and so can what comes again
+-- exchanges that come again can be left out
 drop_again : (x : Exchange) (ys : List Exchange) (s s2 : SoloState) → AreAccepted ys
     → number_of_wanted x.0.wanted ≤ last_at x.0.seat s → RunsAlone ys s s2
     → RunsAlone (filter (λ later. not (is_again x later)) ys) s s2

@@ -43,7 +43,7 @@ module _ (m : Map) (is : IsMap m) (old : OfCustomer Device) (numbered : SerialIs
       → IsFree a → old.row.serial ≡ None
   unnumbered a none free = unnumbered_where (is_one_of (rule_of a).from) none old numbered (goes_on a free)
 
-  -- and the step keeps of it what its map asks for
+  -- an action that nothing refuses keeps of the device what its map asks for
   pub action_keeps : (a : Action) → IsAction a → IsFree a → Keeps m old.row ((rule_of a).does m old.row).0
   action_keeps (Plan wishes) asked free =
       plan_keeps m is old.row wishes (later_is_none _ _ _ free)

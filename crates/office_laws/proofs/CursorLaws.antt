@@ -209,7 +209,7 @@ module _ {owners : Ownership} {t : Tables} (sound : IsSound owners t) (c name : 
   cursor_sound least largest below =
       subst (IsSound owners) (sym placed_there) (moved_sound least largest below)
 
-  -- and nothing that was kept is lost by it
+  -- nothing that was kept is lost by a new cursor
   pub cursor_grows : (before : Tables) → Grows before t
       → Grows before (with_cursor (record {
         customer = c;

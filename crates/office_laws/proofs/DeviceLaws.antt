@@ -231,7 +231,7 @@ module _ {owners : Ownership} {t : Tables} (sound : IsSound owners t) (c seat : 
           all_map (λ e. is_some (find (is_device e.customer e.row.chip) t.devices) ≡ true) (λ e.
           is_entry_of c step.device.chip e ≡ false) not_its t.ledger sound.devices.of_devices
 
-  -- and that of a device that was there: one entry more at its end
+  -- the ledger of a device that was there: one entry more at its end
   pub next_ledger : (old : OfCustomer Device) → device_at c step.device.chip t ≡ Some old
       → step.device.map ≡ old.row.map
       → ((m : Map) → named c old.row.map ≡ Some m → (es : List (OfCustomer Entry)) → FitsFuseMap m old.row es

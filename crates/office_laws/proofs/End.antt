@@ -25,7 +25,7 @@ identifies_idle : (state : DeviceState) → is_one_of identified_from state ≡ 
 identifies_idle Settled may = refl
 identifies_idle _ may = cc
 
--- and such a one has no serial number yet
+-- a device that may be identified has no serial number yet
 pub identifies_unnumbered : (state : DeviceState) → is_one_of identified_from state ≡ true
     → (state_row state).may_have_serial ≡ false
 identifies_unnumbered Settled may = refl

@@ -91,7 +91,7 @@ module _ {site : Ownership} (x : Exchange) (t mid : Tables) (one : IsServed site
       by (inl again) = past_again _ _ m again.0
       by (inr next) = past_next _ _ m next
 
-  -- of the same customer
+  -- a number of a seat of the exchange's customer is new after the exchange where it was new before and isn't its own
   same_customer : (own : is_own x.0.section.name x ≡ true) (seat : List ℕ) (m : ℕ)
       → (not (bytes_eq seat x.0.seat && m == number_of_wanted x.0.wanted)
       && is_after seat (view x.0.section.name t) m)

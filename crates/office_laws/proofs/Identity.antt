@@ -54,7 +54,7 @@ module _ (s : Section) (seat : List ℕ) (t : Tables) (n : NewIdentity) where
         ∷ number_put o.name next.0 (row_of (idevid_of_order o next n.key) (Some d.chip)) ∷ [];
   }
 
-  -- and what a device and its map come to, where its order was looked up
+  -- what a device and its map come to, by what was looked up of its order
   abbrev pub effect_in : Device → Map → Option OrderSight → Option Effect
   effect_in d m o = option_and_then (λ o. option_and_then (λ next.
       Some (numbered_effect d m o.order next)) o.next) o

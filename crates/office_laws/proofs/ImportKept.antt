@@ -34,7 +34,7 @@ module _ (owners : Ownership) (s : Section) (issuer : List ℕ) (before : Tables
       → MakesPuts s (map (λ r. record_put (row_of_import issuer r)) rows) t mid
       → Lasts owners before mid
 
-  -- and so for the rows that an import comes to, where it isn't refused
+  -- the rows that an import comes to, where it isn't refused, are put into tables that keep all of earlier ones
   abbrev AllLast : Tables → Result ImportResult (List ℕ) → Type 0
   AllLast t (Err serial) = Unit {0}
   AllLast t (Ok i) = RowsLast t i.added

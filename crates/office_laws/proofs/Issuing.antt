@@ -35,7 +35,7 @@ module _ {site : Ownership} (t t2 : Tables) (sound : IsSound site t) (later : Is
       (gives_anew s seat t j number digest reply t2 later step anew.0 anew.1)
   identity_shows number digest _ i is past step = cc
 
--- and so does a request that asks for one
+-- a request that asks for an identity is given what was nobody's
 pub issues_fresh : {site : Ownership} (t t2 : Tables) → IsSound site t → (s : Section) (seat : List ℕ)
     → site.seat seat ≡ Some s.name → (r : Request) (reply : Answer) → Step s seat t r reply t2
     → (IsCommand r.command → IsSound site t2) → IssuesFresh (call_by s seat r, reply) t t2

@@ -13,7 +13,7 @@ pub record Lasts (owners : Ownership) (t t2 : Tables) : Type 0 where
 pub lasts_itself : {owners : Ownership} {t : Tables} → IsSound owners t → Lasts owners t t
 lasts_itself {owners} {t} sound = record { sound = sound; grows = grows_itself t }
 
--- and with another name
+-- what lasts in some tables lasts in those that are the same
 pub lasts_named : {owners : Ownership} {t mid t2 : Tables} → t2 ≡ mid → Lasts owners t mid
     → Lasts owners t t2
 lasts_named {owners} {t} is lasts = subst (Lasts owners t) (sym is) lasts

@@ -79,7 +79,7 @@ one_more xs x r t t2 Before After Opened asked passes before opened answered cra
     )
     by is (inr made) = made_left xs x r t left asked is made.0 made.1
 
--- so a crash after one exchange more leaves what a stop leaves
+-- a crash after one exchange more leaves what a stop leaves
 pub leaves_more : (xs : List Exchange) (x : Exchange) (r : Request) (t mid t2 : Tables)
     (First Before After : Tables → Type 0) (Opened : Type 0)
     → x.0.wanted ≡ asks r
@@ -105,12 +105,12 @@ leaves_unanswered xs t t2 Before After all same fewer front starts left leaves =
     subst (λ (m : Tables). Leaves (front ++ xs) m left) (sym same)
     (before.0, left_more front xs t before.0 left all before.1)
 
--- after no exchange
+-- a crash after no exchange leaves what was left before
 pub leaves_none : (First : Tables → Type 0) (t : Tables) → LeavesAfter [] First t First t
 leaves_none First t front starts left leaves =
     subst (λ (all : List Exchange). Leaves all t left) (sym (append-nil front)) (starts left leaves)
 
--- and one part after another
+-- a crash after two parts of exchanges leaves what a stop leaves after both
 pub leaves_joined : (xs ys : List Exchange) (First Before After : Tables → Type 0)
     (t mid t2 : Tables)
     → LeavesAfter xs First t Before mid → LeavesAfter ys Before mid After t2
@@ -125,7 +125,7 @@ unanswered_unavailable [] c is = absurd is
 unanswered_unavailable (x ∷ xs) c (inl here) = inl (here.0, here.1)
 unanswered_unavailable (x ∷ xs) c (inr later) = inr (unanswered_unavailable xs c later)
 
--- so what a crash may leave after a session is what a stop may leave
+-- what a crash may leave after a session is what a stop may leave
 pub stop_leaves : (s : Session) (t : Tables) (more : List Exchange) (left : Tables)
     → IsLeft (IsUnanswered s.exchanges) t more left → IsLeft (IsInDoubt s) t more left
 stop_leaves s t [] left is = is

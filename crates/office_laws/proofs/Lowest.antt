@@ -35,7 +35,7 @@ above n m (c ∷ cs) low up =
     let first = ascends_on m c cs up in
     (omega (arith, low, first.0), above n (refusal_number c.1) cs (omega (arith, low, first.0)) first.2)
 
--- and so is the first that holds below that of 503
+-- the first refusal that holds has a number below that of 503
 pub found_below : (n : ℕ) (cs : Refusals) (r : Refusal) → ascends n cs ≡ true → first_that_holds cs ≡ Some r
     → refusal_number r < refusal_number Unkept
 found_below n [] r up e = cc

@@ -51,7 +51,7 @@ module _ (m : Map) (is : IsMap m) (a : Image) (w : Pending) (r : Shown) (known :
     keys = λ block there _. let none = ap is_some (table.get-empty {X = List ℕ} nat_cmp block) in cc (none, there);
   })
 
--- so it is with the batch of a device of sound tables
+-- a read-back of a device of sound tables matches exactly where the chip shows what it would with its batch burnt
 pub device_matches : {owners : Ownership} {t : Tables} → IsSound owners t → (customer chip : List ℕ) (d : OfCustomer Device) (m : Map) (words : List (List ℕ))
     → device_at customer chip t ≡ Some d → map_named customer d.row.map t ≡ Some m → words_fit_map m words ≡ true
     → (verdict_of_read_back (redacted m words) m d.row ≡ Match) ↔ (redacted m words ≡ seen_with_batch m d.row)
@@ -88,7 +88,7 @@ module _ {site : Ownership} (t : Tables) (sound : IsSound site t) (s : Section) 
   anew : (retry_at seat r t ≡ Next) × (first_that_holds (refusals s v (Act chip (ReadBack words))) ≡ None)
   anew = accepted_anew t sound s seat mine reply accepted number digest (Act chip (ReadBack words)) t2 past step
 
-  -- so it has an effect, which is answered
+  -- a read-back that nothing refuses has an effect, which is answered
   answered : (e : Effect) × (step_effect seat v (reads words) chip ≡ Some e) × (accept seat r e ≡ p)
   answered =
       let decided : decide seat r (first_that_holds (refusals s v (Act chip (ReadBack words)))) (step_effect seat v (reads words) chip) ≡ Some p =
@@ -129,7 +129,7 @@ module _ {site : Ownership} (t : Tables) (sound : IsSound site t) (s : Section) 
             matches = (λ e. law.0 (same.0 e), λ h. same.1 (law.1 h));
           }
 
--- and so it is with a request that is a read-back
+-- a request that is a read-back is told to match where the chip shows what it would with the whole batch burnt
 pub matches_where_seen : {site : Ownership} (t : Tables) → IsSound site t → (s : Section) (seat : List ℕ) → site.seat seat ≡ Some s.name
     → (asked : Request) (reply : Answer) (t2 : Tables) → Step s seat t asked reply t2 → MatchesWhereSeen (call_by s seat asked, reply) t
 matches_where_seen t sound s seat mine asked reply t2 step number digest chip words is accepted past =

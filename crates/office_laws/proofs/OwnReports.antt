@@ -13,7 +13,7 @@ use Rattle.yield_report.specs.Prelude.{order_report_text, has_issued_in, order_r
 abbrev order_line : HasIssued → List Device → Order → List (List ℕ)
 order_line given devices o = o.name ∷ map decimal (yield_of given devices o)
 
--- the same by the serial numbers that are given in its issuer
+-- an order's line, by the serial numbers that are given in its issuer
 abbrev line_with : List Device → Order → (List ℕ → Bool) → List (List ℕ)
 line_with devices o given = order_line (λ issuer. given) devices o
 
@@ -24,7 +24,7 @@ lines_own : (c : List ℕ) (t : Tables) (devices : List Device) (orders : List O
 lines_own c t devices [] given = refl
 lines_own c t devices (o ∷ orders) given = λ i. line_with devices o (λ serial. given.0 serial i) ∷ lines_own c t devices orders given.1 i
 
--- so the report over the tables is the one by the customer's own rows
+-- the report over the tables is the one by the customer's own rows
 pub report_own : {owners : Ownership} {t : Tables} → IsSound owners t → (c : List ℕ) → order_report_in c t
     ≡ order_report_text (is_issued (view c t)) (view c t).orders (view c t).devices
 report_own {t = t} sound c = ap (λ lines. report_text (order_header ∷ lines)) (lines_own c t (rows_of c t.devices) (rows_of c t.orders) (own_given sound c))

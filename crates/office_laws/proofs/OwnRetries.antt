@@ -31,7 +31,7 @@ not_success _ = refl
 abbrev LeavesSeats : Put → Type 0
 LeavesSeats p = (s : SoloState) → (with_put p s).seats ≡ s.seats
 
--- and so do those of a command: the seat's own row is put after them
+-- the puts of a command leave the seats: the seat's own row is put after them
 module _ (c : Section) (seat : List ℕ) (v : Sight) where
   abbrev LeaveSeats : Option Effect → Type 0
   LeaveSeats None = Unit {0}
@@ -69,7 +69,7 @@ module _ (c : Section) (seat : List ℕ) (v : Sight) where
   effect_leaves (Import n) =
       after_some (option_and_then result_ok (merged_rows v n)) _ (λ i. records_leave n.issuer i.added)
 
--- so after them and the seat's row the seats are those of before with the row in its place
+-- after puts that leave the seats, and the seat's row, the seats are those of before with the row in its place
 seats_after : (ps : List Put) (row : SeatState) (s : SoloState) → AllByRecursion LeavesSeats ps
     → (with_puts (ps ++ seat_put row ∷ []) s).seats ≡ with_row solo_seat_cmp row s.seats
 seats_after [] row s leave = refl

@@ -89,7 +89,7 @@ module _ (m : Map) (a : Image) (r : ReadBack) where
       subst (λ (x : Image). IsPending m (with_rest Second x w)) (sym (rest_is Second w v e right)) (rests_in_map m a w r lies).1
   rest_lies Neither w lies v e right = lies
 
-  -- and so it is with what is pending after any read-back
+  -- what is pending after any read-back goes with the device's state, and is pending on the chip as it is then
   pub awaited_after : (state : DeviceState) (w : Pending) → IsAwaited m a state w → (v : Verdict) → verdict (state_row state).pending w ≡ v
       → IsAwaited m (image_after a r) (state_after v state w) (pending_after v state w)
   awaited_after state w was (Fault fault) e = record { by_state = refl; pending = nothing_pending m (image_after a r) }

@@ -39,10 +39,11 @@ module _ {owners : Ownership} {t : Tables} (sound : IsSound owners t) (s : Secti
       is.issuer
       ∙ (ap (option_and_then (record_of_chip chip)) own ∙ of_chip)
 
-  -- and shown by its device
+  -- the body that shows a record as the identity of its device
   abbrev body : Given → List ℕ
   body row = identity_body chip (idevid_in row)
 
+  -- a record is shown by its device
   by_device : (found : Option (OfCustomer Device)) → device_at s.name chip t ≡ found
       → IsSomeAnd found (IsOfDevice t.orders g)
       → shown_identity v chip (option_map (λ d. d.row) found) ≡ acceptance (body g.row)

@@ -31,7 +31,7 @@ left_runs InDoubt t [] left is = is
 left_runs InDoubt t (x ∷ []) left is = (left, step_passes x t left is.1 is.2, refl)
 left_runs InDoubt t (x ∷ y ∷ others) left is = absurd is
 
--- so a run with stops is one run
+-- a run with stops is one run
 pub stopped_runs : (ss : List Session) (all : List Exchange) (t t2 : Tables)
     → IsStoppedRun ss all t t2 → IsRun all t t2
 stopped_runs [] all t t2 run = rw run.0 run.1
@@ -82,7 +82,7 @@ left_seats site InDoubt t [] left seat is = tt
 left_seats site InDoubt t (x ∷ []) left seat is = (seat x.0 is.0, tt)
 left_seats site InDoubt t (x ∷ y ∷ others) left seat is = absurd is
 
--- so the callers of all exchanges are seats
+-- the callers of all exchanges of a run with stops are seats
 pub stopped_seats : (first : Ownership) (ss : List Session) (all : List Exchange) (last : Ownership)
     (t t2 : Tables)
     → AreSessions first ss last → IsStoppedRun ss all t t2 → AreSeats first (calls_of all) last

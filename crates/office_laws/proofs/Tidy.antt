@@ -76,7 +76,7 @@ module _ {A : Type 0} (cmp : OfCustomer A → OfCustomer A → Ordering) (x : Of
       (λ y. cmp x y ≡ Equal → is_of d y ≡ false)
       (λ y f e. subst (λ z. bytes_eq d z ≡ false) (f e) other) rows place
 
-  -- so a table with the row is seen by its customer with it, and by another as before
+  -- a table with the row is seen by the row's customer with it
   pub row_own : (own_cmp : A → A → Ordering) → IsTotalOrder cmp
       → ((a b : OfCustomer A) → is_of x.customer a ≡ true → is_of x.customer b ≡ true
       → cmp a b ≡ own_cmp a.row b.row)
@@ -85,6 +85,7 @@ module _ {A : Type 0} (cmp : OfCustomer A → OfCustomer A → Ordering) (x : Of
   row_own own_cmp total agree in_order = placed_own x.customer cmp own_cmp total agree x
       (text_itself x.customer x.customer refl) rows in_order own_place
 
+  -- a table with the row is seen by another customer as before
   pub row_other : (d : List ℕ) → bytes_eq d x.customer ≡ false
       → rows_of d (with_row cmp x rows) ≡ rows_of d rows
   row_other d other = placed_other d cmp x other rows (other_place d other)
@@ -273,7 +274,7 @@ then first second = record {
   other = λ d ne. second.other d ne ∙ first.other d ne;
 }
 
--- and with other names for what is there
+-- what acts on tables does so under other names for what is there
 pub renamed : {owners : Ownership} {c : List ℕ} {t t2 other_t2 : Tables} {seen other_seen : SoloState}
     → other_t2 ≡ t2 → seen ≡ other_seen → Acts owners c t t2 seen
     → Acts owners c t other_t2 other_seen
@@ -324,7 +325,7 @@ module _ {owners : Ownership} (s : Section) (section : IsSection owners s) where
       let moved = cursor_acts given.tidy s.name (record { order = order; number = number + 1 }) in
       renamed is given.own (then given moved)
 
-  -- and a list of them
+  -- a list of puts is seen by its customer alone, as one into that customer's rows
   pub puts_act : {t : Tables} → IsTidy owners t → (ps : List Put)
       → AllByRecursion (IsDue owners s.name) ps → (t2 : Tables) → MakesPuts s ps t t2
       → Acts owners s.name t t2 (with_puts ps (view s.name t))

@@ -17,16 +17,16 @@ alone_on c s reports =
     (report_reply (order_report_text (is_issued s) s.orders s.devices), s)
 alone_on c s (refused reason) = (refusal reason, s)
 
--- what it replies to a call, and its state after the call
+-- what the own machine replies to a call, and its state after the call
 abbrev pub alone : Call → SoloState → Answer × SoloState
 alone c s = alone_on c s c.wanted
 
--- its replies to calls in turn
+-- the own machine's replies to calls in turn
 abbrev pub solo_replies : List Call → SoloState → List Answer
 solo_replies [] s = []
 solo_replies (c ∷ cs) s = (alone c s).0 ∷ solo_replies cs (alone c s).1
 
--- its state after calls in turn
+-- the own machine's state after calls in turn
 abbrev pub solo_state : List Call → SoloState → SoloState
 solo_state [] s = s
 solo_state (c ∷ cs) s = solo_state cs (alone c s).1
@@ -45,6 +45,7 @@ pub record IsAsAlone (customer : List ℕ) (own : List Exchange) (t t2 : Tables)
   pub replies : replies_of own ≡ solo_replies (calls_of own) (view customer t)
   pub rows : view customer t2 ≡ solo_state (calls_of own) (view customer t)
 
--- so they are of all the customer's own exchanges, whatever stands between them
+-- the replies of all the customer's own exchanges, and the customer's rows, are those of the
+-- customer's own machine, whatever stands between these exchanges
 abbrev pub IsIsolated : List ℕ → List Exchange → Tables → Tables → Type 0
 IsIsolated customer xs t t2 = IsAsAlone customer (exchanges_of customer xs) t t2

@@ -39,7 +39,7 @@ Exchange = Call × Answer
 abbrev pub calls_of : List Exchange → List Call
 calls_of xs = map (λ x. x.0) xs
 
--- their replies, in turn
+-- the replies of exchanges, in turn
 abbrev pub replies_of : List Exchange → List Answer
 replies_of xs = map (λ x. x.1) xs
 

@@ -108,7 +108,7 @@ with_put (device_put d e) s = record s {
 with_put (record_put g) s = record s { given = with_row solo_given_cmp g s.given }
 with_put (number_put order number g) s = record s { given = with_row solo_given_cmp g s.given }
 
--- and puts in turn
+-- the customer's rows with puts made in turn, the first of them first
 abbrev pub with_puts : List Put → SoloState → SoloState
 with_puts [] s = s
 with_puts (p ∷ ps) s = with_puts ps (with_put p s)

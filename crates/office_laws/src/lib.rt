@@ -1,7 +1,7 @@
-//! What holds of the office's machine: a customer's own machine, sound tables, and the laws, of one
-//! request and of whole runs. Each customer sees that customer's own machine alone, nothing that
-//! was burnt or given goes, no identity gives what another gave, and a request that comes again
-//! acts once, however often the server was stopped and whoever came in between.
+//! The laws that hold of the office, of one request and of whole runs, with what they speak of: a
+//! customer's own machine, and sound tables. Each customer sees that customer's own machine alone,
+//! nothing that was burnt or given goes, no identity gives what another gave, and a request that
+//! comes again acts once, however often the server was stopped and whoever came in between.
 //!
 //! All are laws over the definitions alone. `steps_are_the_customers_own`: from sound tables, a
 //! step of a customer's seat (`SeatStep`) gives the reply and the view of the customer's own

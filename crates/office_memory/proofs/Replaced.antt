@@ -51,7 +51,7 @@ module _ (row old : OfCustomer Device) (rows : List (OfCustomer Device)) (found 
         let was = found_has (λ d. is_counted d.customer d.row.order p ≡ true) (is_device row.customer row.row.chip) old rows found counted.there in
         kept row.customer row.row.order (rw (customer, ← order) was)
 
-    -- and it has room for one more
+    -- the count of the order has room for one more
     pub room_again : ((c o : List ℕ) → count_of_order c o p1 ≡ count_of_order c o p - place_of_device c o old) → length rows < 2 ^ 63
         → count_of_order row.customer row.row.order p1 < 2 ^ 63
     room_again less few =

@@ -92,7 +92,7 @@ module _ {A : Type 0} (Typed : Row → Type 0) (cmp : A → A
       is_eq (cmp a (value x))) kept)))
       [ true ↦ ap suc more | false ↦ more ]
 
-  -- of rows whose keys differ each has its key alone
+  -- each row has its key alone, where the rows' keys differ
   alone : (rows : List Row) → AreKeyed cmp (map value rows) → AllByRecursion (λ r. length (filter (λ x. is_eq (cmp (value r) (value x))) rows) ≡ 1) rows
   alone [] keyed = tt
   alone (r ∷ rows) keyed =

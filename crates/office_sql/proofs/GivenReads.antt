@@ -86,7 +86,7 @@ fits params r s e f =
     ap₂ ◌&&◌ (ap (λ v. is_true (binary (Compare Eq Binary) (column s 1) v)) e.0 ∙ text_is (column s 1) _ f.0)
     (and-true _ ∙ ap (λ v. is_true (binary (Compare Eq Binary) (column s 2) v)) e.1 ∙ text_is (column s 2) _ f.1)
 
--- with what a row of starts says
+-- a record with the beginning of validity that a row of starts says
 abbrev with_row : Row → OfCustomer Given → OfCustomer Given
 with_row s g = record g { row = record g.row { not_before = text_if (column s 3) } }
 

@@ -25,7 +25,7 @@ pub record IsInsertOf (schema : Schema) (text : List ℕ) (table : OfficeTable) 
   pub uncounted : (table_of table).is_counted ≡ false
   pub unstamped : (table_of table).stamps.terms ≡ []
 
--- and of one row
+-- what the text of an INSERT of one row means where the database has this schema
 pub record IsInsert (schema : Schema) (text : List ℕ) (table : OfficeTable) (terms : List Term) (width : ℕ) : Type 0 where
   pub means : IsInsertOf schema text table (Values terms width)
   pub one : (params : Row) → value_rows params width (length terms / width) terms ≡ eval_all terms (params ∷ []) ∷ []
@@ -133,7 +133,7 @@ module _ (known : Schema) (text : List ℕ) (its : OfficeTable) where
       others = it.others;
     }
 
-    -- and the connection keeps its rowid
+    -- the connection keeps the rowid of the row that was put
     pub last_put : new.last_rowid ≡ unwrap_or (last_id (numbered Chosen (rows_in old.now.trees its) (row ∷ []))) old.last_rowid
     last_put = it.last ∙ ap (λ l. unwrap_or (last_id (numbered Chosen (rows_in old.now.trees its) l)) old.last_rowid) one_row
 

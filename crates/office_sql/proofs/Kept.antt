@@ -63,7 +63,7 @@ module _ {A : Type 0} (Typed : Row → Type 0) (cmp : A → A
       (subst (λ l. IsPermutation l (map value kept)) (sym (filter-map p value rows)) (IsPermutation-map value _ _ here))
       (sorted_from_ascending cmp total _ (ascending-map (λ a b. is_gt (cmp a b) ≡ false) value kept rises))
 
-  -- and so a query that sorts by the key shows it, whatever is made of each row
+  -- a query that sorts by the key shows what a test keeps of the rows in order, whatever is made of each row
   pub shows_listed : (shown : List Term) (order : List (Term × Key)) (envs : Row → Env) (read : Row → A) (made : A → A) → ((a : A) → p (made a) ≡ p a)
       → ((r : Row) → Typed r → read (eval_all shown (envs r)) ≡ made (value r))
       → ((a b : Row) → output_cmp (over end [] shown order) (output (over end [] shown order) (envs a)) (output (over end [] shown order) (envs b)) ≡ by a b)

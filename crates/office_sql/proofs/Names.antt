@@ -48,7 +48,7 @@ first_at P (y ∷ xs) zero (suc count) x all e low =
     subst P same all.0
 first_at P (y ∷ xs) (suc i) (suc count) x all e low = first_at P xs i count x all.1 e (omega (arith, low))
 
--- and of its first tables
+-- what is so of each of the schema's first tables is so by its name
 pub first_by_name : (P : Table → Type 0) (count : ℕ) → AllByRecursion P (take count office_schema.tables)
     → (table : OfficeTable) → place_of table < count → P (table_of table)
 first_by_name P count all table low = first_at P office_schema.tables (place_of table) count (table_of table) all (listed table) low
@@ -70,7 +70,7 @@ pub same_but : (changed : OfficeTable) (old new : Trees) → AllByRecursion (λ 
 same_but changed old new others table other =
     by_name (λ t. t.tree ≢ tree_of changed → new t.tree ≡ old t.tree) others table (λ same. other (same_table table changed same))
 
--- and each is one that a file can have
+-- each table's tree is one that a file can have
 pub tree_low : (table : OfficeTable) → tree_of table < 22
 tree_low = each (λ t. tree_of t < 22) (
   omega arith,

@@ -10,12 +10,12 @@ use Rattle.office_sql.proofs.Names.{same_table}
 pub told_same : (old new : Trees) → ((table : OfficeTable) → rows_in new table ≡ rows_in old table) → told_in new ≡ told_in old
 told_same old new same = ap₂ (λ first last. record { meta = first; texts = last }) (same meta) (same texts)
 
--- and so does a change of another table
+-- a change of another table leaves what the database tells of itself
 pub told_stays : (changed : OfficeTable) (old new : Trees) → meta ≢ changed → texts ≢ changed → SameBut changed old new → told_in new ≡ told_in old
 told_stays changed old new first last others =
     ap₂ (λ first last. record { meta = first; texts = last }) (others meta first) (others texts last)
 
--- with other rows in one table
+-- the rows of all tables, with other rows in one of them
 abbrev pub with_rows : OfficeTable → List Row → (OfficeTable → List Row) → OfficeTable → List Row
 with_rows changed rows all table = cond (tree_of table == tree_of changed) rows (all table)
 
@@ -29,7 +29,7 @@ rows_are changed old new others i table = each table i
       | inr isnt ↦ rw isnt (others table (λ same. eqb-false _ _ isnt (ap tree_of same)))
     ]
 
--- and if they are as the table has it, all are
+-- the rows of all tables are as they are to be, if those of the changed table are
 pub rows_kept : (changed : OfficeTable) (rows : List Row) (all : OfficeTable → List Row) → AreRowsOf changed rows
     → ((table : OfficeTable) → AreRowsOf table (all table))
     → (table : OfficeTable) → AreRowsOf table (with_rows changed rows all table)

@@ -74,7 +74,7 @@ fits params r s e f =
     ap₂ ◌&&◌ (ap (λ v. is_true (binary (Compare Eq Binary) (column s 1) v)) e.0 ∙ text_is (column s 1) _ f.0)
     (and-true _ ∙ ap (λ v. is_true (binary (Compare Eq Binary) (column s 2) v)) e.1 ∙ text_is (column s 2) _ f.1)
 
--- with what a row of starts says
+-- an order with the beginning of validity that a row of starts says
 abbrev with_row : Row → OfCustomer Order → OfCustomer Order
 with_row s o = record o { row = record o.row { not_before = text_if (column s 3) } }
 

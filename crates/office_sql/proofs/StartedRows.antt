@@ -25,7 +25,7 @@ map_placed cmp f same x (y ∷ ys) =
     [ Less ↦ refl | Equal ↦ refl | Greater ↦ ap (λ l. f y ∷ l) (map_placed cmp f same x ys) ]
     ∙ ap (λ o. match_ordering o (f x ∷ f y ∷ map f ys) (f x ∷ map f ys) (f y ∷ with_row cmp (f x) (map f ys))) (sym (same x y))
 
--- and where a test doesn't
+-- what is found is found of what is made of each element, where the test doesn't look at it
 pub find_made : {A : Type 0} (p : A → Bool) (f : A → A) → ((a : A) → p (f a) ≡ p a) → (l : List A) → find p (map f l) ≡ option_map f (find p l)
 find_made p f same [] = refl
 find_made p f same (y ∷ ys) =

@@ -167,7 +167,7 @@ module _ {S : Type 0} (g : Ghosts S) (text : List ℕ) (body : Query)
 
 module _ {S : Type 0} (g : Ghosts S) {text : List ℕ} {table : OfficeTable} {tests shown : List Term} {order : List (Term × Key)}
     (read : IsRead office_schema text table tests shown order) (params values : Row) (bound : params ≡ values) (old new : Held S) where
-  -- and of one table
+  -- a sink that visits one table of the office's database, with these values for the parameters, takes what the text means
   pub visits : {K R : Type 0} (takes : K → R → Bool → K → Type 0) (reads : Row → R) (r : Result (Unit {0}) Error) (before after : K) (kept : Tables → List R)
       → HasOffice (state g old)
       → ((rows : List Row) → IsOffice (state g old).now

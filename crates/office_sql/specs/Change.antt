@@ -72,7 +72,7 @@ WritesRows (AddGiven g) old new =
     (mid : Database) × SqlAdds given (given_columns g) old mid × SqlAdds given_starts (given_start_columns g) mid new
 WritesRows (AddEntry e) old new = SqlAdds ledger (Null ∷ entry_columns e) old new
 
--- by a list of writes, one after another
+-- what becomes of the rows by a list of writes, one after another
 abbrev pub WritesAllRows : List Write → Database → Database → Type 0
 WritesAllRows [] old new = new ≡ old
 WritesAllRows (w ∷ ws) old new = (mid : Database) × WritesRows w old mid × WritesAllRows ws mid new
@@ -98,13 +98,13 @@ pub record IsInside (old new : State) : Type 0 where
   pub began : IsTrue old.in_transaction
   pub goes_on : IsTrue new.in_transaction
 
--- it shows the last commit
+-- an open connection shows the last commit, and was open before
 pub record IsUndone (old new : State) : Type 0 where
   pub was_open : IsTrue new.is_open → IsTrue old.is_open
   pub now : IsTrue new.is_open → new.now ≡ old.committed
   pub committed : IsTrue new.is_open → new.committed ≡ old.committed
 
--- it was open if it is, and shows what it showed or the last commit
+-- an open connection shows what it showed or the last commit, and was open before
 pub record Rests (old new : State) : Type 0 where
   pub was_open : IsTrue new.is_open → IsTrue old.is_open
   pub now : IsTrue new.is_open → (new.now ≡ old.now) ⊎ (new.now ≡ old.committed)
@@ -122,7 +122,7 @@ pub record IsMade (ws : List Write) (old new : State) : Type 0 where
 abbrev pub LeavesMade : List Write → State → Trees → Type 0
 LeavesMade ws old trees = IsTrue old.is_open × IsOffice (office_over trees) × HasWritten ws old.now (office_over trees)
 
--- so far the transaction has made these
+-- the transaction under way has made these writes so far, and nothing is committed yet
 pub record HasMade (ws : List Write) (old now : State) : Type 0 where
   pub office : IsTrue now.is_open → IsOffice now.now
   pub written : HasWritten ws old.now now.now

@@ -29,7 +29,7 @@ over from tests shown order = record {
 abbrev pub is_same : ℕ → ℕ → Term
 is_same there here = op2 (Compare Eq Binary) (col 2 there) (col 1 here)
 
--- also of a query that INSERT reads, whose columns have collations
+-- the rows of a join that pass each test, in an order, with the collations of the columns: INSERT reads such a query
 abbrev pub over_by : List Collation → Join → List Term → List Term → List (Term × Key) → Query
 over_by collations from tests shown order = record (over from tests shown order) { collations = collations }
 

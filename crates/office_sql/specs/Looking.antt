@@ -6,7 +6,7 @@ use Rattle.sqlite.specs.State.{State, HasCleanDisk, KeepsCommit, Survives}
 use Rattle.office_tables.specs.Prelude.{Tables}
 use Rattle.office_sql.specs.Tables.{tables_in}
 
--- it was open if it is, and shows what it showed
+-- a connection shows what it showed, and was open before if it is
 pub record SqlUnchanged (old new : State) : Type 0 where
   pub was_open : IsTrue new.is_open → IsTrue old.is_open
   pub now : new.now ≡ old.now

@@ -9,6 +9,6 @@ use Rattle.office_sql.specs.Values.{state_in, text_if}
 abbrev pub order_state : OfCustomer Device → OrderState
 order_state d = record { order = d.row.order; state = d.row.state }
 
--- as a row of three columns shows them
+-- the order and the state of a device, as a row of three columns shows them
 abbrev pub order_state_in : Row → OrderState
 order_state_in r = record { order = bytes (column r 0); state = state_in (bytes (column r 1)) (text_if (column r 2)) }

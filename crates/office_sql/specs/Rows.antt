@@ -33,7 +33,7 @@ seat_columns s = Words s.row.name ∷ Words s.customer ∷ whole_value s.row.las
 abbrev pub map_in_row : Row → MapRow
 map_in_row r = record { id = number_in_cell (column r 0); body = bytes (column r 2) }
 
--- but for the id, in whose own column NULL stands
+-- the columns of a new map but its id, in whose own column NULL stands
 abbrev pub map_columns : OfCustomer NewMap → Row
 map_columns m = Words m.row.body ∷ Bytes m.row.digest ∷ []
 
@@ -85,7 +85,7 @@ with_order_start starts o = record o { row = record o.row { not_before = start_i
 abbrev pub joined_order : Row → OfCustomer Order
 joined_order r = let o = order_in_row (Null ∷ r) in record o { row = record o.row { not_before = text_if (column (Null ∷ r) 11) } }
 
--- with another cursor, and the other columns as they stand
+-- the columns of an order's row with another cursor, and the others as they stand
 abbrev pub columns_with_cursor : ℕ → Row → Row
 columns_with_cursor cursor r =
     column r 1 ∷ column r 2 ∷ column r 3 ∷ column r 4 ∷ column r 5 ∷ column r 6 ∷ column r 7 ∷ column r 8 ∷ column r 9 ∷ whole_value cursor ∷ []
@@ -159,7 +159,7 @@ entry_in_row r = record {
   };
 }
 
--- but for the id, in whose own column NULL stands
+-- the columns of a new entry of the ledger but its id, in whose own column NULL stands
 abbrev pub entry_columns : OfCustomer NewEntry → Row
 entry_columns e = Words e.customer ∷ Words e.row.chip ∷ whole_value e.row.number
     ∷ Words (event_text e.row.event) ∷ Words (note_text e.row.event) ∷ Words e.row.seat

@@ -112,7 +112,7 @@ tree_of table = (table_of table).tree
 abbrev pub rows_in : Trees → OfficeTable → List Row
 rows_in db table = db (tree_of table)
 
--- its place in the schema
+-- the place of a table in the schema
 abbrev pub place_of : OfficeTable → ℕ
 place_of meta = 0
 place_of seats = 1

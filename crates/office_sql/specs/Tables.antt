@@ -52,7 +52,7 @@ IsBlob place r = column r place ≡ Bytes (bytes (column r place))
 abbrev pub IsWhole : ℕ → Row → Type 0
 IsWhole place r = column r place ≡ Int (pos (number_in_cell (column r place)))
 
--- or a text that may be missing
+-- a column is a text, or NULL where the text is missing
 abbrev pub IsTextIf : ℕ → Row → Type 0
 IsTextIf place r = column r place ≡ text_value (text_if (column r place))
 
@@ -85,19 +85,19 @@ IsLinkRow r = IsText 1 r × IsBlob 2 r
 abbrev pub IsOrderRow : Row → Type 0
 IsOrderRow r = IsText 1 r × IsText 2 r × (are_typed None 0 orders_table.columns (drop 1 r) ≡ true)
 
--- of a device: customer, chip, order
+-- the columns of a device that statements look at: customer, chip, order
 abbrev pub IsDeviceRow : Row → Type 0
 IsDeviceRow r = IsText 1 r × IsText 2 r × IsText 3 r
 
--- of a given serial number: issuer, serial number, key, and the address, which may be missing
+-- the columns of a given serial number that statements look at: issuer, serial number, key, and the address, which may be missing
 abbrev pub IsGivenRow : Row → Type 0
 IsGivenRow r = IsText 1 r × IsText 2 r × IsBlob 4 r × IsTextIf 6 r
 
--- of a ledger's entry: id, customer, chip, number
+-- the columns of a ledger's entry that statements look at: id, customer, chip, number
 abbrev pub IsEntryRow : Row → Type 0
 IsEntryRow r = IsWhole 0 r × IsText 2 r × IsText 3 r × IsWhole 4 r
 
--- of the beginning of validity of an order, or of a record
+-- the columns of a beginning of validity that statements look at: an order's customer and name, or a record's issuer and serial number
 abbrev pub IsStartRow : Row → Type 0
 IsStartRow r = IsText 1 r × IsText 2 r
 
@@ -113,7 +113,7 @@ AreRowsOf given rows = AreRows IsGivenRow given_cmp given_in_row rows
 AreRowsOf ledger rows = AreRows IsEntryRow entry_cmp entry_in_row rows
 AreRowsOf _ rows = ⊤
 
--- and so are those of all tables
+-- the rows of each table are as its columns and keys have it
 abbrev pub AreOfficeRows : Trees → Type 0
 AreOfficeRows db = (table : OfficeTable) → AreRowsOf table (rows_in db table)
 

@@ -89,7 +89,8 @@ fn device_at(row: &Row) -> Result<(Option<Chip>, Option<Mac>), Error>
     Ok((chip_if_at(row, 4)?, mac_if_at(row, 5)?))
 }
 
-// With what `device_at` answers for the row, and the beginning of validity that stands in it.
+// The record that a row of given says, by what `device_at` answers for the row and the beginning of
+// validity that stands in it.
 fn read_given(
     row: &Row,
     chip: Option<Chip>,

@@ -86,7 +86,7 @@ fn range(prefix: &str, width: u8, first: u64, quantity: u64) -> Result<SerialRan
     SerialRange::new(prefix, width, first, quantity).map_err(|_| DAMAGED)
 }
 
-// With the address and the beginning of validity that stand in the row.
+// The order that a row says, by the address and the beginning of validity that stand in it.
 fn read_order(row: &Row, mac: Option<Mac>, not_before: Option<NotBefore>) -> Result<OrderRow, Error>
     requires mac { mac ≡ mac_if (column row.now 8) }
     requires not_before { not_before ≡ text_if (column row.now 10) }

@@ -20,7 +20,7 @@ pub apart_upgraded : (version : Version) (text : List ℕ) (old : Trees) (new : 
     → HasApartAddresses old → HasApartAddresses new.trees
 apart_upgraded version text old new it = apart_still old new.trees (it.rows given (omega (arith, first_eight version)) (λ e. cc))
 
--- and so does a growth
+-- a growth keeps the addresses of records apart
 pub apart_grown : (text : List ℕ) (old : Trees) (new : Database) → IsGrown text old new → HasApartAddresses old → HasApartAddresses new.trees
 apart_grown text old new it = apart_still old new.trees (it.rows given (λ e. cc) (λ e. cc))
 

@@ -7,12 +7,12 @@ use Rattle.office_sql.specs.Prelude.{OfficeTable, texts, place_of, tree_of}
 use Rattle.office_store.proofs.Types.{Version, Earliest, Third}
 use Rattle.office_found.specs.Prelude.{KeepsFirstBut, count_of, first_tables}
 
--- each has the first eight
+-- each version has the first eight tables
 pub first_eight : (version : Version) → 7 < count_of version
 first_eight Earliest = omega arith
 first_eight _ = omega arith
 
--- and an earlier one not that of the site's text
+-- a version before the third hasn't the table of the site's text
 pub not_texts : (version : Version) → version ≢ Third → (table : OfficeTable) → place_of table < count_of version → table ≢ texts
 not_texts version earlier table low is = omega (arith, at_most version earlier, subst (λ t. place_of t < count_of version) is low)
   where

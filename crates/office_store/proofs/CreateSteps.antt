@@ -57,7 +57,7 @@ creates_table {S} {A} {E} g text schema next table it old new r P ch runs = reco
     )
     said (Err e) h = tt
 
--- and so grows a database with no row
+-- a database with no row gains a table with no row
 pub creates : {S A E : Type 0} (g : Ghosts S) (text : List ℕ) (schema next : Schema) (table : Table)
     → IsCreate text schema table next → (old new : Held S) (r : Result A E)
     → (P : Database → Database → A → Type 0) → SqlWrites g old new r P → Runs g text old new r

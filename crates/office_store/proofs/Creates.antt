@@ -33,7 +33,7 @@ makes sql old new schema table count has command statement plain defined uncount
           KeepsRows s.tables old.now.trees first.0.trees) has made.others);
     }
 
--- and it leaves a database
+-- CREATE TABLE leaves a database
 pub makes_sound : (sql : List ℕ) (old new : State) (schema : Schema) (count : ℕ) → old.now.schema ≡ schema
     → command_of (understood schema sql) ≡ CreateTable → IsPlain (understood schema sql)
     → Executes sql [] old new (Ok count) → IsDatabase new.now

@@ -21,7 +21,7 @@ no_row Typed cmp value rows none = subst (AreRows Typed cmp value) (sym none) (r
 abbrev pub HasNoRow : Trees → Type 0
 HasNoRow db = (table : OfficeTable) → table ≢ meta → table ≢ texts → rows_in db table ≡ []
 
--- they have the office's rows
+-- trees without a row have the office's rows
 pub no_office_rows : (db : Trees) → HasNoRow db → AreOfficeRows db
 no_office_rows db none meta = tt
 no_office_rows db none seats = no_row _ _ _ _ (none seats (λ e. cc) (λ e. cc))
@@ -33,7 +33,7 @@ no_office_rows db none given = no_row _ _ _ _ (none given (λ e. cc) (λ e. cc))
 no_office_rows db none ledger = no_row _ _ _ _ (none ledger (λ e. cc) (λ e. cc))
 no_office_rows db none _ = tt
 
--- and are the tables of an office without a row
+-- trees without a row are the tables of an office without a row
 pub no_rows_in : (db : Trees) → HasNoRow db → tables_in db ≡ no_rows
 no_rows_in db none i = record {
   seats = sort_by seat_cmp (map seat_in_row (none seats (λ e. cc) (λ e. cc) i));
@@ -45,7 +45,7 @@ no_rows_in db none i = record {
   ledger = sort_by entry_cmp (map entry_in_row (none ledger (λ e. cc) (λ e. cc) i));
 }
 
--- and where those too have none, there is nothing
+-- trees in which no table has a row have nothing, what the store tells of itself among it
 pub has_nothing : (db : Trees) → ((table : OfficeTable) → rows_in db table ≡ []) → HasNothing db
 has_nothing db none = record { tables = no_rows_in db (λ table _ _. none table); silent = ap (map meta_in) (none meta) }
 
@@ -118,7 +118,7 @@ module _ (shapes : ℕ → Shape) (reals : ℕ → ℕ) (trees : Trees) (listed 
       empty_at no_schema shapes reals trees sound listed ordered (tree_of table)
       (λ e. omega (arith, tree_low table, e)) (λ e. omega (arith, tree_low table, e)) refl refl refl)
 
-  -- and the versions with the number 1 list no starts
+  -- the versions with the number 1 list no starts
   earliest_unstarted : IsSound (schema_of Earliest) trees → TellsNoStart trees
   earliest_unstarted sound = (
     empty_at (schema_of Earliest) shapes reals trees sound listed ordered (tree_of order_starts) (λ e. cc) (λ e. cc) refl refl refl,

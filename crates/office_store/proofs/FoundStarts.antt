@@ -160,7 +160,7 @@ starts_found Second shapes reals trees sound listed ordered rows = all_started [
 starts_found Third shapes reals trees sound listed ordered rows = all_started (site_text_table ∷ []) shapes reals trees sound listed ordered rows
 starts_found version shapes reals trees sound listed ordered rows = unstarted_found shapes reals trees listed ordered version refl sound
 
--- with no starts no beginning of validity is told
+-- no beginning of validity is told where there are no starts
 unstarted : (db : Trees) → (rows_in db order_starts ≡ []) × (rows_in db given_starts ≡ []) → AreUnstarted (tables_in db)
 unstarted db none = (
   all-map (λ o. o.row.not_before ≡ None) (with_order_start (rows_in db order_starts)) (sort_by order_cmp (map order_in_row (rows_in db orders)))
@@ -175,7 +175,7 @@ unstarted db none = (
       (sort_by given_cmp (map given_in_row (rows_in db given)))),
 )
 
--- so it is in a store that tells a version with the number 1, as the first
+-- a store that tells the number of the first version has no beginning of validity
 pub starts_of : (version : Version) (site : List ℕ) (db : Database) → IsFound version db
     → version ≢ Third → HasMeta version site db.trees → StaysUnstarted db.trees (tables_in db.trees)
 starts_of Second site db found earlier told other is = absurd (omega (arith, told_once First Second other site db.trees is told))

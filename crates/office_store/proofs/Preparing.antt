@@ -58,7 +58,7 @@ takes site db can older tells = subst (λ t. IsGrownFrom t site) (one_text can.0
 never_earlier : (own text : List ℕ) (db : Trees) → HoldsSite text db → TakesOwn own db
 never_earlier own text db tells version other earlier told = absurd (not_third version other (sha256 text) db earlier told tells.named)
 
--- so no beginning of validity can be there that the first has not
+-- a store of the third version isn't one of the first, whose tables have no beginning of validity
 never_first : (text : List ℕ) (db : Trees) (t : Tables) → HoldsSite text db → StaysUnstarted db t
 never_first text db t tells site told = absurd (not_third First site (sha256 text) db (λ e. cc) told tells.named)
 
@@ -66,7 +66,7 @@ never_first text db t tells site told = absurd (not_third First site (sha256 tex
 lists_schema : (version : Version) (db : Database) → IsFound version db → HasSchema (schema_of version) db.trees
 lists_schema version db found = subst (λ s. HasSchema s db.trees) found.schema found.sound
 
--- so it was a store, if it told of itself
+-- a database of a version was a store, if it told of itself
 store_of : (version : Version) (site : List ℕ) (db : Database) → IsFound version db → HasMeta version site db.trees → IsStore db.trees
 store_of version site db found told = (version, record { schema = lists_schema version db found; told = (site, told) })
 
@@ -271,7 +271,7 @@ module _ {S : Type 0} (g : Ghosts S) (site : TextOfSite) (old new : Held S) (cal
       before_test : HasCleanDisk (state g new) → HasCleanDisk (state g old)
       before_test = was_clean (state g old) (state g new) _ tests.crash
 
-    -- and it is
+    -- a store that has the text already is prepared as it is
     pub has_it : (answer : Bool) → IsTrue answer
         → Tests {E = Error} g old new (Ok answer) (λ db same. IsTrue same ↔ HoldsText site.text db)
         → PreparesTables g site old new (Ok tt)
@@ -301,7 +301,7 @@ module _ {S : Type 0} (g : Ghosts S) (site : TextOfSite) (old new : Held S) (cal
           crash = survives_weaker _ _ _ _ (λ clean db none. absurd none) tests.crash;
         }
 
-    -- or it couldn't be
+    -- a store that couldn't be asked for the text is refused by a failure
     pub not_asked : (error : Error)
         → Tests {A = Bool} g old new (Err error) (λ db same. IsTrue same ↔ HoldsText site.text db)
         → PreparesTables g site old new (Err Failed)

@@ -32,7 +32,7 @@ module _ {S : Type 0} (g : Ghosts S) (version : Version) (old : Held S) where
       inr (changes_then g old mid new tt (Ok tt) (λ x y _. IsRaised version at x y) (λ y z _. IsStep at y z) (λ x z _. IsRaised version next x z)
       so_far did (λ x y z _ p q. raised_on version at next fewer x y z p (q next is)))
 
-  -- and where none is left, what lacked is there
+  -- what lacked is there where no step is left
   pub all_reached : CanUpgrade version (state g old) → (at : Version) (new : Held S) → next_version at ≡ None → IsReached at new
       → SqlWrites {A = Unit {0}} {E = Error} g old new (Ok tt) (λ x y _. IsFilled version x y)
   all_reached can at new none (inl same) = absurd (can.earlier (sym same.1 ∙ is_last at none))

@@ -9,8 +9,7 @@ use Rattle.sqlite.specs.Store.{Ghosts}
 use Rattle.office_store.proofs.Types.{OpenFault, OtherSite, OtherTables, Failed, Meta, Version, Earliest, Early, First, Third}
 use Rattle.office_store.specs.Prelude.{AreStartsAsked, CanTake, Examines, HasOtherRows, HasOtherTables, IsFoundAt, IsOfOtherSite, IsOther, IsShownText}
 use Rattle.office_store.specs.Prelude.{IsGrownFrom, ShowsSame, TellsOther, result_of_test}
-use Rattle.office_found.specs.Prelude.{HasStarts, IsFound, Tests, meta_of_version, metas_in, IsMetaOf, HasMeta, ShowTexts}
-use Rattle.office_found.specs.Prelude.{number_of_version, schema_of}
+use Rattle.office_found.specs.Prelude.{HasStarts, IsFound, Tests, meta_of_version, metas_in, IsMetaOf, HasMeta, ShowTexts, number_of_version, schema_of}
 use Rattle.office_sql.proofs.Asked.{was_clean}
 use Rattle.office_found.proofs.FoundAsked.{rests_then, still_found}
 use Rattle.office_found.proofs.MetaShows.{no_site}
@@ -106,7 +105,7 @@ module _ {S : Type 0} (g : Ghosts S) (site : TextOfSite) where
     crash = it.crash;
   }
 
-  -- and one that is passed what follows
+  -- a test that is passed says what follows from what it says
   pub examines_weaker : (old new : Held S) (P Q : Database → Type 0) → Examines g site old new (Ok tt) P
       → (HasCleanDisk (state g old) → P (state g old).now → Q (state g old).now) → Examines g site old new (Ok tt) Q
   examines_weaker old new P Q it says = record {

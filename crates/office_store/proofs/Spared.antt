@@ -33,7 +33,7 @@ alone mixes log db is_log which history key contents is settled_now may =
 
 module _ {D : Type 0} {g : Ghosts D} (first : Files D) (image : Image) (same : image_of g first ≡ image)
     (only : (left : Image) → outcomes g first.log first.db left → left ≡ image) where
-  -- of what is left of an opening, by what the kit says of it
+  -- the files of what is left of an opening are spared, by what the kit says of it
   spared_by : (it : Leftover D g) → (IsCleanLeft it → LeavesFiles first it)
       → AreClean g (files_left it).0 (files_left it).1
       → (left : Image) → outcomes g (files_left it).0 (files_left it).1 left → IsSpared image left
@@ -72,7 +72,7 @@ module _ {D : Type 0} {g : Ghosts D} (first : Files D) (image : Image) (same : i
         found = (db, subst (λ i. AreFoundIn i db) same found.0, reads);
       } in r))))
 
-  -- and so of the files that it gives back
+  -- the files that an opening gives back are spared
   pub spared : (it : Leftover D g) (files : Files D) → (files.log, files.db) ≡ files_left it → (IsCleanLeft it → LeavesFiles first it)
       → AreClean g files.log files.db → (left : Image) → outcomes g files.log files.db left → IsSpared image left
   spared it files back leave clean left may =

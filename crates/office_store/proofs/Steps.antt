@@ -38,7 +38,7 @@ module _ (old new : Trees) (same : KeepsFirst 8 old new) where
       at_first later new table (omega (arith, low, first_eight later)) ∙ same table low
       ∙ sym (at_first version old table (omega (arith, low, first_eight version)))
 
-  -- and say what they said, if the beginnings of validity do
+  -- the tables say what they said, if the beginnings of validity do
   tables_same : (version later : Version) → with_order_start (rows_at later new order_starts) ≡ with_order_start (rows_at version old order_starts)
       → with_given_start (rows_at later new given_starts) ≡ with_given_start (rows_at version old given_starts)
       → tables_at later new ≡ tables_at version old
@@ -204,7 +204,7 @@ one_less = each_next (λ v n. steps_left n < steps_left v) (omega arith, omega a
 pub more_tables : (version next : Version) → next_version version ≡ Some next → count_of version ≤ count_of next
 more_tables = each_next (λ v n. count_of v ≤ count_of n) (omega arith, omega arith, omega arith, omega arith)
 
--- of an earlier version it is known which it is
+-- a version that is neither the third nor one with the number 1 is the second
 pub is_second : (version : Version) → version ≢ Earliest → version ≢ Early → version ≢ First → version ≢ Third → version ≡ Second
 is_second Earliest a b c d = absurd (a refl)
 is_second Early a b c d = absurd (b refl)

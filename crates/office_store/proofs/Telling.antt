@@ -12,7 +12,7 @@ schema_in : List Meta → ℕ
 schema_in [] = 0
 schema_in (m ∷ _) = m.schema
 
--- one version
+-- a store tells one version's number
 pub told_once : (version version2 : Version) (site other : List ℕ) (db : Trees)
     → HasMeta version site db → HasMeta version2 other db
     → number_of_version version ≡ number_of_version version2
@@ -23,7 +23,7 @@ site_in : List Meta → List ℕ
 site_in [] = []
 site_in (m ∷ _) = m.site
 
--- and one site
+-- a store tells one site
 pub site_once : (version version2 : Version) (site other : List ℕ) (db : Trees) → HasMeta version site db → HasMeta version2 other db → site ≡ other
 unfolding site_in
 site_once version version2 site other db one two = ap site_in (sym one ∙ two)
@@ -33,7 +33,7 @@ pub not_third : (version : Version) (site other : List ℕ) (db : Trees) → ver
 not_third Third site other db earlier one two = earlier refl
 not_third version site other db earlier one two = omega (arith, told_once version Third site other db one two)
 
--- and no version where there is no row
+-- a store without a row of meta tells no version
 pub not_silent : (version : Version) (site : List ℕ) (db : Trees) → metas_in db ≡ [] → HasMeta version site db → ⊥
 not_silent version site db silent told = let e = sym silent ∙ told in absurd (cc)
 
@@ -46,7 +46,7 @@ shown_tells text db meta rows it shown = record {
   named = subst (IsMetaOf (metas_in db)) shown.1 it.0;
 }
 
--- and those of a store that tells of a text show it
+-- the rows of a store that tells of a text show it, beside the row of meta that names it
 pub tells_shown : (text : List ℕ) (db : Trees) (meta : Option Meta) (rows : List Row)
     → IsMetaOf (metas_in db) meta × ShowTexts db rows → HoldsSite text db
     → IsShownText text rows meta

@@ -11,10 +11,10 @@ use Rattle.office_sql.proofs.Kit.{file_state, over_files, Database, HasCleanDisk
 use Rattle.office_sql.specs.Prelude.{tables_in}
 use Rattle.office_store.proofs.Types.{Absent, OpenFault, Failed, OtherSite, OtherTables}
 use Rattle.office_store.specs.declared.opening.Refused.{Refused}
-use Rattle.office_store.specs.Prelude.{AreTurnedAway, AreUnconnected, IsFoundAndTurnedAway, IsRefusal, IsUnopened}
+use Rattle.office_store.specs.Prelude.{AreTurnedAway, AreUnconnected, IsFoundAndTurnedAway, IsRefusal, IsUnopened, FilesHeld, HasOtherTables, HasTablesOf}
+use Rattle.office_store.specs.Prelude.{IsDatabaseThat, IsFoundOver, IsKept, IsOfOtherSite, IsOtherSchema, IsPreparedFor, IsSameOrPrepared, IsToldFor}
+use Rattle.office_store.specs.Prelude.{IsTurnedAway, IsUntouched, LacksStore}
 use Rattle.office_store.proofs.Opened.{held_before}
-use Rattle.office_store.specs.Prelude.{FilesHeld, HasOtherTables, HasTablesOf, IsDatabaseThat, IsFoundOver, IsKept, IsOfOtherSite, IsOtherSchema, IsPreparedFor}
-use Rattle.office_store.specs.Prelude.{IsSameOrPrepared, IsToldFor, IsTurnedAway, IsUntouched, LacksStore}
 
 -- what is made in the one transaction says what was said
 same_tables : (site : TextOfSite) (fault : OpenFault) (was now : Trees) → IsSameOrPrepared site fault was now → tables_in now ≡ tables_in was
@@ -61,7 +61,7 @@ module _ {D : Type 0} {g : Ghosts D} (image : Image) (absent : Absent) (site : T
         (λ lacks. not_tables (away.lacks lacks).0, λ other. not_tables (away.other_schema other));
   }
 
-  -- and leaves what was found, or what the one transaction makes of it
+  -- a connection that is turned away leaves what was found, or what the one transaction makes of it
   pub kept_for : ((db : Trees) → IsTrue (file_state conn).is_open → (file_state conn).may_leave db → db ≡ (file_state conn).committed.trees)
       → (rest : Image) → ∥ ((db : Trees) × (file_state left).may_leave db × HoldsDatabase rest db) ∥₁ → IsKept image site fault rest
   kept_for settled rest may =

@@ -43,13 +43,13 @@ pub record CanPrepareTables (s : State) : Type 0 where
   pub found : HasCleanDisk s → FindsVersion s.now
   pub bare : HasCleanDisk s → s.now.schema ≡ no_schema → IsNoStore s.now.trees
 
--- the same once its numbers were tested
+-- no transaction is under way, what was committed is shown, and the database is found to be one of this version
 pub record IsFoundAt (version : Version) (s : State) : Type 0 where
   pub mode : s.in_transaction ≡ false
   pub shows_committed : HasCleanDisk s → s.now ≡ s.committed
   pub found : HasCleanDisk s → IsFound version s.now
 
--- and once its addresses were: no two records have one
+-- no two records of the database have one address
 abbrev pub IsApartAt : State → Type 0
 IsApartAt s = HasCleanDisk s → HasApartAddresses s.now.trees
 
@@ -93,7 +93,7 @@ AreStartsAsked site Second db = HasMeta Second site db
 AreStartsAsked site Third db = ⊤
 AreStartsAsked site _ db = ⊥
 
--- and not each is told
+-- a store whose beginnings of validity are asked for doesn't tell each of them
 abbrev pub LacksStarts : List ℕ → Version → Trees → Type 0
 LacksStarts site version db = AreStartsAsked site version db × ¬ HasStarts db
 
@@ -153,7 +153,7 @@ IsUpgradedFor text before db =
 abbrev pub CanTake : SiteValue → Trees → Type 0
 CanTake site db = (text : List ℕ) × HoldsSite text db × IsGrownFrom text site
 
--- and each beginning of validity is told
+-- each beginning of validity is told, and the store told of a text of which the site is a growth
 abbrev pub IsGrowable : SiteValue → Database → Type 0
 IsGrowable site db = HasStarts db.trees × CanTake site db.trees
 
@@ -179,7 +179,7 @@ AreUnstarted t =
     AllByRecursion (λ o. o.row.not_before ≡ None) t.orders
     × AllByRecursion (λ g. g.row.not_before ≡ None) t.given
 
--- of a store of the first version there are none in these tables
+-- tables that come from a store of the first version have no beginning of validity
 abbrev pub StaysUnstarted : Trees → Tables → Type 0
 StaysUnstarted before t = (site : List ℕ) → HasMeta First site before → AreUnstarted t
 
@@ -237,7 +237,8 @@ LeavesAtMost site before after =
     (db : Trees) → after.may_leave db → before.may_leave db ⊎ IsPreparedFor site before db
 
 module _ {S : Type 0} (g : Ghosts S) where
-  -- the same of a connection that is handed back; a store that is handed back leaves what was left before
+  -- a connection that is handed back leaves at a crash what was left before, or what the one transaction makes;
+  -- a store that is handed back leaves what was left before
   abbrev pub HandedLeaves : TextOfSite → State → Handed S → Type 0
   HandedLeaves site before (handed.Connection c) = HasCleanDisk (state g c) → LeavesAtMost site before (state g c)
   HandedLeaves site before (handed.Store store) = (db : Trees) → g.recovers store db → before.may_leave db

@@ -3,7 +3,7 @@ use Rattle.std.specs.Prelude.{ℕ, Bool, true, false, Result, Ok, Err}
 use Rattle.office_store.specs.declared.fault.OpenFault.{OpenFault}
 use Rattle.office_store.specs.declared.fault.OpenFault.TheVariants.{OtherSite, OtherTables, Failed}
 
--- its number in the program's line
+-- the number of a fault in the program's line
 abbrev pub open_fault_number : OpenFault → ℕ
 open_fault_number OtherSite = 1
 open_fault_number OtherTables = 2

@@ -28,7 +28,7 @@ pub record CanGrow (s : State) : Type 0 where
   pub office : IsTrue s.is_open → IsOffice s.now
   pub told : IsTrue s.is_open → (text : List ℕ) × HoldsSite text s.now.trees
 
--- it was made, and was committed
+-- the growth of a store to a text was made, and was committed
 pub record HasGrown (text : List ℕ) (old new : State) : Type 0 where
   pub was_open : IsTrue old.is_open
   pub is_open : IsTrue new.is_open

@@ -38,14 +38,14 @@ pub record LacksOrderStarts (db : Database) : Type 0 where
   pub rows : AreRows IsOrderRow order_cmp order_in_row (rows_in db.trees orders)
   pub none : rows_in db.trees order_starts ≡ []
 
--- the same of records
+-- records in the second version, of none of which a beginning of validity is told
 pub record LacksGivenStarts (db : Database) : Type 0 where
   pub schema : db.schema ≡ schema_of Second
   pub rows : AreRows IsGivenRow given_cmp given_in_row (rows_in db.trees given)
   pub none : rows_in db.trees given_starts ≡ []
 
--- of each row it is told that it has no beginning of validity, and no other table of the second version
--- changes
+-- each row of the table has one start, which tells no beginning of validity, and no other table of the
+-- second version changes
 pub record GainsNone {A : Type 0} (is_for : A → Row → Bool) (value : Row → A) (table side : OfficeTable)
     (old new : Database) : Type 0 where
   pub schema : new.schema ≡ schema_of Second
@@ -54,7 +54,7 @@ pub record GainsNone {A : Type 0} (is_for : A → Row → Bool) (value : Row →
   pub silent : AllByRecursion (λ s. column s 3 ≡ Null) (rows_in new.trees side)
   pub others : KeepsFirstBut side (count_of Second) old.trees new.trees
 
--- of orders, and then of records
+-- each order, and then each record, is told to have no beginning of validity
 pub record GainsNoStart (old new : Database) : Type 0 where
   pub mid : Database
   pub orders : GainsNone starts_order order_in_row orders order_starts old mid
@@ -75,7 +75,7 @@ pub record PutsText (text : List ℕ) (old new : Database) : Type 0 where
   pub holds : HoldsText text new.trees
   pub others : SameBut texts old.trees new.trees
 
--- of the same site the third version is told where another was, and no other table changes
+-- meta tells the third version in place of the one that it told, and the same site; no other table changes
 pub record TellsThird (old new : Database) : Type 0 where
   pub schema : new.schema ≡ office_schema
   pub sound : IsDatabase new
@@ -104,7 +104,7 @@ pub record CanUpgrade (version : Version) (s : State) : Type 0 where
   pub told : Sees (λ db. TellsItself version db.trees) s
   pub started : number_of_version version ≢ 1 → Sees (λ db. HasStarts db.trees) s
 
--- it was made, and was committed
+-- the upgrade of a store was made, and was committed
 pub record IsUpgraded (version : Version) (text : List ℕ) (old new : State) : Type 0 where
   pub was_open : IsTrue old.is_open
   pub is_open : IsTrue new.is_open

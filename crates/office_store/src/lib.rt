@@ -1,4 +1,5 @@
-//! How a store of the office comes to have a keeper, and how that keeper ends.
+//! Opens a store of the office, which is made, tested, upgraded or given a new text as it needs,
+//! and closes it.
 //!
 //! A keeper wants a connection that is ready (`SqlKeep::over`). `adopt` makes such a one of any: it
 //! reads the store anew, makes the eleven tables of an empty one in one transaction, and tests those

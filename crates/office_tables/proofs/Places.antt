@@ -58,7 +58,7 @@ none_if true true up is = cc
 none_if true false up is = refl
 none_if false at up is = refl
 
--- and none of another
+-- a device takes no place of another order
 pub takes_no_other : (d : OfCustomer Device) (customer order : List ℕ)
     → (is_of customer d && bytes_eq order d.row.order) ≡ false
     → place_of_device customer order d ≡ 0

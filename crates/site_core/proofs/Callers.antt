@@ -84,7 +84,7 @@ list_any-seat_tokens digest [] = refl
 list_any-seat_tokens digest (seat ∷ seats) =
     rw (nat_list_eq_equiv.symm digest seat.token, list_any-seat_tokens digest seats)
 
--- and among those of all customers where one of them has such a seat
+-- a digest is among the tokens of all customers where one of them has a seat with it
 list_any-customer_tokens : (digest : List ℕ) (customers : List Section)
     → list_any (bytes_eq digest) (map (λ seat. seat.token) (flat_map (λ s. s.seats) customers)) ≡ list_any (has_seat_with digest) customers
 list_any-customer_tokens digest [] = refl

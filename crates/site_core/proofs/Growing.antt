@@ -65,7 +65,7 @@ growth_if_managed old new kept managed e all manager =
     let each = (kept_decided old.customers new.customers).0 (sym e ∙ all) in
     Decides-like managed (λ is. record { customers = each; manager = is }) (λ growth. growth.manager) manager
 
--- and did not where a customer isn't
+-- a site did not grow where a customer isn't kept
 pub no_growth : (old new : SiteValue) (kept : Bool) → kept ≡ are_kept old.customers new.customers → kept ≡ false → Decides kept (IsGrowth old new)
 no_growth old new kept e lacks =
     (λ all. absurd (both_ways kept lacks all), λ growth. e ∙ (kept_decided old.customers new.customers).1 growth.customers)

@@ -21,7 +21,7 @@ good-from_IsPool : (p : Pool) → IsPool p → is_bad_pool p ≡ false
 good-from_IsPool p is =
     ap not (cond_some (is_pool p.first p.count) (record { first = p.first; count = p.count }) p (pool_of-from_IsPool p is)).0
 
--- so are all
+-- pools of which none is bad are pools
 pub ArePools-from_good : (pools : List Pool) → list_any is_bad_pool pools ≡ false → AllByRecursion IsPool pools
 ArePools-from_good [] good = tt
 ArePools-from_good (p ∷ ps) good =

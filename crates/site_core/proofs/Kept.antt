@@ -49,7 +49,7 @@ issuer_kept old new issuer customer w growth is =
     ap (option_map (λ s. s.name)) (find-of_key (λ x. x) (λ s. s.issuers) new.customers kept.place issuer w.issuers kept.low there)
     ∙ ap Some (kept.keeps.name ∙ found.2)
 
--- so is a seat
+-- a seat of a customer is that customer's still
 seat_kept : (old new : SiteValue) (seat customer : List ℕ) → IsSite new → IsGrowth old new → (ownership_of old).seat seat ≡ Some customer
     → (ownership_of new).seat seat ≡ Some customer
 seat_kept old new seat customer w growth is =

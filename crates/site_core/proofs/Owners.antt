@@ -48,7 +48,7 @@ find-at_place p xs i d low passes before =
     let place = position_or_len_is p xs i d (omega arith) before (λ _. passes) in
     find_at p xs ∙ rw place (slice_get-get_or xs i d low)
 
--- of all customers, the first with an element of this key is the one at the place that holds the element
+-- the first of all customers with an element of this key is the one at the place that holds the element
 pub find-of_key : {A : Type 0} (key : A → List ℕ) (f : Section → List A) (customers : List Section) (i : ℕ) (x : A)
     → IsDistinct (λ x y. bytes_eq (key x) (key y)) (flat_map f customers) → i < length customers → Contains (f (section_in customers i)) x
     → find (λ s. list_any (λ own. bytes_eq (key x) (key own)) (f s)) customers ≡ Some (section_in customers i)

@@ -23,11 +23,11 @@ section_in customers place = slice_index_or customers place no_section
 abbrev pub section_at : SiteValue → SeatCaller → Section
 section_at site caller = section_in site.customers caller.customer
 
--- the seat
+-- the seat of a caller
 abbrev pub seat_of : SiteValue → SeatCaller → SeatOf
 seat_of site caller = slice_index_or (section_at site caller).seats caller.seat no_seat
 
--- its name
+-- the name of a caller's seat
 abbrev pub seat_name_at : SiteValue → SeatCaller → List ℕ
 seat_name_at site caller = (seat_of site caller).name
 

@@ -16,7 +16,7 @@ pub record IsGrowth (old new : SiteValue) : Type 0 where
   pub customers : All (λ s. Any (KeepsSection s) new.customers) old.customers
   pub manager : IfSome old.manager (λ token. new.manager ≡ Some token)
 
--- as a test, in the same words: seats of one name and one token
+-- the seats have one name and one token
 abbrev pub is_same_seat : SeatOf → SeatOf → Bool
 is_same_seat seat other = bytes_eq seat.name other.name && bytes_eq seat.token other.token
 

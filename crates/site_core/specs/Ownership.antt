@@ -16,7 +16,7 @@ pub record Ownership : Type 0 where
 abbrev pub has_seat : List ℕ → Section → Bool
 has_seat seat s = list_any (λ own. bytes_eq seat own.name) s.seats
 
--- by a site
+-- whose issuers, seats and pools are, by a site
 abbrev pub ownership_of : SiteValue → Ownership
 ownership_of site = record {
   customer = λ customer. is_some (find (λ s. bytes_eq customer s.name) site.customers);

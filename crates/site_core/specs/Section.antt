@@ -39,7 +39,7 @@ pools_of site = flat_map (λ s. s.pools) site.customers
 abbrev pub seats_of : SiteValue → List SeatOf
 seats_of site = flat_map (λ s. s.seats) site.customers
 
--- their names
+-- the names of the seats of all customers
 abbrev pub seat_names_of : SiteValue → List (List ℕ)
 seat_names_of site = map (λ seat. seat.name) (seats_of site)
 

@@ -33,7 +33,7 @@ pub fn read_site(alloc: Global, text: &str) -> Result<Site, SiteFault>
     ensures exact { GivesUnless SiteFault.OutOfMemory result (site_read text.now) }
     ensures valid { IfOk result (IsSiteText text.now) }
 
-    // Of a text with all its members the fault is that of a broken rule, and no lower rule is broken.
+    // The fault of a text with all its members is that of a broken rule, and no lower rule is broken.
     ensures lowest { IfErr result (λ fault. fault ≢ SiteFault.OutOfMemory
         → (site : SiteValue) → HasSiteMembers text.now site → IsLowestSiteFault fault site) }
 

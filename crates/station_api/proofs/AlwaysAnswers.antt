@@ -31,7 +31,7 @@ module _ (site : SiteValue) (t : Tables) (sound : IsSound (ownership_of site) t)
       → HasAnswer site caller t wanted
   told caller wanted reply served made = (reply, t, answers site caller wanted t reply t served made, served)
 
-  -- to what a seat asks
+  -- there is an answer to what a seat asks
   seat_answers : (caller : SeatCaller) (wanted : Result Parsed Refusal) → IsWithin of_seat wanted → HasAnswer site (Seat caller) t wanted
   seat_answers caller (Err reason) within = told (Seat caller) (Err reason) (refusal reason) within (refl, refl)
   seat_answers caller (Ok (Office request)) within =
@@ -41,7 +41,7 @@ module _ (site : SiteValue) (t : Tables) (sound : IsSound (ownership_of site) t)
   seat_answers caller (Ok Report) within = told (Seat caller) (Ok Report) (report_reply (order_report_in (section_at site caller).name t)) refl (refl, refl)
   seat_answers caller (Ok SiteReport) within = absurd within
 
-  -- and to what the manager asks
+  -- there is an answer to what the manager asks
   manager_answers : (wanted : Result Parsed Refusal) → IsWithin of_manager wanted → HasAnswer site Manager t wanted
   manager_answers (Err reason) within = told Manager (Err reason) (refusal reason) within (refl, refl)
   manager_answers (Ok SiteReport) within = told Manager (Ok SiteReport) (report_reply (site_report_in site t)) refl (refl, refl)

@@ -53,7 +53,7 @@ manager_same site wanted t reply t2 made = by (is_unavailable reply.status) want
     by false (Ok (Office request)) made = absurd made
     by false (Ok Report) made = absurd made
 
--- so what anybody is answered is one exchange or none
+-- what anybody is answered is one exchange or none
 exchange_runs : (site : SiteValue) (found : Option Caller) (r : HttpRequest) (t : Tables)
     (reply : Answer) (t2 : Tables) → AnswersAnyCaller site found r t reply t2
     → IsRun (exchange_any site found r reply) t t2
@@ -62,7 +62,7 @@ exchange_runs site (Some Manager) r t reply t2 made = manager_same site (parse_r
 exchange_runs site (Some (Seat caller)) r t reply t2 made =
     (t2, seat_passes site caller (parse_request of_seat r) t reply t2 made, refl)
 
--- and what all are answered is a run
+-- what all requests are answered is a run
 pub run_of : (site : SiteValue) (exchanges : List (HttpRequest × Answer)) (t t2 : Tables)
     → Runs (AnswersHttp site) t exchanges t2 → IsRun (exchanges_with_seats site exchanges) t t2
 run_of site [] t t2 run = run
@@ -123,7 +123,7 @@ module _ (site : SiteValue) (w : IsSite site) where
             (own_are site w place low exchanges) (promised.isolated (section_in site.customers place).name);
       }
 
--- and so they are from tables that were sound before the site grew
+-- the books are kept from tables that were sound before the site grew
 pub run_kept : (r : SiteRun) → StreamKeepsPromises r.site r.old r.exchanges r.new
 run_kept r =
     kept r.site r.is_site r.exchanges r.old r.new

@@ -20,7 +20,7 @@ module _ {K : Type 0} (k : Ghosts K) (s : ServedStore k) where
       → (stood : Tables) × IsLed k s.site s.opened s.ended s.exchanges s.begun stood
   leads_from stands honest = s.leads honest s.begun stands
 
-  -- and what is left tells of the text that was told of
+  -- what is left tells of the text that was told of
   pub kept_text : (k.is_open s.opened → k.tables s.opened ≡ s.begun) → KeepsText k.is_honest k.tells_text s.opened s.ended
   kept_text stands honest text told = (leads_from stands honest).1.answered.text honest text told
 
@@ -44,7 +44,7 @@ module _ {K : Type 0} (k : Ghosts K) (s : ServedStore k) where
         record { site = refl; begun = refl; exchanges = refl; stands = led.1.answered.stands; left = refl },
       )
 
-  -- and so has one that is open, whose tables stand
+  -- a store that is open has a life, which left the tables that stand
   pub open_life : (k.is_open s.opened → k.tables s.opened ≡ s.begun) → k.is_honest s.ended → k.is_open s.ended
       → (life : Life) × IsLifeOf s (k.tables s.ended) life × (life.more ≡ [])
   open_life stands honest up =
@@ -68,7 +68,7 @@ module _ {K : Type 0} (k : Ghosts K) (s : ServedStore k) where
 abbrev session_of : Life → Session
 session_of life = record { exchanges = exchanges_with_seats life.site life.exchanges; cut_off = None }
 
--- so lives are a run with stops
+-- lives are a run with stops
 lives_stopped : (lives : List Life) (t t2 : Tables) → AreLives t lives t2
     → IsStoppedRun (map session_of lives) (exchanges_of_lives lives) t t2
 lives_stopped [] t t2 are = (refl, are)
@@ -90,12 +90,12 @@ next_grown : (site : SiteValue) (lives : List Life) → AreGrown (site ∷ sites
 next_grown site [] grown = tt
 next_grown site (life ∷ lives) grown = owners_grown site life.site life.is_site grown.0
 
--- and so did those behind it
+-- where a site and those behind it grew in turn, those behind it did
 others_grown : (site : SiteValue) (lives : List Life) → AreGrown (site ∷ sites_of_lives lives) → AreGrown (sites_of_lives lives)
 others_grown site [] grown = tt
 others_grown site (life ∷ lives) grown = grown.1
 
--- so the callers of each life are seats of its site
+-- the callers of each life are seats of its site
 lives_sessions : (first : Ownership) (lives : List Life) → BeginGrown first (sites_of_lives lives) → AreGrown (sites_of_lives lives)
     → AreSessions first (map session_of lives) (last_owners first (sites_of_lives lives))
 lives_sessions first [] begun grown = growth_itself first
@@ -114,7 +114,7 @@ pub lives_run : (lives : List Life) (t t2 : Tables) → AreLives t lives t2 → 
 lives_run lives t t2 are =
     stopped_runs (map session_of lives) (exchanges_of_lives lives) t t2 (lives_stopped lives t t2 are)
 
--- of which all is promised
+-- all that is promised of a run is promised of lives
 pub lives_promised : (first : Ownership) (lives : List Life) (t t2 : Tables) → BeginGrown first (sites_of_lives lives)
     → AreGrown (sites_of_lives lives) → IsSound first t → AreLives t lives t2
     → Promises (last_owners first (sites_of_lives lives)) (exchanges_of_lives lives) t t2

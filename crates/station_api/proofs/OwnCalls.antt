@@ -25,7 +25,7 @@ own_here s seat wanted reply =
     let x : Exchange = exchange_of s seat wanted reply in
     ap (λ (b : Bool). cond (b && is_served x) (x ∷ []) []) (text_itself s.name s.name refl)
 
--- and one with a seat of a customer of another name isn't
+-- an exchange with a seat of a customer of another name isn't the customer's own
 own_elsewhere : (customer : List ℕ) (s : Section) (seat : List ℕ) (wanted : Result Parsed Refusal)
     (reply : Answer) → bytes_eq customer s.name ≡ false
     → filter (is_own customer) (exchange_of s seat wanted reply ∷ []) ≡ []
@@ -37,7 +37,7 @@ module _ (site : SiteValue) (w : IsSite site) (place : ℕ) (low : place < lengt
   abbrev mine : Section
   mine = section_in site.customers place
 
-  -- of the exchange with whoever sent a request
+  -- the exchange with whoever sent a request is the customer's own where the customer's section says so
   own_exchange : (r : HttpRequest) (reply : Answer)
       → filter (is_own mine.name) (exchange_any site (caller_at site r) r reply)
       ≡ filter is_served (section_exchange mine (seat_of_token mine r) r reply)
@@ -63,7 +63,7 @@ module _ (site : SiteValue) (w : IsSite site) (place : ℕ) (low : place < lengt
           ∙ own_here mine (seat_name site w place low found.0) (parse_request of_seat r) reply
           ∙ ap (λ (name : List ℕ). filter is_served (exchange_of mine name (parse_request of_seat r) reply ∷ [])) same
 
-  -- so of all of them
+  -- the customer's own exchanges are those that the customer's section says
   pub own_are : (exchanges : List (HttpRequest × Answer))
       → exchanges_of mine.name (exchanges_with_seats site exchanges) ≡ section_exchanges mine exchanges
   own_are [] = refl

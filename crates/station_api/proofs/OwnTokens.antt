@@ -77,7 +77,7 @@ manager_is digest (Some token) caller e = elim (bytes_eq token digest) as (λ b.
   | false ↦ λ e. cc
 ] e
 
--- so a caller who is a seat holds the token
+-- a caller who is a seat holds the token
 token_found : (site : SiteValue) (token : List ℕ) (caller : SeatCaller) → caller_of site token ≡ Some (Seat caller) → HoldsSeat site (sha256 token) caller
 token_found site token caller e = by (seat_caller_with (sha256 token) site.customers) refl e
   where
@@ -159,7 +159,7 @@ module _ (site : SiteValue) (w : IsSite site) (place : ℕ) (low : place < lengt
         s.name) site.customers w.names) after low
   ]
 
-  -- and a request that is not own is that of another customer's seat, of the manager or of nobody
+  -- a request that is not own is that of another customer's seat, of the manager or of nobody
   pub other_caller : (r : HttpRequest) → has_seat mine r ≡ false → (caller : Caller) → caller_at site r ≡ Some caller → IsOther site mine.name caller
   other_caller r apart Manager is = tt
   other_caller r apart (Seat caller) is = by_token (token_in_headers (headers_of r.head)) apart is

@@ -36,7 +36,7 @@ pub record IsLed {K : Type 0} (k : Ghosts K) (site : SiteValue) (old new : K) (e
   pub seats : AllByRecursion (IsSeat (ownership_of site)) (calls_of (exchanges_with_seats site exchanges))
   pub books : (first : Ownership) → OwnershipGrows first (ownership_of site) → IsSound first t → StreamKeepsPromises site t exchanges t2
 
--- so requests that were answered in turn do, where the keeper's disk is honest after them
+-- requests that were answered in turn lead from the tables that stood to those that stand, where the keeper's disk is honest after them
 abbrev pub Leads : {K : Type 0} → Ghosts K → SiteValue → K → K → List (HttpRequest × Answer) → Type 0
 Leads k site old new exchanges =
     k.is_honest new → (t : Tables) → Stands k.is_open k.tables old t → (t2 : Tables) × IsLed k site old new exchanges t t2

@@ -41,7 +41,7 @@ ParsedOrUnkept site caller wanted t reply t2 =
 abbrev pub AnswersKnownCaller : SiteValue → Caller → HttpRequest → Tables → Answer → Tables → Type 0
 AnswersKnownCaller site caller r t reply t2 = ParsedOrUnkept site caller (parse_request (kind_of_caller caller) r) t reply t2
 
--- and of any: a caller who isn't known is refused
+-- what a request of any caller is answered: a caller who isn't known is refused, and nothing changes
 abbrev pub AnswersAnyCaller : SiteValue → Option Caller → HttpRequest → Tables → Answer → Tables → Type 0
 AnswersAnyCaller site None r t reply t2 = (reply ≡ refusal UnknownToken) × (t2 ≡ t)
 AnswersAnyCaller site (Some caller) r t reply t2 = AnswersKnownCaller site caller r t reply t2
@@ -55,16 +55,17 @@ abbrev pub SaysRefusal : Result Parsed Refusal → Answer → Type 0
 SaysRefusal (Err reason) reply = (reply ≡ refusal reason) ⊎ (reply ≡ refusal Unkept)
 SaysRefusal (Ok parsed) reply = Unit {0}
 
--- the same by the caller, known or not
+-- what is known of the reply to a caller, whatever the store does: one who isn't known is refused,
+-- and a known one's request that is refused as it came gets its refusal or 503
 abbrev pub SaysAny : Option Caller → HttpRequest → Answer → Type 0
 SaysAny None r reply = reply ≡ refusal UnknownToken
 SaysAny (Some caller) r reply = SaysRefusal (parse_request (kind_of_caller caller) r) reply
 
--- and one without the token of a caller gets 401
+-- what is known of the reply to a request, whatever the store does: one without the token of a caller gets 401
 abbrev pub Says : SiteValue → HttpRequest → Answer → Type 0
 Says site r reply = SaysAny (caller_at site r) r reply
 
--- the same of the requests of a stream
+-- what is known of each reply of a stream, whatever the store does
 abbrev pub AreSaid : SiteValue → List (HttpRequest × Answer) → Type 0
 AreSaid site exchanges = AllByRecursion (λ exchange. Says site exchange.0 exchange.1) exchanges
 

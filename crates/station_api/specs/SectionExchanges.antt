@@ -46,7 +46,7 @@ abbrev pub exchange_asked : SiteValue → Caller → Result Parsed Refusal → A
 exchange_asked site (Seat caller) wanted reply = exchange_of (section_at site caller) (seat_name_at site caller) wanted reply ∷ []
 exchange_asked site Manager wanted reply = []
 
--- and one without the token of a caller is nobody's
+-- the exchange with whoever sent a request: without the token of a caller it is nobody's
 abbrev pub exchange_any : SiteValue → Option Caller → HttpRequest → Answer → List Exchange
 exchange_any site None r reply = []
 exchange_any site (Some caller) r reply = exchange_asked site caller (parse_request (kind_of_caller caller) r) reply

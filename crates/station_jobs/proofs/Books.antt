@@ -36,7 +36,7 @@ said_of_none (Ok site) failure Says given all = elim given [
 ]
 said_of_none (Err other) failure Says given all = tt
 
--- the same by the file, whose bytes were read
+-- what is said by a site is said by the file whose bytes were read to it
 pub books_read : {B E : Type 0} (name : Bor (List ℕ)) (items : B → List ℕ) (file : Result B E) (t : TextOfSite) (Says : TextOfSite → Type 0)
     → IfOk file (λ b. IsSiteOfFile name (items b) (Ok t)) → Says t
     → IfOk file (λ b. IfOk (site_in name (items b)) (λ site. Says (text_of_site (items b) site)))
@@ -44,7 +44,7 @@ books_read name items (Ok b) t Says read says =
     said_of_site (site_in name (items b)) t (items b) Says read.described read.text says
 books_read name items (Err error) t Says read says = tt
 
--- of what a job over a store leaves of its files
+-- what a job over a store leaves of its files is said by the file that the site was read from
 pub books_left : {B E A D : Type 0} {g : Ghosts D} (name : Bor (List ℕ)) (items : B → List ℕ) (file : Result B E) (t : TextOfSite)
     (image : Image) (path : List ℕ) (absent : Absent) (Led : SiteValue → Kept (FileStore D g) → Kept (FileStore D g) → Type 0)
     (result : Result A Failure) (files : LeftFiles D g)

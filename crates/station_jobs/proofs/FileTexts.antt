@@ -42,7 +42,7 @@ given_of_text failure_of none read found text r out memory is_text given is =
       | inr out_of_memory ↦ inr (same ∙ (ap (or_failure failure_of) out_of_memory ∙ ap Err memory))
     ]
 
--- the same of one part of what was read
+-- a part of what was read, with the fault of the whole passed on as a failure
 pub part_passed : {A B Fault : Type 0} (part : A → B) (failure_of : Fault → Failure) (r : Result A Fault) (out : Result A Failure)
     → MatchResult r (λ value. out ≡ Ok value) (λ fault. IsErrAnd out (λ failure. failure ≡ failure_of fault))
     → MatchResult (result_map part r) (λ value. result_map part out ≡ Ok value)

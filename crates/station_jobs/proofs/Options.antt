@@ -24,7 +24,7 @@ pub subcommand_added : (old sub new : Command) (above below : App) → AddsSubco
     → app_of old ≡ above → app_of sub ≡ below → app_of new ≡ with_subcommand above below.top
 subcommand_added old sub new above below adds local was is = adds.shape local ∙ ap₂ with_subcommand was (ap (λ (app : App). app.top) is)
 
--- and where memory may run out
+-- a command with a subcommand more, where memory may run out
 pub subcommand_added_last : {E : Type 0} (old sub : Command) (result : Result Command E) (above below : App) → IfOk result (AddsSubcommand old sub)
     → (fields_of sub).has_globals ≡ false → app_of old ≡ above → app_of sub ≡ below → IfOk result (λ new. app_of new ≡ with_subcommand above below.top)
 subcommand_added_last old sub (Ok new) above below adds local was is = subcommand_added old sub new above below adds local was is

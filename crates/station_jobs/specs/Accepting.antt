@@ -22,7 +22,7 @@ IsPassingNumber number =
 abbrev pub IsPassing : Error → Type 0
 IsPassing error = IsSomeAnd (raw_os_error error) IsPassingNumber
 
--- so long that what passes has failed
+-- accepting connections has failed: faults that may pass have lasted for a minute
 abbrev pub HasFailed : Instant → Instant → Type 0
 HasFailed failing_since now = 60 * 1_000_000_000 ≤ passed failing_since now
 

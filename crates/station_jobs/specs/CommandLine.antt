@@ -58,7 +58,7 @@ connections_rule = record (new_rule (codes "connections")) {
 abbrev pub books_app : App
 books_app = with_rule (with_rule (with_rule (new_app (codes "serve")) site_rule) required_db_rule) existing_rule
 
--- and `--port N --connections K`
+-- `serve --site F --db F [--existing] --port N --connections K`
 abbrev pub serve_app : App
 serve_app = with_rule (with_rule books_app port_rule) connections_rule
 

@@ -39,7 +39,7 @@ Leaves {g = g} site image path absent Leads result (Refused refused) =
     (result ≡ Err (StoreFault (open_fault_number refused.fault))) × IsRefusal g image absent site path refused
 Leaves site image path absent Leads result (Ended left) = IsServedOver site image absent Leads left
 
--- the same of a job whose site had to be read first, which memory may not suffice for: then no file was touched
+-- what a job over a store leaves of its files, where its site had to be read first: none was touched if memory didn't suffice for the site
 abbrev pub LeavesIfRead : {D A : Type 0} {g : Ghosts D} → TextOfSite → Image → List ℕ → Absent
     → (Kept (FileStore D g) → Kept (FileStore D g) → Type 0) → Result A Failure → Option (LeftFiles D g) → Type 0
 LeavesIfRead site image path absent Leads result (Some files) = Leaves site image path absent Leads result files

@@ -264,7 +264,7 @@ fn serve_command<'a>(alloc: Global) -> Result<Command<'a>, AllocError>
         .arg(connections_option(alloc))
 }
 
-/// The same without the options of its port.
+/// The subcommand `serve --site F --db F [--existing]`, without the options of its port.
 fn books_command<'a>(alloc: Global) -> Result<Command<'a>, AllocError>
     ensures shape { IfOk result (λ command. app_of command ≡ books_app) }
     ensures local { IfOk result (λ command. (fields_of command).has_globals ≡ false) }

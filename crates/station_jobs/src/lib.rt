@@ -1,5 +1,5 @@
-//! The jobs of the program: the words of its command line are read to a job, and a job is done over
-//! a reader and two writers.
+//! The jobs of the server's program: the words of its command line are read to a job, which is done
+//! over a reader and two writers, or over a port.
 //!
 //! `read_job` answers the job that the words give by `clap`'s meaning, and the line of the version
 //! where they ask for it; `run` ends with 0 and writes nothing on the error output, or with 1 and

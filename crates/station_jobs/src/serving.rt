@@ -61,7 +61,7 @@ pub fn serve_site<'a, S: Start, W: Write>(
     ensures no_site { IfOk file (λ bytes. IfErr (site_in name.entry bytes.items) (λ failure.
         (result.result ≡ Err failure) ⊎ (result.result ≡ Err Failure.NoMemory))) }
 
-    // With a site, what fails is memory, the store or the port.
+    // Once the site is read, what fails is memory, the store or the port.
     ensures failed { IfOk file (λ bytes. IfOk (site_in name.entry bytes.items) (λ _.
         IfErr result.result (λ failure. (failure ≡ Failure.NoMemory) ⊎ IsOfStore failure
         ⊎ IsOfPort failure))) }

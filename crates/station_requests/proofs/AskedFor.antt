@@ -47,7 +47,7 @@ within_bounds least greatest n (Some m) e = elim (nat_le least m
       | false ↦ λ _ e. cc
     ] refl e
 
--- and so does a member that is one
+-- a member that is a number of a range lies in it
 member_bounds : (name : List ℕ) (least greatest n : ℕ) (d : Data) → whole_member name least greatest d ≡ Some n → (least ≤ n) × (n ≤ greatest)
 member_bounds name least greatest n d e = within_bounds least greatest n (option_and_then as_u64 (option_and_then as_number (get name d))) e
 
@@ -71,7 +71,7 @@ order_within d =
       largest_macs = (member_bounds (codes "macs") 0 4 macs d macs_is).1;
     }))))))))
 
--- and so is the request for it
+-- the request for an order is within its ranges
 make_order_within : (d : Data) → IfSome (make_order_of d) IsAsked
 unfolding make_order_of
 make_order_within d = each_gives IsAsked (number_member d) _ (λ number _.
@@ -97,7 +97,7 @@ digest_length text digest e =
           ] refl
     ] e
 
--- so has the digest of a key that is wished for
+-- the digest of a key that is wished for has 32 bytes
 key_within : (found : Option (List ℕ)) → ((digest : List ℕ) → found ≡ Some digest → length digest ≡ 32) → IfSome (option_map want.Key found) HasDigest
 key_within None each = tt
 key_within (Some digest) each = each digest refl
@@ -128,7 +128,7 @@ IsWishWithin w = HasDigest w.want
 wish_within : (d : Data) → IfSome (wish_in d) IsWishWithin
 wish_within d = each_gives IsWishWithin (kind_of_wish d) _ (λ kind _. each_gives IsWishWithin (name_member (codes "field") d) _ (λ field _. each_gives IsWishWithin (want_of kind d) _ (λ w is. let all = want_within kind d in rw is at all)))
 
--- and so are all of a list
+-- the wishes of a list that was read are such
 all_within : (ds : List Data) → IfSome (all_of wish_in ds) (AllByRecursion IsWishWithin)
 all_within [] = tt
 all_within (d
@@ -146,7 +146,7 @@ act_within : (path : List ℕ) (members : Data) (action : Action) (d : Data) →
 unfolding act_of
 act_within path members action d is = each_gives IsAsked (number_member d) _ (λ number _. each_gives IsAsked (chip_member (codes "chip") d) _ (λ chip _. is))
 
--- and so is the one for a plan
+-- the request for a plan is within its ranges
 plan_device_within : (d : Data) → IfSome (plan_device_of d) IsAsked
 unfolding plan_device_of
 plan_device_within d = each_gives IsAsked (wishes_of d) _ (λ wishes is.
@@ -182,7 +182,7 @@ found_within : (found : Option Request) → IfSome found IsAsked → IsWithin of
 found_within None is_within = refl
 found_within (Some request) is_within = is_within
 
--- so is what was read of a body
+-- what was read of a body is within its ranges, or refused
 body_within : (posted : Posted) (body : List ℕ) → IsWithin of_seat (result_map Office (body_read posted body))
 body_within posted body = by (json_of body)
   where
@@ -192,12 +192,12 @@ body_within posted body = by (json_of body)
     by None = refl
     by (Some members) = found_within (request_of posted members) (request_within posted members)
 
--- and what was read of a query
+-- what was read of a query is within its ranges, or refused
 shown_within : (found : Option Show) → IsWithin of_seat (result_map Office (ok_or (option_map shows found) BadMember))
 shown_within None = refl
 shown_within (Some show) = tt
 
--- and so is whatever a path asks for
+-- whatever a path asks for is within its ranges, or refused
 route_within : (route : Option Route) (kind : CallerKind) (query body : List ℕ) → IsWithin kind (parse_on_route route kind query body)
 route_within None of_seat query body = refl
 route_within None of_manager query body = refl

@@ -131,7 +131,7 @@ order_lacks_float d n o nr order =
       ),
     ) refl
 
--- and neither are those of a map's import
+-- the named members of a map's import are no floats
 pub map_lacks_float : (d : Data) (n : ℕ) (text : List ℕ) → whole_member (codes "nr") 1 9007199254740991 d ≡ Some n → text_member (codes "text") d ≡ Some text
     → has_float (object (named_members map_members d)) ≡ false
 map_lacks_float d n text nr is = all_no_float map_members d no_members (whole_member_lacks (codes "nr") 1 9007199254740991 d n nr, (text_member_lacks (codes "text") d text is, tt)) refl
@@ -140,7 +140,7 @@ pub digests_lack_float : (blocks : List (List ℕ)) → items_have_float (items_
 digests_lack_float [] = refl
 digests_lack_float (block ∷ blocks) = digests_lack_float blocks
 
--- and neither are those of a registration, with the digests of its blocks in their place
+-- the named members of a registration are no floats, with the digests of its blocks in their place
 pub device_lacks_float : (d : Data) (n : ℕ) (o : NewDevice) → whole_member (codes "nr") 1 9007199254740991 d ≡ Some n → new_device_of d ≡ Some o
     → has_float (object (put (codes "blocks") (array (items_of (map block_digest o.blocks))) (named_members device_members d))) ≡ false
 unfolding new_device_of

@@ -21,7 +21,7 @@ use Rattle.station_requests.proofs.Members.{whole_member_lacks}
 pub act_members_lack : (d : Data) → LacksFloat d (codes "chip") → LacksFloat d (codes "nr") → members_have_float (named_members act_members d) ≡ false
 act_members_lack d chip nr = all_no_float act_members d no_members (chip, (nr, tt)) refl
 
--- and those of a read-back
+-- the named members of a read-back are no floats, with the digests of its blocks in their place
 pub read_back_lacks_float : (d : Data) (blocks : List (List ℕ)) → LacksFloat d (codes "chip") → LacksFloat d (codes "nr") → has_float (with_block_digests act_members d blocks) ≡ false
 read_back_lacks_float d blocks chip nr =
     in_put (codes "blocks") (array (items_of (map block_digest blocks))) (named_members act_members d) (digests_lack_float blocks) (act_members_lack d chip nr)
@@ -67,7 +67,7 @@ wishes_lack (d ∷ ds) ws named wishes is =
     (or_from (has_float first.0) (items_have_float (items_of others.0))
     (wish_lacks d w.0 first.0 w.1 first.1) (wishes_lack ds later.0 others.0 later.1 others.1))
 
--- and those of a plan
+-- the named members of a plan are no floats
 pub plan_lacks_float : (d : Data) (wishes : List Wish) (members : Data) → wishes_of d ≡ Some wishes → named_plan d ≡ Some members
     → LacksFloat d (codes "chip") → LacksFloat d (codes "nr") → has_float members ≡ false
 unfolding named_plan

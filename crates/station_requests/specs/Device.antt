@@ -23,7 +23,7 @@ use Rattle.station_requests.specs.Order.{only_value}
 abbrev pub word_of_text : List ℕ → Option ℕ
 word_of_text text = option_map (from_be_bytes w32) (result_ok (decode_sized text 4))
 
--- and of a JSON value that is such a text
+-- the word of a JSON value that is a text of eight hexadecimal digits
 abbrev pub word_of_data : Data → Option ℕ
 word_of_data d = option_and_then word_of_text (as_str d)
 

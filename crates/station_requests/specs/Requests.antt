@@ -134,7 +134,7 @@ parse_on_route (Some route) kind query body = parse_at_route route kind query bo
 abbrev pub parse_request : Kind → HttpRequest → Result Parsed Refusal
 parse_request kind r = parse_on_route (route_of r.head.method (path_of r.head.target)) kind (query_of r.head.target) r.body
 
--- such a caller may ask for this
+-- a caller of this kind may ask for this
 abbrev pub IsFor : Kind → Parsed → Type 0
 IsFor of_seat (Office request) = Unit {0}
 IsFor of_seat Report = Unit {0}

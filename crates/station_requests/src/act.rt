@@ -38,7 +38,8 @@ pub fn act_request(
     })
 }
 
-/// The same on the path of an action that asks for nothing but the chip.
+/// The request that a body asks for on the path of an action that asks for nothing but the chip, if the chip
+/// and its number are of their forms.
 pub fn end_request(
     alloc: Global,
     value: &Value,

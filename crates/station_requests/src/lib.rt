@@ -1,4 +1,4 @@
-//! What a request asks for: the caller's kind, the request's head and its body, as read.
+//! Reads what an HTTP request asks for, from the kind of its caller, its head and its body.
 //!
 //! `parse_command` is a function of the kind of a caller and of a request's head and body, with the
 //! lowest refusal of path, method, caller, JSON and members: the manager is refused on each path of

@@ -78,7 +78,7 @@ pub type Sent = (u64, &'static str, usize);
 pub enum Taking {
     /// Whole, each part after so many milliseconds.
     After(u64),
-    /// So many bytes at a time, and then no more for as long as the server waits.
+    /// This many bytes at a time, and then no more for as long as the server waits.
     AtMost(usize),
     /// It has gone.
     Gone,

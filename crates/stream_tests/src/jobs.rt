@@ -336,7 +336,8 @@ const ENDS: &[(&str, u8, &str)] = &[
     ),
 ];
 
-/// The same of `serve`, without its port, for a client that says nothing.
+/// Lines of words for `serve` without its port, the statuses that their jobs end with for a client that says
+/// nothing, and the lines on standard error.
 const ENDS_OF_PORTS: &[(&str, u8, &str)] = &[
     (
         "station serve --site ends.toml --db ends_of_port.db --connections 1",

@@ -141,7 +141,8 @@ const KEPT: &[(&str, &[Script], &str)] = &[
     ),
 ];
 
-/// The same of clients whose next requests are there already.
+/// What clients do whose next requests are there already, and what became of each: the statuses and lengths
+/// of the replies that it took, and when its connection was closed.
 const AT_ONCE: &[(&str, &[Script], &str)] = &[
     (
         "has sent its next requests already, and another comes",
@@ -193,7 +194,7 @@ const AT_ONCE: &[(&str, &[Script], &str)] = &[
     ),
 ];
 
-/// The same of clients that send their requests in parts.
+/// What clients do that send their requests in parts, and what became of each.
 const IN_PARTS: &[(&str, &[Script], &str)] = &[
     (
         "sends a request in two parts",
@@ -299,7 +300,7 @@ const IN_PARTS: &[(&str, &[Script], &str)] = &[
     ),
 ];
 
-/// The same of clients by how they take their replies, and of one with many of them.
+/// What clients do, by how they take their replies, or with many of them, and what became of each.
 const TAKING: &[(&str, &[Script], &str)] = &[
     (
         "takes nothing of its reply",

@@ -85,8 +85,8 @@ fn all_rows_and_copy<S: Alter>(
     Ok(shown)
 }
 
-/// The same of the database in the file of a name, which is closed. Before that its files are copied to another
-/// name, as a kill would leave them, unless there is none.
+/// Changes the database in the file of a name by SQL, and closes it: all that stands in it then. Before that its
+/// files are copied to another name, as a kill would leave them, unless there is none.
 pub fn rows_with_copy(rt: &HostRuntime, name: &str, sql: &str, copy: &str) -> Result<String, Fail> {
     let mut conn = Connection::open(rt, name)?;
     let shown = all_rows_and_copy(rt, &mut conn, sql, (name, copy));
@@ -96,7 +96,7 @@ pub fn rows_with_copy(rt: &HostRuntime, name: &str, sql: &str, copy: &str) -> Re
     Ok(shown)
 }
 
-/// The same without a copy.
+/// Changes the database in the file of a name by SQL, and closes it, without a copy: all that stands in it then.
 pub fn all_rows_in(rt: &HostRuntime, name: &str, sql: &str) -> Result<String, Fail> {
     rows_with_copy(rt, name, sql, "")
 }

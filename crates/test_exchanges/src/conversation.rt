@@ -44,7 +44,8 @@ pub fn serve_for<K: Keep>(
     Ok((served, writer))
 }
 
-/// The same for the sample site.
+/// Serves a stream that comes in pieces of `step` bytes for the sample site: how it ended, and what was
+/// written.
 pub fn serve<K: Keep>(
     alloc: Global,
     keep: &mut K,
@@ -76,7 +77,8 @@ pub fn difference_for<K: Keep>(
     Ok(found)
 }
 
-/// The same for the sample site.
+/// What the request of an exchange gets for the sample site where it isn't the reply that it must get:
+/// nothing where it is, and the stream ends with it.
 pub fn difference_over<K: Keep>(
     alloc: Global,
     keep: &mut K,
@@ -102,7 +104,8 @@ pub fn first_difference_for<K: Keep>(
     Ok(String::new(alloc))
 }
 
-/// The same for the sample site.
+/// Makes exchanges for the sample site, a stream for each: the first request that doesn't get its reply,
+/// and what it got.
 pub fn first_difference_of<K: Keep>(
     alloc: Global,
     keep: &mut K,

@@ -149,7 +149,7 @@ pub const OTHER_SITE: &str = "customer = []\n";
 /// A part of the sample site, what stands in its place when its store is next opened, and the number of the
 /// fault, 0 where there is none.
 pub const NEXT_TEXTS: &[(&str, &str, u8)] = &[
-    // The same text.
+    // The sample's own text.
     ("acme", "acme", 0),
     // A comment, an issuer, a pool, a seat and a customer more.
     ("[manager]", "# a comment\n[manager]", 0),

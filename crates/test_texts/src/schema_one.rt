@@ -198,7 +198,7 @@ a1 POST /v1/identity {"nr":42,"chip":"00000000000b","public_key":"02"}
   "not_after":"99991231235959Z","not_before":"20240229120000Z","serial":"D001"}
 "#;
 
-/// And what the books show of it.
+/// What the books show of orders once `GOES_ON` was asked for.
 pub const SHOWN_THEN: &str = r#"
 a1 GET /v1/order?name=with-macs
 200 {"first":9,"issuer":"acme-ca","mac":"020000000010","macs":1,"name":"with-macs","next":null,

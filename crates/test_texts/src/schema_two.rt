@@ -81,7 +81,7 @@ a1 POST /v1/identity {"nr":42,"chip":"00000000000c","public_key":"03"}
   "not_after":"99991231235959Z","not_before":"20240229120000Z","serial":"D002"}
 "#;
 
-/// And what the books show of it.
+/// What the books show of orders once `GOES_ON` was asked for.
 const SHOWN_THEN: &str = r#"
 a1 GET /v1/order?name=without
 200 {"first":9,"issuer":"acme-ca","mac":null,"macs":0,"name":"without","next":"B0014",

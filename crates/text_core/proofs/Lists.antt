@@ -57,12 +57,12 @@ pub all_of_next : {A B : Type 0} (f : A → Option B) (xs : List A) (i : ℕ) (x
 all_of_next f xs i x ys y low item all one =
     rw (take_more xs i x low) (all_of_push f (take i xs) (get_or xs i x) ys y all (ap f (sym item) ∙ one))
 
--- and its end, where an element is refused
+-- the end of a loop that reads each element, where one is refused
 pub all_of_end : {A B : Type 0} (f : A → Option B) (xs : List A) (i : ℕ) (x : A)
     → i < length xs → x ≡ get_or xs i x → f x ≡ None → all_of f xs ≡ None
 all_of_end f xs i x low item none = all_of_refused f xs i x low (ap f (sym item) ∙ none)
 
--- of elements seen through g
+-- reading elements that are seen through g
 pub all_of-map : {A B C : Type 0} (f : B → Option C) (g : A → B) (xs : List A) → all_of f (map g xs) ≡ all_of (λ x. f (g x)) xs
 all_of-map f g [] = refl
 all_of-map f g (x ∷ xs) = ap (λ rest. option_and_then (with_first rest) (f (g x))) (all_of-map f g xs)
@@ -75,7 +75,7 @@ all_of_more f g vs i v ys y low item all one =
     all_of-map f g (take (i + 1) vs)
     ∙ all_of_next (λ w. f (g w)) vs i v ys y low item (sym (all_of-map f g (take i vs)) ∙ all) one
 
--- and its end, where an element is refused
+-- the end of a loop that reads each element, seen through g, where one is refused
 pub all_of_stop : {A B C : Type 0} (f : B → Option C) (g : A → B) (vs : List A) (i : ℕ) (v : A)
     → i < length vs → v ≡ get_or vs i v → f (g v) ≡ None → all_of f (map g vs) ≡ None
 all_of_stop f g vs i v low item none = all_of-map f g vs ∙ all_of_end (λ w. f (g w)) vs i v low item none

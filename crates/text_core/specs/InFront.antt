@@ -8,7 +8,7 @@ use Rattle.text_core.specs.InPlace.{AreAtFront}
 pub length_again : {X : Type 0} (size : ℕ) (blank : X) (array : List X) (len : ℕ) → AreAtFront size blank array len → length (take len array) ≡ len
 length_again size blank array len h = length-take-le len array (omega (arith, h.room, h.within))
 
--- and with blanks behind them they are the array again
+-- the elements at the front of an array, with blanks behind them, are the array again
 pub array_again : {X : Type 0} (size : ℕ) (blank : X) (array : List X) (len : ℕ) → AreAtFront size blank array len
     → take len array ++ replicate (size - length (take len array)) blank ≡ array
 array_again size blank array len h =

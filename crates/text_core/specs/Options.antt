@@ -16,7 +16,7 @@ abbrev pub list_of_length : {A : Type 0} → ℕ → ℕ → List A → Option (
 list_of_length least greatest xs =
     if nat_le least (length xs) && nat_le (length xs) greatest then Some xs else None
 
--- of conditions, each with what it tells, what the first that holds tells
+-- what the first condition that holds tells; each condition comes with what it tells
 abbrev pub first_that_holds : {A : Type 0} → List (Bool × A) → Option A
 first_that_holds [] = None
 first_that_holds (c ∷ cs) = if c.0 then Some c.1 else first_that_holds cs

@@ -5,6 +5,6 @@ use Rattle.std.specs.Prelude.{ℕ, List, length, nat_le, replicate, Option, Some
 abbrev pub bytes_within : ℕ → List ℕ → Option (List ℕ)
 bytes_within room bytes = if nat_le (length bytes) room then Some bytes else None
 
--- as many zeros
+-- zeros, as many as `count`
 abbrev pub zeros : ℕ → List ℕ
 zeros count = replicate count 0

@@ -23,7 +23,7 @@ pub fn read_all<V, T: Drop, F: Fn(&V) -> Option<T>>(
     try_read_all(alloc, values, try_read)
 }
 
-/// The same of a `read` that takes memory.
+/// What a `read` that takes memory makes of each value, or `None` where it makes nothing of one of them.
 pub fn try_read_all<V, T: Drop, F: Fn(&V) -> Result<Option<T>, AllocError>>(
     alloc: Global,
     values: &[V],

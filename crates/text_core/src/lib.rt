@@ -1,4 +1,5 @@
-//! Small texts, columns of bytes, values in place and the reading of arrays, for each crate above.
+//! What the crates above share: small texts (names, serial numbers, chips, digests), short columns
+//! of bytes, and the reading of arrays.
 //!
 //! `Name`, `Prefix`, `Serial`, `Chip` and `Digest` are exactly the texts of their alphabets and
 //! lengths (`parse`), lie in place and take no memory; names, chips and digests are ordered as

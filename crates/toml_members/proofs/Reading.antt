@@ -32,7 +32,7 @@ module _ {A E : Type 0} (members : Data → Option A) (judge : A → Result A E)
       by None e = cc
       by (Some d) e = rw e refl
 
-  -- and a text that is judged to be something has them
+  -- a text that is judged to be something has all its members
   module _ (IsGood : A → Type 0)
       (good : (d : Data) (found x : A) → members d ≡ Some found → judge found ≡ Ok x
       → (found ≡ x) × IsGood x) where
@@ -70,7 +70,7 @@ module _ {A E : Type 0} (memory : E) (judged answer : Result A E)
       by (Ok x) (inr e) = cc
       by (Err fault) e = tt
 
-  -- or a fault, and then the text is nothing
+  -- a text of which a fault is told, and not want of memory, is nothing
   pub refused_from_exact : (Is : A → Type 0) → ((x : A) → Is x → judged ≡ Ok x)
       → IfErr answer (λ fault. fault ≢ memory → (x : A) → ¬ Is x)
   refused_from_exact Is read = by answer exact
@@ -81,7 +81,7 @@ module _ {A E : Type 0} (memory : E) (judged answer : Result A E)
       by (Err fault) (inl e) = λ other x is. let found = read x is in cc
       by (Err fault) (inr e) = λ other x is. other cc
 
-  -- and the fault is that of what the members make
+  -- the fault that is told is the lowest of what the members make
   pub lowest_from_exact : (Has : A → Type 0) (IsLowest : E → A → Type 0)
       → ((x : A) → Has x → (fault : E) → judged ≡ Err fault → IsLowest fault x)
       → IfErr answer (λ fault. fault ≢ memory → (x : A) → Has x → IsLowest fault x)

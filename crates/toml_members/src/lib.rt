@@ -1,4 +1,4 @@
-//! Texts as TOML documents, and the members of their tables.
+//! Reads texts as TOML documents, and the members of their tables.
 //!
 //! `read_document` gives the TOML document of a text, or that it is none, or want of memory. Each
 //! reader of a member is a function of that document.
@@ -160,7 +160,7 @@ pub fn read_all<T: Drop, F: Fn(&Value) -> Option<T>>(
     text_core::read_all(alloc, values, read)
 }
 
-/// The same of a `read` that takes memory.
+/// What a `read` that takes memory makes of each value, or `None` where it makes nothing of one of them.
 pub fn try_read_all<T: Drop, F: Fn(&Value) -> Result<Option<T>, AllocError>>(
     alloc: Global,
     values: &[Value],

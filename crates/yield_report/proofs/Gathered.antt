@@ -51,7 +51,7 @@ unfolding IsStrictlySortedBy
 lines_rise [] up = tt
 lines_rise (o ∷ orders) up = (lines_below o orders up.0, lines_rise orders up.1)
 
--- and so are their lines
+-- the lines of a customer's orders are in the order of their names
 pub lines_in_order : (customer : List ℕ) (rows : List (OfCustomer Order)) → IsInOrder order_cmp rows → AreInOrder (map first_line (rows_of customer rows))
 lines_in_order customer rows up =
     lines_rise (rows_of customer rows)

@@ -44,7 +44,7 @@ map_at {X} f xs i x within read others =
           get_or-map f xs k d d inside ∙ (others k d inside other ∙ sym (get_or-set_other xs i k (f x) d other))
     ])
 
--- and one that changes none
+-- a function that changes no element leaves the list as it was
 pub map_none : {X : Type 0} (f : X → X) (xs : List X) → ((k : ℕ) (d : X) → k < length xs → f (get_or xs k d) ≡ get_or xs k d) → map f xs ≡ xs
 map_none f xs same =
     same_lists (map f xs) xs (length-map xs f) (λ k d low.
@@ -168,7 +168,7 @@ sorted_strictly {X} {c} o xs (y ∷ ys) up moved sorted =
     less_from (c (get_or (y ∷ ys) k y) (get_or (y ∷ ys) (k + 1) y)) (c (get_or (y ∷ ys) (k + 1) y) (get_or (y ∷ ys) k y))
     (o.antisymm _ _) (sorted k y (omega arith) low) (apart_from_distinct (eq_by_cmp c) (y ∷ ys) k (k + 1) y differ (omega arith) low))
 
--- and is the list that it was
+-- a list in strict order that was sorted again is the list that it was
 pub sorted_again : {X : Type 0} {c : X → X → Ordering} → IsTotalOrder c → (xs ys : List X) → IsStrictlySortedBy c xs → IsPermutation xs ys
     → IsSortedBy (λ x y. is_lt (c x y)) ys → ys ≡ xs
 sorted_again {X} {c} o xs ys up moved sorted =

@@ -78,7 +78,7 @@ all_new : (first count : ℕ) → length (filter (λ (n : ℕ). true) (range_wit
 all_new first zero = refl
 all_new first (suc count) = ap suc (all_new (first + 1) count)
 
--- of the records whose serial numbers rise, as many are of the range as serial numbers of it are given
+-- as many records whose serial numbers rise are of the range as serial numbers of it are given
 pub left_count : (r : Range) → IsRange r → (last : Option (List ℕ)) (serials : List (List ℕ)) → AreRising last serials
     → length (filter (is_new serials r) (numbers r)) + length (filter (has_serial r) serials) ≡ r.quantity
 left_count r is last [] rising = let all = all_new r.first r.quantity in omega (arith, all)
@@ -109,7 +109,7 @@ pub given_is_listed : (issuer serial : List ℕ) (rows : List (OfCustomer Given)
 given_is_listed issuer serial [] = refl
 given_is_listed issuer serial (row ∷ rows) = grind (arith, nat_tests, given_is_listed issuer serial rows)
 
--- of two records of an issuer in order the first has the lesser serial number
+-- the first of two records of an issuer in order has the lesser serial number
 serials_less : (issuer : List ℕ) (a b : OfCustomer Given) → is_of_issuer issuer a ≡ true → is_of_issuer issuer b ≡ true → given_cmp a b ≡ Less
     → text_cmp a.row.serial b.row.serial ≡ Less
 serials_less issuer a b one other less =

@@ -34,7 +34,7 @@ with_state : (quantity left : ℕ) (f : ℕ → ℕ) (s : DeviceState) → with_
 with_state quantity left f Registered = refl
 with_state quantity left f _ = refl
 
--- and with all
+-- the numbers of an order with all of some devices more
 with_all : (o : Order) (left : ℕ) (before devices : List Device)
     → fold (λ y d. with_device d.state y) (yield_with o left before) devices ≡ yield_with o left (before ++ devices)
 with_all o left before [] = ap (yield_with o left) (sym (append-nil before))

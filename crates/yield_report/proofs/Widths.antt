@@ -93,7 +93,7 @@ below_least issuer serial (line ∷ lines) are =
 pub first_width : (issuer serial : List ℕ) (lines : List OrderLine) → AreLines lines → lines ≡ map (taken_below 1 issuer serial) lines
 first_width issuer serial lines are = below_least issuer serial lines (recursion_from_All IsLine lines are)
 
--- and each is below 10
+-- the width of each line is below 10
 below_largest : (width : ℕ) → 10 ≤ width → (issuer serial : List ℕ) (lines : List OrderLine) → AllByRecursion IsLine lines
     → map (taken_below width issuer serial) lines ≡ map (taken issuer (serial ∷ [])) lines
 below_largest width high issuer serial [] are = refl

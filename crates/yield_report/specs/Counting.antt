@@ -8,7 +8,7 @@ use Rattle.yield_report.specs.Counts.{Yield, column_count}
 abbrev pub state_place : DeviceState → ℕ
 state_place state = 1 + (state_row state).column
 
--- and where the serial numbers that are left stand
+-- where the serial numbers that are left stand among the numbers: behind the devices of all states
 abbrev pub left_place : ℕ
 left_place = column_count + 1
 
@@ -16,7 +16,7 @@ left_place = column_count + 1
 abbrev pub with_device : DeviceState → Yield → Yield
 with_device state y = slice_set y (state_place state) (slice_index y (state_place state) + 1)
 
--- the same, where the tables have room for its number
+-- the numbers with one more device in this state, if the tables have room for its count
 abbrev pub with_device_counted : DeviceState → Yield → Option Yield
 with_device_counted state y = option_map (slice_set y (state_place state)) (one_more (slice_index y (state_place state)))
 

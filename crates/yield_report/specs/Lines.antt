@@ -28,11 +28,11 @@ first_line o = record { name = o.name; issuer = o.issuer; range = o.range; numbe
 abbrev pub IsLine : OrderLine → Type 0
 IsLine line = IsRange line.range × AreStorable line.numbers
 
--- and so it is of each line
+-- the range of each line is one, and the tables have room for its numbers
 abbrev pub AreLines : List OrderLine → Type 0
 AreLines lines = All IsLine lines
 
--- by their names
+-- the order of lines: by their names
 abbrev pub names_cmp : OrderLine → OrderLine → Ordering
 names_cmp a b = text_cmp a.name b.name
 
@@ -40,7 +40,7 @@ names_cmp a b = text_cmp a.name b.name
 abbrev pub AreInOrder : List OrderLine → Type 0
 AreInOrder lines = IsStrictlySortedBy names_cmp lines
 
--- its line is added; or memory ran out, and the walk ends
+-- the line of an order is added to those gathered; or memory ran out, and the walk ends
 pub record GathersOrder (old : OrderScan) (row : OfCustomer Order) (goes_on : Bool) (new : OrderScan) : Type 0 where
   pub lines : goes_on ≡ true → new.lines.items ≡ old.lines.items ++ first_line row.row ∷ []
   pub are_lines : goes_on ≡ true → AreLines old.lines.items → AreLines new.lines.items
@@ -80,7 +80,7 @@ less count line = record line { numbers = with_less count line.numbers }
 abbrev pub taken : List ℕ → List (List ℕ) → OrderLine → OrderLine
 taken issuer serials line = if bytes_eq line.issuer issuer then less (count_of_range line serials) line else line
 
--- the same, of a line of this width alone
+-- the line once these serial numbers of an issuer are given, if its range is of this width
 abbrev pub taken_in : ℕ → List ℕ → List (List ℕ) → OrderLine → OrderLine
 taken_in width issuer serials line = if line.range.width == width then taken issuer serials line else line
 

@@ -8,7 +8,7 @@ use Rattle.office_tables.specs.Prelude.{text_cmp}
 use Rattle.yield_report.specs.declared.lines.OrderLine.{OrderLine}
 use Rattle.yield_report.specs.declared.places.Place.{Place}
 
--- by issuer, width, prefix and number
+-- the order of places: by issuer, width, prefix and number
 abbrev pub place_cmp : Place → Place → Ordering
 place_cmp a b =
     ordering_then (text_cmp a.issuer b.issuer)
@@ -29,7 +29,7 @@ last_place line = place_of line.issuer line.range (line.range.first + line.range
 abbrev pub is_begun : Place → OrderLine → Bool
 is_begun place line = not (is_gt (place_cmp (first_place line) place))
 
--- so many of the lines begin at the place or before it, the first ones
+-- the first `count` lines begin at the place or before it, and no later line does
 abbrev pub AreBegun : Place → List OrderLine → ℕ → Type 0
 AreBegun place lines count = IsPartitionPoint (λ line. is_begun place line ≡ true) (λ line. is_begun place line ≡ false) lines count
 

@@ -19,7 +19,8 @@ a1 GET /v1/ledger?chip=00000000000a
   "entries":[{"bits":[],"event":"registered","keys":{},"n":1,"note":"","seat":"a1"}]}
 "#;
 
-/// The same of a seat of another customer, whose chip has the same name.
+/// An order, its map, a blank chip and the chip's ledger, of a seat of another customer, whose chip has the same
+/// name.
 pub const BOLT: &str = r#"
 b1 POST /v1/order {"nr":1,"name":"o1","issuer":"bolt-ca","prefix":"B","width":3,"first":998,"quantity":2,"macs":0}
 200 {"first":998,"issuer":"bolt-ca","mac":null,"macs":0,"name":"o1","next":"B998","not_before":null,

@@ -12,7 +12,7 @@ use Rattle.office_store.proofs.adopting.test_earlier.Goals as goal
 abbrev Known : Version → TextOfSite → Database → Type 0
 Known version site db = IsFoundApart version db × HasMeta version (sha256 site.text) db.trees
 
--- and what both say
+-- what both tests say
 abbrev Whole : Version → TextOfSite → Database → Type 0
 Whole version site = IsTestedFor (sha256 site.text) version
 

@@ -11,7 +11,7 @@ use Rattle.office_store.proofs.adopting.test_third.Goals as goal
 abbrev Says : TextOfSite → Database → Type 0
 Says site db = IsFoundApart Third db × IsGrowable site.site db
 
--- and the first two
+-- what the first two tests say
 abbrev Whole : Database → Type 0
 Whole db = IsFoundApart Third db × HasStarts db.trees
 
