@@ -11,7 +11,7 @@ use Rattle.office_sql.proofs.Kit.{file_state, over_files, Database, HasCleanDisk
 use Rattle.office_sql.specs.Prelude.{tables_in}
 use Rattle.office_store.proofs.Types.{Absent, OpenFault, Failed, OtherSite, OtherTables}
 use Rattle.office_store.specs.declared.opening.Refused.{Refused}
-use Rattle.office_store.specs.Prelude.{AreTurnedAway, AreUnconnected, IsFoundAndTurnedAway, IsRefusal, IsUnopened, FilesHeld, HasOtherTables, HasTablesOf}
+use Rattle.office_store.specs.Prelude.{IsFoundAndTurnedAway, IsRefusal, IsUnopened, FilesHeld, HasOtherTables, HasTablesOf}
 use Rattle.office_store.specs.Prelude.{IsDatabaseThat, IsFoundOver, IsKept, IsOfOtherSite, IsOtherSchema, IsPreparedFor, IsSameOrPrepared, IsToldFor}
 use Rattle.office_store.specs.Prelude.{IsTurnedAway, IsUntouched, LacksStore}
 use Rattle.office_store.proofs.Opened.{held_before}

@@ -1,6 +1,6 @@
 //! The two ends of a connection: what its client sends, and what it is sent. They fail once the client
 //! has taken too long.
-ghost use Rattle.std.specs.Prelude.{◌≡◌, ◌⊎◌, ◌↔◌, ◌≤◌, ℕ, length, List, Option, IfSome, IsTrue, MatchResult, None};
+ghost use Rattle.std.specs.Prelude.{◌≡◌, ◌⊎◌, ◌↔◌, ◌≤◌, length, Option, IfSome, IsTrue, MatchResult, None};
 ghost use Rattle.std.specs.IoError.{error_kind};
 ghost use Rattle.http_frames.specs.Prelude.{MovesAtMost, ReadsBytes, WritesBytes};
 ghost use Rattle.station_jobs.specs.Prelude.{moved_or_failed};

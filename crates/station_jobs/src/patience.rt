@@ -1,5 +1,5 @@
 //! How long a connection may wait for its client, while others wait for it.
-ghost use Rattle.std.specs.Prelude.{◌≡◌, ◌↔◌, ◌*◌, ◌≤◌, IsTrue};
+ghost use Rattle.std.specs.Prelude.{◌↔◌, ◌≤◌, IsTrue};
 ghost use Rattle.std.specs.Duration.{as_nanos};
 ghost use Rattle.station_jobs.specs.Prelude.{AreOfProgram, GivesWay, IsOver, IsOutOfTime, IsTooLong, IsTurnOver, IsNextRead, MayLook};
 

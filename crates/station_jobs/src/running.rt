@@ -136,7 +136,7 @@ fn replay<'a, R: Source, W: Drain>(
     ensures no_site { IfOk file (λ bytes. IfErr (site_in name.entry bytes.items) (λ failure.
         (result ≡ Err failure) ⊎ (result ≡ Err Failure.NoMemory))) }
 
-    // With a site, what fails is memory.
+    // What fails where there is a site is memory.
     ensures failed { IfOk file (λ bytes. IfOk (site_in name.entry bytes.items) (λ _.
         IfErr result (λ failure. failure ≡ Failure.NoMemory))) }
 

@@ -60,7 +60,7 @@ pub fn replay_stored<'a, S: Start, R: Source, W: Drain>(
     ensures no_site { IfOk file (λ bytes. IfErr (site_in name.entry bytes.items) (λ failure.
         (result.result ≡ Err failure) ⊎ (result.result ≡ Err Failure.NoMemory))) }
 
-    // With a site, what fails is memory or the store.
+    // What fails where there is a site is memory or the store.
     ensures failed { IfOk file (λ bytes. IfOk (site_in name.entry bytes.items) (λ _.
         IfErr result.result (λ failure. (failure ≡ Failure.NoMemory) ⊎ IsOfStore failure))) }
 

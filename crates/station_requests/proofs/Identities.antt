@@ -18,7 +18,7 @@ identity_lacks_float d n i nr identity =
       (whole_member_lacks (codes "nr") 1 9007199254740991 d n nr, (text_member_lacks (codes "public_key") d text.0 text.1, tt)),
     ) refl
 
--- and neither do those of an import
+-- the members of an import hold no number with a fraction
 pub import_lacks_float : (d : Data) (n : ℕ) (i : NewImport) → whole_member (codes "nr") 1 9007199254740991 d ≡ Some n → new_import_of d ≡ Some i
     → has_float (object (named_members import_members d)) ≡ false
 unfolding new_import_of
