@@ -3,7 +3,6 @@ use Rattle.sqlite.specs.WalFiles.{image_at}
 use Rattle.station_jobs.specs.Prelude.{IsOfPort, IsOfStore}
 use Rattle.station_jobs.specs.declared.failure.Failure.TheVariants.{NoMemory}
 use Rattle.station_jobs.proofs.Books.{books_left, failing, of_any_site}
-use Rattle.station_jobs.proofs.Ending.{failing}
 use Rattle.station_jobs.proofs.Leading.{leads_for}
 use Rattle.station_jobs.specs.declared.failure.Failure.{Failure}
 use Rattle.station_jobs.specs.declared.stored.LeftFiles.TheVariants.{Ended, Refused}
@@ -12,8 +11,10 @@ use Rattle.station_jobs.proofs.serving.serve_site.Goals as goal
 pub returns-in-Err-open_limited-clause-books : goal.returns-in-Err-open_limited-clause-books
 returns-in-Err-open_limited-clause-books g c =
     books_left c.args.name (λ b. b.items) c.args.file c.in-Ok.site (image_at g.S.Start) c.args.store.name.now c.args.store.absent (λ _ _ _. Unit {0})
-    (Err c.store_failure.result) (Refused c.in-Err-open_limited.refused) c.in-Ok.ensures.read (ap Err c.store_failure.ensures,
-    c.in-Err-open_limited.ensures.refused)
+    (Err c.store_failure.result) (Refused c.in-Err-open_limited.refused) c.in-Ok.ensures.read (
+      ap Err c.store_failure.ensures,
+      c.in-Err-open_limited.ensures.refused,
+    )
 
 -- what fails with a site
 abbrev IsBehindSite : Failure → Type 0
