@@ -1,5 +1,5 @@
 -- What a refused request is answered: a status (RFC 9110, section 15) and a body with the refusal's name and number.
-use Rattle.std.specs.Prelude.{◌≡◌, ◌⊎◌, ◌+◌, ℕ, List, ◌++◌, ◌∷◌, codes, decimal}
+use Rattle.std.specs.Prelude.{◌≡◌, ◌⊎◌, ◌+◌, ℕ, List, [], ◌++◌, ◌∷◌, codes, decimal}
 use Rattle.http_replies.specs.declared.Status.{Status}
 use Rattle.http_replies.specs.declared.Status.TheVariants.{BadRequest, Unauthorized, Forbidden, NotFound, Conflict, Unprocessable, Unavailable}
 use Rattle.fuse_plan.specs.Prelude.{plan_fault_number}
@@ -13,37 +13,84 @@ use Rattle.office_commands.specs.declared.refusal.Refusal.TheVariants.{BadMap, B
 use Rattle.office_commands.specs.declared.refusal.Refusal.TheVariants.{CodingScheme, ForeignIssuer, ImportConflict, MapDigestTaken, Limit, BadReadback}
 use Rattle.office_commands.specs.declared.refusal.Refusal.TheVariants.{BadNotBefore, Unkept}
 
--- the number of a refusal: the faults of wishes have the numbers from 19 on
+-- the names of the faults of wishes
+abbrev pub plan_fault_name : PlanFault → List ℕ
+plan_fault_name UnknownField = codes "unknown_field"
+plan_fault_name UnmappedBit = codes "unmapped_bit"
+plan_fault_name ValueTooWide = codes "value_too_wide"
+plan_fault_name ClearsBurnt = codes "clears_burnt"
+plan_fault_name Contradiction = codes "contradiction"
+plan_fault_name WrongKind = codes "wrong_kind"
+plan_fault_name OtherKey = codes "other_key"
+plan_fault_name WriteProtected = codes "write_protected"
+plan_fault_name Hidden = codes "hidden"
+plan_fault_name NoLock = codes "no_lock"
+
+-- what there is to know of a refusal: its number, its status, which is Conflict where the books as they are stand against the request, and its name
+pub record RefusalRow : Type 0 where
+  pub number : ℕ
+  pub status : Status
+  pub name : List ℕ
+
+-- the row of each refusal: the faults of wishes have the numbers from 19 on
+abbrev pub refusal_row : Refusal → RefusalRow
+refusal_row UnknownToken = record { number = 6; status = Unauthorized; name = codes "unknown_token" }
+refusal_row UnknownPath = record { number = 7; status = NotFound; name = codes "unknown_path" }
+refusal_row WrongCaller = record { number = 8; status = Forbidden; name = codes "wrong_caller" }
+refusal_row BadJson = record { number = 9; status = BadRequest; name = codes "bad_json" }
+refusal_row BadMember = record { number = 10; status = BadRequest; name = codes "bad_member" }
+refusal_row (WrongNumber expected) = record { number = 11; status = Conflict; name = codes "wrong_number" }
+refusal_row OtherBody = record { number = 12; status = Conflict; name = codes "other_body" }
+refusal_row UnknownMap = record { number = 13; status = NotFound; name = codes "unknown_map" }
+refusal_row UnknownOrder = record { number = 14; status = NotFound; name = codes "unknown_order" }
+refusal_row UnknownDevice = record { number = 15; status = NotFound; name = codes "unknown_device" }
+refusal_row Exists = record { number = 16; status = Conflict; name = codes "exists" }
+refusal_row WrongState = record { number = 17; status = Conflict; name = codes "wrong_state" }
+refusal_row QuantityReached = record { number = 18; status = Conflict; name = codes "quantity_reached" }
+refusal_row (BadPlan fault) = record { number = 18 + plan_fault_number fault; status = Unprocessable; name = plan_fault_name fault }
+refusal_row (BadMap fault) = record { number = 29; status = Unprocessable; name = codes "bad_map" }
+refusal_row BadSerial = record { number = 30; status = Unprocessable; name = codes "bad_serial" }
+refusal_row NumberTooWide = record { number = 31; status = Unprocessable; name = codes "number_too_wide" }
+refusal_row Exhausted = record { number = 32; status = Conflict; name = codes "exhausted" }
+refusal_row NoMacRoom = record { number = 33; status = Conflict; name = codes "no_mac_room" }
+refusal_row RangeOverlap = record { number = 34; status = Conflict; name = codes "range_overlap" }
+refusal_row KeyBound = record { number = 35; status = Conflict; name = codes "key_bound" }
+refusal_row CodingScheme = record { number = 36; status = Unprocessable; name = codes "coding_scheme" }
+refusal_row ForeignIssuer = record { number = 37; status = Unprocessable; name = codes "foreign_issuer" }
+refusal_row (ImportConflict serial) = record { number = 38; status = Conflict; name = codes "import_conflict" }
+refusal_row MapDigestTaken = record { number = 39; status = Conflict; name = codes "map_digest_taken" }
+refusal_row Limit = record { number = 40; status = Conflict; name = codes "limit" }
+refusal_row BadReadback = record { number = 41; status = Unprocessable; name = codes "bad_readback" }
+refusal_row BadNotBefore = record { number = 42; status = Unprocessable; name = codes "bad_not_before" }
+refusal_row Unkept = record { number = 50; status = Unavailable; name = codes "unkept" }
+
+-- the number of a refusal
 abbrev pub refusal_number : Refusal → ℕ
-refusal_number UnknownToken = 6
-refusal_number UnknownPath = 7
-refusal_number WrongCaller = 8
-refusal_number BadJson = 9
-refusal_number BadMember = 10
-refusal_number (WrongNumber expected) = 11
-refusal_number OtherBody = 12
-refusal_number UnknownMap = 13
-refusal_number UnknownOrder = 14
-refusal_number UnknownDevice = 15
-refusal_number Exists = 16
-refusal_number WrongState = 17
-refusal_number QuantityReached = 18
-refusal_number (BadPlan fault) = 18 + plan_fault_number fault
-refusal_number (BadMap fault) = 29
-refusal_number BadSerial = 30
-refusal_number NumberTooWide = 31
-refusal_number Exhausted = 32
-refusal_number NoMacRoom = 33
-refusal_number RangeOverlap = 34
-refusal_number KeyBound = 35
-refusal_number CodingScheme = 36
-refusal_number ForeignIssuer = 37
-refusal_number (ImportConflict serial) = 38
-refusal_number MapDigestTaken = 39
-refusal_number Limit = 40
-refusal_number BadReadback = 41
-refusal_number BadNotBefore = 42
-refusal_number Unkept = 50
+refusal_number r = (refusal_row r).number
+
+-- the status of its reply
+abbrev pub refusal_status : Refusal → Status
+refusal_status r = (refusal_row r).status
+
+-- what a refusal tells between its name and its number
+abbrev pub told_before : Refusal → List ℕ
+told_before (WrongNumber expected) = codes ",\"expected\":" ++ decimal expected
+told_before (BadMap fault) = codes ",\"fault\":" ++ decimal fault
+told_before _ = []
+
+-- what it tells behind its number
+abbrev pub told_behind : Refusal → List ℕ
+told_behind (ImportConflict serial) = codes ",\"serial\":\"" ++ (serial ++ codes "\"")
+told_behind _ = []
+
+-- a body with a name, a number, and what else is told before and behind the number
+abbrev pub numbered_body : List ℕ → List ℕ → ℕ → List ℕ → List ℕ
+numbered_body name before number behind =
+    codes "{\"error\":\"" ++ (name ++ (codes "\"" ++ (before ++ (codes ",\"no\":" ++ (decimal number ++ (behind ++ codes "}"))))))
+
+-- the body of a refusal: its name, its number, and what else it tells
+abbrev pub refusal_body : Refusal → List ℕ
+refusal_body r = numbered_body (refusal_row r).name (told_before r) (refusal_row r).number (told_behind r)
 
 -- the body has the number as its member `no`, which a comma or the closing brace follows
 pub record TellsNumber (body : List ℕ) (number : ℕ) : Type 0 where
@@ -52,80 +99,3 @@ pub record TellsNumber (body : List ℕ) (number : ℕ) : Type 0 where
   pub rest : List ℕ
   pub told : body ≡ front ++ (codes "\"no\":" ++ (decimal number ++ next ∷ rest))
   pub ends : (next ≡ 44) ⊎ (next ≡ 125)
-
--- the status of a refusal: Conflict where the books as they are stand against the request
-abbrev pub refusal_status : Refusal → Status
-refusal_status UnknownToken = Unauthorized
-refusal_status UnknownPath = NotFound
-refusal_status WrongCaller = Forbidden
-refusal_status BadJson = BadRequest
-refusal_status BadMember = BadRequest
-refusal_status (WrongNumber expected) = Conflict
-refusal_status OtherBody = Conflict
-refusal_status UnknownMap = NotFound
-refusal_status UnknownOrder = NotFound
-refusal_status UnknownDevice = NotFound
-refusal_status Exists = Conflict
-refusal_status WrongState = Conflict
-refusal_status QuantityReached = Conflict
-refusal_status (BadPlan fault) = Unprocessable
-refusal_status (BadMap fault) = Unprocessable
-refusal_status BadSerial = Unprocessable
-refusal_status NumberTooWide = Unprocessable
-refusal_status Exhausted = Conflict
-refusal_status NoMacRoom = Conflict
-refusal_status RangeOverlap = Conflict
-refusal_status KeyBound = Conflict
-refusal_status CodingScheme = Unprocessable
-refusal_status ForeignIssuer = Unprocessable
-refusal_status (ImportConflict serial) = Conflict
-refusal_status MapDigestTaken = Conflict
-refusal_status Limit = Conflict
-refusal_status BadReadback = Unprocessable
-refusal_status BadNotBefore = Unprocessable
-refusal_status Unkept = Unavailable
-
--- the faults of wishes have the numbers from 19 on
-abbrev pub plan_fault_body : PlanFault → List ℕ
-plan_fault_body UnknownField = codes "{\"error\":\"unknown_field\",\"no\":19}"
-plan_fault_body UnmappedBit = codes "{\"error\":\"unmapped_bit\",\"no\":20}"
-plan_fault_body ValueTooWide = codes "{\"error\":\"value_too_wide\",\"no\":21}"
-plan_fault_body ClearsBurnt = codes "{\"error\":\"clears_burnt\",\"no\":22}"
-plan_fault_body Contradiction = codes "{\"error\":\"contradiction\",\"no\":23}"
-plan_fault_body WrongKind = codes "{\"error\":\"wrong_kind\",\"no\":24}"
-plan_fault_body OtherKey = codes "{\"error\":\"other_key\",\"no\":25}"
-plan_fault_body WriteProtected = codes "{\"error\":\"write_protected\",\"no\":26}"
-plan_fault_body Hidden = codes "{\"error\":\"hidden\",\"no\":27}"
-plan_fault_body NoLock = codes "{\"error\":\"no_lock\",\"no\":28}"
-
--- the body of a refusal: its name, its number, and what else it tells
-abbrev pub refusal_body : Refusal → List ℕ
-refusal_body UnknownToken = codes "{\"error\":\"unknown_token\",\"no\":6}"
-refusal_body UnknownPath = codes "{\"error\":\"unknown_path\",\"no\":7}"
-refusal_body WrongCaller = codes "{\"error\":\"wrong_caller\",\"no\":8}"
-refusal_body BadJson = codes "{\"error\":\"bad_json\",\"no\":9}"
-refusal_body BadMember = codes "{\"error\":\"bad_member\",\"no\":10}"
-refusal_body (WrongNumber expected) = codes "{\"error\":\"wrong_number\",\"expected\":" ++ (decimal expected ++ codes ",\"no\":11}")
-refusal_body OtherBody = codes "{\"error\":\"other_body\",\"no\":12}"
-refusal_body UnknownMap = codes "{\"error\":\"unknown_map\",\"no\":13}"
-refusal_body UnknownOrder = codes "{\"error\":\"unknown_order\",\"no\":14}"
-refusal_body UnknownDevice = codes "{\"error\":\"unknown_device\",\"no\":15}"
-refusal_body Exists = codes "{\"error\":\"exists\",\"no\":16}"
-refusal_body WrongState = codes "{\"error\":\"wrong_state\",\"no\":17}"
-refusal_body QuantityReached = codes "{\"error\":\"quantity_reached\",\"no\":18}"
-refusal_body (BadPlan fault) = plan_fault_body fault
-refusal_body (BadMap fault) = codes "{\"error\":\"bad_map\",\"fault\":" ++ (decimal fault ++ codes ",\"no\":29}")
-refusal_body BadSerial = codes "{\"error\":\"bad_serial\",\"no\":30}"
-refusal_body NumberTooWide = codes "{\"error\":\"number_too_wide\",\"no\":31}"
-refusal_body Exhausted = codes "{\"error\":\"exhausted\",\"no\":32}"
-refusal_body NoMacRoom = codes "{\"error\":\"no_mac_room\",\"no\":33}"
-refusal_body RangeOverlap = codes "{\"error\":\"range_overlap\",\"no\":34}"
-refusal_body KeyBound = codes "{\"error\":\"key_bound\",\"no\":35}"
-refusal_body CodingScheme = codes "{\"error\":\"coding_scheme\",\"no\":36}"
-refusal_body ForeignIssuer = codes "{\"error\":\"foreign_issuer\",\"no\":37}"
-refusal_body (ImportConflict serial) = codes "{\"error\":\"import_conflict\",\"no\":38,\"serial\":\"" ++ (serial ++ codes "\"}")
-refusal_body MapDigestTaken = codes "{\"error\":\"map_digest_taken\",\"no\":39}"
-refusal_body Limit = codes "{\"error\":\"limit\",\"no\":40}"
-refusal_body BadReadback = codes "{\"error\":\"bad_readback\",\"no\":41}"
-refusal_body BadNotBefore = codes "{\"error\":\"bad_not_before\",\"no\":42}"
-refusal_body Unkept = codes "{\"error\":\"unkept\",\"no\":50}"

@@ -3,11 +3,11 @@ ghost use Rattle.std.specs.Prelude.{◌≡◌, IfOk, option_map, string_bytes};
 ghost use Rattle.serde_json.specs.View.{view};
 ghost use Rattle.http_replies.specs.Prelude.{answer_of, bytes_of_body, kind_of_body};
 ghost use Rattle.http_replies.specs.declared.Kind.{Kind};
-ghost use Rattle.office_commands.specs.Prelude.{plan_fault_body, refusal_body, acceptance, refusal, text_data, mac_data, order_data, map_data};
+ghost use Rattle.office_commands.specs.Prelude.{refusal_body, acceptance, refusal, text_data, mac_data, order_data, map_data};
 ghost use Rattle.office_commands.specs.Replies as replies;
 
 use crate::Refusal;
-use fuse_plan::PlanFault;
+use crate::refusal::RefusalRow;
 use http_replies::{Body, Reply, Status};
 use id_ranges::{Mac, NotBefore};
 use office_tables::Order;
@@ -25,15 +25,26 @@ pub fn accepted(body: String) -> Reply
     }
 }
 
+/// The reply to what is refused by its name and its number alone.
+fn constant(row: RefusalRow) -> Reply
+    ensures { answer_of result ≡ record {
+      status = row.status;
+      kind = Kind.Json;
+      body = row.text.now;
+    } }
+{
+    Reply {
+        status: row.status,
+        body: Body::Constant(row.text),
+    }
+}
+
 /// The reply to a request that finds no memory or a failing store: status 503 with a constant. It
 /// takes no memory.
 pub fn unavailable() -> Reply
     ensures { answer_of result ≡ refusal Refusal.Unkept }
 {
-    Reply {
-        status: Status::Unavailable,
-        body: Body::Constant("{\"error\":\"unkept\",\"no\":50}"),
-    }
+    constant(Refusal::Unkept.row())
 }
 
 /// The reply to a request without the token of a caller: status 401 with a constant. It takes no
@@ -41,10 +52,7 @@ pub fn unavailable() -> Reply
 pub fn unknown_token() -> Reply
     ensures { answer_of result ≡ refusal Refusal.UnknownToken }
 {
-    Reply {
-        status: Status::Unauthorized,
-        body: Body::Constant("{\"error\":\"unknown_token\",\"no\":6}"),
-    }
+    constant(Refusal::UnknownToken.row())
 }
 
 /// The reply to a refused request. Only those that name a number or a serial number take memory.
@@ -57,71 +65,34 @@ pub fn refused(alloc: Global, reason: Refusal) -> Result<Reply, AllocError>
     })
 }
 
-/// What answers wishes that can't be burnt.
-fn plan_fault_text(fault: PlanFault) -> &'static str
-    ensures { result.now ≡ plan_fault_body fault }
-{
-    match fault {
-        PlanFault::UnknownField => "{\"error\":\"unknown_field\",\"no\":19}",
-        PlanFault::UnmappedBit => "{\"error\":\"unmapped_bit\",\"no\":20}",
-        PlanFault::ValueTooWide => "{\"error\":\"value_too_wide\",\"no\":21}",
-        PlanFault::ClearsBurnt => "{\"error\":\"clears_burnt\",\"no\":22}",
-        PlanFault::Contradiction => "{\"error\":\"contradiction\",\"no\":23}",
-        PlanFault::WrongKind => "{\"error\":\"wrong_kind\",\"no\":24}",
-        PlanFault::OtherKey => "{\"error\":\"other_key\",\"no\":25}",
-        PlanFault::WriteProtected => "{\"error\":\"write_protected\",\"no\":26}",
-        PlanFault::Hidden => "{\"error\":\"hidden\",\"no\":27}",
-        PlanFault::NoLock => "{\"error\":\"no_lock\",\"no\":28}",
-    }
-}
-
 fn refusal_text(alloc: Global, reason: Refusal) -> Result<Body, AllocError>
     ensures kind { IfOk result (λ body. kind_of_body body ≡ Kind.Json) }
     ensures text { IfOk result (λ body. bytes_of_body body ≡ refusal_body reason) }
 {
+    let RefusalRow {
+        number,
+        name,
+        text,
+        ..
+    } = reason.row();
     Ok(Body::Constant(match reason {
-        Refusal::UnknownToken => "{\"error\":\"unknown_token\",\"no\":6}",
-        Refusal::UnknownPath => "{\"error\":\"unknown_path\",\"no\":7}",
-        Refusal::WrongCaller => "{\"error\":\"wrong_caller\",\"no\":8}",
-        Refusal::BadJson => "{\"error\":\"bad_json\",\"no\":9}",
-        Refusal::BadMember => "{\"error\":\"bad_member\",\"no\":10}",
         Refusal::WrongNumber(expected) => {
             return Ok(Body::Json(format!(in alloc;
-                "{{\"error\":\"wrong_number\",\"expected\":{expected},\"no\":11}}"
+                "{{\"error\":\"{name}\",\"expected\":{expected},\"no\":{number}}}"
             )?));
         }
-        Refusal::OtherBody => "{\"error\":\"other_body\",\"no\":12}",
-        Refusal::UnknownMap => "{\"error\":\"unknown_map\",\"no\":13}",
-        Refusal::UnknownOrder => "{\"error\":\"unknown_order\",\"no\":14}",
-        Refusal::UnknownDevice => "{\"error\":\"unknown_device\",\"no\":15}",
-        Refusal::Exists => "{\"error\":\"exists\",\"no\":16}",
-        Refusal::WrongState => "{\"error\":\"wrong_state\",\"no\":17}",
-        Refusal::QuantityReached => "{\"error\":\"quantity_reached\",\"no\":18}",
-        Refusal::BadPlan(fault) => return Ok(Body::Constant(plan_fault_text(fault))),
         Refusal::BadMap(fault) => {
             return Ok(Body::Json(format!(in alloc;
-                "{{\"error\":\"bad_map\",\"fault\":{fault},\"no\":29}}"
+                "{{\"error\":\"{name}\",\"fault\":{fault},\"no\":{number}}}"
             )?));
         }
-        Refusal::BadSerial => "{\"error\":\"bad_serial\",\"no\":30}",
-        Refusal::NumberTooWide => "{\"error\":\"number_too_wide\",\"no\":31}",
-        Refusal::Exhausted => "{\"error\":\"exhausted\",\"no\":32}",
-        Refusal::NoMacRoom => "{\"error\":\"no_mac_room\",\"no\":33}",
-        Refusal::RangeOverlap => "{\"error\":\"range_overlap\",\"no\":34}",
-        Refusal::KeyBound => "{\"error\":\"key_bound\",\"no\":35}",
-        Refusal::CodingScheme => "{\"error\":\"coding_scheme\",\"no\":36}",
-        Refusal::ForeignIssuer => "{\"error\":\"foreign_issuer\",\"no\":37}",
         Refusal::ImportConflict(serial) => {
             let serial = serial.as_str();
             return Ok(Body::Json(format!(in alloc;
-                "{{\"error\":\"import_conflict\",\"no\":38,\"serial\":\"{serial}\"}}"
+                "{{\"error\":\"{name}\",\"no\":{number},\"serial\":\"{serial}\"}}"
             )?));
         }
-        Refusal::MapDigestTaken => "{\"error\":\"map_digest_taken\",\"no\":39}",
-        Refusal::Limit => "{\"error\":\"limit\",\"no\":40}",
-        Refusal::BadReadback => "{\"error\":\"bad_readback\",\"no\":41}",
-        Refusal::BadNotBefore => "{\"error\":\"bad_not_before\",\"no\":42}",
-        Refusal::Unkept => "{\"error\":\"unkept\",\"no\":50}",
+        _ => text,
     }))
 }
 
