@@ -4,7 +4,7 @@ ghost use Rattle.std.specs.Prelude.{IfSome};
 ghost use Rattle.fusemap_core.specs.Prelude.{IsFieldOf};
 
 use fusemap_core::{FieldId, FuseMap, MapFault, Pos, read_map};
-use map_shelf::NumberShelf;
+use fusemap_core::NumberShelf;
 use std::alloc::Global;
 use std::fmt::Write;
 use std::test::Fail;

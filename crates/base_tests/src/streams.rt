@@ -8,7 +8,7 @@ use http_frames::fields::{Occurrence, only_parameter, split_target};
 use http_frames::frame::Frame;
 use http_frames::memory::{Failing, Interrupted, Pieces, Written};
 use http_replies::{Body, Reply, Status};
-use http_serving::{Served, Service, serve_stream};
+use http_frames::{Served, Service, serve_stream};
 use std::alloc::{AllocError, Global};
 
 /// The most bytes that a call reads and that one writes, and the calls after which reading and

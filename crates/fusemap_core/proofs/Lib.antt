@@ -6,3 +6,6 @@ pub mod Pairs
 pub mod Ranges
 pub mod Reading
 pub mod Rules
+pub mod Brought
+pub mod NumberedMaps
+pub mod Places

@@ -2,4 +2,6 @@
 pub mod Map
 pub mod MapFaults
 pub mod MapText
+pub mod Numbers
+pub mod Recent
 pub mod Prelude

@@ -10,15 +10,30 @@
 //! fields can be it, each lock is a bit of its lock field, and a key field is a whole block with
 //! both locks. The readers (`field`, `field_at`, `write_lock`, `read_lock`, `is_governed`, ..) are
 //! those of the definitions, without memory.
+//!
+//! The fuse maps that were asked for last, by their texts or by numbers of their texts, so that a
+//! text is parsed once and not for each request.
+//!
+//! `MapShelf::find` gives the fuse map that a text describes, if it describes one, as `read_map`
+//! would. `NumberShelf::find` gives the map of a number where it has one: whatever map each number
+//! has, if those that were kept are those of their numbers. Which sixteen are kept is in the
+//! clauses too: what is found again comes before the others (`again`), and what is kept anew stands
+//! before the fifteen that were asked for last, or nothing changes, for want of memory (`kept`).
+//! That memory isn't always wanted is a test's; that a text that is kept isn't read again is in no
+//! contract.
 #![tactic(auto)]
 
 mod draft;
 mod fault;
 mod field;
 mod judge;
+mod kept_map;
 mod locks;
 mod map;
+mod numbered;
 mod pos;
+mod recent;
+mod shelf;
 mod text;
 
 pub use fault::MapFault;
@@ -26,3 +41,5 @@ pub use field::Field;
 pub use map::{BLOCK_LIMIT, FIELD_LIMIT, FieldId, FuseMap, WORD_LIMIT};
 pub use pos::Pos;
 pub use text::{TEXT_LIMIT, read_map};
+pub use numbered::NumberShelf;
+pub use shelf::{MapShelf, map_of_text};

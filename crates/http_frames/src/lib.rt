@@ -15,6 +15,19 @@
 //! length, its connection and its token, and what a target's query gives, are `read_body_size`,
 //! `is_close_asked`, `read_token` and `only_parameter`: the lowest of bad length, too large and
 //! transfer coding.
+//!
+//! Serves a stream of HTTP/1.1 requests: requests in, replies out (RFC 9112).
+//!
+//! `serve_stream` over any service, reader and writer has one clause (`run`): there is a list of
+//! exchanges, requests with their answers and refusals. Where the reader and the writer tell their
+//! bytes, the stream begins with these, and what was written is their replies' bytes, for each of
+//! the seven endings (`Tells`). Whatever they tell, the state changes by a step of the service for
+//! each of these requests in turn (`Runs`), and not at all where there is no memory for the buffer.
+//!
+//! It makes at most 16,777,216 calls of reader and writer, with `TurnLimit` only after that many,
+//! and `ReadFault` and `WriteFault` only where the reader or writer failed. Where the bytes end a
+//! stream, they decide its requests and refusals and how it ends, but for a rest that may be
+//! refused or cut off (`requests_are_unique`, `streams_are_determined`).
 #![tactic(auto)]
 
 pub mod buffer;
@@ -22,4 +35,8 @@ pub mod fields;
 pub mod frame;
 pub mod look;
 pub mod memory;
+pub mod send;
+mod serving;
 pub mod transfer;
+
+pub use serving::{Served, Service, requests_are_unique, streams_are_determined, serve_stream};

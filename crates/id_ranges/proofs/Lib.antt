@@ -8,3 +8,5 @@ pub mod Ranges
 pub mod ReservedStart
 pub mod Texts
 pub mod Times
+pub mod FirstRecords
+pub mod Tables

@@ -11,4 +11,6 @@ pub mod Range
 pub mod RangeFaults
 pub mod Serial
 pub mod SerialLaws
+pub mod Found
+pub mod Rows
 pub mod Prelude

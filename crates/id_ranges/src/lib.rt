@@ -18,6 +18,13 @@
 //! takes exactly the texts of 14 digits and a `Z` whose day the Gregorian calendar has (written out
 //! in `specs/Calendar`) and whose hour, minute and second are those of a day; it takes no memory. A
 //! `KeyDigest` is SHA-256 of a key's bytes.
+//!
+//! The text of an import: serial numbers of an issuer, each with the digest of the key that it is
+//! given with.
+//!
+//! `read_rows` gives the rows of an import's text as `csv` reads it, none where it is no import,
+//! and none of the rows where one has no serial number: exactly the header, 0 to 500 rows of two
+//! fields, digests of 64 hexadecimal digits. Want of memory aside.
 #![tactic(auto)]
 
 mod blocks;
@@ -30,6 +37,9 @@ mod mac;
 mod next;
 mod not_before;
 mod pool;
+mod read;
+mod records;
+mod rows;
 mod serial_range;
 
 pub use blocks::reserve;
@@ -43,3 +53,5 @@ pub use next::{next_serial, next_serial_from};
 pub use not_before::NotBefore;
 pub use pool::{LARGEST_POOL, MacPool};
 pub use serial_range::SerialRange;
+pub use read::{ROW_LIMIT, read_rows};
+pub use rows::{ImportRow, ImportRows};

@@ -1,7 +1,7 @@
 // The identities that a seat can ask for, and the serial numbers that it can import.
 
 use id_ranges::KeyDigest;
-use import_rows::ImportRows;
+use id_ranges::ImportRows;
 use text_core::{Chip, Name};
 
 /// A device that is to get its serial number, with the digest of its public key.

@@ -3,7 +3,7 @@ pub use Rattle.fuse_image.specs.declared.pending.Pending.{Pending}
 pub use Rattle.fuse_plan.specs.declared.fault.PlanFault.{PlanFault}
 pub use Rattle.fuse_plan.specs.declared.wish.Wish.{Wish}
 pub use Rattle.id_ranges.specs.declared.fault.RangeFault.{RangeFault}
-pub use Rattle.import_rows.specs.declared.rows.ImportRow.{ImportRow}
+pub use Rattle.id_ranges.specs.declared.rows.ImportRow.{ImportRow}
 pub use Rattle.office_commands.specs.declared.command.Action.{Action}
 pub use Rattle.office_commands.specs.declared.new_device.NewDevice.{NewDevice}
 pub use Rattle.office_commands.specs.declared.new_identity.NewIdentity.{NewIdentity}

@@ -2,7 +2,7 @@
 use Rattle.std.specs.Option.{option_map_or}
 use Rattle.std.specs.Prelude.{◌+◌, ◌++◌, ◌&&◌, ◌||◌, ℕ, not, Bool, false, List, [], ◌∷◌, map, Some, is_some, Result, if◌then◌else◌, bytes_eq}
 use Rattle.text_core.specs.Prelude.{result_map}
-use Rattle.import_rows.specs.declared.rows.ImportRow.{ImportRow}
+use Rattle.id_ranges.specs.declared.rows.ImportRow.{ImportRow}
 use Rattle.office_tables.specs.declared.rows.Write.{Write}
 use Rattle.office_tables.specs.declared.rows.Write.TheVariants.{AddGiven}
 use Rattle.office_rules.specs.Prelude.{ImportResult, row_of_import, is_conflict, is_present, with_import_row, IssuedIn}

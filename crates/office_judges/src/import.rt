@@ -9,7 +9,7 @@ use crate::records::row_of;
 use crate::row_verdicts::{RowVerdict, look_up};
 use crate::{Accepted, Judgement};
 use id_ranges::IdevidRecord;
-use import_rows::ImportRow;
+use id_ranges::ImportRow;
 use office_commands::{Change, NewImport, Refusal, import_body};
 use office_tables::{Given, Keep, OfCustomer, Unkept, Write};
 use site_core::Customer;

@@ -8,7 +8,7 @@ pub use Rattle.fuse_plan.specs.declared.wish.Want.{Want}
 pub use Rattle.fuse_plan.specs.declared.wish.Wish.{Wish}
 pub use Rattle.fusemap_core.specs.declared.fault.MapFault.{MapFault}
 pub use Rattle.fusemap_core.specs.declared.field.Field.{Field}
-pub use Rattle.import_rows.specs.declared.rows.ImportRow.{ImportRow}
+pub use Rattle.id_ranges.specs.declared.rows.ImportRow.{ImportRow}
 pub use Rattle.office_commands.specs.declared.command.Action.{Action}
 pub use Rattle.office_commands.specs.declared.command.Change.{Change}
 pub use Rattle.office_commands.specs.declared.command.Change.TheVariants.{Act, Identify, Import, ImportMap, MakeOrder, RegisterDevice}

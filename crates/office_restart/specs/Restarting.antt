@@ -11,7 +11,7 @@ use Rattle.site_core.specs.Prelude.{Ownership, OwnershipGrows, ownership_of, Tex
 use Rattle.office_tables.specs.Prelude.{Stands, Tables}
 use Rattle.office_laws.specs.Prelude.{IsSound, Exchange, IsRun, Promises, IsLeft, IsUnanswered, Leaves}
 use Rattle.office_store.specs.Prelude.{HasTablesOf}
-use Rattle.office_keep.specs.Prelude.{is_open_at, may_leave_at, tables_of, Kept}
+use Rattle.office_store.specs.Prelude.{is_open_at, may_leave_at, tables_of, Kept}
 use Rattle.office_found.specs.Prelude.{HoldsText}
 use Rattle.office_restart.specs.Crashing.{AreCrashed, LeaveStore}
 

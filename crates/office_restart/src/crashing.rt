@@ -4,7 +4,7 @@ ghost use Rattle.sqlite.specs.Files.{image_of, over_files};
 ghost use Rattle.sqlite.specs.Recovery.{Image};
 ghost use Rattle.sqlite_wal.specs.Files.{outcomes};
 ghost use Rattle.sqlite_wal.specs.Reads.{AreClean};
-ghost use Rattle.office_keep.specs.Prelude.{is_honest_at, may_leave_at};
+ghost use Rattle.office_store.specs.Prelude.{is_honest_at, may_leave_at};
 ghost use Rattle.office_restart.specs.Crashing.{AreCrashed, HaveCrashed, IsCrashed, LeaveStore};
 
 use office_store::{SqlKeep, into_store};

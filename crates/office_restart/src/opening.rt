@@ -7,7 +7,7 @@ ghost use Rattle.sqlite_wal.specs.Reads.{AreClean};
 ghost use Rattle.office_tables.specs.Prelude.{Tables};
 ghost use Rattle.office_store.specs.Prelude.{FilesHeld, HasTablesOf, IsOpenedFor};
 ghost use Rattle.office_store.specs.declared.opening.Absent.TheVariants.{Make};
-ghost use Rattle.office_keep.specs.Prelude.{is_honest_at, is_open_at, may_leave_at, tables_of};
+ghost use Rattle.office_store.specs.Prelude.{is_honest_at, is_open_at, may_leave_at, tables_of};
 
 use office_store::{Handed, OpenFault, SqlKeep, adopt};
 use site_core::SiteText;

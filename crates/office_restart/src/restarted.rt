@@ -6,7 +6,7 @@ ghost use Rattle.site_core.specs.Prelude.{IsGrowth, IsSeatCaller, PoolsDisjoint,
 ghost use Rattle.office_laws.specs.Prelude.{IsSeat};
 ghost use Rattle.office_core.specs.Prelude.{KeepsPromises, calls_in, exchanges_in};
 ghost use Rattle.sqlite_wal.specs.Reads.{AreClean};
-ghost use Rattle.office_keep.specs.Prelude.{is_honest_at};
+ghost use Rattle.office_store.specs.Prelude.{is_honest_at};
 ghost use Rattle.office_restart.specs.Restarting.{GoesOn, IsStopped};
 
 use crate::crashing::{Crashable, crash, crash_files};

@@ -31,3 +31,11 @@ mod RemakeRows
 mod RemakePuts
 mod Remakes
 mod Types
+pub mod ReadAnswers
+pub mod Committed
+pub mod DevicesPut
+pub mod KeyOrder
+pub mod MadeAnswers
+pub mod MapsStay
+pub mod Numbers
+mod KeepTypes

@@ -10,4 +10,10 @@ pub mod Refusing
 pub mod Steps
 pub mod Upgrading
 pub mod Remaking
+pub mod Kept
+pub mod Keeping
+pub mod Calls
+pub mod Counting
+pub mod Remembering
+pub mod Written
 pub mod Prelude

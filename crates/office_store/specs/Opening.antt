@@ -19,7 +19,7 @@ use Rattle.office_store.specs.declared.opening.Absent.{Absent}
 use Rattle.office_store.specs.declared.opening.Absent.TheVariants.{Refuse}
 use Rattle.office_store.specs.Adopting.{IsOtherSchema, IsPreparedFor, IsRefusedFor, IsTakenFor, IsUntouched}
 use Rattle.office_found.specs.Meta.{IsOurs}
-use Rattle.office_keep.specs.Kept.{Kept}
+use Rattle.office_store.specs.Kept.{Kept}
 use Rattle.office_store.specs.Stores.{IsTaken, LacksStore}
 
 -- these are the tables of the database that the files held, and of one that they recover to or, where they held none, of an empty one

@@ -21,7 +21,7 @@ use office_found::{
     META_ID, Meta, Version, has_apart_addresses, has_starts, has_text, has_whole_numbers,
     is_empty_schema, meta_row, only_text, told_rows, version_of,
 };
-use office_keep::SqlKeep;
+use crate::SqlKeep;
 use site_core::{Site, SiteFault, SiteText, read_site};
 use sqlite::{Alter, Connection, Error, Row};
 use std::alloc::Global;

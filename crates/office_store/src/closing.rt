@@ -3,10 +3,10 @@ ghost use Rattle.std.specs.Prelude.{◌≡◌};
 ghost use Rattle.sqlite.specs.Held.{state};
 ghost use Rattle.sqlite.specs.Tree.{Trees};
 ghost use Rattle.office_found.specs.Prelude.{IsOfSite};
-ghost use Rattle.office_keep.specs.Prelude.{is_honest_at, is_open_at};
+ghost use Rattle.office_store.specs.Prelude.{is_honest_at, is_open_at};
 ghost use Rattle.office_store.specs.Prelude.{IsLeftOf};
 
-use office_keep::SqlKeep;
+use crate::SqlKeep;
 use sqlite::{Alter, Connection, FileStore, Files};
 use sqlite_disk::Disk;
 

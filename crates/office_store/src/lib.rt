@@ -64,6 +64,15 @@
 //! Not said: that fault 3 comes only where the store or memory failed, nor that no file was opened
 //! where none comes back with it; that nothing is made at a path with no file, or one of no bytes,
 //! where no store is to be made.
+//!
+//! Keeps the tables of all customers in an SQL database.
+//!
+//! `SqlKeep` meets every clause of `Keep`, that on crashes included, over any store of the kit's
+//! `sqlite` whose connection is ready. While it lives, whatever a crash leaves is a store of its
+//! site that holds a text of that SHA-256 (`RemembersRight.left`, said by `into_connection`).
+//! `set_steps` sets the limit of steps and nothing else, and no other call changes it (`stays`).
+//!
+//! Not said: that a keeper reads less than it might.
 #![tactic(auto)]
 
 mod adopting;
@@ -72,16 +81,21 @@ mod create;
 mod ending;
 mod fault;
 mod grow;
+mod keep;
+mod maps;
 mod opening;
+mod places;
 mod remake;
+mod remembered;
 mod reread;
 mod starts;
 mod upgrade;
+mod written;
 
 pub use adopting::{Handed, adopt};
 pub use closing::{Closed, close};
 pub use ending::into_store;
 pub use fault::OpenFault;
-pub use office_keep::SqlKeep;
 pub use opening::{Absent, Refused, open, open_or_hand_back};
 pub use starts::{later_sites_are_growths, opened_stores_tell_their_text};
+pub use keep::SqlKeep;

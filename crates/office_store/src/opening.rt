@@ -14,7 +14,7 @@ ghost use Rattle.office_store.specs.declared.opening.Absent.TheVariants.{Refuse}
 use crate::adopting::prepare_tables;
 use crate::fault::OpenFault;
 use office_found::is_empty_schema;
-use office_keep::SqlKeep;
+use crate::SqlKeep;
 use site_core::SiteText;
 use sqlite::{Alter, Connection, FileFrom, FileStore, Files};
 use sqlite_disk::{Disk, Start};

@@ -3,8 +3,8 @@ use Rattle.std.specs.Prelude.{◌≡◌, ◌<◌, ℕ, List, length, Option}
 use Rattle.std.specs.List.{AllByRecursion}
 use Rattle.http_frames.specs.Prelude.{Request as HttpRequest}
 use Rattle.http_replies.specs.Prelude.{Answer}
-use Rattle.http_serving.specs.Prelude.{HttpExchange, requests_with_answers, Tells}
-use Rattle.http_serving.specs.declared.Served.{Served}
+use Rattle.http_frames.specs.Prelude.{HttpExchange, requests_with_answers, Tells}
+use Rattle.http_frames.specs.declared.serving.Served.{Served}
 use Rattle.text_core.specs.Prelude.{Runs}
 use Rattle.site_core.specs.Prelude.{section_in, PoolsDisjoint, Ownership, OwnershipGrows, ownership_of, SiteValue}
 use Rattle.office_tables.specs.Prelude.{Stands, Tables}

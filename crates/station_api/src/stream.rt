@@ -1,11 +1,11 @@
 // Serves a stream of a site's callers.
 ghost use Rattle.std.specs.Prelude.{◌≡◌};
-ghost use Rattle.http_serving.specs.Prelude.{HasCallsLeft, StaysWithinCalls};
+ghost use Rattle.http_frames.specs.Prelude.{HasCallsLeft, StaysWithinCalls};
 ghost use Rattle.station_api.specs.Prelude.{ServesOver};
 
 use crate::desk::Desk;
 use http_frames::transfer::{Drain, Source};
-use http_serving::Served;
+use http_frames::Served;
 use office_core::Keep;
 use office_core::site::Site;
 use std::alloc::Global;
@@ -43,5 +43,5 @@ pub fn serve_stream<K: Keep, R: Source, W: Drain>(
 {
     site.fact_rules();
     let desk = Desk { alloc, site };
-    http_serving::serve_stream(alloc, &desk, keep, reader, writer)
+    http_frames::serve_stream(alloc, &desk, keep, reader, writer)
 }

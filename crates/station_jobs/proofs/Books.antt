@@ -6,7 +6,7 @@ use Rattle.sqlite_disk.specs.declared.Disk.{Ghosts}
 use Rattle.sqlite_store.specs.declared.store.FileStore.{FileStore}
 use Rattle.site_core.specs.Prelude.{SiteValue, TextOfSite}
 use Rattle.text_core.specs.Prelude.{GivesUnless}
-use Rattle.office_keep.specs.Prelude.{Kept}
+use Rattle.office_store.specs.Prelude.{Kept}
 use Rattle.office_store.specs.declared.opening.Absent.{Absent}
 use Rattle.station_jobs.specs.Prelude.{IsSiteOfFile, Leaves, LeavesIfRead, site_in, text_of_site}
 use Rattle.station_jobs.specs.declared.stored.LeftFiles.{LeftFiles}

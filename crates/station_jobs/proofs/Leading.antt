@@ -3,7 +3,7 @@ use Rattle.std.proofs.Common.{◌≡◌, ℕ, Option, List, [], ◌∷◌, ◌++
 use Rattle.std.proofs.lemmas.Grind.{flat_map-append}
 use Rattle.http_frames.specs.Prelude.{Request}
 use Rattle.http_replies.specs.Prelude.{Answer}
-use Rattle.http_serving.specs.declared.Served.{Served}
+use Rattle.http_frames.specs.declared.serving.Served.{Served}
 use Rattle.text_core.proofs.MachineLemmas.{runs_both}
 use Rattle.office_laws.specs.Prelude.{Exchange, LeavesAfter}
 use Rattle.office_laws.proofs.Leaving.{leaves_joined, leaves_none}

@@ -7,7 +7,7 @@ use Rattle.sqlite.specs.Files.{file_state, over_files}
 use Rattle.sqlite.specs.Tree.{Trees}
 use Rattle.office_tables.specs.Prelude.{Tables}
 use Rattle.office_found.specs.Prelude.{HoldsSite}
-use Rattle.office_keep.specs.Prelude.{is_honest_at, Kept, may_leave_at, tells_text_at}
+use Rattle.office_store.specs.Prelude.{is_honest_at, Kept, may_leave_at, tells_text_at}
 use Rattle.office_store.specs.Prelude.{IsFoundSo, IsLeftOf, MayBeFound}
 use Rattle.office_store.specs.declared.closing.Closed.{Closed}
 use Rattle.office_store.specs.declared.closing.Closed.TheVariants.{Copied, Uncopied}

@@ -8,7 +8,7 @@ use Rattle.std.specs.Str.{is_utf8}
 use Rattle.std.specs.declared.io.Error.{Error}
 use Rattle.fusemap_core.specs.Prelude.{Map, map_read}
 use Rattle.fusemap_core.specs.declared.fault.MapFault.{MapFault}
-use Rattle.http_serving.specs.declared.Served.{Served}
+use Rattle.http_frames.specs.declared.serving.Served.{Served}
 use Rattle.site_core.specs.Prelude.{site_read}
 use Rattle.site_core.specs.declared.fault.SiteFault.{SiteFault}
 use Rattle.station_jobs.specs.Prelude.{EndsAs, IsOfFile, IsOfJob, IsOfSite, IsOfStream, IsTold, IsUnread, map_failure, map_of_file}

@@ -1,8 +1,8 @@
 -- What a stream over memory leads to, and which failures a store and a stream are.
 use Rattle.std.specs.Prelude.{◌≡◌, ℕ, List, Option, Err}
 use Rattle.text_core.specs.Prelude.{Runs}
-use Rattle.http_serving.specs.Prelude.{HttpExchange, Tells, requests_with_answers}
-use Rattle.http_serving.specs.declared.Served.{Served}
+use Rattle.http_frames.specs.Prelude.{HttpExchange, Tells, requests_with_answers}
+use Rattle.http_frames.specs.declared.serving.Served.{Served}
 use Rattle.office_laws.specs.Prelude.{IsSound}
 use Rattle.office_store.specs.Prelude.{open_fault_number}
 use Rattle.office_store.specs.declared.fault.OpenFault.{OpenFault}

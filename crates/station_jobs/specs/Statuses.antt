@@ -1,8 +1,8 @@
 -- The status that the program ends with, and the line that it writes where it failed.
 use Rattle.std.specs.Prelude.{ℕ, ◌≡◌, ◌≤◌, ◌++◌, List, codes, decimal, Option, Result, Ok, Err, string_bytes}
 use Rattle.std.specs.Io.KnownBytes.{Appends, Keeps}
-use Rattle.http_serving.specs.declared.Served.{Served}
-use Rattle.http_serving.specs.declared.Served.TheVariants.{Ended, Closed, Cut, ReadFault, WriteFault}
+use Rattle.http_frames.specs.declared.serving.Served.{Served}
+use Rattle.http_frames.specs.declared.serving.Served.TheVariants.{Ended, Closed, Cut, ReadFault, WriteFault}
 use Rattle.station_jobs.specs.declared.failure.Failure.{Failure}
 use Rattle.station_jobs.specs.declared.failure.Failure.TheVariants.{CannotRead, SiteFault, StoreFault, MapFault, ListenFailed, AcceptFailed}
 use Rattle.station_jobs.specs.declared.failure.Failure.TheVariants.{ReadFailed, WriteFailed, TurnLimit}

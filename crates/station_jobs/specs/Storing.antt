@@ -5,7 +5,7 @@ use Rattle.sqlite.specs.Recovery.{Image}
 use Rattle.sqlite_disk.specs.declared.Disk.{Ghosts}
 use Rattle.sqlite_store.specs.declared.store.FileStore.{FileStore}
 use Rattle.site_core.specs.Prelude.{TextOfSite}
-use Rattle.office_keep.specs.Prelude.{is_honest_at, Kept}
+use Rattle.office_store.specs.Prelude.{is_honest_at, Kept}
 use Rattle.office_store.specs.Prelude.{FilesHeld, IsLeftOf, IsOpenedFor, IsRefusal, open_fault_number}
 use Rattle.office_store.specs.declared.closing.Closed.{Closed}
 use Rattle.office_store.specs.declared.opening.Absent.{Absent}

@@ -1,7 +1,7 @@
 //! Does the jobs of the command line.
 ghost use Rattle.std.specs.Prelude.{◌≡◌, ◌≢◌, ◌≤◌, ◌⊎◌, ◌++◌, ◌∷◌, [], IfOk, IfErr, IsErrAnd, MatchResult, OnOk};
 ghost use Rattle.std.specs.Io.KnownBytes.{Appends, Keeps};
-ghost use Rattle.http_serving.specs.Prelude.{HasCallsLeft, StaysWithinCalls};
+ghost use Rattle.http_frames.specs.Prelude.{HasCallsLeft, StaysWithinCalls};
 ghost use Rattle.office_tables.specs.Prelude.{no_rows};
 ghost use Rattle.station_jobs.specs.Prelude.{EndsAs, IsOfJob, IsTold, IsUnread, map_line, map_of_file, Replays, result_of_ending, site_in, status_of};
 ghost use Rattle.text_core.specs.Prelude.{result_and_then};

@@ -4,7 +4,7 @@ ghost use Rattle.std.specs.Io.KnownBytes.{Appends, Keeps};
 ghost use Rattle.std.specs.Net.Addr.{ipv4_octets};
 ghost use Rattle.std.specs.Net.Socket.{v4_ip, v4_port};
 ghost use Rattle.sqlite.specs.WalFiles.{image_at};
-ghost use Rattle.office_keep.specs.Prelude.{is_honest_at};
+ghost use Rattle.office_store.specs.Prelude.{is_honest_at};
 ghost use Rattle.station_api.specs.Prelude.{ServesOver};
 ghost use Rattle.station_jobs.specs.Prelude.{AreOfProgram, IsUnread, IsOfPort, LeavesIfRead, LeadsOn, listening_line, IsOfStore, site_in, text_of_site};
 

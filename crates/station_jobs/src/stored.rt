@@ -1,7 +1,7 @@
 //! A store in a file: how it is opened, and a replay over it.
 ghost use Rattle.std.specs.Prelude.{◌≡◌, ◌⊎◌, IfOk, IfErr, IsErrAnd, IsOkAnd, MatchResult};
 ghost use Rattle.station_jobs.specs.Prelude.{IsUnread, IsOfStore, IsOpening, LeavesIfRead, site_in, text_of_site};
-ghost use Rattle.http_serving.specs.Prelude.{HasCallsLeft, StaysWithinCalls};
+ghost use Rattle.http_frames.specs.Prelude.{HasCallsLeft, StaysWithinCalls};
 ghost use Rattle.office_store.specs.Prelude.{IsRefusal, open_fault_number};
 ghost use Rattle.sqlite.specs.WalFiles.{image_at};
 ghost use Rattle.station_api.specs.Prelude.{ServesOver};

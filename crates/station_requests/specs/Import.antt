@@ -3,7 +3,7 @@ use Rattle.std.specs.Prelude.{ℕ, List, [], ◌∷◌, codes, Option, Some}
 use Rattle.serde_json.specs.Data.{Data, object}
 use Rattle.text_core.specs.Prelude.{◌>>=◌}
 use Rattle.station_requests.specs.Number.{number_member}
-use Rattle.import_rows.specs.Prelude.{import_rows_of}
+use Rattle.id_ranges.specs.Prelude.{import_rows_of}
 use Rattle.json_members.specs.Prelude.{name_member, text_member}
 use Rattle.office_commands.specs.declared.new_identity.NewImport.{NewImport}
 use Rattle.office_commands.specs.declared.command.Request.{Request}

@@ -5,7 +5,7 @@ ghost use Rattle.station_requests.specs.Prelude.{import_of, new_import_of, Reads
 use crate::digest::{named_members, request_digest};
 use crate::fault::MemberFault::{self, BadMember};
 use crate::number::number_member;
-use import_rows::read_rows;
+use id_ranges::read_rows;
 use json_members::{name_member, text_member};
 use office_commands::{Change, Command, NewImport, Request};
 use serde_json::Value;

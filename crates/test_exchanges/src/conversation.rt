@@ -1,6 +1,6 @@
 //! Conversations that are held with the server over a keeper.
 ghost use Rattle.std.specs.Prelude.{◌<◌};
-ghost use Rattle.http_serving.specs.Prelude.{HasCallsLeft};
+ghost use Rattle.http_frames.specs.Prelude.{HasCallsLeft};
 
 use http_frames::memory::{Pieces, Written};
 use office_core::Keep;

@@ -1,5 +1,5 @@
 use Rattle.std.proofs.Common.{◌≡◌, ◌+◌, ◌++◌, ◌∙◌, [], ◌∷◌, sym, ap, arith, rules, List, drop}
-use Rattle.import_rows.specs.declared.rows.ImportRow.{ImportRow}
+use Rattle.id_ranges.specs.declared.rows.ImportRow.{ImportRow}
 use Rattle.office_tables.proofs.Reading.{reads_more}
 use Rattle.office_rules.specs.Prelude.{import_result, issued_in}
 use Rattle.office_judges.specs.Prelude.{resumed, with_rows, verdict_of_row}

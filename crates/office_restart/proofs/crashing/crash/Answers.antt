@@ -1,6 +1,6 @@
 use Rattle.std.proofs.Common.{subst}
 use Rattle.sqlite_wal.specs.Reads.{AreClean}
-use Rattle.office_keep.specs.Prelude.{may_leave_at}
+use Rattle.office_store.specs.Prelude.{may_leave_at}
 use Rattle.sqlite.specs.Files.{over_files}
 use Rattle.office_store.proofs.ClosedFiles.{is_clean}
 use Rattle.office_restart.proofs.Crashed.{left_of_store}

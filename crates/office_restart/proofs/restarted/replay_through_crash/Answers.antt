@@ -4,7 +4,7 @@ use Rattle.sqlite.specs.Files.{image_of, over_files}
 use Rattle.site_core.specs.Prelude.{ownership_of}
 use Rattle.site_core.proofs.Kept.{owners_grown}
 use Rattle.office_core.specs.Prelude.{exchanges_in}
-use Rattle.office_keep.specs.Prelude.{tables_of}
+use Rattle.office_store.specs.Prelude.{tables_of}
 use Rattle.office_restart.proofs.OneRun.{one_run, seats_of}
 use Rattle.office_restart.proofs.restarted.replay_through_crash.Goals as goal
 

@@ -4,7 +4,7 @@ use Rattle.sqlite.specs.Files.{over_files}
 use Rattle.sqlite_wal.specs.Reads.{AreClean}
 use Rattle.office_core.specs.Prelude.{exchanges_in}
 use Rattle.office_laws.specs.Prelude.{Leaves}
-use Rattle.office_keep.specs.Prelude.{tables_of}
+use Rattle.office_store.specs.Prelude.{tables_of}
 use Rattle.office_store.proofs.ClosedFiles.{is_clean}
 use Rattle.office_restart.proofs.Crashed.{left_of_store}
 use Rattle.office_restart.proofs.restarted.replay_until_stop.Goals as goal

@@ -1,7 +1,7 @@
 -- What a crash leaves opens again, as the kit's store says, and the keeper says what that is.
 use Rattle.text_core.proofs.Kit.{arith, subst, ∥∥₁_map}
 use Rattle.office_sql.proofs.Kit.{over_files, HoldsDatabase, Trees, HasCleanDisk, state, opens_again}
-use Rattle.office_keep.specs.Prelude.{may_leave_at}
+use Rattle.office_store.specs.Prelude.{may_leave_at}
 use Rattle.office_found.specs.Prelude.{HoldsSite, IsOfSite}
 use Rattle.office_store.proofs.ending.into_store.Goals as goal
 

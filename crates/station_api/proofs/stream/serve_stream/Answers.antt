@@ -1,4 +1,4 @@
-use Rattle.http_serving.specs.Prelude.{requests_with_answers}
+use Rattle.http_frames.specs.Prelude.{requests_with_answers}
 use Rattle.station_api.specs.Prelude.{Says, AnswersHttp, exchange_in}
 use Rattle.station_api.proofs.KeptRuns.{led}
 use Rattle.station_api.proofs.Streaming.{runs_honest, runs_said, runs_tables, runs_text}

@@ -3,7 +3,7 @@ use Rattle.text_core.proofs.Kit.{∥∥₁_map}
 use Rattle.sqlite.specs.Files.{over_files}
 use Rattle.site_core.specs.Prelude.{IsGrowth, SiteValue}
 use Rattle.site_core.proofs.Reading.{read-from_IsSiteText}
-use Rattle.office_keep.specs.Prelude.{tables_of}
+use Rattle.office_store.specs.Prelude.{tables_of}
 use Rattle.office_store.specs.Prelude.{TakesGrowth}
 use Rattle.station_jobs.proofs.LeftFiles.{left_clean, left_told}
 use Rattle.station_jobs.proofs.lives.later_starts_are_of_growths.Goals as goal

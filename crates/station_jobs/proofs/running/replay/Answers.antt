@@ -1,5 +1,5 @@
 use Rattle.std.proofs.Common.{◌≡◌, Err, IfErr, Result, rules, sym, subst}
-use Rattle.http_serving.specs.declared.Served.{Served}
+use Rattle.http_frames.specs.declared.serving.Served.{Served}
 use Rattle.site_core.specs.Prelude.{ownership_of, SiteValue}
 use Rattle.office_laws.proofs.Grown.{growth_itself}
 use Rattle.office_tables.specs.Prelude.{no_rows}

@@ -1,6 +1,0 @@
-use Rattle.std.proofs.Common.{◌≡◌, ◌≤◌, filter, length, take}
-use Rattle.office_keep.specs.Prelude.{takes}
-use Rattle.office_keep.proofs.places.places_in.Given as goal
-
-abbrev pub invariant-loop-one : goal.invariant-loop-one
-invariant-loop-one l = (l.count ≤ l.one-index) × (l.count ≡ length (filter (takes l.order) (take l.one-index l.states)))
