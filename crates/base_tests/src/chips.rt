@@ -6,7 +6,7 @@ use fuse_plan::{ReadBack, fits, has_coding_scheme, redact, shows_what_is_hidden}
 use fusemap_core::{FuseMap, read_map};
 use std::alloc::Global;
 use std::test::Fail;
-use test_texts::samples::MAP;
+use test_fixtures::samples::MAP;
 use text_core::Digest;
 
 /// Eight words that hold the bytes 0 to 31, each its lowest byte first.

@@ -7,7 +7,7 @@ use fuse_columns::{decode_bits, encode_bits, encode_keys, encode_todo};
 use fuse_image::{Bits, Image, Keys, Pending};
 use fusemap_core::{FuseMap, Pos, read_map};
 use std::test::Fail;
-use test_texts::samples::MAP;
+use test_fixtures::samples::MAP;
 use text_core::{BitsBytes, Digest, KeysBytes, PendingBytes};
 
 /// A position, and the byte of its column that isn't zero. A position of a key block has none.

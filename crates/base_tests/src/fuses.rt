@@ -9,7 +9,7 @@ use fuse_image::{
 };
 use fusemap_core::{FuseMap, Pos, read_map};
 use std::test::Fail;
-use test_texts::samples::MAP;
+use test_fixtures::samples::MAP;
 use text_core::Digest;
 
 /// A block, a first bit and how many bits, and the only word of them that isn't zero.

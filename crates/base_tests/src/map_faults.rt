@@ -3,7 +3,7 @@
 use crate::changes::{changed, numbered, padded};
 use fusemap_core::read_map;
 use std::alloc::Global;
-use test_texts::samples::MAP;
+use test_fixtures::samples::MAP;
 
 /// A part of the sample, what stands there in its place, and the fault. The last rows are whole texts.
 const CHANGES: &[(&str, &str, u8)] = &[

@@ -4,11 +4,11 @@ ghost use Rattle.std.specs.Prelude.{IfSome};
 ghost use Rattle.fusemap_core.specs.Prelude.{IsFieldOf};
 
 use fusemap_core::{FieldId, FuseMap, MapFault, Pos, read_map};
-use fusemap_core::NumberShelf;
+use fusemap_core::NumberCache;
 use std::alloc::Global;
 use std::fmt::Write;
 use std::test::Fail;
-use test_texts::samples::MAP;
+use test_fixtures::samples::MAP;
 use text_core::Name;
 
 /// A position: its block and its bit.
@@ -138,27 +138,27 @@ fn shows_the_sample(rt: HostRuntime) -> Result<(), Fail> {
     Ok(())
 }
 
-/// How many maps a shelf keeps.
+/// How many maps a cache keeps.
 const KEPT: u64 = 16;
 
-/// Keeps the sample under the numbers from 1 on, one more than a shelf keeps: which of them are found
+/// Keeps the sample under the numbers from 1 on, one more than a cache keeps: which of them are found
 /// then, each with a space behind it.
 fn found_behind_others(alloc: Global) -> Result<String, Fail> {
     let map = read_map(alloc, MAP)?;
-    let mut shelf = NumberShelf::new(alloc);
+    let mut cache = NumberCache::new(alloc);
     for number in 1..KEPT + 2 {
-        shelf.keep(number, &map);
+        cache.keep(number, &map);
     }
     let mut found = String::new(alloc);
     for number in 1..KEPT + 2 {
-        if shelf.find(number).is_some_and(|map| is_sample(&map)) {
+        if cache.find(number).is_some_and(|map| is_sample(&map)) {
             write!(found, "{number} ")?;
         }
     }
     Ok(found)
 }
 
-/// The last sixteen are found, and the one before them isn't. Of a shelf by texts no call says what it
+/// The last sixteen are found, and the one before them isn't. Of a cache by texts no call says what it
 /// keeps: it finds each map all the same.
 #[test]
 fn a_shelf_keeps_sixteen_maps(rt: HostRuntime) -> Result<(), Fail> {

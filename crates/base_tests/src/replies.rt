@@ -8,8 +8,8 @@ use office_commands::{device_body, ledger_body};
 use office_tables::{Device, DeviceState, Event, NewEntry, Outcome, Reason};
 use std::alloc::Global;
 use std::test::Fail;
-use test_texts::conversations::joined;
-use test_texts::samples::MAP;
+use test_fixtures::conversations::joined;
+use test_fixtures::samples::MAP;
 use text_core::{Chip, Digest, Name, Serial};
 
 /// The sample map with another name of the key field of block 1, so that names don't stand in the

@@ -5,8 +5,8 @@ use crate::changes::{changed, numbered, padded};
 use site_core::{Caller, Site, SiteFault, read_site, read_site_text};
 use std::alloc::Global;
 use std::test::Fail;
-use test_texts::full_site::full_site;
-use test_texts::samples::{SITE, SITE_WITH_A_CUSTOMER, SITE_WITH_A_POOL};
+use test_fixtures::full_site::full_site;
+use test_fixtures::samples::{SITE, SITE_WITH_A_CUSTOMER, SITE_WITH_A_POOL};
 use text_core::Digest;
 
 const OF_ABC: &str = "ba7816bf8f01cfea414140de5dae2223b00361a396177a9cb410ff61f20015ad";

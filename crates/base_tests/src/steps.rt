@@ -9,7 +9,7 @@ use fuse_plan::{
 use fusemap_core::{Field, FuseMap, read_map};
 use std::alloc::Global;
 use std::test::Fail;
-use test_texts::samples::MAP;
+use test_fixtures::samples::MAP;
 use text_core::{Digest, Name};
 
 /// What is asked of a field: numbers as hexadecimal digits, and keys as their digests.

@@ -1,15 +1,15 @@
 //! The conversations by their subjects, each over a keeper without rows of either kind.
 use std::alloc::Global;
 use std::test::Fail;
-use test_exchanges::conversation::first_difference;
-use test_exchanges::keepers::{Fresh, KeeperCase, over_each};
-use test_texts::conversations::beginnings::BEGINNINGS;
-use test_texts::conversations::devices::DEVICES;
-use test_texts::conversations::identities::IDENTITIES;
-use test_texts::conversations::maps::MAPS;
-use test_texts::conversations::orders::ORDERS;
-use test_texts::conversations::plans::PLANS;
-use test_texts::conversations::reports::REPORTS;
+use test_support::conversation::first_difference;
+use test_support::keepers::{Fresh, KeeperCase, over_each};
+use test_fixtures::conversations::beginnings::BEGINNINGS;
+use test_fixtures::conversations::devices::DEVICES;
+use test_fixtures::conversations::identities::IDENTITIES;
+use test_fixtures::conversations::maps::MAPS;
+use test_fixtures::conversations::orders::ORDERS;
+use test_fixtures::conversations::plans::PLANS;
+use test_fixtures::conversations::reports::REPORTS;
 
 /// Conversations by their names, each over a keeper without rows.
 #[derive(Drop)]

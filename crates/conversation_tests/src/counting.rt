@@ -71,8 +71,8 @@ impl Keep for CountingKeep {
 
     ghost has_just_committed = { λ _. Unit {0} };
 
-    fn fact_in_order(&self) {
-        self.keep.fact_in_order();
+    fn fact_ascending(&self) {
+        self.keep.fact_ascending();
     }
 
     fn seat(&mut self, name: &Name) -> Result<Option<SeatRow>, Unkept> {

@@ -6,10 +6,10 @@ use station_api::{Counted, Failing, Interrupted, Pieces, Served, Source, Transfe
 use std::alloc::Global;
 use std::str;
 use std::test::Fail;
-use test_exchanges::conversation::{first_difference, serve, served_by};
-use test_exchanges::keepers::{Fresh, KeeperCase, over_database, over_each, over_memory};
-use test_texts::samples::SITE;
-use test_texts::streams::{
+use test_support::conversation::{first_difference, serve, served_by};
+use test_support::keepers::{Fresh, KeeperCase, over_database, over_each, over_memory};
+use test_fixtures::samples::SITE;
+use test_fixtures::streams::{
     BAD_HEAD, CHUNKS_REFUSED, CUT_ORDER, IN_CHUNKS, LONG_HEAD, ORDER, ORDERED, with_orders,
 };
 

@@ -4,11 +4,11 @@ use crate::disks::{
 };
 use std::alloc::Global;
 use std::test::Fail;
-use test_texts::conversations::beginnings::RECORD;
-use test_texts::conversations::exchanges;
-use test_texts::conversations::identities::SKIPPED;
-use test_texts::conversations::plans::A_BIT_AND_ITS_LOCK;
-use test_texts::samples::{OTHER_SITE, SITE, SITE_WITH_A_CUSTOMER, SITE_WITH_A_POOL};
+use test_fixtures::conversations::beginnings::RECORD;
+use test_fixtures::conversations::exchanges;
+use test_fixtures::conversations::identities::SKIPPED;
+use test_fixtures::conversations::plans::A_BIT_AND_ITS_LOCK;
+use test_fixtures::samples::{OTHER_SITE, SITE, SITE_WITH_A_CUSTOMER, SITE_WITH_A_POOL};
 
 /// Changes of a store that was opened for the sample site, by SQL, the text of the site for which it is
 /// opened then, and the number of the fault, 0 where there is none.

@@ -14,8 +14,8 @@
 //! The fuse maps that were asked for last, by their texts or by numbers of their texts, so that a
 //! text is parsed once and not for each request.
 //!
-//! `MapShelf::find` gives the fuse map that a text describes, if it describes one, as `read_map`
-//! would. `NumberShelf::find` gives the map of a number where it has one: whatever map each number
+//! `MapCache::find` gives the fuse map that a text describes, if it describes one, as `read_map`
+//! would. `NumberCache::find` gives the map of a number where it has one: whatever map each number
 //! has, if those that were kept are those of their numbers. Which sixteen are kept is in the
 //! clauses too: what is found again comes before the others (`again`), and what is kept anew stands
 //! before the fifteen that were asked for last, or nothing changes, for want of memory (`kept`).
@@ -33,7 +33,7 @@ mod map;
 mod numbered;
 mod pos;
 mod recent;
-mod shelf;
+mod cache;
 mod text;
 
 pub use fault::MapFault;
@@ -41,5 +41,5 @@ pub use field::Field;
 pub use map::{BLOCK_LIMIT, FIELD_LIMIT, FieldId, FuseMap, WORD_LIMIT};
 pub use pos::Pos;
 pub use text::{TEXT_LIMIT, read_map};
-pub use numbered::NumberShelf;
-pub use shelf::{MapShelf, map_of_text};
+pub use numbered::NumberCache;
+pub use cache::{MapCache, map_of_text};

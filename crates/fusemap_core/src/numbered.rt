@@ -18,17 +18,17 @@ struct NumberedMap {
 /// The fuse maps of the last 16 numbers that were asked for, where the text of a number never
 /// changes. Whatever map each number has, the maps that are kept are those of their numbers.
 #[derive(Drop)]
-pub struct NumberShelf {
+pub struct NumberCache {
     /// The map that was asked for last is the first.
     kept: Vec<NumberedMap>,
 }
 
-impl NumberShelf {
-    /// A shelf with no map. This takes no memory.
-    pub fn new(alloc: Global) -> NumberShelf
+impl NumberCache {
+    /// A cache with no map. This takes no memory.
+    pub fn new(alloc: Global) -> NumberCache
         ensures { (map_of : ℕ → Option Map) → AreMapsOfNumbers map_of result }
     {
-        NumberShelf {
+        NumberCache {
             kept: Vec::new(alloc),
         }
     }

@@ -19,9 +19,9 @@ pub record GathersPage (old : PageScan) (row : OfCustomer Device) (goes_on : Boo
   pub room : goes_on ≡ true → length old.devices.items < page_limit
   pub devices : goes_on ≡ true → new.devices.items ≡ old.devices.items ++ row.row ∷ []
   pub same : goes_on ≡ true → new.has_more ≡ old.has_more
-  pub more : goes_on ≡ false → new.is_full ≡ false → new.has_more ≡ true
-  pub full : goes_on ≡ false → new.is_full ≡ false → page_limit ≤ length old.devices.items
-  pub kept : goes_on ≡ false → new.is_full ≡ false → new.devices.items ≡ old.devices.items
+  pub more : goes_on ≡ false → new.has_no_memory ≡ false → new.has_more ≡ true
+  pub full : goes_on ≡ false → new.has_no_memory ≡ false → page_limit ≤ length old.devices.items
+  pub kept : goes_on ≡ false → new.has_no_memory ≡ false → new.devices.items ≡ old.devices.items
 
 -- what is held of devices: those that a page shows, and whether it leaves some
 pub record IsGathered (devices : List Device) (scan : PageScan) : Type 0 where

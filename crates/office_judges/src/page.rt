@@ -18,7 +18,7 @@ struct PageScan {
     /// The page was full, and one more device was met.
     has_more: bool,
     /// There was no memory for a device.
-    is_full: bool,
+    has_no_memory: bool,
 }
 
 impl Sink<DeviceRow> for PageScan {
@@ -30,7 +30,7 @@ impl Sink<DeviceRow> for PageScan {
             return false;
         }
         if self.devices.push(row.row).is_err() {
-            self.is_full = true;
+            self.has_no_memory = true;
             return false;
         }
         true
@@ -76,10 +76,10 @@ fn gather_page<K: Keep>(
     let mut scan = PageScan {
         devices: Vec::new(alloc),
         has_more: false,
-        is_full: false,
+        has_no_memory: false,
     };
     fill_page(keep, customer, after, &mut scan)?;
-    if scan.is_full {
+    if scan.has_no_memory {
         return Err(Unkept);
     }
     Ok(scan)

@@ -5,7 +5,7 @@ use Rattle.text_core.proofs.Kit.{is_some, IsSomeAnd, AllByRecursion, option_map,
 use Rattle.site_core.specs.Prelude.{Ownership}
 use Rattle.office_laws.proofs.Types.{Given, Order, OfCustomer, Device}
 use Rattle.office_tables.specs.Prelude.{Tables, is_device, is_of, is_order, order_at, order_cmp, rows_of, with_row, with_cursor, with_cursor_of, with_order}
-use Rattle.office_tables.specs.Prelude.{IsInOrder}
+use Rattle.office_tables.specs.Prelude.{IsAscending}
 use Rattle.office_tables.proofs.Orders.{order_total}
 use Rattle.office_rules.proofs.Refusing.{is_some_map}
 use Rattle.office_laws.specs.Prelude.{Grows, AreDisjoint, EachApart, IsInPool, IsOrder, IsSound, IsIssuedBelow, IsOfDevice, IsOfOrder, IsRecordOf}
@@ -28,7 +28,7 @@ AreSame xs ys = map row_at_first xs ≡ map row_at_first ys
 
 -- an order of the table takes its own place with another cursor
 pub moved_same : (p : OfCustomer Order → Bool) (o : OfCustomer Order) (n : ℕ) (rows : List (OfCustomer Order))
-    → IsInOrder order_cmp rows → find p rows ≡ Some o
+    → IsAscending order_cmp rows → find p rows ≡ Some o
     → AreSame (with_row order_cmp (moved n o) rows) rows
 moved_same p o n [] order e = cc
 moved_same p o n (y ∷ ys) order e =

@@ -5,7 +5,7 @@ use Rattle.text_core.proofs.Kit.{◌∙◌, subst, arith, nat_tests, nat_lt, is_
 use Rattle.text_core.proofs.Kit.{length-take-le, length-append, append-nil, nil_from_length, option_map, option_map_or, slice_get, same_Some}
 use Rattle.text_core.proofs.Kit.{recursion_from_All, All-from_recursion, All-take}
 use Rattle.office_laws.proofs.Types.{Device}
-use Rattle.office_tables.specs.Prelude.{rows_of, text_cmp, AreInKeyOrder, IsInOrder, Tables, device_cmp}
+use Rattle.office_tables.specs.Prelude.{rows_of, text_cmp, AreAscendingByKey, IsAscending, Tables, device_cmp}
 use Rattle.office_tables.proofs.Placing.{all_map, own_in_order}
 use Rattle.office_rules.specs.Prelude.{devices_behind, last_chip, next_page, on_page, page_limit}
 use Rattle.office_laws.specs.Prelude.{by_text, on_pages}
@@ -30,10 +30,10 @@ all_taken : {A : Type 0} (P : A → Type 0) (n : ℕ) (xs : List A) → AllByRec
 all_taken P n xs all = recursion_from_All P (take n xs) (All-take P n xs (All-from_recursion P xs all))
 
 filtered_in_order : {A : Type 0} (cmp : A → A → Ordering) (p : A → Bool) (xs : List A)
-    → IsInOrder cmp xs → IsInOrder cmp (filter p xs)
+    → IsAscending cmp xs → IsAscending cmp (filter p xs)
 filtered_in_order cmp p [] up = tt
 filtered_in_order cmp p (x ∷ xs) up =
-    elim (p x) as (λ b. IsInOrder cmp (cond b (x ∷ filter p xs) (filter p xs))) [
+    elim (p x) as (λ b. IsAscending cmp (cond b (x ∷ filter p xs) (filter p xs))) [
       | true ↦ (filter_all (λ y. cmp x y ≡ Less) p xs up.0, filtered_in_order cmp p xs up.1)
       | false ↦ filtered_in_order cmp p xs up.1
     ]
@@ -75,7 +75,7 @@ not_behind_greater : (chip : List ℕ) (d : Device) → text_cmp d.chip chip ≡
 not_behind_greater chip d less =
     ap is_lt (nat_list_cmp_total.antisymm chip d.chip ∙ ap ordering_reverse less)
 
-left_behind : (n : ℕ) (ds : List Device) (chip : List ℕ) → IsInOrder chip_cmp ds → n < length ds
+left_behind : (n : ℕ) (ds : List Device) (chip : List ℕ) → IsAscending chip_cmp ds → n < length ds
     → last_chip (take n ds) ≡ Some chip → ds ≡ take n ds ++ filter (comes_behind chip) ds
 left_behind zero ds chip up more e = cc
 left_behind (suc n) [] chip up more e = cc
@@ -147,7 +147,7 @@ next_is ds chip e =
     ] refl e
 
 pub page_leaves : (devices : List Device) (after : Option (List ℕ)) (chip : List ℕ)
-    → IsInOrder chip_cmp devices → next_page (devices_behind after devices) ≡ Some chip
+    → IsAscending chip_cmp devices → next_page (devices_behind after devices) ≡ Some chip
     → devices_behind after devices
     ≡ on_page (devices_behind after devices) ++ devices_behind (Some chip) devices
 page_leaves devices None chip up e =
@@ -178,7 +178,7 @@ page_ends ds e =
     ] refl e
 
 pub pages_are_all : (n : ℕ) (devices : List Device) (after : Option (List ℕ))
-    → IsInOrder chip_cmp devices → length (devices_behind after devices) ≤ n * page_limit
+    → IsAscending chip_cmp devices → length (devices_behind after devices) ≤ n * page_limit
     → on_pages n after devices ≡ devices_behind after devices
 pages_are_all zero devices after up few =
     sym (nil_from_length (devices_behind after devices) (omega (arith, few)))
@@ -202,7 +202,7 @@ pages_are_all (suc n) devices after up few =
           (pages_are_all n devices (Some chip) up fewer) ∙ sym parts
     ] refl
 
-pub devices_in_order : (customer : List ℕ) (t : Tables) → AreInKeyOrder t
-    → IsInOrder chip_cmp (rows_of customer t.devices)
+pub devices_in_order : (customer : List ℕ) (t : Tables) → AreAscendingByKey t
+    → IsAscending chip_cmp (rows_of customer t.devices)
 devices_in_order customer t order =
     own_in_order customer device_cmp chip_cmp (device_agree customer) t.devices order.devices

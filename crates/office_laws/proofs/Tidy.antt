@@ -7,7 +7,7 @@ use Rattle.std.specs.declared.cmp.Ordering.{Ordering}
 use Rattle.sha2.specs.Sha256.{sha256}
 use Rattle.site_core.specs.Prelude.{Section, IsSection, Ownership}
 use Rattle.office_laws.proofs.Types.{Cursor, Device, Entry, Given, Link, MapRow, NewEntry, Order, OfCustomer, SeatState}
-use Rattle.office_tables.specs.Prelude.{IsInOrder, Tables, device_cmp, entry_cmp, entry_under, given_cmp, is_of, is_order, link_cmp, map_at, map_cmp, map_with}
+use Rattle.office_tables.specs.Prelude.{IsAscending, Tables, device_cmp, entry_cmp, entry_under, given_cmp, is_of, is_order, link_cmp, map_at, map_cmp, map_with}
 use Rattle.office_tables.specs.Prelude.{order_at, order_cmp, rows_of, with_row, seat_cmp, with_cursor, with_cursor_of, with_device, with_given, with_link}
 use Rattle.office_tables.specs.Prelude.{with_map, with_new_entry, with_order, with_seat}
 use Rattle.office_tables.proofs.Placing.{all_map, placed_in_order, placed_other, placed_own}
@@ -30,11 +30,11 @@ use Rattle.office_laws.proofs.SoundRows.{owned_place, owned_placed}
 -- that name maps
 pub record IsTidy (owners : Ownership) (t : Tables) : Type 0 where
   pub seats : AreOwned seat_cmp (λ r. owners.seat r.name) t.seats
-  pub orders : IsInOrder order_cmp t.orders
+  pub orders : IsAscending order_cmp t.orders
   pub given : AreOwned given_cmp (λ g. owners.issuer g.issuer) t.given
   pub maps : AreSoundMaps owners t.maps t.links
-  pub devices : IsInOrder device_cmp t.devices
-  pub ledger : IsInOrder entry_cmp t.ledger
+  pub devices : IsAscending device_cmp t.devices
+  pub ledger : IsAscending entry_cmp t.ledger
 
 pub sound_is_tidy : {owners : Ownership} {t : Tables} → IsSound owners t → IsTidy owners t
 sound_is_tidy sound = record {
@@ -80,7 +80,7 @@ module _ {A : Type 0} (cmp : OfCustomer A → OfCustomer A → Ordering) (x : Of
   pub row_own : (own_cmp : A → A → Ordering) → IsTotalOrder cmp
       → ((a b : OfCustomer A) → is_of x.customer a ≡ true → is_of x.customer b ≡ true
       → cmp a b ≡ own_cmp a.row b.row)
-      → IsInOrder cmp rows
+      → IsAscending cmp rows
       → rows_of x.customer (with_row cmp x rows) ≡ with_row own_cmp x.row (rows_of x.customer rows)
   row_own own_cmp total agree in_order = placed_own x.customer cmp own_cmp total agree x
       (text_itself x.customer x.customer refl) rows in_order own_place

@@ -1,6 +1,6 @@
 // A law of pages, over their definitions alone.
 ghost use Rattle.std.specs.Prelude.{◌≡◌, ◌≤◌, ◌*◌, ◌++◌, length, List, None, Option, Some, ℕ};
-ghost use Rattle.office_tables.specs.Prelude.{rows_of, AreInKeyOrder, IsInOrder, Tables};
+ghost use Rattle.office_tables.specs.Prelude.{rows_of, AreAscendingByKey, IsAscending, Tables};
 ghost use Rattle.office_tables.specs.declared.rows.Device.{Device};
 ghost use Rattle.office_rules.specs.Prelude.{devices_behind, next_page, on_page, page_limit};
 ghost use Rattle.office_laws.specs.Prelude.{by_text, on_pages};
@@ -11,10 +11,10 @@ ghost use Rattle.office_laws.specs.Prelude.{by_text, on_pages};
 /// devices are in this order in tables that are in the order of their keys, as those of every keeper
 /// are.
 pub fn pages_show_each_device_once()
-    ensures in_order { (customer : List ℕ) (t : Tables) → AreInKeyOrder t
-        → IsInOrder (by_text (λ d. d.chip)) (rows_of customer t.devices) }
+    ensures in_order { (customer : List ℕ) (t : Tables) → AreAscendingByKey t
+        → IsAscending (by_text (λ d. d.chip)) (rows_of customer t.devices) }
     ensures next { (devices : List Device) (after : Option (List ℕ)) (chip : List ℕ)
-        → IsInOrder (by_text (λ d. d.chip)) devices
+        → IsAscending (by_text (λ d. d.chip)) devices
         → next_page (devices_behind after devices) ≡ Some chip
         → devices_behind after devices
         ≡ on_page (devices_behind after devices) ++ devices_behind (Some chip) devices }
@@ -22,6 +22,6 @@ pub fn pages_show_each_device_once()
         → next_page (devices_behind after devices) ≡ None
         → on_page (devices_behind after devices) ≡ devices_behind after devices }
     ensures all { (pages : ℕ) (devices : List Device)
-        → IsInOrder (by_text (λ d. d.chip)) devices → length devices ≤ pages * page_limit
+        → IsAscending (by_text (λ d. d.chip)) devices → length devices ≤ pages * page_limit
         → on_pages pages None devices ≡ devices }
 {}

@@ -6,9 +6,9 @@ use Rattle.office_sql.proofs.Kit.{Database, column, Trees, sort_by, IsPermutatio
 use Rattle.office_tables.specs.Prelude.{given_cmp, no_rows, Tables}
 use Rattle.office_tables.proofs.Orders.{given_total}
 use Rattle.office_sql.specs.Prelude.{rows_in, given, given_in_row, tables_in, text_if}
-use Rattle.office_found.specs.declared.version.Version.{Version}
+use Rattle.store_inspection.specs.declared.version.Version.{Version}
 use Rattle.office_store.specs.Prelude.{IsGrown, IsUpgrade}
-use Rattle.office_found.specs.Prelude.{HasApartAddresses}
+use Rattle.store_inspection.specs.Prelude.{HasApartAddresses}
 use Rattle.office_store.proofs.Counts.{first_eight}
 
 -- the table is as it was

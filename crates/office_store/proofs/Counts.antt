@@ -4,20 +4,20 @@ use Rattle.office_sql.proofs.Kit.{Trees}
 use Rattle.office_sql.proofs.Inserting.{OthersStay}
 use Rattle.office_sql.proofs.Names.{first_by_name, same_table}
 use Rattle.office_sql.specs.Prelude.{OfficeTable, texts, place_of, tree_of}
-use Rattle.office_store.proofs.Types.{Version, Earliest, Third}
-use Rattle.office_found.specs.Prelude.{KeepsFirstBut, count_of, first_tables}
+use Rattle.office_store.proofs.Types.{Version, V1a, V3}
+use Rattle.store_inspection.specs.Prelude.{KeepsFirstBut, count_of, first_tables}
 
 -- each version has the first eight tables
 pub first_eight : (version : Version) → 7 < count_of version
-first_eight Earliest = omega arith
+first_eight V1a = omega arith
 first_eight _ = omega arith
 
 -- a version before the third hasn't the table of the site's text
-pub not_texts : (version : Version) → version ≢ Third → (table : OfficeTable) → place_of table < count_of version → table ≢ texts
+pub not_texts : (version : Version) → version ≢ V3 → (table : OfficeTable) → place_of table < count_of version → table ≢ texts
 not_texts version earlier table low is = omega (arith, at_most version earlier, subst (λ t. place_of t < count_of version) is low)
   where
-    at_most : (version : Version) → version ≢ Third → count_of version < 11
-    at_most Third earlier = absurd (earlier refl)
+    at_most : (version : Version) → version ≢ V3 → count_of version < 11
+    at_most V3 earlier = absurd (earlier refl)
     at_most _ earlier = omega arith
 
 -- where each of the first tables but one has the rows that it had

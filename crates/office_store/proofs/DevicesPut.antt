@@ -3,7 +3,7 @@ use Rattle.std.proofs.Common.{◌≡◌, ◌+◌, ◌-◌, ◌∷◌}
 use Rattle.text_core.proofs.Kit.{◌∙◌, ℕ, arith, List, [], Option, Some, None, refl, sym, ap, filter_map, find, cons_option, is_eq}
 use Rattle.office_store.proofs.KeepTypes.{OfCustomer, Device, Order, Write, PutSeat, AddOrder, SetCursor, AddMap, AddLink, AddDevice, PutDevice, AddGiven, AddEntry}
 use Rattle.office_store.proofs.KeepTypes.{WrittenDevices, Nothing, One, Several, PlaceCounts}
-use Rattle.office_tables.specs.Prelude.{place_of_device, device_cmp, is_device, order_at, with_row, with_cursor_of, IsInOrder, Tables, Writes, Written}
+use Rattle.office_tables.specs.Prelude.{place_of_device, device_cmp, is_device, order_at, with_row, with_cursor_of, IsAscending, Tables, Writes, Written}
 use Rattle.office_tables.proofs.Places.{find_device, places, places_put, taken_by}
 use Rattle.office_tables.proofs.Orders.{device_total}
 use Rattle.office_store.specs.Prelude.{AreCounts, AreRight, device_written, ArePut, AreTold}
@@ -53,7 +53,7 @@ told_put ws Several t after told is = tt
 
 -- the numbers follow a device that is put
 pub followed : (d : OfCustomer Device) (replaced : Option (OfCustomer Device))
-    (rows after : List (OfCustomer Device)) (counts : PlaceCounts) → IsInOrder device_cmp rows
+    (rows after : List (OfCustomer Device)) (counts : PlaceCounts) → IsAscending device_cmp rows
     → replaced ≡ find (is_device d.customer d.row.chip) rows → after ≡ with_row device_cmp d rows
     → AreCounts (λ customer order.
     places customer order rows + place_of_device customer order d - taken_by customer order

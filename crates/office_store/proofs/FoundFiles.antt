@@ -13,15 +13,15 @@ use Rattle.office_sql.proofs.Names.{tree_low}
 use Rattle.office_sql.specs.Prelude.{OfficeTable, no_schema, rows_in, tree_of}
 use Rattle.office_store.proofs.Types.{Version}
 use Rattle.office_store.specs.Prelude.{CanPrepareTables, HasNothing, IsNoStore}
-use Rattle.office_found.specs.Prelude.{schema_of, HasWhole, IsFound}
+use Rattle.store_inspection.specs.Prelude.{schema_of, HasWhole, IsFound}
 use Rattle.office_store.proofs.FoundNothing.{no_office_rows, none_found, nothing_found, has_nothing}
 use Rattle.office_store.proofs.FoundVersion.{over, version_found}
 
 -- the trees have the shapes that their list gives
-abbrev AreInOrder : Trees → Type 0
-AreInOrder db = (shapes : ℕ → Shape) × (reals : ℕ → ℕ) × IsListed (db catalog_tree) shapes reals × IsOrdered shapes db
+abbrev AreAscending : Trees → Type 0
+AreAscending db = (shapes : ℕ → Shape) × (reals : ℕ → ℕ) × IsListed (db catalog_tree) shapes reals × IsOrdered shapes db
 
-file_order : (size : ℕ) (wanted : List Wanted) (pages : PageMap) → ∥ IsOurs size true wanted pages ∥₁ → AreInOrder (file_trees size wanted pages)
+file_order : (size : ℕ) (wanted : List Wanted) (pages : PageMap) → ∥ IsOurs size true wanted pages ∥₁ → AreAscending (file_trees size wanted pages)
 file_order size wanted pages ours = (
   all_shapes wanted,
   all_reals wanted,
@@ -47,13 +47,13 @@ empty_nothing db none = has_nothing db (no_row_in db none)
 -- ---- what the files held
 version_in : (image : Image) (version : Version) (db : Trees) → AreFoundIn image db
     → IsSound (schema_of version) db → HasWhole db → IsFound version (over version db)
-version_in image version db (inl h) sound whole = let it = subst AreInOrder (sym h.5)
+version_in image version db (inl h) sound whole = let it = subst AreAscending (sym h.5)
     (file_order h.0 h.2 h.1 h.4) in version_found version it.0 it.1 db sound it.2 it.3 whole
 version_in image version db (inr h) sound whole = empty_found version db sound h.1
 
 nothing_in : (image : Image) (db : Trees) → AreFoundIn image db → IsSound no_schema db → IsNoStore db
 nothing_in image db (inl h) sound =
-    let it = subst AreInOrder (sym h.5) (file_order h.0 h.2 h.1 h.4) in
+    let it = subst AreAscending (sym h.5) (file_order h.0 h.2 h.1 h.4) in
     record { schema = sound; nothing = nothing_found it.0 it.1 db it.2 it.3 sound }
 nothing_in image db (inr h) sound = record { schema = sound; nothing = empty_nothing db h.1 }
 

@@ -10,9 +10,9 @@ use Rattle.office_sql.specs.Prelude.{OfficeTable, meta, seats, maps, links, orde
 use Rattle.office_sql.specs.Prelude.{rows_in, tree_of, seat_in_row, map_in_row, link_in_row, order_in_row, device_in_row, given_in_row, entry_in_row}
 use Rattle.office_sql.specs.Prelude.{with_order_start, with_given_start, AreOfficeRows, AreRows, AreStarted, IsOffice, office_schema, starts_given}
 use Rattle.office_sql.specs.Prelude.{starts_order, tables_in}
-use Rattle.office_store.proofs.Types.{Version, Earliest, Early, First, Second, Third}
+use Rattle.office_store.proofs.Types.{Version, V1a, V1b, V1, V2, V3}
 use Rattle.office_store.specs.Prelude.{HasNothing}
-use Rattle.office_found.specs.Prelude.{AreAllStarted, AreStartsFound, TellsNoStart, meta_in, number_of_version, schema_of}
+use Rattle.store_inspection.specs.Prelude.{AreAllStarted, AreStartsFound, TellsNoStart, meta_in, number_of_version, schema_of}
 
 no_row : {A : Type 0} (Typed : Row → Type 0) (cmp : A → A → Ordering) (value : Row → A) (rows : List Row) → rows ≡ [] → AreRows Typed cmp value rows
 no_row Typed cmp value rows none = subst (AreRows Typed cmp value) (sym none) (record { rising = tt; numbered = tt; typed = tt; keyed = tt })
@@ -85,8 +85,8 @@ none_found version db none = found version
     }
 
     found : (version : Version) → AreStartsFound version db
-    found Second = λ _. all
-    found Third = λ _. all
+    found V2 = λ _. all
+    found V3 = λ _. all
     found _ = (none order_starts, none given_starts)
 
 module _ (schema : Schema) (shapes : ℕ → Shape) (reals : ℕ → ℕ) (trees : Trees)
@@ -119,27 +119,27 @@ module _ (shapes : ℕ → Shape) (reals : ℕ → ℕ) (trees : Trees) (listed 
       (λ e. omega (arith, tree_low table, e)) (λ e. omega (arith, tree_low table, e)) refl refl refl)
 
   -- the versions with the number 1 list no starts
-  earliest_unstarted : IsSound (schema_of Earliest) trees → TellsNoStart trees
-  earliest_unstarted sound = (
-    empty_at (schema_of Earliest) shapes reals trees sound listed ordered (tree_of order_starts) (λ e. cc) (λ e. cc) refl refl refl,
-    empty_at (schema_of Earliest) shapes reals trees sound listed ordered (tree_of given_starts) (λ e. cc) (λ e. cc) refl refl refl,
+  v1a_unstarted : IsSound (schema_of V1a) trees → TellsNoStart trees
+  v1a_unstarted sound = (
+    empty_at (schema_of V1a) shapes reals trees sound listed ordered (tree_of order_starts) (λ e. cc) (λ e. cc) refl refl refl,
+    empty_at (schema_of V1a) shapes reals trees sound listed ordered (tree_of given_starts) (λ e. cc) (λ e. cc) refl refl refl,
   )
 
-  early_unstarted : IsSound (schema_of Early) trees → TellsNoStart trees
-  early_unstarted sound = (
-    empty_at (schema_of Early) shapes reals trees sound listed ordered (tree_of order_starts) (λ e. cc) (λ e. cc) refl refl refl,
-    empty_at (schema_of Early) shapes reals trees sound listed ordered (tree_of given_starts) (λ e. cc) (λ e. cc) refl refl refl,
+  v1b_unstarted : IsSound (schema_of V1b) trees → TellsNoStart trees
+  v1b_unstarted sound = (
+    empty_at (schema_of V1b) shapes reals trees sound listed ordered (tree_of order_starts) (λ e. cc) (λ e. cc) refl refl refl,
+    empty_at (schema_of V1b) shapes reals trees sound listed ordered (tree_of given_starts) (λ e. cc) (λ e. cc) refl refl refl,
   )
 
-  first_unstarted : IsSound (schema_of First) trees → TellsNoStart trees
-  first_unstarted sound = (
-    empty_at (schema_of First) shapes reals trees sound listed ordered (tree_of order_starts) (λ e. cc) (λ e. cc) refl refl refl,
-    empty_at (schema_of First) shapes reals trees sound listed ordered (tree_of given_starts) (λ e. cc) (λ e. cc) refl refl refl,
+  v1_unstarted : IsSound (schema_of V1) trees → TellsNoStart trees
+  v1_unstarted sound = (
+    empty_at (schema_of V1) shapes reals trees sound listed ordered (tree_of order_starts) (λ e. cc) (λ e. cc) refl refl refl,
+    empty_at (schema_of V1) shapes reals trees sound listed ordered (tree_of given_starts) (λ e. cc) (λ e. cc) refl refl refl,
   )
 
   pub unstarted_found : (version : Version) → number_of_version version ≡ 1 → IsSound (schema_of version) trees → TellsNoStart trees
-  unstarted_found Second one sound = absurd (omega (arith, one))
-  unstarted_found Third one sound = absurd (omega (arith, one))
-  unstarted_found Earliest one sound = earliest_unstarted sound
-  unstarted_found Early one sound = early_unstarted sound
-  unstarted_found First one sound = first_unstarted sound
+  unstarted_found V2 one sound = absurd (omega (arith, one))
+  unstarted_found V3 one sound = absurd (omega (arith, one))
+  unstarted_found V1a one sound = v1a_unstarted sound
+  unstarted_found V1b one sound = v1b_unstarted sound
+  unstarted_found V1 one sound = v1_unstarted sound

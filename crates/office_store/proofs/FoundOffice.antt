@@ -14,11 +14,11 @@ use Rattle.office_sql.specs.Prelude.{meta, seats, maps, links, orders, devices, 
 use Rattle.office_sql.specs.Prelude.{given_table, ledger_table, rows_in, seat_in_row, map_in_row, link_in_row, order_in_row, device_in_row, given_in_row}
 use Rattle.office_sql.specs.Prelude.{entry_in_row, AreOfficeRows, AreRows, IsText, IsWhole, IsSeatRow, IsMapRow, IsLinkRow, IsOrderRow, IsDeviceRow, IsGivenRow}
 use Rattle.office_sql.specs.Prelude.{IsEntryRow}
-use Rattle.office_found.specs.Prelude.{HasWhole, IsNotBelow, given_keyed, schema_keyed}
+use Rattle.store_inspection.specs.Prelude.{HasWhole, IsNotBelow, given_keyed, schema_keyed}
 use Rattle.office_sql.proofs.Kept.{narrowed}
 use Rattle.office_sql.proofs.MapValues.{wholes_cmp}
-use Rattle.office_found.proofs.FoundRows.{text_at, blob_at, int_at, text_if_at, whole_of, texts_tie, blobs_tie, wholes_tie, then_ties, entry_ties, last_ties}
-use Rattle.office_found.proofs.FoundRows.{rows_found}
+use Rattle.store_inspection.proofs.FoundRows.{text_at, blob_at, int_at, text_if_at, whole_of, texts_tie, blobs_tie, wholes_tie, then_ties, entry_ties, last_ties}
+use Rattle.store_inspection.proofs.FoundRows.{rows_found}
 
 -- ids that are whole numbers are in the order of the rowids
 maps_apart : (a b : Row) → IsMapRow a → IsMapRow b → value_cmp (rowid a) (rowid b) ≡ Less → is_eq (map_cmp (map_in_row a) (map_in_row b)) ≡ false

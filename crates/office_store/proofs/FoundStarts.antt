@@ -17,15 +17,15 @@ use Rattle.office_sql.specs.Prelude.{given_start_table, index_at, to, rows_in, t
 use Rattle.office_sql.specs.Prelude.{IsOffice, IsOrderRow, IsStartRow, IsText, site_text_table, start_in_rows, tables_in, with_order_start, with_given_start}
 use Rattle.office_sql.proofs.OrderReads.{order_tied}
 use Rattle.office_sql.proofs.GivenReads.{given_tied}
-use Rattle.office_store.proofs.Types.{Version, First, Second, Third}
+use Rattle.office_store.proofs.Types.{Version, V1, V2, V3}
 use Rattle.office_store.specs.Prelude.{AreUnstarted, StaysUnstarted}
-use Rattle.office_found.specs.Prelude.{AreAllStarted, AreStartsFound, HasMeta, HasStarts, HaveStarts, IsFound, schema_of}
-use Rattle.office_found.proofs.FoundLacks.{started, order_starts_typed, given_starts_typed}
+use Rattle.store_inspection.specs.Prelude.{AreAllStarted, AreStartsFound, HasMeta, HasStarts, HaveStarts, IsFound, schema_of}
+use Rattle.store_inspection.proofs.FoundLacks.{started, order_starts_typed, given_starts_typed}
 use Rattle.office_store.proofs.FoundNothing.{unstarted_found}
 use Rattle.office_store.proofs.FoundOffice.{shaped}
-use Rattle.office_found.proofs.FoundRows.{texts_tie, then_ties, last_ties, rows_found}
+use Rattle.store_inspection.proofs.FoundRows.{texts_tie, then_ties, last_ties, rows_found}
 use Rattle.office_store.proofs.Telling.{told_once}
-use Rattle.office_found.proofs.StartKeys.{agrees_its, any_found, is_its, its_twice}
+use Rattle.store_inspection.proofs.StartKeys.{agrees_its, any_found, is_its, its_twice}
 
 -- ---- starts of which no two have one key
 
@@ -156,8 +156,8 @@ module _ (more : List Table) (shapes : ℕ → Shape) (reals : ℕ → ℕ) (tre
 pub starts_found : (version : Version) (shapes : ℕ → Shape) (reals : ℕ → ℕ) (trees : Trees) → IsSound (schema_of version) trees
     → IsListed (trees catalog_tree) shapes reals → IsOrdered shapes trees → AreOfficeRows trees
     → AreStartsFound version (record { schema = schema_of version; trees = trees })
-starts_found Second shapes reals trees sound listed ordered rows = all_started [] shapes reals trees sound listed ordered rows
-starts_found Third shapes reals trees sound listed ordered rows = all_started (site_text_table ∷ []) shapes reals trees sound listed ordered rows
+starts_found V2 shapes reals trees sound listed ordered rows = all_started [] shapes reals trees sound listed ordered rows
+starts_found V3 shapes reals trees sound listed ordered rows = all_started (site_text_table ∷ []) shapes reals trees sound listed ordered rows
 starts_found version shapes reals trees sound listed ordered rows = unstarted_found shapes reals trees listed ordered version refl sound
 
 -- no beginning of validity is told where there are no starts
@@ -177,13 +177,13 @@ unstarted db none = (
 
 -- a store that tells the number of the first version has no beginning of validity
 pub starts_of : (version : Version) (site : List ℕ) (db : Database) → IsFound version db
-    → version ≢ Third → HasMeta version site db.trees → StaysUnstarted db.trees (tables_in db.trees)
-starts_of Second site db found earlier told other is = absurd (omega (arith, told_once First Second other site db.trees is told))
-starts_of Third site db found earlier told other is = absurd (earlier refl)
+    → version ≢ V3 → HasMeta version site db.trees → StaysUnstarted db.trees (tables_in db.trees)
+starts_of V2 site db found earlier told other is = absurd (omega (arith, told_once V1 V2 other site db.trees is told))
+starts_of V3 site db found earlier told other is = absurd (earlier refl)
 starts_of version site db found earlier told other is = unstarted db.trees found.starts
 
 -- a database of the third version in which no beginning of validity lacks is the office's
-pub office_of : (db : Database) → IsFound Third db → HasStarts db.trees → IsOffice db
+pub office_of : (db : Database) → IsFound V3 db → HasStarts db.trees → IsOffice db
 office_of db found has =
     let started = found.starts has in
     record { schema = found.schema; sound = found.sound; rows = found.rows; orders_started = started.orders; given_started = started.given }

@@ -7,7 +7,7 @@ use Rattle.sqlite_disk.specs.declared.Disk as disk
 use Rattle.sqlite_store.specs.declared.store.FileStore.{FileStore}
 use Rattle.office_sql.proofs.Kit.{file_state, Database, HasCleanDisk, Held, Image, State, Trees}
 use Rattle.office_sql.specs.Prelude.{IsOffice, IsReady, office_over}
-use Rattle.office_found.specs.Prelude.{IsOfSite, IsOurs}
+use Rattle.store_inspection.specs.Prelude.{IsOfSite, IsOurs}
 use Rattle.office_store.specs.Prelude.{FilesHeld, IsFoundOver, IsTakenFor}
 
 module _ (site : TextOfSite) (before : Trees) (s : State) (settled : (db : Trees) → IsTrue s.is_open → s.may_leave db → db ≡ s.committed.trees)

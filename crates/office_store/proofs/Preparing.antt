@@ -6,16 +6,16 @@ use Rattle.office_sql.proofs.Kit.{Database, Held, state, State, HasCleanDisk, Is
 use Rattle.sqlite.specs.Store.{Ghosts}
 use Rattle.office_tables.specs.Prelude.{Tables}
 use Rattle.office_sql.specs.Prelude.{IsUndone, no_schema, IsOffice, office_over, tables_in}
-use Rattle.office_store.proofs.Types.{Absent, Make, Refuse, OpenFault, Failed, Version, First, Third}
+use Rattle.office_store.proofs.Types.{Absent, Make, Refuse, OpenFault, Failed, Version, V1, V3}
 use Rattle.office_store.specs.Prelude.{AreUnstarted, CanPrepareTables, CanTake, Examines, IsApartAt, IsFoundAt, IsGrowable, IsOtherSchema, IsRefusedFor}
 use Rattle.office_store.specs.Prelude.{IsPreparedFor, IsTakenFor, LeavesAtMost, PreparesTables, StaysUnstarted, TakesGrowth, TakesOwn, HasGrown, IsGrown}
 use Rattle.office_store.specs.Prelude.{IsBegun, IsCreated, HasSchema, IsNoStore, IsStore, IsTaken, LacksStore, IsGrownFrom, IsUntouched, IsUpgrade, IsUpgraded}
-use Rattle.office_found.specs.Prelude.{HasApartAddresses, IsFound, Tests, HoldsSite, HasMeta, HoldsText, schema_of}
+use Rattle.store_inspection.specs.Prelude.{HasApartAddresses, IsFound, Tests, HoldsSite, HasMeta, HoldsText, schema_of}
 use Rattle.office_sql.proofs.Asked.{was_clean}
 use Rattle.office_store.proofs.FoundStarts.{office_of, starts_of}
 use Rattle.office_store.proofs.AddressKept.{apart_grown, apart_if_none, apart_upgraded}
-use Rattle.office_store.proofs.Telling.{not_silent, not_third, site_once}
-use Rattle.office_found.proofs.TextShows.{one_text}
+use Rattle.office_store.proofs.Telling.{not_silent, not_v3, site_once}
+use Rattle.store_inspection.proofs.TextShows.{one_text}
 
 -- a failure is no fault of a site or of tables, and comes with the schema that was there
 failed : (site : TextOfSite) (s : State) → (IsTrue s.is_open → ¬ IsOtherSchema s.now.schema) → IsRefusedFor site s Failed
@@ -56,11 +56,11 @@ takes site db can older tells = subst (λ t. IsGrownFrom t site) (one_text can.0
 
 -- a store of the third version tells no earlier one
 never_earlier : (own text : List ℕ) (db : Trees) → HoldsSite text db → TakesOwn own db
-never_earlier own text db tells version other earlier told = absurd (not_third version other (sha256 text) db earlier told tells.named)
+never_earlier own text db tells version other earlier told = absurd (not_v3 version other (sha256 text) db earlier told tells.named)
 
 -- a store of the third version isn't one of the first, whose tables have no beginning of validity
 never_first : (text : List ℕ) (db : Trees) (t : Tables) → HoldsSite text db → StaysUnstarted db t
-never_first text db t tells site told = absurd (not_third First site (sha256 text) db (λ e. cc) told tells.named)
+never_first text db t tells site told = absurd (not_v3 V1 site (sha256 text) db (λ e. cc) told tells.named)
 
 -- a database of a version lists that version's schema
 lists_schema : (version : Version) (db : Database) → IsFound version db → HasSchema (schema_of version) db.trees
@@ -89,7 +89,7 @@ leaves_made site old new can bare survives = survives_weaker _ _ _ _ (λ clean d
     inl (subst (λ (d : Database). IsNoStore d.trees) (can.shows_committed calm) (can.bare calm bare), begun.1)) survives
 
 -- what an upgrade may leave: the tables of the store, upgraded
-leaves_upgraded : (site : TextOfSite) (version : Version) (old new : State) → version ≢ Third
+leaves_upgraded : (site : TextOfSite) (version : Version) (old new : State) → version ≢ V3
     → IsFoundAt version old → (HasCleanDisk old → HasMeta version (sha256 site.text) old.now.trees)
     → Survives old new (λ trees. IsTrue old.is_open × IsUpgrade version site.text old.now.trees (office_over trees))
     → Survives old new (IsPreparedFor site old)
@@ -107,7 +107,7 @@ leaves_upgraded site version old new earlier found told survives = survives_weak
     ))) survives
 
 -- what a growth may leave: the tables of the store, with the new text
-leaves_grown : (site : TextOfSite) (old new : State) → IsFoundAt Third old → (HasCleanDisk old → IsGrowable site.site old.now)
+leaves_grown : (site : TextOfSite) (old new : State) → IsFoundAt V3 old → (HasCleanDisk old → IsGrowable site.site old.now)
     → (HasCleanDisk old → ¬ HoldsText site.text old.now.trees)
     → Survives old new (λ trees. IsTrue old.is_open × IsGrown site.text old.now.trees (office_over trees))
     → Survives old new (IsPreparedFor site old)
@@ -115,7 +115,7 @@ leaves_grown site old new found can other survives = survives_weaker _ _ _ _ (λ
     let calm = was_clean _ _ _ survives clean in
     let same = ap (λ (d : Database). d.trees) (found.shows_committed calm) in
     inr (inr (
-      subst (HasSchema (schema_of Third)) same (lists_schema Third old.now (found.found calm)),
+      subst (HasSchema (schema_of V3)) same (lists_schema V3 old.now (found.found calm)),
       subst (CanTake site.site) same (can calm).1,
       subst (λ t. ¬ HoldsText site.text t) same (other calm),
       subst (λ t. IsGrown site.text t (office_over db)) same made.1,
@@ -146,7 +146,7 @@ module _ {S : Type 0} (g : Ghosts S) (site : TextOfSite) (old new : Held S) (cal
           let fresh = (created clean).begun.fresh in
           record {
             tells = fresh.tells;
-            grown = λ older tells. absurd (not_silent Third (sha256 older) (state g old).now.trees none.silent tells.named);
+            grown = λ older tells. absurd (not_silent V3 (sha256 older) (state g old).now.trees none.silent tells.named);
             own = λ version other earlier told. absurd (not_silent version other (state g old).now.trees none.silent told);
             apart = apart_if_none (state g new).now.trees fresh.tables;
             tables = fresh.tables ∙ sym none.tables;
@@ -177,7 +177,7 @@ module _ {S : Type 0} (g : Ghosts S) (site : TextOfSite) (old new : Held S) (cal
       other.1 version (ap (λ (d : Database). d.schema) ((undone clean).now up
       ∙ sym (found.shows_committed (before clean))) ∙ (found.found (before clean)).schema))
 
-  module _ (version : Version) (earlier : version ≢ Third) (found : IsFoundAt version (state g old)) (apart : IsApartAt (state g old))
+  module _ (version : Version) (earlier : version ≢ V3) (found : IsFoundAt version (state g old)) (apart : IsApartAt (state g old))
       (told : HasCleanDisk (state g old) → HasMeta version (sha256 site.text) (state g old).now.trees) (mode : new.in_transaction ≡ false)
       (survives : Survives (state g old) (state g new) (λ trees. IsTrue (state g old).is_open
       × IsUpgrade version site.text (state g old).now.trees (office_over trees))) where
@@ -199,7 +199,7 @@ module _ {S : Type 0} (g : Ghosts S) (site : TextOfSite) (old new : Held S) (cal
           record {
             tells = record { holds = upgrade.holds; named = upgrade.told (sha256 site.text) (told before) };
             grown = λ older tells.
-                absurd (not_third version (sha256 site.text) (sha256 older) (state g old).now.trees earlier (told before) tells.named);
+                absurd (not_v3 version (sha256 site.text) (sha256 older) (state g old).now.trees earlier (told before) tells.named);
             own = λ version2 other earlier2 is. site_once version2 version other (sha256 site.text) (state g old).now.trees is (told before);
             apart = apart_upgraded version site.text (state g old).now.trees (state g new).now upgrade (apart before);
             tables = upgrade.tables;
@@ -232,10 +232,10 @@ module _ {S : Type 0} (g : Ghosts S) (site : TextOfSite) (old new : Held S) (cal
     unstarted = never_first take.0 before (tables_in now) take.1;
   }
 
-  module _ (found : IsFoundAt Third (state g old)) (apart : IsApartAt (state g old)) (can : HasCleanDisk (state g old)
+  module _ (found : IsFoundAt V3 (state g old)) (apart : IsApartAt (state g old)) (can : HasCleanDisk (state g old)
       → IsGrowable site.site (state g old).now) (mode : new.in_transaction ≡ false) where
-    third_store : HasCleanDisk (state g old) → IsStore (state g old).now.trees
-    third_store clean = let take = (can clean).1 in store_of Third (sha256 take.0) (state g old).now (found.found clean) take.1.named
+    v3_store : HasCleanDisk (state g old) → IsStore (state g old).now.trees
+    v3_store clean = let take = (can clean).1 in store_of V3 (sha256 take.0) (state g old).now (found.found clean) take.1.named
 
     module _ (other : HasCleanDisk (state g old) → ¬ HoldsText site.text (state g old).now.trees)
         (survives : Survives (state g old) (state g new) (λ trees. IsTrue (state g old).is_open
@@ -248,7 +248,7 @@ module _ {S : Type 0} (g : Ghosts S) (site : TextOfSite) (old new : Held S) (cal
       grew it = record {
         mode = mode;
         ready = λ clean. ((it clean).is_open, record { mode = mode; office = λ up. (it clean).grown.office; shows_committed = λ up. sym (it clean).committed });
-        was = λ clean absent has. taken_store absent (state g old).now.trees (third_store (before_growth clean));
+        was = λ clean absent has. taken_store absent (state g old).now.trees (v3_store (before_growth clean));
         takes = λ clean.
             let before = before_growth clean in
             let grown = (it clean).grown in
@@ -262,7 +262,7 @@ module _ {S : Type 0} (g : Ghosts S) (site : TextOfSite) (old new : Held S) (cal
 
       -- it wasn't
       pub not_grown : (HasCleanDisk (state g new) → IsUndone (state g old) (state g new)) → PreparesTables g site old new (Err Failed)
-      not_grown undone = unprepared g site old new Failed mode (undone_failed Third found before_growth undone)
+      not_grown undone = unprepared g site old new Failed mode (undone_failed V3 found before_growth undone)
           (λ clean. undone_keeps (state g old) (state g new) (undone clean)) (λ other. absurd (other refl))
           (leaves_grown site (state g old) (state g new) found can other survives)
 
@@ -288,7 +288,7 @@ module _ {S : Type 0} (g : Ghosts S) (site : TextOfSite) (old new : Held S) (cal
                   shows_committed = λ up. same.now_is ∙ found.shows_committed (before clean) ∙ sym same.committed_is;
                 },
               );
-          was = λ clean absent has. taken_store absent (state g old).now.trees (third_store (before clean));
+          was = λ clean absent has. taken_store absent (state g old).now.trees (v3_store (before clean));
           takes = λ clean.
               let now = (state g old).now.trees in
               let take = (can (before clean)).1 in
@@ -314,7 +314,7 @@ module _ {S : Type 0} (g : Ghosts S) (site : TextOfSite) (old new : Held S) (cal
           | inl e ↦ e
           | inr e ↦ e ∙ sym (found.shows_committed (before clean))
         ] in
-        other.1 Third (ap (λ (d : Database). d.schema) was ∙ (found.found (before clean)).schema)))
+        other.1 V3 (ap (λ (d : Database). d.schema) was ∙ (found.found (before clean)).schema)))
         (λ clean. record { was_open = (tests.rests clean).was_open; committed = (tests.rests clean).committed })
         (λ other. absurd (other refl))
         (survives_weaker _ _ _ _ (λ clean db none. absurd none) tests.crash)

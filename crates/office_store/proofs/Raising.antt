@@ -6,7 +6,7 @@ use Rattle.office_sql.specs.Prelude.{SqlWrites}
 use Rattle.office_sql.proofs.MapChanges.{changes_then}
 use Rattle.office_store.proofs.Types.{Version}
 use Rattle.office_store.specs.Prelude.{CanUpgrade, IsAt, IsFilled, IsRaised, IsStep}
-use Rattle.office_found.specs.Prelude.{IsFound, Sees, count_of, next_version}
+use Rattle.store_inspection.specs.Prelude.{IsFound, Sees, count_of, next_version}
 use Rattle.office_store.proofs.Changing.{said_if_open, says_more}
 use Rattle.office_store.proofs.Steps.{filled, is_at, is_last, raised_on}
 

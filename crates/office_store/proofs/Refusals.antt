@@ -6,13 +6,13 @@ use Rattle.sha2.specs.Sha256.{sha256}
 use Rattle.site_core.specs.Prelude.{TextOfSite}
 use Rattle.office_sql.proofs.Kit.{Row, Database, Held, state, HasCleanDisk, IsUnchanged, Trees, Error, survives_then, unchanged_then}
 use Rattle.sqlite.specs.Store.{Ghosts}
-use Rattle.office_store.proofs.Types.{OpenFault, OtherSite, OtherTables, Failed, Meta, Version, Earliest, Early, First, Third}
+use Rattle.office_store.proofs.Types.{OpenFault, OtherSite, OtherTables, Failed, Meta, Version, V1a, V1b, V1, V3}
 use Rattle.office_store.specs.Prelude.{AreStartsAsked, CanTake, Examines, HasOtherRows, HasOtherTables, IsFoundAt, IsOfOtherSite, IsOther, IsShownText}
 use Rattle.office_store.specs.Prelude.{IsGrownFrom, ShowsSame, TellsOther, result_of_test}
-use Rattle.office_found.specs.Prelude.{HasStarts, IsFound, Tests, meta_of_version, metas_in, IsMetaOf, HasMeta, ShowTexts, number_of_version, schema_of}
+use Rattle.store_inspection.specs.Prelude.{HasStarts, IsFound, Tests, meta_of_version, metas_in, IsMetaOf, HasMeta, ShowTexts, number_of_version, schema_of}
 use Rattle.office_sql.proofs.Asked.{was_clean}
-use Rattle.office_found.proofs.FoundAsked.{rests_then, still_found}
-use Rattle.office_found.proofs.MetaShows.{no_site}
+use Rattle.store_inspection.proofs.FoundAsked.{rests_then, still_found}
+use Rattle.store_inspection.proofs.MetaShows.{no_site}
 use Rattle.office_store.proofs.Telling.{shown_tells, tells_shown}
 
 -- what holds of an error holds of a result that is it
@@ -23,17 +23,17 @@ is_err X (Ok _) fault is x = absurd is
 is_err X (Err told) fault is x = subst (λ f. X (Err f)) (sym is) x
 
 -- a store of an earlier version that tells another site is another site's
-is_other : (site : TextOfSite) (version : Version) (db : Trees) → version ≢ Third → TellsOther version (sha256 site.text) db → IsOther site version db
-is_other site Third db earlier other = absurd (earlier refl)
+is_other : (site : TextOfSite) (version : Version) (db : Trees) → version ≢ V3 → TellsOther version (sha256 site.text) db → IsOther site version db
+is_other site V3 db earlier other = absurd (earlier refl)
 is_other site _ db earlier other = other
 
 -- in a store of an earlier version and this site in which beginnings of validity are told, they are asked for
-pub are_asked : (site : List ℕ) (version : Version) (db : Trees) → version ≢ Third → number_of_version version ≢ 1
+pub are_asked : (site : List ℕ) (version : Version) (db : Trees) → version ≢ V3 → number_of_version version ≢ 1
     → HasMeta version site db → AreStartsAsked site version db
-are_asked site Earliest db earlier later told = absurd (later refl)
-are_asked site Early db earlier later told = absurd (later refl)
-are_asked site First db earlier later told = absurd (later refl)
-are_asked site Third db earlier later told = absurd (earlier refl)
+are_asked site V1a db earlier later told = absurd (later refl)
+are_asked site V1b db earlier later told = absurd (later refl)
+are_asked site V1 db earlier later told = absurd (later refl)
+are_asked site V3 db earlier later told = absurd (earlier refl)
 are_asked site _ db earlier later told = told
 
 -- what was found is there after a test
@@ -204,7 +204,7 @@ module _ {S : Type 0} (g : Ghosts S) (site : TextOfSite) (old new : Held S)
     told clean = subst (λ (d : Database). IsMetaOf (metas_in d.trees) meta) (sym (same_trees meta _ tests clean)) (tests.answer clean)
 
     -- what the store tells of itself was read and judged, by a name that is the site's
-    pub judged : version ≢ Third → (name : List ℕ) → name ≡ sha256 site.text → (result : Result (Unit {0}) OpenFault)
+    pub judged : version ≢ V3 → (name : List ℕ) → name ≡ sha256 site.text → (result : Result (Unit {0}) OpenFault)
         → OnOk result (meta ≡ Some (meta_of_version version name))
         → IfErr result (λ fault. fault ≡ OtherSite → (other : List ℕ) × (length other ≡ 32) × (meta ≡ Some (meta_of_version version other)) × (other ≢ name))
         → IfErr result (λ fault. fault ≡ OtherTables → (other : List ℕ) → meta ≢ Some (meta_of_version version other))
@@ -220,15 +220,15 @@ module _ {S : Type 0} (g : Ghosts S) (site : TextOfSite) (old new : Held S)
         (λ clean other. same_trees meta _ tests clean)
 
   -- the text that the store tells of was read and judged
-  module _ (third : version ≡ Third) (read : Option Meta
+  module _ (third : version ≡ V3) (read : Option Meta
       × Vec Row Global) (tests : Tests {E = Error} g old new (Ok read) (λ db it.
       IsMetaOf (metas_in db) it.0 × ShowTexts db it.1.items)) where
     after : HasCleanDisk (state g new) → IsMetaOf (metas_in (state g new).now.trees) read.0 × ShowTexts (state g new).now.trees read.1.items
     after clean = subst (λ (d : Database). IsMetaOf (metas_in d.trees) read.0
         × ShowTexts d.trees read.1.items) (sym (same_trees read _ tests clean)) (tests.answer clean)
 
-    is_third : HasCleanDisk (state g new) → (state g new).now.schema ≡ schema_of Third
-    is_third clean = schema_after read _ tests clean ∙ ap schema_of third
+    is_v3 : HasCleanDisk (state g new) → (state g new).now.schema ≡ schema_of V3
+    is_v3 clean = schema_after read _ tests clean ∙ ap schema_of third
 
     pub growth_judged : (result : Result (Unit {0}) OpenFault)
         → OnOk result ((text : List ℕ) × IsShownText text read.1.items read.0
@@ -239,11 +239,11 @@ module _ {S : Type 0} (g : Ghosts S) (site : TextOfSite) (old new : Held S)
     growth_judged (Ok _) grown others never = passed read _ tests (λ db. CanTake site.site db.trees)
         (λ clean it. (grown.0, shown_tells grown.0 _ read.0 read.1.items it grown.1, grown.2))
     growth_judged (Err fault) grown others never = not_passed (Ok read) _ tests fault _
-        (λ clean is. let it = others is in (Third, is_third clean, (it.0, shown_tells it.0 _ read.0 read.1.items (after clean) it.1, it.2)))
+        (λ clean is. let it = others is in (V3, is_v3 clean, (it.0, shown_tells it.0 _ read.0 read.1.items (after clean) it.1, it.2)))
         (λ clean is.
         inr (
-          Third,
-          is_third clean,
+          V3,
+          is_v3 clean,
           inr (inr (inr (inl (λ text utf tells.
               never is text utf (tells_shown text _ read.0 read.1.items (after clean) tells))))),
         ))

@@ -18,8 +18,8 @@ use Rattle.office_sql.proofs.Inserting.{IsInsertOf}
 use Rattle.office_sql.proofs.Stepping.{cast_null}
 use Rattle.office_store.specs.Prelude.{GainsNone, LacksOrderStarts, LacksGivenStarts}
 use Rattle.office_store.specs.declared.upgrade.TheConstants.{INSERT_NO_ORDER_STARTS, INSERT_NO_GIVEN_STARTS}
-use Rattle.office_found.specs.Prelude.{schema_of}
-use Rattle.office_found.specs.declared.version.Version.TheVariants.{Second}
+use Rattle.store_inspection.specs.Prelude.{schema_of}
+use Rattle.store_inspection.specs.declared.version.Version.TheVariants.{V2}
 use Rattle.office_store.proofs.Counts.{first_but}
 
 -- starts that say nothing give none
@@ -45,7 +45,7 @@ plainly = Binary ∷ Binary ∷ Binary ∷ Binary ∷ []
 filled : {A : Type 0} (Typed : Row → Type 0) (cmp : A → A → Ordering) (total : IsTotalOrder cmp) (value : Row → A) (is_for : A → Row → Bool)
     → ((a : A) (id : ℤ) (r : Row) → Typed r → is_for a (Int id ∷ start_columns r) ≡ is_eq (cmp a (value r))) → ((r : Row) → Typed r → IsText 1 r × IsText 2 r)
     → (table side : OfficeTable) (old new : Database) → AreRows Typed cmp value (rows_in old.trees table)
-    → Fills (schema_of Second) start_columns table side old new → GainsNone is_for value table side old new
+    → Fills (schema_of V2) start_columns table side old new → GainsNone is_for value table side old new
 filled Typed cmp total value is_for tied texts table side old new are it =
     let news = news_of start_columns [] it.kept in
     let grown = grows start_columns it.kept [] tt tt in
@@ -66,7 +66,7 @@ filled Typed cmp total value is_for tied texts table side old new are it =
 
 -- ---- the starts of orders
 
-order_fill : IsInsertOf (schema_of Second) INSERT_NO_ORDER_STARTS.now order_starts (Selected (shown_of orders plainly fill_shown))
+order_fill : IsInsertOf (schema_of V2) INSERT_NO_ORDER_STARTS.now order_starts (Selected (shown_of orders plainly fill_shown))
 unfolding understood everything
 order_fill = record { is = refl; plain = (refl, refl); there = refl; uncounted = refl; unstamped = refl }
 
@@ -78,12 +78,12 @@ pub orders_filled : (old new : State) (count : ℕ) → LacksOrderStarts old.now
 orders_filled old new count lacks ran =
     filled IsOrderRow order_cmp order_total order_in_row starts_order (λ a id r e.
     sym (order_tied a (order_in_row r))) (λ r e. (e.0, e.1)) orders order_starts old.now new.now lacks.rows
-    (fills (schema_of Second) INSERT_NO_ORDER_STARTS.now order_starts orders plainly fill_shown order_fill (λ db.
+    (fills (schema_of V2) INSERT_NO_ORDER_STARTS.now order_starts orders plainly fill_shown order_fill (λ db.
     refl) [] IsOrderRow start_columns order_casts old new count lacks.schema lacks.none lacks.rows.typed ran)
 
 -- ---- the starts of records
 
-given_fill : IsInsertOf (schema_of Second) INSERT_NO_GIVEN_STARTS.now given_starts (Selected (shown_of given plainly fill_shown))
+given_fill : IsInsertOf (schema_of V2) INSERT_NO_GIVEN_STARTS.now given_starts (Selected (shown_of given plainly fill_shown))
 unfolding understood everything
 given_fill = record { is = refl; plain = (refl, refl); there = refl; uncounted = refl; unstamped = refl }
 
@@ -95,5 +95,5 @@ pub given_filled : (old new : State) (count : ℕ) → LacksGivenStarts old.now 
 given_filled old new count lacks ran =
     filled IsGivenRow given_cmp given_total given_in_row starts_given (λ a id r e.
     sym (given_tied a (given_in_row r))) (λ r e. (e.0, e.1)) given given_starts old.now new.now lacks.rows
-    (fills (schema_of Second) INSERT_NO_GIVEN_STARTS.now given_starts given plainly fill_shown given_fill (λ db.
+    (fills (schema_of V2) INSERT_NO_GIVEN_STARTS.now given_starts given plainly fill_shown given_fill (λ db.
     refl) [] IsGivenRow start_columns given_casts old new count lacks.schema lacks.none lacks.rows.typed ran)

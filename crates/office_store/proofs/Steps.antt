@@ -9,10 +9,10 @@ use Rattle.office_sql.specs.Prelude.{map_in_row, link_in_row, order_in_row, devi
 use Rattle.office_sql.specs.Prelude.{with_order_start, with_given_start, rows_in, place_of, AreOfficeRows, AreRows, AreStarted, tables_in, IsSeatRow, IsMapRow}
 use Rattle.office_sql.specs.Prelude.{IsLinkRow, IsOrderRow, IsDeviceRow, IsGivenRow, IsEntryRow}
 use Rattle.office_store.proofs.StartsMade.{silent_start}
-use Rattle.office_store.proofs.Types.{Version, Earliest, Early, First, Second, Third}
+use Rattle.office_store.proofs.Types.{Version, V1a, V1b, V1, V2, V3}
 use Rattle.office_store.specs.Prelude.{CanUpgrade, GainsNone, GainsNoStart, GainsStarts, GainsText, IsAt, IsFilled, IsRaised, IsRemade, IsStep}
 use Rattle.office_store.specs.Prelude.{LacksGivenStarts, LacksOrderStarts, tables_at}
-use Rattle.office_found.specs.Prelude.{IsEarly, IsFound, KeepsFirst, Sees, TellsNoStart, count_of, next_version, rows_at}
+use Rattle.store_inspection.specs.Prelude.{IsBeforeV1, IsFound, KeepsFirst, Sees, TellsNoStart, count_of, next_version, rows_at}
 use Rattle.office_store.proofs.Counts.{first_eight}
 
 -- the rows of a table that a version has are those of the database
@@ -62,23 +62,23 @@ stepped version next x y is raised later also = subst (λ v. IsRaised version v 
 -- ---- from a version before the first
 
 module _ (x y : Database) (rows : AreOfficeRows x.trees) (it : IsRemade x y) where
-  first_is : IsAt First y
+  first_is : IsAt V1 y
   first_is = record { schema = it.tables.0; sound = it.tables.1; rows = office_rows x.trees y.trees it.rows rows; starts = tt }
 
-  pub early_step : (version : Version) → IsEarly version → IsStep version x y
-  early_step Earliest early = stepped Earliest First x y refl (record {
+  pub step_before_v1 : (version : Version) → IsBeforeV1 version → IsStep version x y
+  step_before_v1 V1a early = stepped V1a V1 x y refl (record {
     is = first_is;
-    tables = tables_same x.trees y.trees it.rows Earliest First refl refl;
+    tables = tables_same x.trees y.trees it.rows V1a V1 refl refl;
     rows = it.rows;
     none = λ _. refl;
   })
-  early_step Early early = stepped Early First x y refl (record {
+  step_before_v1 V1b early = stepped V1b V1 x y refl (record {
     is = first_is;
-    tables = tables_same x.trees y.trees it.rows Early First refl refl;
+    tables = tables_same x.trees y.trees it.rows V1b V1 refl refl;
     rows = it.rows;
     none = λ _. refl;
   })
-  early_step _ early = absurd early
+  step_before_v1 _ early = absurd early
 
 -- ---- from the first
 
@@ -136,8 +136,8 @@ module _ (x y : Database) (rows : AreOfficeRows x.trees) (gains : GainsStarts x 
       row = record o.row { not_before = silent_start starts_given (rows_in z.trees given_starts) o fills.given.silent i };
     }
 
-    pub first_step : IsStep First x z
-    first_step = stepped First Second x z refl (record {
+    pub v1_step : IsStep V1 x z
+    v1_step = stepped V1 V2 x z refl (record {
       is = record {
         schema = fills.given.schema;
         sound = fills.given.sound;
@@ -149,20 +149,20 @@ module _ (x y : Database) (rows : AreOfficeRows x.trees) (gains : GainsStarts x 
               (sym (fills.given.others given (omega arith) (λ e. cc))) fills.given.started;
         };
       };
-      tables = tables_same x.trees z.trees rows_stand First Second no_order_starts no_given_starts;
+      tables = tables_same x.trees z.trees rows_stand V1 V2 no_order_starts no_given_starts;
       rows = rows_stand;
       none = λ _. refl;
     })
 
 -- ---- from the second
 
-pub second_step : (x z : Database) → IsAt Second x → GainsText x z → IsStep Second x z
-second_step x z at gains =
+pub v2_step : (x z : Database) → IsAt V2 x → GainsText x z → IsStep V2 x z
+v2_step x z at gains =
     let same = first_by_name (λ t. z.trees t.tree ≡ x.trees t.tree) 10 gains.others in
     let first : KeepsFirst 8 x.trees z.trees = λ table low. same table (omega (arith, low)) in
     let of_orders = same order_starts (omega arith) in
     let of_given = same given_starts (omega arith) in
-    stepped Second Third x z refl (record {
+    stepped V2 V3 x z refl (record {
       is = record {
         schema = gains.schema;
         sound = gains.sound;
@@ -172,7 +172,7 @@ second_step x z at gains =
           given = subst₂ (AreStarted starts_given given_in_row) (sym (same given (omega arith))) (sym of_given) at.starts.given;
         };
       };
-      tables = tables_same x.trees z.trees first Second Third (ap with_order_start of_orders) (ap with_given_start of_given);
+      tables = tables_same x.trees z.trees first V2 V3 (ap with_order_start of_orders) (ap with_given_start of_given);
       rows = same;
       none = λ _. gains.none;
     })
@@ -181,20 +181,20 @@ second_step x z at gains =
 
 -- how many steps are left
 abbrev pub steps_left : Version → ℕ
-steps_left Earliest = 3
-steps_left Early = 3
-steps_left First = 2
-steps_left Second = 1
-steps_left Third = 0
+steps_left V1a = 3
+steps_left V1b = 3
+steps_left V1 = 2
+steps_left V2 = 1
+steps_left V3 = 0
 
 -- what is so of each version and the one that it is written to have next
-each_next : (P : Version → Version → Type 0) → P Earliest First × P Early First × P First Second × P Second Third
+each_next : (P : Version → Version → Type 0) → P V1a V1 × P V1b V1 × P V1 V2 × P V2 V3
     → (version next : Version) → next_version version ≡ Some next → P version next
-each_next P all Earliest next is = let same : First ≡ next = cc in subst (P Earliest) same all.0
-each_next P all Early next is = let same : First ≡ next = cc in subst (P Early) same all.1
-each_next P all First next is = let same : Second ≡ next = cc in subst (P First) same all.2
-each_next P all Second next is = let same : Third ≡ next = cc in subst (P Second) same all.3
-each_next P all Third next is = absurd (let none = is in cc)
+each_next P all V1a next is = let same : V1 ≡ next = cc in subst (P V1a) same all.0
+each_next P all V1b next is = let same : V1 ≡ next = cc in subst (P V1b) same all.1
+each_next P all V1 next is = let same : V2 ≡ next = cc in subst (P V1) same all.2
+each_next P all V2 next is = let same : V3 ≡ next = cc in subst (P V2) same all.3
+each_next P all V3 next is = absurd (let none = is in cc)
 
 -- each step leaves one less
 pub one_less : (version next : Version) → next_version version ≡ Some next → steps_left next < steps_left version
@@ -205,20 +205,20 @@ pub more_tables : (version next : Version) → next_version version ≡ Some nex
 more_tables = each_next (λ v n. count_of v ≤ count_of n) (omega arith, omega arith, omega arith, omega arith)
 
 -- a version that is neither the third nor one with the number 1 is the second
-pub is_second : (version : Version) → version ≢ Earliest → version ≢ Early → version ≢ First → version ≢ Third → version ≡ Second
-is_second Earliest a b c d = absurd (a refl)
-is_second Early a b c d = absurd (b refl)
-is_second First a b c d = absurd (c refl)
-is_second Second a b c d = refl
-is_second Third a b c d = absurd (d refl)
+pub is_v2 : (version : Version) → version ≢ V1a → version ≢ V1b → version ≢ V1 → version ≢ V3 → version ≡ V2
+is_v2 V1a a b c d = absurd (a refl)
+is_v2 V1b a b c d = absurd (b refl)
+is_v2 V1 a b c d = absurd (c refl)
+is_v2 V2 a b c d = refl
+is_v2 V3 a b c d = absurd (d refl)
 
 -- the third has no next
 pub no_next : (next : Option Version) → ((version : Version) → next ≢ Some version) → next ≡ None
 no_next None none = refl
 no_next (Some version) none = absurd (none version refl)
 
-pub is_last : (version : Version) → next_version version ≡ None → version ≡ Third
-is_last Third none = refl
+pub is_last : (version : Version) → next_version version ≡ None → version ≡ V3
+is_last V3 none = refl
 is_last _ none = absurd (let e = none in cc)
 
 pub raised_on : (version at next : Version) → count_of version ≤ count_of at → (x y z : Database) → IsRaised version at x y → IsRaised at next y z
@@ -234,16 +234,16 @@ raised_on version at next fewer x y z first second = record {
 
 -- one that can be upgraded is of its version
 pub is_at : (version : Version) (s : State) → CanUpgrade version s → Sees (IsAt version) s
-is_at Second s can up =
+is_at V2 s can up =
     let found = can.found up in
     record { schema = found.schema; sound = found.sound; rows = found.rows; starts = found.starts (can.started (λ e. omega (arith, e)) up) }
-is_at Third s can up = absurd (can.earlier refl)
+is_at V3 s can up = absurd (can.earlier refl)
 is_at version s can up =
     let found = can.found up in
     record { schema = found.schema; sound = found.sound; rows = found.rows; starts = tt }
 
 -- where no beginning of validity is told, the tables of a version with the number 1 say what those of the office do
-untold : (db : Trees) → TellsNoStart db → tables_at First db ≡ tables_in db
+untold : (db : Trees) → TellsNoStart db → tables_at V1 db ≡ tables_in db
 untold db none i = record {
   seats = sort_by seat_cmp (map seat_in_row (rows_in db seats));
   orders = map (with_order_start (sym none.0 i)) (sort_by order_cmp (map order_in_row (rows_in db orders)));
@@ -255,17 +255,17 @@ untold db none i = record {
 }
 
 found_tables : (version : Version) (x : Database) → IsFound version x → tables_at version x.trees ≡ tables_in x.trees
-found_tables Second x found = refl
-found_tables Third x found = refl
+found_tables V2 x found = refl
+found_tables V3 x found = refl
 found_tables version x found = untold x.trees found.starts
 
 -- an earlier version has no text of the site
-no_texts : (version : Version) → version ≢ Third → (db : Trees) → rows_at version db texts ≡ []
-no_texts Third earlier db = absurd (earlier refl)
+no_texts : (version : Version) → version ≢ V3 → (db : Trees) → rows_at version db texts ≡ []
+no_texts V3 earlier db = absurd (earlier refl)
 no_texts _ earlier db = refl
 
 -- all is as the office has it, and says what it said
-pub filled : (version : Version) → version ≢ Third → (x z : Database) → IsFound version x → IsRaised version Third x z → IsFilled version x z
+pub filled : (version : Version) → version ≢ V3 → (x z : Database) → IsFound version x → IsRaised version V3 x z → IsFilled version x z
 filled version earlier x z found raised = record {
   office = record {
     schema = raised.is.schema;

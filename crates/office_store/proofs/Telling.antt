@@ -3,10 +3,10 @@ use Rattle.std.proofs.Common.{◌≡◌, ◌≢◌, ℕ, List, [], ◌∷◌, Op
 use Rattle.sha2.specs.Sha256.{sha256}
 use Rattle.sha2.proofs.Facts256.{length-sha256}
 use Rattle.office_sql.proofs.Kit.{Row, Trees}
-use Rattle.office_store.proofs.Types.{Meta, Version, Third}
+use Rattle.office_store.proofs.Types.{Meta, Version, V3}
 use Rattle.office_store.specs.Prelude.{IsShownText, new_meta}
-use Rattle.office_found.specs.Prelude.{metas_in, HoldsSite, IsMetaOf, HasMeta, ShowTexts, number_of_version}
-use Rattle.office_found.proofs.TextShows.{shown_text}
+use Rattle.store_inspection.specs.Prelude.{metas_in, HoldsSite, IsMetaOf, HasMeta, ShowTexts, number_of_version}
+use Rattle.store_inspection.proofs.TextShows.{shown_text}
 
 schema_in : List Meta → ℕ
 schema_in [] = 0
@@ -29,9 +29,9 @@ unfolding site_in
 site_once version version2 site other db one two = ap site_in (sym one ∙ two)
 
 -- a store of an earlier version isn't of the third
-pub not_third : (version : Version) (site other : List ℕ) (db : Trees) → version ≢ Third → HasMeta version site db → HasMeta Third other db → ⊥
-not_third Third site other db earlier one two = earlier refl
-not_third version site other db earlier one two = omega (arith, told_once version Third site other db one two)
+pub not_v3 : (version : Version) (site other : List ℕ) (db : Trees) → version ≢ V3 → HasMeta version site db → HasMeta V3 other db → ⊥
+not_v3 V3 site other db earlier one two = earlier refl
+not_v3 version site other db earlier one two = omega (arith, told_once version V3 site other db one two)
 
 -- a store without a row of meta tells no version
 pub not_silent : (version : Version) (site : List ℕ) (db : Trees) → metas_in db ≡ [] → HasMeta version site db → ⊥
@@ -54,4 +54,4 @@ tells_shown text db meta rows it tells = ((shown_text text db rows it.1).1 tells
   where
     named : (meta : Option Meta) → IsMetaOf (metas_in db) meta → meta ≡ Some (new_meta (sha256 text))
     named (Some m) read = let e = sym read ∙ tells.named in cc
-    named None read = absurd (read Third (sha256 text) (length-sha256 text) tells.named)
+    named None read = absurd (read V3 (sha256 text) (length-sha256 text) tells.named)

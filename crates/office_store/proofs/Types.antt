@@ -1,8 +1,8 @@
 -- The types that code declares and proofs here name, passed on from one place. Declares nothing.
 pub use Rattle.office_store.specs.declared.fault.OpenFault.{OpenFault}
 pub use Rattle.office_store.specs.declared.fault.OpenFault.TheVariants.{Failed, OtherSite, OtherTables}
-pub use Rattle.office_found.specs.declared.meta.Meta.{Meta}
+pub use Rattle.store_inspection.specs.declared.meta.Meta.{Meta}
 pub use Rattle.office_store.specs.declared.opening.Absent.{Absent}
 pub use Rattle.office_store.specs.declared.opening.Absent.TheVariants.{Make, Refuse}
-pub use Rattle.office_found.specs.declared.version.Version.{Version}
-pub use Rattle.office_found.specs.declared.version.Version.TheVariants.{Earliest, Early, First, Second, Third}
+pub use Rattle.store_inspection.specs.declared.version.Version.{Version}
+pub use Rattle.store_inspection.specs.declared.version.Version.TheVariants.{V1a, V1b, V1, V2, V3}

@@ -6,11 +6,11 @@ use Rattle.sqlite.specs.declared.types.Value.TheVariants.{Text as Words, Blob as
 use Rattle.sqlite.specs.Order.{value_cmp}
 use Rattle.office_sql.specs.Prelude.{meta, texts, office_schema, rows_in, number_in_cell}
 use Rattle.office_store.proofs.Told.{told, named, written}
-use Rattle.office_store.proofs.Types.{Meta, Version, Third}
-use Rattle.office_store.specs.Prelude.{ReplacesName, PutsText, TellsItself, TellsThird}
+use Rattle.office_store.proofs.Types.{Meta, Version, V3}
+use Rattle.office_store.specs.Prelude.{ReplacesName, PutsText, TellsItself, TellsV3}
 use Rattle.office_store.specs.declared.upgrade.TheConstants.{UPDATE_OF_SCHEMA}
 use Rattle.office_store.specs.declared.grow.TheConstants.{UPDATE_OF_SITE, UPDATE_OF_SITE_TEXT}
-use Rattle.office_found.specs.Prelude.{meta_in, meta_of_version, HasMeta, HoldsText}
+use Rattle.store_inspection.specs.Prelude.{meta_in, meta_of_version, HasMeta, HoldsText}
 
 -- the row that is there alone
 abbrev IsAlone : List Row → Meta → Type 0
@@ -50,9 +50,9 @@ meta_row version site db is =
     (it.0, it.1, the_number 1 (λ e. cc) (column it.0 0) (ap (λ (m : Meta). m.id) it.2), it.2)
 
 -- the third version is told of the same site
-pub tells_third : (old new : State) (count : ℕ) → old.now.schema ≡ office_schema
-    → (version : Version) → TellsItself version old.now.trees → Executes UPDATE_OF_SCHEMA.now [] old new (Ok count) → TellsThird old.now new.now
-tells_third old new count has version itself ran =
+pub tells_v3 : (old new : State) (count : ℕ) → old.now.schema ≡ office_schema
+    → (version : Version) → TellsItself version old.now.trees → Executes UPDATE_OF_SCHEMA.now [] old new (Ok count) → TellsV3 old.now new.now
+tells_v3 old new count has version itself ran =
     let it = meta_row version itself.0 old.now.trees itself.1 in
     let r = it.0 in
     let made = (told r old new count has it.1 it.2 ran).0 in
@@ -64,15 +64,15 @@ tells_third old new count has version itself ran =
       told = λ earlier site was.
           let same : meta_in r ∷ [] ≡ meta_of_version earlier site ∷ [] = sym (ap (map meta_in) it.1) ∙ was in
           let of_site : bytes (column r 3) ≡ site = ap (λ (l : List Meta). site_in l) same in
-          ap (map meta_in) is ∙ ap (λ s. meta_of_version Third s ∷ []) of_site;
+          ap (map meta_in) is ∙ ap (λ s. meta_of_version V3 s ∷ []) of_site;
       others = made.others;
     }
 
 -- another site is told
-pub names_site : (site : List ℕ) (old new : State) (count : ℕ) → old.now.schema ≡ office_schema → (older : List ℕ) → HasMeta Third older old.now.trees
+pub names_site : (site : List ℕ) (old new : State) (count : ℕ) → old.now.schema ≡ office_schema → (older : List ℕ) → HasMeta V3 older old.now.trees
     → Executes UPDATE_OF_SITE.now (Bytes site ∷ []) old new (Ok count) → ReplacesName site old.now new.now
 names_site site old new count has older itself ran =
-    let it = meta_row Third older old.now.trees itself in
+    let it = meta_row V3 older old.now.trees itself in
     let r = it.0 in
     let number : column r 2 ≡ Int (pos 3) = the_number 3 (λ e. cc) (column r 2) (ap (λ (m : Meta). m.schema) it.3) in
     let made = (named r 3 site old new count has it.1 it.2 number ran).0 in

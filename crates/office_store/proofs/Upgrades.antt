@@ -4,9 +4,9 @@ use Rattle.office_sql.proofs.Kit.{Database}
 use Rattle.office_sql.specs.Prelude.{meta, texts, rows_in, IsOffice}
 use Rattle.office_sql.proofs.Offices.{table_changed, both_started}
 use Rattle.sha2.specs.Sha256.{sha256}
-use Rattle.office_store.proofs.Types.{Version, Third}
-use Rattle.office_store.specs.Prelude.{IsGrown, ReplacesName, IsFilled, IsUpgrade, PutsText, TellsItself, TellsThird}
-use Rattle.office_found.specs.Prelude.{meta_in, HasMeta, IsOnlyText}
+use Rattle.office_store.proofs.Types.{Version, V3}
+use Rattle.office_store.specs.Prelude.{IsGrown, ReplacesName, IsFilled, IsUpgrade, PutsText, TellsItself, TellsV3}
+use Rattle.store_inspection.specs.Prelude.{meta_in, HasMeta, IsOnlyText}
 use Rattle.office_store.proofs.Counts.{first_eight, not_texts}
 
 -- ---- what the store tells of itself
@@ -23,8 +23,8 @@ module _ (version : Version) (x z u : Database) (filled : IsFilled version x z) 
   told_before site told = ap (map meta_in) meta_same ∙ told
 
 -- all is as the office has it, and says what it said
-pub upgraded : (version : Version) → version ≢ Third → (x z u w : Database) → IsFilled version x z
-    → (text : List ℕ) → PutsText text z u → TellsThird u w → IsUpgrade version text x.trees w
+pub upgraded : (version : Version) → version ≢ V3 → (x z u w : Database) → IsFilled version x z
+    → (text : List ℕ) → PutsText text z u → TellsV3 u w → IsUpgrade version text x.trees w
 upgraded version earlier x z u w filled text puts tells =
     let held = table_changed z u filled.office puts.schema puts.sound texts puts.others tt (both_started z filled.office) in
     let told = table_changed u w held.0 tells.schema tells.sound meta tells.others tt (both_started u held.0) in

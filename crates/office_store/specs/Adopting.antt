@@ -17,18 +17,18 @@ use Rattle.office_store.specs.declared.adopting.Handed.TheVariants as handed
 use Rattle.office_store.specs.declared.fault.OpenFault.{OpenFault}
 use Rattle.office_store.specs.declared.fault.OpenFault.TheVariants.{OtherSite, OtherTables, Failed}
 use Rattle.office_store.specs.declared.opening.Absent.{Absent}
-use Rattle.office_found.specs.declared.version.Version.{Version}
-use Rattle.office_found.specs.declared.version.Version.TheVariants.{First, Second, Third}
-use Rattle.office_found.specs.Addresses.{HasApartAddresses}
-use Rattle.office_found.specs.Found.{HasStarts, HasWhole, IsFound}
-use Rattle.office_found.specs.Meta.{metas_in, HoldsSite, HasMeta, TellNoSite}
+use Rattle.store_inspection.specs.declared.version.Version.{Version}
+use Rattle.store_inspection.specs.declared.version.Version.TheVariants.{V1, V2, V3}
+use Rattle.store_inspection.specs.Addresses.{HasApartAddresses}
+use Rattle.store_inspection.specs.Found.{HasStarts, HasWhole, IsFound}
+use Rattle.store_inspection.specs.Meta.{metas_in, HoldsSite, HasMeta, TellNoSite}
 use Rattle.office_store.specs.Making.{IsBegun, new_meta}
 use Rattle.office_store.specs.Growing.{IsGrown, IsGrownFrom}
 use Rattle.office_store.specs.Stores.{HasSchema, IsNoStore, IsTaken, LacksStore}
-use Rattle.office_found.specs.Texts.{HoldsText, IsOnlyText}
-use Rattle.office_found.specs.declared.meta.Meta.{Meta}
+use Rattle.store_inspection.specs.Texts.{HoldsText, IsOnlyText}
+use Rattle.store_inspection.specs.declared.meta.Meta.{Meta}
 use Rattle.office_store.specs.Upgrading.{IsUpgrade}
-use Rattle.office_found.specs.Versions.{number_of_version, schema_of, IsOfNoVersion}
+use Rattle.store_inspection.specs.Versions.{number_of_version, schema_of, IsOfNoVersion}
 
 -- a database whose schema is a version's is of that version, if no number of its is below zero
 abbrev pub FindsVersion : Database → Type 0
@@ -74,7 +74,7 @@ HoldsOther site db = (text : List ℕ) × HoldsSite text db × ¬ IsGrownFrom te
 
 -- a store of another site, by its version
 abbrev pub IsOther : TextOfSite → Version → Trees → Type 0
-IsOther site Third db = HoldsOther site.site db
+IsOther site V3 db = HoldsOther site.site db
 IsOther site version db = TellsOther version (sha256 site.text) db
 
 -- a database that is a store of another site, of any version
@@ -89,8 +89,8 @@ IsOtherSchema schema = (schema ≢ no_schema) × IsOfNoVersion schema
 -- the beginnings of validity are asked for in a store of the second version and this site, and of
 -- the third
 abbrev pub AreStartsAsked : List ℕ → Version → Trees → Type 0
-AreStartsAsked site Second db = HasMeta Second site db
-AreStartsAsked site Third db = ⊤
+AreStartsAsked site V2 db = HasMeta V2 site db
+AreStartsAsked site V3 db = ⊤
 AreStartsAsked site _ db = ⊥
 
 -- a store whose beginnings of validity are asked for doesn't tell each of them
@@ -99,7 +99,7 @@ LacksStarts site version db = AreStartsAsked site version db × ¬ HasStarts db
 
 -- a store of the third version tells of no text of its site
 abbrev pub LacksText : Version → Trees → Type 0
-LacksText Third db = (text : List ℕ) → IsUtf8 text → ¬ HoldsSite text db
+LacksText V3 db = (text : List ℕ) → IsUtf8 text → ¬ HoldsSite text db
 LacksText _ db = ⊥
 
 -- rows that aren't a version's: with a number of a map or of an entry below zero, with a meta that
@@ -146,7 +146,7 @@ IsMadeFor text before db = IsNoStore before × IsBegun text (office_over db)
 -- the tables of a store of an earlier version and this site, upgraded, whole
 abbrev pub IsUpgradedFor : List ℕ → Trees → Trees → Type 0
 IsUpgradedFor text before db =
-    (version : Version) × (version ≢ Third) × HasSchema (schema_of version) before
+    (version : Version) × (version ≢ V3) × HasSchema (schema_of version) before
     × HasMeta version (sha256 text) before × IsUpgrade version text before (office_over db)
 
 -- the store told of a text of which the site is a growth
@@ -161,7 +161,7 @@ IsGrowable site db = HasStarts db.trees × CanTake site db.trees
 -- whole: a store that holds the text stays as it is
 abbrev pub IsGrownFor : TextOfSite → Trees → Trees → Type 0
 IsGrownFor site before db =
-    HasSchema (schema_of Third) before × CanTake site.site before × (¬ HoldsText site.text before)
+    HasSchema (schema_of V3) before × CanTake site.site before × (¬ HoldsText site.text before)
     × IsGrown site.text before (office_over db)
 
 -- what the one transaction makes of a database
@@ -181,7 +181,7 @@ AreUnstarted t =
 
 -- tables that come from a store of the first version have no beginning of validity
 abbrev pub StaysUnstarted : Trees → Tables → Type 0
-StaysUnstarted before t = (site : List ℕ) → HasMeta First site before → AreUnstarted t
+StaysUnstarted before t = (site : List ℕ) → HasMeta V1 site before → AreUnstarted t
 
 -- rows that show this text alone, beside a row of meta that names it
 abbrev pub IsShownText : List ℕ → List Row → Option Meta → Type 0
@@ -194,7 +194,7 @@ TakesGrowth site before = (older : List ℕ) → HoldsSite older before → IsGr
 -- where a store of an earlier version told of itself, it told the SHA-256 of this text
 abbrev pub TakesOwn : List ℕ → Trees → Type 0
 TakesOwn text before =
-    (version : Version) (other : List ℕ) → version ≢ Third → HasMeta version other before → other ≡ sha256 text
+    (version : Version) (other : List ℕ) → version ≢ V3 → HasMeta version other before → other ≡ sha256 text
 
 -- a store is shown as it was, and a crash leaves nothing new
 pub record IsUntouched (old new : State) : Type 0 where

@@ -13,7 +13,7 @@ use Rattle.sqlite.specs.WalFiles.{outcomes}
 use Rattle.sqlite.specs.WalReads.{AreClean}
 use Rattle.office_tables.specs.Prelude.{Tables}
 use Rattle.office_sql.specs.Prelude.{tables_in}
-use Rattle.office_found.specs.Prelude.{IsOfSite}
+use Rattle.store_inspection.specs.Prelude.{IsOfSite}
 use Rattle.office_store.specs.Keeping.{is_honest_at, is_open_at}
 use Rattle.office_store.specs.Kept.{Kept}
 use Rattle.office_store.specs.declared.closing.Closed.{Closed}

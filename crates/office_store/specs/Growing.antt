@@ -4,15 +4,15 @@ use Rattle.sqlite.specs.Tree.{Trees}
 use Rattle.sqlite.specs.Effect.{Database, IsDatabase}
 use Rattle.sqlite.specs.State.{State}
 use Rattle.office_sql.specs.Prelude.{OfficeTable, meta, texts, SameBut, office_schema, rows_in, IsOffice, tables_in}
-use Rattle.office_found.specs.declared.version.Version.TheVariants.{Third}
-use Rattle.office_found.specs.Meta.{HoldsSite, HasMeta}
+use Rattle.store_inspection.specs.declared.version.Version.TheVariants.{V3}
+use Rattle.store_inspection.specs.Meta.{HoldsSite, HasMeta}
 use Rattle.site_core.specs.Prelude.{IsGrowth, SiteValue, site_read}
 
 -- another site is told, and no other table changes
 pub record ReplacesName (site : List ℕ) (old new : Database) : Type 0 where
   pub schema : new.schema ≡ office_schema
   pub sound : IsDatabase new
-  pub told : HasMeta Third site new.trees
+  pub told : HasMeta V3 site new.trees
   pub others : SameBut meta old.trees new.trees
 
 -- each row but the text and that of meta stands, and the tables say what they said; the store tells

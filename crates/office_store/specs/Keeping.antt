@@ -6,7 +6,7 @@ use Rattle.sqlite.specs.State.{HasCleanDisk}
 use Rattle.sqlite.specs.Held.{Held, state}
 use Rattle.office_tables.specs.Prelude.{Tables}
 use Rattle.office_sql.specs.Prelude.{tables_in}
-use Rattle.office_found.specs.Prelude.{HoldsSite}
+use Rattle.store_inspection.specs.Prelude.{HoldsSite}
 
 module _ {S : Type 0} (g : Ghosts S) where
   -- the tables that were last committed. At rest a statement sees them too

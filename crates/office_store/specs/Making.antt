@@ -6,10 +6,10 @@ use Rattle.sqlite.specs.Schema.{Schema}
 use Rattle.sqlite.specs.Effect.{Database}
 use Rattle.sqlite.specs.State.{State, Executes}
 use Rattle.office_tables.specs.Prelude.{no_rows}
-use Rattle.office_found.specs.declared.meta.Meta.{Meta}
-use Rattle.office_found.specs.declared.version.Version.TheVariants.{Third}
-use Rattle.office_found.specs.Meta.{HoldsSite, meta_of_version, metas_in}
-use Rattle.office_found.specs.Versions.{first_tables}
+use Rattle.store_inspection.specs.declared.meta.Meta.{Meta}
+use Rattle.store_inspection.specs.declared.version.Version.TheVariants.{V3}
+use Rattle.store_inspection.specs.Meta.{HoldsSite, meta_of_version, metas_in}
+use Rattle.store_inspection.specs.Versions.{first_tables}
 use Rattle.office_sql.specs.Prelude.{IsOffice, tables_in}
 
 -- no row of a table, and none of meta
@@ -19,7 +19,7 @@ pub record HasNothing (db : Trees) : Type 0 where
 
 -- the row that a new store has
 abbrev pub new_meta : List ℕ → Meta
-new_meta = meta_of_version Third
+new_meta = meta_of_version V3
 
 -- meta, seat, map and link
 abbrev pub half_schema : Schema

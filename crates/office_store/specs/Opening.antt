@@ -18,7 +18,7 @@ use Rattle.office_store.specs.declared.fault.OpenFault.TheVariants.{OtherTables,
 use Rattle.office_store.specs.declared.opening.Absent.{Absent}
 use Rattle.office_store.specs.declared.opening.Absent.TheVariants.{Refuse}
 use Rattle.office_store.specs.Adopting.{IsOtherSchema, IsPreparedFor, IsRefusedFor, IsTakenFor, IsUntouched}
-use Rattle.office_found.specs.Meta.{IsOurs}
+use Rattle.store_inspection.specs.Meta.{IsOurs}
 use Rattle.office_store.specs.Kept.{Kept}
 use Rattle.office_store.specs.Stores.{IsTaken, LacksStore}
 

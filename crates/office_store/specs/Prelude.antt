@@ -13,13 +13,13 @@ pub use Rattle.office_store.specs.Making.{new_meta}
 pub use Rattle.office_store.specs.Opening.{FilesHeld, HasTablesOf, IsFoundAndTurnedAway, IsFoundOver, IsOpenedFor, IsTakenFrom, IsTurnedAway}
 pub use Rattle.office_store.specs.Opening.{IsUnopened, NamesNoFile, ShowsOpening, TellsWhy}
 pub use Rattle.office_store.specs.Refusing.{AreTurnedAway, AreUnconnected, IsDatabaseThat, IsKept, IsRefusal, IsSameOrPrepared, IsSpared, IsToldFor, ReadAs}
-pub use Rattle.office_store.specs.Remaking.{AreKept, entry_row, GainsRecords, HasFirstTables, IsCleared, IsEarlySchema, IsKeptBy, IsPutBack, IsRemade}
-pub use Rattle.office_store.specs.Remaking.{IsUnderWay, LooksAt, LosesRecords, PutsBack, PutsKept, PutsRows, ReplacesRows, SeesEarly}
+pub use Rattle.office_store.specs.Remaking.{AreKept, entry_row, GainsRecords, HasFirstTables, IsCleared, IsSchemaBeforeV1, IsKeptBy, IsPutBack, IsRemade}
+pub use Rattle.office_store.specs.Remaking.{IsUnderWay, LooksAt, LosesRecords, PutsBack, PutsKept, PutsRows, ReplacesRows, SeesBeforeV1}
 pub use Rattle.office_store.specs.Steps.{AreStartedAt, IsAt, IsRaised, IsStep, tables_at}
 pub use Rattle.office_store.specs.Stores.{HasSchema, IsNoStore, IsStore, IsStoreOf, IsStoreOrNone, IsTaken, LacksStore}
 pub use Rattle.office_store.specs.Growing.{IsGrownFrom}
 pub use Rattle.office_store.specs.Upgrading.{CanUpgrade, GainsNone, GainsNoStart, GainsStarts, GainsText, IsFilled, IsUpgrade, IsUpgraded}
-pub use Rattle.office_store.specs.Upgrading.{LacksGivenStarts, LacksOrderStarts, PutsText, TellsItself, TellsThird}
+pub use Rattle.office_store.specs.Upgrading.{LacksGivenStarts, LacksOrderStarts, PutsText, TellsItself, TellsV3}
 pub use Rattle.office_store.specs.Calls.{LooksUpBySql, StaysAsSet}
 pub use Rattle.office_store.specs.Counting.{AgreeBut, AgreeOff, AreCounts, AreRight, count_if_counted, number_at, takes}
 pub use Rattle.office_store.specs.Keeping.{commits_at, is_honest_at, is_open_at, may_leave_at, tables_of, tells_text_at}

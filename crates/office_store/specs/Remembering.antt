@@ -10,7 +10,7 @@ use Rattle.office_tables.specs.declared.rows.Device.{Device}
 use Rattle.office_tables.specs.Prelude.{is_device, map_at, Tables}
 use Rattle.office_sql.specs.Prelude.{IsReady}
 use Rattle.office_store.specs.Counting.{AreRight}
-use Rattle.office_found.specs.Prelude.{IsOfSite}
+use Rattle.store_inspection.specs.Prelude.{IsOfSite}
 use Rattle.office_store.specs.Keeping.{is_honest_at, is_open_at, tables_of}
 use Rattle.office_store.specs.declared.written.DeviceAnswer.{DeviceAnswer}
 use Rattle.office_store.specs.declared.remembered.Remembered.{Remembered}

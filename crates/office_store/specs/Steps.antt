@@ -4,15 +4,15 @@ use Rattle.sqlite.specs.Tree.{Trees}
 use Rattle.sqlite.specs.Effect.{Database, IsDatabase}
 use Rattle.office_tables.specs.Prelude.{Tables}
 use Rattle.office_sql.specs.Prelude.{AreOfficeRows, tables_of, texts}
-use Rattle.office_found.specs.declared.version.Version.{Version}
-use Rattle.office_found.specs.declared.version.Version.TheVariants.{Second, Third}
-use Rattle.office_found.specs.Found.{AreAllStarted}
-use Rattle.office_found.specs.Versions.{count_of, next_version, rows_at, schema_of, KeepsFirst}
+use Rattle.store_inspection.specs.declared.version.Version.{Version}
+use Rattle.store_inspection.specs.declared.version.Version.TheVariants.{V2, V3}
+use Rattle.store_inspection.specs.Found.{AreAllStarted}
+use Rattle.store_inspection.specs.Versions.{count_of, next_version, rows_at, schema_of, KeepsFirst}
 
 -- in a version that has beginnings of validity each order and each record has exactly one
 abbrev pub AreStartedAt : Version → Trees → Type 0
-AreStartedAt Second db = AreAllStarted db
-AreStartedAt Third db = AreAllStarted db
+AreStartedAt V2 db = AreAllStarted db
+AreStartedAt V3 db = AreAllStarted db
 AreStartedAt _ db = ⊤
 
 -- a database of a version: its rows are the office's, and no beginning of validity lacks

@@ -5,12 +5,12 @@ use Rattle.sqlite.specs.Tree.{Trees}
 use Rattle.sqlite.specs.Effect.{Database, IsDatabase}
 use Rattle.sqlite.specs.Schema.{Schema}
 use Rattle.office_sql.specs.Prelude.{no_schema}
-use Rattle.office_found.specs.declared.version.Version.{Version}
+use Rattle.store_inspection.specs.declared.version.Version.{Version}
 use Rattle.office_store.specs.declared.opening.Absent.{Absent}
 use Rattle.office_store.specs.declared.opening.Absent.TheVariants.{Make, Refuse}
 use Rattle.office_store.specs.Making.{HasNothing}
 use Rattle.office_store.specs.Upgrading.{TellsItself}
-use Rattle.office_found.specs.Versions.{schema_of}
+use Rattle.store_inspection.specs.Versions.{schema_of}
 
 -- the trees list this schema, and obey it
 abbrev pub HasSchema : Schema → Trees → Type 0

@@ -11,36 +11,36 @@ use Rattle.sqlite.specs.State.{State}
 use Rattle.office_tables.specs.Prelude.{order_cmp, given_cmp}
 use Rattle.office_sql.specs.Prelude.{OfficeTable, meta, orders, given, order_starts, given_starts, texts, SameBut, office_schema, place_of, rows_in}
 use Rattle.office_sql.specs.Prelude.{order_in_row, given_in_row, starts_order, starts_given, AreRows, AreStarted, IsGivenRow, IsOffice, IsOrderRow, tables_in}
-use Rattle.office_found.specs.declared.version.Version.{Version}
-use Rattle.office_found.specs.declared.version.Version.TheVariants.{First, Second, Third}
-use Rattle.office_found.specs.Found.{HasStarts, IsFound, Sees}
-use Rattle.office_found.specs.Meta.{HasMeta}
-use Rattle.office_found.specs.Texts.{HoldsText}
-use Rattle.office_found.specs.Versions.{count_of, number_of_version, schema_of, KeepsFirst, KeepsFirstBut}
+use Rattle.store_inspection.specs.declared.version.Version.{Version}
+use Rattle.store_inspection.specs.declared.version.Version.TheVariants.{V1, V2, V3}
+use Rattle.store_inspection.specs.Found.{HasStarts, IsFound, Sees}
+use Rattle.store_inspection.specs.Meta.{HasMeta}
+use Rattle.store_inspection.specs.Texts.{HoldsText}
+use Rattle.store_inspection.specs.Versions.{count_of, number_of_version, schema_of, KeepsFirst, KeepsFirstBut}
 
 -- the tables of beginnings of validity are made, with no row, and each other table stays
 pub record GainsStarts (old new : Database) : Type 0 where
-  pub schema : new.schema ≡ schema_of Second
+  pub schema : new.schema ≡ schema_of V2
   pub orders : rows_in new.trees order_starts ≡ []
   pub given : rows_in new.trees given_starts ≡ []
-  pub others : KeepsRows (schema_of First).tables old.trees new.trees
+  pub others : KeepsRows (schema_of V1).tables old.trees new.trees
 
 -- the table of the site's text is made, with no row, and each other table stays
 pub record GainsText (old new : Database) : Type 0 where
   pub schema : new.schema ≡ office_schema
   pub sound : IsDatabase new
   pub none : rows_in new.trees texts ≡ []
-  pub others : KeepsRows (schema_of Second).tables old.trees new.trees
+  pub others : KeepsRows (schema_of V2).tables old.trees new.trees
 
 -- orders in the second version, of none of which a beginning of validity is told
 pub record LacksOrderStarts (db : Database) : Type 0 where
-  pub schema : db.schema ≡ schema_of Second
+  pub schema : db.schema ≡ schema_of V2
   pub rows : AreRows IsOrderRow order_cmp order_in_row (rows_in db.trees orders)
   pub none : rows_in db.trees order_starts ≡ []
 
 -- records in the second version, of none of which a beginning of validity is told
 pub record LacksGivenStarts (db : Database) : Type 0 where
-  pub schema : db.schema ≡ schema_of Second
+  pub schema : db.schema ≡ schema_of V2
   pub rows : AreRows IsGivenRow given_cmp given_in_row (rows_in db.trees given)
   pub none : rows_in db.trees given_starts ≡ []
 
@@ -48,11 +48,11 @@ pub record LacksGivenStarts (db : Database) : Type 0 where
 -- second version changes
 pub record GainsNone {A : Type 0} (is_for : A → Row → Bool) (value : Row → A) (table side : OfficeTable)
     (old new : Database) : Type 0 where
-  pub schema : new.schema ≡ schema_of Second
+  pub schema : new.schema ≡ schema_of V2
   pub sound : IsDatabase new
   pub started : AreStarted is_for value (rows_in old.trees table) (rows_in new.trees side)
   pub silent : AllByRecursion (λ s. column s 3 ≡ Null) (rows_in new.trees side)
-  pub others : KeepsFirstBut side (count_of Second) old.trees new.trees
+  pub others : KeepsFirstBut side (count_of V2) old.trees new.trees
 
 -- each order, and then each record, is told to have no beginning of validity
 pub record GainsNoStart (old new : Database) : Type 0 where
@@ -76,10 +76,10 @@ pub record PutsText (text : List ℕ) (old new : Database) : Type 0 where
   pub others : SameBut texts old.trees new.trees
 
 -- meta tells the third version in place of the one that it told, and the same site; no other table changes
-pub record TellsThird (old new : Database) : Type 0 where
+pub record TellsV3 (old new : Database) : Type 0 where
   pub schema : new.schema ≡ office_schema
   pub sound : IsDatabase new
-  pub told : (version : Version) → (site : List ℕ) → HasMeta version site old.trees → HasMeta Third site new.trees
+  pub told : (version : Version) → (site : List ℕ) → HasMeta version site old.trees → HasMeta V3 site new.trees
   pub others : SameBut meta old.trees new.trees
 
 -- a store of a version tells of itself, whatever its site
@@ -92,14 +92,14 @@ pub record IsUpgrade (version : Version) (text : List ℕ) (old : Trees) (new : 
   pub rows : (table : OfficeTable) → place_of table < count_of version → table ≢ meta
       → rows_in new.trees table ≡ rows_in old table
   pub tables : tables_in new.trees ≡ tables_in old
-  pub told : (site : List ℕ) → HasMeta version site old → HasMeta Third site new.trees
+  pub told : (site : List ℕ) → HasMeta version site old → HasMeta V3 site new.trees
   pub holds : HoldsText text new.trees
   pub office : IsOffice new
 
 -- an open connection sees a database of an earlier version, which tells of itself, and of the second
 -- one in which no beginning of validity lacks
 pub record CanUpgrade (version : Version) (s : State) : Type 0 where
-  pub earlier : version ≢ Third
+  pub earlier : version ≢ V3
   pub found : Sees (IsFound version) s
   pub told : Sees (λ db. TellsItself version db.trees) s
   pub started : number_of_version version ≢ 1 → Sees (λ db. HasStarts db.trees) s

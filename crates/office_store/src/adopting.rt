@@ -5,9 +5,9 @@ ghost use Rattle.sqlite.specs.Held.{state};
 ghost use Rattle.office_store.specs.Prelude.{CanPrepareTables, CanTake, Examines, HandedKeeps, HandedLeaves, IsFoundAt, IsGrowable, IsApartAt};
 ghost use Rattle.office_store.specs.Prelude.{IsFoundApart, IsHandedFor, IsOpenedFor, IsShownText, LeavesAtMost, PreparesTables};
 ghost use Rattle.office_store.specs.Prelude.{new_meta, result_of_test, IsGrownFrom, IsOtherSchema, IsTestedFor};
-ghost use Rattle.office_found.specs.Prelude.{meta_of_version, HasMeta, HoldsText, schema_of};
+ghost use Rattle.store_inspection.specs.Prelude.{meta_of_version, HasMeta, HoldsText, schema_of};
 ghost use Rattle.office_store.specs.declared.fault.OpenFault.TheVariants.{OtherSite as TheSite, OtherTables as TheTables};
-ghost use Rattle.office_found.specs.declared.version.Version.TheVariants.{Third};
+ghost use Rattle.store_inspection.specs.declared.version.Version.TheVariants.{V3};
 ghost use Rattle.sha2.specs.Sha256.{sha256};
 ghost use Rattle.site_core.specs.Prelude.{TextOfSite};
 
@@ -17,7 +17,7 @@ use crate::grow::grow_text;
 use crate::opening::{Absent, prepare_or_hand_back};
 use crate::reread::reread;
 use crate::upgrade::upgrade_tables;
-use office_found::{
+use store_inspection::{
     META_ID, Meta, Version, has_apart_addresses, has_starts, has_text, has_whole_numbers,
     is_empty_schema, meta_row, only_text, told_rows, version_of,
 };
@@ -92,7 +92,7 @@ fn tells_text(meta: Option<Meta>, text: &str) -> bool
 {
     match meta {
         Some(meta) => {
-            is_of_version(&meta, Version::Third) && meta.site == Digest::of(text.as_bytes())
+            is_of_version(&meta, Version::V3) && meta.site == Digest::of(text.as_bytes())
         }
         None => false,
     }
@@ -136,7 +136,7 @@ fn test_growth<S: Alter>(
     conn: &mut Connection<S>,
     site: &SiteText,
 ) -> Result<(), OpenFault>
-    requires { IsFoundAt Third (state S.Store conn.old) }
+    requires { IsFoundAt V3 (state S.Store conn.old) }
     ensures { Examines S.Store site.now conn.old conn.new result (λ db.
         CanTake site.now.site db.trees) }
 {
@@ -148,7 +148,7 @@ fn test_growth<S: Alter>(
 
 /// Holds the text of a site that grew.
 fn grow<S: Alter>(conn: &mut Connection<S>, site: &SiteText) -> Result<(), OpenFault>
-    requires found { IsFoundAt Third (state S.Store conn.old) }
+    requires found { IsFoundAt V3 (state S.Store conn.old) }
     requires apart { IsApartAt (state S.Store conn.old) }
     requires can { HasCleanDisk (state S.Store conn.old)
         → IsGrowable site.now.site (state S.Store conn.old).now }
@@ -168,7 +168,7 @@ fn test_tables<S: Alter>(
     site: &SiteText,
     version: Version,
 ) -> Result<(), OpenFault>
-    requires earlier { version ≢ Third }
+    requires earlier { version ≢ V3 }
     requires can { CanPrepareTables (state S.Store conn.old) }
     requires has { (state S.Store conn.old).now.schema ≡ schema_of version }
     ensures { Examines S.Store site.now conn.old conn.new result
@@ -186,7 +186,7 @@ fn test_earlier<S: Alter>(
     site: &SiteText,
     version: Version,
 ) -> Result<(), OpenFault>
-    requires earlier { version ≢ Third }
+    requires earlier { version ≢ V3 }
     requires can { CanPrepareTables (state S.Store conn.old) }
     requires has { (state S.Store conn.old).now.schema ≡ schema_of version }
     ensures { Examines S.Store site.now conn.old conn.new result
@@ -205,7 +205,7 @@ fn find_earlier<S: Alter>(
     site: &SiteText,
     version: Version,
 ) -> Result<(), OpenFault>
-    requires earlier { version ≢ Third }
+    requires earlier { version ≢ V3 }
     requires can { CanPrepareTables (state S.Store conn.old) }
     requires has { (state S.Store conn.old).now.schema ≡ schema_of version }
     ensures { PreparesTables S.Store site.now conn.old conn.new result }
@@ -217,24 +217,24 @@ fn find_earlier<S: Alter>(
 
 /// Tests a store of the third version: its rows, its beginnings of validity, and that the site is
 /// a growth of the one whose text it holds.
-fn test_third<S: Alter>(
+fn test_v3<S: Alter>(
     alloc: Global,
     conn: &mut Connection<S>,
     site: &SiteText,
 ) -> Result<(), OpenFault>
     requires can { CanPrepareTables (state S.Store conn.old) }
-    requires has { (state S.Store conn.old).now.schema ≡ schema_of Third }
+    requires has { (state S.Store conn.old).now.schema ≡ schema_of V3 }
     ensures { Examines S.Store site.now conn.old conn.new result
-        (λ db. IsFoundApart Third db × IsGrowable site.now.site db) }
+        (λ db. IsFoundApart V3 db × IsGrowable site.now.site db) }
 {
-    test_rows(conn, Version::Third)?;
+    test_rows(conn, Version::V3)?;
     judge_answer(has_starts(conn))?;
     test_growth(alloc, conn, site)
 }
 
 /// Holds the text of the site, where it isn't held.
 fn hold_text<S: Alter>(conn: &mut Connection<S>, site: &SiteText) -> Result<(), OpenFault>
-    requires found { IsFoundAt Third (state S.Store conn.old) }
+    requires found { IsFoundAt V3 (state S.Store conn.old) }
     requires apart { IsApartAt (state S.Store conn.old) }
     requires can { HasCleanDisk (state S.Store conn.old)
         → IsGrowable site.now.site (state S.Store conn.old).now }
@@ -248,16 +248,16 @@ fn hold_text<S: Alter>(conn: &mut Connection<S>, site: &SiteText) -> Result<(), 
 }
 
 /// Tests a store of the third version, and holds the text of the site.
-fn find_third<S: Alter>(
+fn find_v3<S: Alter>(
     alloc: Global,
     conn: &mut Connection<S>,
     site: &SiteText,
 ) -> Result<(), OpenFault>
     requires can { CanPrepareTables (state S.Store conn.old) }
-    requires has { (state S.Store conn.old).now.schema ≡ schema_of Third }
+    requires has { (state S.Store conn.old).now.schema ≡ schema_of V3 }
     ensures { PreparesTables S.Store site.now conn.old conn.new result }
 {
-    test_third(alloc, conn, site)?;
+    test_v3(alloc, conn, site)?;
     hold_text(conn, site)
 }
 
@@ -274,7 +274,7 @@ fn find<S: Alter>(
     ensures { PreparesTables S.Store site.now conn.old conn.new result }
 {
     match version {
-        Version::Third => find_third(alloc, conn, site),
+        Version::V3 => find_v3(alloc, conn, site),
         _ => find_earlier(conn, site, version),
     }
 }

@@ -2,7 +2,7 @@
 ghost use Rattle.std.specs.Prelude.{◌≡◌};
 ghost use Rattle.sqlite.specs.Held.{state};
 ghost use Rattle.sqlite.specs.Tree.{Trees};
-ghost use Rattle.office_found.specs.Prelude.{IsOfSite};
+ghost use Rattle.store_inspection.specs.Prelude.{IsOfSite};
 ghost use Rattle.office_store.specs.Prelude.{is_honest_at, is_open_at};
 ghost use Rattle.office_store.specs.Prelude.{IsLeftOf};
 

@@ -8,7 +8,7 @@ ghost use Rattle.sqlite_store.specs.FileStore as files;
 ghost use Rattle.office_tables.specs.Prelude.{Tables};
 ghost use Rattle.office_store.specs.Prelude.{HasTablesOf};
 ghost use Rattle.office_store.specs.Prelude.{is_honest_at, may_leave_at, tells_text_at};
-ghost use Rattle.office_found.specs.Prelude.{HoldsSite, IsOfSite};
+ghost use Rattle.store_inspection.specs.Prelude.{HoldsSite, IsOfSite};
 
 use crate::SqlKeep;
 use sqlite::FileStore;

@@ -4,8 +4,8 @@ ghost use Rattle.sqlite.specs.State.{HasCleanDisk, Survives};
 ghost use Rattle.sqlite.specs.Held.{state};
 ghost use Rattle.office_sql.specs.Prelude.{SqlWrites, IsUndone, office_schema, office_over};
 ghost use Rattle.office_store.specs.Prelude.{CanGrow, HasGrown, IsGrown, ReplacesName, PutsText};
-ghost use Rattle.office_found.specs.Prelude.{Sees, HasMeta, HoldsText};
-ghost use Rattle.office_found.specs.declared.version.Version.TheVariants.{Third};
+ghost use Rattle.store_inspection.specs.Prelude.{Sees, HasMeta, HoldsText};
+ghost use Rattle.store_inspection.specs.declared.version.Version.TheVariants.{V3};
 
 use site_core::SiteText;
 use sqlite::{Alter, Connection, Error, Transaction, params};
@@ -33,7 +33,7 @@ fn replace_text<S: Alter>(tx: &mut Transaction<'_, S>, text: &str) -> Result<(),
 /// Tells another site.
 fn replace_name<S: Alter>(tx: &mut Transaction<'_, S>, site: &Digest) -> Result<(), Error>
     requires has { Sees (λ db. db.schema ≡ office_schema) (state S.Store tx.old.conn.now) }
-    requires third { Sees (λ db. (older : List ℕ) × HasMeta Third older db.trees)
+    requires third { Sees (λ db. (older : List ℕ) × HasMeta V3 older db.trees)
         (state S.Store tx.old.conn.now) }
     ensures same_reference { tx.new.conn.ghost_name ≡ tx.old.conn.ghost_name }
     ensures changes { SqlWrites S.Store tx.old.conn.now tx.new.conn.now result

@@ -3,7 +3,7 @@
 //!
 //! A keeper wants a connection that is ready (`SqlKeep::over`). `adopt` makes such a one of any: it
 //! reads the store anew, makes the eleven tables of an empty one in one transaction, and tests those
-//! of another, by what it is asked in office_found. These are its schema column by column (exact:
+//! of another, by what it is asked in store_inspection. These are its schema column by column (exact:
 //! that of schema 1, 2 or 3), numbers below zero, one address in two records, the one row of `meta`,
 //! that each order and each record of schema 2 and 3 has its row of `order_start` or `given_start`,
 //! and of schema 3 that the one row of `site_text` has a text whose SHA-256 `meta` tells. A store of

@@ -8,7 +8,7 @@ ghost use Rattle.office_sql.specs.Prelude.{SqlReads, HasOffice, tables_in};
 ghost use Rattle.office_store.specs.Prelude.{fuse_map_at};
 
 use fusemap_core::FuseMap;
-use fusemap_core::{NumberShelf, map_of_text};
+use fusemap_core::{NumberCache, map_of_text};
 use office_sql as sql;
 use office_tables::MapRow;
 use sqlite::{Alter, Connection, Error, ErrorCode};
@@ -46,7 +46,7 @@ fn read_map<S: Alter>(
 pub(crate) fn fuse_map<S: Alter>(
     alloc: Global,
     conn: &mut Connection<S>,
-    maps: &mut NumberShelf,
+    maps: &mut NumberCache,
     id: u64,
 ) -> Result<Option<FuseMap>, Error>
     requires office { HasOffice (state S.Store conn.old) }

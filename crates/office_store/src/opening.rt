@@ -13,7 +13,7 @@ ghost use Rattle.office_store.specs.declared.opening.Absent.TheVariants.{Refuse}
 
 use crate::adopting::prepare_tables;
 use crate::fault::OpenFault;
-use office_found::is_empty_schema;
+use store_inspection::is_empty_schema;
 use crate::SqlKeep;
 use site_core::SiteText;
 use sqlite::{Alter, Connection, FileFrom, FileStore, Files};

@@ -4,7 +4,7 @@ ghost use Rattle.sqlite.specs.State.{HasCleanDisk};
 ghost use Rattle.sqlite.specs.Held.{state};
 ghost use Rattle.office_tables.specs.declared.rows.OfCustomer.{OfCustomer};
 ghost use Rattle.office_tables.specs.declared.rows.Device.{Device};
-ghost use Rattle.office_tables.specs.Prelude.{places_taken, place_of_device, device_cmp, rows_of, IsInOrder};
+ghost use Rattle.office_tables.specs.Prelude.{places_taken, place_of_device, device_cmp, rows_of, IsAscending};
 ghost use Rattle.office_sql.specs.Prelude.{SqlReads, HasOffice, tables_in};
 ghost use Rattle.office_store.specs.Prelude.{count_if_counted, number_at, takes, AgreeBut, AgreeOff, AreCounts, AreRight, ArePut, IsReplaced};
 
@@ -173,7 +173,7 @@ impl PlaceCounts {
 
     /// Counts what was written, and no longer what it took the place of.
     pub(crate) fn follow(&mut self, written: WrittenDevices<'_>, replaced: Option<DeviceRow>)
-        ensures { (rows after : List (OfCustomer Device)) → IsInOrder device_cmp rows
+        ensures { (rows after : List (OfCustomer Device)) → IsAscending device_cmp rows
             → IsReplaced written.entry replaced rows → ArePut written.entry rows after
             → AreRight rows self.old → AreRight after self.new }
     {

@@ -1,10 +1,10 @@
 // What a keeper remembers of the tables.
-ghost use Rattle.office_tables.specs.Prelude.{device_cmp, IsInOrder, Tables};
+ghost use Rattle.office_tables.specs.Prelude.{device_cmp, IsAscending, Tables};
 ghost use Rattle.office_store.specs.Prelude.{Agrees, StayMapped, ArePut, IsReplaced};
 
 use crate::places::PlaceCounts;
 use crate::written::{DeviceAnswer, WrittenDevices};
-use fusemap_core::NumberShelf;
+use fusemap_core::NumberCache;
 use office_tables::DeviceRow;
 use std::alloc::Global;
 
@@ -16,7 +16,7 @@ pub(crate) struct Remembered {
     /// The device that was read last, until a commit.
     pub(crate) device: Option<DeviceAnswer>,
     /// The fuse maps that were asked for last.
-    pub(crate) maps: NumberShelf,
+    pub(crate) maps: NumberCache,
 }
 
 impl Remembered {
@@ -27,13 +27,13 @@ impl Remembered {
         Remembered {
             places: PlaceCounts::new(alloc),
             device: None,
-            maps: NumberShelf::new(alloc),
+            maps: NumberCache::new(alloc),
         }
     }
 
     /// Follows a commit of devices, of which one took the place of a row that was there.
     pub(crate) fn follow(&mut self, written: WrittenDevices<'_>, replaced: Option<DeviceRow>)
-        ensures { (t after : Tables) → IsInOrder device_cmp t.devices
+        ensures { (t after : Tables) → IsAscending device_cmp t.devices
             → IsReplaced written.entry replaced t.devices
             → ArePut written.entry t.devices after.devices → StayMapped t after → Agrees self.old t
             → Agrees self.new after }

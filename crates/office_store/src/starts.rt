@@ -5,7 +5,7 @@ ghost use Rattle.sqlite.specs.Files.{HoldsDatabase};
 ghost use Rattle.sqlite.specs.Held.{Held, state};
 ghost use Rattle.sqlite.specs.Recovery.{Image};
 ghost use Rattle.sqlite.specs.Tree.{Trees};
-ghost use Rattle.office_found.specs.Prelude.{HoldsSite, HoldsText, IsOurs};
+ghost use Rattle.store_inspection.specs.Prelude.{HoldsSite, HoldsText, IsOurs};
 ghost use Rattle.office_store.specs.Prelude.{tells_text_at};
 ghost use Rattle.office_store.specs.Prelude.{TakesGrowth};
 

@@ -6,14 +6,14 @@ ghost use Rattle.sqlite.specs.Held.{state};
 ghost use Rattle.office_sql.specs.Prelude.{SqlWrites, IsUndone, order_in_row, given_in_row, starts_order, starts_given, orders, given, order_starts};
 ghost use Rattle.office_sql.specs.Prelude.{given_starts, office_schema, office_over};
 ghost use Rattle.office_store.specs.Prelude.{IsAt, IsStep, CanUpgrade, GainsNone, GainsNoStart, IsFilled, IsUpgrade, IsUpgraded, LacksGivenStarts};
-ghost use Rattle.office_store.specs.Prelude.{LacksOrderStarts, TellsItself, TellsThird};
-ghost use Rattle.office_found.specs.Prelude.{Sees, IsEarly};
-ghost use Rattle.office_found.specs.declared.version.Version.{Version as TheVersion};
-ghost use Rattle.office_found.specs.declared.version.Version.TheVariants.{First, Second, Third};
+ghost use Rattle.office_store.specs.Prelude.{LacksOrderStarts, TellsItself, TellsV3};
+ghost use Rattle.store_inspection.specs.Prelude.{Sees, IsBeforeV1};
+ghost use Rattle.store_inspection.specs.declared.version.Version.{Version as TheVersion};
+ghost use Rattle.store_inspection.specs.declared.version.Version.TheVariants.{V1, V2, V3};
 
 use crate::create::{add_text, make_starts, make_text};
 use crate::remake::remake_tables;
-use office_found::Version;
+use store_inspection::Version;
 use sqlite::{Alter, Connection, Error, Transaction};
 
 /// Adds a row without a beginning of validity for each order.
@@ -61,8 +61,8 @@ fn fill_starts<S: Alter>(tx: &mut Transaction<'_, S>) -> Result<(), Error>
 }
 
 /// Makes `given` and the ledger of a store of a version before the first anew.
-fn raise_early<S: Alter>(tx: &mut Transaction<'_, S>, version: Version) -> Result<(), Error>
-    requires early { IsEarly version }
+fn raise_before_v1<S: Alter>(tx: &mut Transaction<'_, S>, version: Version) -> Result<(), Error>
+    requires early { IsBeforeV1 version }
     requires is { Sees (IsAt version) (state S.Store tx.old.conn.now) }
     ensures same_reference { tx.new.conn.ghost_name ≡ tx.old.conn.ghost_name }
     ensures changes { SqlWrites S.Store tx.old.conn.now tx.new.conn.now result
@@ -72,38 +72,38 @@ fn raise_early<S: Alter>(tx: &mut Transaction<'_, S>, version: Version) -> Resul
 }
 
 /// Makes the beginnings of validity, which a store of the first version lacks.
-fn raise_first<S: Alter>(tx: &mut Transaction<'_, S>) -> Result<(), Error>
-    requires { Sees (IsAt First) (state S.Store tx.old.conn.now) }
+fn raise_v1<S: Alter>(tx: &mut Transaction<'_, S>) -> Result<(), Error>
+    requires { Sees (IsAt V1) (state S.Store tx.old.conn.now) }
     ensures same_reference { tx.new.conn.ghost_name ≡ tx.old.conn.ghost_name }
     ensures changes { SqlWrites S.Store tx.old.conn.now tx.new.conn.now result
-        (λ old new _. IsStep First old new) }
+        (λ old new _. IsStep V1 old new) }
 {
     make_starts(tx)?;
     fill_starts(tx)
 }
 
 /// Makes the table of the site's text, which one of the second version lacks.
-fn raise_second<S: Alter>(tx: &mut Transaction<'_, S>) -> Result<(), Error>
-    requires { Sees (IsAt Second) (state S.Store tx.old.conn.now) }
+fn raise_v2<S: Alter>(tx: &mut Transaction<'_, S>) -> Result<(), Error>
+    requires { Sees (IsAt V2) (state S.Store tx.old.conn.now) }
     ensures same_reference { tx.new.conn.ghost_name ≡ tx.old.conn.ghost_name }
     ensures changes { SqlWrites S.Store tx.old.conn.now tx.new.conn.now result
-        (λ old new _. IsStep Second old new) }
+        (λ old new _. IsStep V2 old new) }
 {
     make_text(tx)
 }
 
 /// Makes a store of an earlier version one of the next.
 fn step<S: Alter>(tx: &mut Transaction<'_, S>, version: Version) -> Result<(), Error>
-    requires earlier { version ≢ Third }
+    requires earlier { version ≢ V3 }
     requires is { Sees (IsAt version) (state S.Store tx.old.conn.now) }
     ensures same_reference { tx.new.conn.ghost_name ≡ tx.old.conn.ghost_name }
     ensures changes { SqlWrites S.Store tx.old.conn.now tx.new.conn.now result
         (λ old new _. IsStep version old new) }
 {
     match version {
-        Version::Earliest | Version::Early => raise_early(tx, version),
-        Version::First => raise_first(tx),
-        _ => raise_second(tx),
+        Version::V1a | Version::V1b => raise_before_v1(tx, version),
+        Version::V1 => raise_v1(tx),
+        _ => raise_v2(tx),
     }
 }
 
@@ -129,7 +129,7 @@ fn tell_schema<S: Alter>(tx: &mut Transaction<'_, S>) -> Result<(), Error>
         (state S.Store tx.old.conn.now) }
     ensures same_reference { tx.new.conn.ghost_name ≡ tx.old.conn.ghost_name }
     ensures changes { SqlWrites S.Store tx.old.conn.now tx.new.conn.now result
-        (λ old new _. TellsThird old new) }
+        (λ old new _. TellsV3 old new) }
 {
     tx.execute(UPDATE_OF_SCHEMA, &[])?;
     Ok(())

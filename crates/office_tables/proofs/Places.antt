@@ -7,7 +7,7 @@ use Rattle.text_core.proofs.Kit.{nat_list_eq_equiv, same_text, text_itself, and_
 use Rattle.office_tables.specs.declared.rows.OfCustomer.{OfCustomer}
 use Rattle.office_tables.specs.declared.rows.Device.{Device}
 use Rattle.office_tables.specs.Prelude.{places_taken, takes_place, state_row, place_of_device, text_pair_cmp, is_device, is_of, rows_of, with_row, text_cmp}
-use Rattle.office_tables.specs.Prelude.{IsInOrder}
+use Rattle.office_tables.specs.Prelude.{IsAscending}
 use Rattle.office_tables.proofs.Placing.{all_map}
 
 -- keys of two parts are equal where both parts are
@@ -92,7 +92,7 @@ module _ (customer order : List ℕ) where
 
   -- a device is placed, and the one with its key is gone
   pub places_put : (cmp : OfCustomer Device → OfCustomer Device → Ordering) → IsTotalOrder cmp
-      → (d : OfCustomer Device) (rows : List (OfCustomer Device)) → IsInOrder cmp rows
+      → (d : OfCustomer Device) (rows : List (OfCustomer Device)) → IsAscending cmp rows
       → places customer order (with_row cmp d rows) + taken_by (find (λ y. is_eq (cmp d y)) rows)
       ≡ places customer order rows + place_of_device customer order d
   places_put cmp total d [] o = let split = first_and_others customer order d [] in omega (arith, split)

@@ -4,7 +4,7 @@
 #![tactic(auto)]
 
 use sqlite_disk::Unknown;
-use station_jobs::{job_from_env, report, run};
+use station_cli::{job_from_env, report, run};
 use std::io;
 use std::process::ExitCode;
 

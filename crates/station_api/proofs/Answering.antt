@@ -11,7 +11,7 @@ use Rattle.office_tables.specs.declared.keep.Unkept.{Unkept as NoAnswer}
 use Rattle.office_commands.specs.Prelude.{refusal_status, refusal}
 use Rattle.office_laws.specs.Prelude.{Exchange, report_reply}
 use Rattle.office_laws.proofs.Leaving.{AnswersNothing, leaves_unanswered, answers_nothing}
-use Rattle.station_api.specs.Prelude.{AnswersAnyCaller, ParsedOrUnkept, AnswersParsed, AnswersKnownCaller, DeskSteps, Says, SaysAny, SaysRefusal, AnswersHttp}
+use Rattle.station_api.specs.Prelude.{AnswersAnyCaller, ParsedOrUnkept, AnswersParsed, AnswersKnownCaller, HandlerSteps, Says, SaysAny, SaysRefusal, AnswersHttp}
 use Rattle.station_api.specs.Prelude.{caller_at, exchange_any, exchange_asked, exchange_of}
 use Rattle.station_requests.specs.Prelude.{parse_request, kind_of_caller}
 
@@ -84,7 +84,7 @@ refused_answers_nothing site (Seat caller) wanted reply reason (inr unkept) said
 pub unchanged : {K : Type 0} (k : Ghosts K) (Said : Answer → Type 0) (exchanges : Answer → List Exchange)
     (step : Tables → Answer → Tables → Type 0) (keep : K) (reply : Answer)
     → Said reply → AllByRecursion AnswersNothing (exchanges reply) → ((t : Tables) → step t reply t)
-    → DeskSteps k Said exchanges step keep reply keep
+    → HandlerSteps k Said exchanges step keep reply keep
 unchanged k Said exchanges step keep reply said unanswered same = record {
   was_open = λ is. is;
   was_honest = λ honest. honest;
@@ -101,13 +101,13 @@ unchanged k Said exchanges step keep reply said unanswered same = record {
 -- a request with the token of a caller
 pub known_caller : {K : Type 0} (k : Ghosts K) (site : SiteValue) (caller : Caller) (r : HttpRequest) (old : K) (reply : Answer) (new : K)
     → caller_at site r ≡ Some caller
-    → DeskSteps k (SaysRefusal (parse_request (kind_of_caller caller) r))
+    → HandlerSteps k (SaysRefusal (parse_request (kind_of_caller caller) r))
     (exchange_asked site caller (parse_request (kind_of_caller caller) r))
     (AnswersKnownCaller site caller r) old reply new
-    → DeskSteps k (Says site r) (λ said. exchange_any site (caller_at site r) r said) (λ t. AnswersHttp site t r) old reply new
+    → HandlerSteps k (Says site r) (λ said. exchange_any site (caller_at site r) r said) (λ t. AnswersHttp site t r) old reply new
 known_caller k site caller r old reply new is made =
     subst (λ (found : Option Caller).
-    DeskSteps k (SaysAny found r) (λ said. exchange_any site found r said) (λ t said t2.
+    HandlerSteps k (SaysAny found r) (λ said. exchange_any site found r said) (λ t said t2.
     AnswersAnyCaller site found r t said t2) old reply new) (sym is) made
 
 -- a report is no 503
@@ -125,7 +125,7 @@ module _ {K A : Type 0} (k : Ghosts K) (site : SiteValue) (caller : Caller) (par
     (answers : (t : Tables) (reply : Answer) → reply ≡ report_reply (text t) → ParsedOrUnkept site caller (Ok parsed) t reply t) where
   pub report_told : (old new : K) (result : Result A NoAnswer) (reply : Answer) → ReadsOnly k old new result Says
       → IfOk result (λ v. reply ≡ report_reply (bytes v)) → OnErr result (reply ≡ refusal Unkept)
-      → DeskSteps k (SaysRefusal (Ok parsed)) (exchange_asked site caller (Ok parsed)) (ParsedOrUnkept site caller (Ok parsed)) old reply new
+      → HandlerSteps k (SaysRefusal (Ok parsed)) (exchange_asked site caller (Ok parsed)) (ParsedOrUnkept site caller (Ok parsed)) old reply new
   report_told old new (Ok v) reply read told none = record {
     was_open = read.read_only.was_open;
     was_honest = read.read_only.was_honest;

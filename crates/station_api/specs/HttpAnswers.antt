@@ -72,7 +72,7 @@ AreSaid site exchanges = AllByRecursion (λ exchange. Says site exchange.0 excha
 -- a keeper's state before an answer and after it: where the disk is honest, the tables that stood
 -- lead to those that stand, and a crash leaves what a stop may leave after these exchanges, which tells
 -- of the text of the site that was told of before
-pub record DeskSteps {K : Type 0} (k : Ghosts K) (Said : Answer → Type 0) (exchanges : Answer
+pub record HandlerSteps {K : Type 0} (k : Ghosts K) (Said : Answer → Type 0) (exchanges : Answer
     → List Exchange) (step : Tables → Answer → Tables
     → Type 0) (old : K) (reply : Answer) (new : K) : Type 0 where
   pub was_open : k.is_open new → k.is_open old

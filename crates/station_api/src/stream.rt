@@ -3,7 +3,7 @@ ghost use Rattle.std.specs.Prelude.{◌≡◌};
 ghost use Rattle.http_frames.specs.Prelude.{HasCallsLeft, StaysWithinCalls};
 ghost use Rattle.station_api.specs.Prelude.{ServesOver};
 
-use crate::desk::Desk;
+use crate::handler::Handler;
 use http_frames::transfer::{Drain, Source};
 use http_frames::Served;
 use office_core::Keep;
@@ -42,6 +42,6 @@ pub fn serve_stream<K: Keep, R: Source, W: Drain>(
     ensures unserved { result ≡ Served.NoMemory → keep.new ≡ keep.old }
 {
     site.fact_rules();
-    let desk = Desk { alloc, site };
-    http_frames::serve_stream(alloc, &desk, keep, reader, writer)
+    let handler = Handler { alloc, site };
+    http_frames::serve_stream(alloc, &handler, keep, reader, writer)
 }

@@ -3,7 +3,7 @@ ghost use Rattle.std.specs.Prelude.{None};
 
 use crate::connections::served_over_memory;
 use crate::replies::told_replies;
-use station_jobs::{Bounds, Duplex, Failure};
+use station_cli::{Bounds, Duplex, Failure};
 use std::alloc::Global;
 use std::cell::{Cell, RefCell};
 use std::io;

@@ -2,15 +2,15 @@
 use crate::serving::{SHOWN, UNKNOWN};
 use office_core::MemKeep;
 use site_core::read_site;
-use station_jobs::{Bounds, Duplex, Failure, listen, serve_connections};
+use station_cli::{Bounds, Duplex, Failure, listen, serve_connections};
 use std::alloc::Global;
 use std::io;
 use std::io::Write;
 use std::net::{OpenListener, SocketAddr, TcpStream};
 use std::test::Fail;
 use std::time::{Clock, Duration};
-use test_texts::samples::SITE;
-use test_texts::streams::{BAD_HEAD, LONG_HEAD, ORDER};
+use test_fixtures::samples::SITE;
+use test_fixtures::streams::{BAD_HEAD, LONG_HEAD, ORDER};
 
 /// The reply to the order on a connection that ends with it.
 const ORDERED_LAST: &str =

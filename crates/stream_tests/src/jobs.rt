@@ -1,14 +1,14 @@
 //! The program's command line, and its jobs over files, readers and writers.
 use crate::replays::make_folder;
 use sqlite_disk::Unknown;
-use station_jobs::{Job, StoreName, VERSION, WordsFault, listen, read_job, run};
+use station_cli::{Job, StoreName, VERSION, WordsFault, listen, read_job, run};
 use std::alloc::{AllocError, Global};
 use std::io::{Read, Write};
 use std::net::{Ipv4Addr, SocketAddrV4, TcpStream};
 use std::test::Fail;
 use std::{fs, io};
-use test_texts::samples::{MAP, SITE};
-use test_texts::streams::ORDER;
+use test_fixtures::samples::{MAP, SITE};
+use test_fixtures::streams::ORDER;
 use text_core::Text;
 
 /// Lines of words, and what becomes of each: the job and the names and numbers that it has, help,

@@ -6,8 +6,8 @@ use std::alloc::Global;
 use std::os::unix::fs::PermissionsExt;
 use std::test::Fail;
 use std::{env, fs};
-use test_texts::samples::SITE;
-use test_texts::streams::{ORDER, ORDERED};
+use test_fixtures::samples::SITE;
+use test_fixtures::streams::{ORDER, ORDERED};
 
 /// Folders, whether the name of the store in each is from the root, and how many characters its file's name has.
 const NAMES: &[(&str, bool, usize)] = &[

@@ -4,7 +4,7 @@
 use crate::clients::{Failing, Scene, Script, Taking, served_clients};
 use std::alloc::Global;
 use std::test::Fail;
-use test_texts::samples::SITE;
+use test_fixtures::samples::SITE;
 
 /// A request.
 const SHOWN: &str = "GET /v1/order?name=none HTTP/1.1\r\nAuthorization: Bearer abc\r\n\r\n";

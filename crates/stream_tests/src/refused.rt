@@ -5,17 +5,17 @@ use office_store::{Absent, open};
 use site_core::read_site_text;
 use sqlite::{Alter, Connection};
 use sqlite_disk::Unknown;
-use station_jobs::read_job;
+use station_cli::read_job;
 use std::alloc::Global;
 use std::fs;
 use std::test::Fail;
-use test_exchanges::conversation::streams_of;
-use test_exchanges::stores::rows_of;
-use test_texts::conversations::exchanges;
-use test_texts::earlier::{Earlier, sql_of};
-use test_texts::samples::SITE;
-use test_texts::schema_one::ONE;
-use test_texts::streams::{ORDER, ORDERED};
+use test_support::conversation::streams_of;
+use test_support::stores::rows_of;
+use test_fixtures::conversations::exchanges;
+use test_fixtures::earlier::{Earlier, sql_of};
+use test_fixtures::samples::SITE;
+use test_fixtures::schema_one::ONE;
+use test_fixtures::streams::{ORDER, ORDERED};
 
 /// The name of the file with the sample site's text.
 const REFUSED_SITE: &str = "refused_site.toml";

@@ -2,13 +2,13 @@
 //! that it refuses.
 use crate::jobs::written_by;
 use crate::serving::{SHOWN, UNKNOWN};
-use station_jobs::{Job, StoreName};
+use station_cli::{Job, StoreName};
 use std::alloc::Global;
 use std::fs;
 use std::test::Fail;
-use test_texts::full_site::full_site;
-use test_texts::samples::{SITE, SITE_WITH_A_CUSTOMER};
-use test_texts::streams::{CHUNKS_REFUSED, CUT_ORDER, IN_CHUNKS, with_orders};
+use test_fixtures::full_site::full_site;
+use test_fixtures::samples::{SITE, SITE_WITH_A_CUSTOMER};
+use test_fixtures::streams::{CHUNKS_REFUSED, CUT_ORDER, IN_CHUNKS, with_orders};
 use text_core::Text;
 
 /// The name of the file with the sample site's text.

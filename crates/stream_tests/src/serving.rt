@@ -2,7 +2,7 @@
 use crate::clients::{Scene, Script, Taking, served_clients};
 use crate::refused::found_at;
 use sqlite_disk::Unknown;
-use station_jobs::{Job, listen, read_job, run};
+use station_cli::{Job, listen, read_job, run};
 use std::alloc::Global;
 use std::cell::RefCell;
 use std::io::{ErrorKind, Write};
@@ -10,8 +10,8 @@ use std::net::{Ipv4Addr, Shutdown, SocketAddrV4, TcpStream};
 use std::os::unix::fs::PermissionsExt;
 use std::test::Fail;
 use std::{fs, io};
-use test_texts::samples::SITE;
-use test_texts::streams::{ORDER, ORDERED};
+use test_fixtures::samples::SITE;
+use test_fixtures::streams::{ORDER, ORDERED};
 
 /// A request that shows the order, and the reply where there is none.
 pub const SHOWN: &str = "GET /v1/order?name=o1 HTTP/1.1\r\nAuthorization: Bearer abc\r\n\r\n";

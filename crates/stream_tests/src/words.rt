@@ -1,6 +1,6 @@
 //! What is printed where the words of the command line give no job, and that all words are read.
 use crate::jobs::{LINES, Short, outcome_of};
-use station_jobs::{Job, WordsFault, job_from_env, report};
+use station_cli::{Job, WordsFault, job_from_env, report};
 use std::alloc::Global;
 use std::env::FillError;
 use std::io;

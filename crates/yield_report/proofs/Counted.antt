@@ -7,7 +7,7 @@ use Rattle.office_tables.specs.Prelude.{text_cmp, Visits}
 use Rattle.office_tables.specs.declared.rows.Device.{Device}
 use Rattle.office_tables.specs.declared.rows.OfCustomer.{OfCustomer}
 use Rattle.office_tables.proofs.Places.{same_place}
-use Rattle.yield_report.specs.Prelude.{with_device, Yield, devices_of, counted, names_cmp, AreInOrder, AreLines, CountsDevice}
+use Rattle.yield_report.specs.Prelude.{with_device, Yield, devices_of, counted, names_cmp, AreAscending, AreLines, CountsDevice}
 use Rattle.yield_report.specs.declared.devices.DeviceScan.{DeviceScan}
 use Rattle.yield_report.specs.declared.lines.OrderLine.{OrderLine}
 use Rattle.yield_report.proofs.InOrder.{kept_on_walk, map_at, map_both, map_none, sorted_map}
@@ -24,7 +24,7 @@ counted_more d ds line =
     ]
 
 -- a line keeps its name
-pub counted_in_order : (ds : List Device) (lines : List OrderLine) → AreInOrder lines → AreInOrder (map (counted ds) lines)
+pub counted_in_order : (ds : List Device) (lines : List OrderLine) → AreAscending lines → AreAscending (map (counted ds) lines)
 counted_in_order ds lines ordered = sorted_map names_cmp (counted ds) (λ x y. refl) lines ordered
 
 abbrev devices_in : List (OfCustomer Device) → List Device
@@ -32,11 +32,11 @@ devices_in rows = map (λ o. o.row) rows
 
 -- a walk in which each number had room counts all devices
 pub devices_counted : (old : DeviceScan) (rows : List (OfCustomer Device)) (new : DeviceScan) → Visits CountsDevice old rows new → new.is_over ≡ false
-    → AreInOrder old.lines.items → new.lines.items ≡ map (counted (devices_in rows)) old.lines.items
+    → AreAscending old.lines.items → new.lines.items ≡ map (counted (devices_in rows)) old.lines.items
 devices_counted old [] new v room ordered = ap (λ (s : DeviceScan). s.lines.items) v ∙ sym (map-id old.lines.items)
 devices_counted old (row ∷ rows) new (true, mid, taken, later) room ordered =
     let here = taken.lines refl ordered in
-    devices_counted mid rows new later room (subst AreInOrder (sym here) (counted_in_order (row.row ∷ []) old.lines.items ordered))
+    devices_counted mid rows new later room (subst AreAscending (sym here) (counted_in_order (row.row ∷ []) old.lines.items ordered))
     ∙ (ap (map (counted (devices_in rows))) here
     ∙ map_both (counted (devices_in rows)) (counted (row.row ∷ [])) _ (counted_more row.row (devices_in rows)) old.lines.items)
 devices_counted old (row ∷ rows) new (false, mid, taken, later) room ordered =
@@ -56,7 +56,7 @@ other_name : (a b : List ℕ) (o : Ordering) → text_cmp a b ≡ o → is_eq o 
 other_name a b o is other = sym (is_eq-slice_cmp a b) ∙ (ap is_eq is ∙ other)
 
 -- the names of two lines differ
-names_differ : (lines : List OrderLine) → AreInOrder lines → (i k : ℕ) (d : OrderLine) → i < length lines → k < length lines → (k ≡ i → ⊥)
+names_differ : (lines : List OrderLine) → AreAscending lines → (i k : ℕ) (d : OrderLine) → i < length lines → k < length lines → (k ≡ i → ⊥)
     → bytes_eq (get_or lines k d).name (get_or lines i d).name ≡ false
 names_differ lines ordered i k d within inside other =
     elim (cases_lt k i) [
@@ -67,7 +67,7 @@ names_differ lines ordered i k d within inside other =
     ]
 
 -- the device is of the line that was found, and of no other
-pub counted_at : (d : Device) (lines slice : List OrderLine) (r : Result ℕ ℕ) (i : ℕ) (line : OrderLine) → AreInOrder lines → slice ≡ lines
+pub counted_at : (d : Device) (lines slice : List OrderLine) (r : Result ℕ ℕ) (i : ℕ) (line : OrderLine) → AreAscending lines → slice ≡ lines
     → IsBinarySearchResult (λ (l : OrderLine). text_cmp l.name d.order) slice r → r ≡ Ok i → i < length lines → line ≡ get_or lines i line
     → slice_set lines i (counted (d ∷ []) line) ≡ map (counted (d ∷ [])) lines
 counted_at d lines slice r i line ordered same found is within read =
@@ -79,13 +79,13 @@ counted_at d lines slice r i line ordered same found is within read =
     ∙ names_differ lines ordered i k e within inside other)))
 
 -- names in order can be searched
-searchable : (lines : List OrderLine) → AreInOrder lines → IsSortedBy (λ a b. is_lt (names_cmp a b)) lines
+searchable : (lines : List OrderLine) → AreAscending lines → IsSortedBy (λ a b. is_lt (names_cmp a b)) lines
 searchable lines ordered k d least within =
     ap is_lt (nat_list_cmp_total.antisymm (get_or lines (k + 1) d).name (get_or lines k d).name
     ∙ ap ordering_reverse (Less-from_sorted names_cmp lines k (k + 1) d ordered (omega arith) within))
 
 -- the device is of none
-pub counted_nowhere : (d : Device) (lines slice : List OrderLine) (r : Result ℕ ℕ) (i : ℕ) → AreInOrder lines → slice ≡ lines
+pub counted_nowhere : (d : Device) (lines slice : List OrderLine) (r : Result ℕ ℕ) (i : ℕ) → AreAscending lines → slice ≡ lines
     → IsBinarySearchResult (λ (l : OrderLine). text_cmp l.name d.order) slice r → r ≡ Err i → lines ≡ map (counted (d ∷ [])) lines
 counted_nowhere d lines slice r i ordered same found is =
     let point = subst (IsBinarySearchResult (λ (l : OrderLine). text_cmp l.name d.order) lines) is

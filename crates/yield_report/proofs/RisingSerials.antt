@@ -8,7 +8,7 @@ use Rattle.id_ranges.specs.Prelude.{Range, IsRange, numbers, serial_text_of}
 use Rattle.id_ranges.proofs.Texts.{same_number}
 use Rattle.office_tables.specs.declared.rows.Given.{Given}
 use Rattle.office_tables.specs.declared.rows.OfCustomer.{OfCustomer}
-use Rattle.office_tables.specs.Prelude.{given_cmp, is_serial_of, is_of_issuer, text_cmp, IsInOrder}
+use Rattle.office_tables.specs.Prelude.{given_cmp, is_serial_of, is_of_issuer, text_cmp, IsAscending}
 use Rattle.yield_report.specs.Prelude.{has_serial, serials_in, AreRising}
 use Rattle.yield_report.proofs.InOrder.{lt_is_less}
 
@@ -119,7 +119,7 @@ serials_less issuer a b one other less =
     rw equal at less
 
 rise_after : (issuer : List ℕ) (last : OfCustomer Given) (rows : List (OfCustomer Given)) → is_of_issuer issuer last ≡ true
-    → AllByRecursion (λ row. given_cmp last row ≡ Less) rows → IsInOrder given_cmp rows
+    → AllByRecursion (λ row. given_cmp last row ≡ Less) rows → IsAscending given_cmp rows
     → AreRising (Some last.row.serial) (serials_in (filter (is_of_issuer issuer) rows))
 rise_after issuer last [] mine below up = tt
 rise_after issuer last (row ∷ rows) mine below up =
@@ -130,7 +130,7 @@ rise_after issuer last (row ∷ rows) mine below up =
     ] refl
 
 -- the serial numbers of an issuer's records rise where the records are in order
-pub rise_in_order : (issuer : List ℕ) (rows : List (OfCustomer Given)) → IsInOrder given_cmp rows
+pub rise_in_order : (issuer : List ℕ) (rows : List (OfCustomer Given)) → IsAscending given_cmp rows
     → AreRising None (serials_in (filter (is_of_issuer issuer) rows))
 rise_in_order issuer [] up = tt
 rise_in_order issuer (row ∷ rows) up =

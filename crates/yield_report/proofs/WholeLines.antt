@@ -11,7 +11,7 @@ use Rattle.office_tables.specs.declared.rows.Order.{Order}
 use Rattle.office_tables.specs.Prelude.{state_row, Tables, rows_of, text_cmp}
 use Rattle.office_tables.specs.declared.rows.DeviceState.TheVariants.{Registered}
 use Rattle.yield_report.specs.Prelude.{with_device, with_less, HasIssued, Yield, columns, count_in, devices_of, serials_left, yield_of, yield_with, counted}
-use Rattle.yield_report.specs.Prelude.{first_line, left_in, names_cmp, whole_line, AreInOrder, AreLines, IsLine, has_issued_in, IsOrderReport, line_fields}
+use Rattle.yield_report.specs.Prelude.{first_line, left_in, names_cmp, whole_line, AreAscending, AreLines, IsLine, has_issued_in, IsOrderReport, line_fields}
 use Rattle.yield_report.specs.Prelude.{lines_text, order_header, report_text, AreStorable}
 use Rattle.yield_report.specs.declared.lines.OrderLine.{OrderLine}
 use Rattle.yield_report.proofs.InOrder.{map_both, sorted_again, sorted_map}
@@ -90,7 +90,7 @@ lines_text_more lines line =
 
 -- lines that were put in another order, changed without their names, and sorted by them again
 pub sorted_back : (f : OrderLine → OrderLine) → ((x y : OrderLine) → names_cmp (f x) (f y) ≡ names_cmp x y)
-    → (lines moved left back : List OrderLine) → AreInOrder lines → IsPermutation lines moved → left ≡ map f moved → IsPermutation left back
+    → (lines moved left back : List OrderLine) → AreAscending lines → IsPermutation lines moved → left ≡ map f moved → IsPermutation left back
     → IsSortedByKey (λ (l : OrderLine). l.name) text_cmp back → back ≡ map f lines
 sorted_back f same lines moved left back ordered there is again sorted =
     sorted_again names_total (map f lines) back (sorted_map names_cmp f same lines ordered)

@@ -37,15 +37,15 @@ abbrev pub names_cmp : OrderLine → OrderLine → Ordering
 names_cmp a b = text_cmp a.name b.name
 
 -- each line's name is less than those of all later ones
-abbrev pub AreInOrder : List OrderLine → Type 0
-AreInOrder lines = IsStrictlySortedBy names_cmp lines
+abbrev pub AreAscending : List OrderLine → Type 0
+AreAscending lines = IsStrictlySortedBy names_cmp lines
 
 -- the line of an order is added to those gathered; or memory ran out, and the walk ends
 pub record GathersOrder (old : OrderScan) (row : OfCustomer Order) (goes_on : Bool) (new : OrderScan) : Type 0 where
   pub lines : goes_on ≡ true → new.lines.items ≡ old.lines.items ++ first_line row.row ∷ []
   pub are_lines : goes_on ≡ true → AreLines old.lines.items → AreLines new.lines.items
-  pub same : goes_on ≡ true → new.is_stopped ≡ old.is_stopped
-  pub stopped : goes_on ≡ false → new.is_stopped ≡ true
+  pub same : goes_on ≡ true → new.has_no_memory ≡ old.has_no_memory
+  pub stopped : goes_on ≡ false → new.has_no_memory ≡ true
 
 -- the line with those of these devices that are of its order
 abbrev pub counted : List Device → OrderLine → OrderLine
@@ -62,7 +62,7 @@ has_no_room d lines = list_any (λ line. not (is_some (with_one d line))) lines
 
 -- the device is counted in each line of its order's name; or a number is too large, and the walk ends
 pub record CountsDevice (old : DeviceScan) (row : OfCustomer Device) (goes_on : Bool) (new : DeviceScan) : Type 0 where
-  pub lines : goes_on ≡ true → AreInOrder old.lines.items → new.lines.items ≡ map (counted (row.row ∷ [])) old.lines.items
+  pub lines : goes_on ≡ true → AreAscending old.lines.items → new.lines.items ≡ map (counted (row.row ∷ [])) old.lines.items
   pub are_lines : goes_on ≡ true → AreLines old.lines.items → AreLines new.lines.items
   pub same : goes_on ≡ true → new.is_over ≡ old.is_over
   pub no_room : goes_on ≡ false → has_no_room row.row old.lines.items ≡ true

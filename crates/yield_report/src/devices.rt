@@ -1,7 +1,7 @@
 // The devices of each order, counted by their states.
 ghost use Rattle.std.specs.Prelude.{◌≡◌, ◌∷◌, [], false, true, is_some, map};
 ghost use Rattle.office_tables.specs.Prelude.{rows_of, ReadsOnly};
-ghost use Rattle.yield_report.specs.Prelude.{counted, has_no_room, with_one, AreInOrder, AreLines, CountsDevice, IsLine};
+ghost use Rattle.yield_report.specs.Prelude.{counted, has_no_room, with_one, AreAscending, AreLines, CountsDevice, IsLine};
 
 use crate::lines::OrderLine;
 use crate::yields::with_device_counted;
@@ -49,7 +49,7 @@ fn count_in_line(line: &mut OrderLine, device: &Device) -> bool
 /// their names. `false` where the tables have no room for its number.
 fn count_device(lines: &mut Vec<OrderLine>, device: &Device) -> bool
     ensures no_room { result ≡ false → has_no_room device.now lines.old.items ≡ true }
-    ensures lines { result ≡ true → AreInOrder lines.old.items
+    ensures lines { result ≡ true → AreAscending lines.old.items
         → lines.new.items ≡ map (counted (device.now ∷ [])) lines.old.items }
     ensures are_lines { result ≡ true → AreLines lines.old.items → AreLines lines.new.items }
 {
@@ -66,7 +66,7 @@ pub(crate) fn count_devices<K: Keep>(
     lines: Vec<OrderLine>,
 ) -> Result<Vec<OrderLine>, Unkept>
     ensures { ReadsOnly K.Keep keep.old keep.new result (λ t all.
-        (AreInOrder lines.items
+        (AreAscending lines.items
         → all.items ≡ map (counted (rows_of customer.now t.devices)) lines.items)
         × (AreLines lines.items → AreLines all.items)) }
 {

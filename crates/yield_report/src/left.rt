@@ -1,7 +1,7 @@
 // The serial numbers that are left of each order.
 ghost use Rattle.std.specs.Prelude.{◌≡◌, ◌≤◌, ◌∷◌, [], map, None};
 ghost use Rattle.office_tables.specs.Prelude.{ReadsOnly};
-ghost use Rattle.yield_report.specs.Prelude.{left_in, new_issuer, taken, taken_in, AreInOrder, AreLines, IsLine, TakesSerial, AreApart, has_issued_in};
+ghost use Rattle.yield_report.specs.Prelude.{left_in, new_issuer, taken, taken_in, AreAscending, AreLines, IsLine, TakesSerial, AreApart, has_issued_in};
 ghost use Rattle.yield_report.specs.Prelude.{serials_of, AreRising};
 
 use crate::lines::OrderLine;
@@ -82,7 +82,7 @@ fn take_of_issuer<K: Keep>(
         → left.items ≡ map (taken issuer.now (serials_of issuer.now t)) lines.items)
         × (AreLines lines.items → AreLines left.items)) }
 {
-    keep.fact_in_order();
+    keep.fact_ascending();
     let mut scan = GivenScan {
         lines,
         issuer: *issuer,
@@ -133,7 +133,7 @@ pub(crate) fn take_given<K: Keep>(
 ) -> Result<Vec<OrderLine>, Unkept>
     requires { K.is_honest keep.old → K.is_open keep.old }
     ensures { ReadsOnly K.Keep keep.old keep.new result (λ t left.
-        AreLines lines.items → AreInOrder lines.items
+        AreLines lines.items → AreAscending lines.items
         → (left.items ≡ map (left_in (has_issued_in t)) lines.items) × AreLines left.items) }
 {
     let apart = by_serials(lines)?;

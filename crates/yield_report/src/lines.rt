@@ -1,7 +1,7 @@
 // The lines of a report, one for each order.
 ghost use Rattle.std.specs.Prelude.{◌≡◌, map};
 ghost use Rattle.office_tables.specs.Prelude.{rows_of, ReadsOnly};
-ghost use Rattle.yield_report.specs.Prelude.{first_line, AreInOrder, AreLines, GathersOrder, IsLine};
+ghost use Rattle.yield_report.specs.Prelude.{first_line, AreAscending, AreLines, GathersOrder, IsLine};
 
 use crate::yields::{NUMBERS, QUANTITY, SERIALS_LEFT, Yield};
 use id_ranges::SerialRange;
@@ -23,7 +23,7 @@ pub(crate) struct OrderLine {
 struct OrderScan {
     lines: Vec<OrderLine>,
     /// There was no memory for a line.
-    is_stopped: bool,
+    has_no_memory: bool,
 }
 
 impl Sink<OrderRow> for OrderScan {
@@ -31,7 +31,7 @@ impl Sink<OrderRow> for OrderScan {
 
     fn take(&mut self, row: &OrderRow) -> bool {
         if self.lines.push(first_line(&row.row)).is_err() {
-            self.is_stopped = true;
+            self.has_no_memory = true;
             return false;
         }
         true
@@ -63,15 +63,15 @@ pub(crate) fn order_lines<K: Keep>(
 ) -> Result<Vec<OrderLine>, Unkept>
     ensures { ReadsOnly K.Keep keep.old keep.new result (λ t lines.
         (lines.items ≡ map first_line (rows_of customer.now t.orders))
-        × AreLines lines.items × AreInOrder lines.items) }
+        × AreLines lines.items × AreAscending lines.items) }
 {
-    keep.fact_in_order();
+    keep.fact_ascending();
     let mut scan = OrderScan {
         lines: Vec::new(alloc),
-        is_stopped: false,
+        has_no_memory: false,
     };
     keep.visit_orders(customer, &mut scan)?;
-    if scan.is_stopped {
+    if scan.has_no_memory {
         return Err(Unkept);
     }
     Ok(scan.lines)

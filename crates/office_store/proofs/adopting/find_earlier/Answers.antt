@@ -4,7 +4,7 @@ use Rattle.sqlite.specs.Store.{Ghosts}
 use Rattle.sha2.specs.Sha256.{sha256}
 use Rattle.site_core.specs.Prelude.{TextOfSite}
 use Rattle.office_sql.specs.Prelude.{IsUndone, office_over}
-use Rattle.office_store.proofs.Types.{Failed, Version, Third}
+use Rattle.office_store.proofs.Types.{Failed, Version, V3}
 use Rattle.office_store.specs.Prelude.{Examines, IsFoundAt, IsTestedFor, IsUpgrade, IsUpgraded, PreparesTables}
 use Rattle.office_store.proofs.Refusals.{found_after, is_err, says_of}
 use Rattle.office_store.proofs.Preparing.{not_upgraded, prepared_after, refused, upgraded}
@@ -25,7 +25,7 @@ module _ {S : Type 0} (g : Ghosts S) (site : TextOfSite) (version : Version) (ol
   found = found_after g site old mid (IsTestedFor (sha256 site.text) version) version test shows_committed (λ clean whole. whole.0.0)
 
   -- a store that was tested is upgraded, or it isn't
-  module _ (earlier : version ≢ Third) (new : Held S) (calm : IsTrue (state g new).is_open → HasCleanDisk (state g new))
+  module _ (earlier : version ≢ V3) (new : Held S) (calm : IsTrue (state g new).is_open → HasCleanDisk (state g new))
       (mode : new.in_transaction ≡ false) (text : List ℕ) (same : text ≡ site.text) (survives : Leaves g mid new version text) where
     done : (HasCleanDisk (state g new) → IsUpgraded version text (state g mid) (state g new)) → PreparesTables g site old new (Ok tt)
     done it = prepared_after g site old mid new (Ok tt) (IsTestedFor (sha256 site.text) version) test

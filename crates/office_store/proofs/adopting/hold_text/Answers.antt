@@ -1,7 +1,7 @@
 use Rattle.std.proofs.Common.{◌↔◌, ◌∙◌, Bool, Ok, Err, IsTrue, subst, sym, true≢false}
 use Rattle.std.specs.Prelude.{⊤}
 use Rattle.office_sql.proofs.Kit.{Error, Database, clean_if_open}
-use Rattle.office_found.specs.Prelude.{Tests, HoldsText}
+use Rattle.store_inspection.specs.Prelude.{Tests, HoldsText}
 use Rattle.office_store.proofs.Preparing.{has_it, not_asked, prepared_after}
 use Rattle.office_store.proofs.adopting.hold_text.Goals as goal
 

@@ -5,7 +5,7 @@ use Rattle.office_sql.proofs.Kit.{Held, clean_if_open, state}
 use Rattle.sqlite.specs.Store.{Ghosts}
 use Rattle.office_sql.specs.Prelude.{no_schema}
 use Rattle.office_store.specs.Prelude.{IsPreparedFor, PreparesTables}
-use Rattle.office_found.specs.Prelude.{IsOfNoVersion}
+use Rattle.store_inspection.specs.Prelude.{IsOfNoVersion}
 use Rattle.office_store.proofs.Types.{Failed, OtherTables}
 use Rattle.office_store.proofs.Preparing.{made, stays, unmade, unprepared}
 use Rattle.office_store.proofs.Refusals.{is_err}

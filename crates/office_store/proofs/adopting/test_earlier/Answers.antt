@@ -4,7 +4,7 @@ use Rattle.sha2.specs.Sha256.{sha256}
 use Rattle.site_core.specs.Prelude.{TextOfSite}
 use Rattle.office_store.proofs.Types.{Version}
 use Rattle.office_store.specs.Prelude.{Examines, IsFoundApart, IsTestedFor}
-use Rattle.office_found.specs.Prelude.{HasMeta, number_of_version}
+use Rattle.store_inspection.specs.Prelude.{HasMeta, number_of_version}
 use Rattle.office_store.proofs.Refusals.{are_asked, examines_weaker, found_after, is_err, says_nothing, starts_asked}
 use Rattle.office_store.proofs.adopting.test_earlier.Goals as goal
 

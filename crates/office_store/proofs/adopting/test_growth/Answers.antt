@@ -1,7 +1,7 @@
 use Rattle.std.proofs.Common.{◌≡◌, ℕ, List, OnOk, IfErr, refl, subst, subst₂, IsUtf8}
 use Rattle.office_sql.proofs.Kit.{Database, clean_if_open}
 use Rattle.office_store.specs.Prelude.{CanTake, IsShownText, IsGrownFrom}
-use Rattle.office_store.proofs.Types.{OtherSite, OtherTables, Third}
+use Rattle.office_store.proofs.Types.{OtherSite, OtherTables, V3}
 use Rattle.office_store.proofs.Refusals.{growth_judged, unread}
 use Rattle.office_store.proofs.adopting.test_growth.Goals as goal
 
@@ -18,7 +18,7 @@ returns-in-Ok g c =
     let meta = c.in-Ok.meta in
     let rows = c.as_slice.ensures.value in
     let site = c.site.ensures.same in
-    growth_judged g.S.Store c.args.site.now c.args.conn.now conn calm Third found.mode found.shows_committed (λ clean. (found.found clean).schema)
+    growth_judged g.S.Store c.args.site.now c.args.conn.now conn calm V3 found.mode found.shows_committed (λ clean. (found.found clean).schema)
     refl (meta, c.in-Ok.rows) c.in-Ok.ensures c.judge_text.result
     (subst₂ (λ r s. OnOk c.judge_text.result ((text : List ℕ) × IsShownText text r meta × IsGrownFrom text s)) rows site c.judge_text.ensures.grown)
     (subst₂ (λ r s.
@@ -34,5 +34,5 @@ returns-in-Err g c =
     let conn = c.told_rows.new.conn in
     let calm = clean_if_open (g.S.Store.view conn.store) (g.met.S.Store.shut_if_dirty conn.store) in
     let found = c.requires in
-    unread g.S.Store c.args.site.now c.args.conn.now conn calm Third found.mode found.shows_committed (λ clean. (found.found clean).schema)
+    unread g.S.Store c.args.site.now c.args.conn.now conn calm V3 found.mode found.shows_committed (λ clean. (found.found clean).schema)
     _ _ c.in-Err.ensures (λ (db : Database). CanTake c.args.site.now.site db.trees)

@@ -4,7 +4,7 @@ use Rattle.office_sql.proofs.Kit.{Database, Error, HasCleanDisk, Held, clean_if_
 use Rattle.sqlite.specs.Store.{Ghosts}
 use Rattle.office_store.proofs.Types.{OpenFault, Version}
 use Rattle.office_store.specs.Prelude.{CanPrepareTables, Examines, IsFoundApart, result_of_test}
-use Rattle.office_found.specs.Prelude.{HasApartAddresses, HasWhole, IsFound, Tests, schema_of}
+use Rattle.store_inspection.specs.Prelude.{HasApartAddresses, HasWhole, IsFound, Tests, schema_of}
 use Rattle.office_store.proofs.Refusals.{answered, examines_then, found_after, is_err, says_nothing}
 use Rattle.office_store.proofs.adopting.test_rows.Goals as goal
 

@@ -2,7 +2,7 @@ use Rattle.std.proofs.Common.{Err}
 use Rattle.office_sql.proofs.Kit.{Database, clean_if_open}
 use Rattle.sha2.specs.Sha256.{sha256}
 use Rattle.office_store.specs.Prelude.{Examines, IsFoundApart}
-use Rattle.office_found.specs.Prelude.{HasMeta}
+use Rattle.store_inspection.specs.Prelude.{HasMeta}
 use Rattle.office_store.proofs.Types.{Failed}
 use Rattle.office_store.proofs.Refusals.{examines_then, found_after, is_err, judged, says_nothing, unread}
 use Rattle.office_store.proofs.adopting.test_tables.Goals as goal

@@ -2,7 +2,7 @@
 use Rattle.text_core.proofs.Kit.{arith, subst, ∥∥₁_map}
 use Rattle.office_sql.proofs.Kit.{over_files, HoldsDatabase, Trees, HasCleanDisk, state, opens_again}
 use Rattle.office_store.specs.Prelude.{may_leave_at}
-use Rattle.office_found.specs.Prelude.{HoldsSite, IsOfSite}
+use Rattle.store_inspection.specs.Prelude.{HoldsSite, IsOfSite}
 use Rattle.office_store.proofs.ending.into_store.Goals as goal
 
 pub returns-clause-was_honest : goal.returns-clause-was_honest

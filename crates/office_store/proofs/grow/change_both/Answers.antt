@@ -4,7 +4,7 @@ use Rattle.sha2.specs.Sha256.{sha256}
 use Rattle.office_sql.specs.Prelude.{meta, SqlWrites, IsOffice}
 use Rattle.office_sql.proofs.MapChanges.{changes_then}
 use Rattle.office_store.specs.Prelude.{IsGrown, ReplacesName, PutsText}
-use Rattle.office_found.specs.Prelude.{meta_in}
+use Rattle.store_inspection.specs.Prelude.{meta_in}
 use Rattle.office_store.proofs.Changing.{said_if_open}
 use Rattle.office_store.proofs.Upgrades.{grown}
 use Rattle.office_store.proofs.grow.change_both.Goals as goal

@@ -1,6 +1,6 @@
 use Rattle.std.proofs.Common.{◌∙◌, subst, sym, true≢false}
 use Rattle.office_sql.proofs.Kit.{Trees, state, clean_if_open}
-use Rattle.office_found.specs.Prelude.{IsOfSite}
+use Rattle.store_inspection.specs.Prelude.{IsOfSite}
 use Rattle.office_store.proofs.ReadAnswers.{ready_if_open}
 use Rattle.office_store.specs.Prelude.{IsOpenedFor}
 use Rattle.office_store.proofs.Opened.{leaves_shown, left_of_site, ours}

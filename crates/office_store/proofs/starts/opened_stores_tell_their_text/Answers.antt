@@ -1,7 +1,7 @@
 use Rattle.std.proofs.Common.{sym, subst}
 use Rattle.office_sql.proofs.Kit.{state}
-use Rattle.office_found.specs.Prelude.{HoldsSite}
-use Rattle.office_found.proofs.TextShows.{one_text}
+use Rattle.store_inspection.specs.Prelude.{HoldsSite}
+use Rattle.store_inspection.proofs.TextShows.{one_text}
 use Rattle.office_store.proofs.starts.opened_stores_tell_their_text.Goals as goal
 
 pub returns : goal.returns

@@ -1,6 +1,6 @@
 use Rattle.std.proofs.Common.{◌≡◌, ◌∙◌, None, Some, arith, rules, sym}
 use Rattle.sqlite.proofs.StateLemmas.{clean_if_open}
-use Rattle.office_found.specs.Prelude.{next_version}
+use Rattle.store_inspection.specs.Prelude.{next_version}
 use Rattle.office_store.proofs.Raising.{all_reached, reached_is, reached_next}
 use Rattle.office_store.proofs.Steps.{more_tables, no_next, one_less}
 use Rattle.office_store.proofs.upgrade.fill.Goals as goal

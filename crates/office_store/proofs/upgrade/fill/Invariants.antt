@@ -1,5 +1,5 @@
 use Rattle.std.proofs.Common.{◌≡◌, ◌≤◌}
-use Rattle.office_found.specs.Prelude.{count_of}
+use Rattle.store_inspection.specs.Prelude.{count_of}
 use Rattle.office_store.proofs.Raising.{IsReached}
 use Rattle.office_store.proofs.Steps.{steps_left}
 use Rattle.office_store.proofs.upgrade.fill.Given as goal

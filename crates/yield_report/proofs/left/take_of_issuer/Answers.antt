@@ -9,6 +9,6 @@ returns g c = record {
   stays_open = search rules;
   answer = λ is.
       let visits = c.in_ok-visit_given.ensures.answer is in
-      let ordered = c.fact_in_order.ensures (c.visit_given.ensures.read_only.was_open is) in
+      let ordered = c.fact_ascending.ensures (c.visit_given.ensures.read_only.was_open is) in
       (rise_in_order c.args.issuer.now _ ordered.given, λ are apart. serials_taken _ _ _ visits are apart, serials_fit _ _ _ visits);
 }

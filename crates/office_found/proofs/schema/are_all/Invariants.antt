@@ -1,6 +1,0 @@
--- What was found so far are the parts that are described.
-use Rattle.std.proofs.Common.{◌≡◌, map, take}
-use Rattle.office_found.proofs.schema.are_all.Given as goal
-
-abbrev pub invariant-loop-at : goal.invariant-loop-at
-invariant-loop-at g l = take l.at l.found ≡ map g.D.Describes.part (take l.at l.forms)

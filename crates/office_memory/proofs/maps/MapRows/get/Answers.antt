@@ -1,6 +1,0 @@
-use Rattle.std.proofs.Common.{◌∙◌}
-use Rattle.office_memory.proofs.Keys.{find_map}
-use Rattle.office_memory.proofs.maps.MapRows.get.Goals as goal
-
-pub returns : goal.returns
-returns c = rw (← c.self.view_is) (c.get.ensures ∙ find_map c.args.id c.self.inside.rows)

@@ -1,0 +1,44 @@
+// What a store in a file comes to in one start of the program.
+ghost use Rattle.std.specs.Prelude.{◌≡◌};
+ghost use Rattle.sqlite.specs.WalFiles.{image_at};
+ghost use Rattle.site_core.specs.Prelude.{IsGrowth, IsSite, IsSiteText, TextOfSite};
+ghost use Rattle.office_tables.specs.Prelude.{Tables};
+ghost use Rattle.office_store.specs.Prelude.{HasTablesOf, IsFoundSo, MayBeFound, TakesGrowth};
+ghost use Rattle.office_store.specs.declared.opening.Absent.{Absent};
+ghost use Rattle.station_api.specs.Prelude.{Life};
+ghost use Rattle.station_cli.specs.Prelude.{IsServedOver, LeadsOn};
+
+use office_core::Keep;
+use office_store::{SqlKeep, opened_stores_tell_their_text};
+use sqlite::{FileFrom, FileStore};
+use sqlite_disk::Start;
+use station_api::served_stores_have_lives;
+
+/// A store in a file that was opened for a site, and over which connections were served, as `serve_site`
+/// says of it (`books`), has a life: one that begins with the tables that the file held, has the
+/// exchanges that were led on by, and leaves any tables that whoever opens the files that came back may
+/// find.
+pub fn served_files_have_lives<S: Start>()
+    ensures { (site : TextOfSite) (absent : Absent) (files : _) (tables : Tables)
+        (served : IsServedOver site (image_at S.Start) absent
+        (LeadsOn ⟦<SqlKeep<FileStore<FileFrom<S>>> as Keep>⟧ site.site) files)
+        → IsSite site.site → MayBeFound files tables
+        → ∥ ((life : Life) × (life.site ≡ site.site) × HasTablesOf (image_at S.Start) life.begun
+        × (life.exchanges ≡ served.leads.0) × (life.left ≡ tables)) ∥₁ }
+{
+    served_stores_have_lives::<SqlKeep<FileStore<FileFrom<S>>>>();
+}
+
+/// The site of a start grew from that of the start before it: where the files that came back of the one,
+/// as `serve_site` says of it (`books`), are opened for another site, and that takes what they tell of for
+/// a site that it grew from (`grown` of an opening), the other site is a growth of the one. So the sites of
+/// the program's starts over one store are each a growth of the one before, as `lives_are_one_run` asks.
+pub fn later_starts_are_of_growths<S: Start>()
+    ensures { (site next : TextOfSite) (absent : Absent) (files : _)
+        → IsServedOver site (image_at S.Start) absent
+        (LeadsOn ⟦<SqlKeep<FileStore<FileFrom<S>>> as Keep>⟧ site.site) files
+        → IsSiteText site.text site.site → IsFoundSo files (TakesGrowth next.site)
+        → ∥ IsGrowth site.site next.site ∥₁ }
+{
+    opened_stores_tell_their_text::<FileStore<FileFrom<S>>>();
+}

@@ -1,0 +1,217 @@
+//! Does the jobs of the command line.
+ghost use Rattle.std.specs.Prelude.{◌≡◌, ◌≢◌, ◌≤◌, ◌⊎◌, ◌++◌, ◌∷◌, [], IfOk, IfErr, IsErrAnd, MatchResult, OnOk};
+ghost use Rattle.std.specs.Io.KnownBytes.{Appends, Keeps};
+ghost use Rattle.http_frames.specs.Prelude.{HasCallsLeft, StaysWithinCalls};
+ghost use Rattle.office_tables.specs.Prelude.{no_rows};
+ghost use Rattle.station_cli.specs.Prelude.{EndsAs, IsOfJob, IsTold, IsUnread, map_line, map_of_file, Replays, result_of_ending, site_in, status_of};
+ghost use Rattle.text_core.specs.Prelude.{result_and_then};
+
+use crate::failure::Failure;
+use crate::job::Job;
+use crate::map_file::{map_of_file, read_map_file, write_map_line};
+use crate::serving::{Door, serve_site};
+use crate::site_file::{read_site_file, site_of_file};
+use crate::stored::{Done, StoreFile, put_away, replay_stored};
+use crate::telling::tell;
+use office_core::MemKeep;
+use sqlite_disk::{Disk, Start};
+use station_api::{Counted, Drain, Served, Source, serve_stream};
+use std::alloc::Global;
+use std::io;
+use std::io::{Read, Write};
+
+/// Does a job: reads the file that it names, then its input, writes its output, and writes one line
+/// on `err` where it fails. Answers the status that the program ends with: 0, or 1 where it failed.
+///
+/// `start` stands for what a store's files hold, of which the clauses of its opening speak, and says
+/// how a crash is read. The program passes `Unknown`, and a theorem over the program is of any.
+pub fn run<E: Write, S: Start>(
+    rt: &HostRuntime,
+    alloc: Global,
+    job: &Job,
+    input: impl Read + Drop,
+    output: impl Write + Drop,
+    err: &mut E,
+    start: S,
+) -> u8
+    ensures status { result ≤ 1 }
+    ensures prints_nothing { result ≡ 0 → Keeps (E.contents err.old) (E.contents err.new) }
+
+    // The status and what is told are those of one outcome: the job was done, or it failed by a failure
+    // that it may have.
+    ensures ends { EndsAs job.now result (E.contents err.old) (E.contents err.new) }
+{
+    let done = outcome(rt, alloc, job, input, output, start);
+    finish(alloc, done, err)
+}
+
+/// Does a job, and answers how it failed.
+fn outcome<'a, S: Start>(
+    rt: &HostRuntime,
+    alloc: Global,
+    job: &'a Job,
+    input: impl Read + Drop,
+    mut output: impl Write + Drop,
+    start: S,
+) -> Result<(), Failure<'a>>
+    ensures { IfErr result (IsOfJob job.now) }
+{
+    match job {
+        Job::Serve {
+            site,
+            store,
+            port,
+            connections,
+        } => {
+            let name = site.as_str();
+            let file = read_site_file(rt, alloc, name);
+            let store = StoreFile::of(store, start);
+            let door = Door {
+                port: *port,
+                connections: *connections,
+            };
+            result_of(serve_site(rt, alloc, name, file, store, door, &mut output))
+        }
+        Job::Replay { site, store } => {
+            let name = site.as_str();
+            let file = read_site_file(rt, alloc, name);
+            let mut reader = Counted::new(input);
+            let mut writer = Counted::new(output);
+            match store {
+                Some(store) => {
+                    let store = StoreFile::of(store, start);
+                    let done = replay_stored(
+                        rt,
+                        alloc,
+                        name,
+                        file,
+                        store,
+                        &mut reader,
+                        &mut writer,
+                    );
+                    put_away(done.files);
+                    result_of_stream(done.result)
+                }
+                None => result_of_stream(replay(alloc, name, file, &mut reader, &mut writer)),
+            }
+        }
+        Job::CheckMap { map } => {
+            let name = map.as_str();
+            let file = read_map_file(rt, alloc, name);
+            check_map(alloc, name, file, &mut output)
+        }
+    }
+}
+
+/// What a job over a store says of a failure. What is left of the store's files is closed.
+fn result_of<T: Drop, D: Disk + Drop>(done: Done<'_, T, D>) -> Result<(), Failure<'_>>
+    ensures { MatchResult done.entry.result (λ _. result ≡ Ok tt)
+        (λ failure. result ≡ Err failure) }
+{
+    put_away(done.files);
+    match done.result {
+        Ok(_) => Ok(()),
+        Err(failure) => Err(failure),
+    }
+}
+
+/// Serves one stream over a keeper in memory that has no rows, for the site that a file describes,
+/// by what reading the file with this name gave. Answers how the stream ended.
+///
+/// # Errors
+///
+/// The site's file wasn't read or describes no site, or memory ran out.
+fn replay<'a, R: Source, W: Drain>(
+    alloc: Global,
+    name: &'a str,
+    file: io::Result<Vec<u8>>,
+    reader: &mut R,
+    writer: &mut W,
+) -> Result<Served, Failure<'a>>
+    requires reader { HasCallsLeft (R.calls reader.old) 0 }
+    requires writer { HasCallsLeft (W.calls writer.old) 0 }
+    ensures unread { IfErr file (λ error. IsErrAnd result (IsUnread name.entry error)) }
+
+    // A file that describes no site is the failure, whatever the stream.
+    ensures no_site { IfOk file (λ bytes. IfErr (site_in name.entry bytes.items) (λ failure.
+        (result ≡ Err failure) ⊎ (result ≡ Err Failure.NoMemory))) }
+
+    // What fails where there is a site is memory.
+    ensures failed { IfOk file (λ bytes. IfOk (site_in name.entry bytes.items) (λ _.
+        IfErr result (λ failure. failure ≡ Failure.NoMemory))) }
+
+    // The stream is served from no rows on, where the reader and the writer tell their bytes.
+    ensures served { IfOk file (λ bytes. IfOk (site_in name.entry bytes.items) (λ site.
+        IfOk result (Replays site no_rows (R.left reader.old) (R.left reader.new)
+        (W.written writer.old) (W.written writer.new)))) }
+
+    // Nothing is read or written before the site is known.
+    ensures within { MatchResult result
+        (StaysWithinCalls R.Source W.Drain reader.old reader.new writer.old writer.new)
+        (λ _. (reader.new ≡ reader.old) × (writer.new ≡ writer.old)) }
+{
+    let site = site_of_file(alloc, name, file)?;
+    let mut keep = MemKeep::new(alloc);
+    Ok(serve_stream(alloc, &mut keep, site.site(), reader, writer))
+}
+
+/// Writes the line of the fuse map that a file describes, by what reading the file with this name
+/// gave.
+fn check_map<'a, W: Write>(
+    alloc: Global,
+    name: &'a str,
+    file: io::Result<Vec<u8>>,
+    output: &mut W,
+) -> Result<(), Failure<'a>>
+    ensures unread { IfErr file (λ error. IsErrAnd result (IsUnread name.entry error)) }
+    ensures no_map { IfOk file (λ bytes. IfErr (map_of_file name.entry bytes.items) (λ failure.
+        (result ≡ Err failure) ⊎ (result ≡ Err Failure.NoMemory))) }
+
+    // The line of a map is written, unless that fails or memory runs out.
+    ensures map { IfOk file (λ bytes.
+        IfOk (map_of_file name.entry bytes.items) (λ map. MatchResult result
+        (λ _. Appends (W.contents output.old) (W.contents output.new) (map_line map ++ 10 ∷ []))
+        (λ failure. (failure ≡ Failure.WriteFailed) ⊎ (failure ≡ Failure.NoMemory)))) }
+
+    // Nothing is written before the map is known.
+    ensures prints_nothing { IfErr result (λ failure. failure ≢ Failure.WriteFailed
+        → Keeps (W.contents output.old) (W.contents output.new)) }
+{
+    let map = map_of_file(alloc, name, file)?;
+    match write_map_line(&map, output) {
+        Ok(()) => Ok(()),
+        Err(_) => Err(Failure::WriteFailed),
+    }
+}
+
+/// What the end of a stream says of a failure, or why none was served. That a stream ends inside a
+/// request is no failure, nor that its last reply ends it.
+fn result_of_stream(served: Result<Served, Failure<'_>>) -> Result<(), Failure<'_>>
+    ensures { result ≡ result_and_then result_of_ending served.entry }
+{
+    match served? {
+        Served::Ended | Served::Closed | Served::Cut => Ok(()),
+        Served::ReadFault => Err(Failure::ReadFailed),
+        Served::WriteFault => Err(Failure::WriteFailed),
+        Served::TurnLimit => Err(Failure::TurnLimit),
+        Served::NoMemory => Err(Failure::NoMemory),
+    }
+}
+
+/// Writes the line of a failure, and answers the status of a job that ended so. What can't be written
+/// is passed over.
+fn finish<W: Write>(alloc: Global, done: Result<(), Failure<'_>>, err: &mut W) -> u8
+    ensures status { result ≡ status_of done.entry }
+    ensures prints_nothing { OnOk done.entry (Keeps (W.contents err.old) (W.contents err.new)) }
+    ensures told { IfErr done.entry (λ failure.
+        IsTold failure (W.contents err.old) (W.contents err.new)
+        ⊎ IsTold Failure.NoMemory (W.contents err.old) (W.contents err.new)) }
+{
+    match done {
+        Ok(()) => 0,
+        Err(failure) => {
+            tell(alloc, failure, err);
+            1
+        }
+    }
+}

@@ -1,0 +1,177 @@
+//! A store in a file: how it is opened, and a replay over it.
+ghost use Rattle.std.specs.Prelude.{◌≡◌, ◌⊎◌, IfOk, IfErr, IsErrAnd, IsOkAnd, MatchResult};
+ghost use Rattle.station_cli.specs.Prelude.{IsUnread, IsOfStore, IsOpening, LeavesIfRead, site_in, text_of_site};
+ghost use Rattle.http_frames.specs.Prelude.{HasCallsLeft, StaysWithinCalls};
+ghost use Rattle.office_store.specs.Prelude.{IsRefusal, open_fault_number};
+ghost use Rattle.sqlite.specs.WalFiles.{image_at};
+ghost use Rattle.station_api.specs.Prelude.{ServesOver};
+
+use crate::failure::Failure;
+use crate::job::StoreName;
+use crate::private::make_private;
+use crate::site_file::site_of_file;
+use office_core::Keep;
+use office_store::{Absent, Closed, OpenFault, Refused, SqlKeep, close, open_or_hand_back};
+use site_core::SiteText;
+use sqlite::{FileFrom, FileStore};
+use sqlite_disk::{Disk, Start};
+use station_api::{Drain, Served, Source, serve_stream};
+use std::alloc::Global;
+use std::io;
+
+/// What a job over a store leaves of its files.
+#[derive(Drop)]
+pub enum LeftFiles<D: Disk + Drop> {
+    /// What was handed back of the files of a store that wasn't opened.
+    Refused(Refused<D>),
+    /// The files of a store that was served over.
+    Ended(Closed<D>),
+}
+
+/// What a job over a store came to.
+#[derive(Drop)]
+pub struct Done<'a, T: Drop, D: Disk + Drop> {
+    /// Its result, or why it failed.
+    pub result: Result<T, Failure<'a>>,
+    /// What it left of the store's files, where it came to open them.
+    pub files: Option<LeftFiles<D>>,
+}
+
+/// Serves one stream over the store in a file, for the site that a file describes, by what reading the
+/// file with this name gave. The store is closed at the end. Answers how the stream ended.
+///
+/// # Errors
+///
+/// The site's file wasn't read or describes no site, memory ran out, or the store isn't opened.
+pub fn replay_stored<'a, S: Start, R: Source, W: Drain>(
+    rt: &HostRuntime,
+    alloc: Global,
+    name: &'a str,
+    file: io::Result<Vec<u8>>,
+    store: StoreFile<'_, S>,
+    reader: &mut R,
+    writer: &mut W,
+) -> Done<'a, Served, FileFrom<S>>
+    requires reader { HasCallsLeft (R.calls reader.old) 0 }
+    requires writer { HasCallsLeft (W.calls writer.old) 0 }
+    ensures unread { IfErr file (λ error. IsErrAnd result.result (IsUnread name.entry error)) }
+
+    // A file that describes no site is the failure, whatever the store and the stream.
+    ensures no_site { IfOk file (λ bytes. IfErr (site_in name.entry bytes.items) (λ failure.
+        (result.result ≡ Err failure) ⊎ (result.result ≡ Err Failure.NoMemory))) }
+
+    // What fails where there is a site is memory or the store.
+    ensures failed { IfOk file (λ bytes. IfOk (site_in name.entry bytes.items) (λ _.
+        IfErr result.result (λ failure. (failure ≡ Failure.NoMemory) ⊎ IsOfStore failure))) }
+
+    // The store was refused, or it was as its opening says, and the stream was served over it: its
+    // requests lead from the tables of then to those that the files hold that come back.
+    ensures books { IfOk file (λ bytes. IfOk (site_in name.entry bytes.items) (λ site.
+        LeavesIfRead (text_of_site bytes.items site) (image_at S.Start) store.entry.name.now
+        store.entry.absent (λ opened last. IsOkAnd result.result (λ served.
+        ServesOver ⟦<SqlKeep<FileStore<FileFrom<S>>> as Keep>⟧ site (R.left reader.old)
+        (R.left reader.new) (W.written writer.old) (W.written writer.new) served opened last))
+        result.result result.files)) }
+
+    // Nothing is read or written before the site is known and the store is open.
+    ensures within { MatchResult result.result
+        (StaysWithinCalls R.Source W.Drain reader.old reader.new writer.old writer.new)
+        (λ _. (reader.new ≡ reader.old) × (writer.new ≡ writer.old)) }
+{
+    let site = match site_of_file(alloc, name, file) {
+        Ok(site) => site,
+        Err(failure) => {
+            return Done {
+                result: Err(failure),
+                files: None,
+            };
+        }
+    };
+    let mut keep = match open_limited(rt, alloc, store, &site) {
+        Ok(keep) => keep,
+        Err(refused) => {
+            return Done {
+                result: Err(store_failure(refused.fault)),
+                files: Some(LeftFiles::Refused(refused)),
+            };
+        }
+    };
+    let served = serve_stream(alloc, &mut keep, site.site(), reader, writer);
+    Done {
+        result: Ok(served),
+        files: Some(LeftFiles::Ended(close(keep))),
+    }
+}
+
+/// Closes what a job left of a store's files.
+pub fn put_away<D: Disk + Drop>(files: Option<LeftFiles<D>>) {
+    if let Some(LeftFiles::Ended(Closed::Uncopied(store))) = files {
+        drop(store.close());
+    }
+}
+
+/// How many steps a statement may take: a read of a hundred million rows takes fewer.
+const STATEMENT_STEPS: u64 = 1_000_000_000;
+
+/// A store that is served over.
+#[derive(Drop)]
+pub struct StoreFile<'a, S: Drop> {
+    /// The name of its file.
+    pub name: &'a str,
+    /// What becomes of a name at which there is no store.
+    pub absent: Absent,
+    /// What stands for what its files hold.
+    pub start: S,
+}
+
+impl<'a, S: Drop> StoreFile<'a, S> {
+    /// The store that the command line names.
+    pub fn of(named: &'a StoreName, start: S) -> StoreFile<'a, S> {
+        let absent = if named.is_existing {
+            Absent::Refuse
+        } else {
+            Absent::Make
+        };
+        StoreFile {
+            name: named.file.as_str(),
+            absent,
+            start,
+        }
+    }
+}
+
+/// Opens the store of a site, with the limit of steps for each statement. A fault comes with what is
+/// left of the files.
+pub fn open_limited<S: Start>(
+    rt: &HostRuntime,
+    alloc: Global,
+    store: StoreFile<'_, S>,
+    site: &SiteText,
+) -> Result<SqlKeep<FileStore<FileFrom<S>>>, Refused<FileFrom<S>>>
+    ensures opened { IfOk result (IsOpening site.now (image_at S.Start) store.entry.absent) }
+    ensures refused { IfErr result (IsRefusal ⟦<FileFrom<S> as Disk>⟧ (image_at S.Start)
+        store.entry.absent site.now store.entry.name.now) }
+{
+    let StoreFile {
+        name,
+        absent,
+        start,
+    } = store;
+    if matches!(absent, Absent::Make) {
+        make_private(rt, name);
+    }
+    match open_or_hand_back(rt, alloc, name, start, site, absent) {
+        Ok(mut keep) => {
+            keep.set_steps(STATEMENT_STEPS);
+            Ok(keep)
+        }
+        Err(refused) => Err(refused),
+    }
+}
+
+/// The failure that the fault of a store is.
+pub fn store_failure(fault: OpenFault) -> Failure<'static>
+    ensures { result ≡ Failure.StoreFault (open_fault_number fault) }
+{
+    Failure::StoreFault(fault.number())
+}

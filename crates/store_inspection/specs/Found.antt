@@ -1,0 +1,89 @@
+-- What a file that was found is asked before it counts as the office's: no identity and no number
+-- of an entry is below zero, and of each order and each record its beginning of validity is told.
+use Rattle.std.specs.Prelude.{◌≡◌, ◌≢◌, ℕ, pos, Bool, true, false, not, ◌&&◌, find, is_some, List, [], IsTrue, Result, IfOk, OnOk}
+use Rattle.std.specs.List.{AllByRecursion}
+use Rattle.sqlite.specs.declared.types.Value.{Value}
+use Rattle.sqlite.specs.declared.types.Value.TheVariants.{Int}
+use Rattle.std.specs.Ordering.{is_lt}
+use Rattle.sqlite.specs.Ops.{is_null}
+use Rattle.sqlite.specs.Order.{Row, column, value_cmp}
+use Rattle.sqlite.specs.Tree.{Trees}
+use Rattle.sqlite.specs.Store.{Ghosts}
+use Rattle.sqlite.specs.Held.{Held, state}
+use Rattle.sqlite.specs.State.{State, HasCleanDisk, IsUnchanged, Survives}
+use Rattle.office_sql.specs.Prelude.{rows_in, maps, orders, given, ledger, order_starts, given_starts, Rests, order_in_row, given_in_row, starts_order}
+use Rattle.office_sql.specs.Prelude.{starts_given, AreOfficeRows, AreStarted}
+use Rattle.sqlite.specs.Effect.{Database, IsDatabase}
+use Rattle.store_inspection.specs.declared.version.Version.{Version}
+use Rattle.store_inspection.specs.declared.version.Version.TheVariants.{V2, V3}
+use Rattle.store_inspection.specs.Versions.{number_of_version, schema_of}
+
+-- a value is below zero, as SQL sees it
+abbrev pub is_below : Value → Bool
+is_below v = not (is_null v) && is_lt (value_cmp v (Int (pos 0)))
+
+-- the column has no number below zero
+abbrev pub IsNotBelow : ℕ → Row → Type 0
+IsNotBelow place r = is_below (column r place) ≡ false
+
+-- no identity of a map or an entry, and no number of an entry, is below zero
+pub record HasWhole (trees : Trees) : Type 0 where
+  pub maps : AllByRecursion (IsNotBelow 0) (rows_in trees maps)
+  pub entries : AllByRecursion (IsNotBelow 0) (rows_in trees ledger)
+  pub numbers : AllByRecursion (IsNotBelow 4) (rows_in trees ledger)
+
+-- an open connection has the schema of a version
+abbrev pub HasVersionSchema : State → Type 0
+HasVersionSchema s = IsTrue s.is_open → (version : Version) × (s.now.schema ≡ schema_of version)
+
+-- one of the starts, at least, is for the row
+abbrev pub HasStart : {A : Type 0} → (A → Row → Bool) → (Row → A) → List Row → Row → Type 0
+HasStart is_for value starts r = is_some (find (is_for (value r)) starts) ≡ true
+
+-- for each of the rows there is a start, at least one
+abbrev pub HaveStarts : {A : Type 0} → (A → Row → Bool) → (Row → A) → List Row → List Row → Type 0
+HaveStarts is_for value rows starts = AllByRecursion (HasStart is_for value starts) rows
+
+-- each order and each record has its beginning of validity told
+pub record HasStarts (trees : Trees) : Type 0 where
+  pub orders : HaveStarts starts_order order_in_row (rows_in trees orders) (rows_in trees order_starts)
+  pub given : HaveStarts starts_given given_in_row (rows_in trees given) (rows_in trees given_starts)
+
+-- each order and each record has exactly one beginning of validity told
+pub record AreAllStarted (trees : Trees) : Type 0 where
+  pub orders : AreStarted starts_order order_in_row (rows_in trees orders) (rows_in trees order_starts)
+  pub given : AreStarted starts_given given_in_row (rows_in trees given) (rows_in trees given_starts)
+
+-- no beginning of validity is told
+abbrev pub TellsNoStart : Trees → Type 0
+TellsNoStart db = (rows_in db order_starts ≡ []) × (rows_in db given_starts ≡ [])
+
+-- beside the office's rows: in the versions with the number 1 no beginning of validity is told, and
+-- in the others, where none lacks, each order and each record has exactly one
+abbrev pub AreStartsFound : Version → Database → Type 0
+AreStartsFound V2 db = HasStarts db.trees → AreAllStarted db.trees
+AreStartsFound V3 db = HasStarts db.trees → AreAllStarted db.trees
+AreStartsFound _ db = TellsNoStart db.trees
+
+-- a database of a version, with the office's rows
+pub record IsFound (version : Version) (db : Database) : Type 0 where
+  pub schema : db.schema ≡ schema_of version
+  pub sound : IsDatabase db
+  pub rows : AreOfficeRows db.trees
+  pub starts : AreStartsFound version db
+
+-- a database of a version in which beginnings of validity are told
+abbrev pub IsFoundLater : Database → Type 0
+IsFoundLater db = (version : Version) × (number_of_version version ≢ 1) × IsFound version db
+
+-- an open connection sees a database of which this is so
+abbrev pub Sees : (Database → Type 0) → State → Type 0
+Sees Says s = IsTrue s.is_open → Says s.now
+
+-- a test: an answer says this of the trees, nothing is changed, and a crash leaves nothing new
+pub record Tests {S A E : Type 0} (g : Ghosts S) (old new : Held S) (result : Result A E) (Says : Trees → A → Type 0) : Type 0 where
+  pub answer : HasCleanDisk (state g new) → IfOk result (Says (state g old).now.trees)
+  pub same : HasCleanDisk (state g new) → OnOk result (IsUnchanged (state g old) (state g new))
+  pub rests : HasCleanDisk (state g new) → Rests (state g old) (state g new)
+  pub mode : old.in_transaction ≡ false → new.in_transaction ≡ false
+  pub crash : Survives (state g old) (state g new) (λ _. ⊥)
