@@ -168,8 +168,8 @@ fn difference_of_identities(alloc: Global) -> Result<String, Fail> {
         return Ok(found);
     }
     let mac = Mac::parse("020000000010").ok_or("no address")?;
-    let start = NotBefore::read("20240229120000Z").map_err(|_| "no beginning")?;
-    difference_of_identity(alloc, Some(mac), Some(start), ADDRESSED)
+    let not_before = NotBefore::read("20240229120000Z").map_err(|_| "no beginning")?;
+    difference_of_identity(alloc, Some(mac), Some(not_before), ADDRESSED)
 }
 
 /// What differs where a device's state is told.

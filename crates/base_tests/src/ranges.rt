@@ -199,14 +199,14 @@ fn is_identity(serial: &str) -> Option<bool> {
 
 /// Whether a text is a beginning that a record has. Any other is a `BadNotBefore`.
 fn is_beginning(text: &str) -> Option<bool> {
-    let start = match NotBefore::read(text) {
-        Ok(start) => start,
+    let not_before = match NotBefore::read(text) {
+        Ok(not_before) => not_before,
         Err(RangeFault::BadNotBefore) => return Some(false),
         Err(_) => return None,
     };
     let issuer = Name::parse("acme-ca")?;
     let key = KeyDigest::of(b"abc");
-    let record = IdevidRecord::new(issuer, "A998", key, None, Some(start)).ok()?;
+    let record = IdevidRecord::new(issuer, "A998", key, None, Some(not_before)).ok()?;
     Some(record.not_before()?.as_str() == text)
 }
 

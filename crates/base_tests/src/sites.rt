@@ -371,7 +371,7 @@ fn growths_of_change(alloc: Global, part: &str, new: &str) -> Option<(bool, bool
 }
 
 /// The sample with its customers in the other order.
-fn reordered(alloc: Global) -> Option<String> {
+fn rearranged(alloc: Global) -> Option<String> {
     let (acme, others) = SITE.split_once("[[customer]]\nname = \"bolt\"")?;
     let (bolt, manager) = others.split_once("[manager]")?;
     format!(in alloc; "[[customer]]\nname = \"bolt\"{bolt}{acme}[manager]{manager}").ok()
@@ -390,7 +390,7 @@ fn tells_growths(rt: HostRuntime) {
     for grown in &[SITE_WITH_A_POOL, SITE_WITH_A_CUSTOMER] {
         assert!(rt; growths(alloc, SITE, grown) == Some((true, false)));
     }
-    let other = reordered(alloc).unwrap_or(String::new(alloc));
+    let other = rearranged(alloc).unwrap_or(String::new(alloc));
     assert!(rt; growths(alloc, SITE, other.as_str()) == Some((true, true)));
 }
 

@@ -12,7 +12,7 @@ use Rattle.office_tables.specs.Prelude.{Stands, Tables}
 use Rattle.office_laws.specs.Prelude.{IsSound, Exchange, IsRun, Promises, IsLeft, IsUnanswered, Leaves}
 use Rattle.office_store.specs.Prelude.{HasTablesOf}
 use Rattle.office_store.specs.Prelude.{is_open_at, may_leave_at, tables_of, Kept}
-use Rattle.store_inspection.specs.Prelude.{HoldsText}
+use Rattle.store_inspection.specs.Prelude.{HoldsSiteText}
 use Rattle.crash_laws.specs.Crashing.{AreCrashed, LeaveStore}
 
 -- The files held the first tables, and these exchanges led from them to those that stood as the files
@@ -35,7 +35,7 @@ pub record IsStopped {D : Type 0} (g : Ghosts D) (site : Ownership) (files : Fil
 pub record IsOpenedOver {D : Type 0} (g : Ghosts D) (site : TextOfSite) (image : Image)
     (keep : Kept (FileStore D g)) : Type 0 where
   pub of_site : keep.site ≡ site.digest
-  pub text : HoldsText site.text (state over_files keep.conn).now.trees
+  pub text : HoldsSiteText site.text (state over_files keep.conn).now.trees
   pub tables : HasTablesOf image (tables_of over_files keep.conn)
   pub only : (left : Tables) → may_leave_at over_files keep.conn left → left ≡ tables_of over_files keep.conn
 

@@ -9,12 +9,12 @@ pairs_of_first : {X : Type 0} (R : X → X → Type 0) (x : X) (xs : List X) →
 pairs_of_first R x xs pairs k d low = pairs 0 (suc k) d (omega arith) (omega arith)
 
 pairs_of_others : {X : Type 0} (R : X → X → Type 0) (x : X) (xs : List X) → AllPairs R (x ∷ xs) → AllPairs R xs
-pairs_of_others R x xs pairs i j d order low = pairs (suc i) (suc j) d (omega arith) (omega arith)
+pairs_of_others R x xs pairs i j d before low = pairs (suc i) (suc j) d (omega arith) (omega arith)
 
 -- a test of each pair
 pub Decides-all_pairs : {X : Type 0} (test : X → X → Bool) (R : X → X → Type 0) → ((x y : X) → Decides (test x y) (R x y)) → (xs : List X)
     → Decides (all_pairs test xs) (AllPairs R xs)
-Decides-all_pairs test R each [] = (λ _ i j d order low. absurd (omega (arith, low)), λ _. refl)
+Decides-all_pairs test R each [] = (λ _ i j d before low. absurd (omega (arith, low)), λ _. refl)
 Decides-all_pairs test R each (x ∷ xs) =
     Decides-like (all_pairs test (x ∷ xs)) (λ both. AllPairs-cons R x xs both.0 both.1) (λ pairs. (pairs_of_first R x xs pairs, pairs_of_others R x xs pairs))
     (Decides-and (list_all (test x) xs) (all_pairs test xs) (Decides-list_all (test x) (R x) (each x) xs) (Decides-all_pairs test R each xs))

@@ -32,5 +32,5 @@ abbrev pub not_before_of : List ℕ → Result (List ℕ) RangeFault
 not_before_of text = if is_not_before text then Ok text else Err BadNotBefore
 
 -- a beginning that may be missing; a text that is none counts as missing
-abbrev pub start_in : Option (List ℕ) → Option (List ℕ)
-start_in asked = option_and_then (λ text. result_ok (not_before_of text)) asked
+abbrev pub not_before_in : Option (List ℕ) → Option (List ℕ)
+not_before_in asked = option_and_then (λ text. result_ok (not_before_of text)) asked

@@ -39,11 +39,11 @@ module _ {K R : Type 0} (cmp : K → K → Ordering) (total : IsTotalOrder cmp) 
   )
 
   -- the rows are in the order of their keys
-  pub in_order-values : (es : List (K × R)) → AreKeyed cmp key_of es → IsStrictlySortedBy cmp (keys_of es) → IsAscending (by_key cmp key_of) (values_of es)
-  in_order-values [] keyed sorted = tt
-  in_order-values (e ∷ es) keyed sorted = (
+  pub ascending-values : (es : List (K × R)) → AreKeyed cmp key_of es → IsStrictlySortedBy cmp (keys_of es) → IsAscending (by_key cmp key_of) (values_of es)
+  ascending-values [] keyed sorted = tt
+  ascending-values (e ∷ es) keyed sorted = (
     below-values e.0 e.1 es keyed.0 keyed.1 (sorted_head cmp e.0 (keys_of es) sorted),
-    in_order-values es keyed.1 (sorted_tail cmp e.0 (keys_of es) sorted),
+    ascending-values es keyed.1 (sorted_tail cmp e.0 (keys_of es) sorted),
   )
 
   -- an insertion places the row

@@ -4,7 +4,7 @@ ghost use Rattle.serde_json.specs.View.{view};
 ghost use Rattle.office_commands.specs.IdentityReplies as replies;
 ghost use Rattle.office_commands.specs.Prelude.{idevid_in, identity_data, import_data, state_data};
 
-use crate::reply::{mac_value, start_value};
+use crate::reply::{mac_value, not_before_value};
 use office_tables::{DeviceState, Given};
 use serde_json::{Value, json};
 use std::alloc::{AllocError, Global};
@@ -15,14 +15,14 @@ fn identity_value(alloc: Global, chip: &Chip, given: &Given) -> Result<Value, Al
 {
     let mac = mac_value(alloc, given.mac)?;
     let key = given.key.to_string(alloc)?;
-    let start = start_value(alloc, given.not_before)?;
+    let not_before = not_before_value(alloc, given.not_before)?;
     json!(in alloc; {
         "chip": chip.as_str(),
         "issuer": given.issuer.as_str(),
         "key_sha256": key.as_str(),
         "mac": mac,
         "not_after": given.not_after.as_str(),
-        "not_before": start,
+        "not_before": not_before,
         "serial": given.serial.as_str()
     })
 }

@@ -114,11 +114,11 @@ pub(crate) fn mac_value(alloc: Global, mac: Option<Mac>) -> Result<Value, AllocE
     }
 }
 
-pub(crate) fn start_value(alloc: Global, start: Option<NotBefore>) -> Result<Value, AllocError>
-    ensures { IfOk result (λ v. view v ≡ text_data start) }
+pub(crate) fn not_before_value(alloc: Global, not_before: Option<NotBefore>) -> Result<Value, AllocError>
+    ensures { IfOk result (λ v. view v ≡ text_data not_before) }
 {
-    match start {
-        Some(start) => Value::try_from_str(alloc, start.as_str()),
+    match not_before {
+        Some(not_before) => Value::try_from_str(alloc, not_before.as_str()),
         None => Ok(Value::Null),
     }
 }
@@ -129,7 +129,7 @@ fn order_value(alloc: Global, order: &Order, next: Option<&str>) -> Result<Value
 {
     let mac = mac_value(alloc, order.mac)?;
     let next = text_value(alloc, next)?;
-    let start = start_value(alloc, order.not_before)?;
+    let not_before = not_before_value(alloc, order.not_before)?;
     json!(in alloc; {
         "first": order.range.first(),
         "issuer": order.issuer.as_str(),
@@ -137,7 +137,7 @@ fn order_value(alloc: Global, order: &Order, next: Option<&str>) -> Result<Value
         "macs": order.macs,
         "name": order.name.as_str(),
         "next": next,
-        "not_before": start,
+        "not_before": not_before,
         "prefix": order.range.prefix().as_str(),
         "quantity": order.range.quantity(),
         "width": order.range.width()

@@ -6,7 +6,7 @@ use Rattle.site_core.specs.Prelude.{Ownership}
 use Rattle.office_laws.proofs.Types.{Given, Order, OfCustomer, Device}
 use Rattle.office_tables.specs.Prelude.{Tables, is_device, is_of, is_order, order_at, order_cmp, rows_of, with_row, with_cursor, with_cursor_of, with_order}
 use Rattle.office_tables.specs.Prelude.{IsAscending}
-use Rattle.office_tables.proofs.Orders.{order_total}
+use Rattle.office_tables.proofs.TotalOrders.{order_total}
 use Rattle.office_rules.proofs.Refusing.{is_some_map}
 use Rattle.office_laws.specs.Prelude.{Grows, AreDisjoint, EachApart, IsInPool, IsOrder, IsSound, IsIssuedBelow, IsOfDevice, IsOfOrder, IsRecordOf}
 use Rattle.office_rules.specs.Prelude.{at_first}
@@ -134,7 +134,7 @@ module _ (before after : List (OfCustomer Order)) (same : AreSame after before) 
         is_number = is.is_number;
         serial = is.serial;
         mac = is.mac;
-        start = is.start;
+        not_before = is.not_before;
       }
 
       again : (found : Option (OfCustomer Order))
@@ -148,7 +148,7 @@ module _ (before after : List (OfCustomer Order)) (same : AreSame after before) 
         is_number = is.is_number;
         serial = is.serial;
         mac = is.mac;
-        start = is.start;
+        not_before = is.not_before;
       }
 
       by : (found : Option (OfCustomer Device)) → IsSomeAnd found (IsOfDevice before g)
@@ -170,7 +170,7 @@ module _ {owners : Ownership} {t : Tables} (sound : IsSound owners t) (c name : 
   placed_there = ap (λ found. with_cursor_of found n t) there
 
   orders_same : AreSame (with_row order_cmp (moved n o) t.orders) t.orders
-  orders_same = moved_same (is_order c name) o n t.orders sound.orders.rows.in_order there
+  orders_same = moved_same (is_order c name) o n t.orders sound.orders.rows.ascending there
 
   holds : (P : OfCustomer Order → Type 0) → AllByRecursion P t.orders → P o
   holds P all = (find_holds P (is_order c name) t.orders o all there).0

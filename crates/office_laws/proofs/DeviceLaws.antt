@@ -9,9 +9,9 @@ use Rattle.office_tables.specs.Prelude.{Tables, device_at, device_cmp, entry_cmp
 use Rattle.office_tables.specs.Prelude.{is_of, last_number, link_at, order_at, text_cmp, with_device, with_new_entry}
 use Rattle.fusemap_core.specs.Prelude.{Map}
 use Rattle.office_tables.proofs.Finding.{filter_none, filter_only, filter_other, none_passes, some_placed, still_there}
-use Rattle.office_tables.proofs.Placing.{all_map, all_placed, placed_in_order}
+use Rattle.office_tables.proofs.Placing.{all_map, all_placed, placed_ascending}
 use Rattle.office_tables.proofs.Places.{same_place, own_device}
-use Rattle.office_tables.proofs.Orders.{device_total, entry_total}
+use Rattle.office_tables.proofs.TotalOrders.{device_total, entry_total}
 use Rattle.office_rules.specs.Prelude.{entry_of, map_named}
 use Rattle.office_rules.proofs.Ties.{first_equal, second_equal}
 use Rattle.office_laws.proofs.OwnPlaces.{solo_device_cmp}
@@ -158,8 +158,8 @@ module _ {owners : Ownership} {t : Tables} (sound : IsSound owners t) (c seat : 
 
   devices_after : IsLawful → AreSoundDevices owners after.devices after.ledger
   devices_after lawful = record {
-    devices_in_order = placed_in_order device_cmp device_total d t.devices
-        sound.devices.devices_in_order;
+    devices_ascending = placed_ascending device_cmp device_total d t.devices
+        sound.devices.devices_ascending;
     entries = owned_placed sound.devices.entries entry lawful.is_seat entry_total;
     ids_apart = ids_apart_placed entry t.ledger
         (none_passes (has_entry_id id) t.ledger lawful.new_id) sound.devices.ids_apart;
@@ -190,7 +190,7 @@ module _ {owners : Ownership} {t : Tables} (sound : IsSound owners t) (c seat : 
     references = all_placed (IsReferred t.orders t.links) device_cmp d t.devices
         (record { order = lawful.order; map = lawful.link }) sound.references;
     ledgers = all_placed_apart device_cmp d (HasLedger named after.ledger) device_total t.devices
-        lawful.ledger sound.devices.devices_in_order (ledgers_after t.devices sound.ledgers);
+        lawful.ledger sound.devices.devices_ascending (ledgers_after t.devices sound.ledgers);
   }
 
   -- the ledger of a device that wasn't there
@@ -251,7 +251,7 @@ module _ {owners : Ownership} {t : Tables} (sound : IsSound owners t) (c seat : 
       let last : last_number c step.device.chip t ≡ length es = last_of_numbered es was_numbered in
       let grown : filter (is_entry_of c step.device.chip) after.ledger ≡ es ++ entry ∷ [] =
       appended entry (own_device d) (λ x y. entry_total.trans entry x y) t.ledger
-      sound.devices.entries.in_order
+      sound.devices.entries.ascending
       (all_below c step.device.chip t.ledger (last_number c step.device.chip t + 1)
       (omega arith)) in
       record {

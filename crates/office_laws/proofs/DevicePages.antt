@@ -6,7 +6,7 @@ use Rattle.text_core.proofs.Kit.{length-take-le, length-append, append-nil, nil_
 use Rattle.text_core.proofs.Kit.{recursion_from_All, All-from_recursion, All-take}
 use Rattle.office_laws.proofs.Types.{Device}
 use Rattle.office_tables.specs.Prelude.{rows_of, text_cmp, AreAscendingByKey, IsAscending, Tables, device_cmp}
-use Rattle.office_tables.proofs.Placing.{all_map, own_in_order}
+use Rattle.office_tables.proofs.Placing.{all_map, own_ascending}
 use Rattle.office_rules.specs.Prelude.{devices_behind, last_chip, next_page, on_page, page_limit}
 use Rattle.office_laws.specs.Prelude.{by_text, on_pages}
 use Rattle.office_laws.proofs.Acting.{filter_all}
@@ -29,13 +29,13 @@ all_taken : {A : Type 0} (P : A → Type 0) (n : ℕ) (xs : List A) → AllByRec
     → AllByRecursion P (take n xs)
 all_taken P n xs all = recursion_from_All P (take n xs) (All-take P n xs (All-from_recursion P xs all))
 
-filtered_in_order : {A : Type 0} (cmp : A → A → Ordering) (p : A → Bool) (xs : List A)
+filtered_ascending : {A : Type 0} (cmp : A → A → Ordering) (p : A → Bool) (xs : List A)
     → IsAscending cmp xs → IsAscending cmp (filter p xs)
-filtered_in_order cmp p [] up = tt
-filtered_in_order cmp p (x ∷ xs) up =
+filtered_ascending cmp p [] up = tt
+filtered_ascending cmp p (x ∷ xs) up =
     elim (p x) as (λ b. IsAscending cmp (cond b (x ∷ filter p xs) (filter p xs))) [
-      | true ↦ (filter_all (λ y. cmp x y ≡ Less) p xs up.0, filtered_in_order cmp p xs up.1)
-      | false ↦ filtered_in_order cmp p xs up.1
+      | true ↦ (filter_all (λ y. cmp x y ≡ Less) p xs up.0, filtered_ascending cmp p xs up.1)
+      | false ↦ filtered_ascending cmp p xs up.1
     ]
 
 -- ---- the last device of a page
@@ -158,7 +158,7 @@ page_leaves devices (Some after) chip up e =
     let low = last_is_behind after (take page_limit behind) chip
     (all_taken (λ d. text_cmp after d.chip ≡ Less) page_limit behind (all_behind after devices))
     next.1 in
-    left_behind page_limit behind chip (filtered_in_order chip_cmp (comes_behind after) devices up)
+    left_behind page_limit behind chip (filtered_ascending chip_cmp (comes_behind after) devices up)
     next.0 next.1
     ∙ ap (λ l. take page_limit behind ++ l) (behind_twice after chip low devices)
 
@@ -202,7 +202,7 @@ pages_are_all (suc n) devices after up few =
           (pages_are_all n devices (Some chip) up fewer) ∙ sym parts
     ] refl
 
-pub devices_in_order : (customer : List ℕ) (t : Tables) → AreAscendingByKey t
+pub devices_ascending : (customer : List ℕ) (t : Tables) → AreAscendingByKey t
     → IsAscending chip_cmp (rows_of customer t.devices)
-devices_in_order customer t order =
-    own_in_order customer device_cmp chip_cmp (device_agree customer) t.devices order.devices
+devices_ascending customer t ascending =
+    own_ascending customer device_cmp chip_cmp (device_agree customer) t.devices ascending.devices

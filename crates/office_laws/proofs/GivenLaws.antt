@@ -10,7 +10,7 @@ use Rattle.office_tables.specs.Prelude.{with_given}
 use Rattle.office_tables.proofs.Finding.{none_passes, other_placed, still_there}
 use Rattle.office_tables.proofs.Placing.{all_map, all_placed}
 use Rattle.office_tables.proofs.Places.{same_place}
-use Rattle.office_tables.proofs.Orders.{given_total}
+use Rattle.office_tables.proofs.TotalOrders.{given_total}
 use Rattle.office_rules.proofs.Ties.{first_equal, second_equal}
 use Rattle.office_laws.specs.Prelude.{Grows, IsSound, AreAddressesApart, AreKeysApart, IsIssuedBelow, IsRecordOf}
 use Rattle.office_laws.proofs.Placed.{found_replaced, others_fail}

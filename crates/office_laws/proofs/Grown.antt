@@ -35,7 +35,7 @@ owned_grown : {A : Type 0} {cmp : OfCustomer A → OfCustomer A → Ordering} {r
     → ((x : A) (customer : List ℕ) → old x ≡ Some customer → new x ≡ Some customer)
     → AreOwned cmp old rows → AreOwned cmp new rows
 owned_grown {rows = rows} old new growth are = record {
-  in_order = are.in_order;
+  ascending = are.ascending;
   owned = all_map (λ o. old o.row ≡ Some o.customer) (λ o. new o.row ≡ Some o.customer)
       (λ o is. growth o.row o.customer is) rows are.owned;
 }
@@ -61,15 +61,15 @@ sound_grown old new t growth sound = record {
     addresses_apart = sound.given.addresses_apart;
   };
   maps = record {
-    maps_in_order = sound.maps.maps_in_order;
+    maps_ascending = sound.maps.maps_ascending;
     texts_apart = sound.maps.texts_apart;
-    links_in_order = sound.maps.links_in_order;
+    links_ascending = sound.maps.links_ascending;
     owned = all_map (λ l. old.customer l.customer ≡ true) (λ l. new.customer l.customer ≡ true)
         (λ l is. growth.customers l.customer is) t.links sound.maps.owned;
     linked = sound.maps.linked;
   };
   devices = record {
-    devices_in_order = sound.devices.devices_in_order;
+    devices_ascending = sound.devices.devices_ascending;
     entries = owned_grown (λ e. old.seat e.seat) (λ e. new.seat e.seat)
         (λ e customer is. growth.seats e.seat customer is) sound.devices.entries;
     ids_apart = sound.devices.ids_apart;

@@ -67,7 +67,7 @@ module _ (s : Section) (seat : List ℕ) (t : Tables) (n : NewIdentity) where
     pub next : ℕ × List ℕ
     pub there : device_at s.name n.chip t ≡ Some old
     pub known : map_named s.name old.row.map t ≡ Some fuse_map
-    pub in_order : order_at s.name old.row.order t ≡ Some order
+    pub ordered : order_at s.name old.row.order t ≡ Some order
     pub is_next : next_of t order.row ≡ Some next
     pub is : numbered_effect old.row fuse_map order.row next ≡ e
 
@@ -79,8 +79,8 @@ module _ (s : Section) (seat : List ℕ) (t : Tables) (n : NewIdentity) where
           → (found : Option (OfCustomer Order)) → order_at s.name old.row.order t ≡ found
           → effect_in old.row m (option_map (office_order_sight s.name t) found) ≡ Some e
           → Identifies e
-      by_order old m there known None in_order is = cc
-      by_order old m there known (Some o) in_order is =
+      by_order old m there known None ordered is = cc
+      by_order old m there known (Some o) ordered is =
           let next = gave (next_of t o.row) _ e is in
           record {
             old = old;
@@ -89,7 +89,7 @@ module _ (s : Section) (seat : List ℕ) (t : Tables) (n : NewIdentity) where
             next = next.0;
             there = there;
             known = map_same s seat t old.row.map ∙ known;
-            in_order = in_order;
+            ordered = ordered;
             is_next = next.1;
             is = same_Some _ _ next.2;
           }
@@ -109,7 +109,7 @@ module _ (s : Section) (seat : List ℕ) (t : Tables) (n : NewIdentity) where
       → device_at s.name n.chip t ≡ Some old → map_named s.name old.row.map t ≡ Some m
       → order_at s.name old.row.order t ≡ Some o → first_that_holds (identity_refusals v n) ≡ None
       → NoneHolds (number_and_key_refusals n.key old.row (office_order_sight s.name t o))
-  identity_free old m o there known in_order free =
+  identity_free old m o there known ordered free =
       let against : Device → Option OrderSight → Refusals = λ d seen.
       option_map_or (number_and_key_refusals n.key d) seen [] in
       let refused : first_that_holds (against old.row (v.order old.row.order)) ≡ None =
@@ -117,4 +117,4 @@ module _ (s : Section) (seat : List ℕ) (t : Tables) (n : NewIdentity) where
       ≡ None) (device_seen s t seat n.chip old m there known) free in
       lowest_none (number_and_key_refusals n.key old.row (office_order_sight s.name t o))
       (subst (λ o. first_that_holds (against old.row (option_map (office_order_sight s.name t) o))
-      ≡ None) in_order refused)
+      ≡ None) ordered refused)

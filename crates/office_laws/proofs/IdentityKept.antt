@@ -34,7 +34,7 @@ module _ {owners : Ownership} {t : Tables} (sound : IsSound owners t) (s : Secti
   module _ (seat : List ℕ) (is_seat : owners.seat seat ≡ Some s.name) (n : NewIdentity) (old : OfCustomer Device) (m : Map) (o : OfCustomer Order)
       (next : ℕ × List ℕ) (there : device_at s.name n.chip t ≡ Some old)
       (known : map_named s.name old.row.map t ≡ Some m)
-      (in_order : order_at s.name old.row.order t ≡ Some o)
+      (ordered : order_at s.name old.row.order t ≡ Some o)
       (is_next : next_of t o.row ≡ Some next) (unbound : given_by_key o.row.issuer n.key t ≡ None)
       (may : is_one_of identified_from old.row.state ≡ true) where
     abbrev i : Idevid
@@ -57,7 +57,7 @@ module _ {owners : Ownership} {t : Tables} (sound : IsSound owners t) (s : Secti
         (ap (is_taken t o.row.issuer) is_text ∙ least.unused)
 
     mine : owners.issuer o.row.issuer ≡ Some s.name
-    mine = order_issuer sound s.name old.row.order o in_order
+    mine = order_issuer sound s.name old.row.order o ordered
 
     record_stands : (id : ℕ) → IsRecordOf (stepped s seat t step id).orders
         (stepped s seat t step id).devices g (Some old.row.chip)
@@ -68,13 +68,13 @@ module _ {owners : Ownership} {t : Tables} (sound : IsSound owners t) (s : Secti
         (each_tied d t.devices) in
         rw found (
           refl,
-          rw in_order (record {
+          rw ordered (record {
             issuer = refl;
             number = next.0;
             is_number = least.has;
             serial = is_text;
             mac = refl;
-            start = refl;
+            not_before = refl;
           }),
         )
 
@@ -83,7 +83,7 @@ module _ {owners : Ownership} {t : Tables} (sound : IsSound owners t) (s : Secti
         → is_some (given_at o.row.issuer (serial_text_of o.row.range n) t) ≡ true
     given_below n low before =
         elim (cases_lt n o.row.cursor) [
-          | inl under ↦ order_below sound s.name old.row.order o in_order n low under
+          | inl under ↦ order_below sound s.name old.row.order o ordered n low under
           | inr from ↦ least.least n (low, omega (arith, before, least.has.1)) from before
         ]
 
@@ -112,12 +112,12 @@ module _ {owners : Ownership} {t : Tables} (sound : IsSound owners t) (s : Secti
     -- the order is there still
     name_is : o.row.name ≡ old.row.order
     name_is =
-        let passes = find-passes (is_order s.name old.row.order) t.orders o in_order in
+        let passes = find-passes (is_order s.name old.row.order) t.orders o ordered in
         sym (same_text old.row.order o.row.name
         (and_parts (bytes_eq s.name o.customer) (bytes_eq old.row.order o.row.name) passes).1)
 
     order_stands : order_at s.name o.row.name t ≡ Some o
-    order_stands = subst (λ (name : List ℕ). order_at s.name name t ≡ Some o) (sym name_is) in_order
+    order_stands = subst (λ (name : List ℕ). order_at s.name name t ≡ Some o) (sym name_is) ordered
 
     abbrev cursor : OfCustomer Cursor
     cursor = its s (record { order = o.row.name; number = next.0 + 1 })
@@ -160,7 +160,7 @@ module _ {owners : Ownership} {t : Tables} (sound : IsSound owners t) (s : Secti
   identity_kept seat is_seat n e mid free is puts =
       let f = identity_found s seat t n e is in
       let none =
-      identity_free s seat t n f.old f.fuse_map f.order f.there f.known f.in_order free in
-      numbered_kept seat is_seat n f.old f.fuse_map f.order f.next f.there f.known f.in_order
+      identity_free s seat t n f.old f.fuse_map f.order f.there f.known f.ordered free in
+      numbered_kept seat is_seat n f.old f.fuse_map f.order f.next f.there f.known f.ordered
       f.is_next (none_from_test _ none.1.1.0) (not-false _ none.0) mid
       (subst (λ (x : Effect). MakesPuts s x.puts t mid) (sym f.is) puts)

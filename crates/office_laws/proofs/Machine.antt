@@ -69,7 +69,7 @@ module _ {owners : Ownership} {t : Tables} (sound : IsSound owners t) (s : Secti
   outcome_due (Identify n) o free e =
       let f = identity_found s seat t n o e in
       subst (λ (x : Effect). AreDue x.puts) f.is
-      (tt, (order_issuer sound s.name f.old.row.order f.order f.in_order, tt))
+      (tt, (order_issuer sound s.name f.old.row.order f.order f.ordered, tt))
   outcome_due (Import n) o free e =
       let i = gave (option_and_then result_ok (merged_rows v n)) _ o e in
       let taken = rows_taken v n i.0 i.1 in

@@ -38,7 +38,7 @@ module _ {owners : Ownership} {t : Tables} (sound : IsSound owners t) (s : Secti
       → map_fault text ≡ None → link_at s.name (sha256 text) t ≡ None → Links s t text found mid
       → Lasts owners t mid
   links_kept text (Some m) mid e no_fault none is =
-      let at = map_of_text text t.maps m sound.maps.maps_in_order e in
+      let at = map_of_text text t.maps m sound.maps.maps_ascending e in
       lasts_named is (link_kept text t (record { digest = sha256 text; map = m.id }) m sound
       (grows_itself t) at.0 refl at.1 no_fault none)
   links_kept text None mid e no_fault none (id, fresh, is) =

@@ -6,9 +6,9 @@ use Rattle.fusemap_core.specs.Prelude.{Map}
 use Rattle.site_core.specs.Prelude.{Ownership}
 use Rattle.office_laws.proofs.Types.{OfCustomer, Link, MapRow}
 use Rattle.office_tables.specs.Prelude.{Tables, is_of, link_at, link_cmp, map_at, map_cmp, map_with, with_row, text_cmp, with_link, with_map}
-use Rattle.office_tables.proofs.Placing.{all_map, all_placed, placed_in_order}
+use Rattle.office_tables.proofs.Placing.{all_map, all_placed, placed_ascending}
 use Rattle.office_tables.proofs.Places.{same_place}
-use Rattle.office_tables.proofs.Orders.{map_total, link_total}
+use Rattle.office_tables.proofs.TotalOrders.{map_total, link_total}
 use Rattle.office_rules.specs.Prelude.{map_named}
 use Rattle.office_rules.proofs.Ties.{first_equal}
 use Rattle.office_laws.specs.Prelude.{AreSoundMaps, IsLinked, IsSound}
@@ -41,9 +41,9 @@ module _ {owners : Ownership} (t : Tables) (sound : AreSoundMaps owners t.maps t
   pub maps_with_link : (l : OfCustomer Link) → owners.customer l.customer ≡ true → IsLinked t.maps l
       → AreSoundMaps owners t.maps (with_row link_cmp l t.links)
   maps_with_link l mine linked = record {
-    maps_in_order = sound.maps_in_order;
+    maps_ascending = sound.maps_ascending;
     texts_apart = sound.texts_apart;
-    links_in_order = placed_in_order link_cmp link_total l t.links sound.links_in_order;
+    links_ascending = placed_ascending link_cmp link_total l t.links sound.links_ascending;
     owned = all_placed (λ l. owners.customer l.customer ≡ true) link_cmp l t.links mine sound.owned;
     linked = all_placed (IsLinked t.maps) link_cmp l t.links linked sound.linked;
   }
@@ -53,9 +53,9 @@ module _ {owners : Ownership} (t : Tables) (sound : AreSoundMaps owners t.maps t
   maps_with_map id body fresh new =
       let m : MapRow = record { id = id; body = body } in
       record {
-        maps_in_order = placed_in_order map_cmp map_total m t.maps sound.maps_in_order;
+        maps_ascending = placed_ascending map_cmp map_total m t.maps sound.maps_ascending;
         texts_apart = texts_apart_placed m t.maps (body_is_new body t new) sound.texts_apart;
-        links_in_order = sound.links_in_order;
+        links_ascending = sound.links_ascending;
         owned = sound.owned;
         linked = all_map (IsLinked t.maps) (IsLinked (with_row map_cmp m t.maps))
             (linked_after t id body fresh) t.links sound.linked;

@@ -29,13 +29,13 @@ order_sound : {owners : Ownership} {t : Tables} → IsSound owners t → (o : Of
     → order_at o.customer o.row.name t ≡ None → at_first o.row ≡ o.row
     → IsSound owners (with_order o t)
 order_sound {t = t} sound o mine terms in_pool apart new first =
-    let start : o.row.range.first ≡ o.row.cursor = ap (λ (x : Order). x.cursor) first in
+    let at_cursor : o.row.range.first ≡ o.row.cursor = ap (λ (x : Order). x.cursor) first in
     order_placed sound o mine terms in_pool
     (each_apart_placed order_cmp o t.orders apart sound.orders.apart)
     (λ g is. record_after_order t.orders t.devices g o new g.row.chip is)
     (λ customer name there. still_there (is_order customer name) order_cmp o t.orders
     (each_order customer name o t.orders) there)
-    (λ n least below. absurd (omega (arith, least, below, start)))
+    (λ n least below. absurd (omega (arith, least, below, at_cursor)))
 
 -- an order that is asked for, where nothing refuses it
 module _ {owners : Ownership} {t : Tables} (sound : IsSound owners t) (apart : PoolsDisjoint owners)

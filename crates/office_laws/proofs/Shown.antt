@@ -26,13 +26,13 @@ module _ {owners : Ownership} {t : Tables} (sound : IsSound owners t) (s : Secti
   of_chip : record_of_chip chip g.row ≡ Some g.row
   of_chip = rw (its, text_itself chip chip refl) refl
 
-  abbrev in_order : List ℕ → List ℕ → Option OrderSight → Option Given
-  in_order other serial order =
+  abbrev record_by_order : List ℕ → List ℕ → Option OrderSight → Option Given
+  record_by_order other serial order =
       option_and_then (λ o. option_and_then (record_of_chip other) (o.record_of serial)) order
 
   -- it is found by its order
   by_order : (found : Option (OfCustomer Order)) → IsSomeAnd found (λ o. IsOfOrder o.row g.row)
-      → in_order chip g.row.serial (option_map (office_order_sight s.name t) found) ≡ Some g.row
+      → record_by_order chip g.row.serial (option_map (office_order_sight s.name t) found) ≡ Some g.row
   by_order None is = absurd is
   by_order (Some o) is =
       ap (λ issuer. option_and_then (record_of_chip chip) (own_record s.name issuer g.row.serial t))
@@ -56,8 +56,8 @@ module _ {owners : Ownership} {t : Tables} (sound : IsSound owners t) (s : Secti
       subst (λ (c : List ℕ). IsSomeAnd (order_at c d.row.order t) (λ o. IsOfOrder o.row g.row))
       (sym mine) is.1 in
       let seen : identity_in_sight v d.row ≡ Some g.row =
-      ap (option_and_then (λ serial. in_order d.row.chip serial (v.order d.row.order))) is.0
-      ∙ (ap (λ other. in_order other g.row.serial (v.order d.row.order)) (sym same)
+      ap (option_and_then (λ serial. record_by_order d.row.chip serial (v.order d.row.order))) is.0
+      ∙ (ap (λ other. record_by_order other g.row.serial (v.order d.row.order)) (sym same)
       ∙ by_order (order_at s.name d.row.order t) ordered) in
       ap (found_or WrongState body) seen
 

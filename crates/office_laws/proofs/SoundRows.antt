@@ -4,8 +4,8 @@ use Rattle.text_core.proofs.Kit.{ℕ, true, List, Option, Some, Equal, find, is_
 use Rattle.site_core.specs.Prelude.{Ownership}
 use Rattle.office_laws.proofs.Types.{Given, Order, OfCustomer}
 use Rattle.office_tables.specs.Prelude.{Tables, is_order, order_cmp, with_row, with_order}
-use Rattle.office_tables.proofs.Placing.{all_map, all_placed, placed_in_order}
-use Rattle.office_tables.proofs.Orders.{order_total}
+use Rattle.office_tables.proofs.Placing.{all_map, all_placed, placed_ascending}
+use Rattle.office_tables.proofs.TotalOrders.{order_total}
 use Rattle.office_laws.specs.Prelude.{EachApart, IsInPool, IsOrder, IsSound, IsIssuedBelow, IsRecordOf, AreOwned}
 use Rattle.office_laws.proofs.DeviceRows.{referred_after_orders}
 
@@ -15,7 +15,7 @@ module _ {A : Type 0} {cmp : OfCustomer A → OfCustomer A → Ordering} {owner 
   -- a row of its owner's
   pub owned_placed : IsTotalOrder cmp → AreOwned cmp owner (with_row cmp x rows)
   owned_placed total = record {
-    in_order = placed_in_order cmp total x rows are.in_order;
+    ascending = placed_ascending cmp total x rows are.ascending;
     owned = all_placed (λ o. owner o.row ≡ Some o.customer) cmp x rows mine are.owned;
   }
 

@@ -6,7 +6,7 @@ use Rattle.http_replies.specs.Prelude.{Answer}
 use Rattle.site_core.specs.Prelude.{PoolsDisjoint, IsSection, Ownership, Section}
 use Rattle.office_laws.proofs.Types.{OfCustomer, SeatState, MakeOrder, ImportMap, RegisterDevice, Act, Identify, Import, Request, Change as Changing}
 use Rattle.office_tables.specs.Prelude.{Tables, with_seat}
-use Rattle.office_tables.proofs.Orders.{seat_total}
+use Rattle.office_tables.proofs.TotalOrders.{seat_total}
 use Rattle.office_commands.specs.Prelude.{IsAsked, IsChange, IsCommand}
 use Rattle.office_rules.specs.Prelude.{Effect, Put, seat_put, Response, accept, effect, refusals, MakesPut, MakesPuts, Step, its, office_sight, kept_of, Sight}
 use Rattle.office_laws.specs.Prelude.{IsSound}

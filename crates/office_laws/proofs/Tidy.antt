@@ -7,12 +7,12 @@ use Rattle.std.specs.declared.cmp.Ordering.{Ordering}
 use Rattle.sha2.specs.Sha256.{sha256}
 use Rattle.site_core.specs.Prelude.{Section, IsSection, Ownership}
 use Rattle.office_laws.proofs.Types.{Cursor, Device, Entry, Given, Link, MapRow, NewEntry, Order, OfCustomer, SeatState}
-use Rattle.office_tables.specs.Prelude.{IsAscending, Tables, device_cmp, entry_cmp, entry_under, given_cmp, is_of, is_order, link_cmp, map_at, map_cmp, map_with}
-use Rattle.office_tables.specs.Prelude.{order_at, order_cmp, rows_of, with_row, seat_cmp, with_cursor, with_cursor_of, with_device, with_given, with_link}
-use Rattle.office_tables.specs.Prelude.{with_map, with_new_entry, with_order, with_seat}
-use Rattle.office_tables.proofs.Placing.{all_map, placed_in_order, placed_other, placed_own}
+use Rattle.office_tables.specs.Prelude.{IsAscending, Tables, device_cmp, entry_cmp, entry_under, given_cmp, is_of, is_order, link_cmp, map_at, map_cmp}
+use Rattle.office_tables.specs.Prelude.{map_with, order_at, order_cmp, rows_of, with_row, seat_cmp, with_cursor, with_cursor_of, with_device, with_given}
+use Rattle.office_tables.specs.Prelude.{with_link, with_map, with_new_entry, with_order, with_seat}
+use Rattle.office_tables.proofs.Placing.{all_map, placed_ascending, placed_other, placed_own}
 use Rattle.office_tables.proofs.Places.{same_place}
-use Rattle.office_tables.proofs.Orders.{seat_total, order_total, link_total, device_total, entry_total, given_total}
+use Rattle.office_tables.proofs.TotalOrders.{seat_total, order_total, link_total, device_total, entry_total, given_total}
 use Rattle.office_rules.specs.Prelude.{Put, device_put, map_put, number_put, order_put, record_put, seat_put, map_fault, Links, MakesPut, MakesPuts, at_first}
 use Rattle.office_rules.specs.Prelude.{its, entry_of_chip, body_of_map}
 use Rattle.office_rules.proofs.Ties.{first_equal}
@@ -39,11 +39,11 @@ pub record IsTidy (owners : Ownership) (t : Tables) : Type 0 where
 pub sound_is_tidy : {owners : Ownership} {t : Tables} → IsSound owners t → IsTidy owners t
 sound_is_tidy sound = record {
   seats = sound.seats;
-  orders = sound.orders.rows.in_order;
+  orders = sound.orders.rows.ascending;
   given = sound.given.rows;
   maps = sound.maps;
-  devices = sound.devices.devices_in_order;
-  ledger = sound.devices.entries.in_order;
+  devices = sound.devices.devices_ascending;
+  ledger = sound.devices.entries.ascending;
 }
 
 -- what a put asks for: its seat, its issuer, is the customer's, its order has its cursor at its
@@ -82,8 +82,8 @@ module _ {A : Type 0} (cmp : OfCustomer A → OfCustomer A → Ordering) (x : Of
       → cmp a b ≡ own_cmp a.row b.row)
       → IsAscending cmp rows
       → rows_of x.customer (with_row cmp x rows) ≡ with_row own_cmp x.row (rows_of x.customer rows)
-  row_own own_cmp total agree in_order = placed_own x.customer cmp own_cmp total agree x
-      (text_itself x.customer x.customer refl) rows in_order own_place
+  row_own own_cmp total agree ascending = placed_own x.customer cmp own_cmp total agree x
+      (text_itself x.customer x.customer refl) rows ascending own_place
 
   -- a table with the row is seen by another customer as before
   pub row_other : (d : List ℕ) → bytes_eq d x.customer ≡ false
@@ -116,7 +116,7 @@ module _ {owners : Ownership} {t : Tables} (tidy : IsTidy owners t) (c : List �
         };
         own = λ i. record (view c t) {
           seats = row_own seat_cmp (owned r) t.seats place solo_seat_cmp seat_total
-              (λ _ _ _ _. refl) tidy.seats.in_order i;
+              (λ _ _ _ _. refl) tidy.seats.ascending i;
         };
         other = λ d ne i. record (view d t) {
           seats = row_other seat_cmp (owned r) t.seats place d ne i;
@@ -127,7 +127,7 @@ module _ {owners : Ownership} {t : Tables} (tidy : IsTidy owners t) (c : List �
   with_order_tidy : (o : OfCustomer Order) → IsTidy owners (with_order o t)
   with_order_tidy o = record {
     seats = tidy.seats;
-    orders = placed_in_order order_cmp order_total o t.orders tidy.orders;
+    orders = placed_ascending order_cmp order_total o t.orders tidy.orders;
     given = tidy.given;
     maps = tidy.maps;
     devices = tidy.devices;
@@ -166,7 +166,7 @@ module _ {owners : Ownership} {t : Tables} (tidy : IsTidy owners t) (c : List �
         };
         own = λ i. record (view c t) {
           given = row_own given_cmp (owned g) t.given place solo_given_cmp given_total
-              (λ _ _ _ _. refl) tidy.given.in_order i;
+              (λ _ _ _ _. refl) tidy.given.ascending i;
         };
         other = λ d ne i. record (view d t) {
           given = row_other given_cmp (owned g) t.given place d ne i;
@@ -184,8 +184,8 @@ module _ {owners : Ownership} {t : Tables} (tidy : IsTidy owners t) (c : List �
           orders = tidy.orders;
           given = tidy.given;
           maps = tidy.maps;
-          devices = placed_in_order device_cmp device_total _ t.devices tidy.devices;
-          ledger = placed_in_order entry_cmp entry_total entry t.ledger tidy.ledger;
+          devices = placed_ascending device_cmp device_total _ t.devices tidy.devices;
+          ledger = placed_ascending entry_cmp entry_total entry t.ledger tidy.ledger;
         };
         own = λ i. record (view c t) {
           devices = row_own device_cmp (owned d) t.devices (device_place (owned d) t.devices)
@@ -241,7 +241,7 @@ module _ {owners : Ownership} {t : Tables} (tidy : IsTidy owners t) (c : List �
     own = λ i. record (view c t) {
       maps = (ap (map (solo_map t)) (row_own link_cmp (owned l) t.links
           (link_place (owned l) t.links) solo_link_cmp link_total (link_agree c)
-          tidy.maps.links_in_order)
+          tidy.maps.links_ascending)
           ∙ map_placed (solo_map t) solo_link_cmp solo_map_cmp (λ _ _. refl) l (rows_of c t.links)) i;
     };
     other = λ d ne i. record (view d t) {
@@ -288,7 +288,7 @@ module _ {owners : Ownership} (s : Section) (section : IsSection owners s) where
       → (found : Option MapRow) → map_with text t ≡ found → (t2 : Tables)
       → Links s t text found t2 → Acts owners s.name t t2 (with_put (map_put text) (view s.name t))
   text_acts {t} tidy text no_fault (Some m) e t2 is =
-      let at = map_of_text text t.maps m tidy.maps.maps_in_order e in
+      let at = map_of_text text t.maps m tidy.maps.maps_ascending e in
       let l : Link = record { digest = sha256 text; map = m.id } in
       let linked : IsLinked t.maps (its s l) =
       rw (at.0) (ap sha256 at.1, ap map_fault (sym at.1) ∙ no_fault) in

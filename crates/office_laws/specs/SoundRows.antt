@@ -8,5 +8,5 @@ use Rattle.office_tables.specs.Prelude.{IsAscending}
 -- the rows are in the order of their keys, and each is the customer's who owns what it names
 pub record AreOwned {A : Type 0} (cmp : OfCustomer A → OfCustomer A → Ordering)
     (owner : A → Option (List ℕ)) (rows : List (OfCustomer A)) : Type 0 where
-  pub in_order : IsAscending cmp rows
+  pub ascending : IsAscending cmp rows
   pub owned : AllByRecursion (λ o. owner o.row ≡ Some o.customer) rows

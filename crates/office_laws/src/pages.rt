@@ -11,7 +11,7 @@ ghost use Rattle.office_laws.specs.Prelude.{by_text, on_pages};
 /// devices are in this order in tables that are in the order of their keys, as those of every keeper
 /// are.
 pub fn pages_show_each_device_once()
-    ensures in_order { (customer : List ℕ) (t : Tables) → AreAscendingByKey t
+    ensures ascending { (customer : List ℕ) (t : Tables) → AreAscendingByKey t
         → IsAscending (by_text (λ d. d.chip)) (rows_of customer t.devices) }
     ensures next { (devices : List Device) (after : Option (List ℕ)) (chip : List ℕ)
         → IsAscending (by_text (λ d. d.chip)) devices

@@ -9,7 +9,7 @@ use Rattle.sqlite.specs.Listing.{understood}
 use Rattle.sqlite_tied.specs.Compute.{everything}
 use Rattle.sqlite_trees.proofs.ListLemmas.{map-map}
 use Rattle.office_tables.specs.Prelude.{device_cmp, is_device, is_device_behind, is_of}
-use Rattle.office_tables.proofs.Orders.{device_total}
+use Rattle.office_tables.proofs.TotalOrders.{device_total}
 use Rattle.office_sql.specs.Prelude.{devices, office_schema, device_in_row, scan, is_parameter, env, passes, order_state, order_state_in, AreRows, IsDeviceRow}
 use Rattle.office_sql.specs.Prelude.{is_above_parameter}
 use Rattle.office_sql.proofs.Kept.{shows_kept, kept_is, Shows}
@@ -58,8 +58,8 @@ by_chip_total = on_total (λ r. column r 1 ∷ column r 2
     column r 0) value_cmp_total) (then_total (on_total (λ r.
     column r 1) value_cmp_total) level_total))
 
-chips_order : (a b : Row) → IsDeviceRow a → IsDeviceRow b → by_chip a b ≡ device_cmp (device_in_row a) (device_in_row b)
-chips_order a b e f = ap₂ ordering_then (texts_cmp (column a 1) (column b 1) e.0 f.0) (then-Equal _ ∙ texts_cmp (column a 2) (column b 2) e.1 f.1)
+chips_compared : (a b : Row) → IsDeviceRow a → IsDeviceRow b → by_chip a b ≡ device_cmp (device_in_row a) (device_in_row b)
+chips_compared a b e f = ap₂ ordering_then (texts_cmp (column a 1) (column b 1) e.0 f.0) (then-Equal _ ∙ texts_cmp (column a 2) (column b 2) e.1 f.1)
 
 pub passes_device : (c n : List ℕ) (r : Row) → IsDeviceRow r
     → passes (is_parameter 1 0 ∷ is_parameter 2 1 ∷ []) (Words c ∷ Words n ∷ []) r
@@ -79,7 +79,7 @@ ShowsDevices tests params p = Shows IsDeviceRow device_cmp device_in_row tests s
 shows_devices : (tests : List Term) (params : Row) (p : OfCustomer Device → Bool)
     → ((r : Row) → IsDeviceRow r → passes tests params r ≡ p (device_in_row r)) → ShowsDevices tests params p
 shows_devices tests params p is =
-    shows_kept IsDeviceRow device_cmp device_total device_in_row by_chip by_chip_total chips_order
+    shows_kept IsDeviceRow device_cmp device_total device_in_row by_chip by_chip_total chips_compared
     p tests params is shown by_key (λ r. device_in_row (Null ∷ r)) (λ r. refl) (λ a b. refl)
 
 pub one_shown : (c n : List ℕ) → ShowsDevices (is_parameter 1 0 ∷ is_parameter 2 1 ∷ []) (Words c ∷ Words n ∷ []) (is_device c n)
@@ -101,7 +101,7 @@ states_shown_are c all rows are s =
     let q = scan 0 tests states_shown by_key in
     let sorted = sorted_kept (λ r. output q (env params r)) (output_cmp q) s.kept s.sorted in
     let is = kept_is IsDeviceRow device_cmp device_total device_in_row by_chip by_chip_total
-    chips_order (is_of c) tests params (passes_own c) all s.kept are s.same sorted in
+    chips_compared (is_of c) tests params (passes_own c) all s.kept are s.same sorted in
     ap (map order_state_in) s.shows
     ∙ map-map order_state_in (λ r. eval_all states_shown (env params r)) s.kept
     ∙ sym (map-map order_state device_in_row s.kept) ∙ ap (map order_state) (sym is)

@@ -11,14 +11,14 @@ use Rattle.sqlite_tied.specs.Compute.{everything}
 use Rattle.sqlite_trees.proofs.ListLemmas.{all_weaker}
 use Rattle.office_tables.specs.Prelude.{state_row, reason_text, state_of_texts, device_cmp, is_device, with_row, IsFree}
 use Rattle.office_sql.proofs.Types.{OfCustomer, Device, DeviceState, Quarantined, Scrapped, AddDevice, PutDevice}
-use Rattle.office_tables.proofs.Orders.{device_total}
+use Rattle.office_tables.proofs.TotalOrders.{device_total}
 use Rattle.office_sql.specs.Prelude.{devices, SqlAdds, Wrote, device_in_row, device_columns, device_table, office_schema, rows_in, is_parameter, IsOffice}
 use Rattle.office_sql.specs.Prelude.{IsDeviceRow, tables_in, AreRows, state_in, text_if, text_value}
 use Rattle.office_sql.proofs.DeviceReads.{passes_device}
 use Rattle.office_sql.proofs.Finding.{texts_tied, unkeyed}
 use Rattle.office_sql.proofs.Inserting.{IsInsert}
 use Rattle.office_sql.proofs.Keyed.{Apart}
-use Rattle.office_sql.proofs.Offices.{both_started, table_changed, told_stays}
+use Rattle.office_sql.proofs.Offices.{both_validity_rows, table_changed, told_stays}
 use Rattle.office_sql.proofs.Replacing.{IsUpdate, IsSet, remade, sets}
 use Rattle.office_sql.proofs.Stepping.{cast_null, cast_int}
 use Rattle.office_sql.proofs.TableRows.{row_added}
@@ -97,7 +97,7 @@ device_added d old new office free adds =
     let it = row_added IsDeviceRow device_cmp device_total device_in_row (device_columns d) rows (office.rows devices) (refl, refl, refl)
     (subst (λ x. AllByRecursion (Apart device_cmp device_total x) (map device_in_row rows)) (sym is) (device_free d rows free)) in
     let changed = table_changed old new office adds.schema adds.sound devices adds.others
-    (subst (AreRows IsDeviceRow device_cmp device_in_row) (sym adds.row) it.0) (both_started old office) in
+    (subst (AreRows IsDeviceRow device_cmp device_in_row) (sym adds.row) it.0) (both_validity_rows old office) in
     let all = ap (λ l. sort_by device_cmp (map device_in_row l)) adds.row ∙ it.1
     ∙ ap (λ x. with_row device_cmp x (sort_by device_cmp (map device_in_row rows))) is in
     record {
@@ -168,7 +168,7 @@ device_put d old new count office ran one =
       | inl it ↦ absurd (omega (arith, it.counted))
       | inr it ↦ (
           let changed = table_changed old.now new.now office it.replaced.schema it.replaced.sound
-          devices it.replaced.others it.rows (both_started old.now office) in
+          devices it.replaced.others it.rows (both_validity_rows old.now office) in
           let all = sort_by device_cmp (map device_in_row (rows_in old.now.trees devices)) in
           let placed = it.placed_is ∙ ap (λ x. with_row device_cmp x all) (put_back d it.id it.was it.one.passed) in
           record {

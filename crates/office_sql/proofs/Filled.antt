@@ -6,7 +6,7 @@ use Rattle.text_core.proofs.Kit.{IsPermutation-trans, IsPermutation-append, IsPe
 use Rattle.office_sql.proofs.Kit.{Null, Int, Row, is_int, IsTable, rowid, put_row, numbered, Chosen, next_rowid, put_all, all_unmap, all_both, all-permutation}
 use Rattle.office_sql.proofs.Kit.{IsTable-put_row, all-put_row}
 use Rattle.sqlite_trees.proofs.ListLemmas.{all_weaker, IsPermutation-filter}
-use Rattle.office_sql.specs.Prelude.{AreRows, AreKeyed, AreStarted, HasOne, IsText}
+use Rattle.office_sql.specs.Prelude.{AreRows, AreKeyed, HaveOneValidityRow, HasOne, IsText}
 use Rattle.office_sql.proofs.Keyed.{apart_back}
 use Rattle.office_sql.proofs.TableRows.{put_next}
 
@@ -110,24 +110,25 @@ module _ {A : Type 0} (Typed : Row → Type 0) (cmp : A → A
             (apart_back cmp total (value r) (value x) e) ∙ h) rows apart (alone rows keyed.1),
       )
 
-  -- rows that are made of all rows of a table, one of each, start them
-  pub started : (rows kept news starts : List Row) → AreRows Typed cmp value rows → IsPermutation rows kept → AreMade columns kept news
-      → IsTable starts → AllByRecursion (λ r. IsTrue (is_int (rowid r))) starts → IsPermutation starts news → AreStarted is_for value rows starts
-  started rows kept news starts are along made up whole same =
+  -- rows that are made of all rows of a table, one of each, are their validity rows
+  pub validity_made : (rows kept news validities : List Row) → AreRows Typed cmp value rows → IsPermutation rows kept → AreMade columns kept news
+      → IsTable validities → AllByRecursion (λ r. IsTrue (is_int (rowid r))) validities → IsPermutation validities news
+          → HaveOneValidityRow is_for value rows validities
+  validity_made rows kept news validities are along made up whole same =
       let typed = all-permutation Typed rows kept along are.typed in
-      let back = IsPermutation-sym starts news same in
+      let back = IsPermutation-sym validities news same in
       record {
         rising = up;
         numbered = whole;
-        typed = all-permutation (λ s. IsText 1 s × IsText 2 s) news starts back
+        typed = all-permutation (λ s. IsText 1 s × IsText 2 s) news validities back
             (made_all columns (λ s. IsText 1 s × IsText 2 s) kept news made (all_weaker Typed _ (λ r t id. texts id r t) kept typed));
-        one = all_weaker _ (λ r. HasOne is_for starts (value r))
-            (λ r e. only (filter (is_for (value r)) starts)
+        one = all_weaker _ (λ r. HasOne is_for validities (value r))
+            (λ r e. only (filter (is_for (value r)) validities)
             (sym (length_permutation _ _
-            (IsPermutation-filter (is_for (value r)) starts news same))
+            (IsPermutation-filter (is_for (value r)) validities news same))
             ∙ counted (value r) kept news made typed
             ∙ length_permutation _ _ (IsPermutation-filter (λ x. is_eq (cmp (value r) (value x))) rows kept along) ∙ e)) rows (alone rows are.keyed);
-        for_one = all-permutation (λ s. is_some (find (λ r. is_for (value r) s) rows) ≡ true) news starts back
+        for_one = all-permutation (λ s. is_some (find (λ r. is_for (value r) s) rows) ≡ true) news validities back
             (made_all columns (λ s. is_some (find (λ r. is_for (value r) s) rows) ≡ true) kept news made
             (all-permutation (λ r. (id : ℤ) → is_some (find (λ x. is_for (value x) (Int id ∷ columns r)) rows) ≡ true) rows kept along
             (all_both Typed (λ r. (p : Row → Bool) → p r ≡ true → is_some (find p rows) ≡ true) _
@@ -137,11 +138,11 @@ module _ {A : Type 0} (Typed : Row → Type 0) (cmp : A → A
       }
 
 -- what holds of each that is made
-pub each_made : (columns : Row → Row) (P : Row → Type 0) (kept news starts : List Row)
-    → AreMade columns kept news → IsPermutation starts news
-    → ((id : ℤ) (r : Row) → P (Int id ∷ columns r)) → AllByRecursion P starts
-each_made columns P kept news starts made same is =
-    all-permutation P news starts (IsPermutation-sym starts news same) (made_all columns P kept news made (each kept))
+pub each_made : (columns : Row → Row) (P : Row → Type 0) (kept news validities : List Row)
+    → AreMade columns kept news → IsPermutation validities news
+    → ((id : ℤ) (r : Row) → P (Int id ∷ columns r)) → AllByRecursion P validities
+each_made columns P kept news validities made same is =
+    all-permutation P news validities (IsPermutation-sym validities news same) (made_all columns P kept news made (each kept))
   where
     each : (rows : List Row) → AllByRecursion (λ r. (id : ℤ) → P (Int id ∷ columns r)) rows
     each [] = tt

@@ -6,7 +6,7 @@ use Rattle.text_core.proofs.Kit.{is_eq-slice_cmp, IsPermutation-refl}
 use Rattle.office_tables.proofs.Finding.{none_passes, find_none}
 use Rattle.office_sql.proofs.Kit.{sort_by, IsPermutation-sort_by, all-permutation, filter-map, slice_get-filter, sorted_from_ascending, Row}
 use Rattle.office_sql.specs.Prelude.{AreKeyed}
-use Rattle.office_sql.proofs.Keyed.{all_sorted, kept_in_order}
+use Rattle.office_sql.proofs.Keyed.{all_sorted, kept_sorted}
 
 module _ {A : Type 0} (cmp : A → A → Ordering) (total : IsTotalOrder cmp) (p : A → Bool) (xs : List A) where
   -- a key that isn't found is no row's
@@ -38,7 +38,7 @@ module _ {A : Type 0} (cmp : A → A → Ordering) (total : IsTotalOrder cmp) (v
       let kept : filter p (map value rows) ≡ value r ∷ [] = filter-map p value rows ∙ ap (map value) one in
       sym (slice_get-filter p (sort_by cmp (map value rows)))
       ∙ ap (λ l.
-      slice_get l 0) (kept_in_order cmp total p (map value rows) (value r
+      slice_get l 0) (kept_sorted cmp total p (map value rows) (value r
       ∷ []) keyed (subst (λ l.
       IsPermutation l (value r
       ∷ [])) (sym kept) (IsPermutation-refl _)) (sorted_from_ascending cmp total (value r

@@ -10,10 +10,11 @@ use Rattle.sqlite.specs.Listing.{understood}
 use Rattle.sqlite_tied.specs.Compute.{everything}
 use Rattle.office_sql.proofs.Types.{OfCustomer, Given}
 use Rattle.office_tables.specs.Prelude.{given_cmp, is_serial_of, is_bound, is_of_issuer}
-use Rattle.office_tables.proofs.Orders.{given_total}
-use Rattle.office_sql.specs.Prelude.{given, given_starts, office_schema, rows_in, tree_of, given_in_row, starts_given, with_given_start, joined_given}
-use Rattle.office_sql.specs.Prelude.{is_parameter, passes, over, is_same, passes_join, pair, first_that, AreRows, AreStarted, IsGivenRow, IsStartRow, text_if}
-use Rattle.office_sql.proofs.Kept.{shows_joined, start_is}
+use Rattle.office_tables.proofs.TotalOrders.{given_total}
+use Rattle.office_sql.specs.Prelude.{given, given_starts, office_schema, rows_in, tree_of, given_in_row, is_validity_of_given, with_given_not_before}
+use Rattle.office_sql.specs.Prelude.{joined_given, is_parameter, passes, over, is_same, passes_join, pair, first_that, AreRows, HaveOneValidityRow, IsGivenRow}
+use Rattle.office_sql.specs.Prelude.{IsValidityRow, text_if}
+use Rattle.office_sql.proofs.Kept.{shows_joined, not_before_is}
 use Rattle.office_sql.proofs.Values.{text_is, blob_is, texts_cmp, level_total}
 use Rattle.office_sql.specs.declared.given.TheConstants.{SELECT_GIVEN, SELECT_GIVEN_BY_KEY, SELECT_GIVEN_OF_ISSUER}
 use Rattle.office_sql.proofs.LedgerAsked.{IsReadAs}
@@ -33,23 +34,23 @@ key_tests = is_parameter 1 0 ∷ is_parameter 4 1 ∷ []
 abbrev pub all_tests : List Term
 all_tests = is_parameter 1 0 ∷ []
 
--- each row with its start
-abbrev pub with_starts : Join
-with_starts = inner (tree_of given) (inner (tree_of given_starts) end)
+-- each row with its validity row
+abbrev pub with_validity_rows : Join
+with_validity_rows = inner (tree_of given) (inner (tree_of given_starts) end)
 
--- the columns of the row and of its start that are one key
-abbrev pub on_start : List Term
-on_start = is_same 1 1 ∷ is_same 2 2 ∷ []
+-- the columns of the row and of its validity row that are one key
+abbrev pub on_validity_key : List Term
+on_validity_key = is_same 1 1 ∷ is_same 2 2 ∷ []
 
-pub at_read : IsReadAs office_schema SELECT_GIVEN.now (over with_starts (on_start ++ at_tests) shown by_key)
+pub at_read : IsReadAs office_schema SELECT_GIVEN.now (over with_validity_rows (on_validity_key ++ at_tests) shown by_key)
 unfolding understood everything
 at_read = record { names = _; is = refl; plain = (refl, refl); unlisted = refl; bare = λ schema base. refl }
 
-pub key_read : IsReadAs office_schema SELECT_GIVEN_BY_KEY.now (over with_starts (on_start ++ key_tests) shown by_key)
+pub key_read : IsReadAs office_schema SELECT_GIVEN_BY_KEY.now (over with_validity_rows (on_validity_key ++ key_tests) shown by_key)
 unfolding understood everything
 key_read = record { names = _; is = refl; plain = (refl, refl); unlisted = refl; bare = λ schema base. refl }
 
-pub all_read : IsReadAs office_schema SELECT_GIVEN_OF_ISSUER.now (over with_starts (on_start ++ all_tests) shown by_key)
+pub all_read : IsReadAs office_schema SELECT_GIVEN_OF_ISSUER.now (over with_validity_rows (on_validity_key ++ all_tests) shown by_key)
 unfolding understood everything
 all_read = record { names = _; is = refl; plain = (refl, refl); unlisted = refl; bare = λ schema base. refl }
 
@@ -62,8 +63,8 @@ by_serial_total = on_total (λ r. column r 1 ∷ column r 2
     column r 0) value_cmp_total) (then_total (on_total (λ r.
     column r 1) value_cmp_total) level_total))
 
-ordered : (a b : Row) → IsGivenRow a → IsGivenRow b → by_serial a b ≡ given_cmp (given_in_row a) (given_in_row b)
-ordered a b e f = ap₂ ordering_then (texts_cmp (column a 1) (column b 1) e.0 f.0) (then-Equal _ ∙ texts_cmp (column a 2) (column b 2) e.1 f.1)
+compared : (a b : Row) → IsGivenRow a → IsGivenRow b → by_serial a b ≡ given_cmp (given_in_row a) (given_in_row b)
+compared a b e f = ap₂ ordering_then (texts_cmp (column a 1) (column b 1) e.0 f.0) (then-Equal _ ∙ texts_cmp (column a 2) (column b 2) e.1 f.1)
 
 -- records have one key where their issuers and their serial numbers are equal
 pub given_tied : (x y : OfCustomer Given) → is_eq (given_cmp x y) ≡ is_serial_of x.row.issuer x.row.serial y
@@ -80,26 +81,29 @@ passes_key issuer key r e = ap₂ ◌&&◌ (text_is (column r 1) issuer e.0) (an
 passes_all : (issuer : List ℕ) (r : Row) → IsGivenRow r → passes all_tests (Words issuer ∷ []) r ≡ is_of_issuer issuer (given_in_row r)
 passes_all issuer r e = and-true _ ∙ text_is (column r 1) issuer e.0
 
--- the start's key is the record's
-fits : (params r s : Row) → IsGivenRow r → IsStartRow s → passes_join on_start params r s ≡ starts_given (given_in_row r) s
+-- the validity row's key is the record's
+fits : (params r s : Row) → IsGivenRow r → IsValidityRow s → passes_join on_validity_key params r s ≡ is_validity_of_given (given_in_row r) s
 fits params r s e f =
     ap₂ ◌&&◌ (ap (λ v. is_true (binary (Compare Eq Binary) (column s 1) v)) e.0 ∙ text_is (column s 1) _ f.0)
     (and-true _ ∙ ap (λ v. is_true (binary (Compare Eq Binary) (column s 2) v)) e.1 ∙ text_is (column s 2) _ f.1)
 
--- a record with the beginning of validity that a row of starts says
+-- a record with the beginning of validity that its validity row tells
 abbrev with_row : Row → OfCustomer Given → OfCustomer Given
 with_row s g = record g { row = record g.row { not_before = text_if (column s 3) } }
 
-starts : (l : List Row) (all : List (OfCustomer Given)) → map (λ g. with_row (first_that (starts_given g) l) g) all ≡ map (with_given_start l) all
-starts l all = ap (λ (f : OfCustomer Given → OfCustomer Given). map f all) (λ i g. record g { row = record g.row { not_before = start_is starts_given l g i } })
+not_befores : (l : List Row) (all : List (OfCustomer Given)) → map (λ g. with_row (first_that (is_validity_of_given g) l) g) all
+    ≡ map (with_given_not_before l) all
+not_befores l all =
+    ap (λ (f : OfCustomer Given → OfCustomer Given). map f all)
+    (λ i g. record g { row = record g.row { not_before = not_before_is is_validity_of_given l g i } })
 
 -- what is read of the rows that a query of whole records shows
 abbrev pub ShowsGiven : List Term → Row → (OfCustomer Given → Bool) → Type 0
 ShowsGiven tests params p =
     (db : Trees) (rows : List Row) → AreRows IsGivenRow given_cmp given_in_row (rows_in db given)
-    → AreStarted starts_given given_in_row (rows_in db given) (rows_in db given_starts)
-    → IsAnswer (over with_starts (on_start ++ tests) shown by_key) db params rows
-    → map joined_given rows ≡ filter p (map (with_given_start (rows_in db given_starts)) (sort_by given_cmp (map given_in_row (rows_in db given))))
+    → HaveOneValidityRow is_validity_of_given given_in_row (rows_in db given) (rows_in db given_starts)
+    → IsAnswer (over with_validity_rows (on_validity_key ++ tests) shown by_key) db params rows
+    → map joined_given rows ≡ filter p (map (with_given_not_before (rows_in db given_starts)) (sort_by given_cmp (map given_in_row (rows_in db given))))
 
 -- a query that sorts by the key shows the records that pass its tests, which read the first table alone
 pub kept_shown : (p : OfCustomer Given → Bool)
@@ -108,12 +112,12 @@ pub kept_shown : (p : OfCustomer Given → Bool)
     → ((r : Row) → IsGivenRow r → passes tests params r ≡ p (given_in_row r))
     → ((r s : Row) → list_all (holds (pair params r s)) tests ≡ passes tests params r)
     → ShowsGiven tests params p
-kept_shown p same tests params is blind db rows are started a =
-    shows_joined IsGivenRow given_cmp given_total given_in_row by_serial by_serial_total ordered p
-    tests params is IsStartRow starts_given on_start (fits params) shown by_key joined_given
+kept_shown p same tests params is blind db rows are validity a =
+    shows_joined IsGivenRow given_cmp given_total given_in_row by_serial by_serial_total compared p
+    tests params is IsValidityRow is_validity_of_given on_validity_key (fits params) shown by_key joined_given
     with_row same
-    blind (λ r s. refl) (λ a b s t. refl) db (tree_of given) (tree_of given_starts) rows are started.typed started.one a
-    ∙ ap (filter p) (starts (rows_in db given_starts) _)
+    blind (λ r s. refl) (λ a b s t. refl) db (tree_of given) (tree_of given_starts) rows are validity.typed validity.one a
+    ∙ ap (filter p) (not_befores (rows_in db given_starts) _)
 
 pub at_shown : (issuer serial : List ℕ) → ShowsGiven at_tests (Words issuer ∷ Words serial ∷ []) (is_serial_of issuer serial)
 at_shown issuer serial = kept_shown (is_serial_of issuer serial) (λ s g.

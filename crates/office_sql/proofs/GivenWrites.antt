@@ -15,19 +15,19 @@ use Rattle.id_ranges.proofs.MacTexts.{mac_text_only}
 use Rattle.office_sql.proofs.Types.{OfCustomer, Given, AddGiven}
 use Rattle.office_tables.specs.Prelude.{IsFree, IsAddressFree, is_address, has_address, given_cmp, is_serial_of, with_row}
 use Rattle.office_tables.proofs.Finding.{none_passes}
-use Rattle.office_tables.proofs.Orders.{given_total}
-use Rattle.office_sql.specs.Prelude.{given, given_starts, SqlAdds, SameBut, Wrote, over, given_in_row, given_columns, starts_given, given_start_columns}
-use Rattle.office_sql.specs.Prelude.{with_given_start, joined_given, is_parameter, passes, given_table, given_start_table, office_schema, rows_in, AreRows}
-use Rattle.office_sql.specs.Prelude.{AreStarted, IsGivenRow, IsOffice, tables_in, told_in, text_if, text_value, mac_if}
+use Rattle.office_tables.proofs.TotalOrders.{given_total}
+use Rattle.office_sql.specs.Prelude.{given, given_starts, SqlAdds, SameBut, Wrote, over, given_in_row, given_columns, is_validity_of_given, given_start_columns}
+use Rattle.office_sql.specs.Prelude.{with_given_not_before, joined_given, is_parameter, passes, given_table, given_start_table, office_schema, rows_in, AreRows}
+use Rattle.office_sql.specs.Prelude.{HaveOneValidityRow, IsGivenRow, IsOffice, tables_in, told_in, text_if, text_value, mac_if}
 use Rattle.office_sql.proofs.Finding.{texts_alike}
-use Rattle.office_sql.proofs.GivenReads.{shown, with_starts, by_key, on_start, given_tied, kept_shown, ShowsGiven}
+use Rattle.office_sql.proofs.GivenReads.{shown, with_validity_rows, by_key, on_validity_key, given_tied, kept_shown, ShowsGiven}
 use Rattle.office_sql.proofs.Inserting.{IsInsert}
 use Rattle.office_sql.proofs.Kept.{found}
 use Rattle.office_sql.proofs.Keyed.{Apart}
 use Rattle.office_sql.proofs.Missing.{text_cast, text_back}
-use Rattle.office_sql.proofs.Offices.{both_changed, both_started, told_stays}
+use Rattle.office_sql.proofs.Offices.{both_changed, both_validity_rows, told_stays}
 use Rattle.office_sql.proofs.Stepping.{cast_null}
-use Rattle.office_sql.proofs.StartedRows.{started_more}
+use Rattle.office_sql.proofs.RowsWithValidity.{more_with_validity}
 use Rattle.office_sql.proofs.Values.{text_is}
 use Rattle.office_sql.specs.declared.given.TheConstants.{SELECT_GIVEN_WITH_ADDRESS, INSERT_INTO_GIVEN, INSERT_INTO_GIVEN_START}
 use Rattle.office_sql.proofs.LedgerAsked.{IsReadAs}
@@ -37,7 +37,7 @@ use Rattle.office_sql.proofs.LedgerAsked.{IsReadAs}
 abbrev pub address_tests : List Term
 address_tests = is_parameter 6 0 ∷ []
 
-pub address_read : IsReadAs office_schema SELECT_GIVEN_WITH_ADDRESS.now (over with_starts (on_start ++ address_tests) shown by_key)
+pub address_read : IsReadAs office_schema SELECT_GIVEN_WITH_ADDRESS.now (over with_validity_rows (on_validity_key ++ address_tests) shown by_key)
 unfolding understood everything
 address_read = record { names = _; is = refl; plain = (refl, refl); unlisted = refl; bare = λ schema base. refl }
 
@@ -103,20 +103,20 @@ add_casts g = rw (cast_null, text_cast g.row.chip, text_cast (option_map mac_tex
 
 -- ---- its beginning of validity
 
-abbrev pub start_terms : List Term
-start_terms = lit Null ∷ col 0 0 ∷ col 0 1 ∷ col 0 2 ∷ []
+abbrev pub validity_terms : List Term
+validity_terms = lit Null ∷ col 0 0 ∷ col 0 1 ∷ col 0 2 ∷ []
 
-pub start_insert : IsInsert office_schema INSERT_INTO_GIVEN_START.now given_starts start_terms 4
+pub validity_insert : IsInsert office_schema INSERT_INTO_GIVEN_START.now given_starts validity_terms 4
 unfolding understood everything
-start_insert = record { means = record { is = refl; plain = (refl, refl); there = refl; uncounted = refl; unstamped = refl }; one = λ params. refl }
+validity_insert = record { means = record { is = refl; plain = (refl, refl); there = refl; uncounted = refl; unstamped = refl }; one = λ params. refl }
 
-pub start_casts : (g : OfCustomer Given) → cast_row given_start_table (Null ∷ given_start_columns g) ≡ Null ∷ given_start_columns g
-start_casts g = rw (cast_null, text_cast g.row.not_before) refl
+pub validity_casts : (g : OfCustomer Given) → cast_row given_start_table (Null ∷ given_start_columns g) ≡ Null ∷ given_start_columns g
+validity_casts g = rw (cast_null, text_cast g.row.not_before) refl
 
 -- ---- both
 
--- two records with one start have one key
-given_ties : (a b : OfCustomer Given) (s : Row) → starts_given a s ≡ true → starts_given b s ≡ true → given_cmp a b ≡ Equal
+-- two records with one validity row have one key
+given_ties : (a b : OfCustomer Given) (s : Row) → is_validity_of_given a s ≡ true → is_validity_of_given b s ≡ true → given_cmp a b ≡ Equal
 given_ties a b s e f =
     let p = and_parts _ _ e in
     let q = and_parts _ _ f in
@@ -125,13 +125,13 @@ given_ties a b s e f =
 abbrev with_text : Option (List ℕ) → OfCustomer Given → OfCustomer Given
 with_text t g = record g { row = record g.row { not_before = t } }
 
--- its own start is for it
-own_start : (g : OfCustomer Given) (id : ℤ) → starts_given g (Int id ∷ given_start_columns g) ≡ true
-own_start g id = ap₂ ◌&&◌ (text_itself g.row.issuer g.row.issuer refl) (text_itself g.row.serial g.row.serial refl)
+-- its own validity row is for it
+own_validity : (g : OfCustomer Given) (id : ℤ) → is_validity_of_given g (Int id ∷ given_start_columns g) ≡ true
+own_validity g id = ap₂ ◌&&◌ (text_itself g.row.issuer g.row.issuer refl) (text_itself g.row.serial g.row.serial refl)
 
 -- a record and its beginning leave what the database tells of itself
 told_after : (old mid new : Trees) → SameBut given old mid → SameBut given_starts mid new → told_in new ≡ told_in old
-told_after old mid new adds starts = told_stays given_starts mid new (λ e. cc) (λ e. cc) starts ∙ told_stays given old mid (λ e. cc) (λ e. cc) adds
+told_after old mid new adds side = told_stays given_starts mid new (λ e. cc) (λ e. cc) side ∙ told_stays given old mid (λ e. cc) (λ e. cc) adds
 
 module _ (g : OfCustomer Given) (address : option_and_then mac_of_text (option_map mac_text g.row.mac) ≡ g.row.mac) where
   given_back : (id own : ℤ) → with_text (text_if (column (Int own ∷ given_start_columns g) 3)) (given_in_row (Int id ∷ given_columns g)) ≡ g
@@ -146,10 +146,10 @@ module _ (g : OfCustomer Given) (address : option_and_then mac_of_text (option_m
         };
       }
 
-  -- a record that was added, with its start
+  -- a record that was added, with its validity row
   pub given_wrote : (old mid new : Database) → IsOffice old → IsFree (AddGiven g) (tables_in old.trees) → IsAddressFree g.row.mac (tables_in old.trees).given
       → SqlAdds given (given_columns g) old mid → SqlAdds given_starts (given_start_columns g) mid new → Wrote (AddGiven g) old new
-  given_wrote old mid new office free alone adds starts =
+  given_wrote old mid new office free alone adds side =
       let rows = rows_in old.trees given in
       let id = next_rowid rows in
       let new_row : Row = Int id ∷ given_columns g in
@@ -158,22 +158,22 @@ module _ (g : OfCustomer Given) (address : option_and_then mac_of_text (option_m
       let beside : rows_in mid.trees given_starts ≡ rows_in old.trees given_starts = adds.others given_starts (λ e. cc) in
       let others = all-permutation (λ y. is_serial_of g.row.issuer g.row.serial y
       ≡ false) _ _ (IsPermutation-sort_by given_cmp given_total (map given_in_row rows))
-      (all_unmap (λ y. is_serial_of g.row.issuer g.row.serial y ≡ false) (with_given_start (rows_in old.trees given_starts)) _ (none_passes _ _ free)) in
+      (all_unmap (λ y. is_serial_of g.row.issuer g.row.serial y ≡ false) (with_given_not_before (rows_in old.trees given_starts)) _ (none_passes _ _ free)) in
       let apart = all_weaker _ (Apart given_cmp given_total (given_in_row new_row)) (λ y e. given_tied g y ∙ e) (map given_in_row rows) others in
-      let more = started_more IsGivenRow given_cmp given_total given_in_row starts_given with_text (λ t u a b. refl) given_ties
-      (given_columns g) (given_start_columns g) rows (rows_in old.trees given_starts) (office.rows given) office.given_started
-      (refl, refl, refl, sym (ap text_value (text_back (option_map mac_text g.row.mac)))) (refl, refl) (own_start g own) apart in
+      let more = more_with_validity IsGivenRow given_cmp given_total given_in_row is_validity_of_given with_text (λ t u a b. refl) given_ties
+      (given_columns g) (given_start_columns g) rows (rows_in old.trees given_starts) (office.rows given) office.given_validity
+      (refl, refl, refl, sym (ap text_value (text_back (option_map mac_text g.row.mac)))) (refl, refl) (own_validity g own) apart in
       let after : rows_in new.trees given_starts ≡ put_row own_row (rows_in old.trees given_starts) =
-      starts.row ∙ ap (λ l. put_row (Int (next_rowid l) ∷ given_start_columns g) l) beside in
-      let it = both_changed old new office starts.schema starts.sound given given_starts mid.trees adds.others
-      starts.others (subst (AreRows IsGivenRow given_cmp given_in_row) (sym adds.row) more.are) tt
-      ((both_started old office).0, subst₂ (AreStarted starts_given given_in_row) (sym adds.row) (sym after) more.started) in
-      let all = ap₂ (λ l k. map (with_given_start k) (sort_by given_cmp (map given_in_row l))) adds.row after
+      side.row ∙ ap (λ l. put_row (Int (next_rowid l) ∷ given_start_columns g) l) beside in
+      let it = both_changed old new office side.schema side.sound given given_starts mid.trees adds.others
+      side.others (subst (AreRows IsGivenRow given_cmp given_in_row) (sym adds.row) more.are) tt
+      ((both_validity_rows old office).0, subst₂ (HaveOneValidityRow is_validity_of_given given_in_row) (sym adds.row) (sym after) more.validity) in
+      let all = ap₂ (λ l k. map (with_given_not_before k) (sort_by given_cmp (map given_in_row l))) adds.row after
       ∙ more.placed_is
       ∙ ap (λ x. with_row given_cmp x (tables_in old.trees).given) (given_back id own) in
       record {
         office = it.0;
         made = (alone, it.1 ∙ ap (λ l. record (tables_in old.trees) { given = l }) all);
-        rows = (mid, adds, starts);
-        told = told_after old.trees mid.trees new.trees adds.others starts.others;
+        rows = (mid, adds, side);
+        told = told_after old.trees mid.trees new.trees adds.others side.others;
       }

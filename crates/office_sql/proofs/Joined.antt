@@ -61,9 +61,9 @@ module _ (on tests : List Term) (params : Row) (blind : (r s : Row) → list_all
       ∙ cut (λ r. pair params r (beside on params side r)) (passes tests params) rows
 
 -- each row of the first table that passes, with the one row beside it
-pub joined : (db : Trees) (params : Row) (tree side : ℕ) (on tests shown : List Term) (order : List (Term × Key)) (rows : List Row)
+pub joined : (db : Trees) (params : Row) (tree side : ℕ) (on tests shown : List Term) (keys : List (Term × Key)) (rows : List Row)
     → ((r s : Row) → list_all (holds (pair params r s)) tests ≡ passes tests params r) → AllByRecursion (HasBeside on params (db side)) (db tree)
-    → IsAnswer (over (inner tree (inner side end)) (on ++ tests) shown order) db params rows
-    → Listed shown order (λ r. pair params r (beside on params (db side) r)) (passing tests params (db tree)) rows
-joined db params tree side on tests shown order rows blind has a =
-    listed [] (inner tree (inner side end)) (on ++ tests) shown order db params _ _ rows (pairs on tests params blind (db side) (db tree) has) a
+    → IsAnswer (over (inner tree (inner side end)) (on ++ tests) shown keys) db params rows
+    → Listed shown keys (λ r. pair params r (beside on params (db side) r)) (passing tests params (db tree)) rows
+joined db params tree side on tests shown keys rows blind has a =
+    listed [] (inner tree (inner side end)) (on ++ tests) shown keys db params _ _ rows (pairs on tests params blind (db side) (db tree) has) a

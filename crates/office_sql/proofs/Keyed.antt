@@ -99,8 +99,8 @@ module _ {A : Type 0} (cmp : A → A → Ordering) (total : IsTotalOrder cmp) wh
       (keyed_along (x ∷ rows) new same keyed, sorted_along (x ∷ rows) new same keyed ∙ insert_places x (sort_by cmp rows) (all_sorted _ rows keyed.0))
 
   -- what a query keeps and sorts is what is kept in order
-  pub kept_in_order : (p : A → Bool) (xs ys : List A) → AreKeyed cmp xs → IsPermutation (filter p xs) ys → IsSorted cmp ys → filter p (sort_by cmp xs) ≡ ys
-  kept_in_order p xs ys keyed same sorted =
+  pub kept_sorted : (p : A → Bool) (xs ys : List A) → AreKeyed cmp xs → IsPermutation (filter p xs) ys → IsSorted cmp ys → filter p (sort_by cmp xs) ≡ ys
+  kept_sorted p xs ys keyed same sorted =
       sym (sorted_unique cmp total (filter p (sort_by cmp xs)) ys (ascending-filter Below p (sort_by cmp xs) (rises xs keyed))
       (IsPermutation-trans _ _ _ (IsPermutation-filter p _ _ (IsPermutation-sort_by cmp total xs)) same) sorted)
 

@@ -18,8 +18,8 @@ pub mod Resting
 mod SeatReads
 pub mod Inserting
 pub mod Replacing
-pub mod Starts
-pub mod StartedRows
+pub mod ValidityRows
+pub mod RowsWithValidity
 pub mod Filled
 pub mod Filling
 pub mod Lacking

@@ -6,7 +6,7 @@ use Rattle.sqlite.specs.declared.types.Value.TheVariants.{Text as Words, Blob as
 use Rattle.sqlite.specs.Listing.{understood}
 use Rattle.sqlite_tied.specs.Compute.{everything}
 use Rattle.office_tables.specs.Prelude.{link_cmp, is_link, is_of}
-use Rattle.office_tables.proofs.Orders.{link_total}
+use Rattle.office_tables.proofs.TotalOrders.{link_total}
 use Rattle.office_sql.specs.Prelude.{links, office_schema, link_in_row, is_parameter, passes, IsLinkRow}
 use Rattle.office_sql.proofs.Kept.{shows_kept, Shows}
 use Rattle.office_sql.proofs.Reading.{IsRead}
@@ -33,8 +33,8 @@ by_place = on (λ r. column r 1 ∷ column r 2 ∷ []) (key_cmp 0 (ascending Bin
 pub by_place_total : IsTotalOrder by_place
 by_place_total = on_total (λ r. column r 1 ∷ column r 2 ∷ []) (key_cmp_total (ascending Binary ∷ ascending Binary ∷ []) 0)
 
-ordered : (a b : Row) → IsLinkRow a → IsLinkRow b → by_place a b ≡ link_cmp (link_in_row a) (link_in_row b)
-ordered a b e f = ap₂ ordering_then (texts_cmp (column a 1) (column b 1) e.0 f.0) (then-Equal _ ∙ blobs_cmp (column a 2) (column b 2) e.1 f.1)
+compared : (a b : Row) → IsLinkRow a → IsLinkRow b → by_place a b ≡ link_cmp (link_in_row a) (link_in_row b)
+compared a b e f = ap₂ ordering_then (texts_cmp (column a 1) (column b 1) e.0 f.0) (then-Equal _ ∙ blobs_cmp (column a 2) (column b 2) e.1 f.1)
 
 pub passes_link : (c d : List ℕ) (r : Row) → IsLinkRow r
     → passes (is_parameter 1 0 ∷ is_parameter 2 1 ∷ []) (Words c ∷ Bytes d ∷ []) r
@@ -48,10 +48,10 @@ pub one_shown : (c d : List ℕ)
     → Shows IsLinkRow link_cmp link_in_row (is_parameter 1 0 ∷ is_parameter 2 1 ∷ []) shown by_key (Words c ∷ Bytes d ∷ [])
     (λ r. link_in_row (Null ∷ r)) (is_link c d)
 one_shown c d =
-    shows_kept IsLinkRow link_cmp link_total link_in_row by_place by_place_total ordered (is_link c d)
+    shows_kept IsLinkRow link_cmp link_total link_in_row by_place by_place_total compared (is_link c d)
     (is_parameter 1 0 ∷ is_parameter 2 1 ∷ []) _ (passes_link c d) shown by_key (λ r. link_in_row (Null ∷ r)) (λ r. refl) (λ a b. refl)
 
 pub own_shown : (c : List ℕ) → Shows IsLinkRow link_cmp link_in_row (is_parameter 1 0 ∷ []) shown by_key (Words c ∷ []) (λ r. link_in_row (Null ∷ r)) (is_of c)
 own_shown c =
-    shows_kept IsLinkRow link_cmp link_total link_in_row by_place by_place_total ordered (is_of c)
+    shows_kept IsLinkRow link_cmp link_total link_in_row by_place by_place_total compared (is_of c)
     (is_parameter 1 0 ∷ []) _ (passes_customer c) shown by_key (λ r. link_in_row (Null ∷ r)) (λ r. refl) (λ a b. refl)

@@ -9,13 +9,13 @@ use Rattle.sqlite_trees.proofs.ListLemmas.{all_weaker}
 use Rattle.office_sql.proofs.Types.{OfCustomer, Link, AddLink}
 use Rattle.office_tables.specs.Prelude.{link_cmp, is_link, IsFree}
 use Rattle.office_tables.proofs.Finding.{none_passes}
-use Rattle.office_tables.proofs.Orders.{link_total}
+use Rattle.office_tables.proofs.TotalOrders.{link_total}
 use Rattle.office_tables.proofs.Places.{both_equal}
 use Rattle.office_sql.specs.Prelude.{links, link_table, office_schema, rows_in, link_in_row, link_columns, SqlAdds, Wrote, AreRows, IsLinkRow, IsOffice}
 use Rattle.office_sql.specs.Prelude.{tables_in}
 use Rattle.office_sql.proofs.Inserting.{IsInsert}
 use Rattle.office_sql.proofs.Keyed.{Apart}
-use Rattle.office_sql.proofs.Offices.{both_started, table_changed, told_stays}
+use Rattle.office_sql.proofs.Offices.{both_validity_rows, table_changed, told_stays}
 use Rattle.office_sql.proofs.Stepping.{cast_null, cast_int}
 use Rattle.office_sql.proofs.TableRows.{row_added}
 use Rattle.office_sql.specs.declared.links.TheConstants.{INSERT_INTO_LINK}
@@ -53,7 +53,7 @@ link_wrote l old new office free adds =
     let rows = rows_in old.trees links in
     let it = row_added IsLinkRow link_cmp link_total link_in_row (link_columns l) rows (office.rows links) (refl, refl) (free_apart l rows free) in
     let now = table_changed old new office adds.schema adds.sound links adds.others
-    (subst (AreRows IsLinkRow link_cmp link_in_row) (sym adds.row) it.0) (both_started old office) in
+    (subst (AreRows IsLinkRow link_cmp link_in_row) (sym adds.row) it.0) (both_validity_rows old office) in
     let is = ap (λ l. sort_by link_cmp (map link_in_row l)) adds.row ∙ it.1 in
     record {
       office = now.0;

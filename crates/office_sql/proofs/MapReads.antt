@@ -7,7 +7,7 @@ use Rattle.sqlite.specs.Listing.{understood}
 use Rattle.sqlite_tied.specs.Compute.{everything}
 use Rattle.office_tables.specs.declared.rows.MapRow.{MapRow}
 use Rattle.office_tables.specs.Prelude.{map_cmp, has_id, has_body}
-use Rattle.office_tables.proofs.Orders.{map_total}
+use Rattle.office_tables.proofs.TotalOrders.{map_total}
 use Rattle.office_sql.specs.Prelude.{maps, office_schema, number_in_cell, map_in_row, is_parameter, passes, IsMapRow}
 use Rattle.office_sql.proofs.Kept.{shows_kept, Shows}
 use Rattle.office_sql.proofs.Reading.{IsRead}
@@ -39,8 +39,8 @@ by_id = on (λ r. column r 0 ∷ []) (key_cmp 0 (ascending Binary ∷ []))
 pub by_id_total : IsTotalOrder by_id
 by_id_total = on_total (λ r. column r 0 ∷ []) (key_cmp_total (ascending Binary ∷ []) 0)
 
-ordered : (a b : Row) → IsMapRow a → IsMapRow b → by_id a b ≡ map_cmp (map_in_row a) (map_in_row b)
-ordered a b e f = then-Equal _ ∙ wholes_cmp (column a 0) (column b 0) e.0 f.0
+compared : (a b : Row) → IsMapRow a → IsMapRow b → by_id a b ≡ map_cmp (map_in_row a) (map_in_row b)
+compared a b e f = then-Equal _ ∙ wholes_cmp (column a 0) (column b 0) e.0 f.0
 
 pub passes_id : (id : ℕ) (r : Row) → IsMapRow r → passes (is_parameter 0 0 ∷ []) (Int (pos id) ∷ []) r ≡ has_id id (map_in_row r)
 passes_id id r e = and-true _ ∙ whole_is (column r 0) id e.0
@@ -50,12 +50,12 @@ passes_body body r e = and-true _ ∙ text_is (column r 2) body e.1
 
 pub one_shown : (id : ℕ) → Shows IsMapRow map_cmp map_in_row (is_parameter 0 0 ∷ []) shown by_key (Int (pos id) ∷ []) shown_map (has_id id)
 one_shown id =
-    shows_kept IsMapRow map_cmp map_total map_in_row by_id by_id_total ordered (has_id id)
+    shows_kept IsMapRow map_cmp map_total map_in_row by_id by_id_total compared (has_id id)
     (is_parameter 0 0 ∷ []) _ (passes_id id) shown by_key shown_map (λ r. refl) (λ a b. refl)
 
 pub body_shown : (body : List ℕ) → Shows IsMapRow map_cmp map_in_row (is_parameter 2 0 ∷ []) shown by_key (Words body ∷ []) shown_map (has_body body)
 body_shown body =
-    shows_kept IsMapRow map_cmp map_total map_in_row by_id by_id_total ordered (has_body body)
+    shows_kept IsMapRow map_cmp map_total map_in_row by_id by_id_total compared (has_body body)
     (is_parameter 2 0 ∷ []) _ (passes_body body) shown by_key shown_map (λ r. refl) (λ a b. refl)
 
 pub id_shown : (row : Option Row) → option_map (λ r. number_in_cell (column r 0)) row ≡ option_map (λ m. m.id) (option_map shown_map row)

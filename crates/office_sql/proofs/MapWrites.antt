@@ -10,13 +10,13 @@ use Rattle.sqlite_trees.proofs.ListLemmas.{all_weaker}
 use Rattle.office_sql.proofs.Types.{OfCustomer, NewMap, MapRow, Link, AddMap, AddLink}
 use Rattle.office_tables.specs.Prelude.{map_cmp, has_id, link_at, with_map, with_link, IsFree}
 use Rattle.office_tables.proofs.Finding.{find_none}
-use Rattle.office_tables.proofs.Orders.{map_total}
+use Rattle.office_tables.proofs.TotalOrders.{map_total}
 use Rattle.office_sql.specs.Prelude.{maps, map_table, office_schema, rows_in, number_in_cell, map_in_row, map_columns, SqlAdds, Wrote, GainsMap, AreRows}
 use Rattle.office_sql.specs.Prelude.{IsMapRow, IsOffice, tables_in}
 use Rattle.office_sql.proofs.Inserting.{IsInsert}
 use Rattle.office_sql.proofs.Keyed.{Apart, apart_back, all_sorted}
 use Rattle.office_sql.proofs.MapValues.{wholes_cmp, numbers_tied}
-use Rattle.office_sql.proofs.Offices.{both_started, table_changed, told_stays}
+use Rattle.office_sql.proofs.Offices.{both_validity_rows, table_changed, told_stays}
 use Rattle.office_sql.proofs.Stepping.{cast_null}
 use Rattle.office_sql.proofs.TableRows.{next_is_free, row_added}
 use Rattle.office_sql.specs.declared.maps.TheConstants.{INSERT_INTO_MAP}
@@ -71,7 +71,7 @@ map_gained m id old new office is adds =
     )
     (subst (λ x. AllByRecursion (Apart map_cmp map_total x) (map map_in_row rows)) (sym same) apart) in
     let now = table_changed old new office adds.schema adds.sound maps adds.others
-    (subst (AreRows IsMapRow map_cmp map_in_row) (sym adds.row) it.0) (both_started old office) in
+    (subst (AreRows IsMapRow map_cmp map_in_row) (sym adds.row) it.0) (both_validity_rows old office) in
     let all = ap (λ l. sort_by map_cmp (map map_in_row l)) adds.row ∙ it.1 in
     let none = all_weaker (Apart map_cmp map_total row) (λ y. has_id id y ≡ false) (λ y e. sym (numbers_tied id y.id) ∙ e) (map map_in_row rows) apart in
     record {

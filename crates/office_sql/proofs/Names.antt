@@ -2,12 +2,12 @@
 use Rattle.std.proofs.Common.{◌≡◌, ◌≢◌, ◌<◌, ℕ, zero, suc, List, [], ◌∷◌, ◌==◌, Some, find, slice_get, take, arith, refl, sym, ap, subst, ◌∙◌, unwrap_or}
 use Rattle.std.specs.List.{AllByRecursion}
 use Rattle.office_sql.proofs.Kit.{Table, Trees}
-use Rattle.office_sql.specs.Prelude.{SameBut, OfficeTable, meta, seats, maps, links, orders, devices, given, ledger, order_starts, given_starts, texts}
+use Rattle.office_sql.specs.Prelude.{SameBut, OfficeTable, meta, seats, maps, links, orders, devices, given, ledger, order_starts, given_starts, site_texts}
 use Rattle.office_sql.specs.Prelude.{office_schema, place_of, table_of, tree_of}
 
 -- what is so of each in turn is so of each
 each : (P : OfficeTable → Type 0)
-    → P meta × P seats × P maps × P links × P orders × P devices × P given × P ledger × P order_starts × P given_starts × P texts
+    → P meta × P seats × P maps × P links × P orders × P devices × P given × P ledger × P order_starts × P given_starts × P site_texts
     → (table : OfficeTable) → P table
 each P all meta = all.0
 each P all seats = all.1
@@ -19,7 +19,7 @@ each P all given = all.6
 each P all ledger = all.7
 each P all order_starts = all.8
 each P all given_starts = all.9
-each P all texts = all.10
+each P all site_texts = all.10
 
 listed : (table : OfficeTable) → slice_get office_schema.tables (place_of table) ≡ Some (table_of table)
 listed = each (λ t. slice_get office_schema.tables (place_of t) ≡ Some (table_of t)) (refl, refl, refl, refl, refl, refl, refl, refl, refl, refl, refl)
@@ -55,7 +55,7 @@ first_by_name P count all table low = first_at P office_schema.tables (place_of 
 
 abbrev named : ℕ → OfficeTable
 named tree = unwrap_or (find (λ t. tree_of t == tree)
-    (seats ∷ maps ∷ links ∷ orders ∷ devices ∷ given ∷ ledger ∷ order_starts ∷ given_starts ∷ texts ∷ [])) meta
+    (seats ∷ maps ∷ links ∷ orders ∷ devices ∷ given ∷ ledger ∷ order_starts ∷ given_starts ∷ site_texts ∷ [])) meta
 
 is_named : (table : OfficeTable) → named (tree_of table) ≡ table
 is_named = each (λ t. named (tree_of t) ≡ t) (refl, refl, refl, refl, refl, refl, refl, refl, refl, refl, refl)

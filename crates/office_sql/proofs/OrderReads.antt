@@ -10,10 +10,11 @@ use Rattle.sqlite.specs.Listing.{understood}
 use Rattle.sqlite_tied.specs.Compute.{everything}
 use Rattle.office_sql.proofs.Types.{OfCustomer, Order}
 use Rattle.office_tables.specs.Prelude.{order_cmp, is_of, is_order}
-use Rattle.office_tables.proofs.Orders.{order_total}
-use Rattle.office_sql.specs.Prelude.{orders, order_starts, office_schema, rows_in, tree_of, order_in_row, starts_order, with_order_start, joined_order}
-use Rattle.office_sql.specs.Prelude.{is_parameter, passes, over, is_same, passes_join, first_that, IsOffice, IsOrderRow, IsStartRow, tables_in, text_if}
-use Rattle.office_sql.proofs.Kept.{shows_joined, start_is}
+use Rattle.office_tables.proofs.TotalOrders.{order_total}
+use Rattle.office_sql.specs.Prelude.{orders, order_starts, office_schema, rows_in, tree_of, order_in_row, is_validity_of_order, with_order_not_before}
+use Rattle.office_sql.specs.Prelude.{joined_order, is_parameter, passes, over, is_same, passes_join, first_that, IsOffice, IsOrderRow, IsValidityRow, tables_in}
+use Rattle.office_sql.specs.Prelude.{text_if}
+use Rattle.office_sql.proofs.Kept.{shows_joined, not_before_is}
 use Rattle.office_sql.proofs.Values.{text_is, texts_cmp, level_total}
 use Rattle.office_sql.specs.declared.orders.TheConstants.{SELECT_ORDER, SELECT_ORDERS}
 use Rattle.office_sql.proofs.LedgerAsked.{IsReadAs}
@@ -24,13 +25,13 @@ shown = col 1 1 ∷ col 1 2 ∷ col 1 3 ∷ col 1 4 ∷ col 1 5 ∷ col 1 6 ∷ 
 abbrev pub by_key : List (Term × Key)
 by_key = (col 1 1, ascending Binary) ∷ (col 1 2, ascending Binary) ∷ []
 
--- each row with its start
-abbrev pub with_starts : Join
-with_starts = inner (tree_of orders) (inner (tree_of order_starts) end)
+-- each row with its validity row
+abbrev pub with_validity_rows : Join
+with_validity_rows = inner (tree_of orders) (inner (tree_of order_starts) end)
 
--- the columns of the row and of its start that are one key
-abbrev pub on_start : List Term
-on_start = is_same 1 1 ∷ is_same 2 2 ∷ []
+-- the columns of the row and of its validity row that are one key
+abbrev pub on_validity_key : List Term
+on_validity_key = is_same 1 1 ∷ is_same 2 2 ∷ []
 
 abbrev pub one_tests : List Term
 one_tests = is_parameter 1 0 ∷ is_parameter 2 1 ∷ []
@@ -38,11 +39,11 @@ one_tests = is_parameter 1 0 ∷ is_parameter 2 1 ∷ []
 abbrev pub own_tests : List Term
 own_tests = is_parameter 1 0 ∷ []
 
-pub one_read : IsReadAs office_schema SELECT_ORDER.now (over with_starts (on_start ++ one_tests) shown by_key)
+pub one_read : IsReadAs office_schema SELECT_ORDER.now (over with_validity_rows (on_validity_key ++ one_tests) shown by_key)
 unfolding understood everything
 one_read = record { names = _; is = refl; plain = (refl, refl); unlisted = refl; bare = λ schema base. refl }
 
-pub own_read : IsReadAs office_schema SELECT_ORDERS.now (over with_starts (on_start ++ own_tests) shown by_key)
+pub own_read : IsReadAs office_schema SELECT_ORDERS.now (over with_validity_rows (on_validity_key ++ own_tests) shown by_key)
 unfolding understood everything
 own_read = record { names = _; is = refl; plain = (refl, refl); unlisted = refl; bare = λ schema base. refl }
 
@@ -68,37 +69,42 @@ passes_order c n r e = ap₂ ◌&&◌ (text_is (column r 1) c e.0) (and-true _ �
 pub passes_customer : (c : List ℕ) (r : Row) → IsOrderRow r → passes own_tests (Words c ∷ []) r ≡ is_of c (order_in_row r)
 passes_customer c r e = and-true _ ∙ text_is (column r 1) c e.0
 
--- the start's key is the order's
-fits : (params r s : Row) → IsOrderRow r → IsStartRow s → passes_join on_start params r s ≡ starts_order (order_in_row r) s
+-- the validity row's key is the order's
+fits : (params r s : Row) → IsOrderRow r → IsValidityRow s → passes_join on_validity_key params r s ≡ is_validity_of_order (order_in_row r) s
 fits params r s e f =
     ap₂ ◌&&◌ (ap (λ v. is_true (binary (Compare Eq Binary) (column s 1) v)) e.0 ∙ text_is (column s 1) _ f.0)
     (and-true _ ∙ ap (λ v. is_true (binary (Compare Eq Binary) (column s 2) v)) e.1 ∙ text_is (column s 2) _ f.1)
 
--- an order with the beginning of validity that a row of starts says
+-- an order with the beginning of validity that its validity row tells
 abbrev with_row : Row → OfCustomer Order → OfCustomer Order
 with_row s o = record o { row = record o.row { not_before = text_if (column s 3) } }
 
-starts : (l : List Row) (all : List (OfCustomer Order)) → map (λ o. with_row (first_that (starts_order o) l) o) all ≡ map (with_order_start l) all
-starts l all = ap (λ (f : OfCustomer Order → OfCustomer Order). map f all) (λ i o. record o { row = record o.row { not_before = start_is starts_order l o i } })
+not_befores : (l : List Row) (all : List (OfCustomer Order)) → map (λ o. with_row (first_that (is_validity_of_order o) l) o) all
+    ≡ map (with_order_not_before l) all
+not_befores l all =
+    ap (λ (f : OfCustomer Order → OfCustomer Order). map f all)
+    (λ i o. record o { row = record o.row { not_before = not_before_is is_validity_of_order l o i } })
 
 module _ (c : List ℕ) (db : Database) (office : IsOffice db) where
   abbrev seen : Trees
   seen = overlay db.trees []
 
-  pub one_shown : (n : List ℕ) (rows : List Row) → IsAnswer (over with_starts (on_start ++ one_tests) shown by_key) seen (Words c ∷ Words n ∷ []) rows
+  pub one_shown : (n : List ℕ) (rows : List Row) → IsAnswer (over with_validity_rows (on_validity_key ++ one_tests) shown by_key) seen
+      (Words c ∷ Words n ∷ []) rows
       → map joined_order rows ≡ filter (is_order c n) (tables_in db.trees).orders
   one_shown n rows a =
       shows_joined IsOrderRow order_cmp order_total order_in_row by_name by_name_total by_is (is_order c n) one_tests (Words c ∷ Words n ∷ [])
-      (passes_order c n) IsStartRow starts_order on_start (fits (Words c ∷ Words n
+      (passes_order c n) IsValidityRow is_validity_of_order on_validity_key (fits (Words c ∷ Words n
       ∷ [])) shown by_key joined_order with_row (λ s o. refl) (λ r s. refl) (λ r s.
       refl) (λ a b s t. refl)
-      seen (tree_of orders) (tree_of order_starts) rows (office.rows orders) office.orders_started.typed office.orders_started.one a
-      ∙ ap (filter (is_order c n)) (starts (rows_in seen order_starts) _)
+      seen (tree_of orders) (tree_of order_starts) rows (office.rows orders) office.order_validity.typed office.order_validity.one a
+      ∙ ap (filter (is_order c n)) (not_befores (rows_in seen order_starts) _)
 
-  pub own_shown : (rows : List Row) → IsAnswer (over with_starts (on_start ++ own_tests) shown by_key) seen (Words c ∷ []) rows
+  pub own_shown : (rows : List Row) → IsAnswer (over with_validity_rows (on_validity_key ++ own_tests) shown by_key) seen (Words c ∷ []) rows
       → map joined_order rows ≡ filter (is_of c) (tables_in db.trees).orders
   own_shown rows a =
       shows_joined IsOrderRow order_cmp order_total order_in_row by_name by_name_total by_is (is_of c) own_tests (Words c ∷ []) (passes_customer c)
-      IsStartRow starts_order on_start (fits (Words c ∷ [])) shown by_key joined_order with_row (λ s o. refl) (λ r s. refl) (λ r s. refl) (λ a b s t. refl)
-      seen (tree_of orders) (tree_of order_starts) rows (office.rows orders) office.orders_started.typed office.orders_started.one a
-      ∙ ap (filter (is_of c)) (starts (rows_in seen order_starts) _)
+      IsValidityRow is_validity_of_order on_validity_key (fits (Words c ∷ [])) shown by_key joined_order with_row (λ s o. refl) (λ r s. refl) (λ r s. refl)
+      (λ a b s t. refl)
+      seen (tree_of orders) (tree_of order_starts) rows (office.rows orders) office.order_validity.typed office.order_validity.one a
+      ∙ ap (filter (is_of c)) (not_befores (rows_in seen order_starts) _)

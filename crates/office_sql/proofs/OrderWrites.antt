@@ -11,11 +11,11 @@ use Rattle.sqlite_tied.specs.Compute.{everything}
 use Rattle.id_ranges.specs.Prelude.{mac_text, mac_of_text}
 use Rattle.office_sql.proofs.Types.{OfCustomer, Order, Cursor, AddOrder, SetCursor}
 use Rattle.office_tables.specs.Prelude.{is_order, order_at, order_cmp, with_row, with_cursor_of}
-use Rattle.office_tables.proofs.Orders.{order_total}
+use Rattle.office_tables.proofs.TotalOrders.{order_total}
 use Rattle.office_tables.proofs.Finding.{none_passes}
 use Rattle.office_sql.specs.Prelude.{orders, order_starts, orders_table, order_start_table, office_schema, rows_in, is_parameter, text_if, mac_if, mac_value}
-use Rattle.office_sql.specs.Prelude.{whole_value, columns_with_cursor, order_in_row, order_columns, starts_order, order_start_columns, with_order_start}
-use Rattle.office_sql.specs.Prelude.{AreRows, AreStarted, IsOffice, IsOrderRow, tables_in, told_in, SqlAdds, Wrote}
+use Rattle.office_sql.specs.Prelude.{whole_value, columns_with_cursor, order_in_row, order_columns, is_validity_of_order, order_start_columns}
+use Rattle.office_sql.specs.Prelude.{with_order_not_before, AreRows, HaveOneValidityRow, IsOffice, IsOrderRow, tables_in, told_in, SqlAdds, Wrote}
 use Rattle.office_sql.proofs.Finding.{only_found, texts_tied, texts_alike}
 use Rattle.office_sql.proofs.Inserting.{IsInsert}
 use Rattle.office_sql.proofs.Keyed.{Apart}
@@ -25,7 +25,7 @@ use Rattle.office_sql.proofs.Offices.{both_changed, table_changed, told_stays}
 use Rattle.office_sql.proofs.OrderReads.{order_tied, passes_order}
 use Rattle.office_sql.proofs.Replacing.{IsUpdate, IsSet, SetsOne, remade, sets}
 use Rattle.office_sql.proofs.Stepping.{cast_null, cast_int}
-use Rattle.office_sql.proofs.StartedRows.{find_made, started_more, started_as_was, replaced_with_starts}
+use Rattle.office_sql.proofs.RowsWithValidity.{find_made, more_with_validity, validity_as_was, replaced_with_validity}
 use Rattle.office_sql.specs.declared.orders.TheConstants.{INSERT_INTO_ORDERS, INSERT_INTO_ORDER_START, UPDATE_OF_CURSOR}
 
 -- ---- a new order
@@ -56,8 +56,8 @@ pub address_back : (text : Option (List ℕ)) (mac : Option ℕ) → text ≡ op
     → option_and_then mac_of_text text ≡ mac → mac_if (mac_value mac) ≡ mac
 address_back text mac is back = ap (option_and_then mac_of_text) (text_back (option_map mac_text mac) ∙ sym is) ∙ back
 
--- two orders with one start have one key
-order_ties : (a b : OfCustomer Order) (s : Row) → starts_order a s ≡ true → starts_order b s ≡ true → order_cmp a b ≡ Equal
+-- two orders with one validity row have one key
+order_ties : (a b : OfCustomer Order) (s : Row) → is_validity_of_order a s ≡ true → is_validity_of_order b s ≡ true → order_cmp a b ≡ Equal
 order_ties a b s e f =
     let p = and_parts _ _ e in
     let q = and_parts _ _ f in
@@ -66,52 +66,52 @@ order_ties a b s e f =
 abbrev with_text : Option (List ℕ) → OfCustomer Order → OfCustomer Order
 with_text t o = record o { row = record o.row { not_before = t } }
 
--- its own start is for it
-own_start : (o : OfCustomer Order) (id : ℤ) → starts_order o (Int id ∷ order_start_columns o) ≡ true
-own_start o id = ap₂ ◌&&◌ (text_itself o.customer o.customer refl) (text_itself o.row.name o.row.name refl)
+-- its own validity row is for it
+own_validity : (o : OfCustomer Order) (id : ℤ) → is_validity_of_order o (Int id ∷ order_start_columns o) ≡ true
+own_validity o id = ap₂ ◌&&◌ (text_itself o.customer o.customer refl) (text_itself o.row.name o.row.name refl)
 
 pub order_added : (o : OfCustomer Order) → mac_if (mac_value o.row.mac) ≡ o.row.mac
     → (old mid new : Database) → IsOffice old
     → order_at o.customer o.row.name (tables_in old.trees) ≡ None
     → SqlAdds orders (order_columns o) old mid → SqlAdds order_starts (order_start_columns o) mid new → Wrote (AddOrder o) old new
-order_added o back old mid new office none adds starts =
+order_added o back old mid new office none adds side =
     let rows = rows_in old.trees orders in
     let id = next_rowid rows in
     let new_row : Row = Int id ∷ order_columns o in
     let told : told_in new.trees
-    ≡ told_in old.trees = told_stays order_starts mid.trees new.trees (λ e. cc) (λ e. cc) starts.others
+    ≡ told_in old.trees = told_stays order_starts mid.trees new.trees (λ e. cc) (λ e. cc) side.others
     ∙ told_stays orders old.trees mid.trees (λ e. cc) (λ e. cc) adds.others in
     let beside : rows_in mid.trees order_starts ≡ rows_in old.trees order_starts = adds.others order_starts (λ e. cc) in
     let unkeyed = all-permutation (λ y. is_order o.customer o.row.name y ≡ false) _ _ (IsPermutation-sort_by order_cmp order_total (map order_in_row rows))
-    (all_unmap (λ y. is_order o.customer o.row.name y ≡ false) (with_order_start (rows_in old.trees order_starts)) _ (none_passes _ _ none)) in
+    (all_unmap (λ y. is_order o.customer o.row.name y ≡ false) (with_order_not_before (rows_in old.trees order_starts)) _ (none_passes _ _ none)) in
     let apart = all_weaker _ (Apart order_cmp order_total (order_in_row new_row)) (λ y e. order_tied o y ∙ e) (map order_in_row rows) unkeyed in
     let own_row : Row = Int (next_rowid (rows_in old.trees order_starts)) ∷ order_start_columns o in
-    let more = started_more IsOrderRow order_cmp order_total order_in_row starts_order with_text (λ t u a b. refl) order_ties
-    (order_columns o) (order_start_columns o) rows (rows_in old.trees order_starts) (office.rows orders) office.orders_started
-    (refl, refl, rw (text_typed (option_map mac_text o.row.mac)) refl) (refl, refl) (own_start o (next_rowid (rows_in old.trees order_starts))) apart in
+    let more = more_with_validity IsOrderRow order_cmp order_total order_in_row is_validity_of_order with_text (λ t u a b. refl) order_ties
+    (order_columns o) (order_start_columns o) rows (rows_in old.trees order_starts) (office.rows orders) office.order_validity
+    (refl, refl, rw (text_typed (option_map mac_text o.row.mac)) refl) (refl, refl) (own_validity o (next_rowid (rows_in old.trees order_starts))) apart in
     let after : rows_in new.trees order_starts ≡ put_row own_row (rows_in old.trees order_starts) =
-    starts.row ∙ ap (λ l. put_row (Int (next_rowid l) ∷ order_start_columns o) l) beside in
+    side.row ∙ ap (λ l. put_row (Int (next_rowid l) ∷ order_start_columns o) l) beside in
     let is : with_text (text_if (column own_row 3)) (order_in_row new_row) ≡ o =
     λ i. record o
     { row = record o.row { mac = back i; not_before = text_back o.row.not_before i } } in
-    let it = both_changed old new office starts.schema starts.sound orders order_starts mid.trees adds.others
-    starts.others (subst (AreRows IsOrderRow order_cmp order_in_row) (sym adds.row) more.are) tt
-    (subst₂ (AreStarted starts_order order_in_row) (sym adds.row) (sym after) more.started, office.given_started) in
-    let all = ap₂ (λ l k. map (with_order_start k) (sort_by order_cmp (map order_in_row l))) adds.row after
+    let it = both_changed old new office side.schema side.sound orders order_starts mid.trees adds.others
+    side.others (subst (AreRows IsOrderRow order_cmp order_in_row) (sym adds.row) more.are) tt
+    (subst₂ (HaveOneValidityRow is_validity_of_order order_in_row) (sym adds.row) (sym after) more.validity, office.given_validity) in
+    let all = ap₂ (λ l k. map (with_order_not_before k) (sort_by order_cmp (map order_in_row l))) adds.row after
     ∙ more.placed_is ∙ ap (λ x. with_row order_cmp x (tables_in old.trees).orders) is in
-    record { office = it.0; made = it.1 ∙ ap (λ l. record (tables_in old.trees) { orders = l }) all; rows = (mid, adds, starts); told = told }
+    record { office = it.0; made = it.1 ∙ ap (λ l. record (tables_in old.trees) { orders = l }) all; rows = (mid, adds, side); told = told }
 
 -- ---- its beginning of validity
 
-abbrev pub start_terms : List Term
-start_terms = lit Null ∷ col 0 0 ∷ col 0 1 ∷ col 0 2 ∷ []
+abbrev pub validity_terms : List Term
+validity_terms = lit Null ∷ col 0 0 ∷ col 0 1 ∷ col 0 2 ∷ []
 
-pub start_insert : IsInsert office_schema INSERT_INTO_ORDER_START.now order_starts start_terms 4
+pub validity_insert : IsInsert office_schema INSERT_INTO_ORDER_START.now order_starts validity_terms 4
 unfolding understood everything
-start_insert = record { means = record { is = refl; plain = (refl, refl); there = refl; uncounted = refl; unstamped = refl }; one = λ params. refl }
+validity_insert = record { means = record { is = refl; plain = (refl, refl); there = refl; uncounted = refl; unstamped = refl }; one = λ params. refl }
 
-pub start_casts : (o : OfCustomer Order) → cast_row order_start_table (Null ∷ order_start_columns o) ≡ Null ∷ order_start_columns o
-start_casts o = rw (cast_null, text_cast o.row.not_before) refl
+pub validity_casts : (o : OfCustomer Order) → cast_row order_start_table (Null ∷ order_start_columns o) ≡ Null ∷ order_start_columns o
+validity_casts o = rw (cast_null, text_cast o.row.not_before) refl
 
 -- ---- a new cursor
 
@@ -186,16 +186,16 @@ module _ (c : OfCustomer Cursor) where
       wrote : SetsOne IsOrderRow order_cmp order_in_row is_its orders set_columns old.now new.now count → Wrote (SetCursor c) old.now new.now
       wrote one =
           let rows = rows_in old.now.trees orders in
-          let starts = rows_in old.now.trees order_starts in
-          let found = find_made is_its (with_order_start starts) (λ o. refl) (sort_by order_cmp (map order_in_row rows))
-          ∙ ap (option_map (with_order_start starts))
+          let validities = rows_in old.now.trees order_starts in
+          let found = find_made is_its (with_order_not_before validities) (λ o. refl) (sort_by order_cmp (map order_in_row rows))
+          ∙ ap (option_map (with_order_not_before validities))
           (only_found order_cmp order_total order_in_row is_its rows one.was
           (office.rows orders).keyed one.one.alone) in
-          let started = started_as_was IsOrderRow order_cmp order_total order_in_row starts_order with_text (λ t u a b. refl) order_ties
-          one.id one.was (set_columns one.was) rows starts office.orders_started (office.rows orders).rising one.one.split (λ s. refl) in
+          let validity = validity_as_was IsOrderRow order_cmp order_total order_in_row is_validity_of_order with_text (λ t u a b. refl) order_ties
+          one.id one.was (set_columns one.was) rows validities office.order_validity (office.rows orders).rising one.one.split (λ s. refl) in
           let it = table_changed old.now new.now office one.replaced.schema one.replaced.sound orders one.replaced.others one.rows
-          (subst (λ l. AreStarted starts_order order_in_row l starts) (sym one.replaced.row) started, office.given_started) in
-          let all = replaced_with_starts IsOrderRow order_cmp order_total order_in_row starts_order with_text (λ t u a b. refl) order_ties starts
+          (subst (λ l. HaveOneValidityRow is_validity_of_order order_in_row l validities) (sym one.replaced.row) validity, office.given_validity) in
+          let all = replaced_with_validity IsOrderRow order_cmp order_total order_in_row is_validity_of_order with_text (λ t u a b. refl) order_ties validities
           (order_in_row (Int one.id ∷ set_columns one.was)) (map order_in_row rows) (map order_in_row (rows_in new.now.trees orders)) one.placed_is in
           record {
             office = it.0;

@@ -7,18 +7,18 @@ use Rattle.office_sql.specs.Prelude.{over, over_by, scan, env, passes, passing}
 use Rattle.office_sql.proofs.Lists.{unmapped}
 
 -- the rows that are kept, in the order of the answer, each with its environment
-pub record Listed (shown : List Term) (order : List (Term × Key)) (envs : Row → Env) (passed rows : List Row) : Type 0 where
+pub record Listed (shown : List Term) (keys : List (Term × Key)) (envs : Row → Env) (passed rows : List Row) : Type 0 where
   pub kept : List Row
   pub same : IsPermutation passed kept
-  pub sorted : IsSorted (output_cmp (over end [] shown order)) (map (λ r. output (over end [] shown order) (envs r)) kept)
+  pub sorted : IsSorted (output_cmp (over end [] shown keys)) (map (λ r. output (over end [] shown keys) (envs r)) kept)
   pub shows : rows ≡ map (λ r. eval_all shown (envs r)) kept
 
 -- where the matches are those of some rows, one for each
-pub listed : (by : List Collation) (from : Join) (tests shown : List Term) (order : List (Term
+pub listed : (by : List Collation) (from : Join) (tests shown : List Term) (keys : List (Term
     × Key)) (db : Trees) (params : Row) (envs : Row → Env) (passed rows : List Row)
-    → matches db tests from (params ∷ []) ≡ map envs passed → IsAnswer (over_by by from tests shown order) db params rows → Listed shown order envs passed rows
-listed by from tests shown order db params envs passed rows are a =
-    let q = over_by by from tests shown order in
+    → matches db tests from (params ∷ []) ≡ map envs passed → IsAnswer (over_by by from tests shown keys) db params rows → Listed shown keys envs passed rows
+listed by from tests shown keys db params envs passed rows are a =
+    let q = over_by by from tests shown keys in
     let staged : a.staged ≡ map envs passed = a.grouped ∙ are in
     let kept : a.kept ≡ map (λ r. output q (envs r)) passed = a.distinct ∙ ap (map (output q)) staged ∙ map-map (output q) envs _ in
     let it = unmapped (λ r. output q (envs r)) passed a.ordered (subst (λ k. IsPermutation k a.ordered) kept a.same) in
@@ -37,10 +37,10 @@ cut f p (r ∷ rows) =
 
 -- the rows of one table that pass
 abbrev pub Scanned : List Term → List Term → List (Term × Key) → Row → List Row → List Row → Type 0
-Scanned tests shown order params all rows = Listed shown order (env params) (passing tests params all) rows
+Scanned tests shown keys params all rows = Listed shown keys (env params) (passing tests params all) rows
 
 -- whatever the collations, which only a DISTINCT looks at
-pub scanned : (db : Trees) (params : Row) (tree : ℕ) (tests shown : List Term) (order : List (Term × Key)) (collations : List Collation) (rows : List Row)
-    → IsAnswer (record (scan tree tests shown order) { collations = collations }) db params rows → Scanned tests shown order params (db tree) rows
-scanned db params tree tests shown order collations rows a =
-    listed collations (inner tree end) tests shown order db params (env params) _ rows (cut (env params) (passes tests params) (db tree)) a
+pub scanned : (db : Trees) (params : Row) (tree : ℕ) (tests shown : List Term) (keys : List (Term × Key)) (collations : List Collation) (rows : List Row)
+    → IsAnswer (record (scan tree tests shown keys) { collations = collations }) db params rows → Scanned tests shown keys params (db tree) rows
+scanned db params tree tests shown keys collations rows a =
+    listed collations (inner tree end) tests shown keys db params (env params) _ rows (cut (env params) (passes tests params) (db tree)) a

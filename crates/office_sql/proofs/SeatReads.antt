@@ -6,7 +6,7 @@ use Rattle.sqlite.specs.declared.types.Value.TheVariants.{Text as Words}
 use Rattle.sqlite.specs.Listing.{understood}
 use Rattle.sqlite_tied.specs.Compute.{everything}
 use Rattle.office_tables.specs.Prelude.{seat_cmp, is_seat}
-use Rattle.office_tables.proofs.Orders.{seat_total}
+use Rattle.office_tables.proofs.TotalOrders.{seat_total}
 use Rattle.office_sql.specs.Prelude.{seats, office_schema, seat_in_row, is_parameter, passes, IsSeatRow}
 use Rattle.office_sql.proofs.Kept.{shows_kept, Shows}
 use Rattle.office_sql.proofs.Reading.{IsRead}

@@ -12,13 +12,13 @@ use Rattle.sqlite_trees.proofs.ListLemmas.{all_weaker}
 use Rattle.sqlite_tied.specs.Compute.{everything}
 use Rattle.office_sql.proofs.Types.{OfCustomer, SeatState, PutSeat}
 use Rattle.office_tables.specs.Prelude.{Writes, is_seat, seat_at, seat_cmp, with_row}
-use Rattle.office_tables.proofs.Orders.{seat_total}
+use Rattle.office_tables.proofs.TotalOrders.{seat_total}
 use Rattle.office_sql.specs.Prelude.{seats, office_schema, seat_table, rows_in, is_parameter, whole_value, seat_in_row, seat_columns, AreRows, IsOffice}
 use Rattle.office_sql.specs.Prelude.{IsSeatRow, tables_in, SqlAdds, SameBut, SqlStays, WritesRows, Wrote, LacksSeat}
 use Rattle.office_sql.proofs.Finding.{unkeyed, unfound, texts_tied}
 use Rattle.office_sql.proofs.Inserting.{IsInsert}
 use Rattle.office_sql.proofs.Keyed.{Apart}
-use Rattle.office_sql.proofs.Offices.{both_started, office_stays, table_changed, told_same, told_stays}
+use Rattle.office_sql.proofs.Offices.{both_validity_rows, office_stays, table_changed, told_same, told_stays}
 use Rattle.office_sql.proofs.Replacing.{IsUpdate, IsSet, SetsNone, SetsOne, remade, sets}
 use Rattle.office_sql.proofs.SeatReads.{passes_seat}
 use Rattle.office_sql.proofs.Stepping.{cast_null, cast_int}
@@ -85,7 +85,7 @@ module _ (s : OfCustomer SeatState) where
           let name : bytes (column one.was 1) ≡ s.row.name = sym (same_text s.row.name (bytes (column one.was 1)) one.one.passed) in
           let is : seat_in_row (Int one.id ∷ set_columns one.was) ≡ s = ap (λ n. record s { row = record s.row { name = n } }) name in
           let it = table_changed old.now new.now office one.replaced.schema one.replaced.sound
-          seats one.replaced.others one.rows (both_started old.now office) in
+          seats one.replaced.others one.rows (both_validity_rows old.now office) in
           let all = sort_by seat_cmp (map seat_in_row (rows_in old.now.trees seats)) in
           let columns : set_columns one.was
           ≡ seat_columns s = ap (λ v. v ∷ Words s.customer ∷ whole_value s.row.last
@@ -109,7 +109,7 @@ module _ (s : OfCustomer SeatState) where
       (unkeyed seat_cmp seat_total (is_seat s.row.name) (map seat_in_row rows) none) in
       let made = row_added IsSeatRow seat_cmp seat_total seat_in_row (seat_columns s) rows (office.rows seats) refl apart in
       let it = table_changed old new office adds.schema adds.sound seats adds.others
-      (subst (AreRows IsSeatRow seat_cmp seat_in_row) (sym adds.row) made.0) (both_started old office) in
+      (subst (AreRows IsSeatRow seat_cmp seat_in_row) (sym adds.row) made.0) (both_validity_rows old office) in
       let is = ap (λ l. sort_by seat_cmp (map seat_in_row l)) adds.row ∙ made.1 in
       record {
         office = it.0;

@@ -38,12 +38,12 @@ one_more (Text t) h = absurd (true≢false (sym h))
 one_more (Blob b) h = absurd (true≢false (sym h))
 
 -- the next rowid is above each
-below_next : (start : ℤ) (rows : List Row) → IsTable rows
+below_next : (base : ℤ) (rows : List Row) → IsTable rows
     → AllByRecursion (λ r. IsTrue (is_int (rowid r))) rows
-    → AllByRecursion (λ r. value_cmp (rowid r) (Int (after start rows)) ≡ Less) rows
-below_next start [] up whole = tt
-below_next start (r ∷ []) up whole = (one_more (rowid r) whole.0, tt)
-below_next start (r ∷ s ∷ rows) up whole =
+    → AllByRecursion (λ r. value_cmp (rowid r) (Int (after base rows)) ≡ Less) rows
+below_next base [] up whole = tt
+below_next base (r ∷ []) up whole = (one_more (rowid r) whole.0, tt)
+below_next base (r ∷ s ∷ rows) up whole =
     let later = below_next (id_in (rowid r) +ℤ pos 1) (s ∷ rows) up.1 whole.1 in
     (value_cmp_total.trans _ _ _ up.0.0 later.0, later)
 

@@ -165,13 +165,13 @@ module _ {S : Type 0} (g : Ghosts S) (text : List ℕ) (body : Query)
           bound it.1)) it.2
       said (Err e) h s = tt
 
-module _ {S : Type 0} (g : Ghosts S) {text : List ℕ} {table : OfficeTable} {tests shown : List Term} {order : List (Term × Key)}
-    (read : IsRead office_schema text table tests shown order) (params values : Row) (bound : params ≡ values) (old new : Held S) where
+module _ {S : Type 0} (g : Ghosts S) {text : List ℕ} {table : OfficeTable} {tests shown : List Term} {keys : List (Term × Key)}
+    (read : IsRead office_schema text table tests shown keys) (params values : Row) (bound : params ≡ values) (old new : Held S) where
   -- a sink that visits one table of the office's database, with these values for the parameters, takes what the text means
   pub visits : {K R : Type 0} (takes : K → R → Bool → K → Type 0) (reads : Row → R) (r : Result (Unit {0}) Error) (before after : K) (kept : Tables → List R)
       → HasOffice (state g old)
       → ((rows : List Row) → IsOffice (state g old).now
-      → Scanned tests shown order values (rows_in (state g old).now.trees table) rows
+      → Scanned tests shown keys values (rows_in (state g old).now.trees table) rows
       → map reads rows ≡ kept (tables_in (state g old).now.trees))
       → (HasCleanDisk (state g new)
       → OnOk r (HasVisited takes reads text params (state g old) (state g new) before after))
@@ -181,6 +181,6 @@ module _ {S : Type 0} (g : Ghosts S) {text : List ℕ} {table : OfficeTable} {te
       → Survives (state g old) (state g new) (λ _. ⊥)
       → SqlReads g old new r (λ t _. Visits takes before (kept t) after)
   visits takes reads r before after kept has answer =
-      visits_as g text (scan (tree_of table) tests shown order) (read_as read) params values bound old new
+      visits_as g text (scan (tree_of table) tests shown keys) (read_as read) params values bound old new
       takes reads r before after kept has
       (λ rows office a. answer rows office (scanned_of read (state g old).now.trees values rows a))

@@ -13,14 +13,14 @@ use Rattle.sqlite.specs.Query.{Query, Join}
 
 -- the rows of a join that pass each test, in an order
 abbrev pub over : Join → List Term → List Term → List (Term × Key) → Query
-over from tests shown order = record {
+over from tests shown keys = record {
   from = from;
   filter = tests;
   group = None;
   project = shown;
   distinct = false;
   collations = [];
-  order = order;
+  order = keys;
   limit = lit (Int (negsuc 0));
   offset = lit (Int (pos 0));
 }
@@ -31,7 +31,7 @@ is_same there here = op2 (Compare Eq Binary) (col 2 there) (col 1 here)
 
 -- the rows of a join that pass each test, in an order, with the collations of the columns: INSERT reads such a query
 abbrev pub over_by : List Collation → Join → List Term → List Term → List (Term × Key) → Query
-over_by collations from tests shown order = record (over from tests shown order) { collations = collations }
+over_by collations from tests shown keys = record (over from tests shown keys) { collations = collations }
 
 -- what terms see: the parameters, a row of the first table, a row of the second
 abbrev pub pair : Row → Row → Row → Env

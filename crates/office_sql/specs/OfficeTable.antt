@@ -10,4 +10,4 @@ pub data OfficeTable : Type 0 where
   ledger : OfficeTable
   order_starts : OfficeTable
   given_starts : OfficeTable
-  texts : OfficeTable
+  site_texts : OfficeTable

@@ -16,8 +16,8 @@ use Rattle.office_tables.specs.declared.rows.NewEntry.{NewEntry}
 use Rattle.office_sql.specs.Values.{number_in_cell, text_if, mac_if, state_in, event_in, text_value, mac_value, whole_value}
 
 -- the beginning of validity that the first row for this order or record has in its third column; none where there is no row
-abbrev pub start_in_rows : {A : Type 0} → (A → Row → Bool) → List Row → A → Option (List ℕ)
-start_in_rows is_for starts x = option_and_then (λ r. text_if (column r 3)) (find (is_for x) starts)
+abbrev pub not_before_in_rows : {A : Type 0} → (A → Row → Bool) → List Row → A → Option (List ℕ)
+not_before_in_rows is_for validities x = option_and_then (λ r. text_if (column r 3)) (find (is_for x) validities)
 
 -- seat: name, customer, last, digest, reply
 abbrev pub seat_in_row : Row → OfCustomer SeatState
@@ -71,15 +71,15 @@ order_columns o = Words o.customer ∷ Words o.row.name ∷ Words o.row.issuer
     ∷ whole_value o.row.range.quantity ∷ whole_value o.row.macs ∷ mac_value o.row.mac ∷ whole_value o.row.cursor ∷ []
 
 -- order_start: customer, ord, not_before. The row is the order's
-abbrev pub starts_order : OfCustomer Order → Row → Bool
-starts_order o r = bytes_eq o.customer (bytes (column r 1)) && bytes_eq o.row.name (bytes (column r 2))
+abbrev pub is_validity_of_order : OfCustomer Order → Row → Bool
+is_validity_of_order o r = bytes_eq o.customer (bytes (column r 1)) && bytes_eq o.row.name (bytes (column r 2))
 
 abbrev pub order_start_columns : OfCustomer Order → Row
 order_start_columns o = Words o.customer ∷ Words o.row.name ∷ text_value o.row.not_before ∷ []
 
 -- an order with the beginning of validity that one of these rows has for it
-abbrev pub with_order_start : List Row → OfCustomer Order → OfCustomer Order
-with_order_start starts o = record o { row = record o.row { not_before = start_in_rows starts_order starts o } }
+abbrev pub with_order_not_before : List Row → OfCustomer Order → OfCustomer Order
+with_order_not_before validities o = record o { row = record o.row { not_before = not_before_in_rows is_validity_of_order validities o } }
 
 -- a row of orders, without its rowid, and behind it the third column of its row of order_start
 abbrev pub joined_order : Row → OfCustomer Order
@@ -130,15 +130,15 @@ given_columns g = Words g.row.issuer ∷ Words g.row.serial ∷ Words g.customer
     ∷ text_value g.row.chip ∷ mac_value g.row.mac ∷ Words g.row.not_after ∷ []
 
 -- given_start: issuer, serial, not_before. The row is the record's
-abbrev pub starts_given : OfCustomer Given → Row → Bool
-starts_given g r = bytes_eq g.row.issuer (bytes (column r 1)) && bytes_eq g.row.serial (bytes (column r 2))
+abbrev pub is_validity_of_given : OfCustomer Given → Row → Bool
+is_validity_of_given g r = bytes_eq g.row.issuer (bytes (column r 1)) && bytes_eq g.row.serial (bytes (column r 2))
 
 abbrev pub given_start_columns : OfCustomer Given → Row
 given_start_columns g = Words g.row.issuer ∷ Words g.row.serial ∷ text_value g.row.not_before ∷ []
 
 -- a record with the beginning of validity that one of these rows has for it
-abbrev pub with_given_start : List Row → OfCustomer Given → OfCustomer Given
-with_given_start starts g = record g { row = record g.row { not_before = start_in_rows starts_given starts g } }
+abbrev pub with_given_not_before : List Row → OfCustomer Given → OfCustomer Given
+with_given_not_before validities g = record g { row = record g.row { not_before = not_before_in_rows is_validity_of_given validities g } }
 
 -- a row of given, without its rowid, and behind it the third column of its row of given_start
 abbrev pub joined_given : Row → OfCustomer Given

@@ -12,14 +12,14 @@ use Rattle.sqlite.specs.Query.{Query, inner, end}
 
 -- the rows of a tree that pass each test, in an order
 abbrev pub scan : ℕ → List Term → List Term → List (Term × Key) → Query
-scan tree tests shown order = record {
+scan tree tests shown keys = record {
   from = inner tree end;
   filter = tests;
   group = None;
   project = shown;
   distinct = false;
   collations = [];
-  order = order;
+  order = keys;
   limit = lit (Int (negsuc 0));
   offset = lit (Int (pos 0));
 }

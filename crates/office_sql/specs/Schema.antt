@@ -13,7 +13,7 @@ use Rattle.sqlite_schema.specs.declared.schema.Action.TheVariants.{NoAction}
 use Rattle.sqlite_value.specs.Keys.{plain}
 use Rattle.sqlite.specs.Order.{Row}
 use Rattle.sqlite.specs.Tree.{Trees}
-use Rattle.office_sql.specs.OfficeTable.{OfficeTable, meta, seats, maps, links, orders, devices, given, ledger, order_starts, given_starts, texts}
+use Rattle.office_sql.specs.OfficeTable.{OfficeTable, meta, seats, maps, links, orders, devices, given, ledger, order_starts, given_starts, site_texts}
 
 -- a column by its name and its kind, and whether NULL is refused
 abbrev pub column : List ℕ → Kind → Bool → Column
@@ -103,7 +103,7 @@ table_of given = given_table
 table_of ledger = ledger_table
 table_of order_starts = order_start_table
 table_of given_starts = given_start_table
-table_of texts = site_text_table
+table_of site_texts = site_text_table
 
 abbrev pub tree_of : OfficeTable → ℕ
 tree_of table = (table_of table).tree
@@ -124,7 +124,7 @@ place_of given = 6
 place_of ledger = 7
 place_of order_starts = 8
 place_of given_starts = 9
-place_of texts = 10
+place_of site_texts = 10
 
 -- the schema of the office: its tables, and an index for each of their keys that is no rowid
 abbrev pub office_schema : Schema

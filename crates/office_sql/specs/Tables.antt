@@ -11,19 +11,19 @@ use Rattle.sqlite.specs.View.{is_int}
 use Rattle.sqlite.specs.Effect.{Database, IsDatabase}
 use Rattle.sqlite_keyed.specs.Lists.{sort_by}
 use Rattle.office_tables.specs.Prelude.{Tables, seat_cmp, order_cmp, map_cmp, link_cmp, device_cmp, given_cmp, entry_cmp}
-use Rattle.office_sql.specs.OfficeTable.{OfficeTable, meta, seats, maps, links, orders, devices, given, ledger, order_starts, given_starts, texts}
+use Rattle.office_sql.specs.OfficeTable.{OfficeTable, meta, seats, maps, links, orders, devices, given, ledger, order_starts, given_starts, site_texts}
 use Rattle.office_sql.specs.Schema.{office_schema, orders_table, rows_in}
 use Rattle.office_sql.specs.Values.{number_in_cell, text_if, text_value}
-use Rattle.office_sql.specs.Rows.{seat_in_row, map_in_row, link_in_row, order_in_row, device_in_row, given_in_row, entry_in_row, starts_order}
-use Rattle.office_sql.specs.Rows.{starts_given, with_order_start, with_given_start}
+use Rattle.office_sql.specs.Rows.{seat_in_row, map_in_row, link_in_row, order_in_row, device_in_row, given_in_row, entry_in_row, is_validity_of_order}
+use Rattle.office_sql.specs.Rows.{is_validity_of_given, with_order_not_before, with_given_not_before}
 
 -- the rows of each table in the order of their keys
 abbrev pub tables_of : (OfficeTable → List Row) → Tables
 tables_of rows = record {
   seats = sort_by seat_cmp (map seat_in_row (rows seats));
-  orders = map (with_order_start (rows order_starts)) (sort_by order_cmp (map order_in_row (rows orders)));
+  orders = map (with_order_not_before (rows order_starts)) (sort_by order_cmp (map order_in_row (rows orders)));
   devices = sort_by device_cmp (map device_in_row (rows devices));
-  given = map (with_given_start (rows given_starts)) (sort_by given_cmp (map given_in_row (rows given)));
+  given = map (with_given_not_before (rows given_starts)) (sort_by given_cmp (map given_in_row (rows given)));
   maps = sort_by map_cmp (map map_in_row (rows maps));
   links = sort_by link_cmp (map link_in_row (rows links));
   ledger = sort_by entry_cmp (map entry_in_row (rows ledger));
@@ -36,11 +36,11 @@ tables_in db = tables_of (rows_in db)
 -- what a database tells of itself: the rows of meta, and those of its site's text
 pub record Told : Type 0 where
   pub meta : List Row
-  pub texts : List Row
+  pub site_texts : List Row
 
 -- what the database tells of itself, which no write changes
 abbrev pub told_in : Trees → Told
-told_in db = record { meta = rows_in db meta; texts = rows_in db texts }
+told_in db = record { meta = rows_in db meta; site_texts = rows_in db site_texts }
 
 -- a column is a text, bytes, or a number that isn't below zero
 abbrev pub IsText : ℕ → Row → Type 0
@@ -97,12 +97,13 @@ IsGivenRow r = IsText 1 r × IsText 2 r × IsBlob 4 r × IsTextIf 6 r
 abbrev pub IsEntryRow : Row → Type 0
 IsEntryRow r = IsWhole 0 r × IsText 2 r × IsText 3 r × IsWhole 4 r
 
--- the columns of a beginning of validity that statements look at: an order's customer and name, or a record's issuer and serial number
-abbrev pub IsStartRow : Row → Type 0
-IsStartRow r = IsText 1 r × IsText 2 r
+-- a validity row, of order_start or given_start, tells the beginning of validity of an order or a record, or NULL for none. The columns
+-- that statements look at are the key: an order's customer and name, or a record's issuer and serial number
+abbrev pub IsValidityRow : Row → Type 0
+IsValidityRow r = IsText 1 r × IsText 2 r
 
 -- the rows of a table are as its columns and keys have it. What the database tells of itself is no
--- part of the office, and of the starts more is said below
+-- part of the office, and of the validity rows more is said below
 abbrev pub AreRowsOf : OfficeTable → List Row → Type 0
 AreRowsOf seats rows = AreRows IsSeatRow seat_cmp seat_in_row rows
 AreRowsOf maps rows = AreRows IsMapRow map_cmp map_in_row rows
@@ -119,20 +120,20 @@ AreOfficeRows db = (table : OfficeTable) → AreRowsOf table (rows_in db table)
 
 -- exactly one of the rows is for this order or record
 abbrev pub HasOne : {A : Type 0} → (A → Row → Bool) → List Row → A → Type 0
-HasOne is_for starts x = (r : Row) × (filter (is_for x) starts ≡ r ∷ [])
+HasOne is_for validities x = (r : Row) × (filter (is_for x) validities ≡ r ∷ [])
 
--- each row has exactly one start beside it, and each start is one of a row
-pub record AreStarted {A : Type 0} (is_for : A → Row → Bool) (value : Row → A) (rows starts : List Row) : Type 0 where
-  pub rising : IsTable starts
-  pub numbered : AllByRecursion (λ r. IsTrue (is_int (rowid r))) starts
-  pub typed : AllByRecursion IsStartRow starts
-  pub one : AllByRecursion (λ r. HasOne is_for starts (value r)) rows
-  pub for_one : AllByRecursion (λ s. is_some (find (λ r. is_for (value r) s) rows) ≡ true) starts
+-- each row has exactly one validity row beside it, and each validity row is one of a row
+pub record HaveOneValidityRow {A : Type 0} (is_for : A → Row → Bool) (value : Row → A) (rows validities : List Row) : Type 0 where
+  pub rising : IsTable validities
+  pub numbered : AllByRecursion (λ r. IsTrue (is_int (rowid r))) validities
+  pub typed : AllByRecursion IsValidityRow validities
+  pub one : AllByRecursion (λ r. HasOne is_for validities (value r)) rows
+  pub for_one : AllByRecursion (λ s. is_some (find (λ r. is_for (value r) s) rows) ≡ true) validities
 
 -- a database of the office: it lists its schema, and obeys it, and each order and each record has its beginning of validity told
 pub record IsOffice (db : Database) : Type 0 where
   pub schema : db.schema ≡ office_schema
   pub sound : IsDatabase db
   pub rows : AreOfficeRows db.trees
-  pub orders_started : AreStarted starts_order order_in_row (rows_in db.trees orders) (rows_in db.trees order_starts)
-  pub given_started : AreStarted starts_given given_in_row (rows_in db.trees given) (rows_in db.trees given_starts)
+  pub order_validity : HaveOneValidityRow is_validity_of_order order_in_row (rows_in db.trees orders) (rows_in db.trees order_starts)
+  pub given_validity : HaveOneValidityRow is_validity_of_given given_in_row (rows_in db.trees given) (rows_in db.trees given_starts)

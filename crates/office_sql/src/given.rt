@@ -12,9 +12,9 @@ ghost use Rattle.office_sql.specs.OfficeTable as table;
 
 use crate::address::address_text;
 use crate::read::{
-    DAMAGED, chip_if_at, key_at, mac_if_at, name_at, serial_at, start_if_at, time_at,
+    DAMAGED, chip_if_at, key_at, mac_if_at, name_at, serial_at, not_before_if_at, time_at,
 };
-use crate::start::start_text;
+use crate::not_before::not_before_text;
 use crate::visit::{ReadRow, first_row, visit_rows};
 use id_ranges::{KeyDigest, Mac, NotBefore};
 use office_tables::{Given, GivenRow, OfCustomer, Sink};
@@ -149,7 +149,7 @@ impl ReadRow for GivenRow {
 
     fn read_row(row: &Row) -> Result<GivenRow, Error> {
         let (chip, mac) = device_at(row)?;
-        let not_before = start_if_at(row, 7)?;
+        let not_before = not_before_if_at(row, 7)?;
         read_given(row, chip, mac, not_before)
     }
 }
@@ -258,7 +258,7 @@ fn insert_given_start<S: Alter>(
         params![
             given.row.issuer.as_str(),
             given.row.serial.as_str(),
-            start_text(&given.row.not_before)
+            not_before_text(&given.row.not_before)
         ],
     )
 }

@@ -19,7 +19,7 @@ mod number;
 mod orders;
 mod read;
 mod seats;
-mod start;
+mod not_before;
 mod visit;
 mod write;
 

@@ -11,8 +11,8 @@ ghost use Rattle.office_sql.specs.OfficeTable as table;
 
 use crate::address::address_text;
 use crate::number::whole;
-use crate::read::{DAMAGED, mac_if_at, name_at, start_if_at, text_at, whole_at};
-use crate::start::start_text;
+use crate::read::{DAMAGED, mac_if_at, name_at, not_before_if_at, text_at, whole_at};
+use crate::not_before::not_before_text;
 use crate::visit::{ReadRow, first_row, visit_rows};
 use id_ranges::{Mac, NotBefore, SerialRange};
 use office_tables::{Cursor, OfCustomer, Order, OrderRow, Sink};
@@ -130,7 +130,7 @@ impl ReadRow for OrderRow {
 
     fn read_row(row: &Row) -> Result<OrderRow, Error> {
         let mac = mac_if_at(row, 8)?;
-        let not_before = start_if_at(row, 10)?;
+        let not_before = not_before_if_at(row, 10)?;
         read_order(row, mac, not_before)
     }
 }
@@ -198,7 +198,7 @@ fn insert_order_start<S: Alter>(
         params![
             order.customer.as_str(),
             order.row.name.as_str(),
-            start_text(&order.row.not_before)
+            not_before_text(&order.row.not_before)
         ],
     )
 }

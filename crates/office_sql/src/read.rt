@@ -132,12 +132,12 @@ pub(crate) fn mac_if_at(row: &Row, at: usize) -> Result<Option<Mac>, Error>
     }
 }
 
-pub(crate) fn start_if_at(row: &Row, at: usize) -> Result<Option<NotBefore>, Error>
-    ensures { IfOk result (λ start. start ≡ text_if (column row.now at)) }
+pub(crate) fn not_before_if_at(row: &Row, at: usize) -> Result<Option<NotBefore>, Error>
+    ensures { IfOk result (λ not_before. not_before ≡ text_if (column row.now at)) }
 {
     match text_if_at(row, at)? {
         Some(text) => match NotBefore::read(text) {
-            Ok(start) => Ok(Some(start)),
+            Ok(not_before) => Ok(Some(not_before)),
             Err(_) => Err(DAMAGED),
         },
         None => Ok(None),

@@ -4,7 +4,7 @@ use Rattle.text_core.proofs.Kit.{ℕ, List, [], map, length, refl, sym, ap, subs
 use Rattle.std.specs.List.{IsDistinct}
 use Rattle.office_sql.proofs.Kit.{Database, column, Trees, sort_by, IsPermutation-sort_by}
 use Rattle.office_tables.specs.Prelude.{given_cmp, no_rows, Tables}
-use Rattle.office_tables.proofs.Orders.{given_total}
+use Rattle.office_tables.proofs.TotalOrders.{given_total}
 use Rattle.office_sql.specs.Prelude.{rows_in, given, given_in_row, tables_in, text_if}
 use Rattle.store_inspection.specs.declared.version.Version.{Version}
 use Rattle.office_store.specs.Prelude.{IsGrown, IsUpgrade}

@@ -3,7 +3,7 @@ use Rattle.std.proofs.Common.{◌≡◌, ℕ, ◌≢◌, ◌<◌, arith, refl, s
 use Rattle.office_sql.proofs.Kit.{Trees}
 use Rattle.office_sql.proofs.Inserting.{OthersStay}
 use Rattle.office_sql.proofs.Names.{first_by_name, same_table}
-use Rattle.office_sql.specs.Prelude.{OfficeTable, texts, place_of, tree_of}
+use Rattle.office_sql.specs.Prelude.{OfficeTable, site_texts, place_of, tree_of}
 use Rattle.office_store.proofs.Types.{Version, V1a, V3}
 use Rattle.store_inspection.specs.Prelude.{KeepsFirstBut, count_of, first_tables}
 
@@ -13,8 +13,8 @@ first_eight V1a = omega arith
 first_eight _ = omega arith
 
 -- a version before the third hasn't the table of the site's text
-pub not_texts : (version : Version) → version ≢ V3 → (table : OfficeTable) → place_of table < count_of version → table ≢ texts
-not_texts version earlier table low is = omega (arith, at_most version earlier, subst (λ t. place_of t < count_of version) is low)
+pub not_site_texts : (version : Version) → version ≢ V3 → (table : OfficeTable) → place_of table < count_of version → table ≢ site_texts
+not_site_texts version earlier table low is = omega (arith, at_most version earlier, subst (λ t. place_of t < count_of version) is low)
   where
     at_most : (version : Version) → version ≢ V3 → count_of version < 11
     at_most V3 earlier = absurd (earlier refl)

@@ -1,11 +1,11 @@
 -- What a list of writes makes of the devices, and of the places that they take.
 use Rattle.std.proofs.Common.{◌≡◌, ◌+◌, ◌-◌, ◌∷◌}
 use Rattle.text_core.proofs.Kit.{◌∙◌, ℕ, arith, List, [], Option, Some, None, refl, sym, ap, filter_map, find, cons_option, is_eq}
-use Rattle.office_store.proofs.KeepTypes.{OfCustomer, Device, Order, Write, PutSeat, AddOrder, SetCursor, AddMap, AddLink, AddDevice, PutDevice, AddGiven, AddEntry}
-use Rattle.office_store.proofs.KeepTypes.{WrittenDevices, Nothing, One, Several, PlaceCounts}
+use Rattle.office_store.proofs.KeepTypes.{OfCustomer, Device, Order, Write, PutSeat, AddOrder, SetCursor, AddMap, AddLink, AddDevice, PutDevice, AddGiven}
+use Rattle.office_store.proofs.KeepTypes.{AddEntry, WrittenDevices, Nothing, One, Several, PlaceCounts}
 use Rattle.office_tables.specs.Prelude.{place_of_device, device_cmp, is_device, order_at, with_row, with_cursor_of, IsAscending, Tables, Writes, Written}
 use Rattle.office_tables.proofs.Places.{find_device, places, places_put, taken_by}
-use Rattle.office_tables.proofs.Orders.{device_total}
+use Rattle.office_tables.proofs.TotalOrders.{device_total}
 use Rattle.office_store.specs.Prelude.{AreCounts, AreRight, device_written, ArePut, AreTold}
 
 -- a device is put, if there is one
@@ -58,9 +58,9 @@ pub followed : (d : OfCustomer Device) (replaced : Option (OfCustomer Device))
     → AreCounts (λ customer order.
     places customer order rows + place_of_device customer order d - taken_by customer order
     replaced) counts → AreRight after counts
-followed d replaced rows after counts ordered is put right customer order number kept =
+followed d replaced rows after counts ascending is put right customer order number kept =
     let was = right customer order number kept in
-    let moved = places_put customer order device_cmp device_total d rows ordered in
+    let moved = places_put customer order device_cmp device_total d rows ascending in
     let same : taken_by customer order (find (λ y. is_eq (device_cmp d y)) rows)
     ≡ taken_by customer order replaced =
     ap (taken_by customer order) (find_device d.customer d.row.chip rows ∙ sym is) in

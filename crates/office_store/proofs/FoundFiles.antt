@@ -21,8 +21,8 @@ use Rattle.office_store.proofs.FoundVersion.{over, version_found}
 abbrev AreAscending : Trees → Type 0
 AreAscending db = (shapes : ℕ → Shape) × (reals : ℕ → ℕ) × IsListed (db catalog_tree) shapes reals × IsOrdered shapes db
 
-file_order : (size : ℕ) (wanted : List Wanted) (pages : PageMap) → ∥ IsOurs size true wanted pages ∥₁ → AreAscending (file_trees size wanted pages)
-file_order size wanted pages ours = (
+file_ordered : (size : ℕ) (wanted : List Wanted) (pages : PageMap) → ∥ IsOurs size true wanted pages ∥₁ → AreAscending (file_trees size wanted pages)
+file_ordered size wanted pages ours = (
   all_shapes wanted,
   all_reals wanted,
   subst (λ rows. IsListed rows (all_shapes wanted) (all_reals wanted)) (sym (catalog_rows size wanted (in_use size pages))) (is_listed wanted),
@@ -38,7 +38,7 @@ empty_found version db sound none = record {
   schema = refl;
   sound = sound;
   rows = no_office_rows db (λ table _ _. no_row_in db none table);
-  starts = none_found version (over version db) (no_row_in db none);
+  validity = none_found version (over version db) (no_row_in db none);
 }
 
 empty_nothing : (db : Trees) → IsEmpty db → HasNothing db
@@ -48,12 +48,12 @@ empty_nothing db none = has_nothing db (no_row_in db none)
 version_in : (image : Image) (version : Version) (db : Trees) → AreFoundIn image db
     → IsSound (schema_of version) db → HasWhole db → IsFound version (over version db)
 version_in image version db (inl h) sound whole = let it = subst AreAscending (sym h.5)
-    (file_order h.0 h.2 h.1 h.4) in version_found version it.0 it.1 db sound it.2 it.3 whole
+    (file_ordered h.0 h.2 h.1 h.4) in version_found version it.0 it.1 db sound it.2 it.3 whole
 version_in image version db (inr h) sound whole = empty_found version db sound h.1
 
 nothing_in : (image : Image) (db : Trees) → AreFoundIn image db → IsSound no_schema db → IsNoStore db
 nothing_in image db (inl h) sound =
-    let it = subst AreAscending (sym h.5) (file_order h.0 h.2 h.1 h.4) in
+    let it = subst AreAscending (sym h.5) (file_ordered h.0 h.2 h.1 h.4) in
     record { schema = sound; nothing = nothing_found it.0 it.1 db it.2 it.3 sound }
 nothing_in image db (inr h) sound = record { schema = sound; nothing = empty_nothing db h.1 }
 

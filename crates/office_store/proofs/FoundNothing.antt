@@ -1,4 +1,4 @@
--- A database without tables has nothing, one of a version with the number 1 no starts, and one without rows what its version has without them.
+-- A database without tables has nothing, one of a version with the number 1 no validity rows, and one without rows what its version has without them.
 use Rattle.std.proofs.Common.{◌≡◌, ℕ, ◌≢◌, ◌==◌, Bool, true, false, true≢false, List, [], map, refl, ap, subst, sym, ◌∙◌, inl, inr, Ordering, arith}
 use Rattle.std.specs.List.{list_any}
 use Rattle.office_sql.proofs.Kit.{Row, Trees, IsShaped, IsOrdered, Shape, catalog_tree, version_tree, IsListed, IsSound, named_tree, sort_by, Index, Schema}
@@ -6,20 +6,20 @@ use Rattle.office_sql.proofs.Kit.{Database, IsDatabase, Table, Has, some_from}
 use Rattle.sqlite_trees.specs.declared.store.Shape.TheVariants as shape
 use Rattle.office_tables.specs.Prelude.{no_rows, seat_cmp, order_cmp, map_cmp, link_cmp, device_cmp, given_cmp, entry_cmp}
 use Rattle.office_sql.proofs.Names.{tree_low}
-use Rattle.office_sql.specs.Prelude.{OfficeTable, meta, seats, maps, links, orders, devices, given, ledger, order_starts, given_starts, texts, no_schema}
+use Rattle.office_sql.specs.Prelude.{OfficeTable, meta, seats, maps, links, orders, devices, given, ledger, order_starts, given_starts, site_texts, no_schema}
 use Rattle.office_sql.specs.Prelude.{rows_in, tree_of, seat_in_row, map_in_row, link_in_row, order_in_row, device_in_row, given_in_row, entry_in_row}
-use Rattle.office_sql.specs.Prelude.{with_order_start, with_given_start, AreOfficeRows, AreRows, AreStarted, IsOffice, office_schema, starts_given}
-use Rattle.office_sql.specs.Prelude.{starts_order, tables_in}
+use Rattle.office_sql.specs.Prelude.{with_order_not_before, with_given_not_before, AreOfficeRows, AreRows, HaveOneValidityRow, IsOffice, office_schema}
+use Rattle.office_sql.specs.Prelude.{is_validity_of_given, is_validity_of_order, tables_in}
 use Rattle.office_store.proofs.Types.{Version, V1a, V1b, V1, V2, V3}
 use Rattle.office_store.specs.Prelude.{HasNothing}
-use Rattle.store_inspection.specs.Prelude.{AreAllStarted, AreStartsFound, TellsNoStart, meta_in, number_of_version, schema_of}
+use Rattle.store_inspection.specs.Prelude.{HasOneValidityRowEach, AreValidityRowsFound, HasNoValidityRow, meta_in, number_of_version, schema_of}
 
 no_row : {A : Type 0} (Typed : Row → Type 0) (cmp : A → A → Ordering) (value : Row → A) (rows : List Row) → rows ≡ [] → AreRows Typed cmp value rows
 no_row Typed cmp value rows none = subst (AreRows Typed cmp value) (sym none) (record { rising = tt; numbered = tt; typed = tt; keyed = tt })
 
 -- tables without a row, but for those by which a store tells of itself
 abbrev pub HasNoRow : Trees → Type 0
-HasNoRow db = (table : OfficeTable) → table ≢ meta → table ≢ texts → rows_in db table ≡ []
+HasNoRow db = (table : OfficeTable) → table ≢ meta → table ≢ site_texts → rows_in db table ≡ []
 
 -- trees without a row have the office's rows
 pub no_office_rows : (db : Trees) → HasNoRow db → AreOfficeRows db
@@ -37,9 +37,9 @@ no_office_rows db none _ = tt
 pub no_rows_in : (db : Trees) → HasNoRow db → tables_in db ≡ no_rows
 no_rows_in db none i = record {
   seats = sort_by seat_cmp (map seat_in_row (none seats (λ e. cc) (λ e. cc) i));
-  orders = map (with_order_start (rows_in db order_starts)) (sort_by order_cmp (map order_in_row (none orders (λ e. cc) (λ e. cc) i)));
+  orders = map (with_order_not_before (rows_in db order_starts)) (sort_by order_cmp (map order_in_row (none orders (λ e. cc) (λ e. cc) i)));
   devices = sort_by device_cmp (map device_in_row (none devices (λ e. cc) (λ e. cc) i));
-  given = map (with_given_start (rows_in db given_starts)) (sort_by given_cmp (map given_in_row (none given (λ e. cc) (λ e. cc) i)));
+  given = map (with_given_not_before (rows_in db given_starts)) (sort_by given_cmp (map given_in_row (none given (λ e. cc) (λ e. cc) i)));
   maps = sort_by map_cmp (map map_in_row (none maps (λ e. cc) (λ e. cc) i));
   links = sort_by link_cmp (map link_in_row (none links (λ e. cc) (λ e. cc) i));
   ledger = sort_by entry_cmp (map entry_in_row (none ledger (λ e. cc) (λ e. cc) i));
@@ -49,13 +49,13 @@ no_rows_in db none i = record {
 pub has_nothing : (db : Trees) → ((table : OfficeTable) → rows_in db table ≡ []) → HasNothing db
 has_nothing db none = record { tables = no_rows_in db (λ table _ _. none table); silent = ap (map meta_in) (none meta) }
 
--- trees without rows have no starts that lack
-pub no_starts : {A : Type 0} (is_for : A → Row → Bool) (value : Row → A) (rows starts : List Row)
-    → rows ≡ [] → starts ≡ [] → AreStarted is_for value rows starts
-no_starts is_for value rows starts no_row none =
+-- trees without rows have no validity rows that lack
+pub no_validity_rows : {A : Type 0} (is_for : A → Row → Bool) (value : Row → A) (rows validities : List Row)
+    → rows ≡ [] → validities ≡ [] → HaveOneValidityRow is_for value rows validities
+no_validity_rows is_for value rows validities no_row none =
     subst (λ l.
-    AreStarted is_for value l starts) (sym no_row)
-    (subst (AreStarted is_for value []) (sym none) (record {
+    HaveOneValidityRow is_for value l validities) (sym no_row)
+    (subst (HaveOneValidityRow is_for value []) (sym none) (record {
       rising = tt;
       numbered = tt;
       typed =
@@ -70,21 +70,21 @@ empty_office db schema sound none = record {
   schema = schema;
   sound = sound;
   rows = no_office_rows db.trees none;
-  orders_started = no_starts starts_order order_in_row _ _ (none orders (λ e. cc) (λ e. cc)) (none order_starts (λ e. cc) (λ e. cc));
-  given_started = no_starts starts_given given_in_row _ _ (none given (λ e. cc) (λ e. cc)) (none given_starts (λ e. cc) (λ e. cc));
+  order_validity = no_validity_rows is_validity_of_order order_in_row _ _ (none orders (λ e. cc) (λ e. cc)) (none order_starts (λ e. cc) (λ e. cc));
+  given_validity = no_validity_rows is_validity_of_given given_in_row _ _ (none given (λ e. cc) (λ e. cc)) (none given_starts (λ e. cc) (λ e. cc));
 }
 
 -- in tables without a row beginnings of validity are as each version has them
-pub none_found : (version : Version) (db : Database) → ((table : OfficeTable) → rows_in db.trees table ≡ []) → AreStartsFound version db
+pub none_found : (version : Version) (db : Database) → ((table : OfficeTable) → rows_in db.trees table ≡ []) → AreValidityRowsFound version db
 none_found version db none = found version
   where
-    all : AreAllStarted db.trees
+    all : HasOneValidityRowEach db.trees
     all = record {
-      orders = no_starts starts_order order_in_row _ _ (none orders) (none order_starts);
-      given = no_starts starts_given given_in_row _ _ (none given) (none given_starts);
+      orders = no_validity_rows is_validity_of_order order_in_row _ _ (none orders) (none order_starts);
+      given = no_validity_rows is_validity_of_given given_in_row _ _ (none given) (none given_starts);
     }
 
-    found : (version : Version) → AreStartsFound version db
+    found : (version : Version) → AreValidityRowsFound version db
     found V2 = λ _. all
     found V3 = λ _. all
     found _ = (none order_starts, none given_starts)
@@ -118,28 +118,28 @@ module _ (shapes : ℕ → Shape) (reals : ℕ → ℕ) (trees : Trees) (listed 
       empty_at no_schema shapes reals trees sound listed ordered (tree_of table)
       (λ e. omega (arith, tree_low table, e)) (λ e. omega (arith, tree_low table, e)) refl refl refl)
 
-  -- the versions with the number 1 list no starts
-  v1a_unstarted : IsSound (schema_of V1a) trees → TellsNoStart trees
-  v1a_unstarted sound = (
+  -- the versions with the number 1 list no validity rows
+  v1a_without_rows : IsSound (schema_of V1a) trees → HasNoValidityRow trees
+  v1a_without_rows sound = (
     empty_at (schema_of V1a) shapes reals trees sound listed ordered (tree_of order_starts) (λ e. cc) (λ e. cc) refl refl refl,
     empty_at (schema_of V1a) shapes reals trees sound listed ordered (tree_of given_starts) (λ e. cc) (λ e. cc) refl refl refl,
   )
 
-  v1b_unstarted : IsSound (schema_of V1b) trees → TellsNoStart trees
-  v1b_unstarted sound = (
+  v1b_without_rows : IsSound (schema_of V1b) trees → HasNoValidityRow trees
+  v1b_without_rows sound = (
     empty_at (schema_of V1b) shapes reals trees sound listed ordered (tree_of order_starts) (λ e. cc) (λ e. cc) refl refl refl,
     empty_at (schema_of V1b) shapes reals trees sound listed ordered (tree_of given_starts) (λ e. cc) (λ e. cc) refl refl refl,
   )
 
-  v1_unstarted : IsSound (schema_of V1) trees → TellsNoStart trees
-  v1_unstarted sound = (
+  v1_without_rows : IsSound (schema_of V1) trees → HasNoValidityRow trees
+  v1_without_rows sound = (
     empty_at (schema_of V1) shapes reals trees sound listed ordered (tree_of order_starts) (λ e. cc) (λ e. cc) refl refl refl,
     empty_at (schema_of V1) shapes reals trees sound listed ordered (tree_of given_starts) (λ e. cc) (λ e. cc) refl refl refl,
   )
 
-  pub unstarted_found : (version : Version) → number_of_version version ≡ 1 → IsSound (schema_of version) trees → TellsNoStart trees
-  unstarted_found V2 one sound = absurd (omega (arith, one))
-  unstarted_found V3 one sound = absurd (omega (arith, one))
-  unstarted_found V1a one sound = v1a_unstarted sound
-  unstarted_found V1b one sound = v1b_unstarted sound
-  unstarted_found V1 one sound = v1_unstarted sound
+  pub no_validity_found : (version : Version) → number_of_version version ≡ 1 → IsSound (schema_of version) trees → HasNoValidityRow trees
+  no_validity_found V2 one sound = absurd (omega (arith, one))
+  no_validity_found V3 one sound = absurd (omega (arith, one))
+  no_validity_found V1a one sound = v1a_without_rows sound
+  no_validity_found V1b one sound = v1b_without_rows sound
+  no_validity_found V1 one sound = v1_without_rows sound

@@ -17,8 +17,8 @@ use Rattle.office_sql.specs.Prelude.{IsEntryRow}
 use Rattle.store_inspection.specs.Prelude.{HasWhole, IsNotBelow, given_keyed, schema_keyed}
 use Rattle.office_sql.proofs.Kept.{narrowed}
 use Rattle.office_sql.proofs.MapValues.{wholes_cmp}
-use Rattle.store_inspection.proofs.FoundRows.{text_at, blob_at, int_at, text_if_at, whole_of, texts_tie, blobs_tie, wholes_tie, then_ties, entry_ties, last_ties}
-use Rattle.store_inspection.proofs.FoundRows.{rows_found}
+use Rattle.store_inspection.proofs.FoundRows.{text_at, blob_at, int_at, text_if_at, whole_of, texts_tie, blobs_tie, wholes_tie, then_ties, entry_ties}
+use Rattle.store_inspection.proofs.FoundRows.{last_ties, rows_found}
 
 -- ids that are whole numbers are in the order of the rowids
 maps_apart : (a b : Row) → IsMapRow a → IsMapRow b → value_cmp (rowid a) (rowid b) ≡ Less → is_eq (map_cmp (map_in_row a) (map_in_row b)) ≡ false

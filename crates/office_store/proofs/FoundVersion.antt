@@ -5,7 +5,7 @@ use Rattle.office_sql.specs.Prelude.{AreOfficeRows}
 use Rattle.office_store.proofs.Types.{Version, V1a, V1b}
 use Rattle.store_inspection.specs.Prelude.{HasWhole, IsFound, schema_of}
 use Rattle.office_store.proofs.FoundOffice.{rows_of_office}
-use Rattle.office_store.proofs.FoundStarts.{starts_found}
+use Rattle.office_store.proofs.FoundValidity.{validity_found}
 
 -- a database of a version
 abbrev pub over : Version → Trees → Database
@@ -28,4 +28,4 @@ pub version_found : (version : Version) (shapes : ℕ → Shape) (reals : ℕ �
     → IsFound version (over version trees)
 version_found version shapes reals trees sound listed ordered whole =
     let rows = store_inspection shapes reals trees version sound listed ordered whole in
-    record { schema = refl; sound = sound; rows = rows; starts = starts_found version shapes reals trees sound listed ordered rows }
+    record { schema = refl; sound = sound; rows = rows; validity = validity_found version shapes reals trees sound listed ordered rows }

@@ -3,15 +3,15 @@ mod Changing
 mod FoundOffice
 mod FoundNothing
 mod FoundFiles
-mod FoundStarts
+mod FoundValidity
 mod FoundVersion
 mod AddressKept
 mod CreateSteps
 mod CreateTexts
-mod CreateStarts
+mod CreateValidity
 mod CreateRow
 mod Counts
-mod StartsMade
+mod ValidityFilled
 mod Told
 mod Steps
 mod Raising
@@ -34,7 +34,7 @@ mod Types
 pub mod ReadAnswers
 pub mod Committed
 pub mod DevicesPut
-pub mod KeyOrder
+pub mod KeysAscending
 pub mod MadeAnswers
 pub mod MapsStay
 pub mod Numbers

@@ -7,12 +7,12 @@ use Rattle.sqlite.specs.Store.{Ghosts}
 use Rattle.office_tables.specs.Prelude.{Tables}
 use Rattle.office_sql.specs.Prelude.{IsUndone, no_schema, IsOffice, office_over, tables_in}
 use Rattle.office_store.proofs.Types.{Absent, Make, Refuse, OpenFault, Failed, Version, V1, V3}
-use Rattle.office_store.specs.Prelude.{AreUnstarted, CanPrepareTables, CanTake, Examines, IsApartAt, IsFoundAt, IsGrowable, IsOtherSchema, IsRefusedFor}
-use Rattle.office_store.specs.Prelude.{IsPreparedFor, IsTakenFor, LeavesAtMost, PreparesTables, StaysUnstarted, TakesGrowth, TakesOwn, HasGrown, IsGrown}
+use Rattle.office_store.specs.Prelude.{AreWithoutNotBefore, CanPrepareTables, CanTake, Examines, IsApartAt, IsFoundAt, IsGrowable, IsOtherSchema, IsRefusedFor}
+use Rattle.office_store.specs.Prelude.{IsPreparedFor, IsTakenFor, LeavesAtMost, PreparesTables, StaysWithoutNotBefore, TakesGrowth, TakesOwn, HasGrown, IsGrown}
 use Rattle.office_store.specs.Prelude.{IsBegun, IsCreated, HasSchema, IsNoStore, IsStore, IsTaken, LacksStore, IsGrownFrom, IsUntouched, IsUpgrade, IsUpgraded}
-use Rattle.store_inspection.specs.Prelude.{HasApartAddresses, IsFound, Tests, HoldsSite, HasMeta, HoldsText, schema_of}
+use Rattle.store_inspection.specs.Prelude.{HasApartAddresses, IsFound, Tests, HoldsSite, HasMeta, HoldsSiteText, schema_of}
 use Rattle.office_sql.proofs.Asked.{was_clean}
-use Rattle.office_store.proofs.FoundStarts.{office_of, starts_of}
+use Rattle.office_store.proofs.FoundValidity.{office_of, without_not_before_of}
 use Rattle.office_store.proofs.AddressKept.{apart_grown, apart_if_none, apart_upgraded}
 use Rattle.office_store.proofs.Telling.{not_silent, not_v3, site_once}
 use Rattle.store_inspection.proofs.TextShows.{one_text}
@@ -59,7 +59,7 @@ never_earlier : (own text : List ℕ) (db : Trees) → HoldsSite text db → Tak
 never_earlier own text db tells version other earlier told = absurd (not_v3 version other (sha256 text) db earlier told tells.named)
 
 -- a store of the third version isn't one of the first, whose tables have no beginning of validity
-never_first : (text : List ℕ) (db : Trees) (t : Tables) → HoldsSite text db → StaysUnstarted db t
+never_first : (text : List ℕ) (db : Trees) (t : Tables) → HoldsSite text db → StaysWithoutNotBefore db t
 never_first text db t tells site told = absurd (not_v3 V1 site (sha256 text) db (λ e. cc) told tells.named)
 
 -- a database of a version lists that version's schema
@@ -108,7 +108,7 @@ leaves_upgraded site version old new earlier found told survives = survives_weak
 
 -- what a growth may leave: the tables of the store, with the new text
 leaves_grown : (site : TextOfSite) (old new : State) → IsFoundAt V3 old → (HasCleanDisk old → IsGrowable site.site old.now)
-    → (HasCleanDisk old → ¬ HoldsText site.text old.now.trees)
+    → (HasCleanDisk old → ¬ HoldsSiteText site.text old.now.trees)
     → Survives old new (λ trees. IsTrue old.is_open × IsGrown site.text old.now.trees (office_over trees))
     → Survives old new (IsPreparedFor site old)
 leaves_grown site old new found can other survives = survives_weaker _ _ _ _ (λ clean db made.
@@ -117,7 +117,7 @@ leaves_grown site old new found can other survives = survives_weaker _ _ _ _ (λ
     inr (inr (
       subst (HasSchema (schema_of V3)) same (lists_schema V3 old.now (found.found calm)),
       subst (CanTake site.site) same (can calm).1,
-      subst (λ t. ¬ HoldsText site.text t) same (other calm),
+      subst (λ t. ¬ HoldsSiteText site.text t) same (other calm),
       subst (λ t. IsGrown site.text t (office_over db)) same made.1,
     ))) survives
 
@@ -150,7 +150,7 @@ module _ {S : Type 0} (g : Ghosts S) (site : TextOfSite) (old new : Held S) (cal
             own = λ version other earlier told. absurd (not_silent version other (state g old).now.trees none.silent told);
             apart = apart_if_none (state g new).now.trees fresh.tables;
             tables = fresh.tables ∙ sym none.tables;
-            unstarted = λ other told. subst AreUnstarted (sym fresh.tables) (tt, tt);
+            without_not_before = λ other told. subst AreWithoutNotBefore (sym fresh.tables) (tt, tt);
           };
       refused = tt;
       unchanged = λ clean. tt;
@@ -203,8 +203,8 @@ module _ {S : Type 0} (g : Ghosts S) (site : TextOfSite) (old new : Held S) (cal
             own = λ version2 other earlier2 is. site_once version2 version other (sha256 site.text) (state g old).now.trees is (told before);
             apart = apart_upgraded version site.text (state g old).now.trees (state g new).now upgrade (apart before);
             tables = upgrade.tables;
-            unstarted = λ other is. subst AreUnstarted (sym upgrade.tables)
-                (starts_of version (sha256 site.text) (state g old).now (found.found before) earlier (told before) other is);
+            without_not_before = λ other is. subst AreWithoutNotBefore (sym upgrade.tables)
+                (without_not_before_of version (sha256 site.text) (state g old).now (found.found before) earlier (told before) other is);
           };
       refused = tt;
       unchanged = λ clean. tt;
@@ -229,7 +229,7 @@ module _ {S : Type 0} (g : Ghosts S) (site : TextOfSite) (old new : Held S) (cal
     own = never_earlier site.text take.0 before take.1;
     apart = apart;
     tables = tables;
-    unstarted = never_first take.0 before (tables_in now) take.1;
+    without_not_before = never_first take.0 before (tables_in now) take.1;
   }
 
   module _ (found : IsFoundAt V3 (state g old)) (apart : IsApartAt (state g old)) (can : HasCleanDisk (state g old)
@@ -237,7 +237,7 @@ module _ {S : Type 0} (g : Ghosts S) (site : TextOfSite) (old new : Held S) (cal
     v3_store : HasCleanDisk (state g old) → IsStore (state g old).now.trees
     v3_store clean = let take = (can clean).1 in store_of V3 (sha256 take.0) (state g old).now (found.found clean) take.1.named
 
-    module _ (other : HasCleanDisk (state g old) → ¬ HoldsText site.text (state g old).now.trees)
+    module _ (other : HasCleanDisk (state g old) → ¬ HoldsSiteText site.text (state g old).now.trees)
         (survives : Survives (state g old) (state g new) (λ trees. IsTrue (state g old).is_open
         × IsGrown site.text (state g old).now.trees (office_over trees))) where
       before_growth : HasCleanDisk (state g new) → HasCleanDisk (state g old)
@@ -267,13 +267,13 @@ module _ {S : Type 0} (g : Ghosts S) (site : TextOfSite) (old new : Held S) (cal
           (leaves_grown site (state g old) (state g new) found can other survives)
 
     -- whether the text is there was asked
-    module _ (r : Result Bool Error) (tests : Tests g old new r (λ db same. IsTrue same ↔ HoldsText site.text db)) where
+    module _ (r : Result Bool Error) (tests : Tests g old new r (λ db same. IsTrue same ↔ HoldsSiteText site.text db)) where
       before_test : HasCleanDisk (state g new) → HasCleanDisk (state g old)
       before_test = was_clean (state g old) (state g new) _ tests.crash
 
     -- a store that has the text already is prepared as it is
     pub has_it : (answer : Bool) → IsTrue answer
-        → Tests {E = Error} g old new (Ok answer) (λ db same. IsTrue same ↔ HoldsText site.text db)
+        → Tests {E = Error} g old new (Ok answer) (λ db same. IsTrue same ↔ HoldsSiteText site.text db)
         → PreparesTables g site old new (Ok tt)
     has_it answer is tests =
         let before = before_test (Ok answer) tests in
@@ -303,7 +303,7 @@ module _ {S : Type 0} (g : Ghosts S) (site : TextOfSite) (old new : Held S) (cal
 
     -- a store that couldn't be asked for the text is refused by a failure
     pub not_asked : (error : Error)
-        → Tests {A = Bool} g old new (Err error) (λ db same. IsTrue same ↔ HoldsText site.text db)
+        → Tests {A = Bool} g old new (Err error) (λ db same. IsTrue same ↔ HoldsSiteText site.text db)
         → PreparesTables g site old new (Err Failed)
     not_asked error tests =
         let before = before_test (Err error) tests in

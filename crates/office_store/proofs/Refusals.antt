@@ -7,9 +7,10 @@ use Rattle.site_core.specs.Prelude.{TextOfSite}
 use Rattle.office_sql.proofs.Kit.{Row, Database, Held, state, HasCleanDisk, IsUnchanged, Trees, Error, survives_then, unchanged_then}
 use Rattle.sqlite.specs.Store.{Ghosts}
 use Rattle.office_store.proofs.Types.{OpenFault, OtherSite, OtherTables, Failed, Meta, Version, V1a, V1b, V1, V3}
-use Rattle.office_store.specs.Prelude.{AreStartsAsked, CanTake, Examines, HasOtherRows, HasOtherTables, IsFoundAt, IsOfOtherSite, IsOther, IsShownText}
+use Rattle.office_store.specs.Prelude.{AreValidityRowsAsked, CanTake, Examines, HasOtherRows, HasOtherTables, IsFoundAt, IsOfOtherSite, IsOther, IsShownText}
 use Rattle.office_store.specs.Prelude.{IsGrownFrom, ShowsSame, TellsOther, result_of_test}
-use Rattle.store_inspection.specs.Prelude.{HasStarts, IsFound, Tests, meta_of_version, metas_in, IsMetaOf, HasMeta, ShowTexts, number_of_version, schema_of}
+use Rattle.store_inspection.specs.Prelude.{HasValidityRows, IsFound, Tests, meta_of_version, metas_in, IsMetaOf, HasMeta, ShowSiteTexts, number_of_version}
+use Rattle.store_inspection.specs.Prelude.{schema_of}
 use Rattle.office_sql.proofs.Asked.{was_clean}
 use Rattle.store_inspection.proofs.FoundAsked.{rests_then, still_found}
 use Rattle.store_inspection.proofs.MetaShows.{no_site}
@@ -29,7 +30,7 @@ is_other site _ db earlier other = other
 
 -- in a store of an earlier version and this site in which beginnings of validity are told, they are asked for
 pub are_asked : (site : List ℕ) (version : Version) (db : Trees) → version ≢ V3 → number_of_version version ≢ 1
-    → HasMeta version site db → AreStartsAsked site version db
+    → HasMeta version site db → AreValidityRowsAsked site version db
 are_asked site V1a db earlier later told = absurd (later refl)
 are_asked site V1b db earlier later told = absurd (later refl)
 are_asked site V1 db earlier later told = absurd (later refl)
@@ -222,10 +223,10 @@ module _ {S : Type 0} (g : Ghosts S) (site : TextOfSite) (old new : Held S)
   -- the text that the store tells of was read and judged
   module _ (third : version ≡ V3) (read : Option Meta
       × Vec Row Global) (tests : Tests {E = Error} g old new (Ok read) (λ db it.
-      IsMetaOf (metas_in db) it.0 × ShowTexts db it.1.items)) where
-    after : HasCleanDisk (state g new) → IsMetaOf (metas_in (state g new).now.trees) read.0 × ShowTexts (state g new).now.trees read.1.items
+      IsMetaOf (metas_in db) it.0 × ShowSiteTexts db it.1.items)) where
+    after : HasCleanDisk (state g new) → IsMetaOf (metas_in (state g new).now.trees) read.0 × ShowSiteTexts (state g new).now.trees read.1.items
     after clean = subst (λ (d : Database). IsMetaOf (metas_in d.trees) read.0
-        × ShowTexts d.trees read.1.items) (sym (same_trees read _ tests clean)) (tests.answer clean)
+        × ShowSiteTexts d.trees read.1.items) (sym (same_trees read _ tests clean)) (tests.answer clean)
 
     is_v3 : HasCleanDisk (state g new) → (state g new).now.schema ≡ schema_of V3
     is_v3 clean = schema_after read _ tests clean ∙ ap schema_of third
@@ -252,15 +253,15 @@ module _ {S : Type 0} (g : Ghosts S) (site : TextOfSite) (old new : Held S)
 module _ {S : Type 0} (g : Ghosts S) (site : TextOfSite) (old mid new : Held S) (calm : IsTrue (state g new).is_open → HasCleanDisk (state g new))
     (shows_committed : HasCleanDisk (state g old) → (state g old).now ≡ (state g old).committed) where
   -- beginnings of validity were asked for behind what was known
-  pub starts_asked : (version : Version) (Known Whole : Database → Type 0) → Examines g site old mid (Ok tt) Known
-      → ((db : Database) → Known db → IsFound version db × AreStartsAsked (sha256 site.text) version db.trees)
-      → ((db : Database) → Known db → HasStarts db.trees → Whole db)
-      → (r : Result Bool Error) → Tests g mid new r (λ db has. IsTrue has ↔ HasStarts db)
+  pub validity_asked : (version : Version) (Known Whole : Database → Type 0) → Examines g site old mid (Ok tt) Known
+      → ((db : Database) → Known db → IsFound version db × AreValidityRowsAsked (sha256 site.text) version db.trees)
+      → ((db : Database) → Known db → HasValidityRows db.trees → Whole db)
+      → (r : Result Bool Error) → Tests g mid new r (λ db has. IsTrue has ↔ HasValidityRows db)
       → (told : Result (Unit {0}) OpenFault) → told ≡ result_of_test r → Examines g site old new told Whole
-  starts_asked version Known Whole one known whole r tests told is =
+  validity_asked version Known Whole one known whole r tests told is =
       let found = found_after g site old mid Known version one shows_committed (λ clean it. (known (state g old).now it).0) in
-      examines_then g site old mid new told Known (λ (db : Database). HasStarts db.trees) Whole one
-      (answered g site mid new calm version found.mode found.shows_committed (λ clean. (found.found clean).schema) HasStarts
-      (λ (db : Database). HasStarts db.trees) (λ clean has. has)
+      examines_then g site old mid new told Known (λ (db : Database). HasValidityRows db.trees) Whole one
+      (answered g site mid new calm version found.mode found.shows_committed (λ clean. (found.found clean).schema) HasValidityRows
+      (λ (db : Database). HasValidityRows db.trees) (λ clean has. has)
       (λ clean lacks. inr (inr (inl ((known (state g mid).now (says_of g site old mid Known one clean)).1, lacks))))
       r tests told is) (λ clean it has. whole (state g old).now it has)

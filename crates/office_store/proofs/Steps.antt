@@ -4,15 +4,15 @@ use Rattle.std.specs.List.{AllByRecursion}
 use Rattle.office_sql.proofs.Kit.{Null, column, Database, State, Trees, sort_by}
 use Rattle.office_tables.specs.Prelude.{seat_cmp, order_cmp, map_cmp, link_cmp, device_cmp, given_cmp, entry_cmp}
 use Rattle.office_sql.proofs.Names.{first_by_name}
-use Rattle.office_sql.specs.Prelude.{OfficeTable, meta, seats, maps, links, orders, devices, given, ledger, order_starts, given_starts, texts, seat_in_row}
-use Rattle.office_sql.specs.Prelude.{map_in_row, link_in_row, order_in_row, device_in_row, given_in_row, entry_in_row, starts_order, starts_given}
-use Rattle.office_sql.specs.Prelude.{with_order_start, with_given_start, rows_in, place_of, AreOfficeRows, AreRows, AreStarted, tables_in, IsSeatRow, IsMapRow}
-use Rattle.office_sql.specs.Prelude.{IsLinkRow, IsOrderRow, IsDeviceRow, IsGivenRow, IsEntryRow}
-use Rattle.office_store.proofs.StartsMade.{silent_start}
+use Rattle.office_sql.specs.Prelude.{OfficeTable, meta, seats, maps, links, orders, devices, given, ledger, order_starts, given_starts, site_texts, seat_in_row}
+use Rattle.office_sql.specs.Prelude.{map_in_row, link_in_row, order_in_row, device_in_row, given_in_row, entry_in_row, is_validity_of_order}
+use Rattle.office_sql.specs.Prelude.{is_validity_of_given, with_order_not_before, with_given_not_before, rows_in, place_of, AreOfficeRows, AreRows}
+use Rattle.office_sql.specs.Prelude.{HaveOneValidityRow, tables_in, IsSeatRow, IsMapRow, IsLinkRow, IsOrderRow, IsDeviceRow, IsGivenRow, IsEntryRow}
+use Rattle.office_store.proofs.ValidityFilled.{silent_not_before}
 use Rattle.office_store.proofs.Types.{Version, V1a, V1b, V1, V2, V3}
-use Rattle.office_store.specs.Prelude.{CanUpgrade, GainsNone, GainsNoStart, GainsStarts, GainsText, IsAt, IsFilled, IsRaised, IsRemade, IsStep}
-use Rattle.office_store.specs.Prelude.{LacksGivenStarts, LacksOrderStarts, tables_at}
-use Rattle.store_inspection.specs.Prelude.{IsBeforeV1, IsFound, KeepsFirst, Sees, TellsNoStart, count_of, next_version, rows_at}
+use Rattle.office_store.specs.Prelude.{CanUpgrade, GainsNone, GainsSilentRows, GainsValidityTables, GainsText, IsAt, IsFilled, IsRaised, IsRemade, IsStep}
+use Rattle.office_store.specs.Prelude.{LacksGivenValidity, LacksOrderValidity, tables_at}
+use Rattle.store_inspection.specs.Prelude.{IsBeforeV1, IsFound, KeepsFirst, Sees, HasNoValidityRow, count_of, next_version, rows_at}
 use Rattle.office_store.proofs.Counts.{first_eight}
 
 -- the rows of a table that a version has are those of the database
@@ -39,8 +39,8 @@ module _ (old new : Trees) (same : KeepsFirst 8 old new) where
       ∙ sym (at_first version old table (omega (arith, low, first_eight version)))
 
   -- the tables say what they said, if the beginnings of validity do
-  tables_same : (version later : Version) → with_order_start (rows_at later new order_starts) ≡ with_order_start (rows_at version old order_starts)
-      → with_given_start (rows_at later new given_starts) ≡ with_given_start (rows_at version old given_starts)
+  tables_same : (version later : Version) → with_order_not_before (rows_at later new order_starts) ≡ with_order_not_before (rows_at version old order_starts)
+      → with_given_not_before (rows_at later new given_starts) ≡ with_given_not_before (rows_at version old given_starts)
       → tables_at later new ≡ tables_at version old
   tables_same version later of_orders of_given i = record {
     seats = sort_by seat_cmp (map seat_in_row (same_at version later seats (omega arith) i));
@@ -63,7 +63,7 @@ stepped version next x y is raised later also = subst (λ v. IsRaised version v 
 
 module _ (x y : Database) (rows : AreOfficeRows x.trees) (it : IsRemade x y) where
   first_is : IsAt V1 y
-  first_is = record { schema = it.tables.0; sound = it.tables.1; rows = office_rows x.trees y.trees it.rows rows; starts = tt }
+  first_is = record { schema = it.tables.0; sound = it.tables.1; rows = office_rows x.trees y.trees it.rows rows; validity = tt }
 
   pub step_before_v1 : (version : Version) → IsBeforeV1 version → IsStep version x y
   step_before_v1 V1a early = stepped V1a V1 x y refl (record {
@@ -83,37 +83,38 @@ module _ (x y : Database) (rows : AreOfficeRows x.trees) (it : IsRemade x y) whe
 -- ---- from the first
 
 -- records are not filled with orders
-pub still_lacks_given : (y mid : Database) → GainsNone starts_order order_in_row orders order_starts y mid → LacksGivenStarts y → LacksGivenStarts mid
+pub still_lacks_given : (y mid : Database) → GainsNone is_validity_of_order order_in_row orders order_starts y mid → LacksGivenValidity y
+    → LacksGivenValidity mid
 still_lacks_given y mid fills lacks = record {
   schema = fills.schema;
   rows = subst (AreRows IsGivenRow given_cmp given_in_row) (sym (fills.others given (omega arith) (λ e. cc))) lacks.rows;
   none = fills.others given_starts (omega arith) (λ e. cc) ∙ lacks.none;
 }
 
-module _ (x y : Database) (rows : AreOfficeRows x.trees) (gains : GainsStarts x y) where
+module _ (x y : Database) (rows : AreOfficeRows x.trees) (gains : GainsValidityTables x y) where
   first_stand : KeepsFirst 8 x.trees y.trees
   first_stand = first_by_name (λ t. y.trees t.tree ≡ x.trees t.tree) 8 gains.others
 
   -- once the tables are made, they can be filled
-  pub lacks_orders : LacksOrderStarts y
+  pub lacks_orders : LacksOrderValidity y
   lacks_orders = record {
     schema = gains.schema;
     rows = subst (AreRows IsOrderRow order_cmp order_in_row) (sym (first_stand orders (omega arith))) (rows orders);
     none = gains.orders;
   }
 
-  pub lacks_given : LacksGivenStarts y
+  pub lacks_given : LacksGivenValidity y
   lacks_given = record {
     schema = gains.schema;
     rows = subst (AreRows IsGivenRow given_cmp given_in_row) (sym (first_stand given (omega arith))) (rows given);
     none = gains.given;
   }
 
-  module _ (z : Database) (fills : GainsNoStart y z) where
+  module _ (z : Database) (fills : GainsSilentRows y z) where
     abbrev mid : Database
     mid = fills.mid
 
-    -- what is filled are the starts alone
+    -- what is filled are the tables of validity rows alone
     others_stand : (table : OfficeTable) → place_of table < 8 → rows_in z.trees table ≡ rows_in y.trees table
     others_stand table low =
         fills.given.others table (omega (arith, low)) (λ e. omega (arith, subst (λ t. place_of t < 8) e low))
@@ -122,18 +123,18 @@ module _ (x y : Database) (rows : AreOfficeRows x.trees) (gains : GainsStarts x 
     rows_stand : KeepsFirst 8 x.trees z.trees
     rows_stand table low = others_stand table low ∙ first_stand table low
 
-    starts_stand : rows_in z.trees order_starts ≡ rows_in mid.trees order_starts
-    starts_stand = fills.given.others order_starts (omega arith) (λ e. cc)
+    validity_rows_stand : rows_in z.trees order_starts ≡ rows_in mid.trees order_starts
+    validity_rows_stand = fills.given.others order_starts (omega arith) (λ e. cc)
 
-    -- starts that say nothing say as much as none
-    no_order_starts : with_order_start (rows_in z.trees order_starts) ≡ with_order_start []
-    no_order_starts i o =
-        let silent = subst (AllByRecursion (λ s. column s 3 ≡ Null)) (sym starts_stand) fills.orders.silent in
-        record o { row = record o.row { not_before = silent_start starts_order (rows_in z.trees order_starts) o silent i } }
+    -- validity rows with NULL say as much as none
+    no_order_validity : with_order_not_before (rows_in z.trees order_starts) ≡ with_order_not_before []
+    no_order_validity i o =
+        let silent = subst (AllByRecursion (λ s. column s 3 ≡ Null)) (sym validity_rows_stand) fills.orders.silent in
+        record o { row = record o.row { not_before = silent_not_before is_validity_of_order (rows_in z.trees order_starts) o silent i } }
 
-    no_given_starts : with_given_start (rows_in z.trees given_starts) ≡ with_given_start []
-    no_given_starts i o = record o {
-      row = record o.row { not_before = silent_start starts_given (rows_in z.trees given_starts) o fills.given.silent i };
+    no_given_validity : with_given_not_before (rows_in z.trees given_starts) ≡ with_given_not_before []
+    no_given_validity i o = record o {
+      row = record o.row { not_before = silent_not_before is_validity_of_given (rows_in z.trees given_starts) o fills.given.silent i };
     }
 
     pub v1_step : IsStep V1 x z
@@ -142,14 +143,14 @@ module _ (x y : Database) (rows : AreOfficeRows x.trees) (gains : GainsStarts x 
         schema = fills.given.schema;
         sound = fills.given.sound;
         rows = office_rows x.trees z.trees rows_stand rows;
-        starts = record {
-          orders = subst₂ (AreStarted starts_order order_in_row)
-              (sym (others_stand orders (omega arith))) (sym starts_stand) fills.orders.started;
-          given = subst (λ l. AreStarted starts_given given_in_row l (rows_in z.trees given_starts))
-              (sym (fills.given.others given (omega arith) (λ e. cc))) fills.given.started;
+        validity = record {
+          orders = subst₂ (HaveOneValidityRow is_validity_of_order order_in_row)
+              (sym (others_stand orders (omega arith))) (sym validity_rows_stand) fills.orders.validity;
+          given = subst (λ l. HaveOneValidityRow is_validity_of_given given_in_row l (rows_in z.trees given_starts))
+              (sym (fills.given.others given (omega arith) (λ e. cc))) fills.given.validity;
         };
       };
-      tables = tables_same x.trees z.trees rows_stand V1 V2 no_order_starts no_given_starts;
+      tables = tables_same x.trees z.trees rows_stand V1 V2 no_order_validity no_given_validity;
       rows = rows_stand;
       none = λ _. refl;
     })
@@ -167,12 +168,12 @@ v2_step x z at gains =
         schema = gains.schema;
         sound = gains.sound;
         rows = office_rows x.trees z.trees first at.rows;
-        starts = record {
-          orders = subst₂ (AreStarted starts_order order_in_row) (sym (same orders (omega arith))) (sym of_orders) at.starts.orders;
-          given = subst₂ (AreStarted starts_given given_in_row) (sym (same given (omega arith))) (sym of_given) at.starts.given;
+        validity = record {
+          orders = subst₂ (HaveOneValidityRow is_validity_of_order order_in_row) (sym (same orders (omega arith))) (sym of_orders) at.validity.orders;
+          given = subst₂ (HaveOneValidityRow is_validity_of_given given_in_row) (sym (same given (omega arith))) (sym of_given) at.validity.given;
         };
       };
-      tables = tables_same x.trees z.trees first V2 V3 (ap with_order_start of_orders) (ap with_given_start of_given);
+      tables = tables_same x.trees z.trees first V2 V3 (ap with_order_not_before of_orders) (ap with_given_not_before of_given);
       rows = same;
       none = λ _. gains.none;
     })
@@ -236,19 +237,19 @@ raised_on version at next fewer x y z first second = record {
 pub is_at : (version : Version) (s : State) → CanUpgrade version s → Sees (IsAt version) s
 is_at V2 s can up =
     let found = can.found up in
-    record { schema = found.schema; sound = found.sound; rows = found.rows; starts = found.starts (can.started (λ e. omega (arith, e)) up) }
+    record { schema = found.schema; sound = found.sound; rows = found.rows; validity = found.validity (can.validity (λ e. omega (arith, e)) up) }
 is_at V3 s can up = absurd (can.earlier refl)
 is_at version s can up =
     let found = can.found up in
-    record { schema = found.schema; sound = found.sound; rows = found.rows; starts = tt }
+    record { schema = found.schema; sound = found.sound; rows = found.rows; validity = tt }
 
 -- where no beginning of validity is told, the tables of a version with the number 1 say what those of the office do
-untold : (db : Trees) → TellsNoStart db → tables_at V1 db ≡ tables_in db
+untold : (db : Trees) → HasNoValidityRow db → tables_at V1 db ≡ tables_in db
 untold db none i = record {
   seats = sort_by seat_cmp (map seat_in_row (rows_in db seats));
-  orders = map (with_order_start (sym none.0 i)) (sort_by order_cmp (map order_in_row (rows_in db orders)));
+  orders = map (with_order_not_before (sym none.0 i)) (sort_by order_cmp (map order_in_row (rows_in db orders)));
   devices = sort_by device_cmp (map device_in_row (rows_in db devices));
-  given = map (with_given_start (sym none.1 i)) (sort_by given_cmp (map given_in_row (rows_in db given)));
+  given = map (with_given_not_before (sym none.1 i)) (sort_by given_cmp (map given_in_row (rows_in db given)));
   maps = sort_by map_cmp (map map_in_row (rows_in db maps));
   links = sort_by link_cmp (map link_in_row (rows_in db links));
   ledger = sort_by entry_cmp (map entry_in_row (rows_in db ledger));
@@ -257,12 +258,12 @@ untold db none i = record {
 found_tables : (version : Version) (x : Database) → IsFound version x → tables_at version x.trees ≡ tables_in x.trees
 found_tables V2 x found = refl
 found_tables V3 x found = refl
-found_tables version x found = untold x.trees found.starts
+found_tables version x found = untold x.trees found.validity
 
 -- an earlier version has no text of the site
-no_texts : (version : Version) → version ≢ V3 → (db : Trees) → rows_at version db texts ≡ []
-no_texts V3 earlier db = absurd (earlier refl)
-no_texts _ earlier db = refl
+no_site_texts : (version : Version) → version ≢ V3 → (db : Trees) → rows_at version db site_texts ≡ []
+no_site_texts V3 earlier db = absurd (earlier refl)
+no_site_texts _ earlier db = refl
 
 -- all is as the office has it, and says what it said
 pub filled : (version : Version) → version ≢ V3 → (x z : Database) → IsFound version x → IsRaised version V3 x z → IsFilled version x z
@@ -271,10 +272,10 @@ filled version earlier x z found raised = record {
     schema = raised.is.schema;
     sound = raised.is.sound;
     rows = raised.is.rows;
-    orders_started = raised.is.starts.orders;
-    given_started = raised.is.starts.given;
+    order_validity = raised.is.validity.orders;
+    given_validity = raised.is.validity.given;
   };
   tables = raised.tables ∙ found_tables version x found;
   rows = raised.rows;
-  none = raised.none (no_texts version earlier x.trees);
+  none = raised.none (no_site_texts version earlier x.trees);
 }

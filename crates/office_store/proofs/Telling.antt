@@ -5,7 +5,7 @@ use Rattle.sha2.proofs.Facts256.{length-sha256}
 use Rattle.office_sql.proofs.Kit.{Row, Trees}
 use Rattle.office_store.proofs.Types.{Meta, Version, V3}
 use Rattle.office_store.specs.Prelude.{IsShownText, new_meta}
-use Rattle.store_inspection.specs.Prelude.{metas_in, HoldsSite, IsMetaOf, HasMeta, ShowTexts, number_of_version}
+use Rattle.store_inspection.specs.Prelude.{metas_in, HoldsSite, IsMetaOf, HasMeta, ShowSiteTexts, number_of_version}
 use Rattle.store_inspection.proofs.TextShows.{shown_text}
 
 schema_in : List Meta → ℕ
@@ -39,7 +39,7 @@ not_silent version site db silent told = let e = sym silent ∙ told in absurd (
 
 -- rows that show a text beside the row of meta that names it are those of a store that tells of it
 pub shown_tells : (text : List ℕ) (db : Trees) (meta : Option Meta) (rows : List Row)
-    → IsMetaOf (metas_in db) meta × ShowTexts db rows → IsShownText text rows meta
+    → IsMetaOf (metas_in db) meta × ShowSiteTexts db rows → IsShownText text rows meta
     → HoldsSite text db
 shown_tells text db meta rows it shown = record {
   holds = (shown_text text db rows it.1).0 shown.0;
@@ -48,7 +48,7 @@ shown_tells text db meta rows it shown = record {
 
 -- the rows of a store that tells of a text show it, beside the row of meta that names it
 pub tells_shown : (text : List ℕ) (db : Trees) (meta : Option Meta) (rows : List Row)
-    → IsMetaOf (metas_in db) meta × ShowTexts db rows → HoldsSite text db
+    → IsMetaOf (metas_in db) meta × ShowSiteTexts db rows → HoldsSite text db
     → IsShownText text rows meta
 tells_shown text db meta rows it tells = ((shown_text text db rows it.1).1 tells.holds, named meta it.0)
   where

@@ -4,7 +4,7 @@ use Rattle.office_sql.proofs.Kit.{Null, Int, Row, column, rowid, Term, lit, col,
 use Rattle.sqlite.specs.declared.types.Value.TheVariants.{Text as Words, Blob as Bytes}
 use Rattle.sqlite.specs.Listing.{understood}
 use Rattle.sqlite_tied.specs.Compute.{everything}
-use Rattle.office_sql.specs.Prelude.{meta, texts, office_schema, rows_in, passing, Replaces}
+use Rattle.office_sql.specs.Prelude.{meta, site_texts, office_schema, rows_in, passing, Replaces}
 use Rattle.office_store.specs.declared.upgrade.TheConstants.{UPDATE_OF_SCHEMA}
 use Rattle.office_store.specs.declared.grow.TheConstants.{UPDATE_OF_SITE, UPDATE_OF_SITE_TEXT}
 use Rattle.office_sql.proofs.Stepping.{cast_null, cast_int}
@@ -65,18 +65,18 @@ named r number site old new count has one id is ran =
 abbrev write_shown : List Term
 write_shown = col 1 0 ∷ col 1 0 ∷ lit Null ∷ col 0 0 ∷ []
 
-write_update : IsUpdate UPDATE_OF_SITE_TEXT.now texts first_tests write_shown
+write_update : IsUpdate UPDATE_OF_SITE_TEXT.now site_texts first_tests write_shown
 unfolding understood everything
 write_update = record { is = refl; plain = (refl, refl); there = refl; same = λ db. refl }
 
 -- where the text of the site has one row, with this rowid, its body is the parameter now
-pub written : (r : Row) (text : List ℕ) (old new : State) (count : ℕ) → old.now.schema ≡ office_schema → rows_in old.now.trees texts ≡ r ∷ []
+pub written : (r : Row) (text : List ℕ) (old new : State) (count : ℕ) → old.now.schema ≡ office_schema → rows_in old.now.trees site_texts ≡ r ∷ []
     → rowid r ≡ Int (pos 1)
-    → Executes UPDATE_OF_SITE_TEXT.now (Words text ∷ []) old new (Ok count) → Replaces texts (pos 1) (Null ∷ Words text ∷ []) old.now new.now × (count ≡ 1)
+    → Executes UPDATE_OF_SITE_TEXT.now (Words text ∷ []) old new (Ok count) → Replaces site_texts (pos 1) (Null ∷ Words text ∷ []) old.now new.now × (count ≡ 1)
 written r text old new count has one id ran =
     let params : Row = Words text ∷ [] in
     let columns : Row = Null ∷ Words text ∷ [] in
-    replaces UPDATE_OF_SITE_TEXT.now texts first_tests write_shown write_update params old new count has ran r (Int (pos 1) ∷ columns) columns (pos 1)
+    replaces UPDATE_OF_SITE_TEXT.now site_texts first_tests write_shown write_update params old new count has ran r (Int (pos 1) ∷ columns) columns (pos 1)
     (ap (passing first_tests params) one ∙ one_passes params r id)
     (ap (λ v. v ∷ v ∷ Null ∷ Words text ∷ []) id)
     (rw (cast_int (pos 1), cast_null) refl)

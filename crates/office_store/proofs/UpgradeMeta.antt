@@ -4,13 +4,13 @@ use Rattle.std.proofs.lemmas.Cmp.{tied_itself}
 use Rattle.office_sql.proofs.Kit.{Value, Null, Int, Real, Row, column, bytes, Trees, has_rowid, put_row, rowid, without_rowid, State, Executes, value_cmp_total}
 use Rattle.sqlite.specs.declared.types.Value.TheVariants.{Text as Words, Blob as Bytes}
 use Rattle.sqlite.specs.Order.{value_cmp}
-use Rattle.office_sql.specs.Prelude.{meta, texts, office_schema, rows_in, number_in_cell}
+use Rattle.office_sql.specs.Prelude.{meta, site_texts, office_schema, rows_in, number_in_cell}
 use Rattle.office_store.proofs.Told.{told, named, written}
 use Rattle.office_store.proofs.Types.{Meta, Version, V3}
 use Rattle.office_store.specs.Prelude.{ReplacesName, PutsText, TellsItself, TellsV3}
 use Rattle.office_store.specs.declared.upgrade.TheConstants.{UPDATE_OF_SCHEMA}
 use Rattle.office_store.specs.declared.grow.TheConstants.{UPDATE_OF_SITE, UPDATE_OF_SITE_TEXT}
-use Rattle.store_inspection.specs.Prelude.{meta_in, meta_of_version, HasMeta, HoldsText}
+use Rattle.store_inspection.specs.Prelude.{meta_in, meta_of_version, HasMeta, HoldsSiteText}
 
 -- the row that is there alone
 abbrev IsAlone : List Row → Meta → Type 0
@@ -81,11 +81,11 @@ names_site site old new count has older itself ran =
     record { schema = made.schema; sound = made.sound; told = ap (map meta_in) is; others = made.others }
 
 -- another text is held
-pub writes_text : (text : List ℕ) (old new : State) (count : ℕ) → old.now.schema ≡ office_schema → (older : List ℕ) → HoldsText older old.now.trees
+pub writes_text : (text : List ℕ) (old new : State) (count : ℕ) → old.now.schema ≡ office_schema → (older : List ℕ) → HoldsSiteText older old.now.trees
     → Executes UPDATE_OF_SITE_TEXT.now (Words text ∷ []) old new (Ok count) → PutsText text old.now new.now
 writes_text text old new count has older it ran =
     let r = it.0 in
     let made = (written r text old new count has it.1 it.2.id ran).0 in
     let row : Row = Int (pos 1) ∷ Null ∷ Words text ∷ [] in
-    let is : rows_in new.now.trees texts ≡ row ∷ [] = made.row ∙ ap (λ l. put_row row (without_rowid (pos 1) l)) it.1 ∙ replaced r row it.2.id in
+    let is : rows_in new.now.trees site_texts ≡ row ∷ [] = made.row ∙ ap (λ l. put_row row (without_rowid (pos 1) l)) it.1 ∙ replaced r row it.2.id in
     record { schema = made.schema; sound = made.sound; holds = (row, is, record { id = refl; body = refl }); others = made.others }

@@ -1,13 +1,13 @@
 -- What the last statements of an upgrade, and those of a growth, make of a database of the office, one after another.
 use Rattle.std.proofs.Common.{◌≡◌, ◌≢◌, ℕ, List, map, sym, ap, subst, ◌∙◌, arith}
 use Rattle.office_sql.proofs.Kit.{Database}
-use Rattle.office_sql.specs.Prelude.{meta, texts, rows_in, IsOffice}
-use Rattle.office_sql.proofs.Offices.{table_changed, both_started}
+use Rattle.office_sql.specs.Prelude.{meta, site_texts, rows_in, IsOffice}
+use Rattle.office_sql.proofs.Offices.{table_changed, both_validity_rows}
 use Rattle.sha2.specs.Sha256.{sha256}
 use Rattle.office_store.proofs.Types.{Version, V3}
 use Rattle.office_store.specs.Prelude.{IsGrown, ReplacesName, IsFilled, IsUpgrade, PutsText, TellsItself, TellsV3}
 use Rattle.store_inspection.specs.Prelude.{meta_in, HasMeta, IsOnlyText}
-use Rattle.office_store.proofs.Counts.{first_eight, not_texts}
+use Rattle.office_store.proofs.Counts.{first_eight, not_site_texts}
 
 -- ---- what the store tells of itself
 
@@ -26,13 +26,13 @@ module _ (version : Version) (x z u : Database) (filled : IsFilled version x z) 
 pub upgraded : (version : Version) → version ≢ V3 → (x z u w : Database) → IsFilled version x z
     → (text : List ℕ) → PutsText text z u → TellsV3 u w → IsUpgrade version text x.trees w
 upgraded version earlier x z u w filled text puts tells =
-    let held = table_changed z u filled.office puts.schema puts.sound texts puts.others tt (both_started z filled.office) in
-    let told = table_changed u w held.0 tells.schema tells.sound meta tells.others tt (both_started u held.0) in
+    let held = table_changed z u filled.office puts.schema puts.sound site_texts puts.others tt (both_validity_rows z filled.office) in
+    let told = table_changed u w held.0 tells.schema tells.sound meta tells.others tt (both_validity_rows u held.0) in
     record {
-      rows = λ table low other. tells.others table other ∙ puts.others table (not_texts version earlier table low) ∙ filled.rows table low;
+      rows = λ table low other. tells.others table other ∙ puts.others table (not_site_texts version earlier table low) ∙ filled.rows table low;
       tables = told.1 ∙ held.1 ∙ filled.tables;
       told = λ site was. tells.told version site (told_before version x z u filled text puts site was);
-      holds = subst (IsOnlyText 2 text) (sym (tells.others texts (λ e. cc))) puts.holds;
+      holds = subst (IsOnlyText 2 text) (sym (tells.others site_texts (λ e. cc))) puts.holds;
       office = told.0;
     }
 
@@ -40,11 +40,11 @@ upgraded version earlier x z u w filled text puts tells =
 
 pub grown : (text : List ℕ) (x y z : Database) → IsOffice x → PutsText text x y → ReplacesName (sha256 text) y z → IsGrown text x.trees z
 grown text x y z office puts names =
-    let held = table_changed x y office puts.schema puts.sound texts puts.others tt (both_started x office) in
-    let told = table_changed y z held.0 names.schema names.sound meta names.others tt (both_started y held.0) in
+    let held = table_changed x y office puts.schema puts.sound site_texts puts.others tt (both_validity_rows x office) in
+    let told = table_changed y z held.0 names.schema names.sound meta names.others tt (both_validity_rows y held.0) in
     record {
       rows = λ table first last. names.others table first ∙ puts.others table last;
       tables = told.1 ∙ held.1;
-      tells = record { holds = subst (IsOnlyText 2 text) (sym (names.others texts (λ e. cc))) puts.holds; named = names.told };
+      tells = record { holds = subst (IsOnlyText 2 text) (sym (names.others site_texts (λ e. cc))) puts.holds; named = names.told };
       office = told.0;
     }

@@ -20,12 +20,12 @@ use Rattle.office_store.specs.declared.opening.Absent.{Absent}
 use Rattle.store_inspection.specs.declared.version.Version.{Version}
 use Rattle.store_inspection.specs.declared.version.Version.TheVariants.{V1, V2, V3}
 use Rattle.store_inspection.specs.Addresses.{HasApartAddresses}
-use Rattle.store_inspection.specs.Found.{HasStarts, HasWhole, IsFound}
+use Rattle.store_inspection.specs.Found.{HasValidityRows, HasWhole, IsFound}
 use Rattle.store_inspection.specs.Meta.{metas_in, HoldsSite, HasMeta, TellNoSite}
 use Rattle.office_store.specs.Making.{IsBegun, new_meta}
 use Rattle.office_store.specs.Growing.{IsGrown, IsGrownFrom}
 use Rattle.office_store.specs.Stores.{HasSchema, IsNoStore, IsTaken, LacksStore}
-use Rattle.store_inspection.specs.Texts.{HoldsText, IsOnlyText}
+use Rattle.store_inspection.specs.SiteTexts.{HoldsSiteText, IsOnlyText}
 use Rattle.store_inspection.specs.declared.meta.Meta.{Meta}
 use Rattle.office_store.specs.Upgrading.{IsUpgrade}
 use Rattle.store_inspection.specs.Versions.{number_of_version, schema_of, IsOfNoVersion}
@@ -61,7 +61,7 @@ IsFoundApart version db = IsFound version db × HasApartAddresses db.trees
 -- and where its version tells beginnings of validity, none lacks
 abbrev pub IsTestedFor : List ℕ → Version → Database → Type 0
 IsTestedFor site version db =
-    IsFoundApart version db × HasMeta version site db.trees × (number_of_version version ≢ 1 → HasStarts db.trees)
+    IsFoundApart version db × HasMeta version site db.trees × (number_of_version version ≢ 1 → HasValidityRows db.trees)
 
 -- meta tells this version and another site, which is 32 bytes too
 abbrev pub TellsOther : Version → List ℕ → Trees → Type 0
@@ -88,14 +88,14 @@ IsOtherSchema schema = (schema ≢ no_schema) × IsOfNoVersion schema
 
 -- the beginnings of validity are asked for in a store of the second version and this site, and of
 -- the third
-abbrev pub AreStartsAsked : List ℕ → Version → Trees → Type 0
-AreStartsAsked site V2 db = HasMeta V2 site db
-AreStartsAsked site V3 db = ⊤
-AreStartsAsked site _ db = ⊥
+abbrev pub AreValidityRowsAsked : List ℕ → Version → Trees → Type 0
+AreValidityRowsAsked site V2 db = HasMeta V2 site db
+AreValidityRowsAsked site V3 db = ⊤
+AreValidityRowsAsked site _ db = ⊥
 
 -- a store whose beginnings of validity are asked for doesn't tell each of them
-abbrev pub LacksStarts : List ℕ → Version → Trees → Type 0
-LacksStarts site version db = AreStartsAsked site version db × ¬ HasStarts db
+abbrev pub LacksValidityRows : List ℕ → Version → Trees → Type 0
+LacksValidityRows site version db = AreValidityRowsAsked site version db × ¬ HasValidityRows db
 
 -- a store of the third version tells of no text of its site
 abbrev pub LacksText : Version → Trees → Type 0
@@ -107,7 +107,7 @@ LacksText _ db = ⊥
 -- two records
 abbrev pub HasOtherRows : List ℕ → Version → Trees → Type 0
 HasOtherRows site version db =
-    (¬ HasWhole db) ⊎ TellNoSite version (metas_in db) ⊎ LacksStarts site version db
+    (¬ HasWhole db) ⊎ TellNoSite version (metas_in db) ⊎ LacksValidityRows site version db
     ⊎ LacksText version db ⊎ ¬ HasApartAddresses db
 
 -- the tables are other ones: by their schema, or by the rows in a schema of a version
@@ -155,13 +155,13 @@ CanTake site db = (text : List ℕ) × HoldsSite text db × IsGrownFrom text sit
 
 -- each beginning of validity is told, and the store told of a text of which the site is a growth
 abbrev pub IsGrowable : SiteValue → Database → Type 0
-IsGrowable site db = HasStarts db.trees × CanTake site db.trees
+IsGrowable site db = HasValidityRows db.trees × CanTake site db.trees
 
 -- the tables of a store that told of another text, of which the site is a growth, with the new text,
 -- whole: a store that holds the text stays as it is
 abbrev pub IsGrownFor : TextOfSite → Trees → Trees → Type 0
 IsGrownFor site before db =
-    HasSchema (schema_of V3) before × CanTake site.site before × (¬ HoldsText site.text before)
+    HasSchema (schema_of V3) before × CanTake site.site before × (¬ HoldsSiteText site.text before)
     × IsGrown site.text before (office_over db)
 
 -- what the one transaction makes of a database
@@ -174,14 +174,14 @@ abbrev pub IsPreparedFor : TextOfSite → State → Trees → Type 0
 IsPreparedFor site before db = IsPreparedFrom site before.committed.trees db
 
 -- no order and no record has a beginning of validity
-abbrev pub AreUnstarted : Tables → Type 0
-AreUnstarted t =
+abbrev pub AreWithoutNotBefore : Tables → Type 0
+AreWithoutNotBefore t =
     AllByRecursion (λ o. o.row.not_before ≡ None) t.orders
     × AllByRecursion (λ g. g.row.not_before ≡ None) t.given
 
 -- tables that come from a store of the first version have no beginning of validity
-abbrev pub StaysUnstarted : Trees → Tables → Type 0
-StaysUnstarted before t = (site : List ℕ) → HasMeta V1 site before → AreUnstarted t
+abbrev pub StaysWithoutNotBefore : Trees → Tables → Type 0
+StaysWithoutNotBefore before t = (site : List ℕ) → HasMeta V1 site before → AreWithoutNotBefore t
 
 -- rows that show this text alone, beside a row of meta that names it
 abbrev pub IsShownText : List ℕ → List Row → Option Meta → Type 0
@@ -211,7 +211,7 @@ pub record IsTakenFor (site : TextOfSite) (before now : Trees) : Type 0 where
   pub own : TakesOwn site.text before
   pub apart : HasApartAddresses now
   pub tables : tables_in now ≡ tables_in before
-  pub unstarted : StaysUnstarted before (tables_in now)
+  pub without_not_before : StaysWithoutNotBefore before (tables_in now)
 
 -- An answer leaves the connection open and ready, and its database taken as the store of the site. That was
 -- a store of a version, or there was none yet, and no schema. A fault leaves what was committed, and one

@@ -3,7 +3,7 @@ use Rattle.std.specs.Prelude.{◌≡◌, ◌≢◌, ℕ, List, IsTrue, Ok}
 use Rattle.sqlite.specs.Tree.{Trees}
 use Rattle.sqlite.specs.Effect.{Database, IsDatabase}
 use Rattle.sqlite.specs.State.{State}
-use Rattle.office_sql.specs.Prelude.{OfficeTable, meta, texts, SameBut, office_schema, rows_in, IsOffice, tables_in}
+use Rattle.office_sql.specs.Prelude.{OfficeTable, meta, site_texts, SameBut, office_schema, rows_in, IsOffice, tables_in}
 use Rattle.store_inspection.specs.declared.version.Version.TheVariants.{V3}
 use Rattle.store_inspection.specs.Meta.{HoldsSite, HasMeta}
 use Rattle.site_core.specs.Prelude.{IsGrowth, SiteValue, site_read}
@@ -18,7 +18,7 @@ pub record ReplacesName (site : List ℕ) (old new : Database) : Type 0 where
 -- each row but the text and that of meta stands, and the tables say what they said; the store tells
 -- of the text; and all is as the office has it
 pub record IsGrown (text : List ℕ) (old : Trees) (new : Database) : Type 0 where
-  pub rows : (table : OfficeTable) → table ≢ meta → table ≢ texts → rows_in new.trees table ≡ rows_in old table
+  pub rows : (table : OfficeTable) → table ≢ meta → table ≢ site_texts → rows_in new.trees table ≡ rows_in old table
   pub tables : tables_in new.trees ≡ tables_in old
   pub tells : HoldsSite text new.trees
   pub office : IsOffice new

@@ -1,10 +1,9 @@
 -- The words of this crate, passed on from one place. Declares nothing.
-pub use Rattle.office_store.specs.Adopting.{AreStartsAsked, AreUnstarted, CanPrepareTables, CanTake, Examines, FindsVersion, HandedKeeps, HandedLeaves}
-pub use Rattle.office_store.specs.Adopting.{HasOtherRows, HasOtherTables, HoldsOther, IsApartAt, IsFoundApart, IsFoundAt, IsGrowable, IsGrownFor, IsHandedFor}
-pub use Rattle.office_store.specs.Adopting.{IsMadeFor, IsOfOtherSite, IsOther, IsOtherSchema, IsPreparedFor, IsPreparedFrom, IsRefusedFor, IsShownText}
-pub use Rattle.office_store.specs.Adopting.{IsTakenFor, IsTestedFor, IsUntouched, ShowsSame}
-pub use Rattle.office_store.specs.Adopting.{IsUpgradedFor, LacksStarts, LacksText, LeavesAtMost, PreparesTables, StaysUnstarted, TakesGrowth, TakesOwn}
-pub use Rattle.office_store.specs.Adopting.{TellsOther}
+pub use Rattle.office_store.specs.Adopting.{AreValidityRowsAsked, AreWithoutNotBefore, CanPrepareTables, CanTake, Examines, FindsVersion, HandedKeeps}
+pub use Rattle.office_store.specs.Adopting.{HandedLeaves, HasOtherRows, HasOtherTables, HoldsOther, IsApartAt, IsFoundApart, IsFoundAt, IsGrowable, IsGrownFor}
+pub use Rattle.office_store.specs.Adopting.{IsHandedFor, IsMadeFor, IsOfOtherSite, IsOther, IsOtherSchema, IsPreparedFor, IsPreparedFrom, IsRefusedFor}
+pub use Rattle.office_store.specs.Adopting.{IsShownText, IsTakenFor, IsTestedFor, IsUntouched, ShowsSame, IsUpgradedFor, LacksValidityRows, LacksText}
+pub use Rattle.office_store.specs.Adopting.{LeavesAtMost, PreparesTables, StaysWithoutNotBefore, TakesGrowth, TakesOwn, TellsOther}
 pub use Rattle.office_store.specs.Closing.{HoldLast, IsFoundSo, IsLeftOf, MayBeFound, MayBeLeft, MayHold}
 pub use Rattle.office_store.specs.Faults.{open_fault_number, result_of_test}
 pub use Rattle.office_store.specs.Growing.{CanGrow, HasGrown, IsGrown, ReplacesName}
@@ -15,11 +14,11 @@ pub use Rattle.office_store.specs.Opening.{IsUnopened, NamesNoFile, ShowsOpening
 pub use Rattle.office_store.specs.Refusing.{AreTurnedAway, AreUnconnected, IsDatabaseThat, IsKept, IsRefusal, IsSameOrPrepared, IsSpared, IsToldFor, ReadAs}
 pub use Rattle.office_store.specs.Remaking.{AreKept, entry_row, GainsRecords, HasFirstTables, IsCleared, IsSchemaBeforeV1, IsKeptBy, IsPutBack, IsRemade}
 pub use Rattle.office_store.specs.Remaking.{IsUnderWay, LooksAt, LosesRecords, PutsBack, PutsKept, PutsRows, ReplacesRows, SeesBeforeV1}
-pub use Rattle.office_store.specs.Steps.{AreStartedAt, IsAt, IsRaised, IsStep, tables_at}
+pub use Rattle.office_store.specs.Steps.{HasValidityRowsAt, IsAt, IsRaised, IsStep, tables_at}
 pub use Rattle.office_store.specs.Stores.{HasSchema, IsNoStore, IsStore, IsStoreOf, IsStoreOrNone, IsTaken, LacksStore}
 pub use Rattle.office_store.specs.Growing.{IsGrownFrom}
-pub use Rattle.office_store.specs.Upgrading.{CanUpgrade, GainsNone, GainsNoStart, GainsStarts, GainsText, IsFilled, IsUpgrade, IsUpgraded}
-pub use Rattle.office_store.specs.Upgrading.{LacksGivenStarts, LacksOrderStarts, PutsText, TellsItself, TellsV3}
+pub use Rattle.office_store.specs.Upgrading.{CanUpgrade, GainsNone, GainsSilentRows, GainsValidityTables, GainsText, IsFilled, IsUpgrade, IsUpgraded}
+pub use Rattle.office_store.specs.Upgrading.{LacksGivenValidity, LacksOrderValidity, PutsText, TellsItself, TellsV3}
 pub use Rattle.office_store.specs.Calls.{LooksUpBySql, StaysAsSet}
 pub use Rattle.office_store.specs.Counting.{AgreeBut, AgreeOff, AreCounts, AreRight, count_if_counted, number_at, takes}
 pub use Rattle.office_store.specs.Keeping.{commits_at, is_honest_at, is_open_at, may_leave_at, tables_of, tells_text_at}

@@ -3,24 +3,24 @@ use Rattle.std.specs.Prelude.{◌≡◌, ⊤, [], Some}
 use Rattle.sqlite.specs.Tree.{Trees}
 use Rattle.sqlite.specs.Effect.{Database, IsDatabase}
 use Rattle.office_tables.specs.Prelude.{Tables}
-use Rattle.office_sql.specs.Prelude.{AreOfficeRows, tables_of, texts}
+use Rattle.office_sql.specs.Prelude.{AreOfficeRows, tables_of, site_texts}
 use Rattle.store_inspection.specs.declared.version.Version.{Version}
 use Rattle.store_inspection.specs.declared.version.Version.TheVariants.{V2, V3}
-use Rattle.store_inspection.specs.Found.{AreAllStarted}
+use Rattle.store_inspection.specs.Found.{HasOneValidityRowEach}
 use Rattle.store_inspection.specs.Versions.{count_of, next_version, rows_at, schema_of, KeepsFirst}
 
 -- in a version that has beginnings of validity each order and each record has exactly one
-abbrev pub AreStartedAt : Version → Trees → Type 0
-AreStartedAt V2 db = AreAllStarted db
-AreStartedAt V3 db = AreAllStarted db
-AreStartedAt _ db = ⊤
+abbrev pub HasValidityRowsAt : Version → Trees → Type 0
+HasValidityRowsAt V2 db = HasOneValidityRowEach db
+HasValidityRowsAt V3 db = HasOneValidityRowEach db
+HasValidityRowsAt _ db = ⊤
 
 -- a database of a version: its rows are the office's, and no beginning of validity lacks
 pub record IsAt (version : Version) (db : Database) : Type 0 where
   pub schema : db.schema ≡ schema_of version
   pub sound : IsDatabase db
   pub rows : AreOfficeRows db.trees
-  pub starts : AreStartedAt version db.trees
+  pub validity : HasValidityRowsAt version db.trees
 
 -- what its tables say: those that the version hasn't say nothing
 abbrev pub tables_at : Version → Trees → Tables
@@ -32,7 +32,7 @@ pub record IsRaised (version later : Version) (old new : Database) : Type 0 wher
   pub is : IsAt later new
   pub tables : tables_at later new.trees ≡ tables_at version old.trees
   pub rows : KeepsFirst (count_of version) old.trees new.trees
-  pub none : rows_at version old.trees texts ≡ [] → rows_at later new.trees texts ≡ []
+  pub none : rows_at version old.trees site_texts ≡ [] → rows_at later new.trees site_texts ≡ []
 
 -- a step: it is one of the next version
 abbrev pub IsStep : Version → Database → Database → Type 0

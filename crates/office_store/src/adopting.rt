@@ -5,7 +5,7 @@ ghost use Rattle.sqlite.specs.Held.{state};
 ghost use Rattle.office_store.specs.Prelude.{CanPrepareTables, CanTake, Examines, HandedKeeps, HandedLeaves, IsFoundAt, IsGrowable, IsApartAt};
 ghost use Rattle.office_store.specs.Prelude.{IsFoundApart, IsHandedFor, IsOpenedFor, IsShownText, LeavesAtMost, PreparesTables};
 ghost use Rattle.office_store.specs.Prelude.{new_meta, result_of_test, IsGrownFrom, IsOtherSchema, IsTestedFor};
-ghost use Rattle.store_inspection.specs.Prelude.{meta_of_version, HasMeta, HoldsText, schema_of};
+ghost use Rattle.store_inspection.specs.Prelude.{meta_of_version, HasMeta, HoldsSiteText, schema_of};
 ghost use Rattle.office_store.specs.declared.fault.OpenFault.TheVariants.{OtherSite as TheSite, OtherTables as TheTables};
 ghost use Rattle.store_inspection.specs.declared.version.Version.TheVariants.{V3};
 ghost use Rattle.sha2.specs.Sha256.{sha256};
@@ -18,7 +18,7 @@ use crate::opening::{Absent, prepare_or_hand_back};
 use crate::reread::reread;
 use crate::upgrade::upgrade_tables;
 use store_inspection::{
-    META_ID, Meta, Version, has_apart_addresses, has_starts, has_text, has_whole_numbers,
+    META_ID, Meta, Version, has_apart_addresses, has_validity_rows, has_site_text, has_whole_numbers,
     is_empty_schema, meta_row, only_text, told_rows, version_of,
 };
 use crate::SqlKeep;
@@ -153,7 +153,7 @@ fn grow<S: Alter>(conn: &mut Connection<S>, site: &SiteText) -> Result<(), OpenF
     requires can { HasCleanDisk (state S.Store conn.old)
         → IsGrowable site.now.site (state S.Store conn.old).now }
     requires other { HasCleanDisk (state S.Store conn.old)
-        → ¬ HoldsText site.now.text (state S.Store conn.old).now.trees }
+        → ¬ HoldsSiteText site.now.text (state S.Store conn.old).now.trees }
     ensures { PreparesTables S.Store site.now conn.old conn.new result }
 {
     match grow_text(conn, site) {
@@ -193,10 +193,10 @@ fn test_earlier<S: Alter>(
         (IsTestedFor (sha256 site.now.text) version) }
 {
     test_tables(conn, site, version)?;
-    if version.tells_no_start() {
+    if version.has_no_validity_row() {
         return Ok(());
     }
-    judge_answer(has_starts(conn))
+    judge_answer(has_validity_rows(conn))
 }
 
 /// Tests and upgrades a store of an earlier version.
@@ -228,7 +228,7 @@ fn test_v3<S: Alter>(
         (λ db. IsFoundApart V3 db × IsGrowable site.now.site db) }
 {
     test_rows(conn, Version::V3)?;
-    judge_answer(has_starts(conn))?;
+    judge_answer(has_validity_rows(conn))?;
     test_growth(alloc, conn, site)
 }
 
@@ -240,7 +240,7 @@ fn hold_text<S: Alter>(conn: &mut Connection<S>, site: &SiteText) -> Result<(), 
         → IsGrowable site.now.site (state S.Store conn.old).now }
     ensures { PreparesTables S.Store site.now conn.old conn.new result }
 {
-    match has_text(conn, site.text()) {
+    match has_site_text(conn, site.text()) {
         Ok(true) => Ok(()),
         Ok(false) => grow(conn, site),
         Err(_) => Err(OpenFault::Failed),

@@ -4,7 +4,7 @@ ghost use Rattle.sqlite.specs.State.{HasCleanDisk, Survives};
 ghost use Rattle.sqlite.specs.Held.{state};
 ghost use Rattle.office_sql.specs.Prelude.{SqlWrites, IsUndone, office_schema, office_over};
 ghost use Rattle.office_store.specs.Prelude.{CanGrow, HasGrown, IsGrown, ReplacesName, PutsText};
-ghost use Rattle.store_inspection.specs.Prelude.{Sees, HasMeta, HoldsText};
+ghost use Rattle.store_inspection.specs.Prelude.{Sees, HasMeta, HoldsSiteText};
 ghost use Rattle.store_inspection.specs.declared.version.Version.TheVariants.{V3};
 
 use site_core::SiteText;
@@ -20,7 +20,7 @@ const UPDATE_OF_SITE: &str = "UPDATE meta SET site = ?1 WHERE id = 1";
 /// Holds another text of the site.
 fn replace_text<S: Alter>(tx: &mut Transaction<'_, S>, text: &str) -> Result<(), Error>
     requires has { Sees (λ db. db.schema ≡ office_schema) (state S.Store tx.old.conn.now) }
-    requires held { Sees (λ db. (older : List ℕ) × HoldsText older db.trees)
+    requires held { Sees (λ db. (older : List ℕ) × HoldsSiteText older db.trees)
         (state S.Store tx.old.conn.now) }
     ensures same_reference { tx.new.conn.ghost_name ≡ tx.old.conn.ghost_name }
     ensures changes { SqlWrites S.Store tx.old.conn.now tx.new.conn.now result

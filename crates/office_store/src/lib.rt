@@ -17,8 +17,8 @@
 //! was held (`grown`) and in schema 1 and 2 has the SHA-256 that was told (`own`). What was committed
 //! was a database with no schema and nothing in it, or had the schema of a version and the one row of
 //! `meta` that tells it (`was`). The keeper has the tables that the connection had last committed
-//! (`tables`), which of a store of schema 1 have no beginning of validity (`unstarted`), and in which
-//! no two records have one address (`apart`).
+//! (`tables`), which of a store of schema 1 have no beginning of validity (`without_not_before`), and
+//! in which no two records have one address (`apart`).
 //!
 //! At a fault the connection or its store comes back (`refused`) with the tables that it had
 //! (`unchanged`). The fault of another site comes only with a held text of which this site is no
@@ -26,8 +26,8 @@
 //! tables comes only with other tables (`HasOtherTables`), and always where the connection has
 //! another schema. Other tables are a schema that is neither empty nor of a version, a number of a
 //! map or of an entry below zero, one address in two records, a `meta` that hasn't one row of this
-//! version with the 32 bytes of a site, a start that lacks, or in schema 3 no one text in UTF-8
-//! that `meta` names. A store of which no connection can be had gets the fault of a failure.
+//! version with the 32 bytes of a site, a validity row that lacks, or in schema 3 no one text in
+//! UTF-8 that `meta` names. A store of which no connection can be had gets the fault of a failure.
 //!
 //! At each exit a crash leaves what the connection could leave before, or a whole store of schema 3
 //! and of this text with the tables of before (`crash`, `crash_left`): made of a database without a

@@ -5,7 +5,7 @@ ghost use Rattle.sqlite.specs.Files.{HoldsDatabase};
 ghost use Rattle.sqlite.specs.Held.{Held, state};
 ghost use Rattle.sqlite.specs.Recovery.{Image};
 ghost use Rattle.sqlite.specs.Tree.{Trees};
-ghost use Rattle.store_inspection.specs.Prelude.{HoldsSite, HoldsText, IsOurs};
+ghost use Rattle.store_inspection.specs.Prelude.{HoldsSite, HoldsSiteText, IsOurs};
 ghost use Rattle.office_store.specs.Prelude.{tells_text_at};
 ghost use Rattle.office_store.specs.Prelude.{TakesGrowth};
 
@@ -17,7 +17,7 @@ use sqlite::Alter;
 pub fn opened_stores_tell_their_text<S: Alter>()
     ensures { (conn : Held S) (site : TextOfSite)
         → ((db : Trees) → (state S.Store conn).may_leave db → db ≡ (state S.Store conn).now.trees)
-        → HoldsText site.text (state S.Store conn).now.trees
+        → HoldsSiteText site.text (state S.Store conn).now.trees
         → IsOurs site.digest (state S.Store conn).now.trees
         → tells_text_at S.Store conn site.text }
 {}

@@ -3,61 +3,61 @@
 ghost use Rattle.std.specs.Prelude.{◌≡◌, ◌≢◌, false, IsTrue, OnOk, OnErr};
 ghost use Rattle.sqlite.specs.State.{HasCleanDisk, Survives};
 ghost use Rattle.sqlite.specs.Held.{state};
-ghost use Rattle.office_sql.specs.Prelude.{SqlWrites, IsUndone, order_in_row, given_in_row, starts_order, starts_given, orders, given, order_starts};
-ghost use Rattle.office_sql.specs.Prelude.{given_starts, office_schema, office_over};
-ghost use Rattle.office_store.specs.Prelude.{IsAt, IsStep, CanUpgrade, GainsNone, GainsNoStart, IsFilled, IsUpgrade, IsUpgraded, LacksGivenStarts};
-ghost use Rattle.office_store.specs.Prelude.{LacksOrderStarts, TellsItself, TellsV3};
+ghost use Rattle.office_sql.specs.Prelude.{SqlWrites, IsUndone, order_in_row, given_in_row, is_validity_of_order, is_validity_of_given, orders, given};
+ghost use Rattle.office_sql.specs.Prelude.{order_starts, given_starts, office_schema, office_over};
+ghost use Rattle.office_store.specs.Prelude.{IsAt, IsStep, CanUpgrade, GainsNone, GainsSilentRows, IsFilled, IsUpgrade, IsUpgraded, LacksGivenValidity};
+ghost use Rattle.office_store.specs.Prelude.{LacksOrderValidity, TellsItself, TellsV3};
 ghost use Rattle.store_inspection.specs.Prelude.{Sees, IsBeforeV1};
 ghost use Rattle.store_inspection.specs.declared.version.Version.{Version as TheVersion};
 ghost use Rattle.store_inspection.specs.declared.version.Version.TheVariants.{V1, V2, V3};
 
-use crate::create::{add_text, make_starts, make_text};
+use crate::create::{add_text, make_validity_tables, make_text};
 use crate::remake::remake_tables;
 use store_inspection::Version;
 use sqlite::{Alter, Connection, Error, Transaction};
 
 /// Adds a row without a beginning of validity for each order.
-const INSERT_NO_ORDER_STARTS: &str =
+const INSERT_NULL_INTO_ORDER_START: &str =
     "INSERT INTO order_start (customer, ord, not_before) SELECT customer, name, NULL FROM orders";
 
 /// Adds a row without a beginning of validity for each record.
-const INSERT_NO_GIVEN_STARTS: &str =
+const INSERT_NULL_INTO_GIVEN_START: &str =
     "INSERT INTO given_start (issuer, serial, not_before) SELECT issuer, serial, NULL FROM given";
 
 /// Writes the number of the schema.
 const UPDATE_OF_SCHEMA: &str = "UPDATE meta SET schema = 3 WHERE id = 1";
 
 /// Tells of each order that it has no beginning of validity.
-fn fill_order_starts<S: Alter>(tx: &mut Transaction<'_, S>) -> Result<(), Error>
-    requires { Sees LacksOrderStarts (state S.Store tx.old.conn.now) }
+fn fill_order_validity<S: Alter>(tx: &mut Transaction<'_, S>) -> Result<(), Error>
+    requires { Sees LacksOrderValidity (state S.Store tx.old.conn.now) }
     ensures same_reference { tx.new.conn.ghost_name ≡ tx.old.conn.ghost_name }
     ensures changes { SqlWrites S.Store tx.old.conn.now tx.new.conn.now result
-        (λ old new _. GainsNone starts_order order_in_row orders order_starts old new) }
+        (λ old new _. GainsNone is_validity_of_order order_in_row orders order_starts old new) }
 {
-    tx.execute(INSERT_NO_ORDER_STARTS, &[])?;
+    tx.execute(INSERT_NULL_INTO_ORDER_START, &[])?;
     Ok(())
 }
 
 /// Tells of each record that it has none.
-fn fill_given_starts<S: Alter>(tx: &mut Transaction<'_, S>) -> Result<(), Error>
-    requires { Sees LacksGivenStarts (state S.Store tx.old.conn.now) }
+fn fill_given_validity<S: Alter>(tx: &mut Transaction<'_, S>) -> Result<(), Error>
+    requires { Sees LacksGivenValidity (state S.Store tx.old.conn.now) }
     ensures same_reference { tx.new.conn.ghost_name ≡ tx.old.conn.ghost_name }
     ensures changes { SqlWrites S.Store tx.old.conn.now tx.new.conn.now result
-        (λ old new _. GainsNone starts_given given_in_row given given_starts old new) }
+        (λ old new _. GainsNone is_validity_of_given given_in_row given given_starts old new) }
 {
-    tx.execute(INSERT_NO_GIVEN_STARTS, &[])?;
+    tx.execute(INSERT_NULL_INTO_GIVEN_START, &[])?;
     Ok(())
 }
 
-fn fill_starts<S: Alter>(tx: &mut Transaction<'_, S>) -> Result<(), Error>
-    requires orders { Sees LacksOrderStarts (state S.Store tx.old.conn.now) }
-    requires given { Sees LacksGivenStarts (state S.Store tx.old.conn.now) }
+fn fill_validity_tables<S: Alter>(tx: &mut Transaction<'_, S>) -> Result<(), Error>
+    requires orders { Sees LacksOrderValidity (state S.Store tx.old.conn.now) }
+    requires given { Sees LacksGivenValidity (state S.Store tx.old.conn.now) }
     ensures same_reference { tx.new.conn.ghost_name ≡ tx.old.conn.ghost_name }
     ensures changes { SqlWrites S.Store tx.old.conn.now tx.new.conn.now result
-        (λ old new _. GainsNoStart old new) }
+        (λ old new _. GainsSilentRows old new) }
 {
-    fill_order_starts(tx)?;
-    fill_given_starts(tx)
+    fill_order_validity(tx)?;
+    fill_given_validity(tx)
 }
 
 /// Makes `given` and the ledger of a store of a version before the first anew.
@@ -78,8 +78,8 @@ fn raise_v1<S: Alter>(tx: &mut Transaction<'_, S>) -> Result<(), Error>
     ensures changes { SqlWrites S.Store tx.old.conn.now tx.new.conn.now result
         (λ old new _. IsStep V1 old new) }
 {
-    make_starts(tx)?;
-    fill_starts(tx)
+    make_validity_tables(tx)?;
+    fill_validity_tables(tx)
 }
 
 /// Makes the table of the site's text, which one of the second version lacks.

@@ -4,7 +4,7 @@ pub mod Callers
 pub mod Growing
 pub mod Judged
 pub mod Kept
-pub mod Ordered
+pub mod Preorder
 pub mod Owners
 pub mod Pairs
 pub mod Reading

@@ -16,7 +16,7 @@
 //! with their tokens and pools, these in front of any others, and the manager's token (`IsGrowth`),
 //! without memory. Whose a customer, an issuer, a seat and a block of addresses are stays so in a
 //! growth (`owners_grow_with_a_site`). A site is a growth of itself, and a growth of a growth is
-//! one of the first (`growth_is_an_order`).
+//! one of the first (`growth_is_a_preorder`).
 #![tactic(auto)]
 
 mod customer;
@@ -31,7 +31,7 @@ mod text;
 
 pub use customer::{Customer, ISSUER_LIMIT, POOL_LIMIT, SEAT_LIMIT, Seat};
 pub use fault::SiteFault;
-pub use ownership::{growth_is_an_order, owners_grow_with_a_site, sections_are_the_customers_own};
+pub use ownership::{growth_is_a_preorder, owners_grow_with_a_site, sections_are_the_customers_own};
 pub use site::{CUSTOMER_LIMIT, Caller, SeatCaller, Site};
 pub use site_text::{SiteText, read_site_text};
 pub use text::{TEXT_LIMIT, read_site};

@@ -22,7 +22,7 @@ pub fn owners_grow_with_a_site()
 {}
 
 /// A site is a growth of itself, and a growth of a growth is one of the first.
-pub fn growth_is_an_order()
+pub fn growth_is_a_preorder()
     ensures itself { (site : SiteValue) → IsGrowth site site }
     ensures again { (one other next : SiteValue)
         → IsGrowth one other → IsGrowth other next → IsGrowth one next }

@@ -11,8 +11,8 @@ use Rattle.office_tables.specs.declared.keep.Unkept.{Unkept as NoAnswer}
 use Rattle.office_commands.specs.Prelude.{refusal_status, refusal}
 use Rattle.office_laws.specs.Prelude.{Exchange, report_reply}
 use Rattle.office_laws.proofs.Leaving.{AnswersNothing, leaves_unanswered, answers_nothing}
-use Rattle.station_api.specs.Prelude.{AnswersAnyCaller, ParsedOrUnkept, AnswersParsed, AnswersKnownCaller, HandlerSteps, Says, SaysAny, SaysRefusal, AnswersHttp}
-use Rattle.station_api.specs.Prelude.{caller_at, exchange_any, exchange_asked, exchange_of}
+use Rattle.station_api.specs.Prelude.{AnswersAnyCaller, ParsedOrUnkept, AnswersParsed, AnswersKnownCaller, HandlerSteps, Says, SaysAny, SaysRefusal}
+use Rattle.station_api.specs.Prelude.{AnswersHttp, caller_at, exchange_any, exchange_asked, exchange_of}
 use Rattle.station_requests.specs.Prelude.{parse_request, kind_of_caller}
 
 -- only one refusal is answered 503

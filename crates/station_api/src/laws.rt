@@ -40,13 +40,14 @@ pub fn requests_have_answers()
 /// A store that is served over has a life, however the program ends. Stopped in the middle of a
 /// request, killed or crashed, it leaves what a crash may leave of it then: the tables that stood, or
 /// those after one step more, of a request that was answered 503 since the last one that wasn't. Where
-/// the store is open when the program ends, as in order, the tables that stand are left, and no step
-/// is in doubt. What is left tells of the text of the site that the store told of when it was opened.
+/// the store is open when the program ends, as it is when it ends properly, the tables that stand are
+/// left, and no step is in doubt. What is left tells of the text of the site that the store told of
+/// when it was opened.
 pub fn served_stores_have_lives<K: Keep>()
     ensures stopped { (s : ServedStore K.Keep) (left : Tables)
         → K.is_honest s.ended → K.may_leave s.ended left
         → (life : Life) × IsLifeOf s left life }
-    ensures in_order { (s : ServedStore K.Keep) → K.is_open s.ended
+    ensures ended_properly { (s : ServedStore K.Keep) → K.is_open s.ended
         → (life : Life) × IsLifeOf s (K.tables s.ended) life × (life.more ≡ []) }
     ensures text { (s : ServedStore K.Keep) → KeepsText K.is_honest K.tells_text s.opened s.ended }
 {}

@@ -107,7 +107,7 @@ order_lacks_float d n o nr order =
     let first = bound (whole_member (codes "first") 0 9007199254740991 d) _ o width.2 in
     let quantity = bound (whole_member (codes "quantity") 1 9007199254740991 d) _ o first.2 in
     let macs = bound (whole_member (codes "macs") 0 4 d) _ o quantity.2 in
-    let start = bound (text_if_member (codes "not_before") d) _ o macs.2 in
+    let not_before = bound (text_if_member (codes "not_before") d) _ o macs.2 in
     all_no_float order_members d no_members (
       whole_member_lacks (codes "first") 0 9007199254740991 d first.0 first.1,
       (
@@ -117,7 +117,7 @@ order_lacks_float d n o nr order =
           (
             name_member_lacks (codes "name") d name.0 name.1,
             (
-              text_if_member_lacks (codes "not_before") d start.0 start.1,
+              text_if_member_lacks (codes "not_before") d not_before.0 not_before.1,
               (
                 whole_member_lacks (codes "nr") 1 9007199254740991 d n nr,
                 (

@@ -4,7 +4,7 @@ use Rattle.std.specs.Cmp.{first_so, second_so}
 use Rattle.text_core.proofs.Kit.{ℕ, List, [], Bool, true, false, Some, None, refl, arith, length, nat_le, list_all, IsAscii, IsUtf8, nat_tests, Option}
 use Rattle.text_core.proofs.Kit.{option_map, ap, suc, IsUtf8-from_ascii, IsAscii-nil, IsAscii-cons}
 use Rattle.text_core.specs.Prelude.{is_lower_hex_digit, is_chip, chip_of_text, is_name_byte, is_name, name_of_text}
-use Rattle.station_requests.specs.Prelude.{start_of_text}
+use Rattle.station_requests.specs.Prelude.{after_of_text}
 
 byte_is_ascii : (b : ℕ) → is_name_byte b ≡ true → b < 128
 byte_is_ascii b e = grind (arith, nat_tests, e)
@@ -39,8 +39,8 @@ not_a_chip text other =
       | false ↦ λ _. refl
     ] refl
 
-pub not_a_start : (text : List ℕ) → ¬ (IsUtf8 text) → start_of_text text ≡ None
-not_a_start [] other = absurd (other (IsUtf8-from_ascii [] IsAscii-nil))
-not_a_start (b ∷ text) other =
+pub no_after_of_others : (text : List ℕ) → ¬ (IsUtf8 text) → after_of_text text ≡ None
+no_after_of_others [] other = absurd (other (IsUtf8-from_ascii [] IsAscii-nil))
+no_after_of_others (b ∷ text) other =
     let some : (suc (length text) == 0) ≡ false = grind (arith, nat_tests) in
     rw some (ap (λ (chip : Option (List ℕ)). option_map Some chip) (not_a_chip (b ∷ text) other))

@@ -72,9 +72,9 @@ abbrev pub chip_parameter : List ℕ → Option (List ℕ)
 chip_parameter query = option_and_then chip_of_text (only_value (parameters_named (codes "chip") query))
 
 -- where a list of devices begins: at the first one where the text is empty, or behind a chip
-abbrev pub start_of_text : List ℕ → Option (Option (List ℕ))
-start_of_text text = if length text == 0 then Some None else option_map Some (chip_of_text text)
+abbrev pub after_of_text : List ℕ → Option (Option (List ℕ))
+after_of_text text = if length text == 0 then Some None else option_map Some (chip_of_text text)
 
 -- where the list begins that a query asks for
 abbrev pub after_parameter : List ℕ → Option (Option (List ℕ))
-after_parameter query = option_and_then start_of_text (only_value (parameters_named (codes "after") query))
+after_parameter query = option_and_then after_of_text (only_value (parameters_named (codes "after") query))

@@ -1,7 +1,7 @@
 -- The words of this crate, passed on from one place. Declares nothing.
 pub use Rattle.station_requests.specs.Act.{act_members, end_of}
 unfoldable pub use Rattle.station_requests.specs.Act.{act_of}
-pub use Rattle.station_requests.specs.Device.{after_parameter, start_of_text}
+pub use Rattle.station_requests.specs.Device.{after_parameter, after_of_text}
 pub use Rattle.station_requests.specs.Device.{block_digest, block_in, chip_parameter, device_digest, device_members, with_block_digests, word_of_data}
 pub use Rattle.station_requests.specs.Device.{word_of_text}
 unfoldable pub use Rattle.station_requests.specs.Device.{blocks_member, new_device_of, register_device_of}

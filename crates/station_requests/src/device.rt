@@ -4,7 +4,7 @@ ghost use Rattle.serde_json.specs.Data.{put};
 ghost use Rattle.serde_json.specs.View.{view};
 ghost use Rattle.text_core.specs.Prelude.{all_of, result_map};
 ghost use Rattle.station_requests.specs.Prelude.{block_digest, block_in, blocks_member, chip_parameter, new_device_of, register_device_of, with_block_digests};
-ghost use Rattle.station_requests.specs.Prelude.{after_parameter, ReadsAs, start_of_text, word_of_data, word_of_text};
+ghost use Rattle.station_requests.specs.Prelude.{after_parameter, ReadsAs, after_of_text, word_of_data, word_of_text};
 
 use crate::digest::{found_members, request_digest};
 use crate::fault::MemberFault::{self, BadMember};
@@ -154,8 +154,8 @@ pub fn chip_parameter(query: &[u8]) -> Option<Chip>
 }
 
 /// Where a list of devices begins: behind a chip, or at the first device where the text is empty.
-fn start_of_text(text: &str) -> Option<Option<Chip>>
-    ensures { result ≡ start_of_text text.now }
+fn after_of_text(text: &str) -> Option<Option<Chip>>
+    ensures { result ≡ after_of_text text.now }
 {
     if text.is_empty() {
         return Some(None);
@@ -171,7 +171,7 @@ pub fn after_parameter(query: &[u8]) -> Option<Option<Chip>>
         return None;
     };
     match str::from_utf8(value) {
-        Ok(text) => start_of_text(text),
+        Ok(text) => after_of_text(text),
         Err(_) => None,
     }
 }

@@ -8,6 +8,6 @@ pub mod FoundResults
 pub mod FoundRows
 pub mod MetaShows
 pub mod Schemas
-pub mod StartKeys
+pub mod ValidityKeys
 pub mod TextShows
 mod Types

@@ -19,16 +19,16 @@ use Rattle.office_sql.proofs.Scan.{Scanned, scanned}
 abbrev pub row_shown : List Term
 row_shown = col 1 0 ∷ col 1 2 ∷ col 1 3 ∷ []
 
-abbrev pub row_order : List (Term × Key)
-row_order = (col 1 0, ascending Binary) ∷ []
+abbrev pub by_row_id : List (Term × Key)
+by_row_id = (col 1 0, ascending Binary) ∷ []
 
-pub row_read : (version : Version) → IsReadAs (schema_of version) SELECT_META.now (scan (tree_of table.meta) [] row_shown row_order)
+pub row_read : (version : Version) → IsReadAs (schema_of version) SELECT_META.now (scan (tree_of table.meta) [] row_shown by_row_id)
 unfolding understood everything
 row_read V1a = record { names = _; is = refl; plain = (refl, refl); unlisted = refl; bare = λ schema base. refl }
 row_read _ = record { names = _; is = refl; plain = (refl, refl); unlisted = refl; bare = λ schema base. refl }
 
 -- meta, in some order
-shows_metas : (all rows : List Row) → Scanned [] row_shown row_order [] all rows → IsPermutation (map meta_in all) (map meta_of rows)
+shows_metas : (all rows : List Row) → Scanned [] row_shown by_row_id [] all rows → IsPermutation (map meta_in all) (map meta_of rows)
 shows_metas all rows s =
     let every = filter_all (passes [] []) all (all_of (λ r. passes [] [] r ≡ true) (λ r. refl) all) in
     let same = subst (λ l. IsPermutation l s.kept) every s.same in
@@ -47,7 +47,7 @@ sites_are_blobs version db sound =
     (sound.obeys.rules Datatype).0 (sound.obeys.rules NotNull).0
 
 -- each site that is shown of meta is a blob
-shows_blobs : (all rows : List Row) → AllByRecursion (IsBlob 3) all → Scanned [] row_shown row_order [] all rows → AllByRecursion (IsBlob 2) rows
+shows_blobs : (all rows : List Row) → AllByRecursion (IsBlob 3) all → Scanned [] row_shown by_row_id [] all rows → AllByRecursion (IsBlob 2) rows
 shows_blobs all rows blobs s =
     let every = filter_all (passes [] []) all (all_of (λ r. passes [] [] r ≡ true) (λ r. refl) all) in
     let same = subst (λ l. IsPermutation l s.kept) every s.same in
@@ -56,11 +56,11 @@ shows_blobs all rows blobs s =
 
 -- what is read of the text is meta
 pub shows_meta : (version : Version) (db : Database) (rows : List Row) → IsFound version db
-    → IsAnswer (scan (tree_of table.meta) [] row_shown row_order) (overlay db.trees []) [] rows
+    → IsAnswer (scan (tree_of table.meta) [] row_shown by_row_id) (overlay db.trees []) [] rows
     → ShowMeta db.trees rows
 shows_meta version db rows found a =
-    let s : Scanned [] row_shown row_order [] (rows_in db.trees table.meta) rows =
-    scanned (overlay db.trees []) [] (tree_of table.meta) [] row_shown row_order [] rows a in
+    let s : Scanned [] row_shown by_row_id [] (rows_in db.trees table.meta) rows =
+    scanned (overlay db.trees []) [] (tree_of table.meta) [] row_shown by_row_id [] rows a in
     record {
       metas = shows_metas (rows_in db.trees table.meta) rows s;
       blobs = shows_blobs (rows_in db.trees table.meta) rows (sites_are_blobs version db.trees (subst (λ s. IsSound s db.trees) found.schema found.sound)) s;

@@ -11,8 +11,8 @@ use Rattle.sqlite.specs.Tree.{Trees}
 use Rattle.sqlite.specs.Store.{Ghosts}
 use Rattle.sqlite.specs.Held.{Held, state}
 use Rattle.sqlite.specs.State.{State, HasCleanDisk, IsUnchanged, Survives}
-use Rattle.office_sql.specs.Prelude.{rows_in, maps, orders, given, ledger, order_starts, given_starts, Rests, order_in_row, given_in_row, starts_order}
-use Rattle.office_sql.specs.Prelude.{starts_given, AreOfficeRows, AreStarted}
+use Rattle.office_sql.specs.Prelude.{rows_in, maps, orders, given, ledger, order_starts, given_starts, Rests, order_in_row, given_in_row, is_validity_of_order}
+use Rattle.office_sql.specs.Prelude.{is_validity_of_given, AreOfficeRows, HaveOneValidityRow}
 use Rattle.sqlite.specs.Effect.{Database, IsDatabase}
 use Rattle.store_inspection.specs.declared.version.Version.{Version}
 use Rattle.store_inspection.specs.declared.version.Version.TheVariants.{V2, V3}
@@ -36,41 +36,41 @@ pub record HasWhole (trees : Trees) : Type 0 where
 abbrev pub HasVersionSchema : State → Type 0
 HasVersionSchema s = IsTrue s.is_open → (version : Version) × (s.now.schema ≡ schema_of version)
 
--- one of the starts, at least, is for the row
-abbrev pub HasStart : {A : Type 0} → (A → Row → Bool) → (Row → A) → List Row → Row → Type 0
-HasStart is_for value starts r = is_some (find (is_for (value r)) starts) ≡ true
+-- one of the validity rows, at least, is for the row
+abbrev pub HasValidityRow : {A : Type 0} → (A → Row → Bool) → (Row → A) → List Row → Row → Type 0
+HasValidityRow is_for value validities r = is_some (find (is_for (value r)) validities) ≡ true
 
--- for each of the rows there is a start, at least one
-abbrev pub HaveStarts : {A : Type 0} → (A → Row → Bool) → (Row → A) → List Row → List Row → Type 0
-HaveStarts is_for value rows starts = AllByRecursion (HasStart is_for value starts) rows
+-- for each of the rows there is a validity row, at least one
+abbrev pub HaveValidityRows : {A : Type 0} → (A → Row → Bool) → (Row → A) → List Row → List Row → Type 0
+HaveValidityRows is_for value rows validities = AllByRecursion (HasValidityRow is_for value validities) rows
 
 -- each order and each record has its beginning of validity told
-pub record HasStarts (trees : Trees) : Type 0 where
-  pub orders : HaveStarts starts_order order_in_row (rows_in trees orders) (rows_in trees order_starts)
-  pub given : HaveStarts starts_given given_in_row (rows_in trees given) (rows_in trees given_starts)
+pub record HasValidityRows (trees : Trees) : Type 0 where
+  pub orders : HaveValidityRows is_validity_of_order order_in_row (rows_in trees orders) (rows_in trees order_starts)
+  pub given : HaveValidityRows is_validity_of_given given_in_row (rows_in trees given) (rows_in trees given_starts)
 
 -- each order and each record has exactly one beginning of validity told
-pub record AreAllStarted (trees : Trees) : Type 0 where
-  pub orders : AreStarted starts_order order_in_row (rows_in trees orders) (rows_in trees order_starts)
-  pub given : AreStarted starts_given given_in_row (rows_in trees given) (rows_in trees given_starts)
+pub record HasOneValidityRowEach (trees : Trees) : Type 0 where
+  pub orders : HaveOneValidityRow is_validity_of_order order_in_row (rows_in trees orders) (rows_in trees order_starts)
+  pub given : HaveOneValidityRow is_validity_of_given given_in_row (rows_in trees given) (rows_in trees given_starts)
 
 -- no beginning of validity is told
-abbrev pub TellsNoStart : Trees → Type 0
-TellsNoStart db = (rows_in db order_starts ≡ []) × (rows_in db given_starts ≡ [])
+abbrev pub HasNoValidityRow : Trees → Type 0
+HasNoValidityRow db = (rows_in db order_starts ≡ []) × (rows_in db given_starts ≡ [])
 
 -- beside the office's rows: in the versions with the number 1 no beginning of validity is told, and
 -- in the others, where none lacks, each order and each record has exactly one
-abbrev pub AreStartsFound : Version → Database → Type 0
-AreStartsFound V2 db = HasStarts db.trees → AreAllStarted db.trees
-AreStartsFound V3 db = HasStarts db.trees → AreAllStarted db.trees
-AreStartsFound _ db = TellsNoStart db.trees
+abbrev pub AreValidityRowsFound : Version → Database → Type 0
+AreValidityRowsFound V2 db = HasValidityRows db.trees → HasOneValidityRowEach db.trees
+AreValidityRowsFound V3 db = HasValidityRows db.trees → HasOneValidityRowEach db.trees
+AreValidityRowsFound _ db = HasNoValidityRow db.trees
 
 -- a database of a version, with the office's rows
 pub record IsFound (version : Version) (db : Database) : Type 0 where
   pub schema : db.schema ≡ schema_of version
   pub sound : IsDatabase db
   pub rows : AreOfficeRows db.trees
-  pub starts : AreStartsFound version db
+  pub validity : AreValidityRowsFound version db
 
 -- a database of a version in which beginnings of validity are told
 abbrev pub IsFoundLater : Database → Type 0

@@ -2,7 +2,7 @@
 pub mod Found
 pub mod Addresses
 pub mod Versions
-pub mod Texts
+pub mod SiteTexts
 pub mod Meta
 pub mod Described
 pub mod Prelude

@@ -7,7 +7,7 @@ use Rattle.store_inspection.specs.declared.meta.Meta.{Meta}
 use Rattle.store_inspection.specs.declared.version.Version.{Version}
 use Rattle.store_inspection.specs.declared.version.Version.TheVariants.{V3}
 use Rattle.sha2.specs.Sha256.{sha256}
-use Rattle.store_inspection.specs.Texts.{HoldsText}
+use Rattle.store_inspection.specs.SiteTexts.{HoldsSiteText}
 use Rattle.store_inspection.specs.Versions.{number_of_version}
 use Rattle.office_sql.specs.Prelude.{rows_in, meta, number_in_cell, IsBlob, IsOffice, office_over}
 
@@ -38,7 +38,7 @@ HasMeta version site db = metas_in db ≡ meta_of_version version site ∷ []
 
 -- the store tells of this text of its site: it holds the text, and meta its SHA-256
 pub record HoldsSite (text : List ℕ) (db : Trees) : Type 0 where
-  pub holds : HoldsText text db
+  pub holds : HoldsSiteText text db
   pub named : HasMeta V3 (sha256 text) db
 
 -- the store tells of a text that has this SHA-256

@@ -6,9 +6,9 @@
 //!
 //! Each other call asks an open connection, and answers of all rows: whether no number is below
 //! zero (`has_whole_numbers`), whether each order and each record has its beginning of validity
-//! told (`has_starts`), whether no two records have one address (`has_apart_addresses`), the one
-//! row of `meta` (`meta_row`), that with the rows of `site_text` (`told_rows`), of which `only_text`
-//! is the text, and whether the store holds a text (`has_text`). It changes nothing, and a crash
+//! told (`has_validity_rows`), whether no two records have one address (`has_apart_addresses`), the
+//! one row of `meta` (`meta_row`), that with the rows of `site_text` (`told_rows`), of which `only_text`
+//! is the text, and whether the store holds a text (`has_site_text`). It changes nothing, and a crash
 //! leaves what it left before (`Tests`).
 #![tactic(auto)]
 
@@ -20,8 +20,8 @@ mod site_text;
 mod version;
 
 pub use addresses::has_apart_addresses;
-pub use found::{has_starts, has_whole_numbers};
+pub use found::{has_validity_rows, has_whole_numbers};
 pub use meta::{META_ID, Meta, meta_row};
 pub use schema::{is_empty_schema, version_of};
-pub use site_text::{has_text, only_text, told_rows};
+pub use site_text::{has_site_text, only_text, told_rows};
 pub use version::Version;

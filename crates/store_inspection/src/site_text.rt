@@ -3,7 +3,7 @@ ghost use Rattle.std.specs.Prelude.{◌≡◌, ◌≢◌, ◌↔◌, ℕ, pos, L
 ghost use Rattle.sqlite.specs.Held.{state};
 ghost use Rattle.sqlite.specs.Order.{column};
 ghost use Rattle.sqlite.specs.declared.types.Value.TheVariants.{Int as TheInt, Text as Words};
-ghost use Rattle.store_inspection.specs.Prelude.{IsFound, Sees, Tests, metas_in, IsMetaOf, HoldsText, IsOnlyText, IsTextAt, ShowTexts};
+ghost use Rattle.store_inspection.specs.Prelude.{IsFound, Sees, Tests, metas_in, IsMetaOf, HoldsSiteText, IsOnlyText, IsTextAt, ShowSiteTexts};
 ghost use Rattle.store_inspection.specs.declared.version.Version.TheVariants.{V3};
 
 use crate::meta::{Meta, meta_row};
@@ -16,7 +16,7 @@ const SELECT_SITE_TEXT: &str = "SELECT id, body FROM site_text ORDER BY id";
 
 fn text_rows<S: Alter>(conn: &mut Connection<S>) -> Result<Vec<Row>, Error>
     requires { Sees (IsFound V3) (state S.Store conn.old) }
-    ensures { Tests S.Store conn.old conn.new result (λ db rows. ShowTexts db rows.items) }
+    ensures { Tests S.Store conn.old conn.new result (λ db rows. ShowSiteTexts db rows.items) }
 {
     conn.query_all(SELECT_SITE_TEXT, &[])
 }
@@ -62,7 +62,7 @@ pub fn only_text(rows: &[Row]) -> Option<&str>
 pub fn told_rows<S: Alter>(conn: &mut Connection<S>) -> Result<(Option<Meta>, Vec<Row>), Error>
     requires { Sees (IsFound V3) (state S.Store conn.old) }
     ensures { Tests S.Store conn.old conn.new result
-        (λ db told. IsMetaOf (metas_in db) told.0 × ShowTexts db told.1.items) }
+        (λ db told. IsMetaOf (metas_in db) told.0 × ShowSiteTexts db told.1.items) }
 {
     let meta = meta_row(conn)?;
     let rows = text_rows(conn)?;
@@ -70,10 +70,10 @@ pub fn told_rows<S: Alter>(conn: &mut Connection<S>) -> Result<(Option<Meta>, Ve
 }
 
 /// Whether the store holds this text.
-pub fn has_text<S: Alter>(conn: &mut Connection<S>, text: &str) -> Result<bool, Error>
+pub fn has_site_text<S: Alter>(conn: &mut Connection<S>, text: &str) -> Result<bool, Error>
     requires { Sees (IsFound V3) (state S.Store conn.old) }
     ensures { Tests S.Store conn.old conn.new result (λ db same.
-        IsTrue same ↔ HoldsText text.now db) }
+        IsTrue same ↔ HoldsSiteText text.now db) }
 {
     let rows = text_rows(conn)?;
     match only_text(rows.as_slice()) {

@@ -31,7 +31,7 @@ impl Version {
     }
 
     /// Whether no beginning of validity is told in it.
-    pub fn tells_no_start(self) -> bool
+    pub fn has_no_validity_row(self) -> bool
         ensures { IsTrue result ↔ (number_of_version self ≡ 1) }
     {
         self.number() == 1

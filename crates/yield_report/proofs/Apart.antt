@@ -10,7 +10,7 @@ use Rattle.yield_report.specs.Prelude.{names_cmp, AreLines, IsLine, first_place,
 use Rattle.yield_report.specs.Prelude.{AreBegun}
 use Rattle.yield_report.specs.declared.lines.OrderLine.{OrderLine}
 use Rattle.yield_report.specs.declared.places.Place.{Place}
-use Rattle.yield_report.proofs.InOrder.{less_upto, lt_is_less, not_less_back, sorted_map, upto_less}
+use Rattle.yield_report.proofs.Ascending.{less_upto, lt_is_less, not_less_back, sorted_map, upto_less}
 
 pub names_total : IsTotalOrder names_cmp
 names_total = on_total (λ (l : OrderLine). l.name) nat_list_cmp_total

@@ -10,7 +10,7 @@ use Rattle.office_tables.proofs.Places.{same_place}
 use Rattle.yield_report.specs.Prelude.{with_device, Yield, devices_of, counted, names_cmp, AreAscending, AreLines, CountsDevice}
 use Rattle.yield_report.specs.declared.devices.DeviceScan.{DeviceScan}
 use Rattle.yield_report.specs.declared.lines.OrderLine.{OrderLine}
-use Rattle.yield_report.proofs.InOrder.{kept_on_walk, map_at, map_both, map_none, sorted_map}
+use Rattle.yield_report.proofs.Ascending.{kept_on_walk, map_at, map_both, map_none, sorted_map}
 
 -- one device, and the rest of them
 counted_more : (d : Device) (ds : List Device) (line : OrderLine) → counted ds (counted (d ∷ []) line) ≡ counted (d ∷ ds) line
@@ -24,8 +24,8 @@ counted_more d ds line =
     ]
 
 -- a line keeps its name
-pub counted_in_order : (ds : List Device) (lines : List OrderLine) → AreAscending lines → AreAscending (map (counted ds) lines)
-counted_in_order ds lines ordered = sorted_map names_cmp (counted ds) (λ x y. refl) lines ordered
+pub counted_ascending : (ds : List Device) (lines : List OrderLine) → AreAscending lines → AreAscending (map (counted ds) lines)
+counted_ascending ds lines ascending = sorted_map names_cmp (counted ds) (λ x y. refl) lines ascending
 
 abbrev devices_in : List (OfCustomer Device) → List Device
 devices_in rows = map (λ o. o.row) rows
@@ -33,13 +33,13 @@ devices_in rows = map (λ o. o.row) rows
 -- a walk in which each number had room counts all devices
 pub devices_counted : (old : DeviceScan) (rows : List (OfCustomer Device)) (new : DeviceScan) → Visits CountsDevice old rows new → new.is_over ≡ false
     → AreAscending old.lines.items → new.lines.items ≡ map (counted (devices_in rows)) old.lines.items
-devices_counted old [] new v room ordered = ap (λ (s : DeviceScan). s.lines.items) v ∙ sym (map-id old.lines.items)
-devices_counted old (row ∷ rows) new (true, mid, taken, later) room ordered =
-    let here = taken.lines refl ordered in
-    devices_counted mid rows new later room (subst AreAscending (sym here) (counted_in_order (row.row ∷ []) old.lines.items ordered))
+devices_counted old [] new v room ascending = ap (λ (s : DeviceScan). s.lines.items) v ∙ sym (map-id old.lines.items)
+devices_counted old (row ∷ rows) new (true, mid, taken, later) room ascending =
+    let here = taken.lines refl ascending in
+    devices_counted mid rows new later room (subst AreAscending (sym here) (counted_ascending (row.row ∷ []) old.lines.items ascending))
     ∙ (ap (map (counted (devices_in rows))) here
     ∙ map_both (counted (devices_in rows)) (counted (row.row ∷ [])) _ (counted_more row.row (devices_in rows)) old.lines.items)
-devices_counted old (row ∷ rows) new (false, mid, taken, later) room ordered =
+devices_counted old (row ∷ rows) new (false, mid, taken, later) room ascending =
     let over : new.is_over ≡ true = ap (λ (s : DeviceScan). s.is_over) later ∙ taken.over refl in
     cc
 
@@ -58,39 +58,39 @@ other_name a b o is other = sym (is_eq-slice_cmp a b) ∙ (ap is_eq is ∙ other
 -- the names of two lines differ
 names_differ : (lines : List OrderLine) → AreAscending lines → (i k : ℕ) (d : OrderLine) → i < length lines → k < length lines → (k ≡ i → ⊥)
     → bytes_eq (get_or lines k d).name (get_or lines i d).name ≡ false
-names_differ lines ordered i k d within inside other =
+names_differ lines ascending i k d within inside other =
     elim (cases_lt k i) [
-      | inl less ↦ other_name (get_or lines k d).name (get_or lines i d).name Less (Less-from_sorted names_cmp lines k i d ordered less within) refl
+      | inl less ↦ other_name (get_or lines k d).name (get_or lines i d).name Less (Less-from_sorted names_cmp lines k i d ascending less within) refl
       | inr most ↦
           nat_list_eq_equiv.symm (get_or lines k d).name (get_or lines i d).name
-          ∙ other_name (get_or lines i d).name (get_or lines k d).name Less (Less-from_sorted names_cmp lines i k d ordered (omega arith) inside) refl
+          ∙ other_name (get_or lines i d).name (get_or lines k d).name Less (Less-from_sorted names_cmp lines i k d ascending (omega arith) inside) refl
     ]
 
 -- the device is of the line that was found, and of no other
 pub counted_at : (d : Device) (lines slice : List OrderLine) (r : Result ℕ ℕ) (i : ℕ) (line : OrderLine) → AreAscending lines → slice ≡ lines
     → IsBinarySearchResult (λ (l : OrderLine). text_cmp l.name d.order) slice r → r ≡ Ok i → i < length lines → line ≡ get_or lines i line
     → slice_set lines i (counted (d ∷ []) line) ≡ map (counted (d ∷ [])) lines
-counted_at d lines slice r i line ordered same found is within read =
+counted_at d lines slice r i line ascending same found is within read =
     let here = subst (IsBinarySearchResult (λ (l : OrderLine). text_cmp l.name d.order) lines) is
     (subst (λ ls. IsBinarySearchResult (λ (l : OrderLine). text_cmp l.name d.order) ls r) same found) in
     sym (map_at (counted (d ∷ [])) lines i line within read (λ k e inside other.
     counted_other d (get_or lines k e)
     (ap (bytes_eq (get_or lines k e).name) (sym (same_place (get_or lines i e).name d.order (here e)))
-    ∙ names_differ lines ordered i k e within inside other)))
+    ∙ names_differ lines ascending i k e within inside other)))
 
 -- names in order can be searched
 searchable : (lines : List OrderLine) → AreAscending lines → IsSortedBy (λ a b. is_lt (names_cmp a b)) lines
-searchable lines ordered k d least within =
+searchable lines ascending k d least within =
     ap is_lt (nat_list_cmp_total.antisymm (get_or lines (k + 1) d).name (get_or lines k d).name
-    ∙ ap ordering_reverse (Less-from_sorted names_cmp lines k (k + 1) d ordered (omega arith) within))
+    ∙ ap ordering_reverse (Less-from_sorted names_cmp lines k (k + 1) d ascending (omega arith) within))
 
 -- the device is of none
 pub counted_nowhere : (d : Device) (lines slice : List OrderLine) (r : Result ℕ ℕ) (i : ℕ) → AreAscending lines → slice ≡ lines
     → IsBinarySearchResult (λ (l : OrderLine). text_cmp l.name d.order) slice r → r ≡ Err i → lines ≡ map (counted (d ∷ [])) lines
-counted_nowhere d lines slice r i ordered same found is =
+counted_nowhere d lines slice r i ascending same found is =
     let point = subst (IsBinarySearchResult (λ (l : OrderLine). text_cmp l.name d.order) lines) is
     (subst (λ ls. IsBinarySearchResult (λ (l : OrderLine). text_cmp l.name d.order) ls r) same found)
-    (searchable_from_sorted nat_list_cmp_total (λ (l : OrderLine). l.name) lines d.order (searchable lines ordered)) in
+    (searchable_from_sorted nat_list_cmp_total (λ (l : OrderLine). l.name) lines d.order (searchable lines ascending)) in
     sym (map_none (counted (d ∷ [])) lines (λ k e within.
     counted_other d (get_or lines k e) (elim (cases_lt k i) [
       | inl below ↦ other_name (get_or lines k e).name d.order Less (point.0 k e (omega arith) below) refl

@@ -6,11 +6,11 @@ use Rattle.std.specs.List.Sorted.{IsStrictlySortedBy}
 use Rattle.office_tables.specs.Prelude.{is_of, order_cmp, rows_of, text_cmp, IsAscending, Visits}
 use Rattle.office_tables.specs.declared.rows.Order.{Order}
 use Rattle.office_tables.specs.declared.rows.OfCustomer.{OfCustomer}
-use Rattle.office_tables.proofs.Placing.{own_in_order}
+use Rattle.office_tables.proofs.Placing.{own_ascending}
 use Rattle.yield_report.specs.Prelude.{first_line, names_cmp, AreAscending, AreLines, GathersOrder}
 use Rattle.yield_report.specs.declared.lines.OrderScan.{OrderScan}
 use Rattle.yield_report.specs.declared.lines.OrderLine.{OrderLine}
-use Rattle.yield_report.proofs.InOrder.{kept_on_walk}
+use Rattle.yield_report.proofs.Ascending.{kept_on_walk}
 
 abbrev lines_in : List (OfCustomer Order) → List OrderLine
 lines_in rows = map first_line (map (λ o. o.row) rows)
@@ -23,14 +23,14 @@ lines_gathered old (row ∷ rows) new (true, mid, taken, later) room =
     lines_gathered mid rows new later room ∙ (ap (λ lines. lines ++ lines_in rows) (taken.lines refl)
     ∙ append_assoc old.lines.items (first_line row.row ∷ []) (lines_in rows))
 lines_gathered old (row ∷ rows) new (false, mid, taken, later) room =
-    let stopped : new.has_no_memory ≡ true = ap (λ (s : OrderScan). s.has_no_memory) later ∙ taken.stopped refl in
+    let no_memory : new.has_no_memory ≡ true = ap (λ (s : OrderScan). s.has_no_memory) later ∙ taken.no_memory refl in
     cc
 
 pub lines_fit : (old : OrderScan) (rows : List (OfCustomer Order)) (new : OrderScan) → Visits GathersOrder old rows new → new.has_no_memory ≡ false
     → AreLines old.lines.items → AreLines new.lines.items
 lines_fit =
     kept_on_walk GathersOrder (λ s. AreLines s.lines.items) (λ s. s.has_no_memory) (λ s r t taken. taken.are_lines refl)
-    (λ s r t taken. taken.stopped refl)
+    (λ s r t taken. taken.no_memory refl)
 
 -- the orders of a customer are in the order of their names
 same_customer : (customer : List ℕ) (a b : OfCustomer Order) → is_of customer a ≡ true → is_of customer b ≡ true
@@ -52,7 +52,7 @@ lines_rise [] up = tt
 lines_rise (o ∷ orders) up = (lines_below o orders up.0, lines_rise orders up.1)
 
 -- the lines of a customer's orders are in the order of their names
-pub lines_in_order : (customer : List ℕ) (rows : List (OfCustomer Order)) → IsAscending order_cmp rows → AreAscending (map first_line (rows_of customer rows))
-lines_in_order customer rows up =
+pub lines_ascending : (customer : List ℕ) (rows : List (OfCustomer Order)) → IsAscending order_cmp rows → AreAscending (map first_line (rows_of customer rows))
+lines_ascending customer rows up =
     lines_rise (rows_of customer rows)
-    (own_in_order customer order_cmp (λ a b. text_cmp a.name b.name) (same_customer customer) rows up)
+    (own_ascending customer order_cmp (λ a b. text_cmp a.name b.name) (same_customer customer) rows up)

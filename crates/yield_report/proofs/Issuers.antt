@@ -10,7 +10,7 @@ use Rattle.yield_report.specs.Prelude.{HasIssued, count_of_range, issued_count, 
 use Rattle.yield_report.specs.Prelude.{has_issued_in, serials_of, AreRising}
 use Rattle.yield_report.specs.declared.lines.OrderLine.{OrderLine}
 use Rattle.yield_report.proofs.Apart.{apart_map}
-use Rattle.yield_report.proofs.InOrder.{either}
+use Rattle.yield_report.proofs.Ascending.{either}
 use Rattle.yield_report.proofs.RisingSerials.{given_is_listed, left_count}
 
 -- as many records are of the line's range as its serial numbers are given

@@ -4,7 +4,7 @@ pub mod Counted
 pub mod Digits
 pub mod Gathered
 pub mod Groups
-pub mod InOrder
+pub mod Ascending
 pub mod Issuers
 pub mod RisingSerials
 pub mod Placed

@@ -10,7 +10,7 @@ use Rattle.office_tables.specs.declared.rows.Given.{Given}
 use Rattle.office_tables.specs.declared.rows.OfCustomer.{OfCustomer}
 use Rattle.office_tables.specs.Prelude.{given_cmp, is_serial_of, is_of_issuer, text_cmp, IsAscending}
 use Rattle.yield_report.specs.Prelude.{has_serial, serials_in, AreRising}
-use Rattle.yield_report.proofs.InOrder.{lt_is_less}
+use Rattle.yield_report.proofs.Ascending.{lt_is_less}
 
 -- the text isn't one of these
 abbrev is_new : List (List ℕ) → Range → ℕ → Bool
@@ -130,12 +130,12 @@ rise_after issuer last (row ∷ rows) mine below up =
     ] refl
 
 -- the serial numbers of an issuer's records rise where the records are in order
-pub rise_in_order : (issuer : List ℕ) (rows : List (OfCustomer Given)) → IsAscending given_cmp rows
+pub serials_rise : (issuer : List ℕ) (rows : List (OfCustomer Given)) → IsAscending given_cmp rows
     → AreRising None (serials_in (filter (is_of_issuer issuer) rows))
-rise_in_order issuer [] up = tt
-rise_in_order issuer (row ∷ rows) up =
+serials_rise issuer [] up = tt
+serials_rise issuer (row ∷ rows) up =
     elim (is_of_issuer issuer row) as (λ b. is_of_issuer issuer row ≡ b
     → AreRising None (serials_in (cond b (row ∷ filter (is_of_issuer issuer) rows) (filter (is_of_issuer issuer) rows)))) [
       | true ↦ λ mine. (refl, rise_after issuer row rows mine up.0 up.1)
-      | false ↦ λ _. rise_in_order issuer rows up.1
+      | false ↦ λ _. serials_rise issuer rows up.1
     ] refl

@@ -4,10 +4,10 @@ use Rattle.std.proofs.lemmas.List.{length-map, map_push, take_more}
 use Rattle.std.proofs.lemmas.List.Elements.{recursion_from_All, All-push}
 use Rattle.site_core.specs.Prelude.{SiteValue}
 use Rattle.office_tables.specs.Prelude.{Tables, rows_of}
-use Rattle.yield_report.specs.Prelude.{Yield, total, whole_line, customer_line_in, customers_in_order, has_issued_in, IsSiteReport, named_numbers, numbers_in}
+use Rattle.yield_report.specs.Prelude.{Yield, total, whole_line, customer_line_in, sorted_customers, has_issued_in, IsSiteReport, named_numbers, numbers_in}
 use Rattle.yield_report.specs.Prelude.{with_report_row, AreWhole, FitsCustomer, customer_total, report_text, site_header, AreStorable}
 use Rattle.yield_report.specs.declared.lines.OrderLine.{OrderLine}
-use Rattle.yield_report.proofs.InOrder.{map_both}
+use Rattle.yield_report.proofs.Ascending.{map_both}
 use Rattle.yield_report.proofs.WholeLines.{report_more}
 
 -- the line of a customer, and that the tables have room for its numbers
@@ -46,7 +46,7 @@ site_more t u names i customer before after within here was same answer =
     )
 
 -- the whole report
-pub site_is : (site : SiteValue) (t : Tables) (names : List (List ℕ)) (text : List ℕ) → names ≡ customers_in_order site → IsReported t names text
+pub site_is : (site : SiteValue) (t : Tables) (names : List (List ℕ)) (text : List ℕ) → names ≡ sorted_customers site → IsReported t names text
     → IsSiteReport site t text
 site_is site t names text is all =
-    let whole = subst (λ ns. IsReported t ns text) is all in (whole.0, recursion_from_All (FitsCustomer t) (customers_in_order site) whole.1)
+    let whole = subst (λ ns. IsReported t ns text) is all in (whole.0, recursion_from_All (FitsCustomer t) (sorted_customers site) whole.1)

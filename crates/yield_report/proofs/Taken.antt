@@ -9,7 +9,7 @@ use Rattle.yield_report.specs.Prelude.{left_place, with_less, Yield, count_of_ra
 use Rattle.yield_report.specs.declared.left.GivenScan.{GivenScan}
 use Rattle.yield_report.specs.declared.lines.OrderLine.{OrderLine}
 use Rattle.yield_report.proofs.Apart.{apart_map}
-use Rattle.yield_report.proofs.InOrder.{either, map_both}
+use Rattle.yield_report.proofs.Ascending.{either, map_both}
 
 -- nothing is taken
 pub less_none : (line : OrderLine) → less 0 line ≡ line

@@ -14,7 +14,7 @@ use Rattle.yield_report.specs.Prelude.{with_device, with_less, HasIssued, Yield,
 use Rattle.yield_report.specs.Prelude.{first_line, left_in, names_cmp, whole_line, AreAscending, AreLines, IsLine, has_issued_in, IsOrderReport, line_fields}
 use Rattle.yield_report.specs.Prelude.{lines_text, order_header, report_text, AreStorable}
 use Rattle.yield_report.specs.declared.lines.OrderLine.{OrderLine}
-use Rattle.yield_report.proofs.InOrder.{map_both, sorted_again, sorted_map}
+use Rattle.yield_report.proofs.Ascending.{map_both, sorted_again, sorted_map}
 use Rattle.yield_report.proofs.Apart.{names_total}
 
 -- the numbers of an order with one device more
@@ -92,6 +92,6 @@ lines_text_more lines line =
 pub sorted_back : (f : OrderLine → OrderLine) → ((x y : OrderLine) → names_cmp (f x) (f y) ≡ names_cmp x y)
     → (lines moved left back : List OrderLine) → AreAscending lines → IsPermutation lines moved → left ≡ map f moved → IsPermutation left back
     → IsSortedByKey (λ (l : OrderLine). l.name) text_cmp back → back ≡ map f lines
-sorted_back f same lines moved left back ordered there is again sorted =
-    sorted_again names_total (map f lines) back (sorted_map names_cmp f same lines ordered)
+sorted_back f same lines moved left back ascending there is again sorted =
+    sorted_again names_total (map f lines) back (sorted_map names_cmp f same lines ascending)
     (IsPermutation-trans _ _ _ (IsPermutation-map f lines moved there) (subst (λ (ls : List OrderLine). IsPermutation ls back) is again)) sorted

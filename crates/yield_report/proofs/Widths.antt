@@ -8,7 +8,7 @@ use Rattle.yield_report.specs.Prelude.{taken, taken_in, AreLines, IsLine, place_
 use Rattle.yield_report.specs.declared.lines.OrderLine.{OrderLine}
 use Rattle.yield_report.specs.declared.places.Place.{Place}
 use Rattle.yield_report.proofs.Digits.{has_none}
-use Rattle.yield_report.proofs.InOrder.{either, map_at, map_none}
+use Rattle.yield_report.proofs.Ascending.{either, map_at, map_none}
 use Rattle.yield_report.proofs.Apart.{apart_map, last_begun}
 use Rattle.yield_report.proofs.Taken.{issuer_taken, less_none, range_taken}
 

@@ -45,7 +45,7 @@ pub record GathersOrder (old : OrderScan) (row : OfCustomer Order) (goes_on : Bo
   pub lines : goes_on ≡ true → new.lines.items ≡ old.lines.items ++ first_line row.row ∷ []
   pub are_lines : goes_on ≡ true → AreLines old.lines.items → AreLines new.lines.items
   pub same : goes_on ≡ true → new.has_no_memory ≡ old.has_no_memory
-  pub stopped : goes_on ≡ false → new.has_no_memory ≡ true
+  pub no_memory : goes_on ≡ false → new.has_no_memory ≡ true
 
 -- the line with those of these devices that are of its order
 abbrev pub counted : List Device → OrderLine → OrderLine

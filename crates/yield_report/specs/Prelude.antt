@@ -6,7 +6,7 @@ pub use Rattle.yield_report.specs.Lines.{AreAscending, AreLines, count_of_range,
 pub use Rattle.yield_report.specs.Lines.{issued_count, left_in, left_so_far, less, names_cmp, new_issuer, taken, taken_in, TakesSerial}
 pub use Rattle.yield_report.specs.Lines.{whole_line, with_one}
 pub use Rattle.yield_report.specs.Places.{AreApart, AreBegun, first_place, is_begun, last_place, lines_cmp, place_cmp, place_of, stands_before}
-pub use Rattle.yield_report.specs.Reports.{customer_line_in, customers_in_order, has_issued_in, in_order, IsOrderReport, IsSiteReport, order_report_in}
+pub use Rattle.yield_report.specs.Reports.{customer_line_in, sorted_customers, has_issued_in, sorted_names, IsOrderReport, IsSiteReport, order_report_in}
 pub use Rattle.yield_report.specs.Reports.{site_report_in}
 pub use Rattle.yield_report.specs.Rows.{AreWhole, FitsCustomer, line_fields, lines_text, named_numbers, numbers_in, with_report_row}
 pub use Rattle.yield_report.specs.Serials.{AreRising, follows, has_serial, serials_in, serials_of}

@@ -21,13 +21,13 @@ IsOrderReport customer t text =
     × AllByRecursion (λ o. AreStorable (yield_of (has_issued_in t) (rows_of customer t.devices) o)) (rows_of customer t.orders)
 
 -- names in the order of their bytes
-abbrev pub in_order : List (List ℕ) → List (List ℕ)
-in_order [] = []
-in_order (name ∷ names) = with_row text_cmp name (in_order names)
+abbrev pub sorted_names : List (List ℕ) → List (List ℕ)
+sorted_names [] = []
+sorted_names (name ∷ names) = with_row text_cmp name (sorted_names names)
 
 -- the site's customers in that order
-abbrev pub customers_in_order : SiteValue → List (List ℕ)
-customers_in_order site = in_order (map (λ c. c.name) site.customers)
+abbrev pub sorted_customers : SiteValue → List (List ℕ)
+sorted_customers site = sorted_names (map (λ c. c.name) site.customers)
 
 -- the line of a customer in the site's report, by the tables
 abbrev pub customer_line_in : Tables → List ℕ → List (List ℕ)
@@ -35,7 +35,7 @@ customer_line_in t customer = customer_line customer (has_issued_in t) (rows_of 
 
 -- the manager's report: a line for each customer of the site
 abbrev pub site_report_in : SiteValue → Tables → List ℕ
-site_report_in site t = report_text (site_header ∷ map (customer_line_in t) (customers_in_order site))
+site_report_in site t = report_text (site_header ∷ map (customer_line_in t) (sorted_customers site))
 
 -- the report of a site, of numbers that the tables have room for
 abbrev pub IsSiteReport : SiteValue → Tables → List ℕ → Type 0
@@ -43,4 +43,4 @@ IsSiteReport site t text =
     (text ≡ site_report_in site t)
     × AllByRecursion (λ customer. AreStorable (length (rows_of customer t.orders)
     ∷ customer_total (has_issued_in t) (rows_of customer t.orders) (rows_of customer t.devices)))
-    (customers_in_order site)
+    (sorted_customers site)

@@ -1,7 +1,7 @@
-// The names of a site's customers, in order.
+// The names of a site's customers, sorted.
 ghost use Rattle.std.specs.Prelude.{◌≡◌, IfOk, OnOk};
 ghost use Rattle.office_tables.specs.Prelude.{with_row, text_cmp};
-ghost use Rattle.yield_report.specs.Prelude.{customers_in_order};
+ghost use Rattle.yield_report.specs.Prelude.{sorted_customers};
 
 use site_core::Site;
 use std::alloc::{AllocError, Global};
@@ -31,7 +31,7 @@ fn place(names: &mut Vec<Name>, name: Name) -> Result<(), AllocError>
 
 /// The names of a site's customers, in the order of their bytes.
 pub(crate) fn customer_names(alloc: Global, site: &Site) -> Result<Vec<Name>, AllocError>
-    ensures { IfOk result (λ names. names.items ≡ customers_in_order site.now) }
+    ensures { IfOk result (λ names. names.items ≡ sorted_customers site.now) }
 {
     let customers = site.customers();
     let mut names = Vec::new(alloc);

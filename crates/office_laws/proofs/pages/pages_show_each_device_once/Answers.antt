@@ -1,10 +1,10 @@
 use Rattle.std.proofs.Common.{None}
-use Rattle.office_laws.proofs.DevicePages.{devices_in_order, page_ends, page_leaves, pages_are_all}
+use Rattle.office_laws.proofs.DevicePages.{devices_ascending, page_ends, page_leaves, pages_are_all}
 use Rattle.office_rules.specs.Prelude.{devices_behind}
 use Rattle.office_laws.proofs.pages.pages_show_each_device_once.Goals as goal
 
-pub returns-clause-in_order : goal.returns-clause-in_order
-returns-clause-in_order c = devices_in_order
+pub returns-clause-ascending : goal.returns-clause-ascending
+returns-clause-ascending c = devices_ascending
 
 pub returns-clause-next : goal.returns-clause-next
 returns-clause-next c = page_leaves

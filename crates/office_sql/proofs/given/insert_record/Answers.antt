@@ -26,4 +26,4 @@ returns-clause-changes g c =
     (λ x y _. SqlAdds table.given_starts (given_start_columns given) x y) (λ x y _.
     SqlAdds table.given_starts (given_start_columns given) x y)
     c.in_ok-insert_given_start.ensures.changes (λ x y adds. adds))
-    (λ _ up adds starts. given_wrote given back _ _ _ (c.requires.office up) (c.requires.free up) (c.requires.address_free up) adds starts)
+    (λ _ up adds side. given_wrote given back _ _ _ (c.requires.office up) (c.requires.free up) (c.requires.address_free up) adds side)

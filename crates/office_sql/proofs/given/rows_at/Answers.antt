@@ -14,5 +14,5 @@ returns g c =
     (λ rows office a.
     at_shown c.args.issuer.now c.args.serial.now
     (overlay (state g.S.Store c.args.conn.now).now.trees []) rows.items (office.rows given)
-    office.given_started a)
+    office.given_validity a)
     c.query_all.ensures.ok c.query_all.ensures.err c.query_all.ensures.mode c.query_all.ensures.survives

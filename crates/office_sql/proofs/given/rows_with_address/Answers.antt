@@ -13,5 +13,5 @@ returns-clause-looks g c =
     (λ rows office a mac is.
     address_shown mac c.args.text.now is
     (overlay (state g.S.Store c.args.tx.now.conn.now).now.trees []) rows.items (office.rows given)
-    office.given_started a)
+    office.given_validity a)
     c.query_all.ensures.ok c.query_all.ensures.err c.query_all.ensures.survives

@@ -16,5 +16,5 @@ returns g c =
     visits_as g.S.Store _ _ all_read _ (Text issuer
     ∷ []) (search rules) c.args.conn.now c.visit_rows.new.conn
     g.K.Sink.takes joined_given c.visit_rows.result c.args.sink.now c.visit_rows.new.sink (λ t. filter (is_of_issuer issuer) t.given) c.requires
-    (λ rows office a. all_shown issuer (overlay (state g.S.Store c.args.conn.now).now.trees []) rows (office.rows given) office.given_started a)
+    (λ rows office a. all_shown issuer (overlay (state g.S.Store c.args.conn.now).now.trees []) rows (office.rows given) office.given_validity a)
     c.visit_rows.ensures.visited c.visit_rows.ensures.same c.visit_rows.ensures.rests c.visit_rows.ensures.mode c.visit_rows.ensures.crash

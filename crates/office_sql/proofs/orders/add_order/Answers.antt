@@ -22,7 +22,7 @@ returns-clause-changes g c =
     (λ x y _. SqlAdds order_starts (order_start_columns order) x y) (λ x y _.
     SqlAdds order_starts (order_start_columns order) x y)
     c.in_ok-insert_order_start.ensures.changes (λ x y adds. adds))
-    (λ _ up adds starts.
+    (λ _ up adds side.
     order_added order
     (address_back _ order.row.mac c.in_ok-address.ensures.is c.in_ok-address.ensures.back) _ _ _
-    (c.requires.office up) (c.requires.free up) adds starts)
+    (c.requires.office up) (c.requires.free up) adds side)

@@ -50,7 +50,7 @@ upgrade_tables-requires g c =
         earlier = c.requires.earlier;
         found = λ up. (is (clean up)).0.0;
         told = λ up. (sha256 site.text, (is (clean up)).1);
-        started = λ later up. (is (clean up)).2 later;
+        validity = λ later up. (is (clean up)).2 later;
       };
       mode = test.mode;
       shows_committed = λ up. (found g.S.Store site c.args.version c.args.conn.now mid c.requires.can.shows_committed test).shows_committed (clean up);

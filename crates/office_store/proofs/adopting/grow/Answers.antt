@@ -1,5 +1,5 @@
 use Rattle.sqlite.proofs.StateLemmas.{clean_if_open}
-use Rattle.office_store.proofs.FoundStarts.{office_of}
+use Rattle.office_store.proofs.FoundValidity.{office_of}
 use Rattle.office_store.proofs.Preparing.{grew, not_grown}
 use Rattle.office_store.proofs.adopting.grow.Goals as goal
 

@@ -1,49 +1,49 @@
 use Rattle.std.proofs.Common.{◌↔◌, ◌∙◌, Bool, Ok, Err, IsTrue, subst, sym, true≢false}
 use Rattle.std.specs.Prelude.{⊤}
 use Rattle.office_sql.proofs.Kit.{Error, Database, clean_if_open}
-use Rattle.store_inspection.specs.Prelude.{Tests, HoldsText}
+use Rattle.store_inspection.specs.Prelude.{Tests, HoldsSiteText}
 use Rattle.office_store.proofs.Preparing.{has_it, not_asked, prepared_after}
 use Rattle.office_store.proofs.adopting.hold_text.Goals as goal
 
-pub has_text-requires : goal.has_text-requires
-has_text-requires g c up =
+pub has_site_text-requires : goal.has_site_text-requires
+has_site_text-requires g c up =
     let store = c.args.conn.now.store in
     c.requires.found.found (clean_if_open (g.S.Store.view store) (g.met.S.Store.shut_if_dirty store) up)
 
 pub returns-in-Ok-true : goal.returns-in-Ok-true
 returns-in-Ok-true g c =
     let old = c.args.conn.now in
-    let conn = c.has_text.new.conn in
+    let conn = c.has_site_text.new.conn in
     let test = subst (λ t.
     Tests {E = Error} g.S.Store old conn (Ok c.in-Ok-true.field-0) (λ db same.
-    IsTrue same ↔ HoldsText t db)) c.text.ensures.same c.in-Ok-true.ensures in
+    IsTrue same ↔ HoldsSiteText t db)) c.text.ensures.same c.in-Ok-true.ensures in
     has_it g.S.Store c.args.site.now old conn (clean_if_open (g.S.Store.view conn.store) (g.met.S.Store.shut_if_dirty conn.store))
     c.requires.found c.requires.apart c.requires.can (test.mode c.requires.found.mode) c.in-Ok-true.field-0 c.in-Ok-true.field-0-test test
 
 pub returns-in-Err : goal.returns-in-Err
 returns-in-Err g c =
     let old = c.args.conn.now in
-    let conn = c.has_text.new.conn in
+    let conn = c.has_site_text.new.conn in
     let test = subst (λ t.
     Tests {A = Bool} g.S.Store old conn (Err c.in-Err.field-0) (λ db same.
-    IsTrue same ↔ HoldsText t db)) c.text.ensures.same c.in-Err.ensures in
+    IsTrue same ↔ HoldsSiteText t db)) c.text.ensures.same c.in-Err.ensures in
     not_asked g.S.Store c.args.site.now old conn (clean_if_open (g.S.Store.view conn.store) (g.met.S.Store.shut_if_dirty conn.store))
     c.requires.found c.requires.apart c.requires.can (test.mode c.requires.found.mode) c.in-Err.field-0 test
 
 pub grow-requires-clause-other : goal.grow-requires-clause-other
 grow-requires-clause-other g c = λ clean holds.
     let old = c.args.conn.now in
-    let conn = c.has_text.new.conn in
+    let conn = c.has_site_text.new.conn in
     let test = subst (λ t.
     Tests {E = Error} g.S.Store old conn (Ok c.in-Ok-false.field-0) (λ db same.
-    IsTrue same ↔ HoldsText t db)) c.text.ensures.same c.in-Ok-false.ensures in
-    let had = subst (λ (d : Database). HoldsText c.args.site.now.text d.trees) (test.same clean).0.now_is holds in
+    IsTrue same ↔ HoldsSiteText t db)) c.text.ensures.same c.in-Ok-false.ensures in
+    let had = subst (λ (d : Database). HoldsSiteText c.args.site.now.text d.trees) (test.same clean).0.now_is holds in
     true≢false (sym ((test.answer clean).1 had) ∙ c.in-Ok-false.field-0-test)
 
 pub returns-in-Ok-false : goal.returns-in-Ok-false
 returns-in-Ok-false g c =
     let test = c.in-Ok-false.ensures in
-    prepared_after g.S.Store c.args.site.now c.args.conn.now c.has_text.new.conn c.grow.new.conn c.grow.result (λ _. ⊤)
+    prepared_after g.S.Store c.args.site.now c.args.conn.now c.has_site_text.new.conn c.grow.new.conn c.grow.result (λ _. ⊤)
     (record {
       answer = λ clean. tt;
       same = test.same;

@@ -5,7 +5,7 @@ use Rattle.site_core.specs.Prelude.{TextOfSite}
 use Rattle.office_store.proofs.Types.{Version}
 use Rattle.office_store.specs.Prelude.{Examines, IsFoundApart, IsTestedFor}
 use Rattle.store_inspection.specs.Prelude.{HasMeta, number_of_version}
-use Rattle.office_store.proofs.Refusals.{are_asked, examines_weaker, found_after, is_err, says_nothing, starts_asked}
+use Rattle.office_store.proofs.Refusals.{are_asked, examines_weaker, found_after, is_err, says_nothing, validity_asked}
 use Rattle.office_store.proofs.adopting.test_earlier.Goals as goal
 
 -- what the first test says
@@ -16,13 +16,13 @@ Known version site db = IsFoundApart version db × HasMeta version (sha256 site.
 abbrev Whole : Version → TextOfSite → Database → Type 0
 Whole version site = IsTestedFor (sha256 site.text) version
 
-pub has_starts-requires : goal.has_starts-requires
-has_starts-requires g c up =
+pub has_validity_rows-requires : goal.has_validity_rows-requires
+has_validity_rows-requires g c up =
     let v = c.args.version in
     let site = c.args.site.now in
     let mid = c.test_tables.new.conn in (
       v,
-      (λ e. true≢false (sym (c.tells_no_start.ensures.1 e) ∙ c.if-tells_no_start.false)),
+      (λ e. true≢false (sym (c.has_no_validity_row.ensures.1 e) ∙ c.if-has_no_validity_row.false)),
       (found_after g.S.Store site c.args.conn.now mid (Known v site) v c.in_ok-test_tables.ensures c.requires.can.shows_committed
           (λ calm both. both.0.0)).found (clean_if_open (g.S.Store.view mid.store) (g.met.S.Store.shut_if_dirty mid.store) up),
     )
@@ -31,20 +31,20 @@ pub returns : goal.returns
 returns g c =
     let v = c.args.version in
     let site = c.args.site.now in
-    let new = c.has_starts.new.conn in
-    let later : number_of_version v ≢ 1 = λ e. true≢false (sym (c.tells_no_start.ensures.1 e) ∙ c.if-tells_no_start.false) in
-    starts_asked g.S.Store site c.args.conn.now c.test_tables.new.conn new
+    let new = c.has_validity_rows.new.conn in
+    let later : number_of_version v ≢ 1 = λ e. true≢false (sym (c.has_no_validity_row.ensures.1 e) ∙ c.if-has_no_validity_row.false) in
+    validity_asked g.S.Store site c.args.conn.now c.test_tables.new.conn new
     (clean_if_open (g.S.Store.view new.store) (g.met.S.Store.shut_if_dirty new.store)) c.requires.can.shows_committed
     v (Known v site) (Whole v site) c.in_ok-test_tables.ensures
     (λ db known. (known.0.0, are_asked (sha256 site.text) v db.trees c.requires.earlier later known.1))
-    (λ db known has. (known.0, known.1, λ _. has)) _ c.has_starts.ensures _ c.judge_answer.ensures
+    (λ db known has. (known.0, known.1, λ _. has)) _ c.has_validity_rows.ensures _ c.judge_answer.ensures
 
-pub returns-then-tells_no_start : goal.returns-then-tells_no_start
-returns-then-tells_no_start g c =
+pub returns-then-has_no_validity_row : goal.returns-then-has_no_validity_row
+returns-then-has_no_validity_row g c =
     let v = c.args.version in
     let site = c.args.site.now in
     examines_weaker g.S.Store site c.args.conn.now c.test_tables.new.conn (Known v site) (Whole v site) c.in_ok-test_tables.ensures
-    (λ calm known. (known.0, known.1, λ later. absurd (later (c.tells_no_start.ensures.0 c.if-tells_no_start.true))))
+    (λ calm known. (known.0, known.1, λ later. absurd (later (c.has_no_validity_row.ensures.0 c.if-has_no_validity_row.true))))
 
 pub returns-in_err-test_tables : goal.returns-in_err-test_tables
 returns-in_err-test_tables g c =

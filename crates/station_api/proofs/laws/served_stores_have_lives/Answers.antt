@@ -5,8 +5,8 @@ pub returns-clause-stopped : goal.returns-clause-stopped
 returns-clause-stopped g c = λ s left honest may.
     stopped_life g.K.Keep s (λ up. s.fresh (g.K.Keep.tables s.opened) (g.met.K.Keep.stands s.opened up)) honest left may
 
-pub returns-clause-in_order : goal.returns-clause-in_order
-returns-clause-in_order g c = λ s up.
+pub returns-clause-ended_properly : goal.returns-clause-ended_properly
+returns-clause-ended_properly g c = λ s up.
     open_life g.K.Keep s (λ begun. s.fresh (g.K.Keep.tables s.opened) (g.met.K.Keep.stands s.opened begun)) (g.met.K.Keep.clean s.ended up) up
 
 pub returns-clause-text : goal.returns-clause-text

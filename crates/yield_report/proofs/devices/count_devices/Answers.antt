@@ -8,5 +8,5 @@ returns g c = record {
   stays_open = search rules;
   answer = λ is.
       let visits = c.in_ok-visit_devices.ensures.answer is in
-      (λ ordered. devices_counted _ _ _ visits c.if-scan.false ordered, devices_fit _ _ _ visits c.if-scan.false);
+      (λ ascending. devices_counted _ _ _ visits c.if-scan.false ascending, devices_fit _ _ _ visits c.if-scan.false);
 }

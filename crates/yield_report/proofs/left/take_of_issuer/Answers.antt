@@ -1,5 +1,5 @@
 use Rattle.std.proofs.Common.{rules}
-use Rattle.yield_report.proofs.RisingSerials.{rise_in_order}
+use Rattle.yield_report.proofs.RisingSerials.{serials_rise}
 use Rattle.yield_report.proofs.Taken.{serials_fit, serials_taken}
 use Rattle.yield_report.proofs.left.take_of_issuer.Goals as goal
 
@@ -9,6 +9,6 @@ returns g c = record {
   stays_open = search rules;
   answer = λ is.
       let visits = c.in_ok-visit_given.ensures.answer is in
-      let ordered = c.fact_ascending.ensures (c.visit_given.ensures.read_only.was_open is) in
-      (rise_in_order c.args.issuer.now _ ordered.given, λ are apart. serials_taken _ _ _ visits are apart, serials_fit _ _ _ visits);
+      let ascending = c.fact_ascending.ensures (c.visit_given.ensures.read_only.was_open is) in
+      (serials_rise c.args.issuer.now _ ascending.given, λ are apart. serials_taken _ _ _ visits are apart, serials_fit _ _ _ visits);
 }

@@ -1,6 +1,6 @@
 use Rattle.std.proofs.Common.{◌∷◌, [], ◌∙◌, ap, subst, sym, arith, map}
 use Rattle.yield_report.specs.Prelude.{taken_in, AreApart}
-use Rattle.yield_report.proofs.InOrder.{map_both}
+use Rattle.yield_report.proofs.Ascending.{map_both}
 use Rattle.yield_report.proofs.Widths.{below_apart, below_more, first_width, last_width, taken_below}
 use Rattle.yield_report.proofs.left.take_serial.Goals as goal
 

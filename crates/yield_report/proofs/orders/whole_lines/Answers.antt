@@ -2,7 +2,7 @@ use Rattle.text_core.proofs.Kit.{◌∙◌, ap, map, subst, sym, IfOk-weaker}
 use Rattle.office_tables.proofs.Reading.{reads_more}
 use Rattle.office_tables.specs.Prelude.{rows_of}
 use Rattle.yield_report.specs.Prelude.{counted, left_in, AreAscending, has_issued_in}
-use Rattle.yield_report.proofs.Counted.{counted_in_order}
+use Rattle.yield_report.proofs.Counted.{counted_ascending}
 use Rattle.yield_report.proofs.WholeLines.{lines_whole}
 use Rattle.yield_report.proofs.orders.whole_lines.Goals as goal
 
@@ -21,8 +21,8 @@ returns g c = record {
       let devices = rw same_before at (c.in_ok-counted.ensures.answer stands) in
       IfOk-weaker c.take_given.result _ _ (λ lines answer.
       let counts = devices.0 orders.2 in
-      let ordered = subst AreAscending (sym counts) (counted_in_order (rows_of customer t.devices) c.in_ok-orders.orders.items orders.2) in
-      let left = rw same at (answer (devices.1 orders.1) ordered) in (
+      let ascending = subst AreAscending (sym counts) (counted_ascending (rows_of customer t.devices) c.in_ok-orders.orders.items orders.2) in
+      let left = rw same at (answer (devices.1 orders.1) ascending) in (
         left.0 ∙ (ap (map (left_in (has_issued_in t))) (counts ∙ ap (map (counted (rows_of customer t.devices))) orders.0)
             ∙ lines_whole (has_issued_in t) (rows_of customer t.devices) (rows_of customer t.orders)),
         left.1,

@@ -14,5 +14,5 @@ returns c =
       lines = search rules;
       are_lines = λ going are. subst AreLines (sym pushed) (All-push IsLine before line are is_line);
       same = search rules;
-      stopped = search rules;
+      no_memory = search rules;
     }
