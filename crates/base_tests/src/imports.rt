@@ -1,7 +1,6 @@
 //! Texts of imports, and the rows that are read from them.
 
-use id_ranges::KeyDigest;
-use id_ranges::{ImportRow, read_rows};
+use id_ranges::{ImportRow, KeyDigest, read_rows};
 use std::alloc::Global;
 
 /// What stands for a part of a text: `H` for the header, `#` and `%` for the digests of the messages

@@ -3,8 +3,7 @@
 ghost use Rattle.std.specs.Prelude.{IfSome};
 ghost use Rattle.fusemap_core.specs.Prelude.{IsFieldOf};
 
-use fusemap_core::{FieldId, FuseMap, MapFault, Pos, read_map};
-use fusemap_core::NumberCache;
+use fusemap_core::{FieldId, FuseMap, MapFault, NumberCache, Pos, read_map};
 use std::alloc::Global;
 use std::fmt::Write;
 use std::test::Fail;

@@ -7,8 +7,8 @@ use http_frames::buffer::Buffer;
 use http_frames::fields::{Occurrence, only_parameter, split_target};
 use http_frames::frame::Frame;
 use http_frames::memory::{Failing, Interrupted, Pieces, Written};
-use http_replies::{Body, Reply, Status};
 use http_frames::{Served, Service, serve_stream};
+use http_replies::{Body, Reply, Status};
 use std::alloc::{AllocError, Global};
 
 /// The most bytes that a call reads and that one writes, and the calls after which reading and

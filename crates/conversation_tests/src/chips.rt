@@ -3,9 +3,9 @@ use office_core::{DeviceRow, Sink};
 use std::alloc::Global;
 use std::fmt::Write;
 use std::test::Fail;
+use test_fixtures::conversations::devices::READ_BACKS;
 use test_support::conversation::first_difference;
 use test_support::keepers::{Fresh, KeeperCase, over_each};
-use test_fixtures::conversations::devices::READ_BACKS;
 use text_core::{Chip, Name};
 
 /// The chips in their order, with a semicolon behind each.

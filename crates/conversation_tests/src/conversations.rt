@@ -1,8 +1,6 @@
 //! The conversations by their subjects, each over a keeper without rows of either kind.
 use std::alloc::Global;
 use std::test::Fail;
-use test_support::conversation::first_difference;
-use test_support::keepers::{Fresh, KeeperCase, over_each};
 use test_fixtures::conversations::beginnings::BEGINNINGS;
 use test_fixtures::conversations::devices::DEVICES;
 use test_fixtures::conversations::identities::IDENTITIES;
@@ -10,6 +8,8 @@ use test_fixtures::conversations::maps::MAPS;
 use test_fixtures::conversations::orders::ORDERS;
 use test_fixtures::conversations::plans::PLANS;
 use test_fixtures::conversations::reports::REPORTS;
+use test_support::conversation::first_difference;
+use test_support::keepers::{Fresh, KeeperCase, over_each};
 
 /// Conversations by their names, each over a keeper without rows.
 #[derive(Drop)]

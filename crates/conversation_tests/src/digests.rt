@@ -2,8 +2,8 @@
 use office_core::{Keep, NewMap, OfCustomer, Write};
 use std::alloc::Global;
 use std::test::Fail;
-use test_support::conversation::first_difference;
 use test_fixtures::samples::MAP;
+use test_support::conversation::first_difference;
 use text_core::{Digest, Name, Text};
 
 /// Makes tables in which `acme` has the digest of the sample for another map's text, and says how

@@ -4,10 +4,10 @@ use office_core::{Keep, MemKeep, Part, replay_parts};
 use site_core::read_site;
 use std::alloc::Global;
 use std::test::Fail;
-use test_support::lists::{first_difference_among, seat_requests};
 use test_fixtures::conversations::exchanges;
 use test_fixtures::conversations::growths::{GROWTHS, Growth};
 use test_fixtures::samples::SITE;
+use test_support::lists::{first_difference_among, seat_requests};
 
 /// Asks what is said before the sample site grew, and what is said after it, by one list of two parts:
 /// the first request that doesn't get its reply, and what it got.

@@ -1,13 +1,13 @@
 //! What a seat is answered whatever the seats of another customer ask, by streams and by lists.
 use std::alloc::{AllocError, Global};
 use std::test::Fail;
-use test_support::conversation::{first_difference_of, in_turns};
-use test_support::keepers::{Fresh, KeeperCase, over_each, over_memory};
-use test_support::lists::first_difference_in_list;
 use test_fixtures::conversations::devices::{ACME, BOLT};
 use test_fixtures::conversations::{Exchange, exchanges};
 use test_fixtures::numbered::numbered;
 use test_fixtures::samples::SITE;
+use test_support::conversation::{first_difference_of, in_turns};
+use test_support::keepers::{Fresh, KeeperCase, over_each, over_memory};
+use test_support::lists::first_difference_in_list;
 
 /// The orders in which the requests of two seats can come, of each conversation alone and of both.
 pub const TURNS: &[&str] = &[

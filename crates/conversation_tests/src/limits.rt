@@ -8,12 +8,12 @@ use office_core::{Boxed, DeviceRow, GivenRow, Keep, OfCustomer, Order, OrderRow,
 use station_api::Served;
 use std::alloc::{AllocError, Global};
 use std::test::Fail;
-use test_support::conversation::{first_difference_for, serve, streams_of};
-use test_support::keepers::{Fresh, KeeperCase, over_each};
-use test_support::lists::first_difference_in_list;
 use test_fixtures::conversations::exchanges;
 use test_fixtures::numbered::numbered;
 use test_fixtures::samples::SITE;
+use test_support::conversation::{first_difference_for, serve, streams_of};
+use test_support::keepers::{Fresh, KeeperCase, over_each};
+use test_support::lists::first_difference_in_list;
 use text_core::{Chip, Name, Serial};
 
 /// A site in which acme has one pool, as large as a pool may be.

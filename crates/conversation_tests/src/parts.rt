@@ -6,12 +6,12 @@ use station_api::Served;
 use std::alloc::{AllocError, Global};
 use std::str;
 use std::test::Fail;
-use test_support::conversation::{in_turns, serve_for, streams_of};
-use test_support::keepers::{Fresh, KeeperCase, over_each};
-use test_support::lists::first_difference_in_list;
 use test_fixtures::conversations::Exchange;
 use test_fixtures::conversations::devices::{ACME, BOLT};
 use test_fixtures::samples::SITE;
+use test_support::conversation::{in_turns, serve_for, streams_of};
+use test_support::keepers::{Fresh, KeeperCase, over_each};
+use test_support::lists::first_difference_in_list;
 
 /// The parts of the sample site: the beginning of the lines that a customer's seat asks by, and the
 /// text of a site that is the customer's section alone.

@@ -4,9 +4,9 @@ use crate::digests::difference_with_taken_digest;
 use office_core::{Keep, OfCustomer, SeatState, Write};
 use std::alloc::Global;
 use std::test::Fail;
+use test_fixtures::conversations::devices::ACME;
 use test_support::conversation::first_difference;
 use test_support::keepers::{Fresh, KeeperCase, over_each};
-use test_fixtures::conversations::devices::ACME;
 use text_core::{Digest, Name, Text};
 
 /// Conversations of the seat `a1`, each with the digest of the last request in it that writes: the

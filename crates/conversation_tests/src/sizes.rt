@@ -3,9 +3,9 @@
 use crate::limits::{Limit, Rows};
 use std::alloc::{AllocError, Global};
 use std::test::Fail;
-use test_support::keepers::over_each;
 use test_fixtures::numbered::numbered;
 use test_fixtures::samples::SITE;
+use test_support::keepers::over_each;
 
 /// The import of the sample map with more fields behind it, up to them.
 const MAP_UP_TO_FIELDS: &str = "@ order\na1 POST /v1/map {\"nr\":2,\"text\":\"$MAP";

@@ -1,11 +1,11 @@
 //! What few steps leave of a store.
 use std::alloc::Global;
 use std::test::Fail;
-use test_support::conversation::difference_over;
-use test_support::keepers::{Fresh, SqlMemory, adopted};
 use test_fixtures::conversations::plans::PLANS;
 use test_fixtures::conversations::{exchanges, is_unanswered};
 use test_fixtures::samples::SITE;
+use test_support::conversation::difference_over;
+use test_support::keepers::{Fresh, SqlMemory, adopted};
 
 /// Holds a conversation over a store that may first take one step a statement, and is adopted anew
 /// after each request: the first request that gets neither its reply nor 503, or whose repeat doesn't

@@ -6,12 +6,12 @@ use station_api::{Counted, Failing, Interrupted, Pieces, Served, Source, Transfe
 use std::alloc::Global;
 use std::str;
 use std::test::Fail;
-use test_support::conversation::{first_difference, serve, served_by};
-use test_support::keepers::{Fresh, KeeperCase, over_database, over_each, over_memory};
 use test_fixtures::samples::SITE;
 use test_fixtures::streams::{
     BAD_HEAD, CHUNKS_REFUSED, CUT_ORDER, IN_CHUNKS, LONG_HEAD, ORDER, ORDERED, with_orders,
 };
+use test_support::conversation::{first_difference, serve, served_by};
+use test_support::keepers::{Fresh, KeeperCase, over_database, over_each, over_memory};
 
 /// Streams over an empty store, in which `$ORDER` stands for the order and `$ORDERED` for its reply:
 /// what is written, and how the stream ends.

@@ -4,8 +4,8 @@ use crate::counting::CountingKeep;
 use office_core::{Keep, Sink};
 use std::alloc::Global;
 use std::test::Fail;
-use test_support::conversation::{difference_over, first_difference};
 use test_fixtures::conversations::{exchanges, is_unanswered};
+use test_support::conversation::{difference_over, first_difference};
 use text_core::{Chip, Name};
 
 /// The parts, each under its name, with the visits and the commits.

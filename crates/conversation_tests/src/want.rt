@@ -3,9 +3,9 @@
 //! so there they hold a conversation as others do.
 use std::alloc::Global;
 use std::test::Fail;
+use test_fixtures::conversations::devices::ACME;
 use test_support::conversation::first_difference_after_want;
 use test_support::keepers::{Fresh, KeeperCase, over_database, over_memory};
-use test_fixtures::conversations::devices::ACME;
 
 /// A seat's conversation in which an allocation may be refused.
 struct Want;

@@ -4,9 +4,9 @@ use crate::stops::killed_behind;
 use std::alloc::Global;
 use std::str;
 use std::test::Fail;
-use test_support::conversation::{serve, streams_of};
 use test_fixtures::conversations::exchanges;
 use test_fixtures::samples::SITE;
+use test_support::conversation::{serve, streams_of};
 
 /// What makes the store: an order, a map and a device.
 const MADE_BY: &str = r#"

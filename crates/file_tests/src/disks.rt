@@ -8,11 +8,11 @@ use sqlite::{Alter, Connection, FileStore, Files, Options};
 use sqlite_disk::{Crash, Disk, Fuse, Memory};
 use std::alloc::Global;
 use std::test::Fail;
-use test_support::conversation::first_difference_for;
-use test_support::stores::{rows_of, tell_of};
 use test_fixtures::conversations::plans::PLANS;
 use test_fixtures::conversations::{Exchange, exchanges};
 use test_fixtures::samples::SITE;
+use test_support::conversation::first_difference_for;
+use test_support::stores::{rows_of, tell_of};
 
 /// The keeper over a database in files in memory. [`over_files`] alone names it beside the methods that
 /// have one: each call that names it costs the prover half a minute.

@@ -6,11 +6,11 @@ use crate::disks::{
 use crate::stops::first_lost;
 use std::alloc::{AllocError, Global};
 use std::test::Fail;
-use test_support::stores::{tell_of, told_then};
 use test_fixtures::conversations::growths::{GROWTHS, Growth};
 use test_fixtures::conversations::runs::{BOOKS, RUN};
 use test_fixtures::conversations::{Exchange, exchanges};
 use test_fixtures::samples::{NEXT_TEXTS, SITE, SITE_WITH_A_CUSTOMER, SITE_WITH_A_POOL};
+use test_support::stores::{tell_of, told_then};
 
 /// The texts of the sites that grew from the sample.
 const GROWN_SITES: &[&str] = &[SITE_WITH_A_POOL, SITE_WITH_A_CUSTOMER];

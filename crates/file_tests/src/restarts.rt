@@ -7,17 +7,17 @@ use crate::disks::{
 };
 use crate::grown::held_over_growth;
 use crate::stops::{cut_at, run_and_books};
-use office_core::{Reply, SeatRequest};
 use crash_laws::{Restarted, crash, replay_through_crash};
+use office_core::{Reply, SeatRequest};
 use site_core::{SiteText, read_site_text};
 use sqlite::{Files, Options};
 use sqlite_disk::{Fuse, Memory};
 use std::alloc::Global;
 use std::test::Fail;
-use test_support::lists::{first_difference_among, seat_requests};
 use test_fixtures::conversations::growths::{GROWTHS, Growth};
 use test_fixtures::conversations::{Exchange, exchanges};
 use test_fixtures::samples::SITE;
+use test_support::lists::{first_difference_among, seat_requests};
 
 /// What a crash leaves of a store.
 fn left_by(alloc: Global, keep: SqlFiles) -> Option<Store> {

@@ -5,10 +5,10 @@ use crate::disks::{
 use office_core::Keep;
 use std::alloc::Global;
 use std::test::Fail;
-use test_support::conversation::difference_for;
 use test_fixtures::conversations::runs::{BOOKS, RUN};
 use test_fixtures::conversations::{Exchange, exchanges, is_unanswered};
 use test_fixtures::samples::SITE;
+use test_support::conversation::difference_for;
 
 /// More calls than a run makes.
 const CALL_LIMIT: u64 = 20_000;

@@ -5,13 +5,13 @@ use crate::disks::{
 use crate::stops::first_lost;
 use std::alloc::Global;
 use std::test::Fail;
-use test_support::stores::tell_of;
 use test_fixtures::conversations::exchanges;
 use test_fixtures::earlier::{Earlier, sql_of};
 use test_fixtures::early::{CHANGED_EARLY, EARLIEST, EARLY};
 use test_fixtures::samples::SITE;
 use test_fixtures::schema_one::{CHANGED_ONE, ONE};
 use test_fixtures::schema_two::{CHANGED_TWO, TWO};
+use test_support::stores::tell_of;
 
 /// The store of an earlier schema in files.
 fn store_of<K: InFiles>(alloc: Global, earlier: &Earlier) -> Result<Store, Fail> {

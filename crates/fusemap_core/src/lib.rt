@@ -23,6 +23,7 @@
 //! contract.
 #![tactic(auto)]
 
+mod cache;
 mod draft;
 mod fault;
 mod field;
@@ -33,13 +34,12 @@ mod map;
 mod numbered;
 mod pos;
 mod recent;
-mod cache;
 mod text;
 
+pub use cache::{MapCache, map_of_text};
 pub use fault::MapFault;
 pub use field::Field;
 pub use map::{BLOCK_LIMIT, FIELD_LIMIT, FieldId, FuseMap, WORD_LIMIT};
+pub use numbered::NumberCache;
 pub use pos::Pos;
 pub use text::{TEXT_LIMIT, read_map};
-pub use numbered::NumberCache;
-pub use cache::{MapCache, map_of_text};

@@ -4,8 +4,8 @@ ghost use Rattle.fusemap_core.specs.Prelude.{Map};
 ghost use Rattle.fusemap_core.specs.Numbers.{AreMapsOfNumbers, numbers_of};
 ghost use Rattle.fusemap_core.specs.Recent.{with_first};
 
-use crate::recent::{bring_first, put_first};
 use crate::FuseMap;
+use crate::recent::{bring_first, put_first};
 use std::alloc::{AllocError, Global};
 
 /// A fuse map, and the number of the text that describes it.

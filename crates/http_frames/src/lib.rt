@@ -39,4 +39,4 @@ pub mod send;
 mod serving;
 pub mod transfer;
 
-pub use serving::{Served, Service, requests_are_unique, streams_are_determined, serve_stream};
+pub use serving::{Served, Service, requests_are_unique, serve_stream, streams_are_determined};

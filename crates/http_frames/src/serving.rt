@@ -7,11 +7,10 @@ ghost use Rattle.http_frames.specs.Calls.{HasCallsLeft, StaysWithinCalls, read_f
 ghost use Rattle.http_frames.specs.Cycles.{ServesBytes, IsOneExchange};
 ghost use Rattle.http_frames.specs.Determined.{cut_of, requests_of, IsCutWhole, IsEitherWay};
 
-
-use crate::send::{Sent, write_reply};
 use crate::buffer::{Buffer, CALL_LIMIT, read_request};
 use crate::fields::FrameRefusal;
 use crate::frame::{Frame, Framed};
+use crate::send::{Sent, write_reply};
 use crate::transfer::{Drain, Source};
 use http_replies::{Body, Flags, HEAD_ROOM, Reply, Status};
 use std::alloc::Global;

@@ -52,6 +52,6 @@ pub use mac::Mac;
 pub use next::{next_serial, next_serial_from};
 pub use not_before::NotBefore;
 pub use pool::{LARGEST_POOL, MacPool};
-pub use serial_range::SerialRange;
 pub use read::{ROW_LIMIT, read_rows};
 pub use rows::{ImportRow, ImportRows};
+pub use serial_range::SerialRange;

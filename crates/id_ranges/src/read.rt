@@ -4,11 +4,11 @@ ghost use Rattle.csv.specs.Records.{fields_of};
 ghost use Rattle.text_core.specs.Prelude.{digest_of_text, all_of, serial_of_text};
 ghost use Rattle.id_ranges.specs.Prelude.{fields_of_row, is_header, row_with_serial, import_rows_of, import_table, two_fields, found_row, with_serial};
 
+use crate::KeyDigest;
 use crate::records::first_records;
 use crate::rows::{ImportRow, ImportRows};
 use csv::ByteRecord;
 use hex::FromHex;
-use crate::KeyDigest;
 use std::alloc::{AllocError, Global};
 use text_core::{Serial, read_all};
 

@@ -1,7 +1,6 @@
 // The identities that a seat can ask for, and the serial numbers that it can import.
 
-use id_ranges::KeyDigest;
-use id_ranges::ImportRows;
+use id_ranges::{ImportRows, KeyDigest};
 use text_core::{Chip, Name};
 
 /// A device that is to get its serial number, with the digest of its public key.

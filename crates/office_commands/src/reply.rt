@@ -114,7 +114,10 @@ pub(crate) fn mac_value(alloc: Global, mac: Option<Mac>) -> Result<Value, AllocE
     }
 }
 
-pub(crate) fn not_before_value(alloc: Global, not_before: Option<NotBefore>) -> Result<Value, AllocError>
+pub(crate) fn not_before_value(
+    alloc: Global,
+    not_before: Option<NotBefore>,
+) -> Result<Value, AllocError>
     ensures { IfOk result (λ v. view v ≡ text_data not_before) }
 {
     match not_before {

@@ -113,7 +113,7 @@ module _ {A : Type 0} (Typed : Row → Type 0) (cmp : A → A
   -- rows that are made of all rows of a table, one of each, are their validity rows
   pub validity_made : (rows kept news validities : List Row) → AreRows Typed cmp value rows → IsPermutation rows kept → AreMade columns kept news
       → IsTable validities → AllByRecursion (λ r. IsTrue (is_int (rowid r))) validities → IsPermutation validities news
-          → HaveOneValidityRow is_for value rows validities
+      → HaveOneValidityRow is_for value rows validities
   validity_made rows kept news validities are along made up whole same =
       let typed = all-permutation Typed rows kept along are.typed in
       let back = IsPermutation-sym validities news same in

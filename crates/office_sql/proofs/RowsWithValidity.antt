@@ -98,7 +98,7 @@ module _ {A : Type 0} (Typed : Row → Type 0) (cmp : A → A
         validity = more.validity;
         placed_is =
             ap (map (with_not_before (put_row s validities))) made.1
-                ∙ map_placed cmp (with_not_before (put_row s validities)) (λ a b. unread _ _ a b) (value r) sorted
+            ∙ map_placed cmp (with_not_before (put_row s validities)) (λ a b. unread _ _ a b) (value r) sorted
             ∙ ap₂ (with_row cmp) (ap (λ o.
             with_text (option_and_then (λ t.
             text_if (column t 3)) o) (value r)) more.its)
@@ -118,6 +118,6 @@ module _ {A : Type 0} (Typed : Row → Type 0) (cmp : A → A
   -- in the order of the key
   pub replaced_with_validity : (validities : List Row) (new : A) (old_rows new_rows : List A) → sort_by cmp new_rows ≡ with_row cmp new (sort_by cmp old_rows)
       → map (with_not_before validities) (sort_by cmp new_rows)
-          ≡ with_row cmp (with_not_before validities new) (map (with_not_before validities) (sort_by cmp old_rows))
+      ≡ with_row cmp (with_not_before validities new) (map (with_not_before validities) (sort_by cmp old_rows))
   replaced_with_validity validities new old_rows new_rows is = ap (map (with_not_before validities)) is
       ∙ map_placed cmp (with_not_before validities) (λ a b. unread _ _ a b) new (sort_by cmp old_rows)

@@ -11,10 +11,10 @@ ghost use Rattle.sqlite.specs.Order.{column};
 ghost use Rattle.office_sql.specs.OfficeTable as table;
 
 use crate::address::address_text;
-use crate::read::{
-    DAMAGED, chip_if_at, key_at, mac_if_at, name_at, serial_at, not_before_if_at, time_at,
-};
 use crate::not_before::not_before_text;
+use crate::read::{
+    DAMAGED, chip_if_at, key_at, mac_if_at, name_at, not_before_if_at, serial_at, time_at,
+};
 use crate::visit::{ReadRow, first_row, visit_rows};
 use id_ranges::{KeyDigest, Mac, NotBefore};
 use office_tables::{Given, GivenRow, OfCustomer, Sink};

@@ -15,11 +15,11 @@ mod given;
 mod ledger;
 mod links;
 mod maps;
+mod not_before;
 mod number;
 mod orders;
 mod read;
 mod seats;
-mod not_before;
 mod visit;
 mod write;
 

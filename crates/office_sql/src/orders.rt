@@ -10,9 +10,9 @@ ghost use Rattle.office_sql.specs.Prelude.{order_start_columns, mac_if, number_i
 ghost use Rattle.office_sql.specs.OfficeTable as table;
 
 use crate::address::address_text;
+use crate::not_before::not_before_text;
 use crate::number::whole;
 use crate::read::{DAMAGED, mac_if_at, name_at, not_before_if_at, text_at, whole_at};
-use crate::not_before::not_before_text;
 use crate::visit::{ReadRow, first_row, visit_rows};
 use id_ranges::{Mac, NotBefore, SerialRange};
 use office_tables::{Cursor, OfCustomer, Order, OrderRow, Sink};

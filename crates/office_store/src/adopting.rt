@@ -11,20 +11,20 @@ ghost use Rattle.store_inspection.specs.declared.version.Version.TheVariants.{V3
 ghost use Rattle.sha2.specs.Sha256.{sha256};
 ghost use Rattle.site_core.specs.Prelude.{TextOfSite};
 
+use crate::SqlKeep;
 use crate::create::make_tables;
 use crate::fault::OpenFault;
 use crate::grow::grow_text;
 use crate::opening::{Absent, prepare_or_hand_back};
 use crate::reread::reread;
 use crate::upgrade::upgrade_tables;
-use store_inspection::{
-    META_ID, Meta, Version, has_apart_addresses, has_validity_rows, has_site_text, has_whole_numbers,
-    is_empty_schema, meta_row, only_text, told_rows, version_of,
-};
-use crate::SqlKeep;
 use site_core::{Site, SiteFault, SiteText, read_site};
 use sqlite::{Alter, Connection, Error, Row};
 use std::alloc::Global;
+use store_inspection::{
+    META_ID, Meta, Version, has_apart_addresses, has_site_text, has_validity_rows,
+    has_whole_numbers, is_empty_schema, meta_row, only_text, told_rows, version_of,
+};
 use text_core::Digest;
 
 /// What is handed back with a fault.

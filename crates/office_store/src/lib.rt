@@ -96,6 +96,6 @@ pub use adopting::{Handed, adopt};
 pub use closing::{Closed, close};
 pub use ending::into_store;
 pub use fault::OpenFault;
+pub use keep::SqlKeep;
 pub use opening::{Absent, Refused, open, open_or_hand_back};
 pub use starts::{later_sites_are_growths, opened_stores_tell_their_text};
-pub use keep::SqlKeep;

@@ -7,8 +7,7 @@ ghost use Rattle.fusemap_core.specs.Numbers.{AreMapsOfNumbers};
 ghost use Rattle.office_sql.specs.Prelude.{SqlReads, HasOffice, tables_in};
 ghost use Rattle.office_store.specs.Prelude.{fuse_map_at};
 
-use fusemap_core::FuseMap;
-use fusemap_core::{NumberCache, map_of_text};
+use fusemap_core::{FuseMap, NumberCache, map_of_text};
 use office_sql as sql;
 use office_tables::MapRow;
 use sqlite::{Alter, Connection, Error, ErrorCode};

@@ -11,16 +11,16 @@ ghost use Rattle.office_store.specs.Prelude.{CanPrepareTables, FilesHeld, IsOpen
 ghost use Rattle.office_store.specs.Prelude.{NamesNoFile, TellsWhy};
 ghost use Rattle.office_store.specs.declared.opening.Absent.TheVariants.{Refuse};
 
+use crate::SqlKeep;
 use crate::adopting::prepare_tables;
 use crate::fault::OpenFault;
-use store_inspection::is_empty_schema;
-use crate::SqlKeep;
 use site_core::SiteText;
 use sqlite::{Alter, Connection, FileFrom, FileStore, Files};
 use sqlite_disk::{Disk, Start};
 use std::alloc::Global;
 use std::fs;
 use std::io::ErrorKind;
+use store_inspection::is_empty_schema;
 
 /// What becomes of a path at which there is no store yet.
 #[derive(Clone, Copy)]

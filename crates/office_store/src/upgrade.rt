@@ -11,10 +11,10 @@ ghost use Rattle.store_inspection.specs.Prelude.{Sees, IsBeforeV1};
 ghost use Rattle.store_inspection.specs.declared.version.Version.{Version as TheVersion};
 ghost use Rattle.store_inspection.specs.declared.version.Version.TheVariants.{V1, V2, V3};
 
-use crate::create::{add_text, make_validity_tables, make_text};
+use crate::create::{add_text, make_text, make_validity_tables};
 use crate::remake::remake_tables;
-use store_inspection::Version;
 use sqlite::{Alter, Connection, Error, Transaction};
+use store_inspection::Version;
 
 /// Adds a row without a beginning of validity for each order.
 const INSERT_NULL_INTO_ORDER_START: &str =

@@ -31,7 +31,9 @@ mod text;
 
 pub use customer::{Customer, ISSUER_LIMIT, POOL_LIMIT, SEAT_LIMIT, Seat};
 pub use fault::SiteFault;
-pub use ownership::{growth_is_a_preorder, owners_grow_with_a_site, sections_are_the_customers_own};
+pub use ownership::{
+    growth_is_a_preorder, owners_grow_with_a_site, sections_are_the_customers_own,
+};
 pub use site::{CUSTOMER_LIMIT, Caller, SeatCaller, Site};
 pub use site_text::{SiteText, read_site_text};
 pub use text::{TEXT_LIMIT, read_site};

@@ -8,10 +8,10 @@ ghost use Rattle.office_laws.specs.Prelude.{report_reply};
 ghost use Rattle.station_api.specs.Prelude.{ParsedOrUnkept, AnswersKnownCaller, HandlerSteps, SaysRefusal, exchange_asked};
 ghost use Rattle.station_requests.specs.Prelude.{IsFor, parse_request, kind_of_caller};
 
+use http_frames::Service;
 use http_frames::buffer::Buffer;
 use http_frames::frame::Frame;
 use http_replies::{Body, Reply, Status};
-use http_frames::Service;
 use office_core::site::{Caller, Site};
 use office_core::{Keep, Refusal, Unkept, answer, refused, unavailable, unknown_token};
 use station_requests::{Parsed, parse_command};
@@ -50,7 +50,12 @@ fn report_reply(report: Result<Vec<u8>, Unkept>) -> Reply
 }
 
 /// Answers what a caller asks for.
-fn answer_parsed<K: Keep>(handler: &Handler<'_>, keep: &mut K, caller: Caller, parsed: &Parsed) -> Reply
+fn answer_parsed<K: Keep>(
+    handler: &Handler<'_>,
+    keep: &mut K,
+    caller: Caller,
+    parsed: &Parsed,
+) -> Reply
     requires caller { IsCaller handler.now.site.now caller }
     requires asked { IsFor (kind_of_caller caller) parsed.now }
     ensures { HandlerSteps K.Keep (SaysRefusal (Ok parsed.now))

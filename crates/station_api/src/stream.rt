@@ -4,8 +4,8 @@ ghost use Rattle.http_frames.specs.Prelude.{HasCallsLeft, StaysWithinCalls};
 ghost use Rattle.station_api.specs.Prelude.{ServesOver};
 
 use crate::handler::Handler;
-use http_frames::transfer::{Drain, Source};
 use http_frames::Served;
+use http_frames::transfer::{Drain, Source};
 use office_core::Keep;
 use office_core::site::Site;
 use std::alloc::Global;

@@ -5,11 +5,11 @@ use crate::serving::done_by;
 use std::alloc::Global;
 use std::test::Fail;
 use std::{fs, str};
-use test_support::conversation::streams_of;
 use test_fixtures::conversations::exchanges;
 use test_fixtures::earlier::sql_of;
 use test_fixtures::samples::{OTHER_SITE, SITE, SITE_WITH_A_POOL};
 use test_fixtures::schema_one::{GOES_ON, ONE, REPEATED, SHOWN, SHOWN_THEN};
+use test_support::conversation::streams_of;
 
 /// A run of the program over the store, which is of schema 1 before the first: it has a row in each table of two
 /// customers, and its seats have many requests.

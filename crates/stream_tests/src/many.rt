@@ -4,12 +4,12 @@ use crate::serving::done_by;
 use std::alloc::Global;
 use std::test::Fail;
 use std::{fs, str};
-use test_support::conversation::streams_of;
 use test_fixtures::conversations::exchanges;
 use test_fixtures::earlier::sql_of;
 use test_fixtures::numbered::numbered;
 use test_fixtures::samples::SITE;
 use test_fixtures::schema_one::{ONE, SHOWN};
+use test_support::conversation::streams_of;
 
 /// A record with an address, and none of an order's numbers, with a comma behind it; `#` stands for its number.
 const RECORD: &str =

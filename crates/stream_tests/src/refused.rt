@@ -9,13 +9,13 @@ use station_cli::read_job;
 use std::alloc::Global;
 use std::fs;
 use std::test::Fail;
-use test_support::conversation::streams_of;
-use test_support::stores::rows_of;
 use test_fixtures::conversations::exchanges;
 use test_fixtures::earlier::{Earlier, sql_of};
 use test_fixtures::samples::SITE;
 use test_fixtures::schema_one::ONE;
 use test_fixtures::streams::{ORDER, ORDERED};
+use test_support::conversation::streams_of;
+use test_support::stores::rows_of;
 
 /// The name of the file with the sample site's text.
 const REFUSED_SITE: &str = "refused_site.toml";

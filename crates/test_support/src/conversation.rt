@@ -8,7 +8,9 @@ use site_core::read_site;
 use station_api::{Drain, Served, Source, serve_stream};
 use std::alloc::Global;
 use std::test::Fail;
-use test_fixtures::conversations::{Exchange, difference, exchanges, is_unanswered, reply, request};
+use test_fixtures::conversations::{
+    Exchange, difference, exchanges, is_unanswered, reply, request,
+};
 use test_fixtures::samples::SITE;
 
 /// Serves a stream for the site of a text: how it ended. It alone names the server, since each call of it
