@@ -168,8 +168,8 @@ check_comes items name map traffic file (Err other) named unread no_map written 
     let Written : Map → Type 0 = λ value. Appends traffic.output_old traffic.output_new (map_line value ++ 10 ∷ []) in
     let behind = in_file file (λ bytes. map_of_file name (items bytes)) (λ value. MatchResult result (λ _. Written value) P)
     (IfErr result P) (λ value holds. match_fails result (λ _. Written value) P holds) written in
-    let fails = file_fails map_failure MapFault.OutOfMemory name (λ bytes. map_of_file name (items bytes)) file result P (IsOfJob (CheckMap name.now) traffic) refl
-    (λ bytes. map_fails name (items bytes)) (λ failure of_map. inl of_map)
+    let fails = file_fails map_failure MapFault.OutOfMemory name (λ bytes. map_of_file name (items bytes)) file result P
+    (IsOfJob (CheckMap name.now) traffic) refl (λ bytes. map_fails name (items bytes)) (λ failure of_map. inl of_map)
     (λ failure next. elim next [ inl failed ↦ inr failed | inr memory ↦ inl (inr (MapFault.OutOfMemory, memory)) ]) unread no_map behind in
     subst (λ (m : List ℕ). IsOfJob (CheckMap m) traffic other) named fails
 

@@ -68,6 +68,7 @@ mod site_file;
 mod stored;
 mod telling;
 
+pub use arrivals::Arrivals;
 pub use duplex::Duplex;
 pub use failure::Failure;
 pub use job::{Job, StoreName, VERSION, WordsFault, job_from_env, read_job};
