@@ -293,7 +293,7 @@ impl<T: Drop> Counted<T> {
 
     /// The reader or writer itself, behind the calls.
     pub fn into_inner(self) -> T
-        ensures { result ≡ self.entry.inner }
+        ensures { result ≡ self.inner }
     {
         let Counted {
             inner,

@@ -69,7 +69,7 @@ pub fn run<R: Read + Drop, W: Write + Drop, E: Write, S: Start>(
 
 /// How a job ended, and its input and output as they were then.
 #[derive(Drop)]
-struct Outcome<'a, R: Drop, W: Drop> {
+struct JobResult<'a, R: Drop, W: Drop> {
     result: Result<(), Failure<'a>>,
     input: R,
     output: W,
@@ -83,11 +83,11 @@ fn outcome<'a, R: Read + Drop, W: Write + Drop, S: Start>(
     input: R,
     mut output: W,
     start: S,
-) -> Outcome<'a, R, W>
+) -> JobResult<'a, R, W>
     ensures { ComesTo job.now (record {
       input_old = R.remaining input;
       input_new = R.remaining result.input;
-      output_old = W.contents output.entry;
+      output_old = W.contents output;
       output_new = W.contents result.output;
     }) result.result }
 {
@@ -106,7 +106,7 @@ fn outcome<'a, R: Read + Drop, W: Write + Drop, S: Start>(
                 connections: *connections,
             };
             let done = serve_site(rt, alloc, name, file, store, door, &mut output);
-            Outcome {
+            JobResult {
                 result: result_of(done),
                 input,
                 output,
@@ -116,7 +116,7 @@ fn outcome<'a, R: Read + Drop, W: Write + Drop, S: Start>(
             let mut reader = Counted::new(input);
             let mut writer = Counted::new(output);
             let served = served_by(rt, alloc, site, store, start, &mut reader, &mut writer);
-            Outcome {
+            JobResult {
                 result: result_of_stream(served),
                 input: reader.into_inner(),
                 output: writer.into_inner(),
@@ -125,7 +125,7 @@ fn outcome<'a, R: Read + Drop, W: Write + Drop, S: Start>(
         Job::CheckMap { map } => {
             let name = map.as_str();
             let file = read_map_file(rt, alloc, name);
-            Outcome {
+            JobResult {
                 result: check_map(alloc, name, file, &mut output),
                 input,
                 output,

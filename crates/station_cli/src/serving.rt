@@ -135,16 +135,29 @@ fn serve_port<S: Alter, W: Write>(
     if write_listening_line(door.port, output).is_err() {
         return Err(Failure::WriteFailed);
     }
-    let mut arrivals = Arrivals::of(rt, &listener);
-    serve_connections(
-        rt,
-        alloc,
-        keep,
-        site,
-        &mut arrivals,
-        bounds,
-        door.connections,
-    )?;
+    serve_listener(rt, alloc, keep, site, &listener, bounds, door.connections)
+}
+
+/// Serves so many of the connections that come to a listener, and answers how many were given.
+fn serve_listener<K: Keep, R: Clock, S, L>(
+    clock: &R,
+    alloc: Global,
+    keep: &mut K,
+    site: &Site,
+    listener: &L,
+    bounds: Bounds,
+    count: u32,
+) -> Result<u32, Failure<'static>>
+where
+    S: Duplex,
+    L: OpenListener<Stream = S>,
+    ensures was_honest { K.is_honest keep.new → K.is_honest keep.old }
+    ensures reaches { LeadsOn K.Keep site.now keep.old keep.new }
+    ensures accepted { IfOk result (λ accepted. accepted ≡ count) }
+    ensures failed { IfErr result (λ failure. failure ≡ Failure.AcceptFailed) }
+{
+    let mut arrivals = Arrivals::of(listener);
+    serve_connections(clock, alloc, keep, site, &mut arrivals, bounds, count)?;
     Ok(arrivals.given())
 }
 
@@ -192,7 +205,7 @@ pub fn serve_connections<K: Keep, R: Clock, S, L>(
     alloc: Global,
     keep: &mut K,
     site: &Site,
-    arrivals: &mut Arrivals<'_, R, L, S>,
+    arrivals: &mut Arrivals<'_, L, S>,
     bounds: Bounds,
     count: u32,
 ) -> Result<(), Failure<'static>>
@@ -212,7 +225,7 @@ where
 {
     site.fact_rules();
     for _turn in 0..count {
-        let stream = arrivals.next()?;
+        let stream = arrivals.next(clock)?;
         let _ = serve_client(clock, alloc, keep, site, arrivals, bounds, stream);
     }
     Ok(())
@@ -232,7 +245,7 @@ fn serve_client<K: Keep, R: Clock, C: Duplex, L>(
     alloc: Global,
     keep: &mut K,
     site: &Site,
-    arrivals: &Arrivals<'_, R, L, C>,
+    arrivals: &Arrivals<'_, L, C>,
     bounds: Bounds,
     stream: C,
 ) -> io::Result<Parted<C>>

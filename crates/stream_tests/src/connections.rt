@@ -48,7 +48,7 @@ where
 {
     let site = read_site(alloc, site)?;
     let mut keep = MemKeep::new(alloc);
-    let mut arrivals = Arrivals::of(clock, listener);
+    let mut arrivals = Arrivals::of(listener);
     let done = serve_connections(clock, alloc, &mut keep, &site, &mut arrivals, bounds, count);
     Ok(done.map(|_| arrivals.given()))
 }

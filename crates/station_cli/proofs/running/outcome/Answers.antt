@@ -36,13 +36,15 @@ returns-in-Replay g c =
       input_old = g.R.Read.remaining c.args.input;
       input_new = g.R.Read.remaining c.into_inner.result;
       output_old = g.W.Write.contents c.args.output;
-      output_new = g.W.Write.contents c.into_inner-2.result;
+      output_new = g.W.Write.contents c.into_inner-in-Replay.result;
     } in
+    let ended =
+    rw (c.new-reader.ensures.inner, c.new-writer.ensures.inner, ← c.into_inner.ensures, ← c.into_inner-in-Replay.ensures) at ends.ended in
     subst (λ (j : Job). ComesTo j traffic result) (sym words.is)
-    (stream_comes traffic c.served_by-served.result result (IsBeforeStream words.site words.store) c.result_of_stream.ensures ends.failed ends.ended)
+    (stream_comes traffic c.served_by-served.result result (IsBeforeStream words.site words.store) c.result_of_stream.ensures ends.failed ended)
 
-pub returns : goal.returns
-returns g c =
+pub returns-in-CheckMap : goal.returns-in-CheckMap
+returns-in-CheckMap g c =
     let ends = c.check_map.ensures in
     let input = g.R.Read.remaining c.args.input in
     let traffic : Traffic = record {

@@ -18,8 +18,8 @@ returns-in-Some-clause-failed g c =
     (λ failure next. elim next [ inl memory ↦ inl (no_memory_of_site site failure memory) | inr other ↦ inr other ])
     ends.unread ends.no_site ends.failed)
 
-pub returns-clause-failed : goal.returns-clause-failed
-returns-clause-failed g c =
+pub returns-in-None-clause-failed : goal.returns-in-None-clause-failed
+returns-in-None-clause-failed g c =
     let ends = c.replay.ensures in
     let site = c.args.site.now in
     subst (λ (o : Option StoreName). IfErr c.replay.result (IsBeforeStream site o)) (sym c.in-None.is)
