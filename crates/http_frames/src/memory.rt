@@ -268,7 +268,7 @@ impl<W: Drain + Drop> Drain for Failing<W> {
     }
 }
 
-/// A reader or writer of std with its calls counted. It tells no bytes, since no contract can say what a file or a socket gives or takes.
+/// A reader or writer of std with its calls counted. It tells the bytes that the reader or writer tells: those of a file or a socket no contract can say.
 #[derive(Drop)]
 pub struct Counted<T: Drop> {
     inner: T,
@@ -280,6 +280,7 @@ pub struct Counted<T: Drop> {
 impl<T: Drop> Counted<T> {
     /// The reader or writer `inner`, at which no call was counted yet.
     pub fn new(inner: T) -> Counted<T>
+        ensures inner { result.inner ≡ inner }
         ensures calls { result.calls ≡ 0 }
         ensures failures { result.failures ≡ 0 }
     {
@@ -289,10 +290,22 @@ impl<T: Drop> Counted<T> {
             failures: 0,
         }
     }
+
+    /// The reader or writer itself, behind the calls.
+    pub fn into_inner(self) -> T
+        ensures { result ≡ self.inner }
+    {
+        let Counted {
+            inner,
+            calls: _,
+            failures: _,
+        } = self;
+        inner
+    }
 }
 
 impl<R: Read + Drop> Source for Counted<R> {
-    ghost left = { λ s. None };
+    ghost left = { λ s. R.remaining s.inner };
 
     ghost calls = { λ s. s.calls };
 
@@ -312,7 +325,7 @@ impl<R: Read + Drop> Source for Counted<R> {
 }
 
 impl<W: Write + Drop> Drain for Counted<W> {
-    ghost written = { λ s. None };
+    ghost written = { λ s. W.contents s.inner };
 
     ghost calls = { λ s. s.calls };
 

@@ -24,7 +24,8 @@ fn start(rt: &HostRuntime) -> u8 {
             io::writer(rt),
             &mut rt.stderr(),
             Unknown,
-        ),
+        )
+        .status,
         Err(fault) => report(&fault, &mut io::writer(rt), &mut rt.stderr()),
     }
 }

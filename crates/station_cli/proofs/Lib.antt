@@ -1,6 +1,5 @@
 -- The lemmas of this crate.
 pub mod Books
-pub mod TwoEnds
 pub mod FileTexts
 pub mod Fronts
 pub mod Leading

@@ -1,9 +1,9 @@
 -- How a job may end, by what its parts say of their failures.
-use Rattle.std.proofs.Common.{◌≡◌, ◌⊎◌, ℕ, List, Bool, true, false, Option, Some, None, Result, Ok, Err, inl, inr, refl, sym, subst, ◌∙◌}
+use Rattle.std.proofs.Common.{◌≡◌, ◌⊎◌, ◌++◌, ◌∷◌, [], ℕ, List, Bool, true, false, Option, Some, None, Result, Ok, Err, inl, inr, refl, sym, subst, ◌∙◌}
 use Rattle.std.proofs.Common.{IfErr, IfOk, if◌then◌else◌, length, nat_lt}
 use Rattle.std.specs.Prelude.{IsErrAnd, MatchResult, OnOk}
 use Rattle.std.specs.Borrow.{Bor}
-use Rattle.std.specs.Io.KnownBytes.{Keeps}
+use Rattle.std.specs.Io.KnownBytes.{Appends, Keeps}
 use Rattle.std.specs.Str.{is_utf8}
 use Rattle.std.specs.declared.io.Error.{Error}
 use Rattle.fusemap_core.specs.Prelude.{Map, map_read}
@@ -11,12 +11,14 @@ use Rattle.fusemap_core.specs.declared.fault.MapFault.{MapFault}
 use Rattle.http_frames.specs.declared.serving.Served.{Served}
 use Rattle.site_core.specs.Prelude.{site_read}
 use Rattle.site_core.specs.declared.fault.SiteFault.{SiteFault}
-use Rattle.station_cli.specs.Prelude.{EndsAs, IsOfFile, IsOfJob, IsOfSite, IsOfStream, IsTold, IsUnread, map_failure, map_of_file}
+use Rattle.station_cli.specs.Prelude.{ComesTo, EndsAs, EndsStream, IsAnswered, IsBeforeStream, IsOfFile, IsOfJob, IsOfSite, IsTold, IsUnread}
+use Rattle.station_cli.specs.Prelude.{map_failure, map_line, map_of_file, Traffic}
 use Rattle.station_cli.specs.Prelude.{or_failure, result_of_ending, site_failure, site_in, status_of, text_of_file}
 use Rattle.station_cli.specs.declared.failure.Failure.{Failure}
 use Rattle.station_cli.specs.declared.failure.Failure.TheVariants.{CannotRead, NoMemory, WriteFailed}
 use Rattle.station_cli.specs.declared.job.Job.{Job}
 use Rattle.station_cli.specs.declared.job.Job.TheVariants.{CheckMap, Replay, Serve}
+use Rattle.station_cli.specs.declared.job.StoreName.{StoreName}
 use Rattle.text_core.specs.Prelude.{result_and_then}
 
 -- ---- the file that a job reads first
@@ -100,27 +102,30 @@ site_job_fails items name site file result Behind Q named first =
     file_fails site_failure SiteFault.OutOfMemory name (λ bytes. site_in name (items bytes)) file result Behind Q refl (λ bytes. site_fails name (items bytes))
     (λ failure of_site. first failure (subst (λ (s : List ℕ). IsOfSite s failure) named of_site))
 
--- what serving connections says of a failure, of a job that serves them
-pub of_served : {A : Type 0} (served : Result A Failure) (result : Result Unit Failure) (P : Failure → Type 0)
-    → MatchResult served (λ _. result ≡ Ok tt) (λ failure. result ≡ Err failure) → IfErr served P → IfErr result P
-of_served (Ok count) result P is fails = subst (λ (r : Result Unit Failure). IfErr r P) (sym is) tt
-of_served (Err failure) result P is fails = subst (λ (r : Result Unit Failure). IfErr r P) (sym is) fails
+-- what serving connections says, of a job that serves them
+pub served_comes : {A : Type 0} (served : Result A Failure) (result : Result Unit Failure) (Done : Type 0) (P : Failure → Type 0)
+    → MatchResult served (λ _. result ≡ Ok tt) (λ failure. result ≡ Err failure) → OnOk served Done → IfErr served P
+    → MatchResult result (λ _. Done) P
+served_comes (Ok count) result Done P is done fails = subst (λ (r : Result Unit Failure). MatchResult r (λ _. Done) P) (sym is) done
+served_comes (Err failure) result Done P is done fails = subst (λ (r : Result Unit Failure). MatchResult r (λ _. Done) P) (sym is) fails
 
 -- want of memory is a failure of the site's file
 pub no_memory_of_site : (site : List ℕ) (failure : Failure) → failure ≡ NoMemory → IsOfSite site failure
 no_memory_of_site site failure is = inr (SiteFault.OutOfMemory, is)
 
--- a job that serves a stream fails by what comes before, or by the stream's end
-pub stream_job_fails : (served : Result Served Failure) (result : Result Unit Failure) (Before Q : Failure → Type 0)
-    → result ≡ result_and_then result_of_ending served
-    → ((failure : Failure) → Before failure → Q failure) → ((failure : Failure) → IsOfStream failure → Q failure)
-    → IfErr served Before → IfErr result Q
-stream_job_fails (Err failure) result Before Q is first next before = subst (λ r. IfErr r Q) (sym is) (first failure before)
-stream_job_fails (Ok ended) result Before Q is first next before = by result (sym is)
+-- a job that serves a stream fails by what comes before, or comes to the stream's end
+pub stream_comes : (traffic : Traffic) (served : Result Served Failure) (result : Result Unit Failure) (Before : Failure → Type 0)
+    → result ≡ result_and_then result_of_ending served → IfErr served Before → IfOk served (IsAnswered traffic)
+    → MatchResult result (λ _. EndsStream traffic (Ok tt)) (λ failure. Before failure ⊎ EndsStream traffic (Err failure))
+stream_comes traffic (Err failure) result Before is before answered =
+    subst (λ (r : Result Unit Failure). MatchResult r (λ _. EndsStream traffic (Ok tt)) (λ failure. Before failure ⊎ EndsStream traffic (Err failure)))
+    (sym is) (inl before)
+stream_comes traffic (Ok ended) result Before is before answered = by result (sym is)
   where
-    by : (r : Result Unit Failure) → result_of_ending ended ≡ r → IfErr r Q
-    by (Ok done) ends = tt
-    by (Err failure) ends = next failure (ended, ends)
+    by : (r : Result Unit Failure) → result_of_ending ended ≡ r
+        → MatchResult r (λ _. EndsStream traffic (Ok tt)) (λ failure. Before failure ⊎ EndsStream traffic (Err failure))
+    by (Ok done) ends = (ended, answered, ends)
+    by (Err failure) ends = inr (ended, answered, ends)
 
 of_value : {V : Type 0} (wanted : Result V Failure) (P : V → Type 0) (Q : Type 0) → ((value : V) → P value → Q)
     → IfOk wanted P → IfOk wanted (λ _. Q)
@@ -138,34 +143,53 @@ match_fails : {A : Type 0} (result : Result A Failure) (Q : A → Type 0) (P : F
 match_fails (Ok done) Q P holds = tt
 match_fails (Err failure) Q P holds = holds
 
-pub check_ends : {B : Type 0} (items : B → List ℕ) (name : Bor (List ℕ)) (map : List ℕ) (file : Result B Error) (result : Result Unit Failure)
-    (Written : Map → Type 0) → name.now ≡ map
+-- a value was written where the job is done
+value_written : {V : Type 0} (wanted : Result V Failure) (result : Result Unit Failure) (Written : V → Type 0) (P : Failure → Type 0)
+    → IfErr wanted (λ failure. (result ≡ Err failure) ⊎ (result ≡ Err NoMemory))
+    → IfOk wanted (λ value. MatchResult result (λ _. Written value) P) → OnOk result ((value : V) × Written value)
+value_written (Ok value) (Ok done) Written P none written = (value, written)
+value_written (Err failure) (Ok done) Written P none written = elim none [ inl is ↦ absurd (cc) | inr is ↦ absurd (cc) ]
+value_written wanted (Err failure) Written P none written = tt
+
+pub check_comes : {B : Type 0} (items : B → List ℕ) (name : Bor (List ℕ)) (map : List ℕ) (traffic : Traffic) (file : Result B Error)
+    (result : Result Unit Failure) → name.now ≡ map
     → IfErr file (λ error. IsErrAnd result (IsUnread name error))
     → IfOk file (λ bytes. IfErr (map_of_file name (items bytes)) (λ failure. (result ≡ Err failure) ⊎ (result ≡ Err NoMemory)))
-    → IfOk file (λ bytes. IfOk (map_of_file name (items bytes)) (λ value. MatchResult result (λ _. Written value)
-    (λ failure. (failure ≡ WriteFailed) ⊎ (failure ≡ NoMemory))))
-    → IfErr result (IsOfJob (CheckMap map))
-check_ends items name map file result Written named unread no_map written =
+    → IfOk file (λ bytes. IfOk (map_of_file name (items bytes)) (λ value. MatchResult result
+    (λ _. Appends traffic.output_old traffic.output_new (map_line value ++ 10 ∷ [])) (λ failure. (failure ≡ WriteFailed) ⊎ (failure ≡ NoMemory))))
+    → ComesTo (CheckMap map) traffic result
+check_comes items name map traffic (Err error) (Ok done) named unread no_map written = absurd unread
+check_comes items name map traffic (Ok bytes) (Ok done) named unread no_map written =
+    value_written (map_of_file name (items bytes)) (Ok done) (λ value. Appends traffic.output_old traffic.output_new (map_line value ++ 10 ∷ []))
+    (λ failure. (failure ≡ WriteFailed) ⊎ (failure ≡ NoMemory)) no_map written
+check_comes items name map traffic file (Err other) named unread no_map written =
+    let result : Result Unit Failure = Err other in
     let P : Failure → Type 0 = λ failure. (failure ≡ WriteFailed) ⊎ (failure ≡ NoMemory) in
+    let Written : Map → Type 0 = λ value. Appends traffic.output_old traffic.output_new (map_line value ++ 10 ∷ []) in
     let behind = in_file file (λ bytes. map_of_file name (items bytes)) (λ value. MatchResult result (λ _. Written value) P)
     (IfErr result P) (λ value holds. match_fails result (λ _. Written value) P holds) written in
-    let fails = file_fails map_failure MapFault.OutOfMemory name (λ bytes. map_of_file name (items bytes)) file result P (IsOfJob (CheckMap name.now)) refl
-    (λ bytes. map_fails name (items bytes)) (λ failure of_map. inl of_map)
+    let fails = file_fails map_failure MapFault.OutOfMemory name (λ bytes. map_of_file name (items bytes)) file result P
+    (IsOfJob (CheckMap name.now) traffic) refl (λ bytes. map_fails name (items bytes)) (λ failure of_map. inl of_map)
     (λ failure next. elim next [ inl failed ↦ inr failed | inr memory ↦ inl (inr (MapFault.OutOfMemory, memory)) ]) unread no_map behind in
-    subst (λ (m : List ℕ). IfErr result (IsOfJob (CheckMap m))) named fails
+    subst (λ (m : List ℕ). IsOfJob (CheckMap m) traffic other) named fails
 
 -- ---- the status, and what is told
 
-memory_of_job : (job : Job) → IsOfJob job NoMemory
-memory_of_job (Serve site store port connections) = inl (inr (SiteFault.OutOfMemory, refl))
-memory_of_job (Replay site (Some store)) = inl (inr (SiteFault.OutOfMemory, refl))
-memory_of_job (Replay site None) = inl (inr (SiteFault.OutOfMemory, refl))
-memory_of_job (CheckMap map) = inl (inr (MapFault.OutOfMemory, refl))
+-- what comes before a stream of a site may be want of memory
+pub memory_before : (site : List ℕ) (store : Option StoreName) → IsBeforeStream site store NoMemory
+memory_before site (Some store) = inl (inr (SiteFault.OutOfMemory, refl))
+memory_before site None = inr (SiteFault.OutOfMemory, refl)
 
-pub ends : (job : Job) (done : Result Unit Failure) (status : ℕ) (old new : Option (List ℕ)) → IfErr done (IsOfJob job) → status ≡ status_of done
-    → OnOk done (Keeps old new) → IfErr done (λ failure. IsTold failure old new ⊎ IsTold NoMemory old new) → EndsAs job status old new
-ends job (Ok done) status old new of_job is kept told = inl (is, kept)
-ends job (Err failure) status old new of_job is kept told = elim told [
-  | inl line ↦ inr (is, failure, of_job, line)
-  | inr line ↦ inr (is, NoMemory, memory_of_job job, line)
+memory_of_job : (job : Job) (traffic : Traffic) → IsOfJob job traffic NoMemory
+memory_of_job (Serve site store port connections) traffic = inl (inr (SiteFault.OutOfMemory, refl))
+memory_of_job (Replay site store) traffic = inl (memory_before site store)
+memory_of_job (CheckMap map) traffic = inl (inr (MapFault.OutOfMemory, refl))
+
+pub ends : (job : Job) (traffic : Traffic) (done : Result Unit Failure) (status : ℕ) (old new : Option (List ℕ)) → ComesTo job traffic done
+    → status ≡ status_of done → OnOk done (Keeps old new) → IfErr done (λ failure. IsTold failure old new ⊎ IsTold NoMemory old new)
+    → EndsAs job traffic status old new
+ends job traffic (Ok done) status old new comes is kept told = inl (is, comes, kept)
+ends job traffic (Err failure) status old new comes is kept told = elim told [
+  | inl line ↦ inr (is, failure, comes, line)
+  | inr line ↦ inr (is, NoMemory, memory_of_job job traffic, line)
 ]

@@ -1,18 +1,22 @@
 -- How a job may end, and what it then tells on the standard error.
-use Rattle.std.specs.Prelude.{◌≡◌, ◌⊎◌, ◌++◌, ◌∷◌, ℕ, List, [], Option, Some, None}
+use Rattle.std.specs.Prelude.{◌≡◌, ◌⊎◌, ◌++◌, ◌∷◌, ℕ, List, [], Option, Some, None, Result, Ok, Err, MatchResult}
 use Rattle.std.specs.Borrow.{Bor}
 use Rattle.std.specs.Io.KnownBytes.{Appends, Keeps}
+use Rattle.fusemap_core.specs.Prelude.{Map}
 use Rattle.fusemap_core.specs.declared.fault.MapFault.{MapFault}
+use Rattle.http_frames.specs.Prelude.{HttpExchange, Tells}
+use Rattle.http_frames.specs.declared.serving.Served.{Served}
 use Rattle.site_core.specs.declared.fault.SiteFault.{SiteFault}
-use Rattle.station_cli.specs.Listening.{IsOfPort}
-use Rattle.station_cli.specs.MapFile.{map_failure}
-use Rattle.station_cli.specs.Replaying.{IsOfStore, IsOfStream}
+use Rattle.station_cli.specs.Listening.{IsOfPort, listening_line}
+use Rattle.station_cli.specs.MapFile.{map_failure, map_line}
+use Rattle.station_cli.specs.Replaying.{IsOfStore}
 use Rattle.station_cli.specs.SiteFile.{site_failure}
-use Rattle.station_cli.specs.Statuses.{line_of}
+use Rattle.station_cli.specs.Statuses.{line_of, result_of_ending}
 use Rattle.station_cli.specs.declared.failure.Failure.{Failure}
 use Rattle.station_cli.specs.declared.failure.Failure.TheVariants.{CannotRead, WriteFailed}
 use Rattle.station_cli.specs.declared.job.Job.{Job}
 use Rattle.station_cli.specs.declared.job.Job.TheVariants.{CheckMap, Replay, Serve}
+use Rattle.station_cli.specs.declared.job.StoreName.{StoreName}
 
 -- the file with this name can't be read
 abbrev pub IsOfFile : List ℕ → Failure → Type 0
@@ -26,12 +30,43 @@ IsOfSite file failure = IsOfFile file failure ⊎ ((fault : SiteFault) × (failu
 abbrev pub IsOfMap : List ℕ → Failure → Type 0
 IsOfMap file failure = IsOfFile file failure ⊎ ((fault : MapFault) × (failure ≡ map_failure fault))
 
--- a failure that this job may end with: of the files that it names, of its port or of its stream
-abbrev pub IsOfJob : Job → Failure → Type 0
-IsOfJob (Serve site store port connections) failure = IsOfSite site failure ⊎ IsOfStore failure ⊎ IsOfPort failure
-IsOfJob (Replay site (Some store)) failure = IsOfSite site failure ⊎ IsOfStore failure ⊎ IsOfStream failure
-IsOfJob (Replay site None) failure = IsOfSite site failure ⊎ IsOfStream failure
-IsOfJob (CheckMap map) failure = IsOfMap map failure ⊎ (failure ≡ WriteFailed)
+-- the bytes of a job's input and output, before the job and behind it, where they are known
+pub record Traffic : Type 0 where
+  pub input_old : Option (List ℕ)
+  pub input_new : Option (List ℕ)
+  pub output_old : Option (List ℕ)
+  pub output_new : Option (List ℕ)
+
+-- a stream's exchanges were answered in turn, and it ended so
+abbrev pub IsAnswered : Traffic → Served → Type 0
+IsAnswered traffic served =
+    (exchanges : List HttpExchange)
+    × Tells traffic.input_old traffic.input_new traffic.output_old traffic.output_new served exchanges
+
+-- a stream was answered to an end that comes to this
+abbrev pub EndsStream : Traffic → Result Unit Failure → Type 0
+EndsStream traffic result = (served : Served) × IsAnswered traffic served × (result_of_ending served ≡ result)
+
+-- a failure before a stream is served: of the site's file, or of the store where one is named
+abbrev pub IsBeforeStream : List ℕ → Option StoreName → Failure → Type 0
+IsBeforeStream site (Some store) failure = IsOfSite site failure ⊎ IsOfStore failure
+IsBeforeStream site None failure = IsOfSite site failure
+
+-- a failure that this job may end with: of the files that it names, of its port, or of the stream with these bytes
+abbrev pub IsOfJob : Job → Traffic → Failure → Type 0
+IsOfJob (Serve site store port connections) traffic failure = IsOfSite site failure ⊎ IsOfStore failure ⊎ IsOfPort failure
+IsOfJob (Replay site store) traffic failure = IsBeforeStream site store failure ⊎ EndsStream traffic (Err failure)
+IsOfJob (CheckMap map) traffic failure = IsOfMap map failure ⊎ (failure ≡ WriteFailed)
+
+-- what a job that is done has written: the line of its port, the replies to its stream, or the line of a map
+abbrev pub IsDone : Job → Traffic → Type 0
+IsDone (Serve site store port connections) traffic = Appends traffic.output_old traffic.output_new (listening_line port ++ 10 ∷ [])
+IsDone (Replay site store) traffic = EndsStream traffic (Ok tt)
+IsDone (CheckMap name) traffic = (map : Map) × Appends traffic.output_old traffic.output_new (map_line map ++ 10 ∷ [])
+
+-- a job came to this with these bytes: it is done, or it failed as it may
+abbrev pub ComesTo : Job → Traffic → Result Unit Failure → Type 0
+ComesTo job traffic result = MatchResult result (λ done. IsDone job traffic) (IsOfJob job traffic)
 
 -- known bytes grow by a front of these
 abbrev pub AppendsFront : Option (List ℕ) → Option (List ℕ) → List ℕ → Type 0
@@ -42,7 +77,7 @@ abbrev pub IsTold : Failure → Option (List ℕ) → Option (List ℕ) → Type
 IsTold failure old new = AppendsFront old new (line_of failure ++ 10 ∷ [])
 
 -- a job is done, with status 0, and nothing is told; or it ends with status 1, and one of its failures is told
-abbrev pub EndsAs : Job → ℕ → Option (List ℕ) → Option (List ℕ) → Type 0
-EndsAs job status old new =
-    ((status ≡ 0) × Keeps old new)
-    ⊎ ((status ≡ 1) × (failure : Failure) × IsOfJob job failure × IsTold failure old new)
+abbrev pub EndsAs : Job → Traffic → ℕ → Option (List ℕ) → Option (List ℕ) → Type 0
+EndsAs job traffic status old new =
+    ((status ≡ 0) × IsDone job traffic × Keeps old new)
+    ⊎ ((status ≡ 1) × (failure : Failure) × IsOfJob job traffic failure × IsTold failure old new)

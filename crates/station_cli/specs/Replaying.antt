@@ -1,5 +1,5 @@
--- What a stream over memory leads to, and which failures a store and a stream are.
-use Rattle.std.specs.Prelude.{◌≡◌, ℕ, List, Option, Err}
+-- What a stream over memory leads to, and which failures a store is.
+use Rattle.std.specs.Prelude.{◌≡◌, ℕ, List, Option}
 use Rattle.text_core.specs.Prelude.{Runs}
 use Rattle.http_frames.specs.Prelude.{HttpExchange, Tells, requests_with_answers}
 use Rattle.http_frames.specs.declared.serving.Served.{Served}
@@ -9,7 +9,6 @@ use Rattle.office_store.specs.declared.fault.OpenFault.{OpenFault}
 use Rattle.office_tables.specs.Prelude.{Tables}
 use Rattle.site_core.specs.Prelude.{ownership_of, SiteValue}
 use Rattle.station_api.specs.Prelude.{StreamKeepsPromises, AreSaid, AnswersHttp}
-use Rattle.station_cli.specs.Statuses.{result_of_ending}
 use Rattle.station_cli.specs.declared.failure.Failure.{Failure}
 use Rattle.station_cli.specs.declared.failure.Failure.TheVariants.{StoreFault}
 
@@ -22,10 +21,6 @@ Replays site t left_old left_new written_old written_new served =
     × (t2 : Tables) × Runs (AnswersHttp site) t (requests_with_answers exchanges) t2
     × (IsSound (ownership_of site) t
     → StreamKeepsPromises site t (requests_with_answers exchanges) t2)
-
--- a failure that an end of a stream is
-abbrev pub IsOfStream : Failure → Type 0
-IsOfStream failure = (served : Served) × (result_of_ending served ≡ Err failure)
 
 -- a fault of the store
 abbrev pub IsOfStore : Failure → Type 0

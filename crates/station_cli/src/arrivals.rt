@@ -10,21 +10,19 @@ use std::time::{Clock, Instant};
 /// A listener, and the connection that it gave while another was served. While one is served the
 /// listener doesn't block.
 #[derive(Drop)]
-pub struct Arrivals<'a, R, L, S: Drop> {
-    clock: &'a R,
+pub struct Arrivals<'a, L, S: Drop> {
     listener: &'a L,
     next: Cell<Option<S>>,
     /// How many connections were given to be served.
     given: u32,
 }
 
-impl<'a, R: Clock, S: Drop, L: OpenListener<Stream = S>> Arrivals<'a, R, L, S> {
-    /// The connections that will come to a listener, by this clock.
-    pub fn of(clock: &'a R, listener: &'a L) -> Arrivals<'a, R, L, S>
+impl<'a, S: Drop, L: OpenListener<Stream = S>> Arrivals<'a, L, S> {
+    /// The connections that will come to a listener.
+    pub fn of(listener: &'a L) -> Arrivals<'a, L, S>
         ensures { result.given ≡ 0 }
     {
         Arrivals {
-            clock,
             listener,
             next: Cell::new(None),
             given: 0,
@@ -49,19 +47,19 @@ impl<'a, R: Clock, S: Drop, L: OpenListener<Stream = S>> Arrivals<'a, R, L, S> {
         one_waits
     }
 
-    /// The next connection, which is waited for. Behind it the listener doesn't block.
+    /// The next connection, which is waited for by this clock. Behind it the listener doesn't block.
     ///
     /// # Errors
     ///
     /// `AcceptFailed` where waiting for it fails.
-    pub fn next(&mut self) -> Result<S, Failure<'static>>
+    pub fn next<R: Clock>(&mut self, clock: &R) -> Result<S, Failure<'static>>
         requires { self.old.given + 1 < 2 ^ 32 }
         ensures counted { OnOk result (self.new.given ≡ self.old.given + 1) }
         ensures failed { IfErr result (λ failure. failure ≡ Failure.AcceptFailed) }
     {
         let stream = match self.next.replace(None) {
             Some(stream) => stream,
-            None => wait_for_one(self.clock, self.listener)?,
+            None => wait_for_one(clock, self.listener)?,
         };
         self.given += 1;
         Ok(stream)

@@ -19,7 +19,7 @@ use std::time::{Clock, Duration, Instant};
 #[derive(Drop)]
 pub struct Line<'a, R, L, S: Drop> {
     clock: &'a R,
-    arrivals: &'a Arrivals<'a, R, L, S>,
+    arrivals: &'a Arrivals<'a, L, S>,
     bounds: Bounds,
     opened: Instant,
     /// How long the client was waited for to take what it is sent, since it was last read.
@@ -54,7 +54,7 @@ impl<'a, R: Clock, S: Drop, L: OpenListener<Stream = S>> Line<'a, R, L, S> {
     /// A connection that begins to be served now, where the clock tells the time.
     pub fn begin(
         clock: &'a R,
-        arrivals: &'a Arrivals<'a, R, L, S>,
+        arrivals: &'a Arrivals<'a, L, S>,
         bounds: Bounds,
     ) -> io::Result<Line<'a, R, L, S>> {
         let opened = Instant::now(clock)?;

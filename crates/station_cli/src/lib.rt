@@ -2,8 +2,9 @@
 //! over a reader and two writers, or over a port.
 //!
 //! `read_job` answers the job that the words give by `clap`'s meaning, and the line of the version
-//! where they ask for it; `run` ends with 0 and writes nothing on the error output, or with 1 and
-//! writes there the line of a failure that its job may have, as far as it can be written (`ends`).
+//! where they ask for it; `run` ends with 0 where the job is done, of which its output says what that
+//! is (`IsDone`), and writes nothing on the error output; or with 1, and writes there the line of a
+//! failure that its job may have, as far as it can be written (`ends`).
 //! The bytes of a site file lead to the site or to the failure that its fault is
 //! (`site_text_of_bytes`), and each failure has its line (`Failure`) and status 1. A file that
 //! describes no site is the failure whatever the store and the stream are (`replay`,
@@ -14,16 +15,17 @@
 //! `replay` (a stream over a keeper without rows) comes to what `serve_stream` says of the bytes and
 //! the tables (`served`), and answers how the stream ended. It stays within the stream's calls, and
 //! nothing is read or written before the site is known (`within`). What an end says is told once:
-//! nothing where the stream ended, was closed or was cut, else the failure (`result_of_stream`).
+//! nothing where the stream ended, was closed or was cut, else the failure (`result_of_stream`); so
+//! `run` ends with 0 only where the stream ended so (`EndsStream`).
 //!
 //! A job over the store in a file hands back what it left of the files (`Done`), and `books` of
 //! `replay_stored` and of `serve_site` is said of these. Either the store was refused: then the
 //! failure is its fault, and what comes back is as `open_or_hand_back` says. Or a keeper was as its
 //! opening says, requests led on from its tables, and what comes back is what the keeper left
 //! (`IsServedOver`). For `replay_stored` these are the requests of the stream, with its bytes and
-//! how it ended. The store that either serves over has the limit of steps (`IsOpening`), and the port
-//! the program's bounds too (what `serve_port` requires); what the files held before has a name in
-//! all of these, which `main` alone fills.
+//! how it ended. The store that either serves over has the limit of steps (what `serve_port` and
+//! `replay_over` require), and the port the program's bounds too; what the files held before has a
+//! name in all of these, which `main` alone fills.
 //!
 //! The job `serve` prints its line once the port is listened on, and nothing before; and it is done
 //! only when the listener gave as many connections as it was asked for (`accepted`). Whatever they
@@ -66,11 +68,12 @@ mod site_file;
 mod stored;
 mod telling;
 
+pub use arrivals::Arrivals;
 pub use duplex::Duplex;
 pub use failure::Failure;
 pub use job::{Job, StoreName, VERSION, WordsFault, job_from_env, read_job};
 pub use lives::{later_starts_are_of_growths, served_files_have_lives};
 pub use patience::Bounds;
 pub use reporting::report;
-pub use running::run;
+pub use running::{Finished, run};
 pub use serving::{listen, serve_connections};

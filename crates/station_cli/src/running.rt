@@ -3,11 +3,12 @@ ghost use Rattle.std.specs.Prelude.{◌≡◌, ◌≢◌, ◌≤◌, ◌⊎◌, 
 ghost use Rattle.std.specs.Io.KnownBytes.{Appends, Keeps};
 ghost use Rattle.http_frames.specs.Prelude.{HasCallsLeft, StaysWithinCalls};
 ghost use Rattle.office_tables.specs.Prelude.{no_rows};
-ghost use Rattle.station_cli.specs.Prelude.{EndsAs, IsOfJob, IsTold, IsUnread, map_line, map_of_file, Replays, result_of_ending, site_in, status_of};
+ghost use Rattle.station_cli.specs.Prelude.{ComesTo, EndsAs, IsAnswered, IsBeforeStream, IsTold, IsUnread, map_line, map_of_file, Replays};
+ghost use Rattle.station_cli.specs.Prelude.{result_of_ending, site_in, status_of};
 ghost use Rattle.text_core.specs.Prelude.{result_and_then};
 
 use crate::failure::Failure;
-use crate::job::Job;
+use crate::job::{Job, StoreName};
 use crate::map_file::{map_of_file, read_map_file, write_map_line};
 use crate::serving::{Door, serve_site};
 use crate::site_file::{read_site_file, site_of_file};
@@ -19,42 +20,76 @@ use station_api::{Counted, Drain, Served, Source, serve_stream};
 use std::alloc::Global;
 use std::io;
 use std::io::{Read, Write};
+use text_core::Text;
+
+/// What a job came to: the status that the program ends with, and the job's input and output behind it.
+#[derive(Drop)]
+pub struct Finished<R: Drop, W: Drop> {
+    /// 0, or 1 where the job failed.
+    pub status: u8,
+    /// The input, behind what was read of it.
+    pub input: R,
+    /// The output, with what was written to it.
+    pub output: W,
+}
 
 /// Does a job: reads the file that it names, then its input, writes its output, and writes one line
 /// on `err` where it fails. Answers the status that the program ends with: 0, or 1 where it failed.
 ///
 /// `start` stands for what a store's files hold, of which the clauses of its opening speak, and says
 /// how a crash is read. The program passes `Unknown`, and a theorem over the program is of any.
-pub fn run<E: Write, S: Start>(
+pub fn run<R: Read + Drop, W: Write + Drop, E: Write, S: Start>(
     rt: &HostRuntime,
     alloc: Global,
     job: &Job,
-    input: impl Read + Drop,
-    output: impl Write + Drop,
+    input: R,
+    output: W,
     err: &mut E,
     start: S,
-) -> u8
-    ensures status { result ≤ 1 }
-    ensures prints_nothing { result ≡ 0 → Keeps (E.contents err.old) (E.contents err.new) }
+) -> Finished<R, W>
+    ensures status { result.status ≤ 1 }
+    ensures prints_nothing { result.status ≡ 0 → Keeps (E.contents err.old) (E.contents err.new) }
 
-    // The status and what is told are those of one outcome: the job was done, or it failed by a failure
-    // that it may have.
-    ensures ends { EndsAs job.now result (E.contents err.old) (E.contents err.new) }
+    // The status and what is told are those of one outcome: the job was done, and its output says so,
+    // or it failed by a failure that it may have.
+    ensures ends { EndsAs job.now (record {
+      input_old = R.remaining input;
+      input_new = R.remaining result.input;
+      output_old = W.contents output;
+      output_new = W.contents result.output;
+    }) result.status (E.contents err.old) (E.contents err.new) }
 {
     let done = outcome(rt, alloc, job, input, output, start);
-    finish(alloc, done, err)
+    Finished {
+        status: finish(alloc, done.result, err),
+        input: done.input,
+        output: done.output,
+    }
 }
 
-/// Does a job, and answers how it failed.
-fn outcome<'a, S: Start>(
+/// How a job ended, and its input and output as they were then.
+#[derive(Drop)]
+struct JobResult<'a, R: Drop, W: Drop> {
+    result: Result<(), Failure<'a>>,
+    input: R,
+    output: W,
+}
+
+/// Does a job.
+fn outcome<'a, R: Read + Drop, W: Write + Drop, S: Start>(
     rt: &HostRuntime,
     alloc: Global,
     job: &'a Job,
-    input: impl Read + Drop,
-    mut output: impl Write + Drop,
+    input: R,
+    mut output: W,
     start: S,
-) -> Result<(), Failure<'a>>
-    ensures { IfErr result (IsOfJob job.now) }
+) -> JobResult<'a, R, W>
+    ensures { ComesTo job.now (record {
+      input_old = R.remaining input;
+      input_new = R.remaining result.input;
+      output_old = W.contents output;
+      output_new = W.contents result.output;
+    }) result.result }
 {
     match job {
         Job::Serve {
@@ -70,36 +105,68 @@ fn outcome<'a, S: Start>(
                 port: *port,
                 connections: *connections,
             };
-            result_of(serve_site(rt, alloc, name, file, store, door, &mut output))
+            let done = serve_site(rt, alloc, name, file, store, door, &mut output);
+            JobResult {
+                result: result_of(done),
+                input,
+                output,
+            }
         }
         Job::Replay { site, store } => {
-            let name = site.as_str();
-            let file = read_site_file(rt, alloc, name);
             let mut reader = Counted::new(input);
             let mut writer = Counted::new(output);
-            match store {
-                Some(store) => {
-                    let store = StoreFile::of(store, start);
-                    let done = replay_stored(
-                        rt,
-                        alloc,
-                        name,
-                        file,
-                        store,
-                        &mut reader,
-                        &mut writer,
-                    );
-                    put_away(done.files);
-                    result_of_stream(done.result)
-                }
-                None => result_of_stream(replay(alloc, name, file, &mut reader, &mut writer)),
+            let served = served_by(rt, alloc, site, store, start, &mut reader, &mut writer);
+            JobResult {
+                result: result_of_stream(served),
+                input: reader.into_inner(),
+                output: writer.into_inner(),
             }
         }
         Job::CheckMap { map } => {
             let name = map.as_str();
             let file = read_map_file(rt, alloc, name);
-            check_map(alloc, name, file, &mut output)
+            JobResult {
+                result: check_map(alloc, name, file, &mut output),
+                input,
+                output,
+            }
         }
+    }
+}
+
+/// Serves one stream for the site in a file, over the store that is named, or over a keeper in memory.
+/// What is left of the store's files is closed. Answers how the stream ended.
+fn served_by<'a, R: Source, W: Drain, S: Start>(
+    rt: &HostRuntime,
+    alloc: Global,
+    site: &'a Text,
+    store: &'a Option<StoreName>,
+    start: S,
+    reader: &mut R,
+    writer: &mut W,
+) -> Result<Served, Failure<'a>>
+    requires reader { HasCallsLeft (R.calls reader.old) 0 }
+    requires writer { HasCallsLeft (W.calls writer.old) 0 }
+    ensures failed { IfErr result (IsBeforeStream site.now store.now) }
+
+    // How the stream ended is what its bytes tell.
+    ensures ended { IfOk result (IsAnswered (record {
+      input_old = R.left reader.old;
+      input_new = R.left reader.new;
+      output_old = W.written writer.old;
+      output_new = W.written writer.new;
+    })) }
+{
+    let name = site.as_str();
+    let file = read_site_file(rt, alloc, name);
+    match store {
+        Some(store) => {
+            let store = StoreFile::of(store, start);
+            let done = replay_stored(rt, alloc, name, file, store, reader, writer);
+            put_away(done.files);
+            done.result
+        }
+        None => replay(alloc, name, file, reader, writer),
     }
 }
 
@@ -144,6 +211,14 @@ fn replay<'a, R: Source, W: Drain>(
     ensures served { IfOk file (λ bytes. IfOk (site_in name.entry bytes.items) (λ site.
         IfOk result (Replays site no_rows (R.left reader.old) (R.left reader.new)
         (W.written writer.old) (W.written writer.new)))) }
+
+    // How it ended is what its bytes tell.
+    ensures ended { IfOk result (IsAnswered (record {
+      input_old = R.left reader.old;
+      input_new = R.left reader.new;
+      output_old = W.written writer.old;
+      output_new = W.written writer.new;
+    })) }
 
     // Nothing is read or written before the site is known.
     ensures within { MatchResult result

@@ -135,7 +135,30 @@ fn serve_port<S: Alter, W: Write>(
     if write_listening_line(door.port, output).is_err() {
         return Err(Failure::WriteFailed);
     }
-    serve_connections(rt, alloc, keep, site, &listener, bounds, door.connections)
+    serve_listener(rt, alloc, keep, site, &listener, bounds, door.connections)
+}
+
+/// Serves so many of the connections that come to a listener, and answers how many were given.
+fn serve_listener<K: Keep, R: Clock, S, L>(
+    clock: &R,
+    alloc: Global,
+    keep: &mut K,
+    site: &Site,
+    listener: &L,
+    bounds: Bounds,
+    count: u32,
+) -> Result<u32, Failure<'static>>
+where
+    S: Duplex,
+    L: OpenListener<Stream = S>,
+    ensures was_honest { K.is_honest keep.new → K.is_honest keep.old }
+    ensures reaches { LeadsOn K.Keep site.now keep.old keep.new }
+    ensures accepted { IfOk result (λ accepted. accepted ≡ count) }
+    ensures failed { IfErr result (λ failure. failure ≡ Failure.AcceptFailed) }
+{
+    let mut arrivals = Arrivals::of(listener);
+    serve_connections(clock, alloc, keep, site, &mut arrivals, bounds, count)?;
+    Ok(arrivals.given())
 }
 
 /// Listens on a port of this machine, which no other machine can reach.
@@ -169,10 +192,10 @@ fn write_listening_line<W: Write>(port: u16, output: &mut W) -> io::Result<()>
     output.flush()
 }
 
-/// Serves so many connections that a listener accepts, one after another, over a keeper, and answers
-/// how many were accepted. What becomes of one ends that one alone. A client is waited for no longer
-/// than the bounds say, and where another connection waits a client that has had a reply gives way
-/// to it. The listener may be one of std's or of a test.
+/// Serves so many of the connections that come to a listener, one after another, over a keeper. What
+/// becomes of one ends that one alone. A client is waited for no longer than the bounds say, and where
+/// another connection waits a client that has had a reply gives way to it. The listener may be one of
+/// std's or of a test.
 ///
 /// # Errors
 ///
@@ -182,35 +205,7 @@ pub fn serve_connections<K: Keep, R: Clock, S, L>(
     alloc: Global,
     keep: &mut K,
     site: &Site,
-    listener: &L,
-    bounds: Bounds,
-    count: u32,
-) -> Result<u32, Failure<'static>>
-where
-    S: Duplex,
-    L: OpenListener<Stream = S>,
-    ensures was_honest { K.is_honest keep.new → K.is_honest keep.old }
-
-    // Whatever the connections said, the tables change by answers to requests alone, a crash leaves
-    // what a stop may leave, and from sound tables the books are kept over all connections.
-    ensures reaches { LeadsOn K.Keep site.now keep.old keep.new }
-
-    // No connection ends the others: so many are accepted, unless waiting for one fails.
-    ensures accepted { IfOk result (λ accepted. accepted ≡ count) }
-    ensures failed { IfErr result (λ failure. failure ≡ Failure.AcceptFailed) }
-{
-    let mut arrivals = Arrivals::of(clock, listener);
-    serve_accepted(clock, alloc, keep, site, &mut arrivals, bounds, count)?;
-    Ok(arrivals.given())
-}
-
-/// Serves so many of the connections over a keeper.
-fn serve_accepted<K: Keep, R: Clock, S, L>(
-    clock: &R,
-    alloc: Global,
-    keep: &mut K,
-    site: &Site,
-    arrivals: &mut Arrivals<'_, R, L, S>,
+    arrivals: &mut Arrivals<'_, L, S>,
     bounds: Bounds,
     count: u32,
 ) -> Result<(), Failure<'static>>
@@ -219,13 +214,18 @@ where
     L: OpenListener<Stream = S>,
     requires { arrivals.old.given + count < 2 ^ 32 }
     ensures was_honest { K.is_honest keep.new → K.is_honest keep.old }
+
+    // Whatever the connections said, the tables change by answers to requests alone, a crash leaves
+    // what a stop may leave, and from sound tables the books are kept over all connections.
     ensures reaches { LeadsOn K.Keep site.now keep.old keep.new }
+
+    // No connection ends the others: so many were given to be served, unless waiting for one fails.
     ensures counted { OnOk result (arrivals.new.given ≡ arrivals.old.given + count) }
     ensures failed { IfErr result (λ failure. failure ≡ Failure.AcceptFailed) }
 {
     site.fact_rules();
     for _turn in 0..count {
-        let stream = arrivals.next()?;
+        let stream = arrivals.next(clock)?;
         let _ = serve_client(clock, alloc, keep, site, arrivals, bounds, stream);
     }
     Ok(())
@@ -245,7 +245,7 @@ fn serve_client<K: Keep, R: Clock, C: Duplex, L>(
     alloc: Global,
     keep: &mut K,
     site: &Site,
-    arrivals: &Arrivals<'_, R, L, C>,
+    arrivals: &Arrivals<'_, L, C>,
     bounds: Bounds,
     stream: C,
 ) -> io::Result<Parted<C>>

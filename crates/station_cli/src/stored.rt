@@ -1,8 +1,8 @@
 //! A store in a file: how it is opened, and a replay over it.
-ghost use Rattle.std.specs.Prelude.{◌≡◌, ◌⊎◌, IfOk, IfErr, IsErrAnd, IsOkAnd, MatchResult};
-ghost use Rattle.station_cli.specs.Prelude.{IsUnread, IsOfStore, IsOpening, LeavesIfRead, site_in, text_of_site};
+ghost use Rattle.std.specs.Prelude.{◌≡◌, ◌⊎◌, IfOk, IfErr, IsErrAnd, IsOkAnd, MatchResult, Some};
+ghost use Rattle.station_cli.specs.Prelude.{IsAnswered, IsUnread, IsOfStore, IsOpening, LeavesIfRead, site_in, text_of_site};
 ghost use Rattle.http_frames.specs.Prelude.{HasCallsLeft, StaysWithinCalls};
-ghost use Rattle.office_store.specs.Prelude.{IsRefusal, open_fault_number};
+ghost use Rattle.office_store.specs.Prelude.{is_honest_at, IsRefusal, open_fault_number};
 ghost use Rattle.sqlite.specs.WalFiles.{image_at};
 ghost use Rattle.station_api.specs.Prelude.{ServesOver};
 
@@ -12,8 +12,8 @@ use crate::private::make_private;
 use crate::site_file::site_of_file;
 use office_core::Keep;
 use office_store::{Absent, Closed, OpenFault, Refused, SqlKeep, close, open_or_hand_back};
-use site_core::SiteText;
-use sqlite::{FileFrom, FileStore};
+use site_core::{Site, SiteText};
+use sqlite::{Alter, FileFrom, FileStore};
 use sqlite_disk::{Disk, Start};
 use station_api::{Drain, Served, Source, serve_stream};
 use std::alloc::Global;
@@ -73,6 +73,14 @@ pub fn replay_stored<'a, S: Start, R: Source, W: Drain>(
         (R.left reader.new) (W.written writer.old) (W.written writer.new) served opened last))
         result.result result.files)) }
 
+    // How it ended is what its bytes tell.
+    ensures ended { IfOk result.result (IsAnswered (record {
+      input_old = R.left reader.old;
+      input_new = R.left reader.new;
+      output_old = W.written writer.old;
+      output_new = W.written writer.new;
+    })) }
+
     // Nothing is read or written before the site is known and the store is open.
     ensures within { MatchResult result.result
         (StaysWithinCalls R.Source W.Drain reader.old reader.new writer.old writer.new)
@@ -96,11 +104,31 @@ pub fn replay_stored<'a, S: Start, R: Source, W: Drain>(
             };
         }
     };
-    let served = serve_stream(alloc, &mut keep, site.site(), reader, writer);
+    let served = replay_over(alloc, &mut keep, site.site(), reader, writer);
     Done {
         result: Ok(served),
         files: Some(LeftFiles::Ended(close(keep))),
     }
+}
+
+/// Serves one stream over a store, whose statements have the limit of steps. Answers how it ended.
+fn replay_over<S: Alter, R: Source, W: Drain>(
+    alloc: Global,
+    keep: &mut SqlKeep<S>,
+    site: &Site,
+    reader: &mut R,
+    writer: &mut W,
+) -> Served
+    requires limit { keep.old.conn.step_limit ≡ Some 1000000000 }
+    requires reader { HasCallsLeft (R.calls reader.old) 0 }
+    requires writer { HasCallsLeft (W.calls writer.old) 0 }
+    ensures was_honest { is_honest_at S.Store keep.new.conn → is_honest_at S.Store keep.old.conn }
+    ensures run { ServesOver ⟦<SqlKeep<S> as Keep>⟧ site.now (R.left reader.old)
+        (R.left reader.new) (W.written writer.old) (W.written writer.new) result keep.old keep.new }
+    ensures within { StaysWithinCalls R.Source W.Drain reader.old reader.new writer.old writer.new
+        result }
+{
+    serve_stream(alloc, keep, site, reader, writer)
 }
 
 /// Closes what a job left of a store's files.

@@ -2,7 +2,7 @@
 use crate::serving::{SHOWN, UNKNOWN};
 use office_core::MemKeep;
 use site_core::read_site;
-use station_cli::{Bounds, Duplex, Failure, listen, serve_connections};
+use station_cli::{Arrivals, Bounds, Duplex, Failure, listen, serve_connections};
 use std::alloc::Global;
 use std::io;
 use std::io::Write;
@@ -48,7 +48,9 @@ where
 {
     let site = read_site(alloc, site)?;
     let mut keep = MemKeep::new(alloc);
-    Ok(serve_connections(clock, alloc, &mut keep, &site, listener, bounds, count))
+    let mut arrivals = Arrivals::of(listener);
+    let done = serve_connections(clock, alloc, &mut keep, &site, &mut arrivals, bounds, count);
+    Ok(done.map(|_| arrivals.given()))
 }
 
 /// Makes two connections, the first with some bytes and the second with an order that ends its

@@ -412,7 +412,7 @@ pub fn written_by(
 ) -> Result<String, Fail> {
     let mut out = Vec::new(alloc);
     let mut err = Vec::new(alloc);
-    let status = run(rt, alloc, job, input, &mut out, &mut err, Unknown);
+    let status = run(rt, alloc, job, input, &mut out, &mut err, Unknown).status;
     if (status == 1) == err.is_empty() {
         return Err(Fail::from("another status"));
     }
@@ -503,7 +503,8 @@ fn end_of_line(rt: &HostRuntime, alloc: Global, line: &str, port: u16) -> Result
     };
     let output = Silent { rt, port, clients };
     let mut err = Vec::new(alloc);
-    let status = run(rt, alloc, &job, b"".as_slice(), output, &mut err, Unknown);
+    let done = run(rt, alloc, &job, b"".as_slice(), output, &mut err, Unknown);
+    let status = done.status;
     let err = String::from_utf8(err).map_err(|_| "no text")?;
     Ok(format!(in alloc; "{status} {err}")?)
 }
@@ -517,7 +518,7 @@ fn line_of_failure(
     output: Short,
 ) -> Result<String, Fail> {
     let mut err = Vec::new(alloc);
-    let status = run(rt, alloc, job, input, output, &mut err, Unknown);
+    let status = run(rt, alloc, job, input, output, &mut err, Unknown).status;
     if (status == 1) == err.is_empty() {
         return Err(Fail::from("another status"));
     }

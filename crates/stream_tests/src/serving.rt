@@ -136,7 +136,8 @@ fn served(
         written: &written,
     };
     let mut err = Vec::new(alloc);
-    let status = run(rt, alloc, &job, b"".as_slice(), callers, &mut err, Unknown);
+    let done = run(rt, alloc, &job, b"".as_slice(), callers, &mut err, Unknown);
+    let status = done.status;
     joined(
         alloc,
         status,
@@ -159,7 +160,8 @@ fn replayed(rt: &HostRuntime, alloc: Global, words: &str, stream: &str) -> Resul
         &mut out,
         &mut err,
         Unknown,
-    );
+    )
+    .status;
     joined(alloc, status, out, err, Vec::new(alloc))
 }
 

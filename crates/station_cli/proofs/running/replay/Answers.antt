@@ -32,3 +32,6 @@ returns-clause-served g c =
     books_read c.args.name (λ b. b.items) c.args.file c.in_ok-site.site
     (λ t. Replays t.site no_rows left_old left_new written_old written_new ended) c.in_ok-site.ensures.read
     (subst (λ (site : SiteValue). Replays site no_rows left_old left_new written_old written_new ended) c.site-2.ensures.same replayed)
+
+pub returns-clause-ended : goal.returns-clause-ended
+returns-clause-ended g c = let run = c.serve_stream.ensures.run in (run.0, run.1)

@@ -1,6 +1,6 @@
 use Rattle.std.proofs.Common.{rules}
 use Rattle.station_cli.proofs.Leading.{leads_itself, leads_both}
-use Rattle.station_cli.proofs.serving.serve_accepted.Goals as goal
+use Rattle.station_cli.proofs.serving.serve_connections.Goals as goal
 
 pub loop-turn-init : goal.loop-turn-init
 loop-turn-init g c = record {

@@ -1,6 +1,6 @@
 use Rattle.std.proofs.Common.{◌≡◌, ◌+◌}
 use Rattle.station_cli.specs.Prelude.{LeadsOn}
-use Rattle.station_cli.proofs.serving.serve_accepted.Given as goal
+use Rattle.station_cli.proofs.serving.serve_connections.Given as goal
 
 abbrev pub invariant-loop-turn : goal.invariant-loop-turn
 invariant-loop-turn g l = record {
