@@ -55,13 +55,13 @@ pub record HasMapMembers (text : List ℕ) (m : Map) : Type 0 where
   pub within : length text ≤ 32768
   pub members : (document_of text >>= map_of_document) ≡ Some m
 
--- the text is such a document, and the map is one
+-- the text is a TOML document of at most 32,768 bytes whose named members are the map's, and the map keeps each rule of maps
 pub record IsMapText (text : List ℕ) (m : Map) : Type 0 where
   pub within : length text ≤ 32768
   pub members : (document_of text >>= map_of_document) ≡ Some m
   pub is_map : IsMap m
 
--- the map that a text is, or its lowest fault
+-- the map that a text is, or its lowest fault: a text that is too long isn't read, and has fault 2
 abbrev pub map_read : List ℕ → Result Map MapFault
 map_read text =
     if nat_lt 32768 (length text) then Err BadMember

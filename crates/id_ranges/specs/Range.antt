@@ -36,7 +36,7 @@ range_of prefix width first quantity =
     else if is_number_too_wide width (first + quantity - 1) then Err TooWide
     else Ok (record { prefix = prefix; width = width; first = first; quantity = quantity })
 
--- some number is in both
+-- some number is in both ranges
 abbrev pub SharesANumber : Range → Range → Type 0
 SharesANumber a b = (n : ℕ) × Has a n × Has b n
 
@@ -48,7 +48,7 @@ RangesOverlap a b = (a.prefix ≡ b.prefix) × (a.width ≡ b.width) × SharesAN
 abbrev pub numbers : Range → List ℕ
 numbers r = range_with_len r.first r.quantity
 
--- whether they meet: prefixes and widths are equal, and a number of one is one of the other's
+-- two ranges meet: their prefixes and widths are equal, and a number of one is one of the other's
 abbrev pub ranges_overlap : Range → Range → Bool
 ranges_overlap a b =
     bytes_eq a.prefix b.prefix && (a.width == b.width) && list_any (λ n. nat_le b.first n && nat_lt n (b.first + b.quantity)) (numbers a)

@@ -31,7 +31,7 @@ identity_data chip i = object (members_of (
     (codes "not_before", text_data i.not_before) ∷
     (codes "serial", string i.serial) ∷ []))
 
--- the text of that
+-- the JSON text of the record of an identity
 unfoldable pub identity_body : List ℕ → Idevid → List ℕ
 identity_body chip i = compact_text (identity_data chip i)
 
@@ -39,7 +39,7 @@ identity_body chip i = compact_text (identity_data chip i)
 abbrev pub state_data : List ℕ → DeviceState → Data
 state_data chip state = object (members_of ((codes "chip", string chip) ∷ (codes "state", string (state_row state).text) ∷ []))
 
--- the text of that
+-- the JSON text of where a device stands
 unfoldable pub state_body : List ℕ → DeviceState → List ℕ
 state_body chip state = compact_text (state_data chip state)
 
@@ -47,6 +47,6 @@ state_body chip state = compact_text (state_data chip state)
 abbrev pub import_data : ℕ → ℕ → Data
 import_data added present = object (members_of ((codes "added", whole_data added) ∷ (codes "present", whole_data present) ∷ []))
 
--- the text of that
+-- the JSON text of what an import gave
 unfoldable pub import_body : ℕ → ℕ → List ℕ
 import_body added present = compact_text (import_data added present)

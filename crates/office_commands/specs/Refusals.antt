@@ -78,7 +78,7 @@ told_before (WrongNumber expected) = codes ",\"expected\":" ++ decimal expected
 told_before (BadMap fault) = codes ",\"fault\":" ++ decimal fault
 told_before _ = []
 
--- what it tells behind its number
+-- what a refusal tells behind its number
 abbrev pub told_behind : Refusal → List ℕ
 told_behind (ImportConflict serial) = codes ",\"serial\":\"" ++ (serial ++ codes "\"")
 told_behind _ = []

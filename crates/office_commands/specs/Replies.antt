@@ -52,7 +52,7 @@ order_data o next = object (members_of (
     (codes "quantity", whole_data o.range.quantity) ∷
     (codes "width", whole_data o.range.width) ∷ []))
 
--- the text of that
+-- the JSON text of an order with its next serial number
 unfoldable pub order_body : Order → Option (List ℕ) → List ℕ
 order_body o next = compact_text (order_data o next)
 
@@ -60,6 +60,6 @@ order_body o next = compact_text (order_data o next)
 abbrev pub map_data : List ℕ → Data
 map_data digest = object (members_of ((codes "map", string (encode_lower digest)) ∷ []))
 
--- the text of that
+-- the JSON text of a fuse map
 unfoldable pub map_body : List ℕ → List ℕ
 map_body digest = compact_text (map_data digest)

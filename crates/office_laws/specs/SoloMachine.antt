@@ -35,15 +35,15 @@ pub record SoloState : Type 0 where
   pub devices : List Device
   pub ledger : List NewEntry
 
--- a row's place: by its text
+-- the order of rows by a text of theirs
 abbrev pub by_text : {A : Type 0} → (A → List ℕ) → A → A → Ordering
 by_text text a b = text_cmp (text a) (text b)
 
--- a serial number's place: by issuer, then by its text
+-- the order of records: by issuer, then by serial number
 abbrev pub solo_given_cmp : Given → Given → Ordering
 solo_given_cmp a b = ordering_then (text_cmp a.issuer b.issuer) (text_cmp a.serial b.serial)
 
--- an entry's place: by its device, then by its number
+-- the order of entries: by device, then by number
 abbrev pub solo_entry_cmp : NewEntry → NewEntry → Ordering
 solo_entry_cmp a b = ordering_then (text_cmp a.chip b.chip) (nat_cmp a.number b.number)
 
@@ -51,11 +51,12 @@ solo_entry_cmp a b = ordering_then (text_cmp a.chip b.chip) (nat_cmp a.number b.
 abbrev pub seat_named : List ℕ → SoloState → Option SeatState
 seat_named name s = find (λ r. bytes_eq name r.name) s.seats
 
--- the records of an issuer by their serial numbers and by their keys
+-- the record of a serial number of an issuer
 abbrev pub record_of_serial : List ℕ → List ℕ → SoloState → Option Given
 record_of_serial issuer serial s =
     find (λ g. bytes_eq issuer g.issuer && bytes_eq serial g.serial) s.given
 
+-- the record of a key in an issuer
 abbrev pub record_of_key : List ℕ → List ℕ → SoloState → Option Given
 record_of_key issuer key s = find (λ g. bytes_eq issuer g.issuer && bytes_eq key g.key) s.given
 
@@ -63,7 +64,7 @@ record_of_key issuer key s = find (λ g. bytes_eq issuer g.issuer && bytes_eq ke
 abbrev pub is_issued : SoloState → List ℕ → List ℕ → Bool
 is_issued s issuer serial = is_some (record_of_serial issuer serial s)
 
--- an order's next number is the least of all whose serial number isn't given
+-- what is seen of an order: its next number is the least of all whose serial number isn't given
 abbrev pub solo_order_sight : SoloState → Order → OrderSight
 solo_order_sight s o = record {
   order = o;
@@ -94,7 +95,7 @@ solo_sight c seat s = record {
   ledger = λ chip. filter (λ e. bytes_eq chip e.chip) s.ledger;
 }
 
--- a put stands in its place; the own machine has no cursor
+-- the customer's rows with a put, each row in its place; no cursor moves, as there is none
 abbrev pub with_put : Put → SoloState → SoloState
 with_put (seat_put r) s = record s { seats = with_row (by_text (λ r. r.name)) r s.seats }
 with_put (order_put o) s = record s { orders = with_row (by_text (λ o. o.name)) o s.orders }
