@@ -17,8 +17,8 @@ use Rattle.office_rules.proofs.Ties.{first_equal, second_equal}
 use Rattle.office_laws.proofs.OwnPlaces.{solo_device_cmp}
 use Rattle.office_laws.specs.Prelude.{AreNumberedFrom, AreSoundDevices, HasLedger, FitsFuseMap, IsReferred, SerialIsOfIdentified, IsRecordOf, IsSound}
 use Rattle.office_laws.proofs.Appended.{all_below, appended, last_of_numbered, numbered_appended}
-use Rattle.office_laws.proofs.DeviceRows.{ids_apart_placed}
-use Rattle.office_laws.proofs.Placed.{all_placed_apart}
+use Rattle.office_laws.proofs.DeviceRows.{id_turned}
+use Rattle.office_laws.proofs.Placed.{all_placed_apart, pairwise_placed}
 use Rattle.office_laws.proofs.Readings.{find_holds}
 use Rattle.office_laws.proofs.RecordRows.{Follows, each_device, record_after_device, tied_device}
 use Rattle.office_laws.proofs.SoundRows.{owned_placed}
@@ -161,8 +161,9 @@ module _ {owners : Ownership} {t : Tables} (sound : IsSound owners t) (c seat : 
     devices_ascending = placed_ascending device_cmp device_total d t.devices
         sound.devices.devices_ascending;
     entries = owned_placed sound.devices.entries entry lawful.is_seat entry_total;
-    ids_apart = ids_apart_placed entry t.ledger
-        (none_passes (has_entry_id id) t.ledger lawful.new_id) sound.devices.ids_apart;
+    ids_apart = pairwise_placed entry_cmp entry (λ e other. has_entry_id e.row.id other ≡ false)
+        (id_turned entry) t.ledger (none_passes (has_entry_id id) t.ledger lawful.new_id)
+        sound.devices.ids_apart;
     customers = all_placed (λ o. owners.customer o.customer ≡ true) device_cmp d t.devices
         lawful.mine sound.devices.customers;
     numbered = all_placed SerialIsOfIdentified device_cmp d t.devices lawful.numbered sound.devices.numbered;

@@ -1,7 +1,7 @@
 -- A new record of a serial number keeps the tables sound, and forgets nothing.
 use Rattle.std.proofs.Common.{◌≡◌, ◌==◌, ◌∷◌}
-use Rattle.text_core.proofs.Kit.{ℕ, arith, true, false, List, [], Option, Some, None, Less, Equal, Greater, refl, sym, ◌∙◌, subst, bytes_eq, find, IfSome}
-use Rattle.text_core.proofs.Kit.{AllByRecursion, match_ordering, and_parts, and_from, nat_tests, nat_list_cmp_total, tied_itself, same_text, text_itself}
+use Rattle.text_core.proofs.Kit.{ℕ, arith, true, false, List, [], Option, Some, None, Equal, refl, sym, ◌∙◌, subst, bytes_eq, find, IfSome}
+use Rattle.text_core.proofs.Kit.{AllByRecursion, and_parts, and_from, nat_tests, nat_list_cmp_total, tied_itself, same_text, text_itself}
 use Rattle.site_core.specs.Prelude.{Ownership}
 use Rattle.id_ranges.specs.Prelude.{serial_text_of}
 use Rattle.office_laws.proofs.Types.{OfCustomer, Given, Order}
@@ -12,8 +12,8 @@ use Rattle.office_tables.proofs.Placing.{all_map, all_placed}
 use Rattle.office_tables.proofs.Places.{same_place}
 use Rattle.office_tables.proofs.TotalOrders.{given_total}
 use Rattle.office_rules.proofs.Ties.{first_equal, second_equal}
-use Rattle.office_laws.specs.Prelude.{Grows, IsSound, AreAddressesApart, AreKeysApart, IsIssuedBelow, IsRecordOf}
-use Rattle.office_laws.proofs.Placed.{found_replaced, others_fail}
+use Rattle.office_laws.specs.Prelude.{Grows, IsSound, IsIssuedBelow, IsRecordOf}
+use Rattle.office_laws.proofs.Placed.{found_replaced, others_fail, pairwise_placed}
 use Rattle.office_laws.proofs.SoundRows.{owned_placed}
 
 -- a record that takes the place of another has its issuer and its serial number
@@ -79,23 +79,6 @@ bound_turned g y fails =
       | false ↦ λ _. refl
     ] refl
 
--- a new key among others
-keys_apart_placed : (g : OfCustomer Given) (gs : List (OfCustomer Given)) → AllByRecursion (λ other.
-    is_bound g.row.issuer g.row.key other ≡ false) gs → AreKeysApart gs
-    → AreKeysApart (with_row given_cmp g gs)
-keys_apart_placed g [] all apart = (tt, tt)
-keys_apart_placed g (y ∷ ys) all apart =
-    elim (given_cmp g y) as
-    (λ o. AreKeysApart (match_ordering o (g ∷ y ∷ ys) (g ∷ ys) (y ∷ with_row given_cmp g ys))) [
-      | Less ↦ (all, apart)
-      | Equal ↦ (all.1, apart.1)
-      | Greater ↦ (
-        all_placed (λ other. is_bound y.row.issuer y.row.key other ≡ false) given_cmp g ys
-            (bound_turned g y all.0) apart.0,
-        keys_apart_placed g ys all.1 apart.1,
-      )
-    ]
-
 -- the record hasn't this address
 abbrev HasOther : Option ℕ → OfCustomer Given → Type 0
 HasOther mac other = IfSome mac (λ its. has_address its other ≡ false)
@@ -117,23 +100,6 @@ all_other (Some mac) gs free = none_passes (has_address mac) gs free
 all_other None [] free = tt
 all_other None (y ∷ ys) free = (tt, all_other None ys tt)
 
--- a new address among others
-addresses_apart_placed : (g : OfCustomer Given) (gs : List (OfCustomer Given))
-    → AllByRecursion (HasOther g.row.mac) gs → AreAddressesApart gs
-    → AreAddressesApart (with_row given_cmp g gs)
-addresses_apart_placed g [] all apart = (tt, tt)
-addresses_apart_placed g (y ∷ ys) all apart =
-    elim (given_cmp g y) as
-    (λ o. AreAddressesApart (match_ordering o (g ∷ y ∷ ys) (g ∷ ys) (y ∷ with_row given_cmp g ys))) [
-      | Less ↦ (all, apart)
-      | Equal ↦ (all.1, apart.1)
-      | Greater ↦ (
-        all_placed (HasOther y.row.mac) given_cmp g ys
-            (address_turned g y g.row.mac y.row.mac refl refl all.0) apart.0,
-        addresses_apart_placed g ys all.1 apart.1,
-      )
-    ]
-
 -- what is given below an order's cursor is given still
 below_after : (g : OfCustomer Given) (gs : List (OfCustomer Given)) (o : OfCustomer Order) → IsIssuedBelow gs o
     → IsIssuedBelow (with_row given_cmp g gs) o
@@ -153,10 +119,12 @@ module _ {owners : Ownership} {t : Tables} (sound : IsSound owners t) (g : OfCus
     orders = sound.orders;
     given = record {
       rows = owned_placed sound.given.rows g mine given_total;
-      keys_apart = keys_apart_placed g t.given
+      keys_apart = pairwise_placed given_cmp g
+          (λ g other. is_bound g.row.issuer g.row.key other ≡ false) (bound_turned g) t.given
           (none_passes (is_bound g.row.issuer g.row.key) t.given unbound) sound.given.keys_apart;
-      addresses_apart = addresses_apart_placed g t.given (all_other g.row.mac t.given free)
-          sound.given.addresses_apart;
+      addresses_apart = pairwise_placed given_cmp g (λ g other. HasOther g.row.mac other)
+          (λ y. address_turned g y g.row.mac y.row.mac refl refl) t.given
+          (all_other g.row.mac t.given free) sound.given.addresses_apart;
     };
     maps = sound.maps;
     devices = sound.devices;

@@ -1,7 +1,7 @@
 -- A new map and a new link keep the tables sound, and how links lie with their customers.
 use Rattle.std.proofs.Common.{◌≡◌, ◌∷◌, Ordering}
-use Rattle.text_core.proofs.Kit.{ℕ, true, List, [], Option, None, Equal, sym, ap, ◌∙◌, subst, AllByRecursion, ordering_then, nat_list_cmp_total, tied_itself}
-use Rattle.text_core.proofs.Kit.{same_text}
+use Rattle.text_core.proofs.Kit.{ℕ, true, false, List, [], Option, None, Equal, sym, ap, ◌∙◌, subst, bytes_eq, AllByRecursion, ordering_then}
+use Rattle.text_core.proofs.Kit.{nat_list_cmp_total, same_text, tied_itself}
 use Rattle.fusemap_core.specs.Prelude.{Map}
 use Rattle.site_core.specs.Prelude.{Ownership}
 use Rattle.office_laws.proofs.Types.{OfCustomer, Link, MapRow}
@@ -12,9 +12,10 @@ use Rattle.office_tables.proofs.TotalOrders.{map_total, link_total}
 use Rattle.office_rules.specs.Prelude.{map_named}
 use Rattle.office_rules.proofs.Ties.{first_equal}
 use Rattle.office_laws.specs.Prelude.{AreSoundMaps, IsLinked, IsSound}
-use Rattle.office_laws.proofs.MapRows.{body_is_new, linked_after, texts_apart_placed}
+use Rattle.office_laws.proofs.MapRows.{body_is_new, linked_after, text_turned}
 use Rattle.office_laws.proofs.NamedMaps.{named_after_link, named_after_map}
 use Rattle.office_laws.proofs.DeviceRows.{ledgers_kept, referred_after_link}
+use Rattle.office_laws.proofs.Placed.{pairwise_placed}
 
 abbrev pub solo_link_cmp : Link → Link → Ordering
 solo_link_cmp a b = text_cmp a.digest b.digest
@@ -54,7 +55,8 @@ module _ {owners : Ownership} (t : Tables) (sound : AreSoundMaps owners t.maps t
       let m : MapRow = record { id = id; body = body } in
       record {
         maps_ascending = placed_ascending map_cmp map_total m t.maps sound.maps_ascending;
-        texts_apart = texts_apart_placed m t.maps (body_is_new body t new) sound.texts_apart;
+        texts_apart = pairwise_placed map_cmp m (λ m other. bytes_eq m.body other.body ≡ false)
+            (text_turned m) t.maps (body_is_new body t new) sound.texts_apart;
         links_ascending = sound.links_ascending;
         owned = sound.owned;
         linked = all_map (IsLinked t.maps) (IsLinked (with_row map_cmp m t.maps))

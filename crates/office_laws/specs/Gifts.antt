@@ -15,6 +15,7 @@ use Rattle.office_rules.specs.Prelude.{row_of}
 use Rattle.office_laws.specs.Fresh.{BlocksDisjoint, IsFreshRecord, addresses_of}
 use Rattle.office_laws.specs.Exchanges.{Exchange, Wanted, asks}
 use Rattle.office_laws.specs.Once.{is_accepted, is_no_repeat, once}
+use Rattle.office_laws.specs.Pairs.{Pairwise}
 
 -- the identity that a command asks for, if that is what it asks for
 abbrev pub identity_of_command : Command → Option NewIdentity
@@ -50,13 +51,6 @@ AreGifts [] [] = Unit {0}
 AreGifts (x ∷ xs) (g ∷ gs) = IsGift x g × AreGifts xs gs
 AreGifts xs gs = ⊥
 
--- no two have one serial number of one issuer, and none of the addresses of one is one of another's
-abbrev pub AreAllApart : Tables → List (OfCustomer Given) → Type 0
-AreAllApart t [] = Unit {0}
-AreAllApart t (g
-    ∷ gs) = AllByRecursion (λ other. (is_serial_of g.row.issuer g.row.serial other ≡ false)
-    × BlocksDisjoint (addresses_of t g) (addresses_of t other)) gs × AreAllApart t gs
-
 -- none of the records has the serial number of one that an import recorded, which has no chip
 abbrev pub AreNotImported : Tables → List (OfCustomer Given) → Type 0
 AreNotImported t gifts = (issuer serial : List ℕ)
@@ -70,5 +64,6 @@ pub record IssuesOnce (xs : List Exchange) (t t2 : Tables) : Type 0 where
   pub gifts : List (OfCustomer Given)
   pub shown : AreGifts (filter (is_new_identity t) (once xs)) gifts
   pub new : AllByRecursion (IsFreshRecord t t2) gifts
-  pub apart : AreAllApart t2 gifts
+  pub apart : Pairwise (λ g other. (is_serial_of g.row.issuer g.row.serial other ≡ false)
+      × BlocksDisjoint (addresses_of t2 g) (addresses_of t2 other)) gifts
   pub imported : AreNotImported t2 gifts

@@ -1,7 +1,6 @@
 -- A customer's own machine: the machine over that customer's rows alone.
 use Rattle.std.specs.Prelude.{ℕ, Bool, ◌&&◌, is_some, bytes_eq, if◌then◌else◌, List, []}
 use Rattle.std.specs.Prelude.{◌∷◌, length, filter, find, Option, Some, None, option_map}
-use Rattle.std.specs.Option.{option_map_or}
 use Rattle.std.specs.Ordering.{nat_cmp, ordering_then}
 use Rattle.std.specs.declared.cmp.Ordering.{Ordering}
 use Rattle.sha2.specs.Sha256.{sha256}
@@ -15,8 +14,6 @@ use Rattle.office_tables.specs.declared.rows.Order.{Order}
 use Rattle.office_tables.specs.declared.rows.SeatState.{SeatState}
 use Rattle.office_tables.specs.Prelude.{places_taken, with_row, text_cmp}
 use Rattle.office_commands.specs.declared.command.Request.{Request}
-use Rattle.office_commands.specs.declared.refusal.Refusal.TheVariants.{Unkept}
-use Rattle.office_commands.specs.Prelude.{refusal}
 use Rattle.office_rules.specs.Prelude.{Put, device_put, map_put, number_put, order_put, record_put}
 use Rattle.office_rules.specs.Prelude.{seat_put, response, has_issuer, IssuedIn, OrderSight, Sight}
 
@@ -84,7 +81,7 @@ solo_issued_in issuer s = record {
 -- what a seat sees of its customer's rows
 abbrev pub solo_sight : Section → List ℕ → SoloState → Sight
 solo_sight c seat s = record {
-  seat = find (λ r. bytes_eq seat r.name) s.seats;
+  seat = seat_named seat s;
   orders = s.orders;
   order = λ name. option_map (solo_order_sight s) (find (λ o. bytes_eq name o.name) s.orders);
   issuer = λ issuer. if has_issuer c issuer then Some (solo_issued_in issuer s) else None;
@@ -114,12 +111,8 @@ abbrev pub with_puts : List Put → SoloState → SoloState
 with_puts [] s = s
 with_puts (p ∷ ps) s = with_puts ps (with_put p s)
 
--- the reply to a seat's request, by what the seat sees, and the state after it
-abbrev pub solo_step : Section → List ℕ → SoloState → Request → Option (Answer × SoloState)
-solo_step c seat s r = option_map (λ made. (made.reply, with_puts made.puts s))
+-- the own machine: the reply to a seat's request, by what the seat sees, and the state after it;
+-- none where a device's order or its map is missing
+abbrev pub solo : Section → List ℕ → SoloState → Request → Option (Answer × SoloState)
+solo c seat s r = option_map (λ made. (made.reply, with_puts made.puts s))
     (response c seat (solo_sight c seat s) r)
-
--- the own machine, for runs, where a reply is wanted of each request: none is 503, and changes
--- nothing
-abbrev pub solo : Section → List ℕ → SoloState → Request → Answer × SoloState
-solo c seat s r = option_map_or (λ made. made) (solo_step c seat s r) (refusal Unkept, s)
