@@ -1,5 +1,6 @@
 -- The fuse map that a text is.
-use Rattle.std.specs.Prelude.{◌≡◌, ℕ, ◌≤◌, nat_lt, List, length, codes, Option, Some, None, option_and_then, Result, Ok, Err, if◌then◌else◌, ok_or}
+use Rattle.std.specs.Prelude.{◌≡◌, ℕ, ◌≤◌, nat_lt, List, length, codes, Option, Some, option_and_then, Result, Err, if◌then◌else◌, ok_or}
+use Rattle.std.specs.Result.{result_ok}
 use Rattle.toml.specs.Data.{Data, get}
 use Rattle.text_core.specs.Prelude.{result_and_then, ◌>>=◌, all_of, list_of_length}
 use Rattle.toml_members.specs.Prelude.{document_of, whole_member, optional_whole, flag_member, name_in, name_member, items_member, if_there}
@@ -67,11 +68,6 @@ map_read text =
     if nat_lt 32768 (length text) then Err BadMember
     else result_and_then (λ d. result_and_then map_or_fault (ok_or (map_of_document d) BadMember)) (ok_or (document_of text) NotToml)
 
--- the map that was read, if there is one
-abbrev pub map_or_none : Result Map MapFault → Option Map
-map_or_none (Ok m) = Some m
-map_or_none (Err fault) = None
-
 -- the fuse map that a text describes, if it describes one
 unfoldable pub map_in : List ℕ → Option Map
-map_in text = map_or_none (map_read text)
+map_in text = result_ok (map_read text)
