@@ -1,13 +1,13 @@
 -- What an identity, the end of a device and an import are answered, as JSON values (RFC 8259).
-use Rattle.std.specs.Prelude.{ℕ, List, [], ◌∷◌, codes}
+use Rattle.std.specs.Prelude.{ℕ, List, [], ◌∷◌, codes, option_map}
 use Rattle.serde_json.specs.Data.{Data, string, object}
 use Rattle.serde_json.specs.Written.{compact_text}
 use Rattle.hex.specs.Hex.{encode_lower}
-use Rattle.id_ranges.specs.Prelude.{Idevid}
+use Rattle.id_ranges.specs.Prelude.{Idevid, mac_text}
 use Rattle.office_tables.specs.Prelude.{state_row}
 use Rattle.office_tables.specs.declared.rows.DeviceState.{DeviceState}
 use Rattle.office_tables.specs.declared.rows.Given.{Given}
-use Rattle.office_commands.specs.Replies.{mac_data, members_of, text_data, whole_data}
+use Rattle.office_commands.specs.Replies.{members_of, text_data, whole_data}
 
 -- the record of an identity that a row keeps
 abbrev pub idevid_in : Given → Idevid
@@ -26,7 +26,7 @@ identity_data chip i = object (members_of (
     (codes "chip", string chip) ∷
     (codes "issuer", string i.issuer) ∷
     (codes "key_sha256", string (encode_lower i.key)) ∷
-    (codes "mac", mac_data i.mac) ∷
+    (codes "mac", text_data (option_map mac_text i.mac)) ∷
     (codes "not_after", string i.not_after) ∷
     (codes "not_before", text_data i.not_before) ∷
     (codes "serial", string i.serial) ∷ []))
