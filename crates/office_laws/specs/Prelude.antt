@@ -33,7 +33,7 @@ pub use Rattle.office_laws.specs.SoundRecords.{AreSoundRecords}
 pub use Rattle.office_laws.specs.SoundRecords.{IsIssuedBelow, IsOfDevice, IsOfOrder}
 pub use Rattle.office_laws.specs.SoundRecords.{IsRecordOf, SerialIsOfIdentified}
 pub use Rattle.office_laws.specs.SoundRows.{AreOwned}
-pub use Rattle.office_laws.specs.Stops.{AreSessions, is_answered, is_request, IsInDoubt, IsLeft}
-pub use Rattle.office_laws.specs.Stops.{IsStoppedRun, IsUnanswered, Leaves, LeavesAfter, Session}
+pub use Rattle.office_laws.specs.Stops.{AreSessions, is_served, is_request, IsInDoubt, IsLeft}
+pub use Rattle.office_laws.specs.Stops.{IsStoppedRun, StaysInDoubt, Leaves, LeavesAfter, Session}
 pub use Rattle.office_laws.specs.Stops.{WasUnavailable}
 pub use Rattle.office_laws.specs.View.{solo_map, view}
