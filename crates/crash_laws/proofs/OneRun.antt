@@ -5,7 +5,7 @@ use Rattle.std.proofs.lemmas.List.{length-map}
 use Rattle.http_replies.specs.declared.Reply.{Reply}
 use Rattle.site_core.specs.Prelude.{Ownership, OwnershipGrows, ownership_of, PoolsDisjoint, SiteValue}
 use Rattle.office_tables.specs.Prelude.{Tables}
-use Rattle.office_laws.specs.Prelude.{calls_of, Exchange, IsLeft, IsRun, IsSeat, IsSound, IsStoppedRun, IsUnanswered, Promises, Session}
+use Rattle.office_laws.specs.Prelude.{calls_of, Exchange, IsLeft, IsRun, IsSeat, IsSound, IsStoppedRun, StaysInDoubt, Promises, Session}
 use Rattle.office_laws.proofs.Grown.{growth_itself}
 use Rattle.office_laws.proofs.Leaving.{stop_leaves}
 use Rattle.office_laws.proofs.Promising.{promises}
@@ -26,7 +26,7 @@ seats_of site requests replies count = subst (AllByRecursion (IsSeat (ownership_
 pub one_run : (site grown : Ownership) (xs more ys : List Exchange) (t stood left last : Tables)
     → OwnershipGrows site grown → PoolsDisjoint site → PoolsDisjoint grown
     → AllByRecursion (IsSeat site) (calls_of xs) → AllByRecursion (IsSeat grown) (calls_of ys)
-    → IsRun xs t stood → IsLeft (IsUnanswered xs) stood more left → IsRun ys left last
+    → IsRun xs t stood → IsLeft (StaysInDoubt xs) stood more left → IsRun ys left last
     → (first : Ownership) → OwnershipGrows first site → IsSound first t → Promises grown (xs ++ (more ++ ys)) t last
 one_run site grown xs more ys t stood left last growth apart others_apart seats others before leaves after first begun sound =
     let early : Session = record { exchanges = xs; cut_off = None } in

@@ -9,7 +9,7 @@ use Rattle.sqlite.specs.Held.{state}
 use Rattle.sqlite.specs.Recovery.{Image}
 use Rattle.site_core.specs.Prelude.{Ownership, OwnershipGrows, ownership_of, TextOfSite}
 use Rattle.office_tables.specs.Prelude.{Stands, Tables}
-use Rattle.office_laws.specs.Prelude.{IsSound, Exchange, IsRun, Promises, IsLeft, IsUnanswered, Leaves}
+use Rattle.office_laws.specs.Prelude.{IsSound, Exchange, IsRun, Promises, IsLeft, StaysInDoubt, Leaves}
 use Rattle.office_store.specs.Prelude.{HasTablesOf}
 use Rattle.office_store.specs.Prelude.{is_open_at, may_leave_at, tables_of, Kept}
 use Rattle.store_inspection.specs.Prelude.{HoldsSiteText}
@@ -56,7 +56,7 @@ pub record GoesOn {D : Type 0} (g : Ghosts D) (crashed : D → D → Type 0) (si
   pub again : Kept (FileStore D g)
   pub is_opened : IsOpenedOver g grown (image_of g left) again
   pub more : List Exchange
-  pub leaves : IsLeft (IsUnanswered before) is_stopped.stood more (tables_of over_files again.conn)
+  pub leaves : IsLeft (StaysInDoubt before) is_stopped.stood more (tables_of over_files again.conn)
   pub last : Tables
   pub answered_after : IsRun after (tables_of over_files again.conn) last
   pub stands : Stands (is_open_at over_files) (tables_of over_files) keep.conn last

@@ -19,7 +19,7 @@ key_bytes (Some digest) = 1 ∷ digest
 unfoldable pub keys_column : Map → KeyTable → List ℕ
 keys_column m t = flat_map (λ block. key_bytes (map.get t block)) (key_blocks m.fields)
 
--- how many bytes such a table takes
+-- how many bytes a table of keys takes
 abbrev pub keys_length : Map → ℕ
 keys_length m = 33 * length (key_blocks m.fields)
 

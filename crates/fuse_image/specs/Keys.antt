@@ -12,6 +12,7 @@ use Rattle.std.specs.Cmp.{nat_cmp_total, unsigned_tied}
 abbrev pub KeyTable : Type 0
 KeyTable = FinMap nat_cmp (List ℕ)
 
+-- the table with a digest at a block, if there is one
 put_some : KeyTable → ℕ → Option (List ℕ) → KeyTable
 put_some t b None = t
 put_some t b (Some d) = map.insert t b d

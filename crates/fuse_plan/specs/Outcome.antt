@@ -48,7 +48,7 @@ short_bits batch ones = set.difference batch ones
 unfoldable pub short_keys : KeyTable → KeyTable → KeyTable → KeyTable
 short_keys known asked shown = keys_without (keys_without asked known) shown
 
--- short where something is left of the batch, with this rest
+-- a match where nothing is left of the batch, and else short, with this rest
 abbrev pub short_or_match : Image → Verdict
 short_or_match rest = if not (is_empty rest.burnt) || not (has_no_key rest.keys) then Short rest else Match
 

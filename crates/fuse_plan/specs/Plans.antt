@@ -57,7 +57,7 @@ are_two_keys _ _ = false
 abbrev pub asks_another_key : Wish → Wish → Bool
 asks_another_key w other = bytes_eq w.field other.field && are_two_keys w.want other.want
 
--- two of the wishes do
+-- two of the wishes, for keys, name one field with two digests
 abbrev pub ask_two_keys : List Wish → Bool
 ask_two_keys ws = list_any (λ w. list_any (asks_another_key w) ws) ws
 

@@ -43,10 +43,11 @@ abbrev pub is_to_be_zero : Pos → Want → Field → Bool
 is_to_be_zero p (Value v) f = holds f p && not (number_has_one v (p.bit - f.bit))
 is_to_be_zero p _ f = false
 
--- a wish asks for a 1 at the position, and for a 0
+-- a wish asks for a 1 at the position
 abbrev pub asks_one : Map → Pos → Wish → Bool
 asks_one m p w = wish_passes m (is_to_be_one m p) w
 
+-- a wish asks for a 0 at the position
 abbrev pub asks_zero : Map → Pos → Wish → Bool
 asks_zero m p w = wish_passes m (is_to_be_zero p) w
 
@@ -54,10 +55,11 @@ asks_zero m p w = wish_passes m (is_to_be_zero p) w
 abbrev pub asked_by : (Pos → Wish → Bool) → List Wish → Positions
 asked_by asks ws = places_where (λ p. list_any (asks p) ws)
 
--- the positions that the wishes ask to be 1 (to be burnt), and those that they ask to be 0 (never to be burnt)
+-- the positions that the wishes ask to be 1: to be burnt
 unfoldable pub wanted_ones : Map → List Wish → Positions
 wanted_ones m ws = asked_by (asks_one m) ws
 
+-- the positions that the wishes ask to be 0: never to be burnt
 unfoldable pub wanted_zeros : Map → List Wish → Positions
 wanted_zeros m ws = asked_by (asks_zero m) ws
 

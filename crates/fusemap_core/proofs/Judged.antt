@@ -1,12 +1,12 @@
 -- A map in which no fault is found keeps the rules, and the other way round.
 use Rattle.std.proofs.Common.{◌≡◌, ◌≢◌, ◌<◌, if◌then◌else◌}
 use Rattle.text_core.proofs.Kit.{ℕ, Bool, true, false, not, Option, Some, None, Ok, Err, All, AllPairs, Decides, refl, ap, arith, list_all, broken_by}
-use Rattle.text_core.proofs.Kit.{Decides-list_all}
+use Rattle.text_core.proofs.Kit.{option_map_or, Decides-list_all}
 use Rattle.fusemap_core.specs.declared.fault.MapFault.{MapFault}
 use Rattle.fusemap_core.specs.declared.fault.MapFault.TheVariants.{NotToml, BadMember, NameTwice, OutOfBlock, FieldsOverlap, BadLockField, BadLockIndex}
 use Rattle.fusemap_core.specs.declared.fault.MapFault.TheVariants.{BadKeyField, OutOfMemory}
 use Rattle.fusemap_core.specs.Prelude.{Map, IsMap, IsInRange, IsInBlock, FieldsDisjoint, HasItsLocks, IsKeyField, all_pairs, have_other_names, is_in_block}
-use Rattle.fusemap_core.specs.Prelude.{are_apart, has_lock_fields, has_its_locks, is_plain_or_key, map_fault_number, lowest_fault, map_unless_faulty}
+use Rattle.fusemap_core.specs.Prelude.{are_apart, has_lock_fields, has_its_locks, is_plain_or_key, map_fault_number, lowest_fault}
 use Rattle.fusemap_core.specs.Prelude.{map_or_fault, KeepsMapRule, IsLowestMapFault}
 use Rattle.fusemap_core.proofs.Pairs.{Decides-all_pairs}
 use Rattle.fusemap_core.proofs.Rules.{Decides-have_other_names, Decides-is_in_block, Decides-are_apart, Decides-has_lock_fields, Decides-has_its_locks}
@@ -68,7 +68,7 @@ no_fault-from_IsMap m is =
     rw (names, blocks, apart, lock_fields, locks, keys) refl
 
 -- a judgement that gives a map found no fault, and gives the map that was judged
-faultless : (fault : Option MapFault) (m found : Map) → map_unless_faulty fault m ≡ Ok found → (fault ≡ None) × (m ≡ found)
+faultless : (fault : Option MapFault) (m found : Map) → option_map_or Err fault (Ok m) ≡ Ok found → (fault ≡ None) × (m ≡ found)
 faultless (Some fault) m found e = cc
 faultless None m found e = (refl, cc)
 
@@ -80,7 +80,7 @@ IsMap-from_judged m found ranges e =
     let parts = faultless (lowest_fault m) m found e in rw (← parts.1) (IsMap-from_no_fault m ranges parts.0)
 
 pub map_or_fault-from_IsMap : (m : Map) → IsMap m → map_or_fault m ≡ Ok m
-map_or_fault-from_IsMap m is = ap (λ fault. map_unless_faulty fault m) (no_fault-from_IsMap m is)
+map_or_fault-from_IsMap m is = ap (λ fault. option_map_or Err fault (Ok m)) (no_fault-from_IsMap m is)
 
 -- the rules of all faults below a number, by the rules of those that have one
 rules_below : (m : Map) (n : ℕ) → (3 < n → KeepsMapRule NameTwice m) → (4 < n → KeepsMapRule OutOfBlock m) → (5 < n → KeepsMapRule FieldsOverlap m)
@@ -153,7 +153,7 @@ IsLowestMapFault-from_lowest m fault e =
     lowest_of_tests m fault _ _ _ _ _ _ (names_decided m) (blocks_decided m) (apart_decided m) (Decides-has_lock_fields m) (locks_decided m) (keys_decided m) e
 
 -- a fault that a judgement gives is the one that was found
-found_fault : (found : Option MapFault) (m : Map) (fault : MapFault) → map_unless_faulty found m ≡ Err fault → found ≡ Some fault
+found_fault : (found : Option MapFault) (m : Map) (fault : MapFault) → option_map_or Err found (Ok m) ≡ Err fault → found ≡ Some fault
 found_fault (Some found) m fault e = cc
 found_fault None m fault e = cc
 

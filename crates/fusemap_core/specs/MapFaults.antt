@@ -108,11 +108,6 @@ pub record IsLowestMapFault (fault : MapFault) (m : Map) : Type 0 where
   pub broken : ¬ KeepsMapRule fault m
   pub lower : (other : MapFault) → map_fault_number other < map_fault_number fault → KeepsMapRule other m
 
--- the map, unless it has a fault
-abbrev pub map_unless_faulty : Option MapFault → Map → Result Map MapFault
-map_unless_faulty (Some fault) m = Err fault
-map_unless_faulty None m = Ok m
-
 -- the map, or the lowest fault of how its parts fit together
 abbrev pub map_or_fault : Map → Result Map MapFault
-map_or_fault m = map_unless_faulty (lowest_fault m) m
+map_or_fault m = option_map_or Err (lowest_fault m) (Ok m)

@@ -1,5 +1,6 @@
 -- The fuse map that a text is.
-use Rattle.std.specs.Prelude.{◌≡◌, ℕ, ◌≤◌, nat_lt, List, length, codes, Option, Some, None, option_and_then, Result, Ok, Err, if◌then◌else◌, ok_or}
+use Rattle.std.specs.Prelude.{◌≡◌, ℕ, ◌≤◌, nat_lt, List, length, codes, Option, Some, option_and_then, Result, Err, if◌then◌else◌, ok_or}
+use Rattle.std.specs.Result.{result_ok}
 use Rattle.toml.specs.Data.{Data, get}
 use Rattle.text_core.specs.Prelude.{result_and_then, ◌>>=◌, all_of, list_of_length}
 use Rattle.toml_members.specs.Prelude.{document_of, whole_member, optional_whole, flag_member, name_in, name_member, items_member, if_there}
@@ -55,23 +56,18 @@ pub record HasMapMembers (text : List ℕ) (m : Map) : Type 0 where
   pub within : length text ≤ 32768
   pub members : (document_of text >>= map_of_document) ≡ Some m
 
--- the text is such a document, and the map is one
+-- the text is a TOML document of at most 32,768 bytes whose named members are the map's, and the map keeps each rule of maps
 pub record IsMapText (text : List ℕ) (m : Map) : Type 0 where
   pub within : length text ≤ 32768
   pub members : (document_of text >>= map_of_document) ≡ Some m
   pub is_map : IsMap m
 
--- the map that a text is, or its lowest fault
+-- the map that a text is, or its lowest fault: a text that is too long isn't read, and has fault 2
 abbrev pub map_read : List ℕ → Result Map MapFault
 map_read text =
     if nat_lt 32768 (length text) then Err BadMember
     else result_and_then (λ d. result_and_then map_or_fault (ok_or (map_of_document d) BadMember)) (ok_or (document_of text) NotToml)
 
--- the map that was read, if there is one
-abbrev pub map_or_none : Result Map MapFault → Option Map
-map_or_none (Ok m) = Some m
-map_or_none (Err fault) = None
-
 -- the fuse map that a text describes, if it describes one
 unfoldable pub map_in : List ℕ → Option Map
-map_in text = map_or_none (map_read text)
+map_in text = result_ok (map_read text)

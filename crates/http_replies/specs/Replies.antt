@@ -21,7 +21,7 @@ code_of Unprocessable = 422
 code_of NotImplemented = 501
 code_of Unavailable = 503
 
--- the phrase of that number
+-- the phrase of a status (RFC 9110, section 15)
 abbrev pub phrase_of : Status → List ℕ
 phrase_of status = unwrap_or (reason_phrase (code_of status)) []
 
@@ -33,18 +33,18 @@ asks_token status = code_of status == 401
 abbrev pub is_unavailable : Status → Bool
 is_unavailable status = code_of status == 503
 
--- the media type of such a body
+-- the media type of a kind of bodies
 abbrev pub media_type_of : Kind → List ℕ
 media_type_of Kind.Json = codes "application/json"
 media_type_of Kind.Csv = codes "text/csv"
 
--- what the body is
+-- the kind of a body
 abbrev pub kind_of_body : Body → Kind
 kind_of_body (Body.Constant text) = Kind.Json
 kind_of_body (Body.Json text) = Kind.Json
 kind_of_body (Body.Report bytes) = Kind.Csv
 
--- the bytes of the body
+-- the bytes of a body
 abbrev pub bytes_of_body : Body → List ℕ
 bytes_of_body (Body.Constant text) = text.now
 bytes_of_body (Body.Json text) = string_bytes text
@@ -56,7 +56,7 @@ pub record Answer : Type 0 where
   pub kind : Kind
   pub body : List ℕ
 
--- what this reply says
+-- what a reply in memory says
 abbrev pub answer_of : Reply → Answer
 answer_of reply = record { status = reply.status; kind = kind_of_body reply.body; body = bytes_of_body reply.body }
 

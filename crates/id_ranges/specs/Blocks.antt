@@ -28,7 +28,7 @@ blocks_overlap a b = nat_lt (max a.0 b.0) (min (a.0 + a.1) (b.0 + b.1))
 abbrev pub IsIn : ℕ × ℕ → ℕ → Type 0
 IsIn interval mac = (interval.0 ≤ mac) × (mac < interval.0 + interval.1)
 
--- no address is in both
+-- no address is in both intervals
 abbrev pub IsApart : ℕ × ℕ → ℕ × ℕ → Type 0
 IsApart a b = (mac : ℕ) → IsIn a mac → IsIn b mac → ⊥
 

@@ -9,7 +9,6 @@ pub mod NotBefore
 pub mod Pool
 pub mod Range
 pub mod RangeFaults
-pub mod Serial
 pub mod SerialLaws
 pub mod Found
 pub mod Rows

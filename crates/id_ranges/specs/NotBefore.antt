@@ -11,13 +11,9 @@ use Rattle.id_ranges.specs.declared.fault.RangeFault.TheVariants.{BadNotBefore}
 abbrev pub two_digits : List ℕ → ℕ → ℕ
 two_digits text place = digit_value (slice_index text place) * 10 + digit_value (slice_index text (place + 1))
 
--- the year of a time, its first four digits
-abbrev pub year_of : List ℕ → ℕ
-year_of text = two_digits text 0 * 100 + two_digits text 2
-
--- the calendar has the day of a time
+-- the calendar has the day of a time: its year has four digits, its month and its day two
 abbrev pub has_date : List ℕ → Bool
-has_date text = is_date (year_of text) (two_digits text 4) (two_digits text 6)
+has_date text = is_date (two_digits text 0 * 100 + two_digits text 2) (two_digits text 4) (two_digits text 6)
 
 -- the hour of a time is below 24, its minute and its second below 60
 abbrev pub has_clock : List ℕ → Bool

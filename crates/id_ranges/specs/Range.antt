@@ -1,8 +1,8 @@
 -- Ranges of serial numbers.
-use Rattle.std.specs.Prelude.{◌≡◌, ◌==◌, ℕ, ◌+◌, ◌-◌, ◌^◌, ◌<◌, ◌≤◌, Bool, true, not, ◌&&◌, nat_le, nat_lt, bytes_eq, List, Result, Ok, Err, if◌then◌else◌}
+use Rattle.std.specs.Prelude.{◌≡◌, ◌==◌, ℕ, ◌+◌, ◌-◌, ◌^◌, ◌<◌, ◌≤◌, Bool, true, not, ◌&&◌, nat_le, nat_lt, bytes_eq, List, ◌++◌, Result, Ok, Err}
+use Rattle.std.specs.Prelude.{decimal, if◌then◌else◌}
 use Rattle.std.specs.List.{list_any, range_with_len}
-use Rattle.text_core.specs.Prelude.{is_prefix}
-use Rattle.id_ranges.specs.Serial.{serial_text}
+use Rattle.text_core.specs.Prelude.{is_prefix, zero_padded}
 use Rattle.id_ranges.specs.declared.fault.RangeFault.{RangeFault}
 use Rattle.id_ranges.specs.declared.fault.RangeFault.TheVariants.{BadText, TooWide}
 
@@ -36,7 +36,7 @@ range_of prefix width first quantity =
     else if is_number_too_wide width (first + quantity - 1) then Err TooWide
     else Ok (record { prefix = prefix; width = width; first = first; quantity = quantity })
 
--- some number is in both
+-- some number is in both ranges
 abbrev pub SharesANumber : Range → Range → Type 0
 SharesANumber a b = (n : ℕ) × Has a n × Has b n
 
@@ -48,11 +48,12 @@ RangesOverlap a b = (a.prefix ≡ b.prefix) × (a.width ≡ b.width) × SharesAN
 abbrev pub numbers : Range → List ℕ
 numbers r = range_with_len r.first r.quantity
 
--- whether they meet: prefixes and widths are equal, and a number of one is one of the other's
+-- two ranges meet: their prefixes and widths are equal, and a number of one is one of the other's
 abbrev pub ranges_overlap : Range → Range → Bool
 ranges_overlap a b =
     bytes_eq a.prefix b.prefix && (a.width == b.width) && list_any (λ n. nat_le b.first n && nat_lt n (b.first + b.quantity)) (numbers a)
 
--- the serial number of a number of the range (RFC 5280, appendix A: of characters of PrintableString)
+-- the serial number of a number of the range, in characters of PrintableString (RFC 5280, appendix A): the prefix, and the number in decimal with zeros before
+-- it up to the width
 abbrev pub serial_text_of : Range → ℕ → List ℕ
-serial_text_of r n = serial_text r.prefix r.width n
+serial_text_of r n = r.prefix ++ zero_padded r.width (decimal n)

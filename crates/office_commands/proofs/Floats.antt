@@ -1,6 +1,7 @@
 -- Nothing that is shown of devices has a float.
 use Rattle.std.proofs.Common.{◌≡◌, ◌==◌, ◌∷◌, Ordering, if◌then◌else◌}
-use Rattle.text_core.proofs.Kit.{ℕ, suc, Bool, true, false, List, [], map, Option, Some, None, Less, Equal, Greater, refl, or_from, or_parts, match_ordering}
+use Rattle.text_core.proofs.Kit.{ℕ, suc, Bool, true, false, List, [], map, Option, Some, None, option_map, Less, Equal, Greater, refl, or_from, or_parts}
+use Rattle.text_core.proofs.Kit.{match_ordering}
 use Rattle.std.specs.FinMap as table
 use Rattle.serde_json.specs.Data.{Data, Members, no_members, member, put}
 use Rattle.serde_json.specs.Written.{has_float, items_have_float, members_have_float}
@@ -9,15 +10,13 @@ use Rattle.fusemap_core.specs.Prelude.{Map}
 use Rattle.fuse_image.specs.declared.image.Image.{Image}
 use Rattle.fuse_image.specs.Prelude.{KeyTable, Positions, words_of_set}
 use Rattle.fuse_image.specs.declared.pending.Pending.{Pending}
-use Rattle.office_tables.specs.Prelude.{state_row}
+use Rattle.office_tables.specs.Prelude.{reason_text, state_row}
 use Rattle.office_tables.specs.declared.rows.Device.{Device}
 use Rattle.office_tables.specs.declared.rows.DeviceState.{DeviceState}
 use Rattle.office_tables.specs.declared.rows.NewEntry.{NewEntry}
 use Rattle.office_tables.specs.declared.rows.Outcome.{Outcome}
-use Rattle.office_tables.specs.declared.rows.Reason.{Reason}
-use Rattle.office_tables.specs.declared.rows.Reason.TheVariants.{Lost, Stray, Key}
 use Rattle.office_commands.specs.Prelude.{text_data, outcome_data, plan_data, items_of, word_data, word_list, bits_data, key_at, with_digest, with_key_members}
-use Rattle.office_commands.specs.Prelude.{keys_data, batch_data, reason_data, device_data, entry_by, entry_data, fields_of, image_by, ledger_data, devices_data}
+use Rattle.office_commands.specs.Prelude.{keys_data, batch_data, device_data, entry_by, entry_data, fields_of, image_by, ledger_data, devices_data}
 use Rattle.office_commands.specs.Prelude.{listed_data}
 
 in_words_shown : (is_zero : Bool) (d : Data) (ds : List Data) → has_float d ≡ false → items_have_float (items_of ds) ≡ false
@@ -61,12 +60,6 @@ in_keys fields keys = in_fields keys fields no_members refl
 in_work : (fields : List Field) (bits : Positions) (keys : KeyTable) → has_float (batch_data fields bits keys) ≡ false
 in_work fields bits keys = or_from _ _ (in_bits bits) (or_from _ _ (in_keys fields keys) refl)
 
-in_reason : (reason : Option Reason) → has_float (reason_data reason) ≡ false
-in_reason None = refl
-in_reason (Some Lost) = refl
-in_reason (Some Stray) = refl
-in_reason (Some Key) = refl
-
 in_text : (text : Option (List ℕ)) → has_float (text_data text) ≡ false
 in_text None = refl
 in_text (Some text) = refl
@@ -76,7 +69,7 @@ in_device fields burnt pending d =
     or_from _ _ (in_bits burnt.burnt)
     (or_from _ _ (in_keys fields burnt.keys)
     (or_from _ _ (or_from _ _ (in_work fields pending.first pending.keys) (or_from _ _ (in_work fields pending.second table.empty) refl))
-    (or_from _ _ (in_reason (state_row d.state).reason) (or_from _ _ (in_text d.serial) refl))))
+    (or_from _ _ (in_text (option_map reason_text (state_row d.state).reason)) (or_from _ _ (in_text d.serial) refl))))
 
 in_entry : (fields : List Field) (added : Image) (e : NewEntry) → has_float (entry_data fields added e) ≡ false
 in_entry fields added e = or_from _ _ (in_bits added.burnt) (or_from _ _ (in_keys fields added.keys) refl)
@@ -89,7 +82,7 @@ pub in_ledger : (m : Option Map) (chip : List ℕ) (entries : List NewEntry) →
 in_ledger m chip entries = or_from _ _ (in_entries m entries) refl
 
 in_listed : (d : Device) → has_float (listed_data d) ≡ false
-in_listed d = or_from _ _ (in_reason (state_row d.state).reason) (or_from _ _ (in_text d.serial) refl)
+in_listed d = or_from _ _ (in_text (option_map reason_text (state_row d.state).reason)) (or_from _ _ (in_text d.serial) refl)
 
 in_list : (devices : List Device) → items_have_float (items_of (map listed_data devices)) ≡ false
 in_list [] = refl

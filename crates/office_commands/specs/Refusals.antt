@@ -2,7 +2,6 @@
 use Rattle.std.specs.Prelude.{◌≡◌, ◌⊎◌, ◌+◌, ℕ, List, [], ◌++◌, ◌∷◌, codes, decimal}
 use Rattle.http_replies.specs.declared.Status.{Status}
 use Rattle.http_replies.specs.declared.Status.TheVariants.{BadRequest, Unauthorized, Forbidden, NotFound, Conflict, Unprocessable, Unavailable}
-use Rattle.fuse_plan.specs.Prelude.{plan_fault_number}
 use Rattle.fuse_plan.specs.declared.fault.PlanFault.{PlanFault}
 use Rattle.fuse_plan.specs.declared.fault.PlanFault.TheVariants.{UnknownField, UnmappedBit, ValueTooWide, ClearsBurnt, Contradiction, WrongKind, OtherKey}
 use Rattle.fuse_plan.specs.declared.fault.PlanFault.TheVariants.{WriteProtected, Hidden, NoLock}
@@ -13,18 +12,18 @@ use Rattle.office_commands.specs.declared.refusal.Refusal.TheVariants.{BadMap, B
 use Rattle.office_commands.specs.declared.refusal.Refusal.TheVariants.{CodingScheme, ForeignIssuer, ImportConflict, MapDigestTaken, Limit, BadReadback}
 use Rattle.office_commands.specs.declared.refusal.Refusal.TheVariants.{BadNotBefore, Unkept}
 
--- the names of the faults of wishes
-abbrev pub plan_fault_name : PlanFault → List ℕ
-plan_fault_name UnknownField = codes "unknown_field"
-plan_fault_name UnmappedBit = codes "unmapped_bit"
-plan_fault_name ValueTooWide = codes "value_too_wide"
-plan_fault_name ClearsBurnt = codes "clears_burnt"
-plan_fault_name Contradiction = codes "contradiction"
-plan_fault_name WrongKind = codes "wrong_kind"
-plan_fault_name OtherKey = codes "other_key"
-plan_fault_name WriteProtected = codes "write_protected"
-plan_fault_name Hidden = codes "hidden"
-plan_fault_name NoLock = codes "no_lock"
+-- the number and the name of the refusal for each fault of wishes
+abbrev pub plan_fault_row : PlanFault → ℕ × List ℕ
+plan_fault_row UnknownField = (19, codes "unknown_field")
+plan_fault_row UnmappedBit = (20, codes "unmapped_bit")
+plan_fault_row ValueTooWide = (21, codes "value_too_wide")
+plan_fault_row ClearsBurnt = (22, codes "clears_burnt")
+plan_fault_row Contradiction = (23, codes "contradiction")
+plan_fault_row WrongKind = (24, codes "wrong_kind")
+plan_fault_row OtherKey = (25, codes "other_key")
+plan_fault_row WriteProtected = (26, codes "write_protected")
+plan_fault_row Hidden = (27, codes "hidden")
+plan_fault_row NoLock = (28, codes "no_lock")
 
 -- what there is to know of a refusal: its number, its status, which is Conflict where the books as they are stand against the request, and its name
 pub record RefusalRow : Type 0 where
@@ -32,7 +31,7 @@ pub record RefusalRow : Type 0 where
   pub status : Status
   pub name : List ℕ
 
--- the row of each refusal: the faults of wishes have the numbers from 19 on
+-- the row of each refusal
 abbrev pub refusal_row : Refusal → RefusalRow
 refusal_row UnknownToken = record { number = 6; status = Unauthorized; name = codes "unknown_token" }
 refusal_row UnknownPath = record { number = 7; status = NotFound; name = codes "unknown_path" }
@@ -47,7 +46,7 @@ refusal_row UnknownDevice = record { number = 15; status = NotFound; name = code
 refusal_row Exists = record { number = 16; status = Conflict; name = codes "exists" }
 refusal_row WrongState = record { number = 17; status = Conflict; name = codes "wrong_state" }
 refusal_row QuantityReached = record { number = 18; status = Conflict; name = codes "quantity_reached" }
-refusal_row (BadPlan fault) = record { number = 18 + plan_fault_number fault; status = Unprocessable; name = plan_fault_name fault }
+refusal_row (BadPlan fault) = record { number = (plan_fault_row fault).0; status = Unprocessable; name = (plan_fault_row fault).1 }
 refusal_row (BadMap fault) = record { number = 29; status = Unprocessable; name = codes "bad_map" }
 refusal_row BadSerial = record { number = 30; status = Unprocessable; name = codes "bad_serial" }
 refusal_row NumberTooWide = record { number = 31; status = Unprocessable; name = codes "number_too_wide" }
@@ -78,7 +77,7 @@ told_before (WrongNumber expected) = codes ",\"expected\":" ++ decimal expected
 told_before (BadMap fault) = codes ",\"fault\":" ++ decimal fault
 told_before _ = []
 
--- what it tells behind its number
+-- what a refusal tells behind its number
 abbrev pub told_behind : Refusal → List ℕ
 told_behind (ImportConflict serial) = codes ",\"serial\":\"" ++ (serial ++ codes "\"")
 told_behind _ = []

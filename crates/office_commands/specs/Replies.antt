@@ -1,5 +1,5 @@
 -- What a request is answered, and the objects that are shown, as JSON values (RFC 8259).
-use Rattle.std.specs.Prelude.{ℕ, List, [], ◌∷◌, codes, Option, Some, None}
+use Rattle.std.specs.Prelude.{ℕ, List, [], ◌∷◌, codes, Option, Some, None, option_map}
 use Rattle.serde_json.specs.Data.{Data, null, number, unsigned, string, object, Members, no_members, member}
 use Rattle.serde_json.specs.Written.{compact_text}
 use Rattle.hex.specs.Hex.{encode_lower}
@@ -33,17 +33,12 @@ abbrev pub text_data : Option (List ℕ) → Data
 text_data None = null
 text_data (Some text) = string text
 
--- a hardware address by its text, null where there is none
-abbrev pub mac_data : Option ℕ → Data
-mac_data None = null
-mac_data (Some mac) = string (mac_text mac)
-
 -- an order with its next serial number, its members in byte order
 abbrev pub order_data : Order → Option (List ℕ) → Data
 order_data o next = object (members_of (
     (codes "first", whole_data o.range.first) ∷
     (codes "issuer", string o.issuer) ∷
-    (codes "mac", mac_data o.mac) ∷
+    (codes "mac", text_data (option_map mac_text o.mac)) ∷
     (codes "macs", whole_data o.macs) ∷
     (codes "name", string o.name) ∷
     (codes "next", text_data next) ∷
@@ -52,7 +47,7 @@ order_data o next = object (members_of (
     (codes "quantity", whole_data o.range.quantity) ∷
     (codes "width", whole_data o.range.width) ∷ []))
 
--- the text of that
+-- the JSON text of an order with its next serial number
 unfoldable pub order_body : Order → Option (List ℕ) → List ℕ
 order_body o next = compact_text (order_data o next)
 
@@ -60,6 +55,6 @@ order_body o next = compact_text (order_data o next)
 abbrev pub map_data : List ℕ → Data
 map_data digest = object (members_of ((codes "map", string (encode_lower digest)) ∷ []))
 
--- the text of that
+-- the JSON text of a fuse map
 unfoldable pub map_body : List ℕ → List ℕ
 map_body digest = compact_text (map_data digest)

@@ -20,7 +20,7 @@ plan_data fields work state = object (members_of (
     (codes "batch2", batch_data fields work.second map.empty) ∷
     (codes "state", string (state_row state).text) ∷ []))
 
--- the text of that, by the device's fuse map
+-- the JSON text of a plan, by the device's fuse map
 unfoldable pub plan_body : Map → Pending → DeviceState → List ℕ
 plan_body m work state = compact_text (plan_data m.fields work state)
 
@@ -31,6 +31,6 @@ outcome_data fields outcome rest state = object (members_of (
     (codes "rest", batch_data fields rest.burnt rest.keys) ∷
     (codes "state", string (state_row state).text) ∷ []))
 
--- the text of that, by the device's fuse map
+-- the JSON text of what a read-back came to, by the device's fuse map
 unfoldable pub outcome_body : Map → Outcome → Image → DeviceState → List ℕ
 outcome_body m outcome rest state = compact_text (outcome_data m.fields outcome rest state)

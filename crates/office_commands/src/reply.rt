@@ -3,7 +3,8 @@ ghost use Rattle.std.specs.Prelude.{◌≡◌, IfOk, option_map, string_bytes};
 ghost use Rattle.serde_json.specs.View.{view};
 ghost use Rattle.http_replies.specs.Prelude.{answer_of, bytes_of_body, kind_of_body};
 ghost use Rattle.http_replies.specs.declared.Kind.{Kind};
-ghost use Rattle.office_commands.specs.Prelude.{refusal_body, acceptance, refusal, text_data, mac_data, order_data, map_data};
+ghost use Rattle.office_commands.specs.Prelude.{refusal_body, acceptance, refusal, text_data, order_data, map_data};
+ghost use Rattle.id_ranges.specs.Prelude.{mac_text};
 ghost use Rattle.office_commands.specs.Replies as replies;
 
 use crate::Refusal;
@@ -106,7 +107,7 @@ pub(crate) fn text_value(alloc: Global, text: Option<&str>) -> Result<Value, All
 }
 
 pub(crate) fn mac_value(alloc: Global, mac: Option<Mac>) -> Result<Value, AllocError>
-    ensures { IfOk result (λ v. view v ≡ mac_data mac) }
+    ensures { IfOk result (λ v. view v ≡ text_data (option_map mac_text mac)) }
 {
     match mac {
         Some(mac) => Ok(Value::String(mac.to_string(alloc)?)),

@@ -27,18 +27,18 @@ AreGrown [] = Unit {0}
 AreGrown (site ∷ []) = Unit {0}
 AreGrown (site ∷ next ∷ sites) = IsGrowth site next × AreGrown (next ∷ sites)
 
--- the owners of the first of them, if there is one, grew from these
+-- the owners of the first site, if there is one, grew from these owners
 abbrev pub BeginGrown : Ownership → List SiteValue → Type 0
 BeginGrown first [] = Unit {0}
 BeginGrown first (site ∷ sites) = OwnershipGrows first (ownership_of site)
 
--- the owners of the last of them, or these where there is none
+-- the owners of the last site, or these where there is no site
 abbrev pub last_owners : Ownership → List SiteValue → Ownership
 last_owners first [] = first
 last_owners first (site ∷ sites) = last_owners (ownership_of site) sites
 
--- these exchanges lead from the tables that stood to those that stand, and a crash after them leaves what a stop may leave, which tells of
--- the text of the site that was told of before them
+-- these exchanges lead from the tables that stood to those that stand; a crash after them leaves what a stop may leave, and tells of each
+-- text of the site that it told of before
 pub record Answered {K : Type 0} (k : Ghosts K) (old new : K) (xs : List Exchange) (t t2 : Tables) : Type 0 where
   pub run : IsRun xs t t2
   pub crash : LeavesAfter xs (k.may_leave old) t (k.may_leave new) t2
@@ -57,10 +57,10 @@ KeepsPromises k sites old new xs =
 abbrev pub sites_of : List Part → List SiteValue
 sites_of parts = map (λ part. part.site.now) parts
 
--- the calls of their requests, each with its own part's site's section of its customer
+-- the calls of the requests of parts, each with its customer's section in the site of its part
 abbrev pub calls_of_parts : List Part → List Call
 calls_of_parts parts = flat_map (λ part. calls_in part.site.now part.requests.now) parts
 
--- each of them with its reply
+-- each call of parts with its reply
 abbrev pub exchanges_of_parts : List Part → List Reply → List Exchange
 exchanges_of_parts parts replies = zip (calls_of_parts parts) (map answer_of replies)

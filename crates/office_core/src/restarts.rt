@@ -3,7 +3,7 @@ ghost use Rattle.std.specs.Prelude.{◌++◌, List};
 ghost use Rattle.std.specs.List.{AllByRecursion};
 ghost use Rattle.site_core.specs.Prelude.{PoolsDisjoint, Ownership, OwnershipGrows};
 ghost use Rattle.office_tables.specs.Prelude.{Tables};
-ghost use Rattle.office_laws.specs.Prelude.{IsSound, Exchange, calls_of, IsSeat, Promises, IsLeft, IsUnanswered};
+ghost use Rattle.office_laws.specs.Prelude.{IsSound, Exchange, calls_of, IsSeat, Promises, IsLeft, StaysInDoubt};
 ghost use Rattle.office_core.specs.Prelude.{Answered, IsLife};
 
 use office_tables::Keep;
@@ -21,7 +21,7 @@ pub fn stopped_stores_go_on<K: Keep, L: Keep>()
         → AllByRecursion (IsSeat site) (calls_of xs) → AllByRecursion (IsSeat grown) (calls_of ys)
         → IsLife K.Keep opened stopped xs t t2 left
         → Answered L.Keep again later ys left t3
-        → (more : List Exchange) × IsLeft (IsUnanswered xs) t2 more left
+        → (more : List Exchange) × IsLeft (StaysInDoubt xs) t2 more left
         × ((first : Ownership) → OwnershipGrows first site → IsSound first t
         → Promises grown (xs ++ (more ++ ys)) t t3) }
 {}

@@ -6,8 +6,8 @@ use Rattle.text_core.proofs.Kit.{AllByRecursion, and_parts, eqb-true, same_text,
 use Rattle.office_tables.specs.declared.rows.SeatState.{SeatState}
 use Rattle.office_tables.specs.Prelude.{Tables}
 use Rattle.office_commands.specs.Prelude.{acceptance}
-use Rattle.office_laws.specs.Prelude.{SoloState, seat_named, view, Exchange, exchanges_of, last_number_of_seat, ActsOnce, AgreeWithFirst, firsts, is_accepted}
-use Rattle.office_laws.specs.Prelude.{is_again, number_of_wanted, once}
+use Rattle.office_laws.specs.Prelude.{SoloState, seat_named, view, Exchange, exchanges_of, last_number_of_seat, ActsOnce, firsts, is_accepted}
+use Rattle.office_laws.specs.Prelude.{is_again, number_of_wanted, once, Pairwise}
 use Rattle.office_laws.proofs.OwnRetries.{Accepts, takes}
 use Rattle.office_laws.proofs.RunsAlone.{Own, RunsAlone, alone_state}
 
@@ -199,7 +199,8 @@ agree_with x (y ∷ ys) s s2 all is run =
     let a : Accepts y.0.seat (number_of_wanted y.0.wanted) y.1 s run.0 = accepts y s run.0 run.1 all.0 in
     (again_kept x y s run.0 a is, agree_with x ys run.0 s2 all.1 (kept_more x y s run.0 a is) run.2)
 
-agree : (xs : List Exchange) (s s2 : SoloState) → AreAccepted xs → RunsAlone xs s s2 → AgreeWithFirst xs
+agree : (xs : List Exchange) (s s2 : SoloState) → AreAccepted xs → RunsAlone xs s s2
+    → Pairwise (λ x later. is_again x later ≡ true → later.1 ≡ x.1) xs
 agree [] s s2 all run = tt
 agree (x ∷ xs) s s2 all run =
     let a : Accepts x.0.seat (number_of_wanted x.0.wanted) x.1 s run.0 = accepts x s run.0 run.1 all.0 in

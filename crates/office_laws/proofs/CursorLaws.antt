@@ -8,8 +8,9 @@ use Rattle.office_tables.specs.Prelude.{Tables, is_device, is_of, is_order, orde
 use Rattle.office_tables.specs.Prelude.{IsAscending}
 use Rattle.office_tables.proofs.TotalOrders.{order_total}
 use Rattle.office_rules.proofs.Refusing.{is_some_map}
-use Rattle.office_laws.specs.Prelude.{Grows, AreDisjoint, EachApart, IsInPool, IsOrder, IsSound, IsIssuedBelow, IsOfDevice, IsOfOrder, IsRecordOf}
+use Rattle.office_laws.specs.Prelude.{Grows, AreDisjoint, IsInPool, IsOrder, IsSound, IsIssuedBelow, IsOfDevice, IsOfOrder, IsRecordOf}
 use Rattle.office_rules.specs.Prelude.{at_first}
+use Rattle.office_laws.proofs.Addresses.{EachApart}
 use Rattle.office_laws.proofs.Growing.{OrderStays}
 use Rattle.office_laws.proofs.Readings.{find_holds, find_map}
 use Rattle.office_laws.proofs.SoundRows.{order_placed}

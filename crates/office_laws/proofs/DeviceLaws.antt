@@ -1,8 +1,8 @@
 -- A device with an entry of its ledger keeps the tables sound, and how both lie with their
 -- customers.
 use Rattle.std.proofs.Common.{◌≡◌, ◌+◌, ◌++◌, ◌∷◌, Ordering}
-use Rattle.text_core.proofs.Kit.{ℕ, arith, true, false, List, [], length, map, Some, None, Equal, refl, sym, ap, ◌∙◌, subst, bytes_eq, filter, find, is_some}
-use Rattle.text_core.proofs.Kit.{Option, AllByRecursion, nat_cmp, ordering_then, and_parts, and_from, nat_list_cmp_total, tied_itself, same_text, text_itself}
+use Rattle.text_core.proofs.Kit.{ℕ, arith, true, false, List, [], length, map, Some, None, Equal, refl, sym, ap, subst, bytes_eq, filter, find, is_some}
+use Rattle.text_core.proofs.Kit.{Option, AllByRecursion, nat_cmp, ordering_then, and_parts, and_from, same_text, text_itself}
 use Rattle.site_core.specs.Prelude.{Ownership}
 use Rattle.office_laws.proofs.Types.{OfCustomer, Device, Entry, NewEntry, DeviceStep}
 use Rattle.office_tables.specs.Prelude.{Tables, device_at, device_cmp, entry_cmp, entry_under, entry_with, greatest, has_entry_id, is_device, is_entry_of}
@@ -14,27 +14,14 @@ use Rattle.office_tables.proofs.Places.{same_place, own_device}
 use Rattle.office_tables.proofs.TotalOrders.{device_total, entry_total}
 use Rattle.office_rules.specs.Prelude.{entry_of, map_named}
 use Rattle.office_rules.proofs.Ties.{first_equal, second_equal}
-use Rattle.office_laws.proofs.OwnPlaces.{solo_device_cmp}
 use Rattle.office_laws.specs.Prelude.{AreNumberedFrom, AreSoundDevices, HasLedger, FitsFuseMap, IsReferred, SerialIsOfIdentified, IsRecordOf, IsSound}
 use Rattle.office_laws.proofs.Appended.{all_below, appended, last_of_numbered, numbered_appended}
-use Rattle.office_laws.proofs.DeviceRows.{ids_apart_placed}
-use Rattle.office_laws.proofs.Placed.{all_placed_apart}
+use Rattle.office_laws.proofs.DeviceRows.{id_turned}
+use Rattle.office_laws.proofs.Placed.{all_placed_apart, pairwise_placed}
 use Rattle.office_laws.proofs.Readings.{find_holds}
-use Rattle.office_laws.proofs.RecordRows.{Follows, each_device, record_after_device, tied_device}
+use Rattle.office_laws.proofs.RecordRows.{Follows, record_after_device}
 use Rattle.office_laws.proofs.SoundRows.{owned_placed}
-
-tied_customers : (c : List ℕ) {A : Type 0} (a b : OfCustomer A) → is_of c a ≡ true → is_of c b ≡ true
-    → text_cmp a.customer b.customer ≡ Equal
-tied_customers c a b p q =
-    let same : b.customer ≡ a.customer =
-    sym (same_text c b.customer q) ∙ same_text c a.customer p in
-    subst (λ d. text_cmp a.customer d ≡ Equal) (sym same)
-    (tied_itself nat_list_cmp_total a.customer)
-
-pub device_agree : (c : List ℕ) (a b : OfCustomer Device) → is_of c a ≡ true → is_of c b ≡ true
-    → device_cmp a b ≡ solo_device_cmp a.row b.row
-device_agree c a b p q =
-    ap (λ r. ordering_then r (text_cmp a.row.chip b.row.chip)) (tied_customers c a b p q)
+use Rattle.office_laws.proofs.TextKeys.{customer_of, each_same, own_texts_agree, tied_key}
 
 abbrev pub entry_row_cmp : Entry → Entry → Ordering
 entry_row_cmp a b = ordering_then (text_cmp a.chip b.chip) (nat_cmp a.number b.number)
@@ -42,16 +29,10 @@ entry_row_cmp a b = ordering_then (text_cmp a.chip b.chip) (nat_cmp a.number b.n
 pub entry_agree : (c : List ℕ) (a b : OfCustomer Entry) → is_of c a ≡ true → is_of c b ≡ true
     → entry_cmp a b ≡ entry_row_cmp a.row b.row
 entry_agree c a b p q =
-    ap (λ r. ordering_then (ordering_then r (text_cmp a.row.chip b.row.chip))
-    (nat_cmp a.row.number b.row.number)) (tied_customers c a b p q)
+    ap (λ r. ordering_then r (nat_cmp a.row.number b.row.number))
+    (own_texts_agree (λ (e : Entry). e.chip) c a b p q)
 
 -- a row whose place another has is the same customer's
-pub device_place : (d : OfCustomer Device) (rows : List (OfCustomer Device))
-    → AllByRecursion (λ y. device_cmp d y ≡ Equal → d.customer ≡ y.customer) rows
-device_place d [] = tt
-device_place d (y ∷ ys) =
-    ((λ e. same_place d.customer y.customer (first_equal _ _ e)), device_place d ys)
-
 pub entry_place : (e : OfCustomer Entry) (rows : List (OfCustomer Entry))
     → AllByRecursion (λ y. entry_cmp e y ≡ Equal → e.customer ≡ y.customer) rows
 entry_place e [] = tt
@@ -152,7 +133,7 @@ module _ {owners : Ownership} {t : Tables} (sound : IsSound owners t) (c seat : 
       differs y other =
           elim (is_device c step.device.chip y) as (λ b. is_device c step.device.chip y ≡ b
           → b ≡ false) [
-            | true ↦ λ its. absurd (other (tied_device d y its))
+            | true ↦ λ its. absurd (other (tied_key customer_of (λ (o : OfCustomer Device). o.row.chip) d y its))
             | false ↦ λ _. refl
           ] refl
 
@@ -161,8 +142,9 @@ module _ {owners : Ownership} {t : Tables} (sound : IsSound owners t) (c seat : 
     devices_ascending = placed_ascending device_cmp device_total d t.devices
         sound.devices.devices_ascending;
     entries = owned_placed sound.devices.entries entry lawful.is_seat entry_total;
-    ids_apart = ids_apart_placed entry t.ledger
-        (none_passes (has_entry_id id) t.ledger lawful.new_id) sound.devices.ids_apart;
+    ids_apart = pairwise_placed entry_cmp entry (λ e other. has_entry_id e.row.id other ≡ false)
+        (id_turned entry) t.ledger (none_passes (has_entry_id id) t.ledger lawful.new_id)
+        sound.devices.ids_apart;
     customers = all_placed (λ o. owners.customer o.customer ≡ true) device_cmp d t.devices
         lawful.mine sound.devices.customers;
     numbered = all_placed SerialIsOfIdentified device_cmp d t.devices lawful.numbered sound.devices.numbered;
@@ -172,7 +154,7 @@ module _ {owners : Ownership} {t : Tables} (sound : IsSound owners t) (c seat : 
         (all_map (λ e. is_some (find (is_device e.customer e.row.chip) t.devices) ≡ true)
         (λ e. is_some (find (is_device e.customer e.row.chip) after.devices) ≡ true)
         (λ e there. still_there (is_device e.customer e.row.chip) device_cmp d t.devices
-        (each_device e.customer e.row.chip d t.devices) there) t.ledger sound.devices.of_devices);
+        (each_same customer_of (λ (o : OfCustomer Device). o.row.chip) e.customer e.row.chip d t.devices) there) t.ledger sound.devices.of_devices);
   }
 
   pub step_sound : IsLawful → IsSound owners after

@@ -10,7 +10,7 @@ use Rattle.office_tables.proofs.Placing.{all_map, own_ascending}
 use Rattle.office_rules.specs.Prelude.{devices_behind, last_chip, next_page, on_page, page_limit}
 use Rattle.office_laws.specs.Prelude.{by_text, on_pages}
 use Rattle.office_laws.proofs.Acting.{filter_all}
-use Rattle.office_laws.proofs.DeviceLaws.{device_agree}
+use Rattle.office_laws.proofs.TextKeys.{own_texts_agree}
 
 abbrev chip_cmp : Device → Device → Ordering
 chip_cmp = by_text (λ (d : Device). d.chip)
@@ -205,4 +205,4 @@ pages_are_all (suc n) devices after up few =
 pub devices_ascending : (customer : List ℕ) (t : Tables) → AreAscendingByKey t
     → IsAscending chip_cmp (rows_of customer t.devices)
 devices_ascending customer t ascending =
-    own_ascending customer device_cmp chip_cmp (device_agree customer) t.devices ascending.devices
+    own_ascending customer device_cmp chip_cmp (own_texts_agree (λ (d : Device). d.chip) customer) t.devices ascending.devices

@@ -1,36 +1,25 @@
 -- A new record of a serial number keeps the tables sound, and forgets nothing.
 use Rattle.std.proofs.Common.{◌≡◌, ◌==◌, ◌∷◌}
-use Rattle.text_core.proofs.Kit.{ℕ, arith, true, false, List, [], Option, Some, None, Less, Equal, Greater, refl, sym, ◌∙◌, subst, bytes_eq, find, IfSome}
-use Rattle.text_core.proofs.Kit.{AllByRecursion, match_ordering, and_parts, and_from, nat_tests, nat_list_cmp_total, tied_itself, same_text, text_itself}
+use Rattle.text_core.proofs.Kit.{ℕ, arith, true, false, List, [], Option, Some, None, refl, sym, ◌∙◌, subst, bytes_eq, find, IfSome}
+use Rattle.text_core.proofs.Kit.{ap, is_some, AllByRecursion, and_parts, and_from, nat_tests, same_text, text_itself}
 use Rattle.site_core.specs.Prelude.{Ownership}
 use Rattle.id_ranges.specs.Prelude.{serial_text_of}
 use Rattle.office_laws.proofs.Types.{OfCustomer, Given, Order}
 use Rattle.office_tables.specs.Prelude.{Tables, IsAddressFree, given_at, given_by_key, given_cmp, has_address, is_address, is_bound, is_serial_of, with_row}
 use Rattle.office_tables.specs.Prelude.{with_given}
-use Rattle.office_tables.proofs.Finding.{none_passes, other_placed, still_there}
+use Rattle.office_tables.proofs.Finding.{none_passes, still_there}
 use Rattle.office_tables.proofs.Placing.{all_map, all_placed}
-use Rattle.office_tables.proofs.Places.{same_place}
 use Rattle.office_tables.proofs.TotalOrders.{given_total}
-use Rattle.office_rules.proofs.Ties.{first_equal, second_equal}
-use Rattle.office_laws.specs.Prelude.{Grows, IsSound, AreAddressesApart, AreKeysApart, IsIssuedBelow, IsRecordOf}
-use Rattle.office_laws.proofs.Placed.{found_replaced, others_fail}
+use Rattle.office_laws.specs.Prelude.{Grows, IsSound, IsIssuedBelow, IsRecordOf}
+use Rattle.office_laws.proofs.Placed.{found_replaced, pairwise_placed}
 use Rattle.office_laws.proofs.SoundRows.{owned_placed}
+use Rattle.office_laws.proofs.TextKeys.{each_same, each_tied, found_still}
 
--- a record that takes the place of another has its issuer and its serial number
-same_given : (issuer serial : List ℕ) (x y : OfCustomer Given) → given_cmp x y ≡ Equal
-    → is_serial_of issuer serial y ≡ true → is_serial_of issuer serial x ≡ true
-same_given issuer serial x y same passes =
-    let owner : x.row.issuer ≡ y.row.issuer =
-    same_place x.row.issuer y.row.issuer (first_equal _ _ same) in
-    let named : x.row.serial ≡ y.row.serial =
-    same_place x.row.serial y.row.serial (second_equal _ _ same) in
-    rw (owner, named) passes
+abbrev issuer_of : OfCustomer Given → List ℕ
+issuer_of g = g.row.issuer
 
-pub each_given : (issuer serial : List ℕ) (x : OfCustomer Given) (rows : List (OfCustomer Given))
-    → AllByRecursion (λ y.
-    given_cmp x y ≡ Equal → is_serial_of issuer serial y ≡ true → is_serial_of issuer serial x ≡ true) rows
-each_given issuer serial x [] = tt
-each_given issuer serial x (y ∷ ys) = (same_given issuer serial x y, each_given issuer serial x ys)
+abbrev serial_of : OfCustomer Given → List ℕ
+serial_of g = g.row.serial
 
 -- the record that was added is found
 pub given_found : (g : OfCustomer Given) (rows : List (OfCustomer Given))
@@ -38,26 +27,7 @@ pub given_found : (g : OfCustomer Given) (rows : List (OfCustomer Given))
 given_found g rows =
     found_replaced given_cmp g (is_serial_of g.row.issuer g.row.serial) rows
     (and_from _ _ (text_itself g.row.issuer g.row.issuer refl)
-    (text_itself g.row.serial g.row.serial refl)) (tied rows)
-  where
-    tied : (rows : List (OfCustomer Given))
-        → AllByRecursion (λ y. is_serial_of g.row.issuer g.row.serial y ≡ true
-        → given_cmp g y ≡ Equal) rows
-    tied [] = tt
-    tied (y ∷ ys) = (
-      λ its.
-          let parts =
-          and_parts (bytes_eq g.row.issuer y.row.issuer) (bytes_eq g.row.serial y.row.serial) its in
-          let issuer : g.row.issuer ≡ y.row.issuer = same_text g.row.issuer y.row.issuer parts.0 in
-          let serial : g.row.serial ≡ y.row.serial = same_text g.row.serial y.row.serial parts.1 in
-          rw (
-            ← issuer,
-            ← serial,
-            tied_itself nat_list_cmp_total g.row.issuer,
-            tied_itself nat_list_cmp_total g.row.serial,
-          ) refl,
-      tied ys,
-    )
+    (text_itself g.row.serial g.row.serial refl)) (each_tied issuer_of serial_of g rows)
 
 -- a record that isn't bound to a key of another: the other isn't bound to its key
 bound_turned : (g y : OfCustomer Given) → is_bound g.row.issuer g.row.key y ≡ false
@@ -78,23 +48,6 @@ bound_turned g y fails =
           cc (also, fails)
       | false ↦ λ _. refl
     ] refl
-
--- a new key among others
-keys_apart_placed : (g : OfCustomer Given) (gs : List (OfCustomer Given)) → AllByRecursion (λ other.
-    is_bound g.row.issuer g.row.key other ≡ false) gs → AreKeysApart gs
-    → AreKeysApart (with_row given_cmp g gs)
-keys_apart_placed g [] all apart = (tt, tt)
-keys_apart_placed g (y ∷ ys) all apart =
-    elim (given_cmp g y) as
-    (λ o. AreKeysApart (match_ordering o (g ∷ y ∷ ys) (g ∷ ys) (y ∷ with_row given_cmp g ys))) [
-      | Less ↦ (all, apart)
-      | Equal ↦ (all.1, apart.1)
-      | Greater ↦ (
-        all_placed (λ other. is_bound y.row.issuer y.row.key other ≡ false) given_cmp g ys
-            (bound_turned g y all.0) apart.0,
-        keys_apart_placed g ys all.1 apart.1,
-      )
-    ]
 
 -- the record hasn't this address
 abbrev HasOther : Option ℕ → OfCustomer Given → Type 0
@@ -117,29 +70,12 @@ all_other (Some mac) gs free = none_passes (has_address mac) gs free
 all_other None [] free = tt
 all_other None (y ∷ ys) free = (tt, all_other None ys tt)
 
--- a new address among others
-addresses_apart_placed : (g : OfCustomer Given) (gs : List (OfCustomer Given))
-    → AllByRecursion (HasOther g.row.mac) gs → AreAddressesApart gs
-    → AreAddressesApart (with_row given_cmp g gs)
-addresses_apart_placed g [] all apart = (tt, tt)
-addresses_apart_placed g (y ∷ ys) all apart =
-    elim (given_cmp g y) as
-    (λ o. AreAddressesApart (match_ordering o (g ∷ y ∷ ys) (g ∷ ys) (y ∷ with_row given_cmp g ys))) [
-      | Less ↦ (all, apart)
-      | Equal ↦ (all.1, apart.1)
-      | Greater ↦ (
-        all_placed (HasOther y.row.mac) given_cmp g ys
-            (address_turned g y g.row.mac y.row.mac refl refl all.0) apart.0,
-        addresses_apart_placed g ys all.1 apart.1,
-      )
-    ]
-
 -- what is given below an order's cursor is given still
 below_after : (g : OfCustomer Given) (gs : List (OfCustomer Given)) (o : OfCustomer Order) → IsIssuedBelow gs o
     → IsIssuedBelow (with_row given_cmp g gs) o
 below_after g gs o is n least below =
     still_there (is_serial_of o.row.issuer (serial_text_of o.row.range n)) given_cmp g gs
-    (each_given o.row.issuer (serial_text_of o.row.range n) g gs) (is n least below)
+    (each_same issuer_of serial_of o.row.issuer (serial_text_of o.row.range n) g gs) (is n least below)
 
 -- a record of a serial number that nobody has, for a key that none has, with an address that none
 -- has
@@ -153,10 +89,12 @@ module _ {owners : Ownership} {t : Tables} (sound : IsSound owners t) (g : OfCus
     orders = sound.orders;
     given = record {
       rows = owned_placed sound.given.rows g mine given_total;
-      keys_apart = keys_apart_placed g t.given
+      keys_apart = pairwise_placed given_cmp g
+          (λ g other. is_bound g.row.issuer g.row.key other ≡ false) (bound_turned g) t.given
           (none_passes (is_bound g.row.issuer g.row.key) t.given unbound) sound.given.keys_apart;
-      addresses_apart = addresses_apart_placed g t.given (all_other g.row.mac t.given free)
-          sound.given.addresses_apart;
+      addresses_apart = pairwise_placed given_cmp g (λ g other. HasOther g.row.mac other)
+          (λ y. address_turned g y g.row.mac y.row.mac refl refl) t.given
+          (all_other g.row.mac t.given free) sound.given.addresses_apart;
     };
     maps = sound.maps;
     devices = sound.devices;
@@ -184,19 +122,4 @@ given_grows before t g new grows = record {
         given_at issuer serial (with_given g t) ≡ Some old)
     by issuer serial None is = tt
     by issuer serial (Some old) is =
-        other_placed (is_serial_of issuer serial) given_cmp g t.given differs
-        (others_fail given_cmp g (is_serial_of issuer serial) t.given differs
-        (each_given issuer serial g t.given)) ∙ is
-      where
-        differs : is_serial_of issuer serial g ≡ false
-        differs =
-            elim (is_serial_of issuer serial g) as (λ b. is_serial_of issuer serial g ≡ b → b ≡ false) [
-              | true ↦ λ its.
-                  let parts =
-                  and_parts (bytes_eq issuer g.row.issuer) (bytes_eq serial g.row.serial) its in
-                  let owner : issuer ≡ g.row.issuer = same_text issuer g.row.issuer parts.0 in
-                  let named : serial ≡ g.row.serial = same_text serial g.row.serial parts.1 in
-                  let none : given_at issuer serial t ≡ None = rw (owner, named) new in
-                  cc (none, is)
-              | false ↦ λ _. refl
-            ] refl
+        found_still issuer_of serial_of g t.given new issuer serial (ap is_some is) ∙ is

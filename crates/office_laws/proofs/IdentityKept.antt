@@ -24,7 +24,7 @@ use Rattle.office_laws.proofs.Lasting.{Lasts, lasts_named}
 use Rattle.office_laws.proofs.Placed.{found_replaced}
 use Rattle.office_laws.proofs.Plan.{unnumbered_where}
 use Rattle.office_laws.proofs.Readings.{find_holds, order_below, order_issuer}
-use Rattle.office_laws.proofs.RecordRows.{each_tied}
+use Rattle.office_laws.proofs.TextKeys.{customer_of, each_tied}
 use Rattle.office_laws.proofs.Registration.{found_is_map}
 use Rattle.office_laws.proofs.StepKept.{step_kept, step_made, stepped}
 
@@ -65,7 +65,7 @@ module _ {owners : Ownership} {t : Tables} (sound : IsSound owners t) (s : Secti
         let d : OfCustomer Device = its s step.device in
         let found : find (is_device s.name old.row.chip) (with_row device_cmp d t.devices) ≡ Some d =
         found_replaced device_cmp d (is_device s.name old.row.chip) t.devices (own_device d)
-        (each_tied d t.devices) in
+        (each_tied customer_of (λ (o : OfCustomer Device). o.row.chip) d t.devices) in
         rw found (
           refl,
           rw ordered (record {

@@ -6,12 +6,12 @@ use Rattle.office_tables.specs.Prelude.{Tables}
 use Rattle.office_laws.proofs.Types.{Request, Unkept}
 use Rattle.office_commands.specs.Prelude.{refusal}
 use Rattle.office_rules.specs.Prelude.{Step}
-use Rattle.office_laws.specs.Prelude.{Call, Exchange, FulfilsWanted, Passes, asks, IsInDoubt, IsLeft, IsUnanswered, Leaves, LeavesAfter, Session}
-use Rattle.office_laws.specs.Prelude.{WasUnavailable, is_request, is_answered}
+use Rattle.office_laws.specs.Prelude.{Call, Exchange, FulfilsWanted, Passes, asks, IsInDoubt, IsLeft, StaysInDoubt, Leaves, LeavesAfter, Session}
+use Rattle.office_laws.specs.Prelude.{WasUnavailable, is_request, is_served}
 
 -- the exchange answers nothing
 abbrev pub AnswersNothing : Exchange → Type 0
-AnswersNothing later = is_answered later ≡ false
+AnswersNothing later = is_served later ≡ false
 
 all_more : (xs ys : List Exchange) → AllByRecursion AnswersNothing xs → AllByRecursion AnswersNothing ys
     → AllByRecursion AnswersNothing (xs ++ ys)
@@ -19,27 +19,27 @@ all_more [] ys all more = more
 all_more (x ∷ xs) ys all more = (all.0, all_more xs ys all.1 more)
 
 -- a 503 answers nothing
-pub answers_nothing : (x : Exchange) → is_unavailable x.1.status ≡ true → is_answered x ≡ false
+pub answers_nothing : (x : Exchange) → is_unavailable x.1.status ≡ true → is_served x ≡ false
 answers_nothing x is = and_right (is_request x.0.wanted) (not (is_unavailable x.1.status)) (ap not is)
 
 -- more that answer nothing
-unanswered_more : (xs ys : List Exchange) (c : Call) → AllByRecursion AnswersNothing ys
-    → IsUnanswered xs c → IsUnanswered (xs ++ ys) c
-unanswered_more [] ys c more unanswered = absurd unanswered
-unanswered_more (x ∷ xs) ys c more (inl here) = inl (here.0, here.1, all_more xs ys here.2 more)
-unanswered_more (x ∷ xs) ys c more (inr later) = inr (unanswered_more xs ys c more later)
+doubt_more : (xs ys : List Exchange) (c : Call) → AllByRecursion AnswersNothing ys
+    → StaysInDoubt xs c → StaysInDoubt (xs ++ ys) c
+doubt_more [] ys c more doubt = absurd doubt
+doubt_more (x ∷ xs) ys c more (inl here) = inl (here.0, here.1, all_more xs ys here.2 more)
+doubt_more (x ∷ xs) ys c more (inr later) = inr (doubt_more xs ys c more later)
 
-unanswered_last : (xs : List Exchange) (x : Exchange) → is_unavailable x.1.status ≡ true
-    → IsUnanswered (xs ++ x ∷ []) x.0
-unanswered_last [] x is = inl (refl, is, tt)
-unanswered_last (y ∷ ys) x is = inr (unanswered_last ys x is)
+doubt_last : (xs : List Exchange) (x : Exchange) → is_unavailable x.1.status ≡ true
+    → StaysInDoubt (xs ++ x ∷ []) x.0
+doubt_last [] x is = inl (refl, is, tt)
+doubt_last (y ∷ ys) x is = inr (doubt_last ys x is)
 
 left_more : (xs ys : List Exchange) (t : Tables) (more : List Exchange) (left : Tables)
-    → AllByRecursion AnswersNothing ys → IsLeft (IsUnanswered xs) t more left
-    → IsLeft (IsUnanswered (xs ++ ys)) t more left
+    → AllByRecursion AnswersNothing ys → IsLeft (StaysInDoubt xs) t more left
+    → IsLeft (StaysInDoubt (xs ++ ys)) t more left
 left_more xs ys t [] left all before = before
 left_more xs ys t (x ∷ []) left all before =
-    (unanswered_more xs ys x.0 all before.0, before.1, before.2)
+    (doubt_more xs ys x.0 all before.0, before.1, before.2)
 left_more xs ys t (x ∷ z ∷ zs) left all before = absurd before
 
 -- the step of a request that was answered 503
@@ -47,7 +47,7 @@ made_left : (xs : List Exchange) (x : Exchange) (r : Request) (t left : Tables)
     → x.0.wanted ≡ asks r → is_unavailable x.1.status ≡ true → (reply : Answer)
     → Step x.0.section x.0.seat t r reply left → Leaves (xs ++ x ∷ []) t left
 made_left xs x r t left asked is reply step =
-    ((x.0, reply) ∷ [], (unanswered_last xs x is, rw asked refl, rw asked step))
+    ((x.0, reply) ∷ [], (doubt_last xs x is, rw asked refl, rw asked step))
 
 -- one exchange more after some
 one_more : (xs : List Exchange) (x : Exchange) (r : Request) (t t2 : Tables)
@@ -119,15 +119,15 @@ leaves_joined xs ys First Before After t mid t2 one two front starts left leaves
     subst (λ (all : List Exchange). Leaves all t2 left) (append_assoc front xs ys)
     (two (front ++ xs) (one front starts) left leaves)
 
--- an unanswered call got a 503
-unanswered_unavailable : (xs : List Exchange) (c : Call) → IsUnanswered xs c → WasUnavailable xs c
-unanswered_unavailable [] c is = absurd is
-unanswered_unavailable (x ∷ xs) c (inl here) = inl (here.0, here.1)
-unanswered_unavailable (x ∷ xs) c (inr later) = inr (unanswered_unavailable xs c later)
+-- a call that stays in doubt got a 503
+doubt_unavailable : (xs : List Exchange) (c : Call) → StaysInDoubt xs c → WasUnavailable xs c
+doubt_unavailable [] c is = absurd is
+doubt_unavailable (x ∷ xs) c (inl here) = inl (here.0, here.1)
+doubt_unavailable (x ∷ xs) c (inr later) = inr (doubt_unavailable xs c later)
 
 -- what a crash may leave after a session is what a stop may leave
 pub stop_leaves : (s : Session) (t : Tables) (more : List Exchange) (left : Tables)
-    → IsLeft (IsUnanswered s.exchanges) t more left → IsLeft (IsInDoubt s) t more left
+    → IsLeft (StaysInDoubt s.exchanges) t more left → IsLeft (IsInDoubt s) t more left
 stop_leaves s t [] left is = is
-stop_leaves s t (x ∷ []) left is = (inr (unanswered_unavailable s.exchanges x.0 is.0), is.1, is.2)
+stop_leaves s t (x ∷ []) left is = (inr (doubt_unavailable s.exchanges x.0 is.0), is.1, is.2)
 stop_leaves s t (x ∷ y ∷ others) left is = absurd is

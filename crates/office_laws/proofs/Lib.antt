@@ -62,6 +62,7 @@ mod StepLasts
 pub mod Steps
 pub mod Stopping
 mod Terms
+mod TextKeys
 mod Tidy
 mod Unread
 pub mod Within

@@ -11,7 +11,7 @@ use Rattle.office_laws.proofs.Types.{ImportRow, Change as Changing, MakeOrder, I
 use Rattle.office_tables.specs.Prelude.{Tables}
 use Rattle.office_rules.specs.Prelude.{rule_of, StepRule, Effect, Put, map_put, record_put, step_effect, merged_rows, row_of_import, Response, accept, effect}
 use Rattle.office_rules.specs.Prelude.{refusals, response, map_fault, text_refusals, Step, office_sight, IssuedIn, Sight, map_in_sight, refused_for}
-use Rattle.office_laws.specs.Prelude.{SoloState, solo_step, with_puts, IsSound, view}
+use Rattle.office_laws.specs.Prelude.{SoloState, solo, with_puts, IsSound, view}
 use Rattle.office_laws.proofs.Identity.{identity_found}
 use Rattle.office_laws.proofs.Looking.{gave, issuer_found, rows_taken}
 use Rattle.office_laws.proofs.Readings.{issuer_owner, order_issuer}
@@ -86,7 +86,7 @@ module _ {owners : Ownership} {t : Tables} (sound : IsSound owners t) (s : Secti
 
     -- a step is the own machine's on the customer's view, and none on another's
     pub step_own : (reply : Answer) (t2 : Tables) → Step s seat t r reply t2
-        → (solo_step s seat (view s.name t) r ≡ Some (reply, view s.name t2))
+        → (solo s seat (view s.name t) r ≡ Some (reply, view s.name t2))
         × ((d : List ℕ) → bytes_eq d s.name ≡ false → view d t2 ≡ view d t)
     step_own reply t2 (puts, is, change) =
         let acts =

@@ -1,40 +1,21 @@
 -- A new map and a new link keep the tables sound, and how links lie with their customers.
-use Rattle.std.proofs.Common.{◌≡◌, ◌∷◌, Ordering}
-use Rattle.text_core.proofs.Kit.{ℕ, true, List, [], Option, None, Equal, sym, ap, ◌∙◌, subst, AllByRecursion, ordering_then, nat_list_cmp_total, tied_itself}
-use Rattle.text_core.proofs.Kit.{same_text}
+use Rattle.std.proofs.Common.{◌≡◌, Ordering}
+use Rattle.text_core.proofs.Kit.{ℕ, true, false, List, Option, None, bytes_eq}
 use Rattle.fusemap_core.specs.Prelude.{Map}
 use Rattle.site_core.specs.Prelude.{Ownership}
 use Rattle.office_laws.proofs.Types.{OfCustomer, Link, MapRow}
-use Rattle.office_tables.specs.Prelude.{Tables, is_of, link_at, link_cmp, map_at, map_cmp, map_with, with_row, text_cmp, with_link, with_map}
+use Rattle.office_tables.specs.Prelude.{Tables, link_at, link_cmp, map_at, map_cmp, map_with, with_row, text_cmp, with_link, with_map}
 use Rattle.office_tables.proofs.Placing.{all_map, all_placed, placed_ascending}
-use Rattle.office_tables.proofs.Places.{same_place}
 use Rattle.office_tables.proofs.TotalOrders.{map_total, link_total}
 use Rattle.office_rules.specs.Prelude.{map_named}
-use Rattle.office_rules.proofs.Ties.{first_equal}
 use Rattle.office_laws.specs.Prelude.{AreSoundMaps, IsLinked, IsSound}
-use Rattle.office_laws.proofs.MapRows.{body_is_new, linked_after, texts_apart_placed}
+use Rattle.office_laws.proofs.MapRows.{body_is_new, linked_after, text_turned}
 use Rattle.office_laws.proofs.NamedMaps.{named_after_link, named_after_map}
 use Rattle.office_laws.proofs.DeviceRows.{ledgers_kept, referred_after_link}
+use Rattle.office_laws.proofs.Placed.{pairwise_placed}
 
 abbrev pub solo_link_cmp : Link → Link → Ordering
 solo_link_cmp a b = text_cmp a.digest b.digest
-
-pub link_agree : (c : List ℕ) (a b : OfCustomer Link) → is_of c a ≡ true → is_of c b ≡ true
-    → link_cmp a b ≡ solo_link_cmp a.row b.row
-link_agree c a b p q =
-    let same : b.customer ≡ a.customer =
-    sym (same_text c b.customer q) ∙ same_text c a.customer p in
-    let tied : text_cmp a.customer b.customer ≡ Equal =
-    subst (λ d. text_cmp a.customer d ≡ Equal) (sym same)
-    (tied_itself nat_list_cmp_total a.customer) in
-    ap (λ r. ordering_then r (text_cmp a.row.digest b.row.digest)) tied
-
--- a link whose place another has is the same customer's
-pub link_place : (l : OfCustomer Link) (rows : List (OfCustomer Link))
-    → AllByRecursion (λ y. link_cmp l y ≡ Equal → l.customer ≡ y.customer) rows
-link_place l [] = tt
-link_place l (y ∷ ys) =
-    ((λ e. same_place l.customer y.customer (first_equal _ _ e)), link_place l ys)
 
 -- maps and links, with a link to a map that is there, or with a new map that nobody has a link to
 module _ {owners : Ownership} (t : Tables) (sound : AreSoundMaps owners t.maps t.links) where
@@ -54,7 +35,8 @@ module _ {owners : Ownership} (t : Tables) (sound : AreSoundMaps owners t.maps t
       let m : MapRow = record { id = id; body = body } in
       record {
         maps_ascending = placed_ascending map_cmp map_total m t.maps sound.maps_ascending;
-        texts_apart = texts_apart_placed m t.maps (body_is_new body t new) sound.texts_apart;
+        texts_apart = pairwise_placed map_cmp m (λ m other. bytes_eq m.body other.body ≡ false)
+            (text_turned m) t.maps (body_is_new body t new) sound.texts_apart;
         links_ascending = sound.links_ascending;
         owned = sound.owned;
         linked = all_map (IsLinked t.maps) (IsLinked (with_row map_cmp m t.maps))

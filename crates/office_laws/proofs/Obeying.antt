@@ -1,14 +1,14 @@
 -- A step acts on the customer's view as the customer's own machine does, leaves each other view,
 -- keeps the tables sound, and forgets nothing.
 use Rattle.std.proofs.Common.{◌≡◌, ℕ, false, List, Some, sym, ap, bytes_eq}
-use Rattle.std.specs.Option.{option_map_or}
+use Rattle.std.specs.Option.{unwrap_or}
 use Rattle.http_replies.specs.Prelude.{Answer}
 use Rattle.site_core.specs.Prelude.{PoolsDisjoint, IsSection, Ownership, Section}
 use Rattle.office_tables.specs.Prelude.{Tables}
 use Rattle.office_commands.specs.Prelude.{IsAsked, refusal}
 use Rattle.office_laws.proofs.Types.{Request, Unkept}
 use Rattle.office_rules.specs.Prelude.{Step}
-use Rattle.office_laws.specs.Prelude.{Grows, SoloState, solo, IsSound, view}
+use Rattle.office_laws.specs.Prelude.{alone, call_by, Grows, SoloState, IsSound, view}
 use Rattle.office_laws.proofs.Machine.{step_own}
 use Rattle.office_laws.proofs.StepLasts.{step_lasts}
 
@@ -23,13 +23,13 @@ pub record Obeys (owners : Ownership) (c : List ℕ) (t : Tables) (reply : Answe
 module _ {owners : Ownership} {t : Tables} (sound : IsSound owners t) (s : Section) (seat : List ℕ) where
   pub step_obeys : PoolsDisjoint owners → IsSection owners s → (r : Request) (reply : Answer)
       (t2 : Tables) → IsAsked r → owners.seat seat ≡ Some s.name → Step s seat t r reply t2
-      → Obeys owners s.name t reply t2 (solo s seat (view s.name t) r)
+      → Obeys owners s.name t reply t2 (alone (call_by s seat r) (view s.name t))
   step_obeys apart section r reply t2 asked mine step =
       let views = step_own sound s section seat mine r reply t2 step in
       let lasts = step_lasts sound apart s section seat mine r t2 reply asked step in
       record {
         sound = lasts.sound;
         grows = lasts.grows;
-        own = sym (ap (λ made. option_map_or (λ x. x) made (refusal Unkept, view s.name t)) views.0);
+        own = sym (ap (λ made. unwrap_or made (refusal Unkept, view s.name t)) views.0);
         other = views.1;
       }

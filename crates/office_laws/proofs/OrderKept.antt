@@ -12,15 +12,16 @@ use Rattle.office_rules.specs.Prelude.{Effect, MakesPuts, at_first, its, office_
 use Rattle.office_rules.specs.Prelude.{made_order, Sight}
 use Rattle.office_rules.proofs.Refusing.{is_some_map, lowest_none}
 use Rattle.office_laws.specs.Prelude.{AreDisjoint, IsInPool, IsOrder, IsSound}
-use Rattle.office_laws.proofs.Addresses.{each_apart_placed, wanted_apart, wanted_in_pool}
-use Rattle.office_laws.proofs.DeviceRows.{each_order}
+use Rattle.office_laws.proofs.Addresses.{wanted_apart, wanted_in_pool}
 use Rattle.office_laws.proofs.Growing.{order_grows}
 use Rattle.office_laws.proofs.Lasting.{Lasts, lasts_named}
 use Rattle.office_laws.proofs.Looking.{gave, issuer_found, puts_of}
+use Rattle.office_laws.proofs.Placed.{pairwise_placed}
 use Rattle.office_laws.proofs.Readings.{issuer_owner, wanted_at_first}
 use Rattle.office_laws.proofs.RecordRows.{record_after_order}
 use Rattle.office_laws.proofs.SoundRows.{order_placed}
 use Rattle.office_laws.proofs.Terms.{wanted_terms}
+use Rattle.office_laws.proofs.TextKeys.{customer_of, each_same}
 
 -- a new order whose addresses are its own
 order_sound : {owners : Ownership} {t : Tables} → IsSound owners t → (o : OfCustomer Order)
@@ -31,10 +32,11 @@ order_sound : {owners : Ownership} {t : Tables} → IsSound owners t → (o : Of
 order_sound {t = t} sound o mine terms in_pool apart new first =
     let at_cursor : o.row.range.first ≡ o.row.cursor = ap (λ (x : Order). x.cursor) first in
     order_placed sound o mine terms in_pool
-    (each_apart_placed order_cmp o t.orders apart sound.orders.apart)
+    (pairwise_placed order_cmp o (λ o other. AreDisjoint o.row other.row)
+    (λ other apart mac here there. apart mac there here) t.orders apart sound.orders.apart)
     (λ g is. record_after_order t.orders t.devices g o new g.row.chip is)
     (λ customer name there. still_there (is_order customer name) order_cmp o t.orders
-    (each_order customer name o t.orders) there)
+    (each_same customer_of (λ (x : OfCustomer Order). x.row.name) customer name o t.orders) there)
     (λ n least below. absurd (omega (arith, least, below, at_cursor)))
 
 -- an order that is asked for, where nothing refuses it

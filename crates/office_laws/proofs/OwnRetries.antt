@@ -1,7 +1,7 @@
 -- What a call does to the seats of the customer's own machine.
 use Rattle.std.proofs.Common.{◌≡◌, ◌+◌, ◌==◌, ◌++◌, ◌⊎◌, ◌∷◌, ◌&&◌, if◌then◌else◌}
 use Rattle.text_core.proofs.Kit.{◌∙◌, ℕ, inl, inr, true, false, List, [], Option, Some, None, Equal, refl, sym, ap, Bool, bytes_eq, find, is_some, map}
-use Rattle.text_core.proofs.Kit.{MatchBool, option_and_then, option_map, result_ok, AllByRecursion, eqb-true, nat_list_cmp_total, tied_itself, option_map_or}
+use Rattle.text_core.proofs.Kit.{MatchBool, option_and_then, option_map, result_ok, AllByRecursion, eqb-true, nat_list_cmp_total, tied_itself, unwrap_or}
 use Rattle.text_core.proofs.Kit.{same_text, text_itself}
 use Rattle.sha2.specs.Sha256.{sha256}
 use Rattle.http_replies.specs.Prelude.{Answer, code_of}
@@ -175,8 +175,8 @@ module _ (c : Section) (seat : List ℕ) (s mid : SoloState) (reply : Answer) wh
   -- the reply and the state after it are those of what the machine responds
   abbrev Performed : Option Response → Type 0
   Performed made =
-      ◌≡◌ {A = Answer × SoloState} (reply, mid) (option_map_or (λ x. x)
-      (option_map (λ r. (r.reply, with_puts r.puts s)) made) (refusal Unkept, s))
+      ◌≡◌ {A = Answer × SoloState} (reply, mid)
+      (unwrap_or (option_map (λ r. (r.reply, with_puts r.puts s)) made) (refusal Unkept, s))
 
   abbrev Does : Request → Option Response → Type 0
   Does r made = Performed made

@@ -1,10 +1,11 @@
 -- A device as it is registered is what its fuse map asks for.
 use Rattle.std.proofs.Common.{◌≡◌, ◌∙◌, ℕ, List, [], ◌∷◌, Option, Some, None, Ok, Err, refl, sym, ap, subst, is_some, option_and_then, Result, nat_cmp}
+use Rattle.std.specs.Result.{result_ok}
 use Rattle.std.specs.FinMap as table
 use Rattle.std.specs.FinSet as set
 use Rattle.office_laws.proofs.Types.{MapFault, Image, ReadBack, OfCustomer, Entry, NewDevice}
 use Rattle.office_tables.specs.declared.rows.DeviceState.TheVariants.{Registered}
-use Rattle.fusemap_core.specs.Prelude.{IsMap, Map, map_in, map_or_none, map_read}
+use Rattle.fusemap_core.specs.Prelude.{IsMap, Map, map_in, map_read}
 use Rattle.fusemap_core.proofs.Reading.{IsMapText-from_read}
 use Rattle.fuse_image.specs.Prelude.{pos_cmp, WordsFitMap, redacted, ReadBackInMap, IsPending, no_pending}
 use Rattle.fuse_columns.specs.Prelude.{bits_column, bits_in, image_in, keys_column, keys_in, todo_column, pending_in}
@@ -17,7 +18,7 @@ use Rattle.office_laws.proofs.DeviceRows.{columns_alone}
 use Rattle.office_laws.proofs.Within.{within_itself}
 
 -- the fuse map of a text is a map
-read_is_map : (text : List ℕ) (m : Map) (read : Result Map MapFault) → map_read text ≡ read → map_or_none read ≡ Some m → IsMap m
+read_is_map : (text : List ℕ) (m : Map) (read : Result Map MapFault) → map_read text ≡ read → result_ok read ≡ Some m → IsMap m
 read_is_map text m (Ok found) e is = let same : found ≡ m = cc in (IsMapText-from_read text m (e ∙ ap (λ (x : Map). Ok x) same)).is_map
 read_is_map text m (Err fault) e is = cc
 

@@ -6,7 +6,8 @@ use Rattle.office_laws.proofs.Types.{Given, Order, OfCustomer}
 use Rattle.office_tables.specs.Prelude.{Tables, is_order, order_cmp, with_row, with_order}
 use Rattle.office_tables.proofs.Placing.{all_map, all_placed, placed_ascending}
 use Rattle.office_tables.proofs.TotalOrders.{order_total}
-use Rattle.office_laws.specs.Prelude.{EachApart, IsInPool, IsOrder, IsSound, IsIssuedBelow, IsRecordOf, AreOwned}
+use Rattle.office_laws.specs.Prelude.{IsInPool, IsOrder, IsSound, IsIssuedBelow, IsRecordOf, AreOwned}
+use Rattle.office_laws.proofs.Addresses.{EachApart}
 use Rattle.office_laws.proofs.DeviceRows.{referred_after_orders}
 
 module _ {A : Type 0} {cmp : OfCustomer A → OfCustomer A → Ordering} {owner : A → Option (List ℕ)}

@@ -19,12 +19,12 @@ use Rattle.office_rules.proofs.Ties.{first_equal}
 use Rattle.office_laws.specs.Prelude.{SoloState, solo_entry_cmp, solo_given_cmp, with_put, with_puts, AreSoundMaps, IsLinked, IsSound, AreOwned, solo_map, view}
 use Rattle.office_laws.proofs.OwnPlaces.{solo_device_cmp, solo_map_cmp, solo_order_cmp, solo_seat_cmp}
 use Rattle.office_laws.proofs.CursorLaws.{moved, moved_same, own_same}
-use Rattle.office_laws.proofs.DeviceLaws.{device_agree, device_place, entry_agree, entry_place, entry_row_cmp}
-use Rattle.office_laws.proofs.MapLaws.{link_agree, link_place, maps_with_link, maps_with_map, solo_link_cmp}
+use Rattle.office_laws.proofs.DeviceLaws.{entry_agree, entry_place, entry_row_cmp}
+use Rattle.office_laws.proofs.MapLaws.{maps_with_link, maps_with_map, solo_link_cmp}
 use Rattle.office_laws.proofs.MapRows.{map_of_text, new_map_found, own_maps_after}
 use Rattle.office_laws.proofs.Placed.{map_placed}
-use Rattle.office_laws.proofs.Readings.{order_agree}
 use Rattle.office_laws.proofs.SoundRows.{owned_place, owned_placed}
+use Rattle.office_laws.proofs.TextKeys.{customer_of, each_first, own_texts_agree}
 
 -- what views ask of tables: rows in order, seats, records and links with their owners, and links
 -- that name maps
@@ -90,12 +90,6 @@ module _ {A : Type 0} (cmp : OfCustomer A → OfCustomer A → Ordering) (x : Of
       → rows_of d (with_row cmp x rows) ≡ rows_of d rows
   row_other d other = placed_other d cmp x other rows (other_place d other)
 
-order_place : (o : OfCustomer Order) (rows : List (OfCustomer Order))
-    → AllByRecursion (λ y. order_cmp o y ≡ Equal → o.customer ≡ y.customer) rows
-order_place o [] = tt
-order_place o (y ∷ ys) =
-    ((λ e. same_place o.customer y.customer (first_equal _ _ e)), order_place o ys)
-
 module _ {owners : Ownership} {t : Tables} (tidy : IsTidy owners t) (c : List ℕ) where
   abbrev owned : {A : Type 0} → A → OfCustomer A
   owned x = record { customer = c; row = x }
@@ -140,13 +134,14 @@ module _ {owners : Ownership} {t : Tables} (tidy : IsTidy owners t) (c : List �
     tidy = with_order_tidy (owned o);
     own = λ i. record (view c t) {
       orders = (ap (map at_first) (row_own order_cmp (owned o) t.orders
-          (order_place (owned o) t.orders) solo_order_cmp order_total (order_agree c) tidy.orders)
+          (each_first customer_of (λ (x : OfCustomer Order). x.row.name) (owned o) t.orders)
+          solo_order_cmp order_total (own_texts_agree (λ (o : Order). o.name) c) tidy.orders)
           ∙ (map_placed at_first solo_order_cmp solo_order_cmp (λ _ _. refl) o (rows_of c t.orders)
           ∙ ap (λ (x : Order). with_row solo_order_cmp x (map at_first (rows_of c t.orders))) first)) i;
     };
     other = λ d ne i. record (view d t) {
       orders = map at_first (row_other order_cmp (owned o) t.orders
-          (order_place (owned o) t.orders) d ne i);
+          (each_first customer_of (λ (x : OfCustomer Order). x.row.name) (owned o) t.orders) d ne i);
     };
   }
 
@@ -188,15 +183,15 @@ module _ {owners : Ownership} {t : Tables} (tidy : IsTidy owners t) (c : List �
           ledger = placed_ascending entry_cmp entry_total entry t.ledger tidy.ledger;
         };
         own = λ i. record (view c t) {
-          devices = row_own device_cmp (owned d) t.devices (device_place (owned d) t.devices)
-              solo_device_cmp device_total (device_agree c) tidy.devices i;
+          devices = row_own device_cmp (owned d) t.devices (each_first customer_of (λ (x : OfCustomer Device). x.row.chip) (owned d) t.devices)
+              solo_device_cmp device_total (own_texts_agree (λ (d : Device). d.chip) c) tidy.devices i;
           ledger = (ap (map entry_of_chip) (row_own entry_cmp entry t.ledger
               (entry_place entry t.ledger) entry_row_cmp entry_total (entry_agree c) tidy.ledger)
               ∙ map_placed entry_of_chip entry_row_cmp solo_entry_cmp (λ _ _. refl) entry.row
               (rows_of c t.ledger)) i;
         };
         other = λ other ne i. record (view other t) {
-          devices = row_other device_cmp (owned d) t.devices (device_place (owned d) t.devices)
+          devices = row_other device_cmp (owned d) t.devices (each_first customer_of (λ (x : OfCustomer Device). x.row.chip) (owned d) t.devices)
               other ne i;
           ledger = map entry_of_chip (row_other entry_cmp entry t.ledger (entry_place entry t.ledger)
               other ne i);
@@ -240,13 +235,14 @@ module _ {owners : Ownership} {t : Tables} (tidy : IsTidy owners t) (c : List �
         (maps_with_link t tidy.maps (owned l) mine linked);
     own = λ i. record (view c t) {
       maps = (ap (map (solo_map t)) (row_own link_cmp (owned l) t.links
-          (link_place (owned l) t.links) solo_link_cmp link_total (link_agree c)
+          (each_first customer_of (λ (x : OfCustomer Link). x.row.digest) (owned l) t.links)
+          solo_link_cmp link_total (own_texts_agree (λ (l : Link). l.digest) c)
           tidy.maps.links_ascending)
           ∙ map_placed (solo_map t) solo_link_cmp solo_map_cmp (λ _ _. refl) l (rows_of c t.links)) i;
     };
     other = λ d ne i. record (view d t) {
       maps = map (solo_map t) (row_other link_cmp (owned l) t.links
-          (link_place (owned l) t.links) d ne i);
+          (each_first customer_of (λ (x : OfCustomer Link). x.row.digest) (owned l) t.links) d ne i);
     };
   }
 

@@ -15,6 +15,7 @@ use Rattle.office_rules.specs.Prelude.{row_of}
 use Rattle.office_laws.specs.Fresh.{BlocksDisjoint, IsFreshRecord, addresses_of}
 use Rattle.office_laws.specs.Exchanges.{Exchange, Wanted, asks}
 use Rattle.office_laws.specs.Once.{is_accepted, is_no_repeat, once}
+use Rattle.office_laws.specs.Pairs.{Pairwise}
 
 -- the identity that a command asks for, if that is what it asks for
 abbrev pub identity_of_command : Command → Option NewIdentity
@@ -30,13 +31,13 @@ identity_wanted other = None
 abbrev pub is_new_identity : Tables → Exchange → Bool
 is_new_identity t x = is_some (identity_wanted x.0.wanted) && is_no_repeat t x
 
--- the record that the identity's reply shows
+-- the identity's reply shows this record, for the key and the chip that it asked for
 abbrev pub IsGift : Exchange → OfCustomer Given → Type 0
-IsGift x g = (i : NewIdentity) × (record_of : Idevid)
+IsGift x g = (i : NewIdentity) × (shown : Idevid)
     × (identity_wanted x.0.wanted ≡ Some i)
-    × (record_of.key ≡ i.key)
-    × (x.1 ≡ acceptance (identity_body i.chip record_of))
-    × (g ≡ record { customer = x.0.section.name; row = row_of record_of (Some i.chip) })
+    × (shown.key ≡ i.key)
+    × (x.1 ≡ acceptance (identity_body i.chip shown))
+    × (g ≡ record { customer = x.0.section.name; row = row_of shown (Some i.chip) })
 
 -- where an accepted exchange is that of an identity that is no repeat, its reply shows a record
 -- that is new
@@ -44,18 +45,11 @@ abbrev pub IssuesFresh : Exchange → Tables → Tables → Type 0
 IssuesFresh x t t2 = is_accepted x ≡ true → is_new_identity t x ≡ true
     → (g : OfCustomer Given) × IsGift x g × IsFreshRecord t t2 g
 
--- the records that these identities' replies show, one for each
+-- the replies show these records, one each, in turn
 abbrev pub AreGifts : List Exchange → List (OfCustomer Given) → Type 0
 AreGifts [] [] = Unit {0}
 AreGifts (x ∷ xs) (g ∷ gs) = IsGift x g × AreGifts xs gs
 AreGifts xs gs = ⊥
-
--- no two have one serial number of one issuer, and none of the addresses of one is one of another's
-abbrev pub AreAllApart : Tables → List (OfCustomer Given) → Type 0
-AreAllApart t [] = Unit {0}
-AreAllApart t (g
-    ∷ gs) = AllByRecursion (λ other. (is_serial_of g.row.issuer g.row.serial other ≡ false)
-    × BlocksDisjoint (addresses_of t g) (addresses_of t other)) gs × AreAllApart t gs
 
 -- none of the records has the serial number of one that an import recorded, which has no chip
 abbrev pub AreNotImported : Tables → List (OfCustomer Given) → Type 0
@@ -64,11 +58,12 @@ AreNotImported t gifts = (issuer serial : List ℕ)
     → AllByRecursion (λ g. is_serial_of issuer serial g ≡ false) gifts)
 
 -- each accepted identity that is no repeat gives a record, whose serial number was given to nobody
--- before the run, which stands after it, and whose addresses are no other record's; no two give the
--- same; and none gives what an import recorded
+-- before the run, which stands after it, and whose addresses are no other record's; no two give one
+-- serial number of one issuer, or one address; and none gives what an import recorded
 pub record IssuesOnce (xs : List Exchange) (t t2 : Tables) : Type 0 where
   pub gifts : List (OfCustomer Given)
   pub shown : AreGifts (filter (is_new_identity t) (once xs)) gifts
   pub new : AllByRecursion (IsFreshRecord t t2) gifts
-  pub apart : AreAllApart t2 gifts
+  pub apart : Pairwise (λ g other. (is_serial_of g.row.issuer g.row.serial other ≡ false)
+      × BlocksDisjoint (addresses_of t2 g) (addresses_of t2 other)) gifts
   pub imported : AreNotImported t2 gifts

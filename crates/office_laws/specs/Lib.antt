@@ -8,6 +8,7 @@ pub mod Growth
 pub mod LawfulRuns
 pub mod Once
 pub mod Pages
+pub mod Pairs
 pub mod Pending
 pub mod Promises
 pub mod ReadBacks

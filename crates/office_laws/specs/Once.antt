@@ -2,7 +2,6 @@
 use Rattle.std.specs.Prelude.{◌≡◌, ◌==◌, ◌&&◌, ℕ, Bool, true, false, not, bytes_eq, List, [], ◌∷◌}
 use Rattle.std.specs.Prelude.{filter, nat_lt, Option}
 use Rattle.std.specs.Option.{option_map_or}
-use Rattle.std.specs.List.{AllByRecursion}
 use Rattle.http_replies.specs.Prelude.{code_of}
 use Rattle.office_tables.specs.declared.rows.SeatState.{SeatState}
 use Rattle.office_tables.specs.Prelude.{Tables}
@@ -12,6 +11,7 @@ use Rattle.office_laws.specs.SoloMachine.{seat_named}
 use Rattle.office_laws.specs.View.{view}
 use Rattle.office_laws.specs.Exchanges.{Exchange, Wanted, asks, calls_of}
 use Rattle.office_laws.specs.Alone.{exchanges_of, solo_state}
+use Rattle.office_laws.specs.Pairs.{Pairwise}
 
 -- a command that writes
 abbrev pub is_change : Command → Bool
@@ -57,15 +57,10 @@ firsts (x ∷ xs) = x ∷ filter (λ later. not (is_again x later)) (firsts xs)
 abbrev pub once : List Exchange → List Exchange
 once xs = firsts (filter is_accepted xs)
 
--- each that comes again has the reply of the first
-abbrev pub AgreeWithFirst : List Exchange → Type 0
-AgreeWithFirst [] = Unit {0}
-AgreeWithFirst (x ∷ xs) =
-    AllByRecursion (λ later. is_again x later ≡ true → later.1 ≡ x.1) xs × AgreeWithFirst xs
-
 -- the customer's rows are those that the customer's own machine has after each accepted command
 -- once, and one that comes again gets the reply of the first
 pub record ActsOnce (customer : List ℕ) (xs : List Exchange) (t t2 : Tables) : Type 0 where
   pub rows : view customer t2
       ≡ solo_state (calls_of (once (exchanges_of customer xs))) (view customer t)
-  pub repeats : AgreeWithFirst (filter is_accepted (exchanges_of customer xs))
+  pub repeats : Pairwise (λ x later. is_again x later ≡ true → later.1 ≡ x.1)
+      (filter is_accepted (exchanges_of customer xs))

@@ -1,7 +1,6 @@
 -- A customer's own machine: the machine over that customer's rows alone.
 use Rattle.std.specs.Prelude.{ℕ, Bool, ◌&&◌, is_some, bytes_eq, if◌then◌else◌, List, []}
 use Rattle.std.specs.Prelude.{◌∷◌, length, filter, find, Option, Some, None, option_map}
-use Rattle.std.specs.Option.{option_map_or}
 use Rattle.std.specs.Ordering.{nat_cmp, ordering_then}
 use Rattle.std.specs.declared.cmp.Ordering.{Ordering}
 use Rattle.sha2.specs.Sha256.{sha256}
@@ -15,8 +14,6 @@ use Rattle.office_tables.specs.declared.rows.Order.{Order}
 use Rattle.office_tables.specs.declared.rows.SeatState.{SeatState}
 use Rattle.office_tables.specs.Prelude.{places_taken, with_row, text_cmp}
 use Rattle.office_commands.specs.declared.command.Request.{Request}
-use Rattle.office_commands.specs.declared.refusal.Refusal.TheVariants.{Unkept}
-use Rattle.office_commands.specs.Prelude.{refusal}
 use Rattle.office_rules.specs.Prelude.{Put, device_put, map_put, number_put, order_put, record_put}
 use Rattle.office_rules.specs.Prelude.{seat_put, response, has_issuer, IssuedIn, OrderSight, Sight}
 
@@ -35,15 +32,15 @@ pub record SoloState : Type 0 where
   pub devices : List Device
   pub ledger : List NewEntry
 
--- a row's place: by its text
+-- the order of rows by a text of theirs
 abbrev pub by_text : {A : Type 0} → (A → List ℕ) → A → A → Ordering
 by_text text a b = text_cmp (text a) (text b)
 
--- a serial number's place: by issuer, then by its text
+-- the order of records: by issuer, then by serial number
 abbrev pub solo_given_cmp : Given → Given → Ordering
 solo_given_cmp a b = ordering_then (text_cmp a.issuer b.issuer) (text_cmp a.serial b.serial)
 
--- an entry's place: by its device, then by its number
+-- the order of entries: by device, then by number
 abbrev pub solo_entry_cmp : NewEntry → NewEntry → Ordering
 solo_entry_cmp a b = ordering_then (text_cmp a.chip b.chip) (nat_cmp a.number b.number)
 
@@ -51,11 +48,12 @@ solo_entry_cmp a b = ordering_then (text_cmp a.chip b.chip) (nat_cmp a.number b.
 abbrev pub seat_named : List ℕ → SoloState → Option SeatState
 seat_named name s = find (λ r. bytes_eq name r.name) s.seats
 
--- the records of an issuer by their serial numbers and by their keys
+-- the record of a serial number of an issuer
 abbrev pub record_of_serial : List ℕ → List ℕ → SoloState → Option Given
 record_of_serial issuer serial s =
     find (λ g. bytes_eq issuer g.issuer && bytes_eq serial g.serial) s.given
 
+-- the record of a key in an issuer
 abbrev pub record_of_key : List ℕ → List ℕ → SoloState → Option Given
 record_of_key issuer key s = find (λ g. bytes_eq issuer g.issuer && bytes_eq key g.key) s.given
 
@@ -63,7 +61,7 @@ record_of_key issuer key s = find (λ g. bytes_eq issuer g.issuer && bytes_eq ke
 abbrev pub is_issued : SoloState → List ℕ → List ℕ → Bool
 is_issued s issuer serial = is_some (record_of_serial issuer serial s)
 
--- an order's next number is the least of all whose serial number isn't given
+-- what is seen of an order: its next number is the least of all whose serial number isn't given
 abbrev pub solo_order_sight : SoloState → Order → OrderSight
 solo_order_sight s o = record {
   order = o;
@@ -83,7 +81,7 @@ solo_issued_in issuer s = record {
 -- what a seat sees of its customer's rows
 abbrev pub solo_sight : Section → List ℕ → SoloState → Sight
 solo_sight c seat s = record {
-  seat = find (λ r. bytes_eq seat r.name) s.seats;
+  seat = seat_named seat s;
   orders = s.orders;
   order = λ name. option_map (solo_order_sight s) (find (λ o. bytes_eq name o.name) s.orders);
   issuer = λ issuer. if has_issuer c issuer then Some (solo_issued_in issuer s) else None;
@@ -94,7 +92,7 @@ solo_sight c seat s = record {
   ledger = λ chip. filter (λ e. bytes_eq chip e.chip) s.ledger;
 }
 
--- a put stands in its place; the own machine has no cursor
+-- the customer's rows with a put, each row in its place; no cursor moves, as there is none
 abbrev pub with_put : Put → SoloState → SoloState
 with_put (seat_put r) s = record s { seats = with_row (by_text (λ r. r.name)) r s.seats }
 with_put (order_put o) s = record s { orders = with_row (by_text (λ o. o.name)) o s.orders }
@@ -113,12 +111,8 @@ abbrev pub with_puts : List Put → SoloState → SoloState
 with_puts [] s = s
 with_puts (p ∷ ps) s = with_puts ps (with_put p s)
 
--- the reply to a seat's request, by what the seat sees, and the state after it
-abbrev pub solo_step : Section → List ℕ → SoloState → Request → Option (Answer × SoloState)
-solo_step c seat s r = option_map (λ made. (made.reply, with_puts made.puts s))
+-- the own machine: the reply to a seat's request, by what the seat sees, and the state after it;
+-- none where a device's order or its map is missing
+abbrev pub solo : Section → List ℕ → SoloState → Request → Option (Answer × SoloState)
+solo c seat s r = option_map (λ made. (made.reply, with_puts made.puts s))
     (response c seat (solo_sight c seat s) r)
-
--- the own machine, for runs, where a reply is wanted of each request: none is 503, and changes
--- nothing
-abbrev pub solo : Section → List ℕ → SoloState → Request → Answer × SoloState
-solo c seat s r = option_map_or (λ made. made) (solo_step c seat s r) (refusal Unkept, s)

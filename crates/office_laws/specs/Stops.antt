@@ -54,21 +54,21 @@ AreSessions first (s ∷ ss) last = (site : Ownership)
     × AllByRecursion (IsSeat site) (calls_of s.exchanges) × IfSome s.cut_off (IsSeat site)
     × AreSessions site ss last
 
--- a request of the office was answered, and not with 503: no call before it stays unanswered
-abbrev pub is_answered : Exchange → Bool
-is_answered x = is_request x.0.wanted && not (is_unavailable x.1.status)
+-- a request of the office was answered, and not with 503: no call before it stays in doubt
+abbrev pub is_served : Exchange → Bool
+is_served x = is_request x.0.wanted && not (is_unavailable x.1.status)
 
 -- the call was answered 503, and no request of the office that came after it was answered otherwise
-abbrev pub IsUnanswered : List Exchange → Call → Type 0
-IsUnanswered [] c = ⊥
-IsUnanswered (x ∷ xs) c =
+abbrev pub StaysInDoubt : List Exchange → Call → Type 0
+StaysInDoubt [] c = ⊥
+StaysInDoubt (x ∷ xs) c =
     ((c ≡ x.0) × (is_unavailable x.1.status ≡ true)
-    × AllByRecursion (λ later. is_answered later ≡ false) xs) ⊎ IsUnanswered xs c
+    × AllByRecursion (λ later. is_served later ≡ false) xs) ⊎ StaysInDoubt xs c
 
--- what a stop between two calls leaves after these exchanges, which led to t: only what is
--- unanswered is in doubt
+-- what a stop between two calls leaves after these exchanges, which led to t: only what stays in
+-- doubt may be done
 abbrev pub Leaves : List Exchange → Tables → Tables → Type 0
-Leaves xs t left = (more : List Exchange) × IsLeft (IsUnanswered xs) t more left
+Leaves xs t left = (more : List Exchange) × IsLeft (StaysInDoubt xs) t more left
 
 -- what a crash may leave after these exchanges, which led from t to t2: where before them, and
 -- after whatever came before them, it could leave what a stop leaves, it can leave that after both

@@ -14,7 +14,7 @@ ghost use Rattle.office_commands.specs.declared.new_device.NewDevice.{NewDevice}
 ghost use Rattle.office_commands.specs.declared.command.Request.{Request};
 ghost use Rattle.office_commands.specs.declared.command.Show.TheVariants.{Identity};
 ghost use Rattle.office_rules.specs.Prelude.{Step, map_named, office_sight, reads_back, registers, show_reply, verdict_of_read_back, words_fit_map};
-ghost use Rattle.office_laws.specs.Prelude.{exchange_of_step, Grows, IssuesFresh, IsSound, MatchesWhereSeen, SeatStep, seen_with_batch, ShowAlike, solo_step};
+ghost use Rattle.office_laws.specs.Prelude.{exchange_of_step, Grows, IssuesFresh, IsSound, MatchesWhereSeen, SeatStep, seen_with_batch, ShowAlike, solo};
 ghost use Rattle.office_laws.specs.Prelude.{StepsAlike, view};
 
 /// A step of a customer's seat, from sound tables, acts on the customer's view as the customer's own
@@ -23,7 +23,7 @@ ghost use Rattle.office_laws.specs.Prelude.{StepsAlike, view};
 /// is given stays; and an identity gives what was nobody's. As the own machine is a function of the
 /// view, equal views give equal replies.
 pub fn steps_are_the_customers_own()
-    ensures own { (x : SeatStep) → solo_step x.section x.seat (view x.section.name x.old) x.request
+    ensures own { (x : SeatStep) → solo x.section x.seat (view x.section.name x.old) x.request
         ≡ Some (x.reply, view x.section.name x.new) }
     ensures other { (x : SeatStep) (customer : List ℕ) → bytes_eq customer x.section.name ≡ false
         → view customer x.new ≡ view customer x.old }

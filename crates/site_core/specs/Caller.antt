@@ -8,10 +8,11 @@ use Rattle.site_core.specs.declared.site.SeatCaller.{SeatCaller}
 use Rattle.site_core.specs.declared.site.Caller.{Caller}
 use Rattle.site_core.specs.declared.site.Caller.TheVariants.{Seat, Manager}
 
--- what stands past the end of the sections, and of a section's seats
+-- what stands past the end of the sections
 abbrev pub no_section : Section
 no_section = record { name = []; issuers = []; pools = []; seats = [] }
 
+-- what stands past the end of a section's seats
 abbrev pub no_seat : SeatOf
 no_seat = record { name = []; token = [] }
 
@@ -50,11 +51,11 @@ HoldsToken digest site Manager = site.manager ≡ Some digest
 abbrev pub seat_with : List ℕ → Section → Option ℕ
 seat_with digest section = position (has_token digest) section.seats
 
--- a customer has such a seat
+-- a customer has a seat whose token has the digest
 abbrev pub has_seat_with : List ℕ → Section → Bool
 has_seat_with digest section = list_any (has_token digest) section.seats
 
--- the first customer with such a seat, and its first such seat
+-- the first customer that has a seat whose token has the digest, and its first such seat
 abbrev pub seat_caller_with : List ℕ → List Section → Option SeatCaller
 seat_caller_with digest customers =
     position (has_seat_with digest) customers >>= (λ customer.

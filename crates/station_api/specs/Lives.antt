@@ -6,7 +6,7 @@ use Rattle.text_core.specs.Prelude.{Runs}
 use Rattle.site_core.specs.Prelude.{IsSite, SiteValue}
 use Rattle.office_tables.specs.Prelude.{Stands, Tables}
 use Rattle.office_tables.specs.declared.keep.Keep.{Ghosts}
-use Rattle.office_laws.specs.Prelude.{Exchange, IsLeft, IsUnanswered}
+use Rattle.office_laws.specs.Prelude.{Exchange, IsLeft, StaysInDoubt}
 use Rattle.station_api.specs.Books.{Leads}
 use Rattle.station_api.specs.HttpAnswers.{AnswersHttp}
 use Rattle.station_api.specs.SectionExchanges.{exchanges_with_seats}
@@ -37,7 +37,7 @@ pub record Life : Type 0 where
   pub left : Tables
   pub is_site : IsSite site
   pub run : Runs (AnswersHttp site) begun exchanges stood
-  pub leaves : IsLeft (IsUnanswered (exchanges_with_seats site exchanges)) stood more left
+  pub leaves : IsLeft (StaysInDoubt (exchanges_with_seats site exchanges)) stood more left
 
 -- this is the life of that store, whose end left these tables
 pub record IsLifeOf {K : Type 0} {k : Ghosts K} (s : ServedStore k) (tables : Tables) (life : Life) : Type 0 where

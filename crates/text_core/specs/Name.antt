@@ -7,7 +7,7 @@ use Rattle.std.specs.Char.{is_ascii_alphanumeric}
 abbrev pub is_name_byte : ℕ → Bool
 is_name_byte b = is_ascii_alphanumeric b || b == 46 || b == 95 || b == 45
 
--- 1 to 32 such bytes
+-- 1 to 32 bytes of names
 abbrev pub is_name : List ℕ → Bool
 is_name text = nat_le 1 (length text) && nat_le (length text) 32 && list_all is_name_byte text
 

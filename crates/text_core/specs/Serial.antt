@@ -7,7 +7,7 @@ use Rattle.std.specs.Char.{is_ascii_uppercase, is_ascii_digit}
 abbrev pub is_serial_byte : ℕ → Bool
 is_serial_byte b = is_ascii_uppercase b || is_ascii_digit b || b == 45
 
--- 1 to 64 such bytes
+-- 1 to 64 bytes of serial numbers
 abbrev pub is_serial : List ℕ → Bool
 is_serial text = nat_le 1 (length text) && nat_le (length text) 64 && list_all is_serial_byte text
 

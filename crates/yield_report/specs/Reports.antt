@@ -25,7 +25,7 @@ abbrev pub sorted_names : List (List ℕ) → List (List ℕ)
 sorted_names [] = []
 sorted_names (name ∷ names) = with_row text_cmp name (sorted_names names)
 
--- the site's customers in that order
+-- the site's customers in the order of their names' bytes
 abbrev pub sorted_customers : SiteValue → List (List ℕ)
 sorted_customers site = sorted_names (map (λ c. c.name) site.customers)
 

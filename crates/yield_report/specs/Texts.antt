@@ -17,20 +17,23 @@ number_names =
 abbrev pub report_text : List (List (List ℕ)) → List ℕ
 report_text lines = flat_map (row_text default_writer) lines
 
--- a customer's report: a header, and a line for each order
+-- the header of a customer's report
 abbrev pub order_header : List (List ℕ)
 order_header = codes "order" ∷ number_names
 
+-- a customer's report: its header, and a line for each order
 abbrev pub order_report_text : HasIssued → List Order → List Device → List ℕ
 order_report_text given orders devices = report_text (order_header ∷ map (λ o. o.name ∷ map decimal (yield_of given devices o)) orders)
 
--- the manager's report: a header, and a line for each customer with the number of its orders and the sum of their numbers
+-- the header of the manager's report
 abbrev pub site_header : List (List ℕ)
 site_header = codes "customer" ∷ codes "orders" ∷ number_names
 
+-- the sums of the numbers of a customer's orders
 abbrev pub customer_total : HasIssued → List Order → List Device → Yield
 customer_total given orders devices = total (map (yield_of given devices) orders)
 
+-- a customer's line in the manager's report: the number of its orders, and the sums of their numbers
 abbrev pub customer_line : List ℕ → HasIssued → List Order → List Device → List (List ℕ)
 customer_line customer given orders devices = customer ∷ map decimal (length orders ∷ customer_total given orders devices)
 

@@ -1,4 +1,4 @@
-use Rattle.std.proofs.Common.{◌≡◌, true, refl, IsOk}
+use Rattle.std.proofs.Common.{◌≡◌, true, refl}
 use Rattle.text_core.specs.Prelude.{is_serial}
 use Rattle.text_core.proofs.Kit.{IsOk-from_cases}
 use Rattle.id_ranges.proofs.Texts.{serial_is_text}
