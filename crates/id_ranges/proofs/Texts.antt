@@ -4,7 +4,7 @@ use Rattle.text_core.proofs.Kit.{ℕ, zero, suc, true, nat_le, List, [], length,
 use Rattle.text_core.proofs.Kit.{IsUtf8, digits_value, pow-le-pow_right, and_from, and_parts, le-leb, leb-true, nat_tests, decimal_by_steps}
 use Rattle.text_core.proofs.Kit.{decimal_is_IsNumeral, length-decimal-le, append_cancel_left, length-replicate, list_all-append, IsUtf8-from_ascii}
 use Rattle.text_core.specs.Prelude.{zero_padded, is_serial, is_serial_byte}
-use Rattle.id_ranges.specs.Prelude.{Range, IsRange, Has, serial_text_of}
+use Rattle.id_ranges.specs.Prelude.{Range, IsRange, Has, serial_text}
 
 -- a number of at most nine digits is below 10^9
 pub below_billion : (width n : ℕ) → width ≤ 9 → n < 10 ^ width → n < 1000000000
@@ -49,24 +49,24 @@ length-padded width n some low small =
     omega (arith, short, count, length-append zeros (decimal n))
 
 -- a serial number is as long as the prefix and the width together
-pub length-serial_text_of : (r : Range) → IsRange r → (n : ℕ) → Has r n → length (serial_text_of r n) ≡ length r.prefix + r.width
-length-serial_text_of r is n has =
+pub length-serial_text : (r : Range) → IsRange r → (n : ℕ) → Has r n → length (serial_text r n) ≡ length r.prefix + r.width
+length-serial_text r is n has =
     length-append r.prefix (zero_padded r.width (decimal n))
     ∙ ap (λ k. length r.prefix + k) (length-padded r.width n (omega (arith, is.least_width)) (fits_width r is n has) (is_small r is n has))
 
 -- each number of a range has a serial number
-pub texts_are_serials : (r : Range) → IsRange r → (n : ℕ) → Has r n → is_serial (serial_text_of r n) ≡ true
+pub texts_are_serials : (r : Range) → IsRange r → (n : ℕ) → Has r n → is_serial (serial_text r n) ≡ true
 texts_are_serials r is n has =
     let parts = and_parts (nat_le 1 (length r.prefix) && nat_le (length r.prefix) 32) (list_all is_serial_byte r.prefix) is.prefix in
     let lengths = and_parts (nat_le 1 (length r.prefix)) (nat_le (length r.prefix) 32) parts.0 in
     let least = leb-true _ _ lengths.0 in
     let largest = leb-true _ _ lengths.1 in
-    let size = length-serial_text_of r is n has in
+    let size = length-serial_text r is n has in
     let digits =
     both_parts (replicate (r.width - length (decimal n)) 48) (decimal n) (zeros_pass (r.width - length (decimal n))) (digits_pass n (is_small r is n has))
     in
-    let some : 1 ≤ length (serial_text_of r n) = omega (arith, least, size) in
-    let few : length (serial_text_of r n) ≤ 64 = omega (arith, largest, size, is.largest_width) in
+    let some : 1 ≤ length (serial_text r n) = omega (arith, least, size) in
+    let few : length (serial_text r n) ≤ 64 = omega (arith, largest, size, is.largest_width) in
     and_from _ _ (and_from _ _ (le-leb _ _ some) (le-leb _ _ few))
     (both_parts r.prefix (zero_padded r.width (decimal n)) parts.1 digits)
 
@@ -80,16 +80,16 @@ pub value-padded : (width n : ℕ) → n < 2 ^ 64 → digits_value 10 (zero_padd
 value-padded width n small = value-zeros (width - length (decimal n)) (decimal n) ∙ (decimal_is_IsNumeral n small).1
 
 -- numbers of one serial number are one
-pub same_number : (r : Range) → IsRange r → (m n : ℕ) → Has r m → Has r n → serial_text_of r m ≡ serial_text_of r n → m ≡ n
+pub same_number : (r : Range) → IsRange r → (m n : ℕ) → Has r m → Has r n → serial_text r m ≡ serial_text r n → m ≡ n
 same_number r is m n one other same =
     let padded = append_cancel_left r.prefix (zero_padded r.width (decimal m)) (zero_padded r.width (decimal n)) same in
     sym (value-padded r.width m (is_small r is m one)) ∙ (ap (digits_value 10) padded ∙ value-padded r.width n (is_small r is n other))
 
 -- two ranges of one prefix that have a serial number in common have one width
 pub same_width : (r s : Range) → IsRange r → IsRange s → r.prefix ≡ s.prefix → (m n : ℕ) → Has r m
-    → Has s n → serial_text_of r m ≡ serial_text_of s n → r.width ≡ s.width
+    → Has s n → serial_text r m ≡ serial_text s n → r.width ≡ s.width
 same_width r s is also prefix m n one other same =
-    omega (arith, length-serial_text_of r is m one, length-serial_text_of s also n other, ap length same, ap length prefix)
+    omega (arith, length-serial_text r is m one, length-serial_text s also n other, ap length same, ap length prefix)
 
 -- a number's digits take at most the width
 pub digits_fit : (r : Range) → IsRange r → (n : ℕ) → Has r n → length (decimal n) ≤ r.width

@@ -55,5 +55,5 @@ ranges_overlap a b =
 
 -- the serial number of a number of the range, in characters of PrintableString (RFC 5280, appendix A): the prefix, and the number in decimal with zeros before
 -- it up to the width
-abbrev pub serial_text_of : Range → ℕ → List ℕ
-serial_text_of r n = r.prefix ++ zero_padded r.width (decimal n)
+abbrev pub serial_text : Range → ℕ → List ℕ
+serial_text r n = r.prefix ++ zero_padded r.width (decimal n)

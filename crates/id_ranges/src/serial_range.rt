@@ -1,7 +1,7 @@
 // Ranges of serial numbers.
 ghost use Rattle.std.specs.Prelude.{◌≡◌, ◌≤◌, ◌↔◌, IsTrue, true};
 ghost use Rattle.text_core.specs.Prelude.{is_serial};
-ghost use Rattle.id_ranges.specs.Range.{Has, IsRange, RangesOverlap, SharesANumber, is_number_too_wide, ranges_overlap, range_of, serial_text_of};
+ghost use Rattle.id_ranges.specs.Range.{Has, IsRange, RangesOverlap, SharesANumber, is_number_too_wide, ranges_overlap, range_of, serial_text};
 
 use crate::fault::RangeFault;
 use itoa::Buffer;
@@ -134,7 +134,7 @@ impl SerialRange {
     /// before it up to the width. It takes no memory.
     pub fn text(&self, number: u64) -> Serial
         requires { Has self.now number }
-        ensures { result ≡ serial_text_of self.now number }
+        ensures { result ≡ serial_text self.now number }
     {
         let bytes = self.bytes(number);
         Serial::parse(str::from_utf8(bytes.as_bytes()).unwrap()).unwrap()
@@ -142,7 +142,7 @@ impl SerialRange {
 
     fn bytes(&self, number: u64) -> ShortBytes<64>
         requires { Has self.now number }
-        ensures same { result ≡ serial_text_of self.now number }
+        ensures same { result ≡ serial_text self.now number }
         ensures is_one { is_serial result ≡ true }
     {
         let mut buffer = Buffer::new();

@@ -3,7 +3,7 @@ use Rattle.std.proofs.Common.{◌≡◌, ◌==◌, ◌∷◌}
 use Rattle.text_core.proofs.Kit.{ℕ, arith, true, false, List, [], Option, Some, None, refl, sym, ◌∙◌, subst, bytes_eq, find, IfSome}
 use Rattle.text_core.proofs.Kit.{ap, is_some, AllByRecursion, and_parts, and_from, nat_tests, same_text, text_itself}
 use Rattle.site_core.specs.Prelude.{Ownership}
-use Rattle.id_ranges.specs.Prelude.{serial_text_of}
+use Rattle.id_ranges.specs.Prelude.{serial_text}
 use Rattle.office_laws.proofs.Types.{OfCustomer, Given, Order}
 use Rattle.office_tables.specs.Prelude.{Tables, IsAddressFree, given_at, given_by_key, given_cmp, has_address, is_address, is_bound, is_serial_of, with_row}
 use Rattle.office_tables.specs.Prelude.{with_given}
@@ -74,8 +74,8 @@ all_other None (y ∷ ys) free = (tt, all_other None ys tt)
 below_after : (g : OfCustomer Given) (gs : List (OfCustomer Given)) (o : OfCustomer Order) → IsIssuedBelow gs o
     → IsIssuedBelow (with_row given_cmp g gs) o
 below_after g gs o is n least below =
-    still_there (is_serial_of o.row.issuer (serial_text_of o.row.range n)) given_cmp g gs
-    (each_same issuer_of serial_of o.row.issuer (serial_text_of o.row.range n) g gs) (is n least below)
+    still_there (is_serial_of o.row.issuer (serial_text o.row.range n)) given_cmp g gs
+    (each_same issuer_of serial_of o.row.issuer (serial_text o.row.range n) g gs) (is n least below)
 
 -- a record of a serial number that nobody has, for a key that none has, with an address that none
 -- has

@@ -4,7 +4,7 @@ use Rattle.std.specs.Option.{option_map_or}
 use Rattle.text_core.specs.Prelude.{first_that_holds}
 use Rattle.text_core.proofs.Kit.{same_Some}
 use Rattle.fusemap_core.specs.Prelude.{Map}
-use Rattle.id_ranges.specs.Prelude.{with_text, Range, serial_text_of, IsLeastUnused}
+use Rattle.id_ranges.specs.Prelude.{with_text, Range, serial_text, IsLeastUnused}
 use Rattle.id_ranges.proofs.NextNumbers.{next_is_least}
 use Rattle.site_core.specs.Prelude.{Section}
 use Rattle.office_laws.proofs.Types.{Device, Order, OfCustomer, NewIdentity}
@@ -20,18 +20,18 @@ use Rattle.office_laws.proofs.Looking.{device_seen, gave}
 
 -- the next number comes with its serial number
 text_of_next : (r : Range) (found : Option ℕ) (next : ℕ × List ℕ)
-    → option_map (with_text r) found ≡ Some next → next.1 ≡ serial_text_of r next.0
+    → option_map (with_text r) found ≡ Some next → next.1 ≡ serial_text r next.0
 text_of_next r None next e = cc
 text_of_next r (Some n) next e =
     let same : with_text r n ≡ next = cc in
-    subst (λ (x : ℕ × List ℕ). x.1 ≡ serial_text_of r x.0) same refl
+    subst (λ (x : ℕ × List ℕ). x.1 ≡ serial_text r x.0) same refl
 
 -- an order's next number is the least that isn't given, and comes with its serial number
 pub next_least : (t : Tables) (o : Order) (next : ℕ × List ℕ) → next_of t o ≡ Some next
-    → (next.1 ≡ serial_text_of o.range next.0)
+    → (next.1 ≡ serial_text o.range next.0)
     × IsLeastUnused o.cursor (is_taken t o.issuer) o.range next.0
 next_least t o next is =
-    let text : next.1 ≡ serial_text_of o.range next.0 = text_of_next o.range _ next is in (
+    let text : next.1 ≡ serial_text o.range next.0 = text_of_next o.range _ next is in (
       text,
       next_is_least o.cursor (is_taken t o.issuer) o.range next.0
           (is ∙ (λ j. Some (next.0, text j))),

@@ -5,7 +5,7 @@ use Rattle.std.proofs.lemmas.Bool.{and_parts, cases_lt, not-false}
 use Rattle.text_core.specs.Prelude.{first_that_holds}
 use Rattle.text_core.proofs.Kit.{find-passes, same_text, none_from_test}
 use Rattle.fusemap_core.specs.Prelude.{Map}
-use Rattle.id_ranges.specs.Prelude.{Idevid, serial_text_of, IsLeastUnused}
+use Rattle.id_ranges.specs.Prelude.{Idevid, serial_text, IsLeastUnused}
 use Rattle.site_core.specs.Prelude.{IsSection, Ownership, Section}
 use Rattle.office_laws.proofs.Types.{Cursor, Device, Given, Order, OfCustomer, NewIdentity, DeviceStep}
 use Rattle.office_tables.specs.Prelude.{IsAddressFree, Tables, device_at, device_cmp, given_at, given_by_key, given_cmp, is_device, is_serial_of, is_order}
@@ -46,7 +46,7 @@ module _ {owners : Ownership} {t : Tables} (sound : IsSound owners t) (s : Secti
     abbrev step : DeviceStep
     step = step_of_identity next.1 m old.row
 
-    is_text : next.1 ≡ serial_text_of o.row.range next.0
+    is_text : next.1 ≡ serial_text o.row.range next.0
     is_text = (next_least t o.row next is_next).0
 
     least : IsLeastUnused o.row.cursor (is_taken t o.row.issuer) o.row.range next.0
@@ -80,7 +80,7 @@ module _ {owners : Ownership} {t : Tables} (sound : IsSound owners t) (s : Secti
 
     -- below the number above the one that is given nothing is free
     given_below : (n : ℕ) → o.row.range.first ≤ n → n < next.0
-        → is_some (given_at o.row.issuer (serial_text_of o.row.range n) t) ≡ true
+        → is_some (given_at o.row.issuer (serial_text o.row.range n) t) ≡ true
     given_below n low before =
         elim (cases_lt n o.row.cursor) [
           | inl under ↦ order_below sound s.name old.row.order o ordered n low under
@@ -97,7 +97,7 @@ module _ {owners : Ownership} {t : Tables} (sound : IsSound owners t) (s : Secti
     below n low high =
         elim (cases_lt n next.0) [
           | inl before ↦
-              let text = serial_text_of o.row.range n in
+              let text = serial_text o.row.range n in
               still_given (given_at o.row.issuer text t)
               (find (is_serial_of o.row.issuer text) (with_row given_cmp g t.given))
               (given_below n low before)

@@ -212,7 +212,7 @@ fn reason_text_of(state: DeviceState) -> Option<&'static str>
     }
 }
 
-fn serial_text_of(device: &Device) -> Option<&str>
+fn serial_text(device: &Device) -> Option<&str>
     ensures { option_map (λ t. t.now) result ≡ device.now.serial }
 {
     match &device.serial {
@@ -235,7 +235,7 @@ fn values_of(device: &DeviceRow) -> [ValueRef<'_>; 10]
         row.bits.as_bytes().to_sql(),
         row.keys.as_bytes().to_sql(),
         row.todo.as_bytes().to_sql(),
-        serial_text_of(row).to_sql(),
+        serial_text(row).to_sql(),
     ]
 }
 

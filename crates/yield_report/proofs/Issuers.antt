@@ -4,7 +4,7 @@ use Rattle.text_core.proofs.Kit.{cond, bytes_eq, option_and_then, option_map, sl
 use Rattle.text_core.proofs.Kit.{append_assoc, take-map, take_more, filter_agree, list_any-append, none-some, same_Some, slice_get-map, slice_get_cases}
 use Rattle.text_core.proofs.Kit.{bytes_eq-Decides}
 use Rattle.std.proofs.Common.{◌≡◌, ◌+◌, ◌<◌, ◌∷◌, ◌++◌, ◌||◌, if◌then◌else◌}
-use Rattle.id_ranges.specs.Prelude.{is_unused, IsRange, numbers, serial_text_of}
+use Rattle.id_ranges.specs.Prelude.{is_unused, IsRange, numbers, serial_text}
 use Rattle.office_tables.specs.Prelude.{Tables}
 use Rattle.yield_report.specs.Prelude.{HasIssued, count_of_range, issued_count, is_met, left_in, left_so_far, less, new_issuer, taken, IsLine, AreApart}
 use Rattle.yield_report.specs.Prelude.{has_issued_in, serials_of, AreRising}
@@ -19,7 +19,7 @@ pub counted_is_given : (t : Tables) (line : OrderLine) → IsRange line.range �
 counted_is_given t line is rising =
     let all = left_count line.range is None (serials_of line.issuer t) rising in
     let same = ap length (filter_agree _ (is_unused (has_issued_in t line.issuer) line.range)
-    (λ n. ap not (sym (given_is_listed line.issuer (serial_text_of line.range n) t.given))) (numbers line.range)) in
+    (λ n. ap not (sym (given_is_listed line.issuer (serial_text line.range n) t.given))) (numbers line.range)) in
     omega (arith, all, same)
 
 -- the issuer of a line that was taken from is as it was

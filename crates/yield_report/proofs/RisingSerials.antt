@@ -4,7 +4,7 @@ use Rattle.text_core.proofs.Kit.{ℕ, zero, suc, Bool, true, false, not, List, [
 use Rattle.text_core.proofs.Kit.{filter, find}
 use Rattle.text_core.proofs.Kit.{is_some, list_any, range_with_len, is_eq, is_lt, bytes_eq, cases_Bool, or_from, false_from_ne_true, nat_tests}
 use Rattle.text_core.proofs.Kit.{nat_list_cmp_total, nat_list_eq_equiv, is_eq-slice_cmp, bytes_eq-Decides, tied_itself, AllByRecursion, Equal, Less}
-use Rattle.id_ranges.specs.Prelude.{Range, IsRange, numbers, serial_text_of}
+use Rattle.id_ranges.specs.Prelude.{Range, IsRange, numbers, serial_text}
 use Rattle.id_ranges.proofs.Texts.{same_number}
 use Rattle.office_tables.specs.declared.rows.Given.{Given}
 use Rattle.office_tables.specs.declared.rows.OfCustomer.{OfCustomer}
@@ -14,7 +14,7 @@ use Rattle.yield_report.proofs.Ascending.{lt_is_less}
 
 -- the text isn't one of these
 abbrev is_new : List (List ℕ) → Range → ℕ → Bool
-is_new serials r n = not (list_any (bytes_eq (serial_text_of r n)) serials)
+is_new serials r n = not (list_any (bytes_eq (serial_text r n)) serials)
 
 -- a text differs from a greater one
 differs : (a b : List ℕ) → is_lt (text_cmp a b) ≡ true → bytes_eq a b ≡ false
@@ -83,20 +83,20 @@ pub left_count : (r : Range) → IsRange r → (last : Option (List ℕ)) (seria
     → length (filter (is_new serials r) (numbers r)) + length (filter (has_serial r) serials) ≡ r.quantity
 left_count r is last [] rising = let all = all_new r.first r.quantity in omega (arith, all)
 left_count r is last (s ∷ ss) rising =
-    let q : ℕ → Bool = λ n. bytes_eq (serial_text_of r n) s in
-    let p : ℕ → Bool = λ n. list_any (bytes_eq (serial_text_of r n)) ss in
+    let q : ℕ → Bool = λ n. bytes_eq (serial_text r n) s in
+    let p : ℕ → Bool = λ n. list_any (bytes_eq (serial_text r n)) ss in
     let rest = left_count r is (Some s) ss rising.1 in
     let step = one_less p q r.first r.quantity
     (λ m n low less high passes. false_from_ne_true (q n) (λ too.
-    let one = (bytes_eq-Decides (serial_text_of r m) s).0 passes in
-    let other = (bytes_eq-Decides (serial_text_of r n) s).0 too in
+    let one = (bytes_eq-Decides (serial_text r m) s).0 passes in
+    let other = (bytes_eq-Decides (serial_text r n) s).0 too in
     let same : m ≡ n = same_number r is m n (low, omega arith) (omega arith, high) (one ∙ sym other) in
     omega arith))
     (λ n low high passes.
-    let one = (bytes_eq-Decides (serial_text_of r n) s).0 passes in
+    let one = (bytes_eq-Decides (serial_text r n) s).0 passes in
     rw one (rises_apart s ss rising.1)) in
     let tested : has_serial r s ≡ list_any q (numbers r) =
-    (λ i. list_any (λ n. nat_list_eq_equiv.symm s (serial_text_of r n) i) (numbers r)) in
+    (λ i. list_any (λ n. nat_list_eq_equiv.symm s (serial_text r n) i) (numbers r)) in
     elim (has_serial r s) as (λ b. has_serial r s ≡ b → length (filter (is_new (s ∷ ss) r) (numbers r)) + length
     (cond b (s ∷ filter (has_serial r) ss) (filter (has_serial r) ss)) ≡ r.quantity) [
       | true ↦ λ e. let t = rw (sym tested ∙ e) at step in omega (arith, t, rest)

@@ -3,7 +3,7 @@ use Rattle.std.proofs.Common.{◌≡◌, ◌+◌, ◌<◌, ◌≤◌, ◌∷◌,
 use Rattle.text_core.proofs.Kit.{ℕ, true, false, List, [], map, length, slice_set, Option, Some, inl, inr, refl, sym, ap, ap₂, ◌∙◌, subst, arith, bytes_eq}
 use Rattle.text_core.proofs.Kit.{nat_lt, AllByRecursion, cases_Bool, cases_eq, cases_lt, nat_tests, All-get_or, recursion_from_All, bytes_eq-Decides, same_Some}
 use Rattle.text_core.proofs.Kit.{lt-ltb, le-ltb}
-use Rattle.id_ranges.specs.Prelude.{serial_text_of, Has, IsRange, Range}
+use Rattle.id_ranges.specs.Prelude.{serial_text, Has, IsRange, Range}
 use Rattle.yield_report.specs.Prelude.{taken, taken_in, AreLines, IsLine, place_of, AreApart, AreBegun, has_serial}
 use Rattle.yield_report.specs.declared.lines.OrderLine.{OrderLine}
 use Rattle.yield_report.specs.declared.places.Place.{Place}
@@ -27,7 +27,7 @@ is_other a b e = grind (arith, nat_tests)
 
 -- the line has a number with this text, in this width and issuer
 abbrev pub HasText : ℕ → List ℕ → List ℕ → OrderLine → ℕ → Type 0
-HasText width issuer serial line n = (line.range.width ≡ width) × (line.issuer ≡ issuer) × Has line.range n × (serial ≡ serial_text_of line.range n)
+HasText width issuer serial line n = (line.range.width ≡ width) × (line.issuer ≡ issuer) × Has line.range n × (serial ≡ serial_text line.range n)
 
 -- a line that has none is left as it is
 not_taken : (width : ℕ) (issuer serial : List ℕ) (line : OrderLine) → ((n : ℕ) → HasText width issuer serial line n → ⊥)
@@ -117,7 +117,7 @@ pub has_last : (width : ℕ) (issuer serial : List ℕ) (lines slice : List Orde
     → AreLines lines → AreApart lines → end ≤ length slice
     → (AreLines slice → AreApart slice → AreBegun place slice end)
     → found ≡ Some place
-    → ((r : Range) (n : ℕ) → IsRange r → r.width ≡ width → Has r n → serial ≡ serial_text_of r n → found ≡ Some (place_of issuer r n))
+    → ((r : Range) (n : ℕ) → IsRange r → r.width ≡ width → Has r n → serial ≡ serial_text r n → found ≡ Some (place_of issuer r n))
     → (k : ℕ) (d : OrderLine) → k < length lines → (n : ℕ) → HasText width issuer serial (get_or lines k d) n → k + 1 ≡ end
 has_last width issuer serial lines slice end place found same are apart bound clause is places k d within n has =
     let line : OrderLine = get_or lines k d in

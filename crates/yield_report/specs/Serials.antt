@@ -2,14 +2,14 @@
 use Rattle.std.specs.Prelude.{◌≡◌, ℕ, Bool, true, List, [], ◌∷◌, Option, Some, None, bytes_eq, filter, map}
 use Rattle.std.specs.List.{list_any}
 use Rattle.std.specs.Ordering.{is_lt}
-use Rattle.id_ranges.specs.Prelude.{Range, numbers, serial_text_of}
+use Rattle.id_ranges.specs.Prelude.{Range, numbers, serial_text}
 use Rattle.office_tables.specs.declared.rows.Given.{Given}
 use Rattle.office_tables.specs.declared.rows.OfCustomer.{OfCustomer}
 use Rattle.office_tables.specs.Prelude.{Tables, is_of_issuer, text_cmp}
 
 -- the text is the serial number of a number of the range
 abbrev pub has_serial : Range → List ℕ → Bool
-has_serial range serial = list_any (λ n. bytes_eq serial (serial_text_of range n)) (numbers range)
+has_serial range serial = list_any (λ n. bytes_eq serial (serial_text range n)) (numbers range)
 
 -- the serial number is greater than the last one, if there was one
 abbrev pub follows : Option (List ℕ) → List ℕ → Bool

@@ -1,6 +1,6 @@
 // Where serial numbers stand among those of a customer's orders, so that halving finds an order.
 ghost use Rattle.std.specs.Prelude.{◌≡◌, ◌≤◌, ℕ, length, Some, IfOk, IsPermutation, IsSortedByKey};
-ghost use Rattle.id_ranges.specs.Prelude.{serial_text_of, Has, IsRange, Range};
+ghost use Rattle.id_ranges.specs.Prelude.{serial_text, Has, IsRange, Range};
 ghost use Rattle.office_tables.specs.Prelude.{text_cmp};
 ghost use Rattle.yield_report.specs.Prelude.{AreLines, first_place, last_place, place_cmp, place_of, is_begun, stands_before, AreApart, AreBegun};
 
@@ -68,7 +68,7 @@ fn last_place(line: &OrderLine) -> Place
 pub(crate) fn place_in(issuer: &Name, serial: &Serial, width: u8) -> Option<Place>
     requires { width ≤ 9 }
     ensures { (r : Range) (n : ℕ) → IsRange r → r.width ≡ width → Has r n
-        → serial.now ≡ serial_text_of r n → result ≡ Some (place_of issuer.now r n) }
+        → serial.now ≡ serial_text r n → result ≡ Some (place_of issuer.now r n) }
 {
     let bytes = serial.as_str().as_bytes();
     let count = usize::from(width);

@@ -1,7 +1,7 @@
 // Whether a text is a serial number of a range.
 ghost use Rattle.std.specs.Prelude.{◌≡◌, ◌≤◌, ℕ, IfSome, Some, length};
 ghost use Rattle.std.specs.Str.Parse.{digits_value, AllDigits};
-ghost use Rattle.id_ranges.specs.Prelude.{serial_text_of, Has};
+ghost use Rattle.id_ranges.specs.Prelude.{serial_text, Has};
 ghost use Rattle.yield_report.specs.Prelude.{has_serial};
 
 use id_ranges::SerialRange;
@@ -25,7 +25,7 @@ pub(crate) fn number_of(digits: &[u8]) -> u64
 /// number.
 fn number_in(range: &SerialRange, serial: &Serial) -> Option<u64>
     ensures has { IfSome result (Has range.now) }
-    ensures found { (n : ℕ) → Has range.now n → serial.now ≡ serial_text_of range.now n
+    ensures found { (n : ℕ) → Has range.now n → serial.now ≡ serial_text range.now n
         → result ≡ Some n }
 {
     let prefix = range.prefix();

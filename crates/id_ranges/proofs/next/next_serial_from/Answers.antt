@@ -1,5 +1,5 @@
 use Rattle.std.proofs.Common.{◌≡◌, ◌≤◌, false, inl, refl, arith}
-use Rattle.id_ranges.specs.Prelude.{Has, serial_text_of}
+use Rattle.id_ranges.specs.Prelude.{Has, serial_text}
 use Rattle.id_ranges.proofs.NextNumbers.{next_here, next_none}
 use Rattle.id_ranges.proofs.next.next_serial_from.Goals as goal
 
@@ -11,7 +11,7 @@ returns-then-not-branch-clause-exact g c = λ honest.
     let tells = g.G.Given.tells given in
     let was = g.met.G.Given.was_honest given c.loop-number.state c.is_given.new.state c.in_ok-is_given.ensures.ok honest in
     let same = g.met.G.Given.same given c.args.state.now c.loop-number.state c.loop-number.invariant.looked was in
-    let free : tells c.args.state.now (serial_text_of range number) ≡ false =
+    let free : tells c.args.state.now (serial_text range number) ≡ false =
     rw (← same, ← c.text-serial.ensures, ← c.in_ok-is_given.ensures.answer honest) c.if-not-branch.true in
     let has : Has range number = (omega arith, omega arith) in
     let high : c.args.cursor ≤ number = omega arith in

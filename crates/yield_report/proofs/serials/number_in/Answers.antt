@@ -1,6 +1,6 @@
 use Rattle.std.proofs.Common.{◌≡◌}
 use Rattle.text_core.proofs.Kit.{◌∙◌, ap, sym, arith, length, take, true, Some, bytes_eq, both_ways, not-true, bytes_eq-Decides}
-use Rattle.id_ranges.proofs.Texts.{length-serial_text_of}
+use Rattle.id_ranges.proofs.Texts.{length-serial_text}
 use Rattle.yield_report.proofs.Digits.{front_of_text, number_is}
 use Rattle.yield_report.proofs.serials.number_in.Goals as goal
 use Rattle.yield_report.proofs.serials.number_in.Goals.{then-number-first-via-then-number-first, then-number-first-via-else-number-first+then-number-first-2}
@@ -8,7 +8,7 @@ use Rattle.yield_report.proofs.serials.number_in.Goals.{then-number-first-via-th
 pub returns-then-bytes-front-clause-found : goal.returns-then-bytes-front-clause-found
 returns-then-bytes-front-clause-found c = λ n has text.
     let r = c.args.range.now in
-    let size = length-serial_text_of r c.width.ensures.range n has in
+    let size = length-serial_text r c.width.ensures.range n has in
     let front = ap length (c.as_bytes-front.ensures.value ∙ (c.as_str.ensures.same ∙ c.prefix-prefix.ensures)) in
     let bytes = ap length (c.as_bytes-bytes.ensures.value ∙ c.as_str-2.ensures.same) in
     absurd (c.if-bytes-front.true (omega (arith, size, front, bytes, ap length text, c.width.ensures.same, c.from.ensures)))
