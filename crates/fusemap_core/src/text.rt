@@ -1,21 +1,22 @@
 // The text of a fuse map.
-ghost use Rattle.std.specs.Prelude.{◌≡◌, ◌≢◌, ◌<◌, IfErr, IfOk, length, map, option_map};
-ghost use Rattle.toml.specs.View.{view};
+ghost use Rattle.std.specs.Prelude.{◌≡◌, ◌≢◌, ◌<◌, IfErr, IfOk, length, map, option_and_then, option_map};
+ghost use Rattle.members.specs.Prelude.{if_there, items_in, name_in};
 ghost use Rattle.text_core.specs.Prelude.{GivesUnless, list_of_length};
+ghost use Rattle.toml.specs.Data.{get};
+ghost use Rattle.toml.specs.View.{view};
 ghost use Rattle.fusemap_core.specs.Prelude.{Map, IsLowestMapFault, HasMapMembers, IsMapText, field_in, map_of_document, map_read, words_in};
-ghost use Rattle.fusemap_core.specs.MapText as map_text;
 
 use crate::draft::{FieldDraft, MapDraft};
 use crate::fault::MapFault;
 use crate::judge::judged_map;
 use crate::map::{BLOCK_LIMIT, FIELD_LIMIT, FuseMap, WORD_LIMIT};
+use members::in_toml::{
+    flag_member, items_member, name_member, optional_whole, read_document, read_name, whole_member,
+};
+use members::{of_length, read_all};
 use std::alloc::{AllocError, Global};
 use text_core::Name;
 use toml::Value;
-use toml_members::{
-    flag_member, items_member, name_member, optional_whole, read_all, read_document, read_name,
-    whole_member,
-};
 
 /// The most bytes of a map's text.
 pub const TEXT_LIMIT: usize = 32768;
@@ -125,7 +126,7 @@ fn read_field(value: &Value) -> Option<FieldDraft>
 /// A member that is a name, or nothing where there is no such member. `None` where the member is
 /// something else.
 fn optional_name(value: &Value, name: &str) -> Option<Option<Name>>
-    ensures { result ≡ map_text.optional_name name.now (view value.now) }
+    ensures { result ≡ if_there name_in (get name.now (view value.now)) }
 {
     match value.get(name) {
         Some(found) => Some(Some(read_name(found)?)),
@@ -141,19 +142,8 @@ fn list_member<'v>(
     greatest: usize,
 ) -> Option<&'v [Value]>
     ensures { option_map (λ items. map view items.now) result
-        ≡ map_text.array_member name.now least greatest (view value.now) }
+        ≡ option_and_then (list_of_length least greatest)
+        (option_and_then items_in (get name.now (view value.now))) }
 {
     of_length(items_member(value, name)?, least, greatest)
-}
-
-/// The items, if there are so many.
-fn of_length(items: &[Value], least: usize, greatest: usize) -> Option<&[Value]>
-    ensures { option_map (λ found. map view found.now) result
-        ≡ list_of_length least greatest (map view items.now) }
-{
-    if least <= items.len() && items.len() <= greatest {
-        Some(items)
-    } else {
-        None
-    }
 }

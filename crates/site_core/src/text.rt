@@ -4,7 +4,6 @@ ghost use Rattle.toml.specs.View.{view};
 ghost use Rattle.text_core.specs.Prelude.{GivesUnless};
 ghost use Rattle.site_core.specs.Prelude.{SiteValue, IsLowestSiteFault, HasSiteMembers, IsSiteText, customer_in, manager_in, pool_in, seat_of_data, site_of};
 ghost use Rattle.site_core.specs.Prelude.{site_read};
-ghost use Rattle.site_core.specs.SiteText as site_text;
 
 use crate::customer::Seat;
 use crate::draft::{CustomerDraft, PoolDraft, SiteDraft};
@@ -12,13 +11,14 @@ use crate::fault::SiteFault;
 use crate::judge::judged_site;
 use crate::site::Site;
 use id_ranges::{LARGEST_POOL, Mac};
+use members::in_toml::{
+    digest_member, items_member, name_member, optional_items, read_document, read_name,
+    text_member, whole_member,
+};
+use members::{read_all, try_read_all};
 use std::alloc::{AllocError, Global};
 use text_core::Digest;
 use toml::Value;
-use toml_members::{
-    digest_member, items_member, name_member, optional_items, read_all, read_document, read_name,
-    text_member, try_read_all, whole_member,
-};
 
 /// The most bytes of a site's text: 2^20.
 pub const TEXT_LIMIT: usize = 1048576;
@@ -116,15 +116,9 @@ fn read_customer(alloc: Global, value: &Value) -> Result<Option<CustomerDraft>, 
 fn read_pool(value: &Value) -> Option<PoolDraft>
     ensures { result ≡ pool_in (view value.now) }
 {
-    let first = mac_member(value, "first")?;
+    let first = Mac::parse(text_member(value, "first")?)?;
     let count = whole_member(value, "count", 1, LARGEST_POOL)?;
     Some(PoolDraft { first, count })
-}
-
-fn mac_member(value: &Value, name: &str) -> Option<Mac>
-    ensures { result ≡ site_text.mac_member name.now (view value.now) }
-{
-    Mac::parse(text_member(value, name)?)
 }
 
 #[tactic(auto, unfolding(crate::specs::SiteText::seat_of_data))]
