@@ -1,20 +1,20 @@
 // The text of a fuse map.
-ghost use Rattle.std.specs.Prelude.{◌≡◌, ◌≢◌, ◌<◌, IfErr, IfOk, length, map, option_and_then, option_map};
-ghost use Rattle.members.specs.Prelude.{if_there, items_in, name_in};
-ghost use Rattle.text_core.specs.Prelude.{GivesUnless, list_of_length};
+ghost use Rattle.std.specs.Prelude.{◌≡◌, ◌≢◌, ◌<◌, IfErr, IfOk, length, ok_or};
+ghost use Rattle.members.specs.Prelude.{if_there, name_in};
+ghost use Rattle.text_core.specs.Prelude.{GivesUnless};
 ghost use Rattle.toml.specs.Data.{get};
 ghost use Rattle.toml.specs.View.{view};
 ghost use Rattle.fusemap_core.specs.Prelude.{Map, IsLowestMapFault, HasMapMembers, IsMapText, field_in, map_of_document, map_read, words_in};
 
 use crate::draft::{FieldDraft, MapDraft};
-use crate::fault::MapFault;
+use crate::fault::MapFault::{self, BadMember};
 use crate::judge::judged_map;
 use crate::map::{BLOCK_LIMIT, FIELD_LIMIT, FuseMap, WORD_LIMIT};
 use members::in_toml::{
     flag_member, items_member, name_member, optional_whole, read_document, read_name, whole_member,
 };
 use members::{of_length, read_all};
-use std::alloc::{AllocError, Global};
+use std::alloc::Global;
 use text_core::Name;
 use toml::Value;
 
@@ -47,50 +47,37 @@ pub fn read_map(alloc: Global, text: &str) -> Result<FuseMap, MapFault>
     ensures too_long { 32768 < length text.now → result ≡ Err MapFault.BadMember }
 {
     if TEXT_LIMIT < text.len() {
-        return Err(MapFault::BadMember);
+        return Err(BadMember);
     }
     let document = read_document(alloc, text)?;
-    let draft = read_draft(alloc, &document)?.ok_or(MapFault::BadMember)?;
+    let draft = read_draft(alloc, &document)?;
     judged_map(alloc, draft)
 }
 
 /// What a document gives as a map, whether or not its parts fit together.
 #[tactic(auto, unfolding(crate::specs::MapText::map_of_document))]
-fn read_draft(alloc: Global, document: &Value) -> Result<Option<MapDraft>, AllocError>
-    ensures { IfOk result (λ draft. draft ≡ map_of_document (view document.now)) }
+fn read_draft(alloc: Global, document: &Value) -> Result<MapDraft, MapFault>
+    ensures { GivesUnless MapFault.OutOfMemory result
+        (ok_or (map_of_document (view document.now)) MapFault.BadMember) }
 {
-    let Some(name) = name_member(document, "name") else {
-        return Ok(None);
-    };
-    let Some(block_items) = list_member(document, "block", 1, BLOCK_LIMIT) else {
-        return Ok(None);
-    };
-    let Some(blocks) = read_all(alloc, block_items, read_words)? else {
-        return Ok(None);
-    };
-    let Some(field_items) = list_member(document, "field", 1, FIELD_LIMIT) else {
-        return Ok(None);
-    };
-    let Some(fields) = read_all(alloc, field_items, read_field)? else {
-        return Ok(None);
-    };
-    let Some(wr) = name_member(document, "wr") else {
-        return Ok(None);
-    };
-    let Some(rd) = name_member(document, "rd") else {
-        return Ok(None);
-    };
-    let Some(coding) = optional_name(document, "coding") else {
-        return Ok(None);
-    };
-    Ok(Some(MapDraft {
+    let name = name_member(document, "name").ok_or(BadMember)?;
+    let block_items = items_member(document, "block").ok_or(BadMember)?;
+    let block_items = of_length(block_items, 1, BLOCK_LIMIT).ok_or(BadMember)?;
+    let blocks = read_all(alloc, block_items, read_words)?.ok_or(BadMember)?;
+    let field_items = items_member(document, "field").ok_or(BadMember)?;
+    let field_items = of_length(field_items, 1, FIELD_LIMIT).ok_or(BadMember)?;
+    let fields = read_all(alloc, field_items, read_field)?.ok_or(BadMember)?;
+    let wr = name_member(document, "wr").ok_or(BadMember)?;
+    let rd = name_member(document, "rd").ok_or(BadMember)?;
+    let coding = optional_name(document, "coding").ok_or(BadMember)?;
+    Ok(MapDraft {
         name,
         blocks,
         fields,
         wr,
         rd,
         coding,
-    }))
+    })
 }
 
 /// The words of a block.
@@ -132,18 +119,4 @@ fn optional_name(value: &Value, name: &str) -> Option<Option<Name>>
         Some(found) => Some(Some(read_name(found)?)),
         None => Some(None),
     }
-}
-
-/// The items of a member that is an array of so many.
-fn list_member<'v>(
-    value: &'v Value,
-    name: &str,
-    least: usize,
-    greatest: usize,
-) -> Option<&'v [Value]>
-    ensures { option_map (λ items. map view items.now) result
-        ≡ option_and_then (list_of_length least greatest)
-        (option_and_then items_in (get name.now (view value.now))) }
-{
-    of_length(items_member(value, name)?, least, greatest)
 }

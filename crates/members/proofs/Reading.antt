@@ -58,6 +58,14 @@ module _ {A E : Type 0} (members : Data → Option A) (judge : A → Result A E)
             let known = document_is (document_of text) x e in
             (ltb-false _ _ under, known.0, known.1)
 
+-- what is given is what was wanted
+pub wanted_from_given : {A E : Type 0} (wanted : Option A) (x : A) (bad memory : E)
+    → GivesUnless memory (Ok x) (ok_or wanted bad) → wanted ≡ Some x
+wanted_from_given None x bad memory (inl e) = cc
+wanted_from_given None x bad memory (inr e) = cc
+wanted_from_given (Some y) x bad memory (inl e) = cc
+wanted_from_given (Some y) x bad memory (inr e) = cc
+
 -- an answer that is as a text is judged, or want of memory
 module _ {A E : Type 0} (memory : E) (judged answer : Result A E)
     (exact : GivesUnless memory answer judged) where

@@ -1,5 +1,5 @@
 // The text of a site.
-ghost use Rattle.std.specs.Prelude.{◌≡◌, ◌≢◌, ◌<◌, IfErr, IfOk, length};
+ghost use Rattle.std.specs.Prelude.{◌≡◌, ◌≢◌, ◌<◌, IfErr, IfOk, length, ok_or};
 ghost use Rattle.toml.specs.View.{view};
 ghost use Rattle.text_core.specs.Prelude.{GivesUnless};
 ghost use Rattle.site_core.specs.Prelude.{SiteValue, IsLowestSiteFault, HasSiteMembers, IsSiteText, customer_in, manager_in, pool_in, seat_of_data, site_of};
@@ -7,7 +7,7 @@ ghost use Rattle.site_core.specs.Prelude.{site_read};
 
 use crate::customer::Seat;
 use crate::draft::{CustomerDraft, PoolDraft, SiteDraft};
-use crate::fault::SiteFault;
+use crate::fault::SiteFault::{self, BadMember};
 use crate::judge::judged_site;
 use crate::site::Site;
 use id_ranges::{LARGEST_POOL, Mac};
@@ -48,25 +48,21 @@ pub fn read_site(alloc: Global, text: &str) -> Result<Site, SiteFault>
         return Err(SiteFault::OverLimit);
     }
     let document = read_document(alloc, text)?;
-    let draft = read_draft(alloc, &document)?.ok_or(SiteFault::BadMember)?;
+    let draft = read_draft(alloc, &document)?;
     judged_site(alloc, draft)
 }
 
 /// What a document gives as a site, whether or not its parts fit together.
 #[tactic(auto, unfolding(crate::specs::SiteText::site_of))]
-fn read_draft(alloc: Global, document: &Value) -> Result<Option<SiteDraft>, AllocError>
-    ensures { IfOk result (λ draft. draft ≡ site_of (view document.now)) }
+fn read_draft(alloc: Global, document: &Value) -> Result<SiteDraft, SiteFault>
+    ensures { GivesUnless SiteFault.OutOfMemory result
+        (ok_or (site_of (view document.now)) SiteFault.BadMember) }
 {
-    let Some(items) = items_member(document, "customer") else {
-        return Ok(None);
-    };
-    let Some(customers) = try_read_all(alloc, items, |value| read_customer(alloc, value))? else {
-        return Ok(None);
-    };
-    let Some(manager) = read_manager(document) else {
-        return Ok(None);
-    };
-    Ok(Some(SiteDraft { customers, manager }))
+    let items = items_member(document, "customer").ok_or(BadMember)?;
+    let customers = try_read_all(alloc, items, |value| read_customer(alloc, value))?;
+    let customers = customers.ok_or(BadMember)?;
+    let manager = read_manager(document).ok_or(BadMember)?;
+    Ok(SiteDraft { customers, manager })
 }
 
 /// The digest of the manager's token, or none where the document names no manager.
