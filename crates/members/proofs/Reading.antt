@@ -1,9 +1,9 @@
 -- What a text is read to be, for values that the members of a document are and that are judged.
 use Rattle.std.proofs.Common.{◌≡◌, ◌≢◌, ◌≤◌, ℕ, Bool, true, false, nat_lt, List, length, Option, Some, None, Result, Ok, Err, IfOk, IfErr, arith, inl, inr}
-use Rattle.std.proofs.Common.{refl, sym, ap, if◌then◌else◌, ok_or, ltb-false}
+use Rattle.std.proofs.Common.{IsErrAnd, refl, sym, ap, if◌then◌else◌, ok_or, ltb-false}
 use Rattle.std.proofs.lemmas.Bool.Decides.{nat_tests}
 use Rattle.toml.specs.Data.{Data}
-use Rattle.text_core.specs.Prelude.{GivesUnless, result_and_then, ◌>>=◌}
+use Rattle.text_core.specs.Prelude.{GivesUnless, result_and_then, result_map, ◌>>=◌}
 use Rattle.members.specs.Prelude.{document_of}
 
 module _ {A E : Type 0} (members : Data → Option A) (judge : A → Result A E)
@@ -65,6 +65,19 @@ wanted_from_given None x bad memory (inl e) = cc
 wanted_from_given None x bad memory (inr e) = cc
 wanted_from_given (Some y) x bad memory (inl e) = cc
 wanted_from_given (Some y) x bad memory (inr e) = cc
+
+ends_at : {A C E : Type 0} (step : Option A) (whole : Option C) (e bad memory : E) → (step ≡ None → whole ≡ None)
+    → GivesUnless memory (Err e) (ok_or step bad) → GivesUnless memory (Err e) (ok_or whole bad)
+ends_at None whole e bad memory none (inl same) = let is : e ≡ bad = cc in inl (rw (none refl) (ap Err is))
+ends_at (Some x) whole e bad memory none (inl same) = cc
+ends_at step whole e bad memory none (inr out) = let is : e ≡ memory = cc in inr (ap Err is)
+
+-- a reader passes the fault of a step on: without the step there is nothing to be given
+pub stopped_at : {A B C E : Type 0} (step : Option A) (whole : Option C) (e bad memory : E) (f : B → C) (r : Result B E)
+    → IsErrAnd r (λ y. y ≡ e) → (step ≡ None → whole ≡ None)
+    → GivesUnless memory (Err e) (ok_or step bad) → GivesUnless memory (result_map f r) (ok_or whole bad)
+stopped_at step whole e bad memory f (Ok x) is none given = absurd is
+stopped_at step whole e bad memory f (Err y) is none given = rw is (ends_at step whole e bad memory none given)
 
 -- an answer that is as a text is judged, or want of memory
 module _ {A E : Type 0} (memory : E) (judged answer : Result A E)

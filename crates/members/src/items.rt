@@ -1,6 +1,6 @@
 // The items of arrays, of whichever format.
 ghost use Rattle.std.specs.Prelude.{◌≡◌, IfOk, Option, map, option_map};
-ghost use Rattle.text_core.specs.Prelude.{all_of, list_of_length, ReadsItems, ReadsOrFails};
+ghost use Rattle.text_core.specs.Prelude.{all_of, list_of_length, ReadsItems};
 
 use std::alloc::{AllocError, Global};
 
@@ -37,19 +37,4 @@ pub fn read_all<V: Viewed, T: Drop, F: Fn(&V) -> Option<T>>(
         ≡ all_of item_in (map V.view values.now)) }
 {
     text_core::read_all(alloc, values, read)
-}
-
-/// What a `read` that takes memory makes of each value, or `None` where it makes nothing of one of them.
-pub fn try_read_all<V: Viewed, T: Drop, F: Fn(&V) -> Result<Option<T>, AllocError>>(
-    alloc: Global,
-    values: &[V],
-    read: F,
-) -> Result<Option<Vec<T>>, AllocError>
-    requires { F.IsAlwaysCallable read }
-    ensures { (item_in : V.Data → Option T)
-        → ReadsOrFails F.Fn read (λ value. item_in (V.view value))
-        → IfOk result (λ found. option_map (λ items. items.items) found
-        ≡ all_of item_in (map V.view values.now)) }
-{
-    text_core::try_read_all(alloc, values, read)
 }

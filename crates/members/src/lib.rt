@@ -9,7 +9,7 @@ pub mod in_json;
 pub mod in_toml;
 mod items;
 
-pub use items::{Viewed, of_length, read_all, try_read_all};
+pub use items::{Viewed, of_length, read_all};
 use thiserror::Error;
 
 /// Why a text has no document.
