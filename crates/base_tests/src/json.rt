@@ -1,6 +1,7 @@
 //! Bodies as JSON, and whole numbers in them.
 
-use json_members::{JsonFault, read_json, text_if_member, whole_member};
+use members::DocumentFault;
+use members::in_json::{read_json, text_if_member, whole_member};
 use std::alloc::Global;
 
 /// The greatest whole number that a request may have.
@@ -70,8 +71,8 @@ fn whole_number(
 ) -> Option<Option<Option<u64>>> {
     match read_json(alloc, body) {
         Ok(value) => Some(Some(whole_member(&value, "n", least, greatest))),
-        Err(JsonFault::NotJson) => Some(None),
-        Err(JsonFault::OutOfMemory) => None,
+        Err(DocumentFault::NotDocument) => Some(None),
+        Err(DocumentFault::OutOfMemory) => None,
     }
 }
 

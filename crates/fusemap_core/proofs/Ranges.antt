@@ -1,12 +1,13 @@
 -- The ranges of the numbers that a document gives.
 use Rattle.std.proofs.Common.{◌≡◌, ◌≤◌, ◌&&◌, ◌∷◌, if◌then◌else◌}
 use Rattle.text_core.proofs.Kit.{ℕ, suc, ℤ, pos, negsuc, List, [], length, Option, Some, None, All, option_map, option_and_then, refl, ap, ◌∙◌, arith, nat_le}
-use Rattle.text_core.proofs.Kit.{codes, and_parts, leb-true, cond_some, option_and_then_some, All-cons}
-use Rattle.toml.specs.Data.{Data, get, as_integer}
-use Rattle.toml_members.specs.Prelude.{integer_within, whole_within, whole_member, optional_whole, flag_member, name_member, items_member}
-use Rattle.text_core.specs.Prelude.{all_of, list_of_length}
+use Rattle.text_core.proofs.Kit.{codes, false, and_parts, leb-true, cond_some, option_and_then_some, All-cons}
+use Rattle.std.specs.Option.{option_map_or}
+use Rattle.toml.specs.Data.{Data, get, as_bool, as_integer}
+use Rattle.members.specs.Prelude.{if_there, integer_within, items_in, name_in, whole_within}
+use Rattle.text_core.specs.Prelude.{◌>>=◌, all_of, list_of_length}
 use Rattle.fusemap_core.specs.declared.field.Field.{Field}
-use Rattle.fusemap_core.specs.Prelude.{Map, IsInRange, largest_integer, optional_name, array_member, words_in, field_in, map_of_document}
+use Rattle.fusemap_core.specs.Prelude.{Map, IsInRange, largest_integer, words_in, field_in, map_of_document}
 
 -- a number in a range
 in_bounds : (least greatest n found : ℕ) → (if nat_le least n && nat_le n greatest then Some n else None) ≡ Some found → (least ≤ found) × (found ≤ greatest)
@@ -22,7 +23,8 @@ within_bounds least greatest (pos m) n e = in_bounds least greatest m n e
 within_bounds least greatest (negsuc m) n e = cc
 
 -- a member that is a whole number lies in its range
-whole_member_bounds : (name : List ℕ) (least greatest : ℕ) (d : Data) (n : ℕ) → whole_member name least greatest d ≡ Some n → (least ≤ n) × (n ≤ greatest)
+whole_member_bounds : (name : List ℕ) (least greatest : ℕ) (d : Data) (n : ℕ) → (get name d >>= whole_within least greatest) ≡ Some n
+    → (least ≤ n) × (n ≤ greatest)
 whole_member_bounds name least greatest d n e =
     option_and_then_some (whole_within least greatest) (get name d) n e
     (λ found there whole.
@@ -59,22 +61,22 @@ length_bounds least greatest ds items e =
     let high = leb-true (length ds) greatest parts.1 in
     (rw (← chosen.1) low, rw (← chosen.1) high)
 
-list_member_bounds : (name : List ℕ) (least greatest : ℕ) (d : Data) (items : List Data) → array_member name least greatest d ≡ Some items
-    → (least ≤ length items) × (length items ≤ greatest)
+list_member_bounds : (name : List ℕ) (least greatest : ℕ) (d : Data) (items : List Data)
+    → (get name d >>= items_in >>= list_of_length least greatest) ≡ Some items → (least ≤ length items) × (length items ≤ greatest)
 list_member_bounds name least greatest d items e =
-    option_and_then_some (list_of_length least greatest) (items_member name d) items e (λ ds there. length_bounds least greatest ds items)
+    option_and_then_some (list_of_length least greatest) (get name d >>= items_in) items e (λ ds there. length_bounds least greatest ds items)
 
 -- a field has at least one bit
 count_of_field : (d : Data) (f : Field) → field_in d ≡ Some f → 1 ≤ f.count
 unfolding field_in
 count_of_field d f e =
-    option_and_then_some _ (name_member (codes "name") d) f e (λ name is_name e1.
-    option_and_then_some _ (whole_member (codes "block") 0 largest_integer d) f e1 (λ block is_block e2.
-    option_and_then_some _ (whole_member (codes "bit") 0 largest_integer d) f e2 (λ bit is_bit e3.
-    option_and_then_some _ (whole_member (codes "count") 1 largest_integer d) f e3 (λ count is_count e4.
-    option_and_then_some _ (optional_whole (codes "write") 0 largest_integer d) f e4 (λ write is_write e5.
-    option_and_then_some _ (optional_whole (codes "read") 0 largest_integer d) f e5 (λ read is_read e6.
-    option_and_then_some _ (flag_member (codes "key") d) f e6 (λ key is_key e7.
+    option_and_then_some _ (get (codes "name") d >>= name_in) f e (λ name is_name e1.
+    option_and_then_some _ (get (codes "block") d >>= whole_within 0 largest_integer) f e1 (λ block is_block e2.
+    option_and_then_some _ (get (codes "bit") d >>= whole_within 0 largest_integer) f e2 (λ bit is_bit e3.
+    option_and_then_some _ (get (codes "count") d >>= whole_within 1 largest_integer) f e3 (λ count is_count e4.
+    option_and_then_some _ (if_there (whole_within 0 largest_integer) (get (codes "write") d)) f e4 (λ write is_write e5.
+    option_and_then_some _ (if_there (whole_within 0 largest_integer) (get (codes "read") d)) f e5 (λ read is_read e6.
+    option_and_then_some _ (option_map_or as_bool (get (codes "key") d) (Some false)) f e6 (λ key is_key e7.
     let same : ◌≡◌ {A = Field} (record { name = name; block = block; bit = bit; count = count; write = write; read = read; key = key }) f = cc in
     rw (← same) (whole_member_bounds (codes "count") 1 largest_integer d count is_count).0)))))))
 
@@ -82,14 +84,14 @@ count_of_field d f e =
 pub IsInRange-from_map_of : (d : Data) (m : Map) → map_of_document d ≡ Some m → IsInRange m
 unfolding map_of_document
 IsInRange-from_map_of d m e =
-    option_and_then_some _ (name_member (codes "name") d) m e (λ name is_name e1.
-    option_and_then_some _ (array_member (codes "block") 1 4 d) m e1 (λ block_items is_blocks e2.
+    option_and_then_some _ (get (codes "name") d >>= name_in) m e (λ name is_name e1.
+    option_and_then_some _ (get (codes "block") d >>= items_in >>= list_of_length 1 4) m e1 (λ block_items is_blocks e2.
     option_and_then_some _ (all_of words_in block_items) m e2 (λ blocks are_blocks e3.
-    option_and_then_some _ (array_member (codes "field") 1 128 d) m e3 (λ field_items is_fields e4.
+    option_and_then_some _ (get (codes "field") d >>= items_in >>= list_of_length 1 128) m e3 (λ field_items is_fields e4.
     option_and_then_some _ (all_of field_in field_items) m e4 (λ fields are_fields e5.
-    option_and_then_some _ (name_member (codes "wr") d) m e5 (λ wr is_wr e6.
-    option_and_then_some _ (name_member (codes "rd") d) m e6 (λ rd is_rd e7.
-    option_and_then_some _ (optional_name (codes "coding") d) m e7 (λ coding is_coding e8.
+    option_and_then_some _ (get (codes "wr") d >>= name_in) m e5 (λ wr is_wr e6.
+    option_and_then_some _ (get (codes "rd") d >>= name_in) m e6 (λ rd is_rd e7.
+    option_and_then_some _ (if_there name_in (get (codes "coding") d)) m e7 (λ coding is_coding e8.
     let same : ◌≡◌ {A = Map} (record { name = name; blocks = blocks; fields = fields; wr = wr; rd = rd; coding = coding }) m = cc in
     let block_count = length-all_of words_in block_items blocks are_blocks in
     let field_count = length-all_of field_in field_items fields are_fields in

@@ -2,7 +2,7 @@
 use Rattle.std.proofs.Common.{◌≡◌, ◌≢◌, ◌∙◌, ℕ, List, Some, Result, Ok, IfOk, IfErr, sym}
 use Rattle.toml.specs.Data.{Data}
 use Rattle.text_core.specs.Prelude.{GivesUnless}
-use Rattle.toml_members.proofs.Reading as reading
+use Rattle.members.proofs.Reading as reading
 use Rattle.fusemap_core.specs.declared.fault.MapFault.{MapFault}
 use Rattle.fusemap_core.specs.declared.fault.MapFault.TheVariants.{NotToml, BadMember, OutOfMemory}
 use Rattle.fusemap_core.specs.Prelude.{Map, IsMap, map_or_fault, IsLowestMapFault, HasMapMembers, IsMapText, map_of_document, map_read}

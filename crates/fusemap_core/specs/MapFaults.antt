@@ -3,8 +3,8 @@ use Rattle.std.specs.Prelude.{◌≡◌, ◌≢◌, ℕ, ◌+◌, ◌*◌, ◌<�
 use Rattle.std.specs.Prelude.{length, Option, Some, None, is_some, is_none, Result, Ok, Err, bytes_eq, if◌then◌else◌}
 use Rattle.std.specs.List.{list_all}
 use Rattle.std.specs.Option.{option_map_or}
-use Rattle.toml_members.specs.declared.DocumentFault.{DocumentFault}
-use Rattle.toml_members.specs.declared.DocumentFault.TheVariants as document
+use Rattle.members.specs.declared.DocumentFault.{DocumentFault}
+use Rattle.members.specs.declared.DocumentFault.TheVariants as document
 use Rattle.fusemap_core.specs.declared.fault.MapFault.{MapFault}
 use Rattle.fusemap_core.specs.declared.fault.MapFault.TheVariants.{NotToml, BadMember, NameTwice, OutOfBlock, FieldsOverlap, BadLockField, BadLockIndex}
 use Rattle.fusemap_core.specs.declared.fault.MapFault.TheVariants.{BadKeyField, OutOfMemory}
@@ -25,7 +25,7 @@ map_fault_number OutOfMemory = 9
 
 -- the fault of a text that has no document
 abbrev pub map_fault_of_document : DocumentFault → MapFault
-map_fault_of_document document.NotToml = NotToml
+map_fault_of_document document.NotDocument = NotToml
 map_fault_of_document document.OutOfMemory = OutOfMemory
 
 -- each element goes with each one after it

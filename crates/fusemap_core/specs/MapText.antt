@@ -1,9 +1,10 @@
 -- The fuse map that a text is.
-use Rattle.std.specs.Prelude.{◌≡◌, ℕ, ◌≤◌, nat_lt, List, length, codes, Option, Some, option_and_then, Result, Err, if◌then◌else◌, ok_or}
+use Rattle.std.specs.Prelude.{◌≡◌, ℕ, ◌≤◌, nat_lt, List, length, codes, Option, Some, Result, Err, ok_or, false, if◌then◌else◌}
+use Rattle.std.specs.Option.{option_map_or}
 use Rattle.std.specs.Result.{result_ok}
-use Rattle.toml.specs.Data.{Data, get}
+use Rattle.toml.specs.Data.{Data, as_bool, get}
 use Rattle.text_core.specs.Prelude.{result_and_then, ◌>>=◌, all_of, list_of_length}
-use Rattle.toml_members.specs.Prelude.{document_of, whole_member, optional_whole, flag_member, name_in, name_member, items_member, if_there}
+use Rattle.members.specs.Prelude.{document_of, if_there, items_in, name_in, whole_within}
 use Rattle.fusemap_core.specs.declared.fault.MapFault.{MapFault}
 use Rattle.fusemap_core.specs.declared.fault.MapFault.TheVariants.{NotToml, BadMember}
 use Rattle.fusemap_core.specs.declared.field.Field.{Field}
@@ -14,41 +15,33 @@ use Rattle.fusemap_core.specs.MapFaults.{map_or_fault}
 abbrev pub largest_integer : ℕ
 largest_integer = 9223372036854775807
 
--- a member that is a name, or nothing where there is no such member
-abbrev pub optional_name : List ℕ → Data → Option (Option (List ℕ))
-optional_name name d = if_there name_in (get name d)
-
--- a member that is an array of so many items
-abbrev pub array_member : List ℕ → ℕ → ℕ → Data → Option (List Data)
-array_member name least greatest d = option_and_then (list_of_length least greatest) (items_member name d)
-
 -- the words of a block
 abbrev pub words_in : Data → Option ℕ
-words_in d = whole_member (codes "words") 1 8 d
+words_in d = get (codes "words") d >>= whole_within 1 8
 
 -- a field
 unfoldable pub field_in : Data → Option Field
 field_in d = do
-  name ← name_member (codes "name") d
-  block ← whole_member (codes "block") 0 largest_integer d
-  bit ← whole_member (codes "bit") 0 largest_integer d
-  count ← whole_member (codes "count") 1 largest_integer d
-  write ← optional_whole (codes "write") 0 largest_integer d
-  read ← optional_whole (codes "read") 0 largest_integer d
-  key ← flag_member (codes "key") d
+  name ← get (codes "name") d >>= name_in
+  block ← get (codes "block") d >>= whole_within 0 largest_integer
+  bit ← get (codes "bit") d >>= whole_within 0 largest_integer
+  count ← get (codes "count") d >>= whole_within 1 largest_integer
+  write ← if_there (whole_within 0 largest_integer) (get (codes "write") d)
+  read ← if_there (whole_within 0 largest_integer) (get (codes "read") d)
+  key ← option_map_or as_bool (get (codes "key") d) (Some false)
   Some (record { name = name; block = block; bit = bit; count = count; write = write; read = read; key = key })
 
 -- the map of a document whose named members are of their types and ranges
 unfoldable pub map_of_document : Data → Option Map
 map_of_document d = do
-  name ← name_member (codes "name") d
-  block_items ← array_member (codes "block") 1 4 d
+  name ← get (codes "name") d >>= name_in
+  block_items ← get (codes "block") d >>= items_in >>= list_of_length 1 4
   blocks ← all_of words_in block_items
-  field_items ← array_member (codes "field") 1 128 d
+  field_items ← get (codes "field") d >>= items_in >>= list_of_length 1 128
   fields ← all_of field_in field_items
-  wr ← name_member (codes "wr") d
-  rd ← name_member (codes "rd") d
-  coding ← optional_name (codes "coding") d
+  wr ← get (codes "wr") d >>= name_in
+  rd ← get (codes "rd") d >>= name_in
+  coding ← if_there name_in (get (codes "coding") d)
   Some (record { name = name; blocks = blocks; fields = fields; wr = wr; rd = rd; coding = coding })
 
 -- the text is a TOML document of at most 32,768 bytes whose named members are the map's

@@ -3,9 +3,9 @@ ghost use Rattle.std.specs.Prelude.{◌≡◌};
 ghost use Rattle.fusemap_core.specs.Prelude.{map_fault_number, map_fault_of_document};
 ghost use Rattle.fusemap_core.specs.declared.fault.MapFault.TheVariants.{OutOfMemory};
 
+use members::DocumentFault;
 use std::alloc::{AllocError, AllocFailed};
 use thiserror::Error;
-use toml_members::DocumentFault;
 
 /// Why a text is no fuse map, in the order of the faults' numbers: where several hold, the first is
 /// told. A text of more than 32,768 bytes isn't read, and has the fault `BadMember` alone.
@@ -81,7 +81,7 @@ impl From<DocumentFault> for MapFault {
 
     fn from(found: DocumentFault) -> MapFault {
         match found {
-            DocumentFault::NotToml => MapFault::NotToml,
+            DocumentFault::NotDocument => MapFault::NotToml,
             DocumentFault::OutOfMemory => MapFault::OutOfMemory,
         }
     }

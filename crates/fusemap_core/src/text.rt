@@ -1,21 +1,22 @@
 // The text of a fuse map.
-ghost use Rattle.std.specs.Prelude.{◌≡◌, ◌≢◌, ◌<◌, IfErr, IfOk, length, map, option_map};
+ghost use Rattle.std.specs.Prelude.{◌≡◌, ◌≢◌, ◌<◌, IfErr, IfOk, length, ok_or};
+ghost use Rattle.members.specs.Prelude.{if_there, name_in};
+ghost use Rattle.text_core.specs.Prelude.{GivesUnless};
+ghost use Rattle.toml.specs.Data.{get};
 ghost use Rattle.toml.specs.View.{view};
-ghost use Rattle.text_core.specs.Prelude.{GivesUnless, list_of_length};
 ghost use Rattle.fusemap_core.specs.Prelude.{Map, IsLowestMapFault, HasMapMembers, IsMapText, field_in, map_of_document, map_read, words_in};
-ghost use Rattle.fusemap_core.specs.MapText as map_text;
 
 use crate::draft::{FieldDraft, MapDraft};
-use crate::fault::MapFault;
+use crate::fault::MapFault::{self, BadMember};
 use crate::judge::judged_map;
 use crate::map::{BLOCK_LIMIT, FIELD_LIMIT, FuseMap, WORD_LIMIT};
-use std::alloc::{AllocError, Global};
+use members::in_toml::{
+    flag_member, items_member, name_member, optional_whole, read_document, read_name, whole_member,
+};
+use members::{of_length, read_all};
+use std::alloc::Global;
 use text_core::Name;
 use toml::Value;
-use toml_members::{
-    flag_member, items_member, name_member, optional_whole, read_all, read_document, read_name,
-    whole_member,
-};
 
 /// The most bytes of a map's text.
 pub const TEXT_LIMIT: usize = 32768;
@@ -46,50 +47,37 @@ pub fn read_map(alloc: Global, text: &str) -> Result<FuseMap, MapFault>
     ensures too_long { 32768 < length text.now → result ≡ Err MapFault.BadMember }
 {
     if TEXT_LIMIT < text.len() {
-        return Err(MapFault::BadMember);
+        return Err(BadMember);
     }
     let document = read_document(alloc, text)?;
-    let draft = read_draft(alloc, &document)?.ok_or(MapFault::BadMember)?;
+    let draft = read_draft(alloc, &document)?;
     judged_map(alloc, draft)
 }
 
 /// What a document gives as a map, whether or not its parts fit together.
 #[tactic(auto, unfolding(crate::specs::MapText::map_of_document))]
-fn read_draft(alloc: Global, document: &Value) -> Result<Option<MapDraft>, AllocError>
-    ensures { IfOk result (λ draft. draft ≡ map_of_document (view document.now)) }
+fn read_draft(alloc: Global, document: &Value) -> Result<MapDraft, MapFault>
+    ensures { GivesUnless MapFault.OutOfMemory result
+        (ok_or (map_of_document (view document.now)) MapFault.BadMember) }
 {
-    let Some(name) = name_member(document, "name") else {
-        return Ok(None);
-    };
-    let Some(block_items) = list_member(document, "block", 1, BLOCK_LIMIT) else {
-        return Ok(None);
-    };
-    let Some(blocks) = read_all(alloc, block_items, read_words)? else {
-        return Ok(None);
-    };
-    let Some(field_items) = list_member(document, "field", 1, FIELD_LIMIT) else {
-        return Ok(None);
-    };
-    let Some(fields) = read_all(alloc, field_items, read_field)? else {
-        return Ok(None);
-    };
-    let Some(wr) = name_member(document, "wr") else {
-        return Ok(None);
-    };
-    let Some(rd) = name_member(document, "rd") else {
-        return Ok(None);
-    };
-    let Some(coding) = optional_name(document, "coding") else {
-        return Ok(None);
-    };
-    Ok(Some(MapDraft {
+    let name = name_member(document, "name").ok_or(BadMember)?;
+    let block_items = items_member(document, "block").ok_or(BadMember)?;
+    let block_items = of_length(block_items, 1, BLOCK_LIMIT).ok_or(BadMember)?;
+    let blocks = read_all(alloc, block_items, read_words)?.ok_or(BadMember)?;
+    let field_items = items_member(document, "field").ok_or(BadMember)?;
+    let field_items = of_length(field_items, 1, FIELD_LIMIT).ok_or(BadMember)?;
+    let fields = read_all(alloc, field_items, read_field)?.ok_or(BadMember)?;
+    let wr = name_member(document, "wr").ok_or(BadMember)?;
+    let rd = name_member(document, "rd").ok_or(BadMember)?;
+    let coding = optional_name(document, "coding").ok_or(BadMember)?;
+    Ok(MapDraft {
         name,
         blocks,
         fields,
         wr,
         rd,
         coding,
-    }))
+    })
 }
 
 /// The words of a block.
@@ -125,35 +113,10 @@ fn read_field(value: &Value) -> Option<FieldDraft>
 /// A member that is a name, or nothing where there is no such member. `None` where the member is
 /// something else.
 fn optional_name(value: &Value, name: &str) -> Option<Option<Name>>
-    ensures { result ≡ map_text.optional_name name.now (view value.now) }
+    ensures { result ≡ if_there name_in (get name.now (view value.now)) }
 {
     match value.get(name) {
         Some(found) => Some(Some(read_name(found)?)),
         None => Some(None),
-    }
-}
-
-/// The items of a member that is an array of so many.
-fn list_member<'v>(
-    value: &'v Value,
-    name: &str,
-    least: usize,
-    greatest: usize,
-) -> Option<&'v [Value]>
-    ensures { option_map (λ items. map view items.now) result
-        ≡ map_text.array_member name.now least greatest (view value.now) }
-{
-    of_length(items_member(value, name)?, least, greatest)
-}
-
-/// The items, if there are so many.
-fn of_length(items: &[Value], least: usize, greatest: usize) -> Option<&[Value]>
-    ensures { option_map (λ found. map view found.now) result
-        ≡ list_of_length least greatest (map view items.now) }
-{
-    if least <= items.len() && items.len() <= greatest {
-        Some(items)
-    } else {
-        None
     }
 }

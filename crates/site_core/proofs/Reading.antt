@@ -2,7 +2,7 @@
 use Rattle.std.proofs.Common.{◌≡◌, ◌≢◌, ◌∙◌, ℕ, List, Some, Result, Ok, IfOk, IfErr, sym}
 use Rattle.toml.specs.Data.{Data}
 use Rattle.text_core.specs.Prelude.{GivesUnless}
-use Rattle.toml_members.proofs.Reading as reading
+use Rattle.members.proofs.Reading as reading
 use Rattle.site_core.specs.Prelude.{SiteValue, IsSite, site_or_fault, IsLowestSiteFault, HasSiteMembers, IsSiteText, site_of, site_read}
 use Rattle.site_core.specs.declared.fault.SiteFault.{SiteFault}
 use Rattle.site_core.specs.declared.fault.SiteFault.TheVariants.{NotToml, BadMember, OverLimit, OutOfMemory}

@@ -2,8 +2,8 @@
 use Rattle.std.specs.Prelude.{◌≡◌, ◌<◌, ℕ, AllPairs, Bool, false, not, ◌||◌, List, [], ◌∷◌, Result, Ok, Err, bytes_eq, if◌then◌else◌, flat_map}
 use Rattle.std.specs.List.{IsDistinct, AllByRecursion, list_any}
 use Rattle.id_ranges.specs.Prelude.{IsApart, Pool, IsPool, is_pool}
-use Rattle.toml_members.specs.declared.DocumentFault.{DocumentFault}
-use Rattle.toml_members.specs.declared.DocumentFault.TheVariants as document
+use Rattle.members.specs.declared.DocumentFault.{DocumentFault}
+use Rattle.members.specs.declared.DocumentFault.TheVariants as document
 use Rattle.site_core.specs.Section.{Section, SiteValue, names_of, issuers_of, pools_of, seat_names_of, tokens_of}
 use Rattle.site_core.specs.Site.{pools_meet, is_over_limit}
 use Rattle.site_core.specs.declared.fault.SiteFault.{SiteFault}
@@ -21,7 +21,7 @@ site_fault_number OutOfMemory = 7
 
 -- the fault of a text that has no document
 abbrev pub site_fault_of_document : DocumentFault → SiteFault
-site_fault_of_document document.NotToml = NotToml
+site_fault_of_document document.NotDocument = NotToml
 site_fault_of_document document.OutOfMemory = OutOfMemory
 
 -- an element goes with one after it

@@ -3,9 +3,9 @@ ghost use Rattle.std.specs.Prelude.{◌≡◌};
 ghost use Rattle.site_core.specs.Prelude.{site_fault_number, site_fault_of_document};
 ghost use Rattle.site_core.specs.declared.fault.SiteFault.TheVariants.{OutOfMemory};
 
+use members::DocumentFault;
 use std::alloc::{AllocError, AllocFailed};
 use thiserror::Error;
-use toml_members::DocumentFault;
 
 /// Why a text is no site, in the order of the faults' numbers: where several hold, the first is
 /// told. A text of more than 1,048,576 bytes isn't read, and has the fault `OverLimit` alone.
@@ -73,7 +73,7 @@ impl From<DocumentFault> for SiteFault {
 
     fn from(found: DocumentFault) -> SiteFault {
         match found {
-            DocumentFault::NotToml => SiteFault::NotToml,
+            DocumentFault::NotDocument => SiteFault::NotToml,
             DocumentFault::OutOfMemory => SiteFault::OutOfMemory,
         }
     }

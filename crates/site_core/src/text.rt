@@ -1,24 +1,24 @@
 // The text of a site.
-ghost use Rattle.std.specs.Prelude.{◌≡◌, ◌≢◌, ◌<◌, IfErr, IfOk, length};
+ghost use Rattle.std.specs.Prelude.{◌≡◌, ◌≢◌, ◌<◌, IfErr, IfOk, length, map, ok_or};
 ghost use Rattle.toml.specs.View.{view};
-ghost use Rattle.text_core.specs.Prelude.{GivesUnless};
+ghost use Rattle.text_core.specs.Prelude.{all_of, GivesUnless, result_map};
 ghost use Rattle.site_core.specs.Prelude.{SiteValue, IsLowestSiteFault, HasSiteMembers, IsSiteText, customer_in, manager_in, pool_in, seat_of_data, site_of};
 ghost use Rattle.site_core.specs.Prelude.{site_read};
-ghost use Rattle.site_core.specs.SiteText as site_text;
 
 use crate::customer::Seat;
 use crate::draft::{CustomerDraft, PoolDraft, SiteDraft};
-use crate::fault::SiteFault;
+use crate::fault::SiteFault::{self, BadMember};
 use crate::judge::judged_site;
 use crate::site::Site;
 use id_ranges::{LARGEST_POOL, Mac};
-use std::alloc::{AllocError, Global};
+use members::in_toml::{
+    digest_member, items_member, name_member, optional_items, read_document, read_name,
+    text_member, whole_member,
+};
+use members::read_all;
+use std::alloc::Global;
 use text_core::Digest;
 use toml::Value;
-use toml_members::{
-    digest_member, items_member, name_member, optional_items, read_all, read_document, read_name,
-    text_member, try_read_all, whole_member,
-};
 
 /// The most bytes of a site's text: 2^20.
 pub const TEXT_LIMIT: usize = 1048576;
@@ -48,25 +48,20 @@ pub fn read_site(alloc: Global, text: &str) -> Result<Site, SiteFault>
         return Err(SiteFault::OverLimit);
     }
     let document = read_document(alloc, text)?;
-    let draft = read_draft(alloc, &document)?.ok_or(SiteFault::BadMember)?;
+    let draft = read_draft(alloc, &document)?;
     judged_site(alloc, draft)
 }
 
 /// What a document gives as a site, whether or not its parts fit together.
 #[tactic(auto, unfolding(crate::specs::SiteText::site_of))]
-fn read_draft(alloc: Global, document: &Value) -> Result<Option<SiteDraft>, AllocError>
-    ensures { IfOk result (λ draft. draft ≡ site_of (view document.now)) }
+fn read_draft(alloc: Global, document: &Value) -> Result<SiteDraft, SiteFault>
+    ensures { GivesUnless SiteFault.OutOfMemory result
+        (ok_or (site_of (view document.now)) SiteFault.BadMember) }
 {
-    let Some(items) = items_member(document, "customer") else {
-        return Ok(None);
-    };
-    let Some(customers) = try_read_all(alloc, items, |value| read_customer(alloc, value))? else {
-        return Ok(None);
-    };
-    let Some(manager) = read_manager(document) else {
-        return Ok(None);
-    };
-    Ok(Some(SiteDraft { customers, manager }))
+    let items = items_member(document, "customer").ok_or(BadMember)?;
+    let customers = read_customers(alloc, items)?;
+    let manager = read_manager(document).ok_or(BadMember)?;
+    Ok(SiteDraft { customers, manager })
 }
 
 /// The digest of the manager's token, or none where the document names no manager.
@@ -79,52 +74,46 @@ fn read_manager(document: &Value) -> Option<Option<Digest>>
     }
 }
 
-#[tactic(auto, unfolding(crate::specs::SiteText::customer_in))]
-fn read_customer(alloc: Global, value: &Value) -> Result<Option<CustomerDraft>, AllocError>
-    ensures { IfOk result (λ customer. customer ≡ customer_in (view value.now)) }
+/// The customers, if each value is one.
+fn read_customers(alloc: Global, values: &[Value]) -> Result<Vec<CustomerDraft>, SiteFault>
+    ensures { GivesUnless SiteFault.OutOfMemory (result_map (λ all. all.items) result)
+        (ok_or (all_of customer_in (map view values.now)) SiteFault.BadMember) }
 {
-    let Some(name) = name_member(value, "name") else {
-        return Ok(None);
-    };
-    let Some(issuer_items) = items_member(value, "issuer") else {
-        return Ok(None);
-    };
-    let Some(issuers) = read_all(alloc, issuer_items, read_name)? else {
-        return Ok(None);
-    };
-    let Some(pool_items) = optional_items(value, "pool") else {
-        return Ok(None);
-    };
-    let Some(pools) = read_all(alloc, pool_items, read_pool)? else {
-        return Ok(None);
-    };
-    let Some(seat_items) = optional_items(value, "seat") else {
-        return Ok(None);
-    };
-    let Some(seats) = read_all(alloc, seat_items, read_seat)? else {
-        return Ok(None);
-    };
-    Ok(Some(CustomerDraft {
+    let mut customers = Vec::new(alloc);
+    for value in values {
+        let customer = read_customer(alloc, value)?;
+        customers.push(customer)?;
+    }
+    Ok(customers)
+}
+
+#[tactic(auto, unfolding(crate::specs::SiteText::customer_in))]
+fn read_customer(alloc: Global, value: &Value) -> Result<CustomerDraft, SiteFault>
+    ensures { GivesUnless SiteFault.OutOfMemory result
+        (ok_or (customer_in (view value.now)) SiteFault.BadMember) }
+{
+    let name = name_member(value, "name").ok_or(BadMember)?;
+    let issuer_items = items_member(value, "issuer").ok_or(BadMember)?;
+    let issuers = read_all(alloc, issuer_items, read_name)?.ok_or(BadMember)?;
+    let pool_items = optional_items(value, "pool").ok_or(BadMember)?;
+    let pools = read_all(alloc, pool_items, read_pool)?.ok_or(BadMember)?;
+    let seat_items = optional_items(value, "seat").ok_or(BadMember)?;
+    let seats = read_all(alloc, seat_items, read_seat)?.ok_or(BadMember)?;
+    Ok(CustomerDraft {
         name,
         issuers,
         pools,
         seats,
-    }))
+    })
 }
 
 #[tactic(auto, unfolding(crate::specs::SiteText::pool_in))]
 fn read_pool(value: &Value) -> Option<PoolDraft>
     ensures { result ≡ pool_in (view value.now) }
 {
-    let first = mac_member(value, "first")?;
+    let first = Mac::parse(text_member(value, "first")?)?;
     let count = whole_member(value, "count", 1, LARGEST_POOL)?;
     Some(PoolDraft { first, count })
-}
-
-fn mac_member(value: &Value, name: &str) -> Option<Mac>
-    ensures { result ≡ site_text.mac_member name.now (view value.now) }
-{
-    Mac::parse(text_member(value, name)?)
 }
 
 #[tactic(auto, unfolding(crate::specs::SiteText::seat_of_data))]

@@ -3,13 +3,13 @@ use Rattle.std.proofs.Common.{◌≡◌, ◌≤◌, ◌*◌, ◌/◌, ◌%◌, �
 use Rattle.text_core.proofs.Kit.{ℕ, arith, true, false, cond, List, [], Option, Some, None, refl, length, Result, Ok, Err, nat_le, codes, option_and_then}
 use Rattle.text_core.proofs.Kit.{option_map, IfSome, AllByRecursion, ok_or, result_ok, and_parts, eqb-true, leb-true}
 use Rattle.serde_json.specs.Data.{Data}
-use Rattle.serde_json.specs.Find.{as_number, as_u64, get}
+use Rattle.serde_json.specs.Find.{as_number, as_str, as_u64, get}
 use Rattle.hex.specs.Hex.{decode_pairs}
 use Rattle.hex.specs.declared.error.FromHexError.TheVariants as FromHexError
 use Rattle.hex.proofs.HexLemmas.{decode_pairs-ok}
-use Rattle.text_core.specs.Prelude.{result_and_then, result_map, digest_of_text, ◌>>=◌, all_of}
+use Rattle.text_core.specs.Prelude.{result_and_then, result_map, chip_of_text, digest_of_text, name_of_text, ◌>>=◌, all_of}
 use Rattle.text_core.proofs.Results.{ok_is}
-use Rattle.json_members.specs.Prelude.{chip_member, digest_member, json_of, name_member, text_if_member, text_member, whole_member, number_within}
+use Rattle.members.specs.Prelude.{json_of, number_within, text_or_null, whole_member}
 use Rattle.http_frames.specs.Prelude.{path_of, query_of, Request as HttpRequest}
 use Rattle.http_replies.specs.Prelude.{is_unavailable}
 use Rattle.fuse_plan.specs.Prelude.{number_of_text}
@@ -55,14 +55,14 @@ member_bounds name least greatest n d e = within_bounds least greatest n (option
 order_within : (d : Data) → IfSome (new_order_of d) IsNewOrder
 unfolding new_order_of
 order_within d =
-    each_gives IsNewOrder (name_member (codes "name") d) _ (λ name _.
-    each_gives IsNewOrder (name_member (codes "issuer") d) _ (λ issuer _.
-    each_gives IsNewOrder (text_member (codes "prefix") d) _ (λ prefix _.
+    each_gives IsNewOrder (get (codes "name") d >>= as_str >>= name_of_text) _ (λ name _.
+    each_gives IsNewOrder (get (codes "issuer") d >>= as_str >>= name_of_text) _ (λ issuer _.
+    each_gives IsNewOrder (get (codes "prefix") d >>= as_str) _ (λ prefix _.
     each_gives IsNewOrder (whole_member (codes "width") 1 9 d) _ (λ width width_is.
     each_gives IsNewOrder (whole_member (codes "first") 0 largest_whole d) _ (λ first first_is.
     each_gives IsNewOrder (whole_member (codes "quantity") 1 largest_whole d) _ (λ quantity quantity_is.
     each_gives IsNewOrder (whole_member (codes "macs") 0 4 d) _ (λ macs macs_is.
-    each_gives IsNewOrder (text_if_member (codes "not_before") d) _ (λ not_before _. record {
+    each_gives IsNewOrder (text_or_null (get (codes "not_before") d)) _ (λ not_before _. record {
       least_width = (member_bounds (codes "width") 1 9 width d width_is).0;
       largest_width = (member_bounds (codes "width") 1 9 width d width_is).1;
       largest_first = (member_bounds (codes "first") 0 largest_whole first d first_is).1;
@@ -115,8 +115,8 @@ no_digest f each (Some x) = each x
 -- what a wish asks for is within its ranges
 want_within : (kind : Kind) (d : Data) → IfSome (want_of kind d) HasDigest
 want_within Bit d = no_digest want.Bit (λ _. tt) (whole_member (codes "index") 0 largest_whole d)
-want_within Value d = no_digest want.Value (λ _. tt) (option_and_then number_of_text (text_member (codes "value") d))
-want_within Key d = key_within (digest_member (codes "key_sha256") d) (digest_found (text_member (codes "key_sha256") d))
+want_within Value d = no_digest want.Value (λ _. tt) (get (codes "value") d >>= as_str >>= number_of_text)
+want_within Key d = key_within (get (codes "key_sha256") d >>= as_str >>= digest_of_text) (digest_found (get (codes "key_sha256") d >>= as_str))
 want_within WriteLock d = tt
 want_within ReadLock d = tt
 
@@ -126,7 +126,9 @@ IsWishWithin w = HasDigest w.want
 
 -- a wish that was read is one
 wish_within : (d : Data) → IfSome (wish_in d) IsWishWithin
-wish_within d = each_gives IsWishWithin (kind_of_wish d) _ (λ kind _. each_gives IsWishWithin (name_member (codes "field") d) _ (λ field _. each_gives IsWishWithin (want_of kind d) _ (λ w is. let all = want_within kind d in rw is at all)))
+wish_within d = each_gives IsWishWithin (kind_of_wish d) _ (λ kind _.
+    each_gives IsWishWithin (get (codes "field") d >>= as_str >>= name_of_text) _ (λ field _.
+    each_gives IsWishWithin (want_of kind d) _ (λ w is. let all = want_within kind d in rw is at all)))
 
 -- the wishes of a list that was read are such
 all_within : (ds : List Data) → IfSome (all_of wish_in ds) (AllByRecursion IsWishWithin)
@@ -144,7 +146,8 @@ all_within (d
 -- a request that takes a device a step on is within its ranges where its action is
 act_within : (path : List ℕ) (members : Data) (action : Action) (d : Data) → IsAction action → IfSome (act_of path members action d) IsAsked
 unfolding act_of
-act_within path members action d is = each_gives IsAsked (number_member d) _ (λ number _. each_gives IsAsked (chip_member (codes "chip") d) _ (λ chip _. is))
+act_within path members action d is = each_gives IsAsked (number_member d) _ (λ number _.
+    each_gives IsAsked (get (codes "chip") d >>= as_str >>= chip_of_text) _ (λ chip _. is))
 
 -- the request for a plan is within its ranges
 plan_device_within : (d : Data) → IfSome (plan_device_of d) IsAsked
@@ -157,7 +160,7 @@ plan_device_within d = each_gives IsAsked (wishes_of d) _ (λ wishes is.
 request_within : (posted : Posted) (d : Data) → IfSome (request_of posted d) IsAsked
 unfolding import_map_of register_device_of read_back_of identify_of import_of
 request_within posted.Order d = make_order_within d
-request_within posted.Map d = each_gives IsAsked (number_member d) _ (λ number _. each_gives IsAsked (text_member (codes "text") d) _ (λ text _. tt))
+request_within posted.Map d = each_gives IsAsked (number_member d) _ (λ number _. each_gives IsAsked (get (codes "text") d >>= as_str) _ (λ text _. tt))
 request_within posted.Device d = each_gives IsAsked (number_member d) _ (λ number _. each_gives IsAsked (new_device_of d) _ (λ device _. tt))
 request_within posted.Plan d = plan_device_within d
 request_within posted.ReadBack d = each_gives IsAsked (blocks_member (codes "blocks") d) _ (λ blocks _. act_within (codes "/v1/readback") (with_block_digests act_members d blocks) (ReadBack blocks) d tt)

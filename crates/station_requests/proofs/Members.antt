@@ -4,7 +4,7 @@ use Rattle.text_core.proofs.Kit.{ℕ, List, [], false, Option, Some, None, refl,
 use Rattle.serde_json.specs.Data.{Data, null, boolean, number, string, array, object, Num, unsigned, negative, float, Members, no_members, put}
 use Rattle.serde_json.specs.Find.{get, as_str, as_number, as_u64}
 use Rattle.serde_json.specs.Written.{has_float, items_have_float, members_have_float}
-use Rattle.json_members.specs.Prelude.{number_within, whole_member, text_member, text_if_member, text_or_null, name_member, digest_member, chip_member}
+use Rattle.members.specs.Prelude.{number_within, text_or_null, whole_member}
 use Rattle.text_core.specs.Prelude.{chip_of_text, digest_of_text, name_of_text, ◌>>=◌}
 use Rattle.station_requests.proofs.Types.{NewDevice, NewOrder}
 use Rattle.office_commands.specs.Prelude.{items_of}
@@ -35,14 +35,17 @@ text_found : (found : Option Data) (x : List ℕ) → option_and_then as_str fou
 text_found None x e = tt
 text_found (Some v) x e = text_lacks v x e
 
--- what is read of a text is read of one that is there
-read_found : (read : List ℕ → Option (List ℕ)) (found : Option (List ℕ)) (x : List ℕ)
-    → option_and_then read found ≡ Some x → (text : List ℕ) × (found ≡ Some text)
-read_found read None x e = cc
-read_found read (Some text) x e = (text, refl)
+pub bound : {A B : Type 0} (o : Option A) (f : A → Option B) (y : B) → (o >>= f) ≡ Some y → (x : A) × (o ≡ Some x) × (f x ≡ Some y)
+bound None f y e = cc
+bound (Some x) f y e = (x, refl, e)
 
-pub text_member_lacks : (name : List ℕ) (d : Data) (x : List ℕ) → text_member name d ≡ Some x → LacksFloat d name
+pub text_member_lacks : (name : List ℕ) (d : Data) (x : List ℕ) → (get name d >>= as_str) ≡ Some x → LacksFloat d name
 text_member_lacks name d x e = text_found (get name d) x e
+
+-- nor is a text of which something is read
+pub read_member_lacks : {A : Type 0} (read : List ℕ → Option A) (name : List ℕ) (d : Data) (x : A)
+    → (get name d >>= as_str >>= read) ≡ Some x → LacksFloat d name
+read_member_lacks read name d x e = let found = bound (get name d >>= as_str) read x e in text_member_lacks name d found.0 found.1
 
 -- nor is a text that may be missing
 text_if_found : (found : Option Data) (x : Option (List ℕ)) → text_or_null found ≡ Some x → IfSome found (λ v. has_float v ≡ false)
@@ -53,18 +56,6 @@ text_if_found (Some (number n)) x e = cc
 text_if_found (Some (string s)) x e = refl
 text_if_found (Some (array ds)) x e = cc
 text_if_found (Some (object ms)) x e = cc
-
-pub text_if_member_lacks : (name : List ℕ) (d : Data) (x : Option (List ℕ)) → text_if_member name d ≡ Some x → LacksFloat d name
-text_if_member_lacks name d x e = text_if_found (get name d) x e
-
-pub name_member_lacks : (name : List ℕ) (d : Data) (x : List ℕ) → name_member name d ≡ Some x → LacksFloat d name
-name_member_lacks name d x e = let found = read_found name_of_text (text_member name d) x e in text_member_lacks name d found.0 found.1
-
-pub chip_member_lacks : (name : List ℕ) (d : Data) (x : List ℕ) → chip_member name d ≡ Some x → LacksFloat d name
-chip_member_lacks name d x e = let found = read_found chip_of_text (text_member name d) x e in text_member_lacks name d found.0 found.1
-
-pub digest_member_lacks : (name : List ℕ) (d : Data) (x : List ℕ) → digest_member name d ≡ Some x → LacksFloat d name
-digest_member_lacks name d x e = let found = read_found digest_of_text (text_member name d) x e in text_member_lacks name d found.0 found.1
 
 number_lacks : (n : Num) (least greatest x : ℕ) → option_and_then (number_within least greatest) (as_u64 n) ≡ Some x → has_float (number n) ≡ false
 number_lacks (unsigned n) least greatest x e = refl
@@ -91,33 +82,29 @@ whole_found (Some v) least greatest x e = whole_lacks v least greatest x e
 pub whole_member_lacks : (name : List ℕ) (least greatest : ℕ) (d : Data) (x : ℕ) → whole_member name least greatest d ≡ Some x → LacksFloat d name
 whole_member_lacks name least greatest d x e = whole_found (get name d) least greatest x e
 
-pub bound : {A B : Type 0} (o : Option A) (f : A → Option B) (y : B) → (o >>= f) ≡ Some y → (x : A) × (o ≡ Some x) × (f x ≡ Some y)
-bound None f y e = cc
-bound (Some x) f y e = (x, refl, e)
-
 -- the named members of an order's request are no floats
 pub order_lacks_float : (d : Data) (n : ℕ) (o : NewOrder) → whole_member (codes "nr") 1 9007199254740991 d ≡ Some n → new_order_of d ≡ Some o
     → has_float (object (named_members order_members d)) ≡ false
 unfolding new_order_of
 order_lacks_float d n o nr order =
-    let name = bound (name_member (codes "name") d) _ o order in
-    let issuer = bound (name_member (codes "issuer") d) _ o name.2 in
-    let prefix = bound (text_member (codes "prefix") d) _ o issuer.2 in
+    let name = bound (get (codes "name") d >>= as_str >>= name_of_text) _ o order in
+    let issuer = bound (get (codes "issuer") d >>= as_str >>= name_of_text) _ o name.2 in
+    let prefix = bound (get (codes "prefix") d >>= as_str) _ o issuer.2 in
     let width = bound (whole_member (codes "width") 1 9 d) _ o prefix.2 in
     let first = bound (whole_member (codes "first") 0 9007199254740991 d) _ o width.2 in
     let quantity = bound (whole_member (codes "quantity") 1 9007199254740991 d) _ o first.2 in
     let macs = bound (whole_member (codes "macs") 0 4 d) _ o quantity.2 in
-    let not_before = bound (text_if_member (codes "not_before") d) _ o macs.2 in
+    let not_before = bound (text_or_null (get (codes "not_before") d)) _ o macs.2 in
     all_no_float order_members d no_members (
       whole_member_lacks (codes "first") 0 9007199254740991 d first.0 first.1,
       (
-        name_member_lacks (codes "issuer") d issuer.0 issuer.1,
+        read_member_lacks name_of_text (codes "issuer") d issuer.0 issuer.1,
         (
           whole_member_lacks (codes "macs") 0 4 d macs.0 macs.1,
           (
-            name_member_lacks (codes "name") d name.0 name.1,
+            read_member_lacks name_of_text (codes "name") d name.0 name.1,
             (
-              text_if_member_lacks (codes "not_before") d not_before.0 not_before.1,
+              text_if_found (get (codes "not_before") d) not_before.0 not_before.1,
               (
                 whole_member_lacks (codes "nr") 1 9007199254740991 d n nr,
                 (
@@ -132,8 +119,8 @@ order_lacks_float d n o nr order =
     ) refl
 
 -- the named members of a map's import are no floats
-pub map_lacks_float : (d : Data) (n : ℕ) (text : List ℕ) → whole_member (codes "nr") 1 9007199254740991 d ≡ Some n → text_member (codes "text") d ≡ Some text
-    → has_float (object (named_members map_members d)) ≡ false
+pub map_lacks_float : (d : Data) (n : ℕ) (text : List ℕ) → whole_member (codes "nr") 1 9007199254740991 d ≡ Some n
+    → (get (codes "text") d >>= as_str) ≡ Some text → has_float (object (named_members map_members d)) ≡ false
 map_lacks_float d n text nr is = all_no_float map_members d no_members (whole_member_lacks (codes "nr") 1 9007199254740991 d n nr, (text_member_lacks (codes "text") d text is, tt)) refl
 
 pub digests_lack_float : (blocks : List (List ℕ)) → items_have_float (items_of (map block_digest blocks)) ≡ false
@@ -145,14 +132,14 @@ pub device_lacks_float : (d : Data) (n : ℕ) (o : NewDevice) → whole_member (
     → has_float (object (put (codes "blocks") (array (items_of (map block_digest o.blocks))) (named_members device_members d))) ≡ false
 unfolding new_device_of
 device_lacks_float d n o nr device =
-    let chip = bound (chip_member (codes "chip") d) _ o device in
-    let order = bound (name_member (codes "order") d) _ o chip.2 in
-    let digest = bound (digest_member (codes "map") d) _ o order.2 in
+    let chip = bound (get (codes "chip") d >>= as_str >>= chip_of_text) _ o device in
+    let order = bound (get (codes "order") d >>= as_str >>= name_of_text) _ o chip.2 in
+    let digest = bound (get (codes "map") d >>= as_str >>= digest_of_text) _ o order.2 in
     let others = all_no_float device_members d no_members (
-      chip_member_lacks (codes "chip") d chip.0 chip.1,
+      read_member_lacks chip_of_text (codes "chip") d chip.0 chip.1,
       (
-        digest_member_lacks (codes "map") d digest.0 digest.1,
-        (whole_member_lacks (codes "nr") 1 9007199254740991 d n nr, (name_member_lacks (codes "order") d order.0 order.1, tt)),
+        read_member_lacks digest_of_text (codes "map") d digest.0 digest.1,
+        (whole_member_lacks (codes "nr") 1 9007199254740991 d n nr, (read_member_lacks name_of_text (codes "order") d order.0 order.1, tt)),
       ),
     ) refl in
     in_put (codes "blocks") (array (items_of (map block_digest o.blocks))) (named_members device_members d) (digests_lack_float o.blocks) others

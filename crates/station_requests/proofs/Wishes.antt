@@ -1,11 +1,12 @@
 -- The named members of a request that takes a device a step on have no float.
-use Rattle.std.proofs.Common.{◌≡◌, ℕ, List, [], ◌∷◌, false, Option, Some, refl, sym, subst, ◌∙◌, codes, map, option_and_then, option_map}
+use Rattle.std.proofs.Common.{◌≡◌, ℕ, List, [], ◌∷◌, false, Option, Some, refl, sym, subst, ◌∙◌, codes, map, option_map}
 use Rattle.std.proofs.lemmas.Bool.{or_from}
 use Rattle.serde_json.specs.Data.{Data, array, object, no_members}
+use Rattle.serde_json.specs.Find.{as_str, get}
 use Rattle.serde_json.specs.Written.{has_float, items_have_float, members_have_float}
-use Rattle.text_core.specs.Prelude.{◌>>=◌, all_of}
+use Rattle.text_core.specs.Prelude.{◌>>=◌, all_of, digest_of_text, name_of_text}
 use Rattle.text_core.proofs.Kit.{mapped}
-use Rattle.json_members.specs.Prelude.{digest_member, name_member, text_member, whole_member}
+use Rattle.members.specs.Prelude.{whole_member}
 use Rattle.fuse_plan.specs.Prelude.{number_of_text}
 use Rattle.station_requests.proofs.Types.{Want, Wish, Kind}
 use Rattle.station_requests.specs.declared.plan.Kind.TheVariants.{Bit, Key, ReadLock, Value, WriteLock}
@@ -14,8 +15,7 @@ use Rattle.office_commands.specs.Prelude.{items_of}
 use Rattle.office_commands.proofs.Floats.{in_put}
 use Rattle.station_requests.specs.Prelude.{act_members, block_digest, with_block_digests, LacksFloat, named_members, kind_of_wish, kind_of_text, named_plan}
 use Rattle.station_requests.specs.Prelude.{named_wish, want_of, wish_in, wish_members, wishes_in, wishes_of}
-use Rattle.station_requests.proofs.Members.{all_no_float, bound, digest_member_lacks, digests_lack_float, name_member_lacks, text_member_lacks}
-use Rattle.station_requests.proofs.Members.{whole_member_lacks}
+use Rattle.station_requests.proofs.Members.{all_no_float, bound, digests_lack_float, read_member_lacks, whole_member_lacks}
 
 -- the members that each request of a step has
 pub act_members_lack : (d : Data) → LacksFloat d (codes "chip") → LacksFloat d (codes "nr") → members_have_float (named_members act_members d) ≡ false
@@ -32,25 +32,23 @@ of_kind Bit d w kind field e =
     let index = mapped (whole_member (codes "index") 0 9007199254740991 d) want.Bit w e in
     all_no_float (wish_members Bit) d no_members (field, (whole_member_lacks (codes "index") 0 9007199254740991 d index.0 index.1, (kind, tt))) refl
 of_kind Value d w kind field e =
-    let number = mapped (option_and_then number_of_text (text_member (codes "value") d)) want.Value w e in
-    let text = bound (text_member (codes "value") d) number_of_text number.0 number.1 in
-    all_no_float (wish_members Value) d no_members (field, (kind, (text_member_lacks (codes "value") d text.0 text.1, tt))) refl
+    let number = mapped (get (codes "value") d >>= as_str >>= number_of_text) want.Value w e in
+    all_no_float (wish_members Value) d no_members (field, (kind, (read_member_lacks number_of_text (codes "value") d number.0 number.1, tt))) refl
 of_kind Key d w kind field e =
-    let digest = mapped (digest_member (codes "key_sha256") d) want.Key w e in
-    all_no_float (wish_members Key) d no_members (field, (digest_member_lacks (codes "key_sha256") d digest.0 digest.1, (kind, tt))) refl
+    let digest = mapped (get (codes "key_sha256") d >>= as_str >>= digest_of_text) want.Key w e in
+    all_no_float (wish_members Key) d no_members (field, (read_member_lacks digest_of_text (codes "key_sha256") d digest.0 digest.1, (kind, tt))) refl
 of_kind WriteLock d w kind field e = all_no_float (wish_members WriteLock) d no_members (field, (kind, tt)) refl
 of_kind ReadLock d w kind field e = all_no_float (wish_members ReadLock) d no_members (field, (kind, tt)) refl
 
 wish_lacks : (d : Data) (w : Wish) (named : Data) → wish_in d ≡ Some w → named_wish d ≡ Some named → has_float named ≡ false
 wish_lacks d w named wish is =
     let kind = bound (kind_of_wish d) _ w wish in
-    let text = bound (text_member (codes "kind") d) kind_of_text kind.0 kind.1 in
-    let field = bound (name_member (codes "field") d) _ w kind.2 in
+    let field = bound (get (codes "field") d >>= as_str >>= name_of_text) _ w kind.2 in
     let want = bound (want_of kind.0 d) _ w field.2 in
     let same : Some (object (named_members (wish_members kind.0) d)) ≡ Some named = rw kind.1 at is in
     let its : object (named_members (wish_members kind.0) d) ≡ named = cc in
     subst (λ (v : Data). has_float v ≡ false) its
-    (of_kind kind.0 d want.0 (text_member_lacks (codes "kind") d text.0 text.1) (name_member_lacks (codes "field") d field.0 field.1) want.1)
+    (of_kind kind.0 d want.0 (read_member_lacks kind_of_text (codes "kind") d kind.0 kind.1) (read_member_lacks name_of_text (codes "field") d field.0 field.1) want.1)
 
 abbrev with_first : {B : Type 0} → Option (List B) → B → Option (List B)
 with_first rest y = option_map (λ ys. y ∷ ys) rest

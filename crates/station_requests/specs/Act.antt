@@ -1,9 +1,9 @@
 -- The requests that take a device a step on, from what was read of a body.
 use Rattle.std.specs.Prelude.{ℕ, List, [], ◌∷◌, codes, Option, Some}
 use Rattle.serde_json.specs.Data.{Data, object}
-use Rattle.text_core.specs.Prelude.{◌>>=◌}
+use Rattle.serde_json.specs.Find.{as_str, get}
+use Rattle.text_core.specs.Prelude.{◌>>=◌, chip_of_text}
 use Rattle.station_requests.specs.Number.{number_member}
-use Rattle.json_members.specs.Prelude.{chip_member}
 use Rattle.office_commands.specs.declared.command.Action.{Action}
 use Rattle.office_commands.specs.declared.command.Request.{Request}
 use Rattle.office_commands.specs.declared.command.Change.TheVariants.{Act}
@@ -18,7 +18,7 @@ act_members = codes "chip" ∷ codes "nr" ∷ []
 unfoldable pub act_of : List ℕ → Data → Action → Data → Option Request
 act_of path members action d = do
   number ← number_member d
-  chip ← chip_member (codes "chip") d
+  chip ← get (codes "chip") d >>= as_str >>= chip_of_text
   Some (record { number = number; digest = request_digest path members; command = Change (Act chip action) })
 
 -- the request of an action that asks for nothing but the chip

@@ -6,8 +6,8 @@ use Rattle.hex.specs.Hex.{decode_sized, encode_lower}
 use Rattle.serde_json.specs.Data.{Data, array, object, string, put}
 use Rattle.serde_json.specs.Find.{as_array, as_str, get}
 use Rattle.sha2.specs.Sha256.{sha256}
-use Rattle.text_core.specs.Prelude.{chip_of_text, ◌>>=◌, all_of}
-use Rattle.json_members.specs.Prelude.{chip_member, digest_member, list_of, name_member}
+use Rattle.text_core.specs.Prelude.{chip_of_text, digest_of_text, name_of_text, ◌>>=◌, all_of}
+use Rattle.members.specs.Prelude.{json_items}
 use Rattle.station_requests.specs.Number.{number_member}
 use Rattle.fuse_image.specs.Prelude.{blocks_of, bytes_of_block}
 use Rattle.http_frames.specs.Prelude.{parameters_named}
@@ -29,11 +29,11 @@ word_of_data d = option_and_then word_of_text (as_str d)
 
 -- the words of a block
 abbrev pub block_in : Data → Option (List ℕ)
-block_in d = option_map list_of (as_array d) >>= all_of word_of_data
+block_in d = option_map json_items (as_array d) >>= all_of word_of_data
 
 -- a member that is an array of 1 to 4 blocks of 1 to 8 words
 unfoldable pub blocks_member : List ℕ → Data → Option (List (List ℕ))
-blocks_member name d = option_map list_of (option_and_then as_array (get name d)) >>= all_of block_in >>= blocks_of
+blocks_member name d = option_map json_items (get name d >>= as_array) >>= all_of block_in >>= blocks_of
 
 -- the digest of a block's bytes
 abbrev pub block_digest : List ℕ → Data
@@ -54,9 +54,9 @@ device_digest d blocks = request_digest (codes "/v1/device") (with_block_digests
 -- the device of a JSON value, if its members are of their forms
 unfoldable pub new_device_of : Data → Option NewDevice
 new_device_of d = do
-  chip ← chip_member (codes "chip") d
-  order ← name_member (codes "order") d
-  digest ← digest_member (codes "map") d
+  chip ← get (codes "chip") d >>= as_str >>= chip_of_text
+  order ← get (codes "order") d >>= as_str >>= name_of_text
+  digest ← get (codes "map") d >>= as_str >>= digest_of_text
   blocks ← blocks_member (codes "blocks") d
   Some (record { chip = chip; order = order; map = digest; blocks = blocks })
 

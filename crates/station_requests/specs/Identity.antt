@@ -4,9 +4,9 @@ use Rattle.std.specs.Result.{result_ok}
 use Rattle.hex.specs.Hex.{decode_of}
 use Rattle.sha2.specs.Sha256.{sha256}
 use Rattle.serde_json.specs.Data.{Data, object}
-use Rattle.text_core.specs.Prelude.{◌>>=◌}
+use Rattle.serde_json.specs.Find.{as_str, get}
+use Rattle.text_core.specs.Prelude.{◌>>=◌, chip_of_text}
 use Rattle.station_requests.specs.Number.{number_member}
-use Rattle.json_members.specs.Prelude.{chip_member, text_member}
 use Rattle.office_commands.specs.declared.new_identity.NewIdentity.{NewIdentity}
 use Rattle.office_commands.specs.declared.command.Request.{Request}
 use Rattle.office_commands.specs.declared.command.Change.TheVariants.{Identify}
@@ -20,8 +20,8 @@ key_of_text text = if nat_le 2 (length text) && nat_le (length text) 2048 then o
 -- the identity of a JSON value, if its members are of their forms
 unfoldable pub new_identity_of : Data → Option NewIdentity
 new_identity_of d = do
-  chip ← chip_member (codes "chip") d
-  text ← text_member (codes "public_key") d
+  chip ← get (codes "chip") d >>= as_str >>= chip_of_text
+  text ← get (codes "public_key") d >>= as_str
   key ← key_of_text text
   Some (record { chip = chip; key = key })
 

@@ -1,10 +1,10 @@
 -- The request that imports serial numbers, from what was read of a body.
 use Rattle.std.specs.Prelude.{ℕ, List, [], ◌∷◌, codes, Option, Some}
 use Rattle.serde_json.specs.Data.{Data, object}
-use Rattle.text_core.specs.Prelude.{◌>>=◌}
+use Rattle.serde_json.specs.Find.{as_str, get}
+use Rattle.text_core.specs.Prelude.{◌>>=◌, name_of_text}
 use Rattle.station_requests.specs.Number.{number_member}
 use Rattle.id_ranges.specs.Prelude.{import_rows_of}
-use Rattle.json_members.specs.Prelude.{name_member, text_member}
 use Rattle.office_commands.specs.declared.new_identity.NewImport.{NewImport}
 use Rattle.office_commands.specs.declared.command.Request.{Request}
 use Rattle.office_commands.specs.declared.command.Change.TheVariants.{Import}
@@ -14,8 +14,8 @@ use Rattle.station_requests.specs.Digest.{named_members, request_digest}
 -- the import of a JSON value, if its members are of their forms: its text is one of rows, whether or not each has a serial number
 unfoldable pub new_import_of : Data → Option NewImport
 new_import_of d = do
-  issuer ← name_member (codes "issuer") d
-  text ← text_member (codes "csv") d
+  issuer ← get (codes "issuer") d >>= as_str >>= name_of_text
+  text ← get (codes "csv") d >>= as_str
   rows ← import_rows_of text
   Some (record { issuer = issuer; rows = rows })
 

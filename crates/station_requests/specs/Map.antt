@@ -1,8 +1,8 @@
 -- The requests about fuse maps, from what was read of a body.
 use Rattle.std.specs.Prelude.{ℕ, List, [], ◌∷◌, codes, Option, Some}
 use Rattle.serde_json.specs.Data.{Data, object}
+use Rattle.serde_json.specs.Find.{as_str, get}
 use Rattle.text_core.specs.Prelude.{◌>>=◌}
-use Rattle.json_members.specs.Prelude.{text_member}
 use Rattle.station_requests.specs.Number.{number_member}
 use Rattle.office_commands.specs.declared.command.Request.{Request}
 use Rattle.office_commands.specs.declared.command.Change.TheVariants.{ImportMap}
@@ -21,5 +21,5 @@ map_digest d = request_digest (codes "/v1/map") (object (named_members map_membe
 unfoldable pub import_map_of : Data → Option Request
 import_map_of d = do
   number ← number_member d
-  text ← text_member (codes "text") d
+  text ← get (codes "text") d >>= as_str
   Some (record { number = number; digest = map_digest d; command = Change (ImportMap text) })

@@ -1,7 +1,7 @@
 -- The number of a request.
 use Rattle.std.specs.Prelude.{ℕ, codes, Option}
 use Rattle.serde_json.specs.Data.{Data}
-use Rattle.json_members.specs.Prelude.{whole_member}
+use Rattle.members.specs.Prelude.{whole_member}
 use Rattle.office_commands.specs.Prelude.{largest_whole}
 
 -- the member `nr` of a body

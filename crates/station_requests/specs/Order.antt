@@ -1,8 +1,9 @@
 -- The requests about orders, from what was read of a body or a query.
 use Rattle.std.specs.Prelude.{ℕ, List, [], ◌∷◌, codes, Option, Some, None, option_and_then}
 use Rattle.serde_json.specs.Data.{Data, object}
+use Rattle.serde_json.specs.Find.{as_str, get}
 use Rattle.text_core.specs.Prelude.{◌>>=◌, name_of_text}
-use Rattle.json_members.specs.Prelude.{whole_member, text_member, text_if_member, name_member}
+use Rattle.members.specs.Prelude.{text_or_null, whole_member}
 use Rattle.office_commands.specs.Prelude.{largest_whole}
 use Rattle.office_commands.specs.declared.new_order.NewOrder.{NewOrder}
 use Rattle.office_commands.specs.declared.command.Request.{Request}
@@ -15,14 +16,14 @@ use Rattle.station_requests.specs.Digest.{named_members, request_digest}
 -- the order of a JSON value, if its members are of their forms
 unfoldable pub new_order_of : Data → Option NewOrder
 new_order_of d = do
-  name ← name_member (codes "name") d
-  issuer ← name_member (codes "issuer") d
-  prefix ← text_member (codes "prefix") d
+  name ← get (codes "name") d >>= as_str >>= name_of_text
+  issuer ← get (codes "issuer") d >>= as_str >>= name_of_text
+  prefix ← get (codes "prefix") d >>= as_str
   width ← whole_member (codes "width") 1 9 d
   first ← whole_member (codes "first") 0 largest_whole d
   quantity ← whole_member (codes "quantity") 1 largest_whole d
   macs ← whole_member (codes "macs") 0 4 d
-  not_before ← text_if_member (codes "not_before") d
+  not_before ← text_or_null (get (codes "not_before") d)
   Some (record { name = name; issuer = issuer; prefix = prefix; width = width; first = first; quantity = quantity; macs = macs; not_before = not_before })
 
 -- the named members of an order

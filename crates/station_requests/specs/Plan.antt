@@ -1,11 +1,12 @@
 -- The request that plans a device, from what was read of a body.
-use Rattle.std.specs.Prelude.{ℕ, List, [], ◌∷◌, codes, bytes_eq, find, Option, Some, option_and_then, option_map}
+use Rattle.std.specs.Prelude.{ℕ, List, [], ◌∷◌, codes, bytes_eq, find, Option, Some, option_map}
 use Rattle.serde_json.specs.Data.{Data, array, object, put}
-use Rattle.text_core.specs.Prelude.{◌>>=◌, all_of}
+use Rattle.serde_json.specs.Find.{as_array, as_str, get}
+use Rattle.text_core.specs.Prelude.{◌>>=◌, all_of, digest_of_text, list_of_length, name_of_text}
 use Rattle.office_commands.specs.Prelude.{largest_whole, items_of}
 use Rattle.office_commands.specs.declared.command.Action.TheVariants.{Plan}
 use Rattle.office_commands.specs.declared.command.Request.{Request}
-use Rattle.json_members.specs.Prelude.{digest_member, list_member, name_member, text_member, whole_member}
+use Rattle.members.specs.Prelude.{json_items, whole_member}
 use Rattle.fuse_plan.specs.Prelude.{number_of_text}
 use Rattle.fuse_plan.specs.declared.wish.Want.{Want}
 use Rattle.fuse_plan.specs.declared.wish.Wish.{Wish}
@@ -25,13 +26,13 @@ kind_of_text text = option_map (λ k. k.1) (find (λ k. bytes_eq text k.0) kinds
 
 -- the kind that a wish names as its member `kind`
 abbrev pub kind_of_wish : Data → Option Kind
-kind_of_wish d = option_and_then kind_of_text (text_member (codes "kind") d)
+kind_of_wish d = get (codes "kind") d >>= as_str >>= kind_of_text
 
 -- what a wish of a kind asks of its field
 abbrev pub want_of : Kind → Data → Option Want
 want_of Bit d = option_map want.Bit (whole_member (codes "index") 0 largest_whole d)
-want_of Value d = option_map want.Value (option_and_then number_of_text (text_member (codes "value") d))
-want_of Key d = option_map want.Key (digest_member (codes "key_sha256") d)
+want_of Value d = option_map want.Value (get (codes "value") d >>= as_str >>= number_of_text)
+want_of Key d = option_map want.Key (get (codes "key_sha256") d >>= as_str >>= digest_of_text)
 want_of WriteLock d = Some want.WriteLock
 want_of ReadLock d = Some want.ReadLock
 
@@ -39,13 +40,13 @@ want_of ReadLock d = Some want.ReadLock
 abbrev pub wish_in : Data → Option Wish
 wish_in d = do
   kind ← kind_of_wish d
-  field ← name_member (codes "field") d
+  field ← get (codes "field") d >>= as_str >>= name_of_text
   want ← want_of kind d
   Some (record { field = field; want = want })
 
 -- the items of a member that is an array of at most 64 wishes
 abbrev pub wishes_in : Data → Option (List Data)
-wishes_in d = list_member (codes "wishes") 0 64 d
+wishes_in d = option_map json_items (get (codes "wishes") d >>= as_array) >>= list_of_length 0 64
 
 -- the wishes that they are, if each is one
 abbrev pub wishes_of : Data → Option (List Wish)

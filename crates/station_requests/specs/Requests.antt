@@ -3,7 +3,7 @@ use Rattle.std.specs.Borrow.{Bor}
 use Rattle.std.specs.Prelude.{ℕ, Bool, ◌&&◌, List, [], ◌∷◌, codes, find, replicate, bytes_eq, Option, Some, None, option_map, Result, Ok, Err, ok_or}
 use Rattle.serde_json.specs.Data.{Data}
 use Rattle.text_core.specs.Prelude.{result_and_then, result_map}
-use Rattle.json_members.specs.Prelude.{json_of}
+use Rattle.members.specs.Prelude.{json_of}
 use Rattle.http_frames.specs.Prelude.{path_of, query_of, Request as HttpRequest}
 use Rattle.site_core.specs.declared.site.Caller.{Caller}
 use Rattle.site_core.specs.declared.site.Caller.TheVariants.{Seat, Manager}

@@ -7,7 +7,7 @@ ghost use Rattle.station_requests.specs.Prelude.{act_of, end_of, LacksFloat, Rea
 use crate::digest::{named_members, request_digest};
 use crate::fault::MemberFault::{self, BadMember};
 use crate::number::number_member;
-use json_members::chip_member;
+use members::in_json::chip_member;
 use office_commands::{Action, Change, Command, Request};
 use serde_json::Value;
 use std::alloc::Global;

@@ -12,7 +12,8 @@ use crate::number::number_member;
 use fuse_image::BlockWords;
 use hex::FromHex;
 use http_frames::fields::{Occurrence, only_parameter};
-use json_members::{chip_member, digest_member, name_member, read_all};
+use members::in_json::{chip_member, digest_member, name_member};
+use members::read_all;
 use office_commands::{Change, Command, NewDevice, Request};
 use serde_json::Value;
 use std::alloc::{AllocError, Global};
@@ -47,7 +48,7 @@ fn read_word(value: &Value) -> Option<u32>
 }
 
 /// The words of a block, if the JSON value is an array of words.
-#[tactic(auto, using(json_members::proofs::Lists::list_of_items))]
+#[tactic(auto, using(members::proofs::Lists::json_list))]
 fn read_block(alloc: Global, value: &Value) -> Result<Vec<u32>, MemberFault>
     ensures { ReadsAs (result_map (λ words. words.items) result) (block_in (view value.now)) }
 {
@@ -69,7 +70,7 @@ fn read_blocks(alloc: Global, values: &[Value]) -> Result<Vec<Vec<u32>>, MemberF
 }
 
 /// A member that is an array of 1 to 4 blocks of 1 to 8 words.
-#[tactic(auto, using(json_members::proofs::Lists::list_of_items), unfolding(crate::specs::Device::blocks_member))]
+#[tactic(auto, using(members::proofs::Lists::json_list), unfolding(crate::specs::Device::blocks_member))]
 pub fn blocks_member(alloc: Global, value: &Value, name: &str) -> Result<BlockWords, MemberFault>
     ensures { ReadsAs result (blocks_member name.now (view value.now)) }
 {

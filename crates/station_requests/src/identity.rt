@@ -7,7 +7,7 @@ use crate::fault::MemberFault::{self, BadMember};
 use crate::number::number_member;
 use hex::FromHexError;
 use id_ranges::KeyDigest;
-use json_members::{chip_member, text_member};
+use members::in_json::{chip_member, text_member};
 use office_commands::{Change, Command, NewIdentity, Request};
 use serde_json::Value;
 use std::alloc::Global;

@@ -6,7 +6,7 @@ use crate::digest::{named_members, request_digest};
 use crate::fault::MemberFault::{self, BadMember};
 use crate::number::number_member;
 use id_ranges::read_rows;
-use json_members::{name_member, text_member};
+use members::in_json::{name_member, text_member};
 use office_commands::{Change, Command, NewImport, Request};
 use serde_json::Value;
 use std::alloc::Global;

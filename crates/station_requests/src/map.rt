@@ -5,7 +5,7 @@ ghost use Rattle.station_requests.specs.Prelude.{import_map_of, ReadsAs};
 use crate::digest::{named_members, request_digest};
 use crate::fault::MemberFault::{self, BadMember};
 use crate::number::number_member;
-use json_members::text_member;
+use members::in_json::text_member;
 use office_commands::{Change, Command, Request};
 use serde_json::Value;
 use std::alloc::Global;

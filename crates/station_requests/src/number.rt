@@ -3,7 +3,7 @@ ghost use Rattle.std.specs.Prelude.{◌≡◌};
 ghost use Rattle.serde_json.specs.View.{view};
 ghost use Rattle.station_requests.specs.Number as numbers;
 
-use json_members::whole_member;
+use members::in_json::whole_member;
 use office_commands::RequestNumber;
 use serde_json::Value;
 use text_core::LARGEST_WHOLE;

@@ -7,7 +7,7 @@ use crate::digest::{named_members, request_digest};
 use crate::fault::MemberFault::{self, BadMember};
 use crate::number::number_member;
 use http_frames::fields::{Occurrence, only_parameter};
-use json_members::{name_member, text_if_member, text_member, whole_member};
+use members::in_json::{name_member, text_if_member, text_member, whole_member};
 use office_commands::{AskedOrder, Change, Command, NewOrder, Request};
 use serde_json::Value;
 use std::alloc::{AllocError, Global};

@@ -3,7 +3,7 @@ ghost use Rattle.std.specs.Prelude.{◌≡◌, ok_or, map, IfOk};
 ghost use Rattle.serde_json.specs.View.{view};
 ghost use Rattle.text_core.specs.Prelude.{GivesUnless, result_map};
 ghost use Rattle.http_frames.specs.Prelude.{Request as HttpRequest, IsFrameAt};
-ghost use Rattle.json_members.specs.Prelude.{json_of};
+ghost use Rattle.members.specs.Prelude.{json_of};
 ghost use Rattle.station_requests.specs.Prelude.{IsFor, parse_request, body_read, is_route_entry, kind_of_caller, ReadsAs, route_entry, query_read, request_of};
 ghost use Rattle.station_requests.specs.Prelude.{route_among, route_of, show_of};
 
@@ -23,7 +23,8 @@ use http::Method;
 use http_frames::buffer::Buffer;
 use http_frames::fields::split_target;
 use http_frames::frame::Frame;
-use json_members::{JsonFault, read_json};
+use members::DocumentFault;
+use members::in_json::read_json;
 use office_commands::{Action, Command, Refusal, Request, RequestNumber, Show};
 use serde_json::Value;
 use site_core::Caller;
@@ -135,8 +136,8 @@ fn read_value(alloc: Global, body: &[u8]) -> Result<Value, Refusal>
 {
     match read_json(alloc, body) {
         Ok(value) => Ok(value),
-        Err(JsonFault::NotJson) => Err(Refusal::BadJson),
-        Err(JsonFault::OutOfMemory) => Err(Refusal::Unkept),
+        Err(DocumentFault::NotDocument) => Err(Refusal::BadJson),
+        Err(DocumentFault::OutOfMemory) => Err(Refusal::Unkept),
     }
 }
 

@@ -9,7 +9,7 @@ pub use Rattle.text_core.specs.Name.{is_name, is_name_byte, name_of_text}
 pub use Rattle.text_core.specs.Options.{◌>>=◌, all_of, first_that_holds, list_of_length}
 pub use Rattle.text_core.specs.Padding.{zero_padded}
 pub use Rattle.text_core.specs.Prefix.{is_prefix, prefix_of_text}
-pub use Rattle.text_core.specs.Readers.{ReadsItems, ReadsOrFails}
+pub use Rattle.text_core.specs.Readers.{ReadsItems}
 pub use Rattle.text_core.specs.Serial.{is_serial, is_serial_byte, serial_of_text}
 pub use Rattle.text_core.specs.ShortBytes.{bytes_within, zeros}
 pub use Rattle.text_core.specs.ShortText.{IsShortText}

@@ -1,5 +1,5 @@
 -- Readers of values, by what they make of a value.
-use Rattle.std.specs.Prelude.{◌≡◌, IfOk, Option, Result}
+use Rattle.std.specs.Prelude.{◌≡◌, Option}
 use Rattle.std.specs.Fn.{FnReturnsAt, Shared}
 use denote.Ref.{Bor}
 
@@ -7,8 +7,3 @@ use denote.Ref.{Bor}
 abbrev pub ReadsItems : {V F T : Type 0} → Shared F (Bor V × Unit {0}) (Option T) → F → (V → Option T) → Type 0
 ReadsItems {V} {F} {T} calls read item_in =
     (value : V) (item : Option T) → FnReturnsAt calls read value item → item ≡ item_in value
-
--- `read` makes of each value what `item_in` makes of it, where it ends in no error
-abbrev pub ReadsOrFails : {V F T E : Type 0} → Shared F (Bor V × Unit {0}) (Result (Option T) E) → F → (V → Option T) → Type 0
-ReadsOrFails {V} {F} {T} {E} calls read item_in =
-    (value : V) (found : Result (Option T) E) → FnReturnsAt calls read value found → IfOk found (λ item. item ≡ item_in value)

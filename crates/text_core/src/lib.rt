@@ -3,9 +3,8 @@
 //!
 //! `Name`, `Prefix`, `Serial`, `Chip` and `Digest` are exactly the texts of their alphabets and
 //! lengths (`parse`), lie in place and take no memory; names, chips and digests are ordered as
-//! their bytes. A `ShortBytes` is up to so many bytes in place. `read_all` and `try_read_all` are
-//! the one loop over the items of an array: what a reader makes of each, or that it makes nothing
-//! of one.
+//! their bytes. A `ShortBytes` is up to so many bytes in place. `read_all` is a loop over the items
+//! of an array: what a reader makes of each, or that it makes nothing of one.
 #![tactic(auto)]
 
 mod chip;
@@ -22,7 +21,7 @@ mod whole;
 
 pub use chip::{Chip, are_lower_hex_digits};
 pub use digest::Digest;
-pub use items::{read_all, try_read_all};
+pub use items::read_all;
 pub use name::Name;
 pub use prefix::Prefix;
 pub use serial::Serial;

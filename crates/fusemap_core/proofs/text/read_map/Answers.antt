@@ -1,5 +1,6 @@
-use Rattle.text_core.proofs.Kit.{arith, sym, ◌∙◌, common_steps}
+use Rattle.text_core.proofs.Kit.{arith, common_steps}
 use Rattle.text_core.specs.Prelude.{GivesUnless}
+use Rattle.members.proofs.Reading.{wanted_from_given}
 use Rattle.fusemap_core.specs.Prelude.{map_read}
 use Rattle.fusemap_core.specs.declared.fault.MapFault.TheVariants.{OutOfMemory}
 use Rattle.fusemap_core.proofs.Ranges.{IsInRange-from_map_of}
@@ -7,7 +8,7 @@ use Rattle.fusemap_core.proofs.Reading.{valid_from_exact, refused_from_exact, lo
 use Rattle.fusemap_core.proofs.text.read_map.Goals as goal
 
 pub judged_map-requires : goal.judged_map-requires
-judged_map-requires c = IsInRange-from_map_of _ _ (sym c.in_ok-read_draft.ensures ∙ c.in_ok-draft.ensures.ok_part)
+judged_map-requires c = IsInRange-from_map_of _ _ (wanted_from_given _ _ _ _ c.in_ok-draft.ensures)
 
 pub returns-clause-valid : goal.returns-clause-valid
 returns-clause-valid c =

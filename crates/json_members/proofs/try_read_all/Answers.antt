@@ -1,9 +1,0 @@
-use Rattle.text_core.proofs.Kit.{◌∙◌, sym, IfOk-weaker}
-use Rattle.serde_json.specs.View.{view}
-use Rattle.text_core.proofs.Lists.{all_of-map}
-use Rattle.json_members.proofs.try_read_all.Goals as goal
-
-pub returns : goal.returns
-returns g c item_in reads =
-    IfOk-weaker c.try_read_all.result _ _ (λ found all. all ∙ sym (all_of-map item_in view c.args.values.now))
-    (c.try_read_all.ensures (λ value. item_in (view value)) reads)

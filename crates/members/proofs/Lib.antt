@@ -1,0 +1,4 @@
+-- The lemmas of this crate.
+pub mod BodyRead
+pub mod Lists
+pub mod Reading

@@ -1,3 +1,0 @@
--- What the contracts of this crate are made of.
-pub mod Documents
-pub mod Prelude
