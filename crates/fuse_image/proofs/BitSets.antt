@@ -2,14 +2,14 @@
 use Rattle.std.proofs.Common.{◌≡◌, ◌+◌, ◌-◌, ◌*◌, ◌/◌, ◌%◌, ◌^◌, ◌<◌, ◌&&◌, ◌||◌, get_or, set as list_set, ◌↔◌, ◌==◌}
 use Rattle.text_core.proofs.Kit.{ℕ, zero, suc, max, min, Bool, true, false, not, List, length, replicate, is_eq, refl, sym, ap, ap₂, ◌∙◌, inl, inr, arith}
 use Rattle.text_core.proofs.Kit.{bit_and, bit_or, bit_at, bit_not, w32, cases_Bool, cases_eq, and_parts, and_from, and_left, and_right, or_from, or_left}
-use Rattle.text_core.proofs.Kit.{eq-eqb, eqb-true, ne_eqb, true≢false, false_from_ne_true, and_lt, eq_by_cmp, Equal-is, tied_itself, get_or-set_at}
+use Rattle.text_core.proofs.Kit.{eq-eqb, eqb-true, ne_eqb, true≢false, false_from_ne_true, eq_by_cmp, Equal-is, tied_itself, get_or-set_at}
 use Rattle.text_core.proofs.Kit.{get_or-set_other, bit_at_or, bit_at_and, bit_at_not, bit_at-lt, bit_at-zero, bit_at_set_same, bit_at_set_other, shr_and_one}
 use Rattle.text_core.proofs.Kit.{same_from_bits_below, one_truth}
 use Rattle.std.specs.FinSet as set
 use Rattle.fusemap_core.specs.declared.pos.Pos.{Pos}
-use Rattle.fuse_image.specs.Prelude.{is_empty, sets_meet, Positions, pos_cmp, pos_total, pos_exact, is_place, IsPlace, places_where, contains-places_where}
+use Rattle.fuse_image.specs.Prelude.{is_empty, Positions, pos_cmp, pos_total, pos_exact, is_place, IsPlace, places_where, contains-places_where}
 use Rattle.fuse_image.specs.Prelude.{bit_in, position_of_bit, AreWords, contains-place_of}
-use Rattle.fuse_image.proofs.Sets.{none_in, is_empty-from_none, is_empty-difference, is_place-from_IsPlace, IsPlace-from_is_place, same_places, none_outside}
+use Rattle.fuse_image.proofs.Sets.{none_in, is_empty-from_none, is_place-from_IsPlace, IsPlace-from_is_place, same_places, none_outside}
 
 -- the positions at which words have ones
 abbrev pub positions_of : List ℕ → Positions
@@ -171,24 +171,6 @@ positions_of-without own other words are each =
     let s = set.difference (positions_of own) (positions_of other) in
     positions_of-bits words s (AreBitsOf-same _ (λ w. get_or words w 0) s each
     (AreBitsOf-and_not (λ w. get_or own w 0) (λ w. get_or other w 0) _ _ (AreBitsOf-words own) (AreBitsOf-words other) are.small))
-
--- what tests of words say of their sets
-pub is_subset-words : (own other : List ℕ) → AreWords own → AreWords other → (is : Bool)
-    → ((is ≡ true) ↔ ((w : ℕ) → w < 32 → bit_and (get_or own w 0) (bit_not w32 (get_or other w 0)) ≡ 0))
-    → is ≡ set.is_subset (positions_of own) (positions_of other)
-is_subset-words own other own_words other_words is each =
-    is_empty-zeros (λ w. bit_and (get_or own w 0) (bit_not w32 (get_or other w 0))) (set.difference (positions_of own) (positions_of other))
-    (AreBitsOf-and_not (λ w. get_or own w 0) (λ w. get_or other w 0) _ _ (AreBitsOf-words own) (AreBitsOf-words other) other_words.small)
-    (λ w. and_lt 32 _ _ (own_words.small w) (omega arith)) is each
-    ∙ is_empty-difference (positions_of own) (positions_of other)
-
-pub sets_meet-words : (own other : List ℕ) → AreWords own → AreWords other → (is : Bool)
-    → ((is ≡ true) ↔ ((w : ℕ) → w < 32 → bit_and (get_or own w 0) (get_or other w 0) ≡ 0)) → not is ≡ sets_meet (positions_of own) (positions_of other)
-sets_meet-words own other own_words other_words is each =
-    ap not (
-    is_empty-zeros (λ w. bit_and (get_or own w 0) (get_or other w 0)) (set.intersection (positions_of own) (positions_of other))
-    (AreBitsOf-and (λ w. get_or own w 0) (λ w. get_or other w 0) _ _ (AreBitsOf-words own) (AreBitsOf-words other))
-    (λ w. and_lt 32 _ _ (own_words.small w) (other_words.small w)) is each)
 
 -- one bit
 pub contains-shifted : (words : List ℕ) (p : Pos) (index : ℕ) → index ≡ 8 * p.block + p.bit / 32 → IsPlace p

@@ -123,14 +123,14 @@ impl Bits {
     pub fn is_within(&self, other: &Bits) -> bool
         ensures { result ≡ set.is_subset self.now other.now }
     {
-        are_within(&self.words, &other.words)
+        self.minus(other).is_empty()
     }
 
     /// Whether the other has one of them.
     pub fn meets(&self, other: &Bits) -> bool
         ensures { result ≡ sets_meet self.now other.now }
     {
-        !are_apart(&self.words, &other.words)
+        !self.meet(other).is_empty()
     }
 
     /// A fact: it has positions of 4 blocks of 256 bits alone. Nothing happens.
@@ -229,30 +229,4 @@ fn are_zeros(words: &[u32; 32]) -> bool
     ensures { IsTrue result ↔ ((word : ℕ) → word < 32 → slice_index words.now word ≡ 0) }
 {
     words.iter().all(|word| *word == 0)
-}
-
-/// Whether there are ones only where the others are ones.
-fn are_within(own: &[u32; 32], other: &[u32; 32]) -> bool
-    ensures { IsTrue result ↔ ((word : ℕ) → word < 32 →
-        bit_and (slice_index own.now word) (bit_not w32 (slice_index other.now word)) ≡ 0) }
-{
-    for word in 0..32 {
-        if own[word] & !other[word] != 0 {
-            return false;
-        }
-    }
-    true
-}
-
-/// Whether there are ones only where the others are zeros.
-fn are_apart(own: &[u32; 32], other: &[u32; 32]) -> bool
-    ensures { IsTrue result ↔ ((word : ℕ) → word < 32 →
-        bit_and (slice_index own.now word) (slice_index other.now word) ≡ 0) }
-{
-    for word in 0..32 {
-        if own[word] & other[word] != 0 {
-            return false;
-        }
-    }
-    true
 }

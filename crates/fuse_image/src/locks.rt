@@ -154,8 +154,5 @@ pub fn is_burnt(burnt: &Bits, lock: Option<Pos>) -> bool
     requires { IfSome lock IsPlace }
     ensures { result ≡ locks.is_burnt burnt.now lock }
 {
-    match lock {
-        Some(pos) => burnt.has(pos),
-        None => false,
-    }
+    lock.is_some_and(|pos| burnt.has(pos))
 }

@@ -108,10 +108,7 @@ fn are_zeros(words: &[u32]) -> bool
 pub fn has_coding_scheme(map: &FuseMap, readback: &ReadBack) -> bool
     ensures { result ≡ redaction.has_coding_scheme map.now readback.now.ones }
 {
-    match coding_field(map) {
-        Some(id) => may_be_set(map, id, &readback.ones),
-        None => false,
-    }
+    coding_field(map).is_some_and(|id| may_be_set(map, id, &readback.ones))
 }
 
 /// The coding field, if the map names one.
@@ -146,11 +143,7 @@ fn shows_hidden_key(map: &FuseMap, ones: &Bits, shown: &Keys) -> bool
     ensures { result ≡ redaction.some_key map.now
         (λ b. locks.is_hidden_key map.now ones.now b && is_some (table.get shown.now b)) }
 {
-    let fields = map.fields();
-    for field in fields {
-        if field.key && is_hidden_key(map, ones, field.block) && shown.get(field.block).is_some() {
-            return true;
-        }
-    }
-    false
+    map.fields().iter().any(|field| {
+        field.key && is_hidden_key(map, ones, field.block) && shown.get(field.block).is_some()
+    })
 }

@@ -33,18 +33,12 @@ fn has_bad_key(map: &FuseMap, after: &Bits, known: &Keys, asked: &Keys, shown: &
     ensures { result
         ≡ some_key map.now (outcome.is_bad_key map.now after.now known.now asked.now shown.now) }
 {
-    let fields = map.fields();
-    for field in fields {
-        if field.key {
-            let is_hidden = is_hidden_key(map, after, field.block);
-            let known = known.get(field.block);
-            let asked = asked.get(field.block);
-            if is_bad(is_hidden, known, asked, shown.get(field.block)) {
-                return true;
-            }
-        }
-    }
-    false
+    map.fields().iter().any(|field| {
+        let is_hidden = is_hidden_key(map, after, field.block);
+        let known = known.get(field.block);
+        let asked = asked.get(field.block);
+        field.key && is_bad(is_hidden, known, asked, shown.get(field.block))
+    })
 }
 
 fn is_bad(

@@ -78,33 +78,22 @@ fn are_wrong(map: &FuseMap, wants: &Wants, wishes: &[Wish]) -> bool
     some_are_of_wrong_kind(map, wishes) || wants.ones.meets(&coding_positions(map))
 }
 
+/// Whether a wish names a field that the map hasn't.
 fn some_name_no_field(map: &FuseMap, wishes: &[Wish]) -> bool
     ensures { result ≡ list_any (plans.names_no_field map.now) wishes.now }
 {
-    wishes.iter().any(|wish| names_no_field(map, wish))
+    wishes
+        .iter()
+        .any(|wish| field_named(map, &wish.field).is_none())
 }
 
-/// Whether the wish names a field that the map hasn't.
-fn names_no_field(map: &FuseMap, wish: &Wish) -> bool
-    ensures { result ≡ plans.names_no_field map.now wish.now }
-{
-    field_named(map, &wish.field).is_none()
-}
-
+/// Whether a wish names a bit that its field hasn't.
 fn some_name_no_bit(map: &FuseMap, wishes: &[Wish]) -> bool
     ensures { result ≡ list_any (wish_passes map.now plans.is_past) wishes.now }
 {
-    wishes.iter().any(|wish| names_no_bit(map, wish))
-}
-
-/// Whether the wish names a bit that its field hasn't.
-fn names_no_bit(map: &FuseMap, wish: &Wish) -> bool
-    ensures { result ≡ wish_passes map.now plans.is_past wish.now }
-{
-    match field_named(map, &wish.field) {
-        Some(field) => is_past(&wish.want, &field),
-        None => false,
-    }
+    wishes.iter().any(|wish| {
+        field_named(map, &wish.field).is_some_and(|field| is_past(&wish.want, &field))
+    })
 }
 
 fn is_past(want: &Want, field: &Field) -> bool
@@ -119,20 +108,13 @@ fn is_past(want: &Want, field: &Field) -> bool
     }
 }
 
+/// Whether a wish is for a value with a 1 at or above the number of its field's bits.
 fn some_are_too_wide(map: &FuseMap, wishes: &[Wish]) -> bool
     ensures { result ≡ list_any (wish_passes map.now plans.is_wide) wishes.now }
 {
-    wishes.iter().any(|wish| is_too_wide(map, wish))
-}
-
-/// Whether the wish is for a value with a 1 at or above the number of its field's bits.
-fn is_too_wide(map: &FuseMap, wish: &Wish) -> bool
-    ensures { result ≡ wish_passes map.now plans.is_wide wish.now }
-{
-    match field_named(map, &wish.field) {
-        Some(field) => is_wide(&wish.want, &field),
-        None => false,
-    }
+    wishes.iter().any(|wish| {
+        field_named(map, &wish.field).is_some_and(|field| is_wide(&wish.want, &field))
+    })
 }
 
 fn is_wide(want: &Want, field: &Field) -> bool
@@ -191,20 +173,13 @@ fn are_two_keys(want: &Want, other: &Want) -> bool
     }
 }
 
+/// Whether a wish is for a key of a plain field, or for a bit or a value of a key field.
 fn some_are_of_wrong_kind(map: &FuseMap, wishes: &[Wish]) -> bool
     ensures { result ≡ list_any (wish_passes map.now plans.is_wrong) wishes.now }
 {
-    wishes.iter().any(|wish| is_of_wrong_kind(map, wish))
-}
-
-/// Whether the wish is for a key of a plain field, or for a bit or a value of a key field.
-fn is_of_wrong_kind(map: &FuseMap, wish: &Wish) -> bool
-    ensures { result ≡ wish_passes map.now plans.is_wrong wish.now }
-{
-    match field_named(map, &wish.field) {
-        Some(field) => is_wrong(&wish.want, &field),
-        None => false,
-    }
+    wishes.iter().any(|wish| {
+        field_named(map, &wish.field).is_some_and(|field| is_wrong(&wish.want, &field))
+    })
 }
 
 fn is_wrong(want: &Want, field: &Field) -> bool
@@ -219,20 +194,13 @@ fn is_wrong(want: &Want, field: &Field) -> bool
     }
 }
 
+/// Whether a wish is for a key of a key field that is known to hold another.
 fn some_ask_other_key(map: &FuseMap, keys: &Keys, wishes: &[Wish]) -> bool
     ensures { result ≡ list_any (wish_passes map.now (plans.is_other_key keys.now)) wishes.now }
 {
-    wishes.iter().any(|wish| asks_other_key(map, keys, wish))
-}
-
-/// Whether the wish is for a key of a key field that is known to hold another.
-fn asks_other_key(map: &FuseMap, keys: &Keys, wish: &Wish) -> bool
-    ensures { result ≡ wish_passes map.now (plans.is_other_key keys.now) wish.now }
-{
-    match field_named(map, &wish.field) {
-        Some(field) => is_other_key(keys, &wish.want, &field),
-        None => false,
-    }
+    wishes.iter().any(|wish| {
+        field_named(map, &wish.field).is_some_and(|field| is_other_key(keys, &wish.want, &field))
+    })
 }
 
 fn is_other_key(keys: &Keys, want: &Want, field: &Field) -> bool
@@ -252,10 +220,7 @@ fn is_other_key(keys: &Keys, want: &Want, field: &Field) -> bool
 fn is_other(known: Option<Digest>, digest: &Digest) -> bool
     ensures { result ≡ option_map_or (λ known. not (bytes_eq known digest.now)) known false }
 {
-    match known {
-        Some(known) => known != *digest,
-        None => false,
-    }
+    known.is_some_and(|known| known != *digest)
 }
 
 /// Whether a position or a key is write-protected.
@@ -270,16 +235,11 @@ fn has_protected_key(map: &FuseMap, burnt: &Bits, keys: &Keys) -> bool
     ensures { result
         ≡ plans.has_key_where map.now keys.now (locks.is_write_protected_key map.now burnt.now) }
 {
-    let fields = map.fields();
-    for field in fields {
-        if field.key
+    map.fields().iter().any(|field| {
+        field.key
             && keys.get(field.block).is_some()
             && is_write_protected_key(map, burnt, field.block)
-        {
-            return true;
-        }
-    }
-    false
+    })
 }
 
 /// Whether a position or a key is read-protected.
@@ -293,29 +253,18 @@ fn has_hidden_key(map: &FuseMap, burnt: &Bits, keys: &Keys) -> bool
     ensures { result ≡ plans.has_key_where map.now keys.now (locks.is_hidden_key map.now
         burnt.now) }
 {
-    let fields = map.fields();
-    for field in fields {
-        if field.key && keys.get(field.block).is_some() && is_hidden_key(map, burnt, field.block) {
-            return true;
-        }
-    }
-    false
+    map.fields().iter().any(|field| {
+        field.key && keys.get(field.block).is_some() && is_hidden_key(map, burnt, field.block)
+    })
 }
 
+/// Whether a wish is for a lock that its field hasn't.
 fn some_name_no_lock(map: &FuseMap, wishes: &[Wish]) -> bool
     ensures { result ≡ list_any (wish_passes map.now (plans.lacks_lock map.now)) wishes.now }
 {
-    wishes.iter().any(|wish| names_no_lock(map, wish))
-}
-
-/// Whether the wish is for a lock that its field hasn't.
-fn names_no_lock(map: &FuseMap, wish: &Wish) -> bool
-    ensures { result ≡ wish_passes map.now (plans.lacks_lock map.now) wish.now }
-{
-    match field_named(map, &wish.field) {
-        Some(field) => lacks_lock(map, &wish.want, &field),
-        None => false,
-    }
+    wishes.iter().any(|wish| {
+        field_named(map, &wish.field).is_some_and(|field| lacks_lock(map, &wish.want, &field))
+    })
 }
 
 fn lacks_lock(map: &FuseMap, want: &Want, field: &Field) -> bool

@@ -2,8 +2,7 @@
 ghost use Rattle.std.specs.Prelude.{◌≡◌, ◌&&◌, ◌-◌, not, Some, None, if◌then◌else◌};
 ghost use Rattle.fusemap_core.specs.Prelude.{holds};
 ghost use Rattle.fuse_image.specs.Prelude.{places_where};
-ghost use Rattle.fuse_plan.specs.Prelude.{number_has_one, asks_one, asks_zero, at_field, key_of_want, key_of_wish, wanted_key, wanted_keys, wanted_ones};
-ghost use Rattle.fuse_plan.specs.Prelude.{wanted_zeros};
+ghost use Rattle.fuse_plan.specs.Prelude.{number_has_one, asks_one, asks_zero, at_field, key_of_want, key_of_wish, wanted_key, wanted_keys};
 ghost use Rattle.fuse_plan.specs.Wishes as asked;
 
 use crate::fields::{bit_named, field_named, only, read_lock_named, write_lock_named};
@@ -26,12 +25,19 @@ pub(crate) struct Wants {
 }
 
 /// What the wishes ask for.
+#[tactic(auto, unfolding(crate::specs::Wishes::wanted_ones, crate::specs::Wishes::wanted_zeros))]
 pub(crate) fn wants_of(map: &FuseMap, wishes: &[Wish]) -> Wants
     ensures { result ≡ asked.wants_of map.now wishes.now }
 {
+    let mut ones = Bits::empty();
+    let mut zeros = Bits::empty();
+    for wish in wishes {
+        ones = ones.join(&ones_of(map, wish));
+        zeros = zeros.join(&zeros_of(map, wish));
+    }
     Wants {
-        ones: wanted_ones(map, wishes),
-        zeros: wanted_zeros(map, wishes),
+        ones,
+        zeros,
         keys: wanted_keys(map, wishes),
     }
 }
@@ -44,30 +50,6 @@ pub(crate) fn missing(image: &Image, wants: &Wants) -> Image
         burnt: wants.ones.minus(&image.burnt),
         keys: wants.keys.minus(&image.keys),
     }
-}
-
-/// The positions that the wishes ask to be 1.
-#[tactic(auto, unfolding(crate::specs::Wishes::wanted_ones))]
-fn wanted_ones(map: &FuseMap, wishes: &[Wish]) -> Bits
-    ensures { result ≡ wanted_ones map.now wishes.now }
-{
-    let mut ones = Bits::empty();
-    for wish in wishes {
-        ones = ones.join(&ones_of(map, wish));
-    }
-    ones
-}
-
-/// The positions that the wishes ask to be 0.
-#[tactic(auto, unfolding(crate::specs::Wishes::wanted_zeros))]
-fn wanted_zeros(map: &FuseMap, wishes: &[Wish]) -> Bits
-    ensures { result ≡ wanted_zeros map.now wishes.now }
-{
-    let mut zeros = Bits::empty();
-    for wish in wishes {
-        zeros = zeros.join(&zeros_of(map, wish));
-    }
-    zeros
 }
 
 /// The positions that a wish asks to be 1.

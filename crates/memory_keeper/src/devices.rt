@@ -4,7 +4,7 @@ ghost use Rattle.office_tables.specs.Prelude.{Visits, places_taken, device_cmp, 
 ghost use Rattle.memory_keeper.specs.Counting.{count_of_order, is_counted, place_of_device, KeepsCounts};
 ghost use Rattle.memory_keeper.specs.Unplaced.{with_device_row, without};
 
-use crate::rows::{DeviceKey, Point};
+use crate::rows::DeviceKey;
 use crate::table::Table;
 use office_tables::{DeviceRow, Sink, Unkept};
 use std::alloc::Global;
@@ -122,7 +122,7 @@ impl Devices {
     pub(crate) fn get(&self, customer: &Name, chip: &Chip) -> Option<&DeviceRow>
         ensures { option_copied result ≡ find (is_device customer.now chip.now) self.now }
     {
-        self.rows.get(&device_key(*customer, *chip))
+        self.rows.get(&DeviceKey::of_row(*customer, *chip))
     }
 
     /// How many of a customer's devices take a place of an order.
@@ -175,7 +175,7 @@ impl Devices {
     pub(crate) fn remove(&mut self, customer: &Name, chip: &Chip)
         ensures { self.new ≡ without (is_device customer.now chip.now) self.old }
     {
-        let removed = self.rows.remove(&device_key(*customer, *chip));
+        let removed = self.rows.remove(&DeviceKey::of_row(*customer, *chip));
         if let Some(row) = removed {
             self.places.remove(&row);
         }
@@ -201,18 +201,8 @@ impl Devices {
         ensures { Visits S.takes sink.old (filter (is_device_behind customer.now chip.now) self.now)
             sink.new }
     {
-        let first = device_key(*customer, *chip);
+        let first = DeviceKey::of_row(*customer, *chip);
         let last = DeviceKey::end(customer);
         self.rows.visit_behind(first, last, sink);
-    }
-}
-
-/// The key of a device.
-fn device_key(customer: Name, chip: Chip) -> DeviceKey
-    ensures { result ≡ record { customer = customer; point = Point.At chip } }
-{
-    DeviceKey {
-        customer,
-        point: Point::At(chip),
     }
 }

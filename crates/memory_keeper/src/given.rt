@@ -33,10 +33,7 @@ impl GivenIndex {
     fn has(&self, mac: Option<Mac>) -> bool
         ensures { result ≡ has_mac mac self.now }
     {
-        match mac {
-            None => false,
-            Some(mac) => self.macs.contains(&mac),
-        }
+        mac.is_some_and(|mac| self.macs.contains(&mac))
     }
 
     /// Adds a record whose key isn't taken in its issuer, nor its address.

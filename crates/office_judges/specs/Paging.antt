@@ -1,6 +1,6 @@
 -- What one device adds to a page, and what a page holds of the devices behind its beginning.
 use Rattle.std.specs.Prelude.{◌≡◌, ◌<◌, ◌≤◌, ◌++◌, Bool, true, false, List, [], ◌∷◌, filter, length}
-use Rattle.std.specs.Prelude.{nat_lt, Option, Some, None, ℕ}
+use Rattle.std.specs.Prelude.{Option, Some, None, ℕ}
 use Rattle.office_tables.specs.declared.rows.OfCustomer.{OfCustomer}
 use Rattle.office_tables.specs.declared.rows.Device.{Device}
 use Rattle.office_tables.specs.Prelude.{is_device_behind, is_of}
@@ -22,11 +22,6 @@ pub record GathersPage (old : PageScan) (row : OfCustomer Device) (goes_on : Boo
   pub more : goes_on ≡ false → new.has_no_memory ≡ false → new.has_more ≡ true
   pub full : goes_on ≡ false → new.has_no_memory ≡ false → page_limit ≤ length old.devices.items
   pub kept : goes_on ≡ false → new.has_no_memory ≡ false → new.devices.items ≡ old.devices.items
-
--- what is held of devices: those that a page shows, and whether it leaves some
-pub record IsGathered (devices : List Device) (scan : PageScan) : Type 0 where
-  pub shown : scan.devices.items ≡ on_page devices
-  pub left : scan.has_more ≡ nat_lt page_limit (length devices)
 
 -- the page of devices
 pub record IsPage (devices : List Device) (page : Page) : Type 0 where

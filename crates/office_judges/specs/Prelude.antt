@@ -4,7 +4,7 @@ pub use Rattle.office_judges.specs.Identity.{IsIdentified, IsNextNumber, number_
 pub use Rattle.office_judges.specs.Import.{additions, binding_of, is_bound_to_key, resumed, verdict_by, verdict_of_row, with_other, with_others, with_rows}
 pub use Rattle.office_judges.specs.Judging.{IsJudged}
 pub use Rattle.office_judges.specs.Map.{Counts, has_text}
-pub use Rattle.office_judges.specs.Paging.{GathersPage, IsGathered, IsPage, visited_behind}
+pub use Rattle.office_judges.specs.Paging.{GathersPage, IsPage, visited_behind}
 pub use Rattle.office_judges.specs.Registration.{GathersEntries, registration_refusals_by_map}
 pub use Rattle.office_judges.specs.Scanning.{asked_range, Gathers, IsScanned, range_or_refusal, refusals_alone, refusals_beside, Scans}
 pub use Rattle.office_judges.specs.Stepping.{found_at, IsAccepted, writes_of}

@@ -1,49 +1,19 @@
 // The device that is to be registered.
-ghost use Rattle.std.specs.Prelude.{◌≡◌, List, None, Some, nat_le, ℕ};
+ghost use Rattle.std.specs.Prelude.{◌≡◌, List, None, Some, ℕ};
 ghost use Rattle.text_core.specs.Prelude.{first_that_holds};
 ghost use Rattle.fuse_image.specs.Prelude.{redacted};
-ghost use Rattle.office_tables.specs.Prelude.{places_taken, ReadsOnly, rows_of};
+ghost use Rattle.office_tables.specs.Prelude.{ReadsOnly};
 ghost use Rattle.office_rules.specs.Prelude.{unless_refused, office_sight, device_of_registration, first_step, readback_refusals};
 ghost use Rattle.office_judges.specs.Prelude.{registration_refusals_by_map};
 
 use crate::plan::no_pending;
 use fuse_columns::{encode_bits, encode_keys, encode_todo};
-use fuse_image::BlockWords;
 use fuse_plan::{ReadBack, fits, has_coding_scheme, redact, shows_what_is_hidden};
 use fusemap_core::FuseMap;
 use office_commands::{NewDevice, Refusal};
 use office_rules::DeviceStep;
-use office_tables::{Device, DeviceState, Event, Keep, Order, Unkept};
+use office_tables::{Device, DeviceState, Event, Keep, Unkept};
 use site_core::Customer;
-use text_core::Name;
-
-/// Whether an order has as many devices as it is for.
-fn is_full<K: Keep>(keep: &mut K, customer: &Name, order: &Order) -> Result<bool, Unkept>
-    ensures { ReadsOnly K.Keep keep.old keep.new result (λ t full.
-        full ≡ nat_le order.now.range.quantity
-        (places_taken order.now.name (rows_of customer.now t.devices))) }
-{
-    Ok(keep.places_taken(customer, &order.name)? >= order.range.quantity())
-}
-
-/// What a read-back shows, or the lowest refusal of it.
-fn judge_readback(map: &FuseMap, words: &BlockWords) -> Result<ReadBack, Refusal>
-    ensures { result
-        ≡ unless_refused (first_that_holds (readback_refusals words.now map.now))
-        (redacted map.now words.now) }
-{
-    if !fits(map, words) {
-        return Err(Refusal::BadReadback);
-    }
-    let readback = redact(map, words);
-    if has_coding_scheme(map, &readback) {
-        return Err(Refusal::CodingScheme);
-    }
-    if shows_what_is_hidden(map, &readback) {
-        return Err(Refusal::BadReadback);
-    }
-    Ok(readback)
-}
 
 /// A device as it is registered, by its map.
 fn device_of_registration(map: &FuseMap, device: &NewDevice, readback: &ReadBack) -> Device
@@ -67,10 +37,17 @@ fn device_of_chip(map: &FuseMap, device: &NewDevice) -> Result<Device, Refusal>
         ≡ unless_refused (first_that_holds (readback_refusals device.now.blocks map.now))
         (device_of_registration map.now device.now (redacted map.now device.now.blocks)) }
 {
-    match judge_readback(map, &device.blocks) {
-        Ok(readback) => Ok(device_of_registration(map, device, &readback)),
-        Err(refusal) => Err(refusal),
+    if !fits(map, &device.blocks) {
+        return Err(Refusal::BadReadback);
     }
+    let readback = redact(map, &device.blocks);
+    if has_coding_scheme(map, &readback) {
+        return Err(Refusal::CodingScheme);
+    }
+    if shows_what_is_hidden(map, &readback) {
+        return Err(Refusal::BadReadback);
+    }
+    Ok(device_of_registration(map, device, &readback))
 }
 
 /// The device that is to be registered, or the lowest refusal that holds.
@@ -91,7 +68,8 @@ pub(crate) fn device_to_register<K: Keep>(
     if keep.device(&customer.name(), &device.chip)?.is_some() {
         return Ok(Err(Refusal::Exists));
     }
-    if is_full(keep, &customer.name(), &order.row)? {
+    let order = order.row;
+    if keep.places_taken(&customer.name(), &order.name)? >= order.range.quantity() {
         return Ok(Err(Refusal::QuantityReached));
     }
     Ok(device_of_chip(map, device))

@@ -37,20 +37,14 @@ fn order_of<K: Keep>(keep: &mut K, customer: &Customer, device: &Device) -> Resu
     ensures { ReadsOnly K.Keep keep.old keep.new result (λ t order.
         order_at customer.now.name device.now.order t ≡ Some order) }
 {
-    match keep.order(&customer.name(), &device.order)? {
-        Some(order) => Ok(order),
-        None => Err(Unkept),
-    }
+    keep.order(&customer.name(), &device.order)?.ok_or(Unkept)
 }
 
 /// Whether a device is identified from this state: a settled one is.
 fn is_identified_from(state: DeviceState) -> bool
     ensures { result ≡ is_one_of identified_from state }
 {
-    match state {
-        DeviceState::Settled => true,
-        _ => false,
-    }
+    matches!(state, DeviceState::Settled)
 }
 
 /// The first of the addresses that a number of an order owns. `None` where the order has none. It
@@ -62,9 +56,7 @@ fn first_address(order: &Order, number: u64) -> Result<Option<Mac>, Unkept>
         return Ok(None);
     };
     let place = number.saturating_sub(order.range.first());
-    let Some(offset) = place.checked_mul(u64::from(order.macs)) else {
-        return Err(Unkept);
-    };
+    let offset = place.checked_mul(u64::from(order.macs)).ok_or(Unkept)?;
     match start.value().checked_add(offset) {
         Some(value) if value < ADDRESSES => Ok(Some(Mac::new(value))),
         _ => Err(Unkept),
@@ -81,9 +73,7 @@ fn with_number(
     ensures { IfOk result (λ n. n ≡ numbered order.now (number, serial) key) }
 {
     let mac = first_address(order, number)?;
-    let Some(above) = number.checked_add(1) else {
-        return Err(Unkept);
-    };
+    let above = number.checked_add(1).ok_or(Unkept)?;
     Ok(Numbered {
         idevid: IdevidRecord::of(order.issuer, serial, key, mac, order.not_before),
         cursor: Cursor {

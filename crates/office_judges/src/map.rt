@@ -53,29 +53,6 @@ fn has_text<K: Keep>(keep: &mut K, link: &LinkRow, text: &Text) -> Result<bool, 
     }
 }
 
-/// The import of a text whose digest the customer has: of the same text, or of another.
-fn judge_known<K: Keep>(
-    alloc: Global,
-    keep: &mut K,
-    customer: &Customer,
-    link: &LinkRow,
-    text: &Text,
-    body: String,
-) -> Result<Judgement, Unkept>
-    requires sound { map_fault text.now ≡ None }
-    requires known { K.is_open keep.old → link_at customer.now.name (sha256 text.now)
-        (K.tables keep.old) ≡ Some link.now }
-    requires body { string_bytes body ≡ map_body (sha256 text.now) }
-    ensures { ReadsOnly K.Keep keep.old keep.new result (λ t judgement. (seat : List ℕ) →
-        IsJudged customer.now seat t (Change.ImportMap text.now) judgement) }
-{
-    if !has_text(keep, link, text)? {
-        return Ok(Judgement::Refused(Refusal::MapDigestTaken));
-    }
-    let writes = Vec::new(alloc);
-    Ok(Judgement::Accepted(Accepted { body, writes }))
-}
-
 /// What links a customer to a text: to the row that has it, or to a new one.
 fn link_write<K: Keep>(
     alloc: Global,
@@ -160,7 +137,11 @@ pub fn judge_map<K: Keep>(
     }
     let body = map_body(alloc, &digest)?;
     match link {
-        Some(link) => judge_known(alloc, keep, customer, &link, text, body),
+        Some(link) if has_text(keep, &link, text)? => {
+            let writes = Vec::new(alloc);
+            Ok(Judgement::Accepted(Accepted { body, writes }))
+        }
+        Some(_) => Ok(Judgement::Refused(Refusal::MapDigestTaken)),
         None => judge_new(alloc, keep, customer, digest, text, body),
     }
 }

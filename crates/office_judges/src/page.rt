@@ -2,7 +2,7 @@
 ghost use Rattle.std.specs.Prelude.{◌≡◌, if◌then◌else◌, None};
 ghost use Rattle.office_tables.specs.Prelude.{rows_of, ReadsOnly, Visits};
 ghost use Rattle.office_rules.specs.Prelude.{devices_behind, last_chip};
-ghost use Rattle.office_judges.specs.Prelude.{visited_behind, GathersPage, IsGathered, IsPage};
+ghost use Rattle.office_judges.specs.Prelude.{visited_behind, GathersPage, IsPage};
 
 use office_tables::{Device, DeviceRow, Keep, Sink, Unkept};
 use std::alloc::Global;
@@ -63,36 +63,11 @@ fn fill_page<K: Keep>(
     }
 }
 
-/// What a page holds of a customer's devices behind a chip, or from the first on.
-fn gather_page<K: Keep>(
-    alloc: Global,
-    keep: &mut K,
-    customer: &Name,
-    after: Option<Chip>,
-) -> Result<PageScan, Unkept>
-    ensures { ReadsOnly K.Keep keep.old keep.new result (λ t scan.
-        IsGathered (devices_behind after (rows_of customer.now t.devices)) scan) }
-{
-    let mut scan = PageScan {
-        devices: Vec::new(alloc),
-        has_more: false,
-        has_no_memory: false,
-    };
-    fill_page(keep, customer, after, &mut scan)?;
-    if scan.has_no_memory {
-        return Err(Unkept);
-    }
-    Ok(scan)
-}
-
 /// The chip of the last of devices, if there is one.
 fn last_chip(devices: &[Device]) -> Option<Chip>
     ensures { result ≡ last_chip devices.now }
 {
-    match devices.last() {
-        Some(device) => Some(device.chip),
-        None => None,
-    }
+    Some(devices.last()?.chip)
 }
 
 /// The chip behind which the next page begins, where this one leaves some.
@@ -116,7 +91,15 @@ pub(crate) fn page_behind<K: Keep>(
     ensures { ReadsOnly K.Keep keep.old keep.new result (λ t page.
         IsPage (devices_behind after (rows_of customer.now t.devices)) page) }
 {
-    let scan = gather_page(alloc, keep, customer, after)?;
+    let mut scan = PageScan {
+        devices: Vec::new(alloc),
+        has_more: false,
+        has_no_memory: false,
+    };
+    fill_page(keep, customer, after, &mut scan)?;
+    if scan.has_no_memory {
+        return Err(Unkept);
+    }
     let next = next_of(&scan);
     Ok(Page {
         devices: scan.devices,

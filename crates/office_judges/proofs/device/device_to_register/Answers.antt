@@ -1,5 +1,5 @@
 use Rattle.std.proofs.Common.{◌≡◌, ◌∙◌, false, Some, None, sym, ap, rules, is_some, nat_le}
-use Rattle.text_core.proofs.Kit.{none_from_test}
+use Rattle.text_core.proofs.Kit.{arith, nat_tests, none_from_test}
 use Rattle.office_tables.specs.Prelude.{places_taken, device_at, order_at, rows_of}
 use Rattle.office_judges.proofs.device.device_to_register.Goals as goal
 
@@ -11,7 +11,7 @@ returns g c = record {
       let s = c.args.customer.now in
       let d = c.args.device.now in
       let t = g.K.Keep.tables c.args.keep.now in
-      let was = c.is_full.ensures.read_only.was_open is in
+      let was = c.places_taken.ensures.read_only.was_open is in
       let first = c.device.ensures.read_only.was_open was in
       let same = c.order.ensures.read_only.same first in
       let still = c.device.ensures.read_only.same was ∙ same in
@@ -22,7 +22,9 @@ returns g c = record {
       let free : device_at s.name d.chip t ≡ None =
       none_from_test _ (rw (c.name-2.ensures, same) at unknown) in
       let o = c.in-Some.order.row in
+      let taken : c.in_ok-places_taken.field-0 ≡ places_taken o.name (rows_of s.name t.devices) =
+      rw (c.name-3.ensures, still) at (c.in_ok-places_taken.ensures.answer is) in
       let room : nat_le o.range.quantity (places_taken o.name (rows_of s.name t.devices)) ≡ false =
-      rw (c.name-3.ensures, still) at (sym (c.in_ok-is_full.ensures.answer is) ∙ c.if-branch.false) in
+      grind (arith, nat_tests, taken, c.quantity.ensures, c.if-branch-quantity.false) in
       rw (there, free, room) c.device_of_chip.ensures;
 }

@@ -2,4 +2,4 @@ use Rattle.memory_keeper.proofs.Keys.{find_device}
 use Rattle.memory_keeper.proofs.devices.Devices.get.Goals as goal
 
 pub returns : goal.returns
-returns c = rw (← c.self.view_is, ← (find_device c.args.customer.now c.args.chip.now c.self.inside.rows)) (rw c.device_key.ensures at c.get.ensures)
+returns c = rw (← c.self.view_is, ← (find_device c.args.customer.now c.args.chip.now c.self.inside.rows)) (rw c.of_row.ensures at c.get.ensures)

@@ -25,8 +25,8 @@ invariant_of-self-in_default c =
 
 pub returns-in-Some : goal.returns-in-Some
 returns-in-Some c =
-    rw (c.remove-removed.ensures.other_rows, ← c.self.view_is, c.device_key.ensures) (without_device c.args.customer.now c.args.chip.now c.self.inside.rows)
+    rw (c.remove-removed.ensures.other_rows, ← c.self.view_is, c.of_row.ensures) (without_device c.args.customer.now c.args.chip.now c.self.inside.rows)
 
 pub returns-in_default : goal.returns-in_default
 returns-in_default c =
-    rw (c.remove-removed.ensures.other_rows, ← c.self.view_is, c.device_key.ensures) (without_device c.args.customer.now c.args.chip.now c.self.inside.rows)
+    rw (c.remove-removed.ensures.other_rows, ← c.self.view_is, c.of_row.ensures) (without_device c.args.customer.now c.args.chip.now c.self.inside.rows)
