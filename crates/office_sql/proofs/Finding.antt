@@ -1,8 +1,8 @@
 -- What is found among rows in order, and rows with one key.
-use Rattle.std.proofs.Common.{◌≡◌, ◌∷◌, Ordering}
-use Rattle.text_core.proofs.Kit.{map, ℕ, Bool, true, false, List, [], filter, find, slice_get, IsPermutation, Some, None, refl, ap, subst, sym, ◌∙◌, Less}
+use Rattle.std.proofs.Common.{◌≡◌, ◌∷◌, ◌&&◌, Ordering}
+use Rattle.text_core.proofs.Kit.{map, ℕ, Bool, true, false, List, [], filter, find, slice_get, IsPermutation, Some, None, refl, ap, ap₂, subst, sym, ◌∙◌, Less}
 use Rattle.text_core.proofs.Kit.{Equal, Greater, is_eq, true≢false, AllByRecursion, bytes_eq, nat_cmp, IsTotalOrder, slice_cmp, nat_list_eq_equiv}
-use Rattle.text_core.proofs.Kit.{is_eq-slice_cmp, IsPermutation-refl}
+use Rattle.text_core.proofs.Kit.{is_eq-slice_cmp, IsPermutation-refl, and_parts, ordering_then, tied_then}
 use Rattle.office_tables.proofs.Finding.{none_passes, find_none}
 use Rattle.office_sql.proofs.Kit.{sort_by, IsPermutation-sort_by, all-permutation, filter-map, slice_get-filter, sorted_from_ascending, Row}
 use Rattle.office_sql.specs.Prelude.{AreKeyed}
@@ -26,8 +26,28 @@ alike Greater h = absurd (true≢false (sym h))
 pub texts_tied : (c a b : List ℕ) → bytes_eq c a ≡ true → bytes_eq c b ≡ true → slice_cmp nat_cmp a b ≡ Equal
 texts_tied c a b p q = alike _ (is_eq-slice_cmp a b ∙ sym (nat_list_eq_equiv.congr c a b p) ∙ q)
 
-pub texts_alike : (a b t : List ℕ) → bytes_eq a t ≡ true → bytes_eq b t ≡ true → slice_cmp nat_cmp a b ≡ Equal
+texts_alike : (a b t : List ℕ) → bytes_eq a t ≡ true → bytes_eq b t ≡ true → slice_cmp nat_cmp a b ≡ Equal
 texts_alike a b t e f = texts_tied t a b (nat_list_eq_equiv.symm t a ∙ e) (nat_list_eq_equiv.symm t b ∙ f)
+
+-- keys of two texts are equal where both texts are
+pub texts_same : (a b x y : List ℕ) → is_eq (ordering_then (slice_cmp nat_cmp a x) (slice_cmp nat_cmp b y)) ≡ (bytes_eq a x && bytes_eq b y)
+texts_same a b x y = sym (tied_then _ _) ∙ ap₂ ◌&&◌ (is_eq-slice_cmp a x) (is_eq-slice_cmp b y)
+
+-- keys of two texts that two others equal are equal
+pub keys_tied : (c d a b x y : List ℕ) → (bytes_eq c a && bytes_eq d b) ≡ true → (bytes_eq c x && bytes_eq d y) ≡ true
+    → ordering_then (slice_cmp nat_cmp a x) (slice_cmp nat_cmp b y) ≡ Equal
+keys_tied c d a b x y e f =
+    let p = and_parts _ _ e in
+    let q = and_parts _ _ f in
+    ap₂ ordering_then (texts_tied c a x p.0 q.0) (texts_tied d b y p.1 q.1)
+
+-- those that equal two others are, too
+pub keys_alike : (a b x y c d : List ℕ) → (bytes_eq a c && bytes_eq b d) ≡ true → (bytes_eq x c && bytes_eq y d) ≡ true
+    → ordering_then (slice_cmp nat_cmp a x) (slice_cmp nat_cmp b y) ≡ Equal
+keys_alike a b x y c d e f =
+    let p = and_parts _ _ e in
+    let q = and_parts _ _ f in
+    ap₂ ordering_then (texts_alike a x c p.0 q.0) (texts_alike b y d p.1 q.1)
 
 module _ {A : Type 0} (cmp : A → A → Ordering) (total : IsTotalOrder cmp) (value : Row → A) (p : A → Bool) where
   -- the one row that passes is found

@@ -11,11 +11,11 @@ pub mod Kept
 pub mod Reading
 pub mod Visiting
 pub mod Values
+pub mod TableOf
 pub mod Names
 pub mod Offices
 mod Making
 pub mod Resting
-mod SeatReads
 pub mod Inserting
 pub mod Replacing
 pub mod ValidityRows
@@ -24,26 +24,20 @@ pub mod Filled
 pub mod Filling
 pub mod Lacking
 mod Finding
-mod EntryReads
 pub mod LedgerAsked
-mod EntryLast
-mod EntryWrites
-mod LinkReads
-mod LinkWrites
 pub mod MapChanges
 pub mod MapValues
-mod MapReads
 mod MapIds
-mod MapWrites
-mod DeviceReads
-mod DeviceWrites
-pub mod GivenReads
 mod Looking
-mod GivenWrites
-mod SeatWrites
-pub mod OrderReads
 pub mod ColumnKinds
-mod OrderWrites
 pub mod Missing
+mod Putting
+mod SeatTexts
+mod MapTexts
+mod LinkTexts
+pub mod OrderTexts
+mod DeviceTexts
+pub mod GivenTexts
+mod EntryTexts
 pub mod Kit
 mod Types

@@ -1,22 +1,23 @@
 -- What an UPDATE of the row with a key does. No reference acts on an update here, so a table that others refer to is as any other.
-use Rattle.std.proofs.Common.{◌≡◌, ◌≢◌, ◌⊎◌, ◌∷◌, Ordering, ◌==◌}
+use Rattle.std.proofs.Common.{◌≡◌, ◌⊎◌, ◌∷◌, ◌==◌}
 use Rattle.text_core.proofs.Kit.{ℕ, ℤ, Bool, true, false, not, List, [], map, filter, length, slice_get, Option, Some, None, Ok, refl, sym, ap, Less, Equal}
 use Rattle.text_core.proofs.Kit.{is_eq, is_lt, true≢false, subst, ◌∙◌, inl, inr, AllByRecursion, filter_map, flat_map, IsPermutation, length_permutation}
-use Rattle.text_core.proofs.Kit.{unwrap_or, IsTotalOrder, cases_eq, tied_itself, IsPermutation-refl, IsPermutation-trans, IsPermutation-cons}
-use Rattle.text_core.proofs.Kit.{IsPermutation-middle, nil_from_length}
+use Rattle.text_core.proofs.Kit.{unwrap_or, cases_eq, tied_itself, IsPermutation-refl, IsPermutation-trans, IsPermutation-cons, IsPermutation-middle}
+use Rattle.text_core.proofs.Kit.{nil_from_length}
 use Rattle.office_sql.proofs.Kit.{Null, Int, Row, Term, eval_all, overlay, Update, edit_of, edited, Given, Tally, Does, AtPlace, OnRows, Edited, Written, Table}
 use Rattle.office_sql.proofs.Kit.{Trees, put_row, without_rowid, Database, IsDatabase, State, mode_of, Executes, IsPlain, command_of, statement_of, runs_as}
 use Rattle.office_sql.proofs.Kit.{one_step, one_permutation, Enforced, cast_row, ids_of, works, work_by, pairs, deed_for, taken_by, parent_key, IsTable, rowid}
 use Rattle.office_sql.proofs.Kit.{has_rowid, id_in, Has, all_has, has_filtered, int_is, all-map, filter_all, filter_same, filter-map, later_rowids}
-use Rattle.office_sql.proofs.Kit.{value_cmp_total, Command, sort_by}
+use Rattle.office_sql.proofs.Kit.{value_cmp_total, Command}
 use Rattle.sqlite.specs.Listing.{understood}
 use Rattle.sqlite.specs.Order.{value_cmp}
 use Rattle.sqlite_trees.proofs.ListLemmas.{all_weaker, ascending-filter}
 use Rattle.office_sql.proofs.Names.{same_but}
-use Rattle.office_sql.specs.Prelude.{OfficeTable, passes, AreRows, AreKeyed, office_schema, rows_in, tree_of, table_of, place_of, scan, env, passing, Remakes}
+use Rattle.office_sql.specs.Prelude.{OfficeTable, IsOffice, passes, AreKeyed, office_schema, rows_in, tree_of, table_of, place_of, scan, env, passing, Remakes}
 use Rattle.office_sql.specs.Prelude.{Replaces, SqlStays, SameBut}
 use Rattle.office_sql.proofs.Inserting.{enforced, task_on}
 use Rattle.office_sql.proofs.Scan.{scanned}
+use Rattle.office_sql.proofs.TableOf.{TableOf, AreRowsAs, in_order}
 use Rattle.office_sql.proofs.TableRows.{row_replaced}
 use Rattle.office_tables.specs.Prelude.{with_row}
 use Rattle.office_tables.proofs.Finding.{none_filtered}
@@ -160,129 +161,108 @@ without_one (x ∷ rows) r id up (inr later) e =
     ∷ []) r (without_rowid id rows)))
 
 -- the row of a table that passes a test, and its rowid
-pub record IsTheRow {A : Type 0} (Typed : Row → Type 0) (value : Row → A) (p : A → Bool) (rows : List Row) (r : Row) (id : ℤ) : Type 0 where
+pub record IsTheRow {A : Type 0} (t : TableOf A) (p : A → Bool) (rows : List Row) (r : Row) (id : ℤ) : Type 0 where
   pub numbered : rowid r ≡ Int id
-  pub typed : Typed r
-  pub passed : p (value r) ≡ true
-  pub alone : filter (λ x. p (value x)) rows ≡ r ∷ []
+  pub typed : t.Typed r
+  pub passed : p (t.value r) ≡ true
+  pub alone : filter (λ x. p (t.value x)) rows ≡ r ∷ []
   pub split : IsPermutation rows (r ∷ without_rowid id rows)
 
-module _ {A : Type 0} (Typed : Row → Type 0) (cmp : A → A
-    → Ordering) (total : IsTotalOrder cmp) (value : Row → A) (p : A → Bool) (ties : (a b : A)
-    → p a ≡ true → p b ≡ true → cmp a b ≡ Equal) where
+-- no row of the table passes, or one
+abbrev IsOneOrNone : {A : Type 0} → TableOf A → (A → Bool) → List Term → Row → List Row → Type 0
+IsOneOrNone t p tests params rows =
+    ((passing tests params rows ≡ []) × AllByRecursion (λ x. p x ≡ false) (map t.value rows))
+    ⊎ ((r : Row) × (id : ℤ) × (passing tests params rows ≡ r ∷ []) × IsTheRow t p rows r id)
+
+module _ {A : Type 0} (t : TableOf A) (p : A → Bool) (ties : (a b : A) → p a ≡ true → p b ≡ true → t.cmp a b ≡ Equal) where
   -- no two rows have one key
-  twice : (rows : List Row) (a b : Row) (more : List Row) → AreRows Typed cmp value rows → filter (λ r. p (value r)) rows ≡ a ∷ b ∷ more → ⊥
+  twice : (rows : List Row) (a b : Row) (more : List Row) → AreRowsAs t rows → filter (λ r. p (t.value r)) rows ≡ a ∷ b ∷ more → ⊥
   twice rows a b more are e =
-      let two = subst (AreKeyed cmp) (filter-map p value rows ∙ ap (map value) e) (ascending-filter _ p (map value rows) are.keyed) in
-      let pa = (has_filtered (λ r. p (value r)) rows a (subst (λ l. Has l a) (sym e) (inl refl))).1 in
-      let pb = (has_filtered (λ r. p (value r)) rows b (subst (λ l. Has l b) (sym e) (inr (inl refl)))).1 in
-      true≢false (ap is_eq (sym (ties (value a) (value b) pa pb)) ∙ two.0.0)
+      let two = subst (AreKeyed t.cmp) (filter-map p t.value rows ∙ ap (map t.value) e) (ascending-filter _ p (map t.value rows) are.keyed) in
+      let pa = (has_filtered (λ r. p (t.value r)) rows a (subst (λ l. Has l a) (sym e) (inl refl))).1 in
+      let pb = (has_filtered (λ r. p (t.value r)) rows b (subst (λ l. Has l b) (sym e) (inr (inl refl)))).1 in
+      true≢false (ap is_eq (sym (ties (t.value a) (t.value b) pa pb)) ∙ two.0.0)
 
-  -- no row of a table passes, or one
-  pub one_or_none : (tests : List Term) (params : Row)
-      → ((r : Row) → Typed r → passes tests params r ≡ p (value r)) → (rows : List Row)
-      → AreRows Typed cmp value rows
-      → ((passing tests params rows ≡ [])
-      × AllByRecursion (λ x. p x ≡ false) (map value rows)) ⊎ ((r : Row) × (id : ℤ)
-      × (passing tests params rows ≡ r ∷ []) × IsTheRow Typed value p rows r id)
-  one_or_none tests params is rows are = go (filter (λ r. p (value r)) rows) refl
+  one_or_none : (tests : List Term) (params : Row) → ((r : Row) → t.Typed r → passes tests params r ≡ p (t.value r))
+      → (rows : List Row) → AreRowsAs t rows → IsOneOrNone t p tests params rows
+  one_or_none tests params is rows are = go (filter (λ r. p (t.value r)) rows) refl
     where
-      same : passing tests params rows ≡ filter (λ r. p (value r)) rows
-      same = filter_same (passes tests params) (λ r. p (value r)) rows (all_weaker _ (λ r. passes tests params r ≡ p (value r)) is rows are.typed)
+      same : passing tests params rows ≡ filter (λ r. p (t.value r)) rows
+      same = filter_same (passes tests params) (λ r. p (t.value r)) rows (all_weaker _ (λ r. passes tests params r ≡ p (t.value r)) is rows are.typed)
 
-      go : (l : List Row) → filter (λ r. p (value r)) rows ≡ l
-          → ((passing tests params rows ≡ [])
-          × AllByRecursion (λ x. p x ≡ false) (map value rows)) ⊎ ((r : Row) × (id : ℤ)
-          × (passing tests params rows ≡ r ∷ []) × IsTheRow Typed value p rows r id)
-      go [] e = inl (same ∙ e, all-map (λ x. p x ≡ false) value rows (none_filtered (λ r. p (value r)) rows e))
+      go : (l : List Row) → filter (λ r. p (t.value r)) rows ≡ l → IsOneOrNone t p tests params rows
+      go [] e = inl (same ∙ e, all-map (λ x. p x ≡ false) t.value rows (none_filtered (λ r. p (t.value r)) rows e))
       go (r ∷ []) e =
-          let has = has_filtered (λ r. p (value r)) rows r (subst (λ l. Has l r) (sym e) (inl refl)) in
+          let has = has_filtered (λ r. p (t.value r)) rows r (subst (λ l. Has l r) (sym e) (inl refl)) in
           let numbered = int_is (rowid r) (all_has _ rows r are.numbered has.0) in
           inr (
             r,
             id_in (rowid r),
-            same
-                ∙ e,
+            same ∙ e,
             record {
               numbered = numbered;
               typed = all_has _ rows r are.typed has.0;
-              passed =
-                  has.1;
-              alone =
-                  e;
+              passed = has.1;
+              alone = e;
               split = without_one rows r (id_in (rowid r)) are.rising has.0 numbered;
             },
           )
       go (a ∷ b ∷ more) e = absurd (twice rows a b more are e)
 
 -- what an UPDATE of the row with a key leaves: no row has the key, and nothing changed, or the row with the key is replaced
-pub record SetsNone {A : Type 0} (value : Row → A) (p : A → Bool) (table : OfficeTable) (old new : Database) (count : ℕ) : Type 0 where
+pub record SetsNone {A : Type 0} (t : TableOf A) (p : A → Bool) (old new : Database) (count : ℕ) : Type 0 where
   pub stays : SqlStays old new
-  pub none : AllByRecursion (λ x. p x ≡ false) (map value (rows_in old.trees table))
+  pub none : AllByRecursion (λ x. p x ≡ false) (map t.value (rows_in old.trees t.name))
   pub counted : count ≡ 0
 
-pub record SetsOne {A : Type 0} (Typed : Row → Type 0) (cmp : A → A → Ordering) (value : Row
-    → A) (p : A → Bool) (table : OfficeTable) (columns : Row
-    → Row) (old new : Database) (count : ℕ) : Type 0 where
+pub record SetsOne {A : Type 0} (t : TableOf A) (p : A → Bool) (columns : Row → Row) (old new : Database) (count : ℕ) : Type 0 where
   pub was : Row
   pub id : ℤ
-  pub one : IsTheRow Typed value p (rows_in old.trees table) was id
-  pub replaced : Replaces table id (columns was) old new
-  pub rows : AreRows Typed cmp value (rows_in new.trees table)
-  pub placed_is : sort_by cmp (map value (rows_in new.trees table))
-      ≡ with_row cmp (value (Int id ∷ columns was)) (sort_by cmp (map value (rows_in old.trees table)))
+  pub one : IsTheRow t p (rows_in old.trees t.name) was id
+  pub replaced : Replaces t.name id (columns was) old new
+  pub rows : AreRowsAs t (rows_in new.trees t.name)
+  pub placed_is : in_order t (rows_in new.trees t.name) ≡ with_row t.cmp (t.value (Int id ∷ columns was)) (in_order t (rows_in old.trees t.name))
   pub counted : count ≡ 1
 
 -- it is remade, where its new columns are those of another rule
-pub remade : {A : Type 0} (Typed : Row → Type 0) (cmp : A → A → Ordering) (value : Row → A) (p : A
-    → Bool) (table : OfficeTable) (columns others : Row → Row) (old new : Database) (count : ℕ)
-    → (one : SetsOne Typed cmp value p table columns old new count) → columns one.was ≡ others one.was → Remakes table (λ r. p (value r)) others old new
-remade Typed cmp value p table columns others old new count one same = (
-  one.was,
-  one.id,
-  one.one.alone,
-  one.one.numbered,
-  subst (λ (c : Row).
-      Replaces table one.id c old new) same one.replaced,
-)
+pub remade : {A : Type 0} (t : TableOf A) (p : A → Bool) (columns others : Row → Row) (old new : Database) (count : ℕ)
+    → (one : SetsOne t p columns old new count) → columns one.was ≡ others one.was → Remakes t.name (λ r. p (t.value r)) others old new
+remade t p columns others old new count one same =
+    (one.was, one.id, one.one.alone, one.one.numbered, subst (λ (c : Row). Replaces t.name one.id c old new) same one.replaced)
 
 -- the columns of the new row, made of the old one
-pub record IsSet {A : Type 0} (Typed : Row → Type 0) (cmp : A → A → Ordering) (value : Row
-    → A) (p : A → Bool) (table : Table) (tests shown : List Term) (params : Row) (columns : Row
-    → Row) : Type 0 where
-  pub tested : (r : Row) → Typed r → passes tests params r ≡ p (value r)
+pub record IsSet {A : Type 0} (t : TableOf A) (p : A → Bool) (tests shown : List Term) (params : Row) (columns : Row → Row) : Type 0 where
+  pub tested : (r : Row) → t.Typed r → passes tests params r ≡ p (t.value r)
   pub evals : (r : Row) → eval_all shown (env params r) ≡ rowid r ∷ rowid r ∷ columns r
-  pub casts : (id : ℤ) (r : Row) → Typed r → cast_row table (Int id ∷ columns r) ≡ Int id ∷ columns r
-  pub typed : (id : ℤ) (r : Row) → Typed r → Typed (Int id ∷ columns r)
-  pub tied : (id : ℤ) (r : Row) → Typed r → p (value r) ≡ true → cmp (value (Int id ∷ columns r)) (value r) ≡ Equal
+  pub casts : (id : ℤ) (r : Row) → t.Typed r → cast_row (table_of t.name) (Int id ∷ columns r) ≡ Int id ∷ columns r
+  pub typed : (id : ℤ) (r : Row) → t.Typed r → t.Typed (Int id ∷ columns r)
+  pub tied : (id : ℤ) (r : Row) → t.Typed r → p (t.value r) ≡ true → t.cmp (t.value (Int id ∷ columns r)) (t.value r) ≡ Equal
 
-module _ {A : Type 0} (Typed : Row → Type 0) (cmp : A → A
-    → Ordering) (total : IsTotalOrder cmp) (value : Row → A) (p : A → Bool) (ties : (a b : A)
-    → p a ≡ true → p b ≡ true → cmp a b ≡ Equal)
-    (text : List ℕ) (table : OfficeTable) (tests shown : List Term)
-    (update : IsUpdate text table tests shown) (params : Row) (columns : Row
-    → Row) (set : IsSet Typed cmp value p (table_of table) tests shown params columns) where
-  pub sets : (old new : State) (count : ℕ) → old.now.schema ≡ office_schema
-      → AreRows Typed cmp value (rows_in old.now.trees table) → Executes text params old new (Ok count)
-      → SetsNone value p table old.now new.now count ⊎ SetsOne Typed cmp value p table columns old.now new.now count
-  sets old new count has are ran = elim (one_or_none Typed cmp total value p ties tests params set.tested (rows_in old.now.trees table) are) [
-    | inl none ↦
-        (let it = stays text table tests shown update params old new count has ran none.0 in inl
-        (record { stays = it.0; none = none.1; counted = it.1 }))
-    | inr one ↦ (let r = one.0 in
-        let id = one.1 in
-        let the = one.3 in
-        let it = replaces text table tests shown update params old new count has ran r (Int id ∷ columns r) (columns r) id one.2
-        (set.evals r ∙ ap (λ v. v ∷ v ∷ columns r) the.numbered) (set.casts id r the.typed) in
-        let made = row_replaced Typed cmp total value id r (columns r) (rows_in old.now.trees table)
-        are the.split (set.typed id r the.typed) (set.tied id r the.typed the.passed) in
-        inr (record {
-          was = r;
-          id = id;
-          one = the;
-          replaced = it.0;
-          rows = subst (AreRows Typed cmp value) (sym it.0.row) made.0;
-          placed_is = ap (λ l. sort_by cmp (map value l)) it.0.row ∙ made.1;
-          counted = it.1;
-        }))
-  ]
+module _ {A : Type 0} (t : TableOf A) (p : A → Bool) (ties : (a b : A) → p a ≡ true → p b ≡ true → t.cmp a b ≡ Equal)
+    (text : List ℕ) (tests shown : List Term) (update : IsUpdate text t.name tests shown) (params : Row) (columns : Row → Row)
+    (set : IsSet t p tests shown params columns) where
+  pub sets : (old new : State) (count : ℕ) → IsOffice old.now → Executes text params old new (Ok count)
+      → SetsNone t p old.now new.now count ⊎ SetsOne t p columns old.now new.now count
+  sets old new count office ran =
+      let rows = rows_in old.now.trees t.name in
+      let are = t.from_office rows (office.rows t.name) in
+      elim (one_or_none t p ties tests params set.tested rows are) [
+        | inl none ↦
+            (let it = stays text t.name tests shown update params old new count office.schema ran none.0 in inl
+            (record { stays = it.0; none = none.1; counted = it.1 }))
+        | inr one ↦ (let r = one.0 in
+            let id = one.1 in
+            let the = one.3 in
+            let it = replaces text t.name tests shown update params old new count office.schema ran r (Int id ∷ columns r) (columns r) id one.2
+            (set.evals r ∙ ap (λ v. v ∷ v ∷ columns r) the.numbered) (set.casts id r the.typed) in
+            let made = row_replaced t id r (columns r) rows are the.split (set.typed id r the.typed) (set.tied id r the.typed the.passed) in
+            inr (record {
+              was = r;
+              id = id;
+              one = the;
+              replaced = it.0;
+              rows = subst (AreRowsAs t) (sym it.0.row) made.0;
+              placed_is = ap (in_order t) it.0.row ∙ made.1;
+              counted = it.1;
+            }))
+      ]

@@ -1,16 +1,16 @@
 -- What an edit of a table's rows makes of the rows in key order.
 use Rattle.std.proofs.Common.{◌≡◌, ◌+ℤ◌, ◌∷◌, Ordering}
 use Rattle.text_core.proofs.Kit.{ℤ, pos, true, false, not, cond, List, [], map, fold, refl, sym, ap, ◌∙◌, subst, arith, Less, Equal, Greater, is_lt, is_eq}
-use Rattle.text_core.proofs.Kit.{true≢false, IsPermutation, IsTrue, AllByRecursion, match_ordering, IsTotalOrder, nat_tests, ints, IsPermutation-refl}
-use Rattle.text_core.proofs.Kit.{IsPermutation-sym, IsPermutation-trans, IsPermutation-cons, IsPermutation-middle, IsPermutation-map}
+use Rattle.text_core.proofs.Kit.{true≢false, IsPermutation, IsTrue, AllByRecursion, match_ordering, nat_tests, ints, IsPermutation-refl, IsPermutation-sym}
+use Rattle.text_core.proofs.Kit.{IsPermutation-trans, IsPermutation-cons, IsPermutation-middle, IsPermutation-map}
 use Rattle.office_sql.proofs.Kit.{Value, Null, Int, Real, Row, is_int, IsTable, rowid, has_rowid, put_row, without_rowid, next_rowid, id_in, all-filter}
-use Rattle.office_sql.proofs.Kit.{filter_all, filter-filter, later_rowids, IsTable-put_row, all-put_row, value_cmp_total, value_cmp-Int, sort_by}
+use Rattle.office_sql.proofs.Kit.{filter_all, filter-filter, later_rowids, IsTable-put_row, all-put_row, value_cmp_total, value_cmp-Int}
 use Rattle.sqlite.specs.declared.types.Value.TheVariants.{Text, Blob}
 use Rattle.sqlite.specs.Order.{value_cmp}
 use Rattle.sqlite_trees.proofs.ListLemmas.{all_weaker, ascending-filter}
 use Rattle.office_tables.specs.Prelude.{with_row}
-use Rattle.office_sql.specs.Prelude.{AreRows}
 use Rattle.office_sql.proofs.Keyed.{Apart, gains, replaces}
+use Rattle.office_sql.proofs.TableOf.{TableOf, AreRowsAs, in_order}
 
 -- as `sqlite_exec` proves it of its own writes
 pub put_row_same : (id : ℤ) (new : Row) → rowid new ≡ Int id → (rows : List Row) → IsTable rows → IsPermutation (put_row new rows) (new ∷ without_rowid id rows)
@@ -69,46 +69,40 @@ put_in_place id columns rows up =
     subst (λ l. IsPermutation (put_row new rest) (new ∷ l)) (filter-filter (λ r. not (has_rowid id r)) (λ r. not (has_rowid id r)) (λ r h. h) rows)
     (put_row_same id new refl rest (ascending-filter _ _ rows up))
 
-module _ {A : Type 0} (Typed : Row → Type 0) (cmp : A → A → Ordering) (total : IsTotalOrder cmp) (value : Row → A) where
-  pub row_added : (columns : Row) (rows : List Row) → AreRows Typed cmp value rows → Typed (Int (next_rowid rows) ∷ columns)
-      → AllByRecursion (Apart cmp total (value (Int (next_rowid rows) ∷ columns))) (map value rows)
-      → AreRows Typed cmp value (put_row (Int (next_rowid rows) ∷ columns) rows)
-      × (sort_by cmp (map value (put_row (Int (next_rowid rows) ∷ columns) rows))
-      ≡ with_row cmp (value (Int (next_rowid rows) ∷ columns)) (sort_by cmp (map value rows)))
+module _ {A : Type 0} (t : TableOf A) where
+  pub row_added : (columns : Row) (rows : List Row) → AreRowsAs t rows → t.Typed (Int (next_rowid rows) ∷ columns)
+      → AllByRecursion (Apart t.cmp t.total (t.value (Int (next_rowid rows) ∷ columns))) (map t.value rows)
+      → AreRowsAs t (put_row (Int (next_rowid rows) ∷ columns) rows)
+      × (in_order t (put_row (Int (next_rowid rows) ∷ columns) rows) ≡ with_row t.cmp (t.value (Int (next_rowid rows) ∷ columns)) (in_order t rows))
   row_added columns rows are is_typed free =
-      let id = next_rowid rows in
-      let new : Row = Int id ∷ columns in
-      let there = IsPermutation-map value _ _ (IsPermutation-sym _ _ (put_next columns rows are.rising are.numbered)) in
-      let it = gains cmp total (value new) (map value rows) (map value (put_row new rows)) (free, are.keyed) there in (
+      let new : Row = Int (next_rowid rows) ∷ columns in
+      let there = IsPermutation-map t.value _ _ (IsPermutation-sym _ _ (put_next columns rows are.rising are.numbered)) in
+      let it = gains t.cmp t.total (t.value new) (map t.value rows) (map t.value (put_row new rows)) (free, are.keyed) there in (
         record {
           rising = IsTable-put_row new rows are.rising;
-          numbered = all-put_row _ new rows refl
-              are.numbered;
-          typed = all-put_row Typed new rows is_typed are.typed;
+          numbered = all-put_row _ new rows refl are.numbered;
+          typed = all-put_row t.Typed new rows is_typed are.typed;
           keyed = it.0;
         },
         it.1,
       )
 
   -- old is the row with this rowid, and has the key
-  pub row_replaced : (id : ℤ) (old columns : Row) (rows : List Row) → AreRows Typed cmp value rows
-      → IsPermutation rows (old ∷ without_rowid id rows) → Typed (Int id ∷ columns)
-      → cmp (value (Int id ∷ columns)) (value old) ≡ Equal
-      → AreRows Typed cmp value (put_row (Int id ∷ columns) (without_rowid id rows))
-      × (sort_by cmp (map value (put_row (Int id ∷ columns) (without_rowid id rows))) ≡ with_row cmp (value (Int id ∷ columns)) (sort_by cmp (map value rows)))
+  pub row_replaced : (id : ℤ) (old columns : Row) (rows : List Row) → AreRowsAs t rows → IsPermutation rows (old ∷ without_rowid id rows)
+      → t.Typed (Int id ∷ columns) → t.cmp (t.value (Int id ∷ columns)) (t.value old) ≡ Equal
+      → AreRowsAs t (put_row (Int id ∷ columns) (without_rowid id rows))
+      × (in_order t (put_row (Int id ∷ columns) (without_rowid id rows)) ≡ with_row t.cmp (t.value (Int id ∷ columns)) (in_order t rows))
   row_replaced id old columns rows are was is_typed tie =
       let new : Row = Int id ∷ columns in
       let rest = without_rowid id rows in
       let rising = ascending-filter _ _ rows are.rising in
-      let there = IsPermutation-map value _ _ (IsPermutation-sym _ _ (put_in_place id columns rows are.rising)) in
-      let it = replaces cmp total (value old) (value new) (map value rest) (map value rows)
-      (map value (put_row new rest)) are.keyed (IsPermutation-map value _ _ was) there tie in (
+      let there = IsPermutation-map t.value _ _ (IsPermutation-sym _ _ (put_in_place id columns rows are.rising)) in
+      let it = replaces t.cmp t.total (t.value old) (t.value new) (map t.value rest) (map t.value rows)
+      (map t.value (put_row new rest)) are.keyed (IsPermutation-map t.value _ _ was) there tie in (
         record {
           rising = IsTable-put_row new rest rising;
-          numbered = all-put_row _ new rest refl
-              (all-filter _ _ rows are.numbered);
-          typed = all-put_row Typed new rest is_typed
-              (all-filter Typed _ rows are.typed);
+          numbered = all-put_row _ new rest refl (all-filter _ _ rows are.numbered);
+          typed = all-put_row t.Typed new rest is_typed (all-filter t.Typed _ rows are.typed);
           keyed = it.0;
         },
         it.1,

@@ -5,8 +5,8 @@ ghost use Rattle.office_tables.specs.Prelude.{Visits, IsAddressFree, IsFree, is_
 ghost use Rattle.office_tables.specs.declared.rows.Write.TheVariants.{AddGiven as TheGiven};
 ghost use Rattle.id_ranges.specs.Mac as spec;
 ghost use Rattle.id_ranges.specs.Prelude.{mac_of_text};
-ghost use Rattle.office_sql.specs.Prelude.{Looks, text_if, mac_if, joined_given, given_columns, given_start_columns, tables_in, SqlAdds, Wrote, SqlReads};
-ghost use Rattle.office_sql.specs.Prelude.{SqlWrites, HasOffice, HasOfficeSchema};
+ghost use Rattle.office_sql.specs.Prelude.{Looks, text_if, mac_if, joined_given, given_columns, tables_in, SqlAdds, Wrote, SqlReads, SqlWrites, HasOffice};
+ghost use Rattle.office_sql.specs.Prelude.{HasOfficeSchema};
 ghost use Rattle.sqlite.specs.Order.{column};
 ghost use Rattle.office_sql.specs.OfficeTable as table;
 
@@ -243,26 +243,6 @@ fn insert_given<S: Alter>(
     )
 }
 
-// Adds the row of a record's beginning of validity.
-fn insert_given_start<S: Alter>(
-    tx: &mut Transaction<'_, S>,
-    given: &GivenRow,
-) -> Result<usize, Error>
-    requires { HasOfficeSchema (state S.Store tx.old.conn.now) }
-    ensures same_reference { tx.new.conn.ghost_name ≡ tx.old.conn.ghost_name }
-    ensures changes { SqlWrites S.Store tx.old.conn.now tx.new.conn.now result (λ old new _.
-        SqlAdds table.given_starts (given_start_columns given.now) old new) }
-{
-    tx.execute(
-        INSERT_INTO_GIVEN_START,
-        params![
-            given.row.issuer.as_str(),
-            given.row.serial.as_str(),
-            not_before_text(&given.row.not_before)
-        ],
-    )
-}
-
 // Adds a record and its beginning of validity, with the text of its address.
 fn insert_record<S: Alter>(
     tx: &mut Transaction<'_, S>,
@@ -284,7 +264,14 @@ fn insert_record<S: Alter>(
         Wrote (TheGiven given.now) old new) }
 {
     insert_given(tx, given, address)?;
-    insert_given_start(tx, given)?;
+    tx.execute(
+        INSERT_INTO_GIVEN_START,
+        params![
+            given.row.issuer.as_str(),
+            given.row.serial.as_str(),
+            not_before_text(&given.row.not_before)
+        ],
+    )?;
     Ok(())
 }
 

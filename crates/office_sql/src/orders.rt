@@ -5,8 +5,8 @@ ghost use Rattle.sqlite.specs.Held.{state};
 ghost use Rattle.sqlite.specs.Order.{column};
 ghost use Rattle.office_tables.specs.Prelude.{Visits, is_of, is_order, order_at, IsFree};
 ghost use Rattle.office_tables.specs.declared.rows.Write.TheVariants.{AddOrder as TheOrder, SetCursor as TheCursor};
-ghost use Rattle.office_sql.specs.Prelude.{SqlReads, SqlWrites, HasOffice, HasOfficeSchema, SqlAdds, Wrote, tables_in, joined_order, order_columns};
-ghost use Rattle.office_sql.specs.Prelude.{order_start_columns, mac_if, number_in_cell, text_if};
+ghost use Rattle.office_sql.specs.Prelude.{SqlReads, SqlWrites, HasOffice, HasOfficeSchema, SqlAdds, Wrote, tables_in, joined_order, order_columns, mac_if};
+ghost use Rattle.office_sql.specs.Prelude.{number_in_cell, text_if};
 ghost use Rattle.office_sql.specs.OfficeTable as table;
 
 use crate::address::address_text;
@@ -183,26 +183,6 @@ fn insert_order<S: Alter>(
     )
 }
 
-// Adds the row of an order's beginning of validity.
-fn insert_order_start<S: Alter>(
-    tx: &mut Transaction<'_, S>,
-    order: &OrderRow,
-) -> Result<usize, Error>
-    requires { HasOfficeSchema (state S.Store tx.old.conn.now) }
-    ensures same_reference { tx.new.conn.ghost_name ≡ tx.old.conn.ghost_name }
-    ensures changes { SqlWrites S.Store tx.old.conn.now tx.new.conn.now result (λ old new _.
-        SqlAdds table.order_starts (order_start_columns order.now) old new) }
-{
-    tx.execute(
-        INSERT_INTO_ORDER_START,
-        params![
-            order.customer.as_str(),
-            order.row.name.as_str(),
-            not_before_text(&order.row.not_before)
-        ],
-    )
-}
-
 /// Adds an order, and its beginning of validity.
 pub(crate) fn add_order<S: Alter>(
     alloc: Global,
@@ -218,7 +198,14 @@ pub(crate) fn add_order<S: Alter>(
 {
     let address = address_text(alloc, order.row.mac)?;
     insert_order(tx, order, &address)?;
-    insert_order_start(tx, order)?;
+    tx.execute(
+        INSERT_INTO_ORDER_START,
+        params![
+            order.customer.as_str(),
+            order.row.name.as_str(),
+            not_before_text(&order.row.not_before)
+        ],
+    )?;
     Ok(())
 }
 

@@ -24,14 +24,10 @@ HasNoRow db = (table : OfficeTable) → table ≢ meta → table ≢ site_texts 
 -- trees without a row have the office's rows
 pub no_office_rows : (db : Trees) → HasNoRow db → AreOfficeRows db
 no_office_rows db none meta = tt
-no_office_rows db none seats = no_row _ _ _ _ (none seats (λ e. cc) (λ e. cc))
-no_office_rows db none maps = no_row _ _ _ _ (none maps (λ e. cc) (λ e. cc))
-no_office_rows db none links = no_row _ _ _ _ (none links (λ e. cc) (λ e. cc))
-no_office_rows db none orders = no_row _ _ _ _ (none orders (λ e. cc) (λ e. cc))
-no_office_rows db none devices = no_row _ _ _ _ (none devices (λ e. cc) (λ e. cc))
-no_office_rows db none given = no_row _ _ _ _ (none given (λ e. cc) (λ e. cc))
-no_office_rows db none ledger = no_row _ _ _ _ (none ledger (λ e. cc) (λ e. cc))
-no_office_rows db none _ = tt
+no_office_rows db none order_starts = tt
+no_office_rows db none given_starts = tt
+no_office_rows db none site_texts = tt
+no_office_rows db none table = no_row _ _ _ _ (none table (λ e. cc) (λ e. cc))
 
 -- trees without a row are the tables of an office without a row
 pub no_rows_in : (db : Trees) → HasNoRow db → tables_in db ≡ no_rows

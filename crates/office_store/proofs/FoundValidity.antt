@@ -16,8 +16,8 @@ use Rattle.office_sql.specs.Prelude.{orders, given, order_starts, given_starts, 
 use Rattle.office_sql.specs.Prelude.{order_start_table, given_start_table, index_at, to, rows_in, tree_of, AreKeyed, AreOfficeRows, AreRows, HaveOneValidityRow}
 use Rattle.office_sql.specs.Prelude.{HasOne, IsGivenRow, IsOffice, IsOrderRow, IsValidityRow, IsText, site_text_table, not_before_in_rows, tables_in}
 use Rattle.office_sql.specs.Prelude.{with_order_not_before, with_given_not_before}
-use Rattle.office_sql.proofs.OrderReads.{order_tied}
-use Rattle.office_sql.proofs.GivenReads.{given_tied}
+use Rattle.office_sql.proofs.OrderTexts.{order_tied}
+use Rattle.office_sql.proofs.GivenTexts.{given_tied}
 use Rattle.office_store.proofs.Types.{Version, V1, V2, V3}
 use Rattle.office_store.specs.Prelude.{AreWithoutNotBefore, StaysWithoutNotBefore}
 use Rattle.store_inspection.specs.Prelude.{HasOneValidityRowEach, AreValidityRowsFound, HasMeta, HasValidityRows, HaveValidityRows, IsFound, schema_of}

@@ -7,8 +7,7 @@ mod FoundValidity
 mod FoundVersion
 mod AddressKept
 mod CreateSteps
-mod CreateTexts
-mod CreateValidity
+mod CreateTables
 mod CreateRow
 mod Counts
 mod ValidityFilled

@@ -2,7 +2,6 @@
 use Rattle.std.proofs.Common.{◌≡◌, sym, ap, subst, ◌∙◌, IsTrue}
 use Rattle.sha2.specs.Sha256.{sha256}
 use Rattle.site_core.specs.Prelude.{TextOfSite}
-use Rattle.sqlite.specs.Store.{Ghosts}
 use Rattle.sqlite_disk.specs.declared.Disk as disk
 use Rattle.sqlite_store.specs.declared.store.FileStore.{FileStore}
 use Rattle.office_sql.proofs.Kit.{file_state, Database, HasCleanDisk, Held, Image, State, Trees}

@@ -4,14 +4,16 @@ use Rattle.std.specs.List.{AllByRecursion}
 use Rattle.office_sql.proofs.Kit.{Null, column, Database, State, Trees, sort_by}
 use Rattle.office_tables.specs.Prelude.{seat_cmp, order_cmp, map_cmp, link_cmp, device_cmp, given_cmp, entry_cmp}
 use Rattle.office_sql.proofs.Names.{first_by_name}
-use Rattle.office_sql.specs.Prelude.{OfficeTable, meta, seats, maps, links, orders, devices, given, ledger, order_starts, given_starts, site_texts, seat_in_row}
+use Rattle.office_sql.proofs.OrderTexts.{as_orders, orders_validity}
+use Rattle.office_sql.proofs.GivenTexts.{as_given, records_validity}
+use Rattle.office_sql.proofs.TableOf.{AreRowsAs}
+use Rattle.office_sql.specs.Prelude.{OfficeTable, seats, maps, links, orders, devices, given, ledger, order_starts, given_starts, site_texts, seat_in_row}
 use Rattle.office_sql.specs.Prelude.{map_in_row, link_in_row, order_in_row, device_in_row, given_in_row, entry_in_row, is_validity_of_order}
-use Rattle.office_sql.specs.Prelude.{is_validity_of_given, with_order_not_before, with_given_not_before, rows_in, place_of, AreOfficeRows, AreRows}
-use Rattle.office_sql.specs.Prelude.{HaveOneValidityRow, tables_in, IsSeatRow, IsMapRow, IsLinkRow, IsOrderRow, IsDeviceRow, IsGivenRow, IsEntryRow}
-use Rattle.office_store.proofs.ValidityFilled.{silent_not_before}
+use Rattle.office_sql.specs.Prelude.{is_validity_of_given, with_order_not_before, with_given_not_before, rows_in, place_of, AreOfficeRows, AreRowsOf}
+use Rattle.office_sql.specs.Prelude.{HaveOneValidityRow, tables_in}
+use Rattle.office_store.proofs.ValidityFilled.{FillsGiven, FillsOrders, GainsNone, silent_not_before}
 use Rattle.office_store.proofs.Types.{Version, V1a, V1b, V1, V2, V3}
-use Rattle.office_store.specs.Prelude.{CanUpgrade, GainsNone, GainsSilentRows, GainsValidityTables, GainsText, IsAt, IsFilled, IsRaised, IsRemade, IsStep}
-use Rattle.office_store.specs.Prelude.{LacksGivenValidity, LacksOrderValidity, tables_at}
+use Rattle.office_store.specs.Prelude.{CanUpgrade, GainsValidityTables, GainsText, IsAt, IsFilled, IsRaised, IsRemade, IsStep, tables_at}
 use Rattle.store_inspection.specs.Prelude.{IsBeforeV1, IsFound, KeepsFirst, Sees, HasNoValidityRow, count_of, next_version, rows_at}
 use Rattle.office_store.proofs.Counts.{first_eight}
 
@@ -23,15 +25,10 @@ at_first version db table low = rw (lt-ltb (place_of table) (count_of version) l
 module _ (old new : Trees) (same : KeepsFirst 8 old new) where
   -- they are as the office has them
   office_rows : AreOfficeRows old → AreOfficeRows new
-  office_rows rows meta = tt
-  office_rows rows seats = subst (AreRows IsSeatRow seat_cmp seat_in_row) (sym (same seats (omega arith))) (rows seats)
-  office_rows rows maps = subst (AreRows IsMapRow map_cmp map_in_row) (sym (same maps (omega arith))) (rows maps)
-  office_rows rows links = subst (AreRows IsLinkRow link_cmp link_in_row) (sym (same links (omega arith))) (rows links)
-  office_rows rows orders = subst (AreRows IsOrderRow order_cmp order_in_row) (sym (same orders (omega arith))) (rows orders)
-  office_rows rows devices = subst (AreRows IsDeviceRow device_cmp device_in_row) (sym (same devices (omega arith))) (rows devices)
-  office_rows rows given = subst (AreRows IsGivenRow given_cmp given_in_row) (sym (same given (omega arith))) (rows given)
-  office_rows rows ledger = subst (AreRows IsEntryRow entry_cmp entry_in_row) (sym (same ledger (omega arith))) (rows ledger)
-  office_rows rows _ = tt
+  office_rows rows order_starts = tt
+  office_rows rows given_starts = tt
+  office_rows rows site_texts = tt
+  office_rows rows table = subst (AreRowsOf table) (sym (same table (omega arith))) (rows table)
 
   same_at : (version later : Version) (table : OfficeTable) → place_of table < 8 → rows_at later new table ≡ rows_at version old table
   same_at version later table low =
@@ -82,78 +79,67 @@ module _ (x y : Database) (rows : AreOfficeRows x.trees) (it : IsRemade x y) whe
 
 -- ---- from the first
 
--- records are not filled with orders
-pub still_lacks_given : (y mid : Database) → GainsNone is_validity_of_order order_in_row orders order_starts y mid → LacksGivenValidity y
-    → LacksGivenValidity mid
-still_lacks_given y mid fills lacks = record {
-  schema = fills.schema;
-  rows = subst (AreRows IsGivenRow given_cmp given_in_row) (sym (fills.others given (omega arith) (λ e. cc))) lacks.rows;
-  none = fills.others given_starts (omega arith) (λ e. cc) ∙ lacks.none;
-}
-
-module _ (x y : Database) (rows : AreOfficeRows x.trees) (gains : GainsValidityTables x y) where
+module _ (x y mid z : Database) (at : IsAt V1 x) (gains : GainsValidityTables x y)
+    (fills_orders : FillsOrders y mid) (fills_given : FillsGiven mid z) where
   first_stand : KeepsFirst 8 x.trees y.trees
   first_stand = first_by_name (λ t. y.trees t.tree ≡ x.trees t.tree) 8 gains.others
 
   -- once the tables are made, they can be filled
-  pub lacks_orders : LacksOrderValidity y
-  lacks_orders = record {
+  orders_gain : GainsNone as_orders orders_validity y mid
+  orders_gain = fills_orders (record {
     schema = gains.schema;
-    rows = subst (AreRows IsOrderRow order_cmp order_in_row) (sym (first_stand orders (omega arith))) (rows orders);
-    none = gains.orders;
+    rows = subst (AreRowsAs as_orders) (sym (first_stand orders (omega arith))) (at.rows orders);
+    none = gains.none.0;
+  })
+
+  -- records are not filled with orders
+  given_gain : GainsNone as_given records_validity mid z
+  given_gain = fills_given (record {
+    schema = orders_gain.schema;
+    rows = subst (AreRowsAs as_given) (sym (orders_gain.others given (omega arith) (λ e. cc) ∙ first_stand given (omega arith))) (at.rows given);
+    none = orders_gain.others given_starts (omega arith) (λ e. cc) ∙ gains.none.1;
+  })
+
+  -- what is filled are the tables of validity rows alone
+  others_stand : (table : OfficeTable) → place_of table < 8 → rows_in z.trees table ≡ rows_in y.trees table
+  others_stand table low =
+      given_gain.others table (omega (arith, low)) (λ e. omega (arith, subst (λ t. place_of t < 8) e low))
+      ∙ orders_gain.others table (omega (arith, low)) (λ e. omega (arith, subst (λ t. place_of t < 8) e low))
+
+  rows_stand : KeepsFirst 8 x.trees z.trees
+  rows_stand table low = others_stand table low ∙ first_stand table low
+
+  validity_rows_stand : rows_in z.trees order_starts ≡ rows_in mid.trees order_starts
+  validity_rows_stand = given_gain.others order_starts (omega arith) (λ e. cc)
+
+  -- validity rows with NULL say as much as none
+  no_order_validity : with_order_not_before (rows_in z.trees order_starts) ≡ with_order_not_before []
+  no_order_validity i o =
+      let silent = subst (AllByRecursion (λ s. column s 3 ≡ Null)) (sym validity_rows_stand) orders_gain.silent in
+      record o { row = record o.row { not_before = silent_not_before is_validity_of_order (rows_in z.trees order_starts) o silent i } }
+
+  no_given_validity : with_given_not_before (rows_in z.trees given_starts) ≡ with_given_not_before []
+  no_given_validity i o = record o {
+    row = record o.row { not_before = silent_not_before is_validity_of_given (rows_in z.trees given_starts) o given_gain.silent i };
   }
 
-  pub lacks_given : LacksGivenValidity y
-  lacks_given = record {
-    schema = gains.schema;
-    rows = subst (AreRows IsGivenRow given_cmp given_in_row) (sym (first_stand given (omega arith))) (rows given);
-    none = gains.given;
-  }
-
-  module _ (z : Database) (fills : GainsSilentRows y z) where
-    abbrev mid : Database
-    mid = fills.mid
-
-    -- what is filled are the tables of validity rows alone
-    others_stand : (table : OfficeTable) → place_of table < 8 → rows_in z.trees table ≡ rows_in y.trees table
-    others_stand table low =
-        fills.given.others table (omega (arith, low)) (λ e. omega (arith, subst (λ t. place_of t < 8) e low))
-        ∙ fills.orders.others table (omega (arith, low)) (λ e. omega (arith, subst (λ t. place_of t < 8) e low))
-
-    rows_stand : KeepsFirst 8 x.trees z.trees
-    rows_stand table low = others_stand table low ∙ first_stand table low
-
-    validity_rows_stand : rows_in z.trees order_starts ≡ rows_in mid.trees order_starts
-    validity_rows_stand = fills.given.others order_starts (omega arith) (λ e. cc)
-
-    -- validity rows with NULL say as much as none
-    no_order_validity : with_order_not_before (rows_in z.trees order_starts) ≡ with_order_not_before []
-    no_order_validity i o =
-        let silent = subst (AllByRecursion (λ s. column s 3 ≡ Null)) (sym validity_rows_stand) fills.orders.silent in
-        record o { row = record o.row { not_before = silent_not_before is_validity_of_order (rows_in z.trees order_starts) o silent i } }
-
-    no_given_validity : with_given_not_before (rows_in z.trees given_starts) ≡ with_given_not_before []
-    no_given_validity i o = record o {
-      row = record o.row { not_before = silent_not_before is_validity_of_given (rows_in z.trees given_starts) o fills.given.silent i };
-    }
-
-    pub v1_step : IsStep V1 x z
-    v1_step = stepped V1 V2 x z refl (record {
-      is = record {
-        schema = fills.given.schema;
-        sound = fills.given.sound;
-        rows = office_rows x.trees z.trees rows_stand rows;
-        validity = record {
-          orders = subst₂ (HaveOneValidityRow is_validity_of_order order_in_row)
-              (sym (others_stand orders (omega arith))) (sym validity_rows_stand) fills.orders.validity;
-          given = subst (λ l. HaveOneValidityRow is_validity_of_given given_in_row l (rows_in z.trees given_starts))
-              (sym (fills.given.others given (omega arith) (λ e. cc))) fills.given.validity;
-        };
+  pub v1_step : IsStep V1 x z
+  v1_step = stepped V1 V2 x z refl (record {
+    is = record {
+      schema = given_gain.schema;
+      sound = given_gain.sound;
+      rows = office_rows x.trees z.trees rows_stand at.rows;
+      validity = record {
+        orders = subst₂ (HaveOneValidityRow is_validity_of_order order_in_row)
+            (sym (others_stand orders (omega arith))) (sym validity_rows_stand) orders_gain.validity;
+        given = subst (λ l. HaveOneValidityRow is_validity_of_given given_in_row l (rows_in z.trees given_starts))
+            (sym (given_gain.others given (omega arith) (λ e. cc))) given_gain.validity;
       };
-      tables = tables_same x.trees z.trees rows_stand V1 V2 no_order_validity no_given_validity;
-      rows = rows_stand;
-      none = λ _. refl;
-    })
+    };
+    tables = tables_same x.trees z.trees rows_stand V1 V2 no_order_validity no_given_validity;
+    rows = rows_stand;
+    none = λ _. refl;
+  })
 
 -- ---- from the second
 

@@ -1,25 +1,23 @@
 -- What the texts that fill the tables of validity rows leave, in a database of the second version.
-use Rattle.std.proofs.Common.{◌≡◌, ◌∷◌, Ordering}
+use Rattle.std.proofs.Common.{◌≡◌, ◌∷◌}
 use Rattle.text_core.proofs.Kit.{ℕ, ℤ, Bool, true, false, cond, Some, None, find, option_and_then, ap, List, [], Ok, refl, sym, subst, append-nil}
-use Rattle.text_core.proofs.Kit.{AllByRecursion, IsTotalOrder, is_eq, IsPermutation-trans}
-use Rattle.office_sql.proofs.Kit.{Null, Int, Row, column, Term, lit, col, eval_all, Collation, Binary, Database, State, Executes, cast_row, IsPermutation-same}
+use Rattle.text_core.proofs.Kit.{AllByRecursion, is_eq, IsPermutation-trans}
+use Rattle.office_sql.proofs.Kit.{Null, Int, Row, column, Term, lit, col, eval_all, Collation, Binary, Database, IsDatabase, State, Executes, cast_row}
+use Rattle.office_sql.proofs.Kit.{IsPermutation-same}
 use Rattle.sqlite.specs.Listing.{understood}
 use Rattle.sqlite.specs.Source.TheVariants.{Query as Selected}
 use Rattle.sqlite_tied.specs.Compute.{everything}
-use Rattle.office_tables.specs.Prelude.{order_cmp, given_cmp}
-use Rattle.office_tables.proofs.TotalOrders.{given_total, order_total}
-use Rattle.office_sql.specs.Prelude.{OfficeTable, orders, given, order_starts, given_starts, order_start_table, given_start_table, rows_in, not_before_in_rows}
-use Rattle.office_sql.specs.Prelude.{text_if, env, order_in_row, given_in_row, is_validity_of_order, is_validity_of_given, AreRows, HaveOneValidityRow, IsText}
-use Rattle.office_sql.specs.Prelude.{IsOrderRow, IsGivenRow}
+use Rattle.office_sql.specs.Prelude.{orders, given, order_starts, given_starts, order_start_table, given_start_table, rows_in, not_before_in_rows, text_if, env}
+use Rattle.office_sql.specs.Prelude.{order_in_row, given_in_row, HaveOneValidityRow, IsText, IsOrderRow, IsGivenRow}
 use Rattle.office_sql.proofs.Filled.{news_of, numbered_made, grows, validity_made, each_made}
-use Rattle.office_sql.proofs.OrderReads.{order_tied}
-use Rattle.office_sql.proofs.GivenReads.{given_tied}
 use Rattle.office_sql.proofs.Filling.{Fills, fills, shown_of}
 use Rattle.office_sql.proofs.Inserting.{IsInsertOf}
+use Rattle.office_sql.proofs.OrderTexts.{as_orders, order_tied, orders_validity}
+use Rattle.office_sql.proofs.GivenTexts.{as_given, given_tied, records_validity}
 use Rattle.office_sql.proofs.Stepping.{cast_null}
-use Rattle.office_store.specs.Prelude.{GainsNone, LacksOrderValidity, LacksGivenValidity}
+use Rattle.office_sql.proofs.TableOf.{TableOf, HasValidity, AreRowsAs}
 use Rattle.office_store.specs.declared.upgrade.TheConstants.{INSERT_NULL_INTO_ORDER_START, INSERT_NULL_INTO_GIVEN_START}
-use Rattle.store_inspection.specs.Prelude.{schema_of}
+use Rattle.store_inspection.specs.Prelude.{KeepsFirstBut, count_of, schema_of}
 use Rattle.store_inspection.specs.declared.version.Version.TheVariants.{V2}
 use Rattle.office_store.proofs.Counts.{first_but}
 
@@ -42,12 +40,30 @@ fill_shown = lit Null ∷ col 1 1 ∷ col 1 2 ∷ lit Null ∷ []
 abbrev plainly : List Collation
 plainly = Binary ∷ Binary ∷ Binary ∷ Binary ∷ []
 
--- where a table of validity rows is filled with the rows' keys
-filled : {A : Type 0} (Typed : Row → Type 0) (cmp : A → A → Ordering) (total : IsTotalOrder cmp) (value : Row → A) (is_for : A → Row → Bool)
-    → ((a : A) (id : ℤ) (r : Row) → Typed r → is_for a (Int id ∷ silent_columns r) ≡ is_eq (cmp a (value r))) → ((r : Row) → Typed r → IsText 1 r × IsText 2 r)
-    → (table side : OfficeTable) (old new : Database) → AreRows Typed cmp value (rows_in old.trees table)
-    → Fills (schema_of V2) silent_columns table side old new → GainsNone is_for value table side old new
-filled Typed cmp total value is_for tied texts table side old new are it =
+-- a table of the second version, of none of whose rows a beginning of validity is told
+pub record LacksValidity {A : Type 0} (t : TableOf A) (v : HasValidity t) (db : Database) : Type 0 where
+  pub schema : db.schema ≡ schema_of V2
+  pub rows : AreRowsAs t (rows_in db.trees t.name)
+  pub none : rows_in db.trees v.side ≡ []
+
+-- each row of the table has one validity row, which tells no beginning of validity, and no other table of the second version changes
+pub record GainsNone {A : Type 0} (t : TableOf A) (v : HasValidity t) (old new : Database) : Type 0 where
+  pub schema : new.schema ≡ schema_of V2
+  pub sound : IsDatabase new
+  pub validity : HaveOneValidityRow v.is_for t.value (rows_in old.trees t.name) (rows_in new.trees v.side)
+  pub silent : AllByRecursion (λ s. column s 3 ≡ Null) (rows_in new.trees v.side)
+  pub others : KeepsFirstBut v.side (count_of V2) old.trees new.trees
+
+-- what a text does that fills a table of validity rows with the rows' keys
+abbrev FillsSilently : {A : Type 0} (t : TableOf A) → HasValidity t → Database → Database → Type 0
+FillsSilently t v old new = LacksValidity t v old → GainsNone t v old new
+
+filled : {A : Type 0} (t : TableOf A) (v : HasValidity t)
+    → ((a : A) (id : ℤ) (r : Row) → t.Typed r → v.is_for a (Int id ∷ silent_columns r) ≡ is_eq (t.cmp a (t.value r)))
+    → ((r : Row) → t.Typed r → IsText 1 r × IsText 2 r) → (old new : Database) → AreRowsAs t (rows_in old.trees t.name)
+    → Fills (schema_of V2) silent_columns t.name v.side old new → GainsNone t v old new
+filled t v tied texts old new are it =
+    let rows = rows_in old.trees t.name in
     let news = news_of silent_columns [] it.kept in
     let grown = grows silent_columns it.kept [] tt tt in
     let made = numbered_made silent_columns [] it.kept in
@@ -55,14 +71,11 @@ filled Typed cmp total value is_for tied texts table side old new are it =
     record {
       schema = it.schema;
       sound = it.sound;
-      validity = subst (HaveOneValidityRow is_for value (rows_in old.trees table)) (sym it.rows)
-          (validity_made Typed cmp total value is_for silent_columns tied (λ id r e.
-          texts r e) (rows_in old.trees table)
-          it.kept news _ are it.along made grown.rising grown.numbered same);
-      silent = subst (AllByRecursion (λ s. column s 3
-          ≡ Null)) (sym it.rows) (each_made silent_columns (λ s. column s 3
-          ≡ Null) it.kept news _ made same (λ id r. refl));
-      others = first_but 10 11 side old.trees new.trees it.others;
+      validity = subst (HaveOneValidityRow v.is_for t.value rows) (sym it.rows)
+          (validity_made t v silent_columns tied (λ id r e. texts r e) rows it.kept news _ are it.along made grown.rising grown.numbered same);
+      silent = subst (AllByRecursion (λ s. column s 3 ≡ Null)) (sym it.rows)
+          (each_made silent_columns (λ s. column s 3 ≡ Null) it.kept news _ made same (λ id r. refl));
+      others = first_but 10 11 v.side old.trees new.trees it.others;
     }
 
 -- ---- validity rows of orders
@@ -74,13 +87,14 @@ order_fill = record { is = refl; plain = (refl, refl); there = refl; uncounted =
 order_casts : (r : Row) → IsOrderRow r → cast_row order_start_table (eval_all fill_shown (env [] r)) ≡ Null ∷ silent_columns r
 order_casts r e = rw (cast_null, e.0, e.1) refl
 
-pub orders_filled : (old new : State) (count : ℕ) → LacksOrderValidity old.now → Executes INSERT_NULL_INTO_ORDER_START.now [] old new (Ok count)
-    → GainsNone is_validity_of_order order_in_row orders order_starts old.now new.now
-orders_filled old new count lacks ran =
-    filled IsOrderRow order_cmp order_total order_in_row is_validity_of_order (λ a id r e.
-    sym (order_tied a (order_in_row r))) (λ r e. (e.0, e.1)) orders order_starts old.now new.now lacks.rows
-    (fills (schema_of V2) INSERT_NULL_INTO_ORDER_START.now order_starts orders plainly fill_shown order_fill (λ db.
-    refl) [] IsOrderRow silent_columns order_casts old new count lacks.schema lacks.none lacks.rows.typed ran)
+abbrev pub FillsOrders : Database → Database → Type 0
+FillsOrders = FillsSilently as_orders orders_validity
+
+pub orders_filled : (old new : State) (count : ℕ) → Executes INSERT_NULL_INTO_ORDER_START.now [] old new (Ok count) → FillsOrders old.now new.now
+orders_filled old new count ran lacks =
+    filled as_orders orders_validity (λ a id r e. sym (order_tied a (order_in_row r))) (λ r e. (e.0, e.1)) old.now new.now lacks.rows
+    (fills (schema_of V2) INSERT_NULL_INTO_ORDER_START.now order_starts orders plainly fill_shown order_fill (λ db. refl) []
+    IsOrderRow silent_columns order_casts old new count lacks.schema lacks.none lacks.rows.typed ran)
 
 -- ---- validity rows of records
 
@@ -91,10 +105,11 @@ given_fill = record { is = refl; plain = (refl, refl); there = refl; uncounted =
 given_casts : (r : Row) → IsGivenRow r → cast_row given_start_table (eval_all fill_shown (env [] r)) ≡ Null ∷ silent_columns r
 given_casts r e = rw (cast_null, e.0, e.1) refl
 
-pub given_filled : (old new : State) (count : ℕ) → LacksGivenValidity old.now → Executes INSERT_NULL_INTO_GIVEN_START.now [] old new (Ok count)
-    → GainsNone is_validity_of_given given_in_row given given_starts old.now new.now
-given_filled old new count lacks ran =
-    filled IsGivenRow given_cmp given_total given_in_row is_validity_of_given (λ a id r e.
-    sym (given_tied a (given_in_row r))) (λ r e. (e.0, e.1)) given given_starts old.now new.now lacks.rows
-    (fills (schema_of V2) INSERT_NULL_INTO_GIVEN_START.now given_starts given plainly fill_shown given_fill (λ db.
-    refl) [] IsGivenRow silent_columns given_casts old new count lacks.schema lacks.none lacks.rows.typed ran)
+abbrev pub FillsGiven : Database → Database → Type 0
+FillsGiven = FillsSilently as_given records_validity
+
+pub given_filled : (old new : State) (count : ℕ) → Executes INSERT_NULL_INTO_GIVEN_START.now [] old new (Ok count) → FillsGiven old.now new.now
+given_filled old new count ran lacks =
+    filled as_given records_validity (λ a id r e. sym (given_tied a (given_in_row r))) (λ r e. (e.0, e.1)) old.now new.now lacks.rows
+    (fills (schema_of V2) INSERT_NULL_INTO_GIVEN_START.now given_starts given plainly fill_shown given_fill (λ db. refl) []
+    IsGivenRow silent_columns given_casts old new count lacks.schema lacks.none lacks.rows.typed ran)

@@ -17,8 +17,7 @@ pub use Rattle.office_store.specs.Remaking.{IsUnderWay, LooksAt, LosesRecords, P
 pub use Rattle.office_store.specs.Steps.{HasValidityRowsAt, IsAt, IsRaised, IsStep, tables_at}
 pub use Rattle.office_store.specs.Stores.{HasSchema, IsNoStore, IsStore, IsStoreOf, IsStoreOrNone, IsTaken, LacksStore}
 pub use Rattle.office_store.specs.Growing.{IsGrownFrom}
-pub use Rattle.office_store.specs.Upgrading.{CanUpgrade, GainsNone, GainsSilentRows, GainsValidityTables, GainsText, IsFilled, IsUpgrade, IsUpgraded}
-pub use Rattle.office_store.specs.Upgrading.{LacksGivenValidity, LacksOrderValidity, PutsText, TellsItself, TellsV3}
+pub use Rattle.office_store.specs.Upgrading.{CanUpgrade, GainsValidityTables, GainsText, IsFilled, IsUpgrade, IsUpgraded, PutsText, TellsItself, TellsV3}
 pub use Rattle.office_store.specs.Calls.{LooksUpBySql, StaysAsSet}
 pub use Rattle.office_store.specs.Counting.{AgreeBut, AgreeOff, AreCounts, AreRight, count_if_counted, number_at, takes}
 pub use Rattle.office_store.specs.Keeping.{commits_at, is_honest_at, is_open_at, may_leave_at, tables_of, tells_text_at}

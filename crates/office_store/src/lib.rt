@@ -5,7 +5,7 @@
 //! reads the store anew, makes the eleven tables of an empty one in one transaction, and tests those
 //! of another, by what it is asked in store_inspection. These are its schema column by column (exact:
 //! that of schema 1, 2 or 3), numbers below zero, one address in two records, the one row of `meta`,
-//! that each order and each record of schema 2 and 3 has its row of `order_start` or `given_start`,
+//! that each order and each record of schema 2 and 3 has its validity row,
 //! and of schema 3 that the one row of `site_text` has a text whose SHA-256 `meta` tells. A store of
 //! schema 1 or 2 has to tell the SHA-256 of this text, and is brought to schema 3, in one
 //! transaction; in one of schema 3 this text takes the place of the one that is held, with its

@@ -3,15 +3,13 @@
 ghost use Rattle.std.specs.Prelude.{◌≡◌, ◌≢◌, false, IsTrue, OnOk, OnErr};
 ghost use Rattle.sqlite.specs.State.{HasCleanDisk, Survives};
 ghost use Rattle.sqlite.specs.Held.{state};
-ghost use Rattle.office_sql.specs.Prelude.{SqlWrites, IsUndone, order_in_row, given_in_row, is_validity_of_order, is_validity_of_given, orders, given};
-ghost use Rattle.office_sql.specs.Prelude.{order_starts, given_starts, office_schema, office_over};
-ghost use Rattle.office_store.specs.Prelude.{IsAt, IsStep, CanUpgrade, GainsNone, GainsSilentRows, IsFilled, IsUpgrade, IsUpgraded, LacksGivenValidity};
-ghost use Rattle.office_store.specs.Prelude.{LacksOrderValidity, TellsItself, TellsV3};
+ghost use Rattle.office_sql.specs.Prelude.{SqlWrites, IsUndone, office_schema, office_over};
+ghost use Rattle.office_store.specs.Prelude.{IsAt, IsStep, CanUpgrade, IsFilled, IsUpgrade, IsUpgraded, TellsItself, TellsV3};
 ghost use Rattle.store_inspection.specs.Prelude.{Sees, IsBeforeV1};
 ghost use Rattle.store_inspection.specs.declared.version.Version.{Version as TheVersion};
 ghost use Rattle.store_inspection.specs.declared.version.Version.TheVariants.{V1, V2, V3};
 
-use crate::create::{add_text, make_text, make_validity_tables};
+use crate::create::{add_text, make_text, make_validity_tables, run_text};
 use crate::remake::remake_tables;
 use sqlite::{Alter, Connection, Error, Transaction};
 use store_inspection::Version;
@@ -27,39 +25,6 @@ const INSERT_NULL_INTO_GIVEN_START: &str =
 /// Writes the number of the schema.
 const UPDATE_OF_SCHEMA: &str = "UPDATE meta SET schema = 3 WHERE id = 1";
 
-/// Tells of each order that it has no beginning of validity.
-fn fill_order_validity<S: Alter>(tx: &mut Transaction<'_, S>) -> Result<(), Error>
-    requires { Sees LacksOrderValidity (state S.Store tx.old.conn.now) }
-    ensures same_reference { tx.new.conn.ghost_name ≡ tx.old.conn.ghost_name }
-    ensures changes { SqlWrites S.Store tx.old.conn.now tx.new.conn.now result
-        (λ old new _. GainsNone is_validity_of_order order_in_row orders order_starts old new) }
-{
-    tx.execute(INSERT_NULL_INTO_ORDER_START, &[])?;
-    Ok(())
-}
-
-/// Tells of each record that it has none.
-fn fill_given_validity<S: Alter>(tx: &mut Transaction<'_, S>) -> Result<(), Error>
-    requires { Sees LacksGivenValidity (state S.Store tx.old.conn.now) }
-    ensures same_reference { tx.new.conn.ghost_name ≡ tx.old.conn.ghost_name }
-    ensures changes { SqlWrites S.Store tx.old.conn.now tx.new.conn.now result
-        (λ old new _. GainsNone is_validity_of_given given_in_row given given_starts old new) }
-{
-    tx.execute(INSERT_NULL_INTO_GIVEN_START, &[])?;
-    Ok(())
-}
-
-fn fill_validity_tables<S: Alter>(tx: &mut Transaction<'_, S>) -> Result<(), Error>
-    requires orders { Sees LacksOrderValidity (state S.Store tx.old.conn.now) }
-    requires given { Sees LacksGivenValidity (state S.Store tx.old.conn.now) }
-    ensures same_reference { tx.new.conn.ghost_name ≡ tx.old.conn.ghost_name }
-    ensures changes { SqlWrites S.Store tx.old.conn.now tx.new.conn.now result
-        (λ old new _. GainsSilentRows old new) }
-{
-    fill_order_validity(tx)?;
-    fill_given_validity(tx)
-}
-
 /// Makes `given` and the ledger of a store of a version before the first anew.
 fn raise_before_v1<S: Alter>(tx: &mut Transaction<'_, S>, version: Version) -> Result<(), Error>
     requires early { IsBeforeV1 version }
@@ -71,7 +36,8 @@ fn raise_before_v1<S: Alter>(tx: &mut Transaction<'_, S>, version: Version) -> R
     remake_tables(tx)
 }
 
-/// Makes the beginnings of validity, which a store of the first version lacks.
+/// Makes the beginnings of validity, which a store of the first version lacks: of each order and
+/// each record it is told that it has none.
 fn raise_v1<S: Alter>(tx: &mut Transaction<'_, S>) -> Result<(), Error>
     requires { Sees (IsAt V1) (state S.Store tx.old.conn.now) }
     ensures same_reference { tx.new.conn.ghost_name ≡ tx.old.conn.ghost_name }
@@ -79,7 +45,8 @@ fn raise_v1<S: Alter>(tx: &mut Transaction<'_, S>) -> Result<(), Error>
         (λ old new _. IsStep V1 old new) }
 {
     make_validity_tables(tx)?;
-    fill_validity_tables(tx)
+    run_text(tx, INSERT_NULL_INTO_ORDER_START)?;
+    run_text(tx, INSERT_NULL_INTO_GIVEN_START)
 }
 
 /// Makes the table of the site's text, which one of the second version lacks.

@@ -1,22 +1,14 @@
--- A list of one value as often as another list has elements, and the parts of a table that a form describes.
-use Rattle.std.proofs.Common.{◌≡◌, ◌<◌, ◌+◌, ℕ, List, [], ◌∷◌, length, map, take, get_or, sym, ap, ◌∙◌, arith}
-use Rattle.std.proofs.lemmas.List.{take_more, map_more, get_or-map}
+-- The parts of a table that a form describes.
+use Rattle.std.proofs.Common.{◌≡◌, List, map, sym, ap, ◌∙◌}
+use Rattle.sqlite_keyed.proofs.ListLemmas.{map-map}
+use Rattle.sqlite_value.specs.Keys.{plain}
 use Rattle.office_sql.proofs.Kit.{Table, Reference}
 use Rattle.store_inspection.specs.declared.schema.TableForm.{TableForm}
 use Rattle.store_inspection.specs.Prelude.{reference_of, table_of_form, with_columns, with_table_keys, bare}
 
-pub grown : {A B : Type 0} (p : B) (ws : List A) (os : List B) (i : ℕ) → i < length ws
-    → i < length os → take i os ≡ map (λ _. p) (take i ws) → get_or os i p ≡ p
-    → take (i + 1) os ≡ map (λ _. p) (take (i + 1) ws)
-grown p [] os i h g so here = absurd (omega (arith, h))
-grown p (w ∷ ws) os i h g so here =
-    let more = take_more os i p g in
-    let maps = map_more (λ _. p) (w ∷ ws) i w h in
-    cc
-
-pub each : {A B : Type 0} (p : B) (ws : List A) (os : List B) (i : ℕ) → i < length ws → os ≡ map (λ _. p) ws → get_or os i p ≡ p
-each p [] os i h e = absurd (omega (arith, h))
-each p (w ∷ ws) os i h e = ap (λ l. get_or l i p) e ∙ get_or-map (λ _. p) (w ∷ ws) i w p h
+-- each key has a plain order
+pub plain_orders : (f : TableForm) → map (λ _. plain) (map (λ places. places.now) f.uniques.now) ≡ map (λ _. plain) f.uniques.now
+plain_orders f = map-map _ _ f.uniques.now
 
 -- a table that has each part of a form is the one that the form describes
 pub joined : (f : TableForm) (t : Table) → t ≡ with_columns f t → t ≡ with_table_keys f t

@@ -146,19 +146,19 @@ impl Describes<Reference> for ReferenceForm<'_> {
     }
 }
 
-fn has_plain_orders(table: &Table) -> bool
-    ensures { IsTrue result ↔ (table.now.orders ≡ map (λ _. plain) table.now.uniques) }
+impl Describes<Order> for &[usize] {
+    ghost part = { λ _. plain };
+
+    fn fits(&self, found: &Order) -> bool {
+        is_plain(*found)
+    }
+}
+
+fn has_plain_orders(table: &Table, form: TableForm<'_>) -> bool
+    ensures { IsTrue result
+        ↔ (table.now.orders ≡ map (λ _. plain) (map (λ places. places.now) form.entry.uniques.now)) }
 {
-    let orders = table.orders.as_slice();
-    if orders.len() != table.uniques.len() {
-        return false;
-    }
-    for order in orders {
-        if !is_plain(*order) {
-            return false;
-        }
-    }
-    true
+    are_all(table.orders.as_slice(), form.uniques)
 }
 
 fn is_no_stamp(stamps: &Stamps) -> bool
@@ -201,7 +201,7 @@ fn has_keys(table: &Table, form: TableForm<'_>) -> bool
     table.key == form.key
         && are_places(table.primary.as_slice(), form.primary)
         && are_all(table.uniques.as_slice(), form.uniques)
-        && has_plain_orders(table)
+        && has_plain_orders(table, form)
 }
 
 fn is_bare(table: &Table) -> bool

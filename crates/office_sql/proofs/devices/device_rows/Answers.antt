@@ -3,7 +3,7 @@ use Rattle.std.proofs.Common.{refl, [], ◌∷◌}
 use Rattle.sqlite.specs.declared.types.Value.TheVariants.{Text}
 use Rattle.office_sql.specs.Prelude.{devices}
 use Rattle.office_sql.proofs.Reading.{asked}
-use Rattle.office_sql.proofs.DeviceReads.{one_read, one_shown}
+use Rattle.office_sql.proofs.DeviceTexts.{one_read, one_shown}
 use Rattle.office_sql.proofs.devices.device_rows.Goals as goal
 
 pub returns : goal.returns

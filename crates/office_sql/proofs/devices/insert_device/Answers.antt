@@ -1,7 +1,7 @@
 -- The insert adds the device.
 use Rattle.sqlite.specs.Held.{state}
 use Rattle.office_sql.specs.Prelude.{device_columns}
-use Rattle.office_sql.proofs.DeviceWrites.{add_insert, add_casts, device_added}
+use Rattle.office_sql.proofs.DeviceTexts.{add_insert, add_casts, device_added}
 use Rattle.office_sql.proofs.Inserting.{inserts}
 use Rattle.office_sql.proofs.devices.insert_device.Goals as goal
 

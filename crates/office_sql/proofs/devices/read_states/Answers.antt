@@ -1,7 +1,7 @@
 -- One row more is read.
 use Rattle.std.proofs.Common.{◌∙◌, ◌<◌, length, arith}
 use Rattle.office_sql.specs.Prelude.{order_state_in}
-use Rattle.office_sql.proofs.DeviceReads.{one_more}
+use Rattle.office_sql.proofs.DeviceTexts.{one_more}
 use Rattle.office_sql.proofs.devices.read_states.Goals as goal
 
 pub loop-row-preserved : goal.loop-row-preserved

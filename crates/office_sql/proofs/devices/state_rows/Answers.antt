@@ -3,7 +3,7 @@ use Rattle.std.proofs.Common.{refl, [], ◌∷◌}
 use Rattle.sqlite.specs.declared.types.Value.TheVariants.{Text}
 use Rattle.office_sql.specs.Prelude.{devices}
 use Rattle.office_sql.proofs.Reading.{asked}
-use Rattle.office_sql.proofs.DeviceReads.{states_read, states_shown_are}
+use Rattle.office_sql.proofs.DeviceTexts.{states_read, states_shown_are}
 use Rattle.office_sql.proofs.devices.state_rows.Goals as goal
 
 pub returns : goal.returns

@@ -1,7 +1,7 @@
 -- An update of one row puts the device in its place.
 use Rattle.sqlite.specs.Held.{state}
 use Rattle.office_sql.specs.Prelude.{device_columns}
-use Rattle.office_sql.proofs.DeviceWrites.{device_put}
+use Rattle.office_sql.proofs.DeviceTexts.{device_put}
 use Rattle.office_sql.proofs.Inserting.{changes}
 use Rattle.office_sql.proofs.devices.update_device.Goals as goal
 

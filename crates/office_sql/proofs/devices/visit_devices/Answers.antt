@@ -2,7 +2,7 @@ use Rattle.std.proofs.Common.{refl, [], ◌∷◌, filter}
 use Rattle.sqlite.specs.declared.types.Value.TheVariants.{Null, Text}
 use Rattle.office_tables.specs.Prelude.{is_of}
 use Rattle.office_sql.specs.Prelude.{devices, device_in_row}
-use Rattle.office_sql.proofs.DeviceReads.{own_read, own_shown}
+use Rattle.office_sql.proofs.DeviceTexts.{own_read, own_shown}
 use Rattle.office_sql.proofs.Visiting.{bare_returns, visits}
 use Rattle.office_sql.proofs.devices.visit_devices.Goals as goal
 

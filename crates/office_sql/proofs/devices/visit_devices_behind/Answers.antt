@@ -2,7 +2,7 @@ use Rattle.std.proofs.Common.{rules, [], ◌∷◌, filter}
 use Rattle.sqlite.specs.declared.types.Value.TheVariants.{Null, Text}
 use Rattle.office_tables.specs.Prelude.{is_device_behind}
 use Rattle.office_sql.specs.Prelude.{devices, device_in_row}
-use Rattle.office_sql.proofs.DeviceReads.{behind_read, behind_shown}
+use Rattle.office_sql.proofs.DeviceTexts.{behind_read, behind_shown}
 use Rattle.office_sql.proofs.Visiting.{bare_returns, visits}
 use Rattle.office_sql.proofs.devices.visit_devices_behind.Goals as goal
 

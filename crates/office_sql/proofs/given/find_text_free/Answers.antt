@@ -1,6 +1,6 @@
 use Rattle.std.proofs.Common.{◌≡◌, length, sym, ◌∙◌, vec_len, eqb-true}
 use Rattle.id_ranges.specs.Prelude.{mac_of_text}
-use Rattle.office_sql.proofs.GivenWrites.{none_shown}
+use Rattle.office_sql.proofs.GivenTexts.{none_shown}
 use Rattle.office_sql.proofs.Looking.{looks_more}
 use Rattle.office_sql.proofs.given.find_text_free.Goals as goal
 

@@ -2,7 +2,7 @@ use Rattle.std.proofs.Common.{◌≡◌, rules, ap, ◌∙◌, string_bytes}
 use Rattle.sqlite.specs.declared.types.Value.TheVariants.{Text}
 use Rattle.sqlite.specs.Values.{bound_value, or_null}
 use Rattle.office_sql.specs.Prelude.{given_columns, text_value, mac_value}
-use Rattle.office_sql.proofs.GivenWrites.{add_insert, add_casts}
+use Rattle.office_sql.proofs.GivenTexts.{add_insert, add_casts}
 use Rattle.office_sql.proofs.Inserting.{inserted}
 use Rattle.office_sql.proofs.Missing.{text_param}
 use Rattle.office_sql.proofs.given.insert_given.Goals as goal

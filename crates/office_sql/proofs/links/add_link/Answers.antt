@@ -3,7 +3,7 @@ use Rattle.office_sql.specs.Prelude.{link_columns, Wrote}
 use Rattle.office_tables.specs.declared.rows.Write.TheVariants.{AddLink as TheLink}
 use Rattle.office_sql.proofs.Inserting.{inserts, done}
 use Rattle.office_sql.proofs.MapChanges.{refused}
-use Rattle.office_sql.proofs.LinkWrites.{add_insert, add_casts, link_wrote}
+use Rattle.office_sql.proofs.LinkTexts.{add_insert, add_casts, link_wrote}
 use Rattle.office_sql.proofs.links.add_link.Goals as goal
 
 pub returns-in_err-execute-clause-changes : goal.returns-in_err-execute-clause-changes

@@ -2,7 +2,7 @@ use Rattle.std.proofs.Common.{rules, [], ◌∷◌}
 use Rattle.sqlite.specs.declared.types.Value.TheVariants.{Text, Blob}
 use Rattle.office_sql.specs.Prelude.{links}
 use Rattle.office_sql.proofs.Reading.{asked}
-use Rattle.office_sql.proofs.LinkReads.{one_read, one_shown}
+use Rattle.office_sql.proofs.LinkTexts.{one_read, one_shown}
 use Rattle.office_sql.proofs.links.link_rows.Goals as goal
 
 pub returns : goal.returns

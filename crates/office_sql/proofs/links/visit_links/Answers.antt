@@ -2,7 +2,7 @@ use Rattle.std.proofs.Common.{rules, [], ◌∷◌, filter}
 use Rattle.sqlite.specs.declared.types.Value.TheVariants.{Null, Text}
 use Rattle.office_tables.specs.Prelude.{is_of}
 use Rattle.office_sql.specs.Prelude.{links, link_in_row}
-use Rattle.office_sql.proofs.LinkReads.{own_read, own_shown}
+use Rattle.office_sql.proofs.LinkTexts.{own_read, own_shown}
 use Rattle.office_sql.proofs.Visiting.{bare_returns, visits}
 use Rattle.office_sql.proofs.links.visit_links.Goals as goal
 

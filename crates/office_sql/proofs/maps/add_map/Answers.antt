@@ -2,7 +2,7 @@ use Rattle.sqlite.proofs.StateLemmas.{clean_if_open}
 use Rattle.office_tables.specs.declared.rows.Write.TheVariants.{AddMap as TheMap}
 use Rattle.office_sql.specs.Prelude.{Wrote}
 use Rattle.office_sql.proofs.MapChanges.{changes_then}
-use Rattle.office_sql.proofs.MapWrites.{link_free, map_wrote}
+use Rattle.office_sql.proofs.MapTexts.{link_free, map_wrote}
 use Rattle.office_sql.proofs.maps.add_map.Goals as goal
 
 pub add_link-requires-clause-office : goal.add_link-requires-clause-office

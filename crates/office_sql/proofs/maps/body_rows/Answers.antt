@@ -2,7 +2,7 @@ use Rattle.std.proofs.Common.{rules, [], ◌∷◌}
 use Rattle.sqlite.specs.declared.types.Value.TheVariants.{Text}
 use Rattle.office_sql.specs.Prelude.{maps}
 use Rattle.office_sql.proofs.Reading.{asked}
-use Rattle.office_sql.proofs.MapReads.{body_read, body_shown}
+use Rattle.office_sql.proofs.MapTexts.{body_read, body_shown}
 use Rattle.office_sql.proofs.maps.body_rows.Goals as goal
 
 pub returns : goal.returns

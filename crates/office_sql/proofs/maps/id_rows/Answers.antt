@@ -2,7 +2,7 @@ use Rattle.std.proofs.Common.{rules, pos, [], ◌∷◌}
 use Rattle.sqlite.specs.declared.types.Value.TheVariants.{Int}
 use Rattle.office_sql.specs.Prelude.{maps}
 use Rattle.office_sql.proofs.Reading.{asked}
-use Rattle.office_sql.proofs.MapReads.{one_read, one_shown}
+use Rattle.office_sql.proofs.MapTexts.{one_read, one_shown}
 use Rattle.office_sql.proofs.maps.id_rows.Goals as goal
 
 pub returns : goal.returns

@@ -2,7 +2,7 @@ use Rattle.text_core.proofs.Kit.{rules, ap, ◌∙◌, option_map, IfOk-weaker}
 use Rattle.office_tables.specs.declared.rows.MapRow.{MapRow}
 use Rattle.office_tables.specs.Prelude.{has_body}
 use Rattle.office_sql.proofs.Kept.{found}
-use Rattle.office_sql.proofs.MapReads.{shown_map, id_shown}
+use Rattle.office_sql.proofs.MapTexts.{shown_map, id_shown}
 use Rattle.office_sql.proofs.Reading.{asks_more}
 use Rattle.office_sql.proofs.maps.map_id.Goals as goal
 

@@ -1,6 +1,6 @@
 use Rattle.text_core.proofs.Kit.{rules}
 use Rattle.office_tables.specs.Prelude.{has_id}
-use Rattle.office_sql.proofs.MapReads.{shown_map}
+use Rattle.office_sql.proofs.MapTexts.{shown_map}
 use Rattle.office_sql.proofs.Reading.{asks_first}
 use Rattle.office_sql.proofs.maps.map_row.Goals as goal
 

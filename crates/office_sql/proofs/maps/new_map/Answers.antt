@@ -5,7 +5,7 @@ use Rattle.office_sql.specs.Prelude.{maps, map_columns, GainsMap}
 use Rattle.office_sql.proofs.Inserting.{adds, changes}
 use Rattle.office_sql.proofs.MapChanges.{answered, refused}
 use Rattle.office_sql.proofs.MapIds.{last_is_next}
-use Rattle.office_sql.proofs.MapWrites.{add_terms, add_insert, add_casts, map_gained}
+use Rattle.office_sql.proofs.MapTexts.{add_terms, add_insert, add_casts, map_gained}
 use Rattle.office_sql.proofs.maps.new_map.Goals as goal
 
 pub returns-in_err-execute-clause-changes : goal.returns-in_err-execute-clause-changes

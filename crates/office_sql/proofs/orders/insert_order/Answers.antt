@@ -1,7 +1,7 @@
 use Rattle.std.proofs.Common.{rules}
 use Rattle.office_sql.specs.Prelude.{order_columns}
 use Rattle.office_sql.proofs.Inserting.{inserted}
-use Rattle.office_sql.proofs.OrderWrites.{add_insert, add_casts}
+use Rattle.office_sql.proofs.OrderTexts.{add_insert, add_casts}
 use Rattle.office_sql.proofs.orders.insert_order.Goals as goal
 
 pub returns-clause-changes : goal.returns-clause-changes

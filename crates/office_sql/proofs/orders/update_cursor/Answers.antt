@@ -1,7 +1,7 @@
 use Rattle.std.proofs.Common.{rules}
 use Rattle.sqlite.specs.Held.{state}
 use Rattle.office_sql.proofs.Inserting.{changes}
-use Rattle.office_sql.proofs.OrderWrites.{set_values, cursor_set}
+use Rattle.office_sql.proofs.OrderTexts.{set_values, cursor_set}
 use Rattle.office_sql.proofs.orders.update_cursor.Goals as goal
 
 pub returns-clause-changes : goal.returns-clause-changes

@@ -3,7 +3,7 @@ use Rattle.sqlite.specs.declared.types.Value.TheVariants.{Text}
 use Rattle.office_sql.proofs.Kit.{state}
 use Rattle.office_tables.specs.Prelude.{is_of}
 use Rattle.office_sql.specs.Prelude.{joined_order}
-use Rattle.office_sql.proofs.OrderReads.{own_read, own_shown}
+use Rattle.office_sql.proofs.OrderTexts.{own_read, own_shown}
 use Rattle.office_sql.proofs.Visiting.{bare_returns, visits_as}
 use Rattle.office_sql.proofs.orders.visit_orders.Goals as goal
 

@@ -1,7 +1,7 @@
 use Rattle.std.proofs.Common.{rules}
 use Rattle.office_sql.specs.Prelude.{seat_columns}
 use Rattle.office_sql.proofs.Inserting.{inserts}
-use Rattle.office_sql.proofs.SeatWrites.{add_insert, add_casts, seat_added}
+use Rattle.office_sql.proofs.SeatTexts.{add_insert, add_casts, seat_added}
 use Rattle.office_sql.proofs.seats.new_seat.Goals as goal
 
 pub returns-clause-changes : goal.returns-clause-changes

@@ -3,7 +3,7 @@ use Rattle.office_tables.specs.declared.rows.Write.TheVariants.{PutSeat}
 use Rattle.office_sql.proofs.Kit.{state, clean_if_open, Database}
 use Rattle.office_sql.specs.Prelude.{LacksSeat, Wrote}
 use Rattle.office_sql.proofs.MapChanges.{answered, changes_then}
-use Rattle.office_sql.proofs.SeatWrites.{seat_put}
+use Rattle.office_sql.proofs.SeatTexts.{seat_put}
 use Rattle.office_sql.proofs.seats.put_seat.Goals as goal
 
 pub new_seat-requires-clause-office : goal.new_seat-requires-clause-office

@@ -2,7 +2,7 @@ use Rattle.std.proofs.Common.{rules, [], ◌∷◌}
 use Rattle.sqlite.specs.declared.types.Value.TheVariants.{Text}
 use Rattle.office_sql.specs.Prelude.{seats}
 use Rattle.office_sql.proofs.Reading.{asked}
-use Rattle.office_sql.proofs.SeatReads.{one_read, one_shown}
+use Rattle.office_sql.proofs.SeatTexts.{one_read, one_shown}
 use Rattle.office_sql.proofs.seats.seat_rows.Goals as goal
 
 pub returns : goal.returns

@@ -2,7 +2,7 @@ use Rattle.std.proofs.Common.{rules}
 use Rattle.sqlite.specs.Held.{state}
 use Rattle.office_sql.specs.Prelude.{seat_columns}
 use Rattle.office_sql.proofs.Inserting.{changes}
-use Rattle.office_sql.proofs.SeatWrites.{seat_set}
+use Rattle.office_sql.proofs.SeatTexts.{seat_set}
 use Rattle.office_sql.proofs.seats.set_seat.Goals as goal
 
 pub returns-clause-changes : goal.returns-clause-changes

@@ -2,7 +2,7 @@ use Rattle.std.proofs.Common.{Ok}
 use Rattle.office_sql.proofs.Kit.{Database, state, clean_if_open}
 use Rattle.office_sql.proofs.Asked.{was_clean}
 use Rattle.office_sql.proofs.MapChanges.{changes_then}
-use Rattle.office_store.specs.Prelude.{IsFilled, IsUpgrade, PutsText, TellsV3}
+use Rattle.office_store.specs.Prelude.{IsFilled, PutsText}
 use Rattle.office_store.proofs.Upgrades.{tells_still, upgraded}
 use Rattle.office_store.proofs.upgrade.change_all.Goals as goal
 
@@ -42,9 +42,7 @@ returns-clause-changes g c =
     let h1 = c.add_text.new.tx.conn.now in
     let h2 = c.tell_schema.new.tx.conn.now in
     let both = λ (x u : Database). (z : Database) × IsFilled version x z × PutsText text z u in
-    let two = changes_then g.S.Store old h0 h1 c.in_ok-fill.field-0 (Ok c.in_ok-add_text.field-0)
-    (λ x z _. IsFilled version x z) (λ z u _. PutsText text z u) (λ x u _. both x u)
+    let two = changes_then g.S.Store old h0 h1 c.in_ok-fill.field-0 (Ok c.in_ok-add_text.field-0) _ _ (λ x u _. both x u)
     c.in_ok-fill.ensures.changes c.in_ok-add_text.ensures.changes (λ x z u _ p q. (z, p, q)) in
-    changes_then g.S.Store old h1 h2 c.in_ok-add_text.field-0 c.tell_schema.result
-    (λ x u _. both x u) (λ u w _. TellsV3 u w) (λ x w _. IsUpgrade version text x.trees w)
+    changes_then g.S.Store old h1 h2 c.in_ok-add_text.field-0 c.tell_schema.result _ _ _
     two c.tell_schema.ensures.changes (λ x u w _ p q. upgraded version c.requires.earlier x p.0 u w p.1 text p.2 q)
