@@ -1,6 +1,6 @@
 -- That no two records have one address, by the texts that a walk shows in their order.
 use Rattle.std.proofs.Common.{◌≡◌, ◌↔◌, ◌∷◌, Ordering}
-use Rattle.text_core.proofs.Kit.{ℕ, Bool, true, false, cond, List, [], Some, None, map, filter, refl, sym, ap, ap₂, subst, ◌∙◌, IsPermutation, is_eq}
+use Rattle.text_core.proofs.Kit.{ℕ, Bool, true, false, cond, List, [], Some, None, map, filter, refl, sym, ap, ap₂, subst, ◌∙◌, IsPermutation}
 use Rattle.text_core.proofs.Kit.{is_ge, is_gt, bytes_eq, IsSorted, nat_cmp, on, IsTotalOrder, slice_cmp, AllByRecursion, cons_option, dedup_from, filter_map}
 use Rattle.text_core.proofs.Kit.{on_total, then_total, nat_list_cmp_total, nat_list_eq_equiv, IsStrictlySortedBy-dedup, IsPermutation-map, IsPermutation-sym}
 use Rattle.text_core.proofs.Kit.{IsDistinct-from_sorted, IsDistinct-IsPermutation, is_eq-slice_cmp, and-true}
