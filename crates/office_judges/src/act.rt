@@ -1,8 +1,7 @@
 // What a device goes through: each action of a device with its fuse map, and what it comes to.
-ghost use Rattle.std.specs.Prelude.{◌≡◌, IfOk};
-ghost use Rattle.office_tables.specs.Prelude.{ReadsOnly, is_one_of};
-ghost use Rattle.office_rules.specs.Prelude.{rule_of};
-ghost use Rattle.office_judges.specs.Prelude.{IsActed, IsActedOn, IsJudged};
+ghost use Rattle.std.specs.Prelude.{IfOk};
+ghost use Rattle.office_tables.specs.Prelude.{ReadsOnly};
+ghost use Rattle.office_judges.specs.Prelude.{IsActed, IsJudged};
 
 use crate::Judgement;
 use crate::end::{scrap, ship};
@@ -25,40 +24,8 @@ pub struct Acted {
     pub body: String,
 }
 
-/// Whether an action goes on from this state.
-fn goes_on_from(action: &Action, state: DeviceState) -> bool
-    ensures { result ≡ is_one_of (rule_of action.now).from state }
-{
-    match (action, state) {
-        (Action::Plan(_), DeviceState::Registered | DeviceState::Settled) => true,
-        (Action::ReadBack(_), DeviceState::AwaitingFirst | DeviceState::AwaitingSecond) => true,
-        (Action::Ship, DeviceState::Identified) => true,
-        (Action::Scrap, DeviceState::Shipped | DeviceState::Scrapped) => false,
-        (Action::Scrap, _) => true,
-        _ => false,
-    }
-}
-
-/// What an action makes of a device that is in a state from which it goes on, or the lowest refusal
-/// of it. It fails where there is no memory.
-fn go_on(
-    alloc: Global,
-    map: &FuseMap,
-    device: &Device,
-    action: &Action,
-) -> Result<Result<Acted, Refusal>, AllocError>
-    ensures { IfOk result (λ acted. IsActedOn action.now map.now device.now acted) }
-{
-    match action {
-        Action::Plan(wishes) => plan_device(alloc, map, device, wishes),
-        Action::ReadBack(blocks) => read_back(alloc, map, device, blocks),
-        Action::Ship => ship(alloc, map, device),
-        Action::Scrap => scrap(alloc, map, device),
-    }
-}
-
-/// What an action makes of a device, or the lowest refusal of it. It fails where there is no
-/// memory.
+/// What an action makes of a device, if it goes on from the device's state, or the lowest refusal of
+/// it. It fails where there is no memory.
 fn act(
     alloc: Global,
     map: &FuseMap,
@@ -67,10 +34,19 @@ fn act(
 ) -> Result<Result<Acted, Refusal>, AllocError>
     ensures { IfOk result (λ acted. IsActed action.now map.now device.now acted) }
 {
-    if goes_on_from(action, device.state) {
-        go_on(alloc, map, device, action)
-    } else {
-        Ok(Err(Refusal::WrongState))
+    match (action, device.state) {
+        (Action::Plan(wishes), DeviceState::Registered | DeviceState::Settled) => {
+            plan_device(alloc, map, device, wishes)
+        }
+        (Action::ReadBack(blocks), DeviceState::AwaitingFirst | DeviceState::AwaitingSecond) => {
+            read_back(alloc, map, device, blocks)
+        }
+        (Action::Ship, DeviceState::Identified) => ship(alloc, map, device),
+        (Action::Scrap, DeviceState::Shipped | DeviceState::Scrapped) => {
+            Ok(Err(Refusal::WrongState))
+        }
+        (Action::Scrap, _) => scrap(alloc, map, device),
+        _ => Ok(Err(Refusal::WrongState)),
     }
 }
 
