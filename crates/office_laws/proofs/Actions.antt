@@ -1,33 +1,33 @@
 -- Each action of a device that nothing refuses keeps of the device what its map asks for.
-use Rattle.std.proofs.Common.{◌≡◌, ◌∷◌}
-use Rattle.text_core.proofs.Kit.{[], true, false, None, refl, not-false, bytes_eq-Decides}
+use Rattle.std.proofs.Common.{◌≡◌, arith}
+use Rattle.text_core.proofs.Kit.{ℕ, List, true, false, None, refl, not-false, bytes_eq-Decides}
 use Rattle.text_core.specs.Prelude.{first_that_holds}
 use Rattle.fusemap_core.specs.Prelude.{IsMap, Map}
 use Rattle.fuse_image.specs.Prelude.{ReadBackInMap, WordsFitMap, redacted}
 use Rattle.fuse_image.proofs.InMap.{read_backs_in_map}
 use Rattle.office_tables.specs.Prelude.{is_one_of, state_row}
-use Rattle.office_laws.proofs.Types.{Device, DeviceState, Settled, OfCustomer, Action}
+use Rattle.office_laws.proofs.Types.{Device, DeviceState, Neither, OfCustomer, Action, Wish}
 use Rattle.office_commands.specs.declared.command.Action.TheVariants.{Plan, Scrap, Ship, ReadBack}
-use Rattle.office_tables.specs.declared.rows.DeviceState.TheVariants.{AwaitingFirst, AwaitingSecond, Registered}
 use Rattle.office_commands.specs.Prelude.{IsAction}
 use Rattle.office_rules.specs.Prelude.{action_refusals, rule_of, known_of}
 use Rattle.office_rules.proofs.Refusing.{first_is_false, later_is_none}
 use Rattle.office_laws.specs.Prelude.{SerialIsOfIdentified}
-use Rattle.office_laws.proofs.End.{scrap_keeps, ship_keeps}
+use Rattle.office_laws.proofs.End.{emptied_keeps, idle_keeps}
 use Rattle.office_laws.proofs.Keeping.{Keeps}
 use Rattle.office_laws.proofs.Plan.{missing_digests, plan_keeps, unnumbered_where}
 use Rattle.office_laws.proofs.ReadBack.{read_keeps}
 
--- what is planned or read back has no serial number yet
-planned_unnumbered : (s : DeviceState) → is_one_of (Registered ∷ Settled ∷ []) s ≡ true
+-- what is planned or read back has no serial number yet, and nothing is pending of what is shipped
+planned_unnumbered : (wishes : List Wish) (s : DeviceState) → is_one_of (rule_of (Plan wishes)).from s ≡ true
     → (state_row s).may_have_serial ≡ false
-planned_unnumbered Registered may = refl
-planned_unnumbered _ may = cc
+planned_unnumbered wishes s may = grind arith
 
-read_unnumbered : (s : DeviceState) → is_one_of (AwaitingFirst ∷ AwaitingSecond ∷ []) s ≡ true
+read_unnumbered : (blocks : List (List ℕ)) (s : DeviceState) → is_one_of (rule_of (ReadBack blocks)).from s ≡ true
     → (state_row s).may_have_serial ≡ false
-read_unnumbered AwaitingFirst may = refl
-read_unnumbered _ may = cc
+read_unnumbered blocks s may = grind arith
+
+ships_idle : (s : DeviceState) → is_one_of (rule_of Ship).from s ≡ true → Neither ≡ (state_row s).pending
+ships_idle s may = grind arith
 
 module _ (m : Map) (is : IsMap m) (old : OfCustomer Device) (numbered : SerialIsOfIdentified old) where
   abbrev IsFree : Action → Type 0
@@ -48,12 +48,12 @@ module _ (m : Map) (is : IsMap m) (old : OfCustomer Device) (numbered : SerialIs
   action_keeps (Plan wishes) asked free =
       plan_keeps m is old.row wishes (later_is_none _ _ _ free)
       (missing_digests m (known_of m old.row) wishes asked)
-      (unnumbered (Plan wishes) planned_unnumbered free)
+      (unnumbered (Plan wishes) (planned_unnumbered wishes) free)
   action_keeps (ReadBack blocks) asked free =
       let fit : WordsFitMap m blocks = (bytes_eq-Decides _ _).0
       (not-false _ (first_is_false _ _ _ (later_is_none _ _ _ free))) in
       let lies : ReadBackInMap m blocks = read_backs_in_map m blocks fit in
       read_keeps m is old.row (redacted m blocks) lies.ones lies.shown
-      (unnumbered (ReadBack blocks) read_unnumbered free)
-  action_keeps Ship asked free = ship_keeps m is old.row (goes_on Ship free)
-  action_keeps Scrap asked free = scrap_keeps m is old.row
+      (unnumbered (ReadBack blocks) (read_unnumbered blocks) free)
+  action_keeps Ship asked free = idle_keeps m is old.row _ _ refl (ships_idle old.row.state (goes_on Ship free))
+  action_keeps Scrap asked free = emptied_keeps m is old.row _ _ refl refl

@@ -6,10 +6,9 @@ use Rattle.std.specs.FinMap as table
 use Rattle.std.specs.FinSet as set
 use Rattle.text_core.specs.Prelude.{first_that_holds}
 use Rattle.fusemap_core.specs.Prelude.{IsMap, Map, field_named}
-use Rattle.office_laws.proofs.Types.{Field, Image, Pending, Want, PlanFault, Wish, Device, DeviceState, Settled, OfCustomer}
+use Rattle.office_laws.proofs.Types.{Field, Image, Pending, Want, PlanFault, Wish, Device, DeviceState, OfCustomer}
 use Rattle.fuse_plan.specs.declared.wish.Want.TheVariants.{Bit, Key, ReadLock, Value, WriteLock}
 use Rattle.office_commands.specs.declared.refusal.Refusal.TheVariants.{BadPlan}
-use Rattle.office_tables.specs.declared.rows.DeviceState.TheVariants.{AwaitingFirst, AwaitingSecond}
 use Rattle.fuse_image.specs.Prelude.{HoldsDigests, KeyTable, get-table_where, has_no_key, table_where, keys_without, Positions, is_empty, IsPending}
 use Rattle.fuse_columns.specs.Prelude.{todo_column, pending_in}
 use Rattle.fuse_columns.proofs.LawProofs.{work_comes_back}
@@ -40,16 +39,20 @@ no_positions s is = set.empty_of_len s (eqb-true (set.len s) 0 is)
 no_keys : (t : KeyTable) → has_no_key t ≡ true → t ≡ table.empty
 no_keys t is = table.empty_of_len t (eqb-true (table.len t) 0 is)
 
+-- what holds in each of three cases, of two tests and a third one within, holds of the case that it is
+by_tests : {A : Type 0} (P : A → Type 0) (x y z : A) (f k s : Bool) → (f ≡ true → k ≡ true → s ≡ true → P x) → (f ≡ true → k ≡ true → s ≡ false → P y)
+    → P z → P (if f && k then (if s then x else y) else z)
+by_tests P x y z true true true all first none = all refl refl refl
+by_tests P x y z true true false all first none = first refl refl refl
+by_tests P x y z true false s all first none = none
+by_tests P x y z false k s all first none = none
+
 -- work goes with the state that it leads to
 pub of_its_state : (w : Pending) → IsOfBatches (state_row (state_of_pending w)).pending w
-of_its_state w = first (is_empty w.first) (has_no_key w.keys) (is_empty w.second) refl refl refl
-  where
-    first : (f k s : Bool) → is_empty w.first ≡ f → has_no_key w.keys ≡ k → is_empty w.second ≡ s
-        → IsOfBatches (state_row (if f && k then (if s then Settled else AwaitingSecond) else AwaitingFirst)).pending w
-    first true true true f k s = λ i. record { first = no_positions w.first f i; second = no_positions w.second s i; keys = no_keys w.keys k i }
-    first true true false f k s = (no_positions w.first f, no_keys w.keys k)
-    first true false s f k e = tt
-    first false k s f e g = tt
+of_its_state w =
+    by_tests (λ (state : DeviceState). IsOfBatches (state_row state).pending w) _ _ _ (is_empty w.first) (has_no_key w.keys) (is_empty w.second)
+    (λ f k s i. record { first = no_positions w.first f i; second = no_positions w.second s i; keys = no_keys w.keys k i })
+    (λ f k s. (no_positions w.first f, no_keys w.keys k)) tt
 
 module _ (m : Map) (is : IsMap m) where
   module _ (d : Device) (ws : List Wish) where

@@ -30,7 +30,6 @@ pub use Rattle.office_tables.specs.declared.rows.Batches.TheVariants.{Neither}
 pub use Rattle.office_tables.specs.declared.rows.Cursor.{Cursor}
 pub use Rattle.office_tables.specs.declared.rows.Device.{Device}
 pub use Rattle.office_tables.specs.declared.rows.DeviceState.{DeviceState}
-pub use Rattle.office_tables.specs.declared.rows.DeviceState.TheVariants.{Settled}
 pub use Rattle.office_tables.specs.declared.rows.Entry.{Entry}
 pub use Rattle.office_tables.specs.declared.rows.Event.{Event}
 pub use Rattle.office_tables.specs.declared.rows.Given.{Given}
