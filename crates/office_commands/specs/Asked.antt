@@ -2,39 +2,31 @@
 use Rattle.std.specs.Prelude.{◌≡◌, length}
 use Rattle.std.specs.List.{AllByRecursion}
 use Rattle.fuse_plan.specs.declared.wish.Want.{Want}
-use Rattle.fuse_plan.specs.declared.wish.Want.TheVariants.{Bit, Value, Key, WriteLock, ReadLock}
+use Rattle.fuse_plan.specs.declared.wish.Want.TheVariants.{Key}
 use Rattle.office_commands.specs.NewOrders.{IsNewOrder}
 use Rattle.office_commands.specs.declared.command.Action.{Action}
-use Rattle.office_commands.specs.declared.command.Action.TheVariants.{Plan, ReadBack, Ship, Scrap}
+use Rattle.office_commands.specs.declared.command.Action.TheVariants.{Plan}
 use Rattle.office_commands.specs.declared.command.Change.{Change}
-use Rattle.office_commands.specs.declared.command.Change.TheVariants.{MakeOrder, ImportMap, RegisterDevice, Act, Identify, Import}
+use Rattle.office_commands.specs.declared.command.Change.TheVariants.{MakeOrder, Act}
 use Rattle.office_commands.specs.declared.command.Command.{Command}
 use Rattle.office_commands.specs.declared.command.Command.TheVariants.{Change as Changing, Show}
 use Rattle.office_commands.specs.declared.command.Request.{Request}
 
 -- a key that is wished for is named by a digest of 32 bytes
 abbrev pub HasDigest : Want → Type 0
-HasDigest (Bit index) = Unit {0}
-HasDigest (Value number) = Unit {0}
 HasDigest (Key digest) = length digest ≡ 32
-HasDigest WriteLock = Unit {0}
-HasDigest ReadLock = Unit {0}
+HasDigest _ = Unit {0}
 
 -- an action whose wishes name their keys so
 abbrev pub IsAction : Action → Type 0
 IsAction (Plan wishes) = AllByRecursion (λ w. HasDigest w.want) wishes
-IsAction (ReadBack blocks) = Unit {0}
-IsAction Ship = Unit {0}
-IsAction Scrap = Unit {0}
+IsAction _ = Unit {0}
 
 -- a change: the numbers of an order are within their ranges, and an action's wishes name their keys so
 abbrev pub IsChange : Change → Type 0
 IsChange (MakeOrder o) = IsNewOrder o
-IsChange (ImportMap text) = Unit {0}
-IsChange (RegisterDevice d) = Unit {0}
 IsChange (Act chip action) = IsAction action
-IsChange (Identify i) = Unit {0}
-IsChange (Import i) = Unit {0}
+IsChange _ = Unit {0}
 
 -- a command: a change that is one, or anything that is to be shown
 abbrev pub IsCommand : Command → Type 0
