@@ -9,7 +9,6 @@ use Rattle.office_tables.specs.declared.rows.Device.{Device}
 use Rattle.office_tables.specs.declared.rows.DeviceState.{DeviceState}
 use Rattle.office_tables.specs.declared.rows.Order.{Order}
 use Rattle.office_tables.specs.Prelude.{state_row, Tables, rows_of, text_cmp}
-use Rattle.office_tables.specs.declared.rows.DeviceState.TheVariants.{Registered}
 use Rattle.yield_report.specs.Prelude.{with_device, with_less, HasIssued, Yield, columns, count_in, devices_of, serials_left, yield_of, yield_with, counted}
 use Rattle.yield_report.specs.Prelude.{first_line, left_in, names_cmp, whole_line, AreAscending, AreLines, IsLine, has_issued_in, IsOrderReport, line_fields}
 use Rattle.yield_report.specs.Prelude.{lines_text, order_header, report_text, AreStorable}
@@ -31,8 +30,7 @@ pushed_in devices d column =
 
 with_state : (quantity left : ℕ) (f : ℕ → ℕ) (s : DeviceState) → with_device s (quantity ∷ (map f columns ++ left ∷ []))
     ≡ quantity ∷ (map (λ column. if (state_row s).column == column then f column + 1 else f column) columns ++ left ∷ [])
-with_state quantity left f Registered = refl
-with_state quantity left f _ = refl
+with_state quantity left f s = grind arith
 
 -- the numbers of an order with all of some devices more
 with_all : (o : Order) (left : ℕ) (before devices : List Device)

@@ -1,8 +1,8 @@
 -- How the numbers of a line are counted, up to what the tables have room for.
-use Rattle.std.specs.Prelude.{ℕ, ◌+◌, ◌-◌, Option, option_map, slice_index, slice_set}
+use Rattle.std.specs.Prelude.{ℕ, ◌+◌, ◌-◌, length, Option, option_map, slice_index, slice_set}
 use Rattle.office_tables.specs.Prelude.{one_more, state_row}
 use Rattle.office_tables.specs.declared.rows.DeviceState.{DeviceState}
-use Rattle.yield_report.specs.Counts.{Yield, column_count}
+use Rattle.yield_report.specs.Counts.{Yield, state_names}
 
 -- where the devices in a state are counted among the numbers: behind the quantity
 abbrev pub state_place : DeviceState → ℕ
@@ -10,7 +10,7 @@ state_place state = 1 + (state_row state).column
 
 -- where the serial numbers that are left stand among the numbers: behind the devices of all states
 abbrev pub left_place : ℕ
-left_place = column_count + 1
+left_place = length state_names + 1
 
 -- the numbers with one more device in this state
 abbrev pub with_device : DeviceState → Yield → Yield

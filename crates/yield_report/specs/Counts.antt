@@ -1,5 +1,5 @@
 -- What a yield report counts, by what was looked up: the orders and the devices of a customer, and whether a serial number of an issuer is given.
-use Rattle.std.specs.Prelude.{ℕ, ◌+◌, ◌==◌, Bool, List, [], ◌∷◌, ◌++◌, length, filter, map, bytes_eq, slice_index, sum_by}
+use Rattle.std.specs.Prelude.{ℕ, ◌+◌, ◌==◌, Bool, List, [], ◌∷◌, ◌++◌, codes, length, filter, map, bytes_eq, slice_index, sum_by}
 use Rattle.std.specs.List.{range_with_len}
 use Rattle.id_ranges.specs.Prelude.{numbers, is_unused}
 use Rattle.office_tables.specs.declared.rows.Order.{Order}
@@ -22,13 +22,14 @@ devices_of order devices = filter (λ d. bytes_eq order d.order) devices
 abbrev pub count_in : List Device → ℕ → ℕ
 count_in devices column = length (filter (λ d. (state_row d.state).column == column) devices)
 
--- how many columns of states there are
-abbrev pub column_count : ℕ
-column_count = 7
+-- the columns of states, by their names
+abbrev pub state_names : List (List ℕ)
+state_names =
+    codes "registered" ∷ codes "planned" ∷ codes "settled" ∷ codes "identified" ∷ codes "shipped" ∷ codes "quarantined" ∷ codes "scrapped" ∷ []
 
--- the columns of states
+-- their places among each other
 abbrev pub columns : List ℕ
-columns = range_with_len 0 column_count
+columns = range_with_len 0 (length state_names)
 
 -- how many of an order's serial numbers aren't given in its issuer, whoever gave the others
 abbrev pub serials_left : HasIssued → Order → ℕ
@@ -44,7 +45,7 @@ yield_of given devices o = yield_with o (serials_left given o) (devices_of o.nam
 
 -- how many numbers a line has: the quantity, one a column, and how many are left
 abbrev pub number_count : ℕ
-number_count = column_count + 2
+number_count = length state_names + 2
 
 -- the sum of the numbers at a place
 abbrev pub sum_at : List Yield → ℕ → ℕ

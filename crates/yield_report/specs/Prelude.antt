@@ -1,6 +1,6 @@
 -- The words of this crate, passed on from one place. Declares nothing.
 pub use Rattle.yield_report.specs.Counting.{left_place, state_place, with_device, with_device_counted, with_less}
-pub use Rattle.yield_report.specs.Counts.{column_count, columns, count_in, devices_of, HasIssued, number_count, serials_left, sum_at, total, Yield, yield_of}
+pub use Rattle.yield_report.specs.Counts.{columns, count_in, devices_of, HasIssued, number_count, serials_left, state_names, sum_at, total, Yield, yield_of}
 pub use Rattle.yield_report.specs.Counts.{yield_with}
 pub use Rattle.yield_report.specs.Lines.{AreAscending, AreLines, count_of_range, counted, CountsDevice, first_line, GathersOrder, has_no_room, is_met, IsLine}
 pub use Rattle.yield_report.specs.Lines.{issued_count, left_in, left_so_far, less, names_cmp, new_issuer, taken, taken_in, TakesSerial}

@@ -1,17 +1,15 @@
 -- The texts of reports: lines of fields with commas between them (RFC 4180), each with a line feed behind it.
-use Rattle.std.specs.Prelude.{ℕ, ◌≤◌, List, [], ◌∷◌, codes, decimal, flat_map, length, map, Option, Some, None, nat_le, if◌then◌else◌}
+use Rattle.std.specs.Prelude.{ℕ, ◌≤◌, List, [], ◌∷◌, ◌++◌, codes, decimal, flat_map, length, map, Option, Some, None, nat_le, if◌then◌else◌}
 use Rattle.std.specs.List.{AllByRecursion}
 use Rattle.csv.specs.Writing.{default_writer, row_text}
 use Rattle.office_tables.specs.Prelude.{largest_number}
 use Rattle.office_tables.specs.declared.rows.Order.{Order}
 use Rattle.office_tables.specs.declared.rows.Device.{Device}
-use Rattle.yield_report.specs.Counts.{HasIssued, Yield, total, yield_of}
+use Rattle.yield_report.specs.Counts.{HasIssued, Yield, state_names, total, yield_of}
 
 -- the names of the numbers, in their order
 abbrev pub number_names : List (List ℕ)
-number_names =
-    codes "quantity" ∷ codes "registered" ∷ codes "planned" ∷ codes "settled" ∷ codes "identified" ∷ codes "shipped" ∷ codes "quarantined" ∷ codes "scrapped"
-    ∷ codes "serials_left" ∷ []
+number_names = codes "quantity" ∷ (state_names ++ codes "serials_left" ∷ [])
 
 -- a text of these lines
 abbrev pub report_text : List (List (List ℕ)) → List ℕ
