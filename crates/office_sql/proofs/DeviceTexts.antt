@@ -1,6 +1,6 @@
 -- What the texts that read and write devices mean, show, and make of the tables.
 use Rattle.std.proofs.Common.{◌≡◌, ◌<◌, ◌+◌, ◌++◌, get_or, ◌&&◌, ◌∷◌}
-use Rattle.text_core.proofs.Kit.{inl, inr, ℕ, ℤ, true, List, [], map, take, filter, length, Some, Ok, refl, sym, ap, ap₂, ◌∙◌, arith, option_map, unwrap_or}
+use Rattle.text_core.proofs.Kit.{inl, inr, ℕ, ℤ, true, List, [], map, take, filter, length, None, Some, Ok, refl, sym, ap, ap₂, ◌∙◌, arith, option_map, unwrap_or}
 use Rattle.text_core.proofs.Kit.{Bool, ordering_then, take_more, map-append, and-true, and_parts, same_text, tied_itself}
 use Rattle.office_sql.proofs.Kit.{Value, Null, Int, Row, column, bytes, Term, lit, col, eval_all, output, output_cmp, Database, cast, State, Executes, cast_row}
 use Rattle.office_sql.proofs.Kit.{next_rowid, then-Equal}
@@ -10,7 +10,7 @@ use Rattle.sqlite.specs.Listing.{understood}
 use Rattle.sqlite_tied.specs.Compute.{everything}
 use Rattle.sqlite_trees.proofs.ListLemmas.{map-map}
 use Rattle.office_tables.specs.Prelude.{state_row, reason_text, state_of_texts, device_cmp, is_device, is_device_behind, is_of, IsFree}
-use Rattle.office_sql.proofs.Types.{OfCustomer, Device, DeviceState, Quarantined, Scrapped, AddDevice, PutDevice}
+use Rattle.office_sql.proofs.Types.{OfCustomer, Device, DeviceState, AddDevice, PutDevice}
 use Rattle.office_tables.proofs.TotalOrders.{device_total}
 use Rattle.office_sql.specs.Prelude.{devices, SqlAdds, Wrote, device_in_row, device_columns, device_table, office_schema, rows_in, is_parameter, passes}
 use Rattle.office_sql.specs.Prelude.{is_above_parameter, env, order_state, order_state_in, IsDeviceRow, IsOffice, tables_in, state_in, text_if, text_value}
@@ -28,7 +28,6 @@ use Rattle.office_sql.proofs.TableOf.{TableOf, AreRowsAs, by_key, in_order, show
 use Rattle.office_sql.proofs.Values.{text_above, text_is, texts_cmp}
 use Rattle.office_sql.specs.declared.devices.TheConstants.{SELECT_DEVICE, SELECT_DEVICES, SELECT_DEVICES_BEHIND, SELECT_STATES, INSERT_INTO_DEVICE}
 use Rattle.office_sql.specs.declared.devices.TheConstants.{UPDATE_OF_DEVICE}
-use Rattle.office_tables.specs.declared.rows.Reason.TheVariants as reason
 
 abbrev pub as_devices : TableOf (OfCustomer Device)
 as_devices = record {
@@ -126,15 +125,12 @@ one_more f xs i x ys y within here so made = rw (take_more xs i x within, map-ap
 
 -- the texts of a state are those of no other
 pub state_read_back : (s : DeviceState) → state_of_texts (state_row s).text (option_map reason_text (state_row s).reason) ≡ Some s
-state_read_back (Quarantined reason.Lost) = refl
-state_read_back (Quarantined reason.Stray) = refl
-state_read_back (Quarantined reason.Key) = refl
-state_read_back _ = refl
+state_read_back s = grind arith
 
 state_back : (s : DeviceState) → state_in (state_row s).text (text_if (text_value (option_map reason_text (state_row s).reason))) ≡ s
 state_back s =
     ap (state_in (state_row s).text) (text_back (option_map reason_text (state_row s).reason))
-    ∙ ap (λ found. unwrap_or found Scrapped) (state_read_back s)
+    ∙ ap (λ found. unwrap_or found (state_in [] None)) (state_read_back s)
 
 pub device_back : (id : ℤ) (d : OfCustomer Device) → device_in_row (Int id ∷ device_columns d) ≡ d
 device_back id d = ap₂ (λ s t. record d { row = record d.row { state = s; serial = t } }) (state_back d.row.state) (text_back d.row.serial)

@@ -4,7 +4,6 @@ pub use Rattle.id_ranges.specs.declared.fault.RangeFault.TheVariants.{BadNotBefo
 pub use Rattle.office_tables.specs.declared.rows.Cursor.{Cursor}
 pub use Rattle.office_tables.specs.declared.rows.Device.{Device}
 pub use Rattle.office_tables.specs.declared.rows.DeviceState.{DeviceState}
-pub use Rattle.office_tables.specs.declared.rows.DeviceState.TheVariants.{Quarantined, Scrapped}
 pub use Rattle.office_tables.specs.declared.rows.Entry.{Entry}
 pub use Rattle.office_tables.specs.declared.rows.Event.{Event}
 pub use Rattle.office_tables.specs.declared.rows.Given.{Given}
