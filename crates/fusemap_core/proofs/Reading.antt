@@ -5,20 +5,20 @@ use Rattle.text_core.specs.Prelude.{GivesUnless}
 use Rattle.members.proofs.Reading as reading
 use Rattle.fusemap_core.specs.declared.fault.MapFault.{MapFault}
 use Rattle.fusemap_core.specs.declared.fault.MapFault.TheVariants.{NotToml, BadMember, OutOfMemory}
-use Rattle.fusemap_core.specs.Prelude.{Map, IsMap, map_or_fault, IsLowestMapFault, HasMapMembers, IsMapText, map_of_document, map_read}
+use Rattle.fusemap_core.specs.Prelude.{Map, IsMap, map_or_fault, IsLowestMapFault, HasMapMembers, IsMapText, map_of_document, map_read, map_text_limit}
 use Rattle.fusemap_core.proofs.Judged.{IsMap-from_judged, same-from_judged, map_or_fault-from_IsMap, IsLowestMapFault-from_judged}
 use Rattle.fusemap_core.proofs.Ranges.{IsInRange-from_map_of}
 
 read_of_members : (text : List ℕ) (m : Map) → HasMapMembers text m → map_read text ≡ map_or_fault m
 read_of_members text m has =
-    reading.judged_of_members map_of_document map_or_fault NotToml BadMember BadMember 32768 text m
+    reading.judged_of_members map_of_document map_or_fault NotToml BadMember BadMember map_text_limit text m
     has.within has.members
 
 -- what is read is the text's map
 pub IsMapText-from_read : (text : List ℕ) (m : Map) → map_read text ≡ Ok m → IsMapText text m
 IsMapText-from_read text m e =
     let known =
-    reading.text_is map_of_document map_or_fault NotToml BadMember BadMember 32768 IsMap good text m e in
+    reading.text_is map_of_document map_or_fault NotToml BadMember BadMember map_text_limit IsMap good text m e in
     record { within = known.0; members = known.1; is_map = known.2 }
   where
     good : (d : Data) (found m : Map) → map_of_document d ≡ Some found → map_or_fault found ≡ Ok m

@@ -44,21 +44,25 @@ map_of_document d = do
   coding ← if_there name_in (get (codes "coding") d)
   Some (record { name = name; blocks = blocks; fields = fields; wr = wr; rd = rd; coding = coding })
 
--- the text is a TOML document of at most 32,768 bytes whose named members are the map's
+-- the most bytes of a map's text
+abbrev pub map_text_limit : ℕ
+map_text_limit = 32768
+
+-- the text is a TOML document within the limit whose named members are the map's
 pub record HasMapMembers (text : List ℕ) (m : Map) : Type 0 where
-  pub within : length text ≤ 32768
+  pub within : length text ≤ map_text_limit
   pub members : (document_of text >>= map_of_document) ≡ Some m
 
 -- the text is a TOML document of at most 32,768 bytes whose named members are the map's, and the map keeps each rule of maps
 pub record IsMapText (text : List ℕ) (m : Map) : Type 0 where
-  pub within : length text ≤ 32768
+  pub within : length text ≤ map_text_limit
   pub members : (document_of text >>= map_of_document) ≡ Some m
   pub is_map : IsMap m
 
 -- the map that a text is, or its lowest fault: a text that is too long isn't read, and has fault 2
 abbrev pub map_read : List ℕ → Result Map MapFault
 map_read text =
-    if nat_lt 32768 (length text) then Err BadMember
+    if nat_lt map_text_limit (length text) then Err BadMember
     else result_and_then (λ d. result_and_then map_or_fault (ok_or (map_of_document d) BadMember)) (ok_or (document_of text) NotToml)
 
 -- the fuse map that a text describes, if it describes one

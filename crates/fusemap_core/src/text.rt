@@ -4,7 +4,7 @@ ghost use Rattle.members.specs.Prelude.{if_there, name_in};
 ghost use Rattle.text_core.specs.Prelude.{GivesUnless};
 ghost use Rattle.toml.specs.Data.{get};
 ghost use Rattle.toml.specs.View.{view};
-ghost use Rattle.fusemap_core.specs.Prelude.{Map, IsLowestMapFault, HasMapMembers, IsMapText, field_in, map_of_document, map_read, words_in};
+ghost use Rattle.fusemap_core.specs.Prelude.{Map, IsLowestMapFault, HasMapMembers, IsMapText, field_in, map_of_document, map_read, words_in, map_text_limit};
 
 use crate::draft::{FieldDraft, MapDraft};
 use crate::fault::MapFault::{self, BadMember};
@@ -44,7 +44,7 @@ pub fn read_map(alloc: Global, text: &str) -> Result<FuseMap, MapFault>
         → (map : Map) → ¬ IsMapText text.now map) }
 
     // A text over its limit is told its fault, and never want of memory.
-    ensures too_long { 32768 < length text.now → result ≡ Err MapFault.BadMember }
+    ensures too_long { map_text_limit < length text.now → result ≡ Err MapFault.BadMember }
 {
     if TEXT_LIMIT < text.len() {
         return Err(BadMember);

@@ -6,7 +6,7 @@ use Rattle.csv.specs.Records.{field_at}
 use Rattle.id_ranges.proofs.Texts.{serial_is_text}
 use Rattle.text_core.specs.Prelude.{all_of, is_serial, serial_of_text}
 use Rattle.text_core.proofs.Lists.{all_of-map}
-use Rattle.id_ranges.specs.Prelude.{found_row, with_serial, fields_of_row, is_header, row_with_serial, import_table, two_fields}
+use Rattle.id_ranges.specs.Prelude.{found_row, with_serial, fields_of_row, is_header, row_with_serial, import_table, two_fields, row_limit}
 use Rattle.id_ranges.specs.declared.read.FoundRow.{FoundRow}
 
 -- where the second test fails
@@ -20,12 +20,12 @@ table_of_first [] zero h = absurd (omega arith)
 table_of_first [] (suc most) h = refl
 table_of_first (first ∷ rows) zero h = absurd (omega arith)
 table_of_first (first ∷ rows) (suc most) h =
-    elim (cases_Bool (nat_le (length rows) 500)) [
+    elim (cases_Bool (nat_le (length rows) row_limit)) [
       | inl fits ↦
-          let few : length rows ≤ 500 = leb-true (length rows) 500 fits in
+          let few : length rows ≤ row_limit = leb-true (length rows) row_limit fits in
           ap (λ front. import_table (first ∷ front)) (take_all most rows (omega arith))
       | inr long ↦
-          let cut : nat_le (length (take most rows)) 500 ≡ false = grind (arith, nat_tests, length-take most rows) in
+          let cut : nat_le (length (take most rows)) row_limit ≡ false = grind (arith, nat_tests, length-take most rows) in
           both_none (is_header first) _ _ _ _ cut long
     ]
 
@@ -66,10 +66,10 @@ pub found_serials : (table : List (List ℕ × List ℕ)) → all_of with_serial
 found_serials table = all_of-map with_serial found_row table
 
 -- the table under a header
-pub table_under : (first : List (List ℕ)) (rows : List (List (List ℕ))) → is_header first ≡ true → length rows ≤ 500
+pub table_under : (first : List (List ℕ)) (rows : List (List (List ℕ))) → is_header first ≡ true → length rows ≤ row_limit
     → import_table (first ∷ rows) ≡ all_of fields_of_row rows
 table_under first rows is few =
-    let fits : nat_le (length rows) 500 ≡ true = le-leb (length rows) 500 few in
+    let fits : nat_le (length rows) row_limit ≡ true = le-leb (length rows) row_limit few in
     rw (is, fits) refl
 
 -- what the rows that were found say of a table

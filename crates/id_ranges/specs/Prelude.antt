@@ -12,5 +12,5 @@ pub use Rattle.id_ranges.specs.RangeFaults.{range_fault_number}
 pub use Rattle.id_ranges.specs.SerialLaws.{CursorSkipsIssued, IsLeastUnused, MeetsIsTested, NextIsLeast, NoneIsLeft, NumbersDiffer, TextsAreSerials}
 pub use Rattle.id_ranges.specs.SerialLaws.{WidthsDiffer}
 pub use Rattle.id_ranges.specs.Found.{found_row, with_serial}
-pub use Rattle.id_ranges.specs.Rows.{fields_of_row, header, import_table, is_header, row_with_serial, two_fields}
+pub use Rattle.id_ranges.specs.Rows.{fields_of_row, header, import_table, is_header, row_limit, row_with_serial, two_fields}
 unfoldable pub use Rattle.id_ranges.specs.Rows.{import_rows_of}

@@ -24,10 +24,14 @@ two_fields (first ∷ second ∷ third ∷ rest) = None
 abbrev pub fields_of_row : List (List ℕ) → Option (List ℕ × List ℕ)
 fields_of_row fields = two_fields fields >>= (λ pair. option_map (λ key. (pair.0, key)) (digest_of_text pair.1))
 
--- the rows under the header, each a row of two fields, and at most 500 of them
+-- the most rows of an import
+abbrev pub row_limit : ℕ
+row_limit = 500
+
+-- the rows under the header, each a row of two fields, and no more than the limit
 abbrev pub import_table : List (List (List ℕ)) → Option (List (List ℕ × List ℕ))
 import_table [] = None
-import_table (first ∷ rows) = if is_header first && nat_le (length rows) 500 then all_of fields_of_row rows else None
+import_table (first ∷ rows) = if is_header first && nat_le (length rows) row_limit then all_of fields_of_row rows else None
 
 -- the row with its serial number, where its first field is one
 abbrev pub row_with_serial : List ℕ × List ℕ → Option ImportRow

@@ -1,6 +1,7 @@
 -- What the texts that read and write devices mean, show, and make of the tables.
 use Rattle.std.proofs.Common.{◌≡◌, ◌<◌, ◌+◌, ◌++◌, get_or, ◌&&◌, ◌∷◌}
-use Rattle.text_core.proofs.Kit.{inl, inr, ℕ, ℤ, true, List, [], map, take, filter, length, None, Some, Ok, refl, sym, ap, ap₂, ◌∙◌, arith, option_map, unwrap_or}
+use Rattle.text_core.proofs.Kit.{inl, inr, ℕ, ℤ, true, List, [], map, take, filter, length, None, Some, Ok, refl, sym, ap, ap₂, ◌∙◌, arith, option_map}
+use Rattle.text_core.proofs.Kit.{unwrap_or}
 use Rattle.text_core.proofs.Kit.{Bool, ordering_then, take_more, map-append, and-true, and_parts, same_text, tied_itself}
 use Rattle.office_sql.proofs.Kit.{Value, Null, Int, Row, column, bytes, Term, lit, col, eval_all, output, output_cmp, Database, cast, State, Executes, cast_row}
 use Rattle.office_sql.proofs.Kit.{next_rowid, then-Equal}

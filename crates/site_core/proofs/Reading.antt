@@ -3,7 +3,7 @@ use Rattle.std.proofs.Common.{◌≡◌, ◌≢◌, ◌∙◌, ℕ, List, Some, 
 use Rattle.toml.specs.Data.{Data}
 use Rattle.text_core.specs.Prelude.{GivesUnless}
 use Rattle.members.proofs.Reading as reading
-use Rattle.site_core.specs.Prelude.{SiteValue, IsSite, site_or_fault, IsLowestSiteFault, HasSiteMembers, IsSiteText, site_of, site_read}
+use Rattle.site_core.specs.Prelude.{SiteValue, IsSite, site_or_fault, IsLowestSiteFault, HasSiteMembers, IsSiteText, site_of, site_read, site_text_limit}
 use Rattle.site_core.specs.declared.fault.SiteFault.{SiteFault}
 use Rattle.site_core.specs.declared.fault.SiteFault.TheVariants.{NotToml, BadMember, OverLimit, OutOfMemory}
 use Rattle.site_core.proofs.Judged.{IsSite-from_judged, same-from_judged, site_or_fault-from_IsSite}
@@ -12,7 +12,7 @@ use Rattle.site_core.proofs.Broken.{IsLowestSiteFault-from_judged}
 read_of_members : (text : List ℕ) (site : SiteValue) → HasSiteMembers text site
     → site_read text ≡ site_or_fault site
 read_of_members text site has =
-    reading.judged_of_members site_of site_or_fault NotToml BadMember OverLimit 1048576 text site
+    reading.judged_of_members site_of site_or_fault NotToml BadMember OverLimit site_text_limit text site
     has.within has.members
 
 -- what is read is the text's site
@@ -20,7 +20,7 @@ pub IsSiteText-from_read : (text : List ℕ) (site : SiteValue) → site_read te
     → IsSiteText text site
 IsSiteText-from_read text site e =
     let known =
-    reading.text_is site_of site_or_fault NotToml BadMember OverLimit 1048576 IsSite good text site e in
+    reading.text_is site_of site_or_fault NotToml BadMember OverLimit site_text_limit IsSite good text site e in
     record { within = known.0; members = known.1; is_site = known.2 }
   where
     good : (d : Data) (found site : SiteValue) → site_of d ≡ Some found

@@ -7,5 +7,5 @@ pub use Rattle.site_core.specs.Section.{has_token, issuers_of, names_of, pools_o
 pub use Rattle.site_core.specs.Site.{is_over_limit, is_section_over, IsSite, pools_meet}
 pub use Rattle.site_core.specs.SiteFaults.{ArePoolsApart, has_bad_pool, has_pair, has_repeat, HasNoRepeat, is_bad_pool, IsLowestSiteFault, KeepsSiteRule}
 pub use Rattle.site_core.specs.SiteFaults.{site_fault_number, site_fault_of_document, site_or_fault}
-pub use Rattle.site_core.specs.SiteText.{HasSiteMembers, IsSiteText, manager_in, site_read, TextOfSite, token_in}
+pub use Rattle.site_core.specs.SiteText.{HasSiteMembers, IsSiteText, manager_in, site_read, site_text_limit, TextOfSite, token_in}
 unfoldable pub use Rattle.site_core.specs.SiteText.{customer_in, pool_in, seat_of_data, site_of}

@@ -53,21 +53,25 @@ site_of d = do
   manager ← manager_in d
   Some (record { customers = customers; manager = manager })
 
--- the text is a TOML document of at most 1,048,576 bytes (2^20) whose named members are the site's
+-- the most bytes of a site's text, 2^20
+abbrev pub site_text_limit : ℕ
+site_text_limit = 1048576
+
+-- the text is a TOML document within the limit whose named members are the site's
 pub record HasSiteMembers (text : List ℕ) (site : SiteValue) : Type 0 where
-  pub within : length text ≤ 1048576
+  pub within : length text ≤ site_text_limit
   pub members : (document_of text >>= site_of) ≡ Some site
 
 -- the text is such a document, and the site is one
 pub record IsSiteText (text : List ℕ) (site : SiteValue) : Type 0 where
-  pub within : length text ≤ 1048576
+  pub within : length text ≤ site_text_limit
   pub members : (document_of text >>= site_of) ≡ Some site
   pub is_site : IsSite site
 
 -- the site that a text is, or its lowest fault
 abbrev pub site_read : List ℕ → Result SiteValue SiteFault
 site_read text =
-    if nat_lt 1048576 (length text) then Err OverLimit
+    if nat_lt site_text_limit (length text) then Err OverLimit
     else result_and_then (λ d. result_and_then site_or_fault (ok_or (site_of d) BadMember)) (ok_or (document_of text) NotToml)
 
 -- a text, the site that it is, and the SHA-256 of its bytes

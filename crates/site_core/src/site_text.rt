@@ -3,6 +3,7 @@ ghost use Rattle.std.specs.Prelude.{◌≡◌, ◌<◌, IfOk, length};
 ghost use Rattle.sha2.specs.Sha256.{sha256};
 ghost use Rattle.text_core.specs.Prelude.{GivesUnless, result_map};
 ghost use Rattle.site_core.specs.SiteText.{IsSiteText, site_read};
+ghost use Rattle.site_core.specs.Prelude.{site_text_limit};
 
 use crate::fault::SiteFault;
 use crate::site::Site;
@@ -71,7 +72,7 @@ pub fn read_site_text(alloc: Global, text: &str) -> Result<SiteText, SiteFault>
         (site_read text.now) }
 
     // A text over its limit is told its fault, and never want of memory.
-    ensures too_long { 1048576 < length text.now → result ≡ Err SiteFault.OverLimit }
+    ensures too_long { site_text_limit < length text.now → result ≡ Err SiteFault.OverLimit }
 {
     let site = read_site(alloc, text)?;
     let digest = Digest::of(text.as_bytes());

@@ -3,6 +3,7 @@ ghost use Rattle.std.specs.Prelude.{◌≡◌, ◌≢◌, ◌<◌, IfErr, IfOk, 
 ghost use Rattle.toml.specs.View.{view};
 ghost use Rattle.text_core.specs.Prelude.{all_of, GivesUnless, result_map};
 ghost use Rattle.site_core.specs.Prelude.{SiteValue, IsLowestSiteFault, HasSiteMembers, IsSiteText, customer_in, manager_in, pool_in, seat_of_data, site_of};
+ghost use Rattle.site_core.specs.Prelude.{site_text_limit};
 ghost use Rattle.site_core.specs.Prelude.{site_read};
 
 use crate::customer::Seat;
@@ -42,7 +43,7 @@ pub fn read_site(alloc: Global, text: &str) -> Result<Site, SiteFault>
         → (site : SiteValue) → ¬ IsSiteText text.now site) }
 
     // A text over its limit is told its fault, and never want of memory.
-    ensures too_long { 1048576 < length text.now → result ≡ Err SiteFault.OverLimit }
+    ensures too_long { site_text_limit < length text.now → result ≡ Err SiteFault.OverLimit }
 {
     if TEXT_LIMIT < text.len() {
         return Err(SiteFault::OverLimit);

@@ -6,10 +6,10 @@ use Rattle.std.specs.Borrow.{Bor}
 use Rattle.std.specs.Io.KnownBytes.{Appends, Keeps}
 use Rattle.std.specs.Str.{is_utf8}
 use Rattle.std.specs.declared.io.Error.{Error}
-use Rattle.fusemap_core.specs.Prelude.{Map, map_read}
+use Rattle.fusemap_core.specs.Prelude.{Map, map_read, map_text_limit}
 use Rattle.fusemap_core.specs.declared.fault.MapFault.{MapFault}
 use Rattle.http_frames.specs.declared.serving.Served.{Served}
-use Rattle.site_core.specs.Prelude.{site_read}
+use Rattle.site_core.specs.Prelude.{site_read, site_text_limit}
 use Rattle.site_core.specs.declared.fault.SiteFault.{SiteFault}
 use Rattle.station_cli.specs.Prelude.{ComesTo, EndsAs, EndsStream, IsAnswered, IsBeforeStream, IsOfFile, IsOfJob, IsOfSite, IsTold, IsUnread}
 use Rattle.station_cli.specs.Prelude.{map_failure, map_line, map_of_file, Traffic}
@@ -46,13 +46,13 @@ read_fails failure_of file read (Err failure) fails = fails
 
 pub site_fails : (name : Bor (List ℕ)) (bytes : List ℕ) → IfErr (site_in name bytes) (IsOfText site_failure name.now)
 site_fails name bytes =
-    read_fails site_failure name.now site_read (text_of_file name bytes 1048576 (site_failure SiteFault.OverLimit))
-    (text_fails site_failure SiteFault.OverLimit name bytes (nat_lt 1048576 (length bytes)) (is_utf8 bytes))
+    read_fails site_failure name.now site_read (text_of_file name bytes site_text_limit (site_failure SiteFault.OverLimit))
+    (text_fails site_failure SiteFault.OverLimit name bytes (nat_lt site_text_limit (length bytes)) (is_utf8 bytes))
 
 pub map_fails : (name : Bor (List ℕ)) (bytes : List ℕ) → IfErr (map_of_file name bytes) (IsOfText map_failure name.now)
 map_fails name bytes =
-    read_fails map_failure name.now map_read (text_of_file name bytes 32768 (map_failure MapFault.BadMember))
-    (text_fails map_failure MapFault.BadMember name bytes (nat_lt 32768 (length bytes)) (is_utf8 bytes))
+    read_fails map_failure name.now map_read (text_of_file name bytes map_text_limit (map_failure MapFault.BadMember))
+    (text_fails map_failure MapFault.BadMember name bytes (nat_lt map_text_limit (length bytes)) (is_utf8 bytes))
 
 described_fails : {A V Fault : Type 0} (failure_of : Fault → Failure) (memory : Fault) (file : List ℕ) (wanted : Result V Failure) (result : Result A Failure)
     (Behind Q : Failure → Type 0) → NoMemory ≡ failure_of memory

@@ -3,7 +3,7 @@ use Rattle.std.specs.Prelude.{◌≡◌, ℕ, List, Result, IfOk}
 use Rattle.std.specs.Borrow.{Bor}
 use Rattle.sha2.specs.Sha256.{sha256}
 use Rattle.text_core.specs.Prelude.{GivesUnless, result_and_then, result_map}
-use Rattle.site_core.specs.Prelude.{SiteValue, TextOfSite, site_fault_number, site_read}
+use Rattle.site_core.specs.Prelude.{SiteValue, TextOfSite, site_fault_number, site_read, site_text_limit}
 use Rattle.site_core.specs.declared.fault.SiteFault.{SiteFault}
 use Rattle.site_core.specs.declared.fault.SiteFault.TheVariants.{OverLimit}
 use Rattle.station_cli.specs.FileText.{or_failure, text_of_file}
@@ -18,7 +18,7 @@ site_failure fault = Failure.SiteFault (site_fault_number fault)
 -- the site in the bytes of a file, or the failure that its text's fault is. Bytes over the limit have the fault of that
 abbrev pub site_in : Bor (List ℕ) → List ℕ → Result SiteValue Failure
 site_in name bytes =
-    result_and_then (λ text. or_failure site_failure (site_read text)) (text_of_file name bytes 1048576 (site_failure OverLimit))
+    result_and_then (λ text. or_failure site_failure (site_read text)) (text_of_file name bytes site_text_limit (site_failure OverLimit))
 
 -- the bytes of a site's file, with the site that they describe
 abbrev pub text_of_site : List ℕ → SiteValue → TextOfSite

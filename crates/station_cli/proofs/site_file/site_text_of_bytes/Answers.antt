@@ -1,6 +1,6 @@
 use Rattle.std.proofs.Common.{◌≡◌, refl}
 use Rattle.text_core.specs.Prelude.{result_map}
-use Rattle.site_core.specs.Prelude.{TextOfSite, site_read}
+use Rattle.site_core.specs.Prelude.{TextOfSite, site_read, site_text_limit}
 use Rattle.site_core.specs.declared.fault.SiteFault.TheVariants.{OutOfMemory, OverLimit}
 use Rattle.station_cli.proofs.FileTexts.{given_of_text, part_passed, text_is_bytes, value_passed}
 use Rattle.station_cli.specs.Prelude.{site_failure}
@@ -16,7 +16,7 @@ returns-clause-site c =
 
 pub returns-clause-text : goal.returns-clause-text
 returns-clause-text c =
-    let same = text_is_bytes c.args.name c.args.bytes.now c.in_ok-text.text.now 1048576 (site_failure OverLimit)
+    let same = text_is_bytes c.args.name c.args.bytes.now c.in_ok-text.text.now site_text_limit (site_failure OverLimit)
     (rw c.site_failure-too_long.ensures at c.in_ok-text.ensures) in
     value_passed site_failure (λ (t : TextOfSite). t.text ≡ c.args.bytes.now) c.read_site_text.result c.map_err.result c.map_err.ensures.cases
     (rw same at c.read_site_text.ensures.text)
