@@ -27,8 +27,9 @@
 //! `replay_over` require), and the port the program's bounds too; what the files held before has a
 //! name in all of these, which `main` alone fills.
 //!
-//! The job `serve` prints its line once the port is listened on, and nothing before; and it is done
-//! only when the listener gave as many connections as it was asked for (`accepted`). Whatever they
+//! The job `serve` prints its line once the port is listened on, and nothing before; and it has
+//! served as many connections as it was asked for once `serve_connections` ends (`counted`, there
+//! alone: above it `accepted` is a number that the job was given). Whatever the connections
 //! say, the tables that stood lead to those that stand by one run of answers to requests of the
 //! site's callers, with all that `serve_stream` says of one stream, crashes included; a keeper whose
 //! disk is honest at the end was so at the start (`serve_connections`, over any keeper, listener and
