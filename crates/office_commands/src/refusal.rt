@@ -1,9 +1,12 @@
 // Why a request is refused.
 ghost use Rattle.std.specs.Prelude.{◌≡◌, []};
 ghost use Rattle.office_commands.specs.Prelude.{TellsNumber, refusal_body, refusal_number, refusal_row, refusal_status, numbered_body};
+ghost use Rattle.office_commands.specs.declared.refusal.Refusal.TheVariants as refusals;
 
 use fuse_plan::PlanFault;
 use http_replies::Status;
+use office_tables::Unkept;
+use std::alloc::{AllocError, AllocFailed};
 use text_core::Serial;
 
 /// Why a request is refused, in the order of the refusals' numbers: where several hold, the first
@@ -69,6 +72,30 @@ pub enum Refusal {
     BadNotBefore,
     /// There is no memory for an answer, or the store failed (50).
     Unkept,
+}
+
+impl From<Unkept> for Refusal {
+    ghost from_gives = { λ _ refusal. refusal ≡ refusals.Unkept };
+
+    fn from(_: Unkept) -> Refusal {
+        Refusal::Unkept
+    }
+}
+
+impl From<AllocError> for Refusal {
+    ghost from_gives = { λ _ refusal. refusal ≡ refusals.Unkept };
+
+    fn from(_: AllocError) -> Refusal {
+        Refusal::Unkept
+    }
+}
+
+impl<T: Drop> From<AllocFailed<T>> for Refusal {
+    ghost from_gives = { λ _ refusal. refusal ≡ refusals.Unkept };
+
+    fn from(_: AllocFailed<T>) -> Refusal {
+        Refusal::Unkept
+    }
 }
 
 /// What there is to know of a refusal.

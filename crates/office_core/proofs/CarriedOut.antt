@@ -1,6 +1,7 @@
 -- A judgement that is carried out, with its reply kept.
 use Rattle.std.proofs.Common.{◌≡◌, ◌≤◌, ◌+◌, ◌⊎◌, inl, inr, ℕ, List, [], ◌∷◌, ◌++◌, length, Some, sym, ◌∙◌, ap, subst, IfOk, MatchResult, Result, Ok, Err}
 use Rattle.std.proofs.Common.{string_bytes, arith, length-append}
+use Rattle.text_core.specs.Prelude.{first_that_holds}
 use Rattle.http_replies.specs.Prelude.{Answer, answer_of}
 use Rattle.http_replies.specs.declared.Reply.{Reply}
 use Rattle.site_core.specs.Prelude.{Section}
@@ -18,9 +19,8 @@ use Rattle.office_commands.specs.declared.command.Change.{Change}
 use Rattle.office_commands.specs.declared.command.Command.TheVariants.{Show}
 use Rattle.office_commands.specs.declared.command.Show.{Show as Showing}
 use Rattle.office_judges.specs.declared.judgement.Accepted.{Accepted}
-use Rattle.office_judges.specs.declared.judgement.Judgement.TheVariants.{Accepted as Accepts, Refused as Refuses}
 use Rattle.office_judges.specs.Prelude.{IsJudged}
-use Rattle.office_rules.specs.Prelude.{seat_put, reply_only, response, show_reply, office_sight, seat_row_after, kept_of, Performs, Step}
+use Rattle.office_rules.specs.Prelude.{seat_put, reply_only, response, show_reply, office_sight, refusals, seat_row_after, kept_of, Performs, Step}
 use Rattle.office_rules.proofs.Fulfilled.{last_put, puts_made}
 use Rattle.office_core.specs.Prelude.{CommitsReply, IsLastCall, PutsSome, new_response}
 
@@ -43,9 +43,9 @@ commits_reply customer seat r judged number reply t t2 is said all =
 
 -- what is accepted is what the machine responds where nothing refuses
 pub decides : (s : Section) (seat : List ℕ) (r : Request) (t : Tables) (c : Change) (a : Accepted)
-    (t2 : Tables) → IsJudged s seat t c (Accepts a) → CommitsReply s.name seat r a t t2
+    (t2 : Tables) → IsJudged s seat t c (Ok a) → CommitsReply s.name seat r a t t2
     → Performs s (new_response s seat r c t) t (acceptance (string_bytes a.body)) t2
-decides s seat r t c a t2 (free, can, made, is, body, writes) (mid, written, last) =
+decides s seat r t c a t2 (free, (can, made, is, body, writes)) (mid, written, last) =
     let row : SeatState = kept_of seat r made.body in (
       made.puts ++ seat_put row ∷ [],
       rw (free, is) (λ i. Some (record {
@@ -59,8 +59,8 @@ decides s seat r t c a t2 (free, can, made, is, body, writes) (mid, written, las
 
 -- what is refused
 pub refuses : (s : Section) (seat : List ℕ) (r : Request) (t : Tables) (c : Change)
-    (reason : Refusal) (reply : Answer) (t2 : Tables) → IsJudged s seat t c (Refuses reason)
-    → reply ≡ refusal reason → t2 ≡ t
+    (reason : Refusal) (reply : Answer) (t2 : Tables)
+    → first_that_holds (refusals s (office_sight s seat t) c) ≡ Some reason → reply ≡ refusal reason → t2 ≡ t
     → Performs s (new_response s seat r c t) t reply t2
 refuses s seat r t c reason reply t2 ruled said same =
     ([], rw ruled (λ i. Some (record { reply = sym said i; puts = [] })), same)
@@ -93,7 +93,7 @@ shows s seat t t2 r asked (Err e) command same said = same
 -- what is replied where it is carried out, or the tables as they were
 pub carries_out : (s : Section) (seat : List ℕ) (r : Request) (c : Change) (a : Accepted)
     (t mid t2 : Tables) (name : List ℕ) (result : Result Reply Unkept)
-    → IsJudged s seat t c (Accepts a) → name ≡ s.name → mid ≡ t
+    → IsJudged s seat t c (Ok a) → name ≡ s.name → mid ≡ t
     → MatchResult result (λ reply. CommitsReply name seat r a mid t2
     × (answer_of reply ≡ acceptance (string_bytes a.body))) (λ _. t2 ≡ mid)
     → MatchResult result (λ reply. Performs s
@@ -112,9 +112,9 @@ or_then (inr b) f = inr (f b)
 
 -- what is accepted puts something into the books
 pub decides_puts : (s : Section) (seat : List ℕ) (r : Request) (t : Tables) (c : Change)
-    (a : Accepted) → IsJudged s seat t c (Accepts a)
+    (a : Accepted) → IsJudged s seat t c (Ok a)
     → PutsSome (new_response s seat r c t)
-decides_puts s seat r t c a (free, can, made, is, body, writes) =
+decides_puts s seat r t c a (free, (can, made, is, body, writes)) =
     let enough : 1 ≤ length (made.puts ++ seat_put (kept_of seat r made.body) ∷ []) =
     omega (arith, length-append made.puts (seat_put (kept_of seat r made.body) ∷ [])) in
     rw (free, is) enough

@@ -1,6 +1,5 @@
 -- What an identity comes to by the parts of its judgement, before anything is written.
-use Rattle.std.specs.Prelude.{◌≡◌, ◌+◌, ◌++◌, ℕ, not, is_some, List, [], ◌∷◌, Some, None, Result, Ok, Err, string_bytes}
-use Rattle.text_core.specs.Prelude.{first_that_holds}
+use Rattle.std.specs.Prelude.{◌≡◌, ◌+◌, ◌++◌, ℕ, not, is_some, List, [], ◌∷◌, Some, Result, string_bytes}
 use Rattle.fusemap_core.specs.Prelude.{Map}
 use Rattle.site_core.specs.Prelude.{Section}
 use Rattle.office_tables.specs.declared.rows.Device.{Device}
@@ -12,6 +11,7 @@ use Rattle.office_commands.specs.Prelude.{identity_body}
 use Rattle.office_commands.specs.declared.refusal.Refusal.{Refusal}
 use Rattle.office_commands.specs.declared.refusal.Refusal.TheVariants.{Exhausted, KeyBound}
 use Rattle.office_rules.specs.Prelude.{identified_from, state_refusal, step_of_identity, idevid_of_order, row_of, next_of, Refusals}
+use Rattle.office_judges.specs.Judging.{IsUnlessRefused}
 use Rattle.office_judges.specs.Stepping.{writes_of}
 use Rattle.office_judges.specs.declared.identity.Numbered.{Numbered}
 use Rattle.office_judges.specs.declared.judgement.Accepted.{Accepted}
@@ -34,9 +34,8 @@ number_refusals t d o key =
 
 -- the lowest of these refusals; or none of them holds, and the device gets the next number
 abbrev pub IsNextNumber : Tables → Device → Order → List ℕ → Result Numbered Refusal → Type 0
-IsNextNumber t d o key (Err r) = first_that_holds (number_refusals t d o key) ≡ Some r
-IsNextNumber t d o key (Ok n) = (first_that_holds (number_refusals t d o key) ≡ None)
-    × (next : ℕ × List ℕ) × (next_of t o ≡ Some next) × (n ≡ numbered o next key)
+IsNextNumber t d o key judged = IsUnlessRefused (number_refusals t d o key)
+    (λ (n : Numbered). (next : ℕ × List ℕ) × (next_of t o ≡ Some next) × (n ≡ numbered o next key)) judged
 
 -- the writes of a device that gets a number: those of its step, its record, and its order's cursor
 abbrev pub number_writes : List ℕ → List ℕ → Numbered → List Write

@@ -1,9 +1,7 @@
 // What a device goes through: each action of a device with its fuse map, and what it comes to.
-ghost use Rattle.std.specs.Prelude.{IfOk};
-ghost use Rattle.office_tables.specs.Prelude.{ReadsOnly};
-ghost use Rattle.office_judges.specs.Prelude.{IsActed, IsJudged};
+ghost use Rattle.office_judges.specs.Prelude.{IsActed, IsJudged, Judges};
 
-use crate::Judgement;
+use crate::Accepted;
 use crate::end::{scrap, ship};
 use crate::found_device::{find_device, map_of};
 use crate::plan::plan_device;
@@ -12,9 +10,9 @@ use crate::steps::accept_step;
 use fusemap_core::FuseMap;
 use office_commands::{Action, Change, Refusal};
 use office_rules::DeviceStep;
-use office_tables::{Device, DeviceState, Keep, Unkept};
+use office_tables::{Device, DeviceState, Keep};
 use site_core::Customer;
-use std::alloc::{AllocError, Global};
+use std::alloc::Global;
 use text_core::{Chip, Name};
 
 /// What an action makes of a device, and the body that answers it.
@@ -25,14 +23,9 @@ pub struct Acted {
 }
 
 /// What an action makes of a device, if it goes on from the device's state, or the lowest refusal of
-/// it. It fails where there is no memory.
-fn act(
-    alloc: Global,
-    map: &FuseMap,
-    device: &Device,
-    action: &Action,
-) -> Result<Result<Acted, Refusal>, AllocError>
-    ensures { IfOk result (λ acted. IsActed action.now map.now device.now acted) }
+/// it. `Refusal::Unkept` is want of memory.
+fn act(alloc: Global, map: &FuseMap, device: &Device, action: &Action) -> Result<Acted, Refusal>
+    ensures { IsActed action.now map.now device.now result }
 {
     match (action, device.state) {
         (Action::Plan(wishes), DeviceState::Registered | DeviceState::Settled) => {
@@ -42,17 +35,15 @@ fn act(
             read_back(alloc, map, device, blocks)
         }
         (Action::Ship, DeviceState::Identified) => ship(alloc, map, device),
-        (Action::Scrap, DeviceState::Shipped | DeviceState::Scrapped) => {
-            Ok(Err(Refusal::WrongState))
-        }
+        (Action::Scrap, DeviceState::Shipped | DeviceState::Scrapped) => Err(Refusal::WrongState),
         (Action::Scrap, _) => scrap(alloc, map, device),
-        _ => Ok(Err(Refusal::WrongState)),
+        _ => Err(Refusal::WrongState),
     }
 }
 
 /// What an action of a device comes to: the lowest refusal that holds, or the device as the action
-/// leaves it, an entry of its ledger and the body that answers. It reads only. An `Err` is want of
-/// memory or a failing store.
+/// leaves it, an entry of its ledger and the body that answers. It reads only. `Refusal::Unkept` is
+/// want of memory or a failing store.
 pub(crate) fn judge_action<K: Keep>(
     alloc: Global,
     keep: &mut K,
@@ -60,18 +51,12 @@ pub(crate) fn judge_action<K: Keep>(
     seat: &Name,
     chip: &Chip,
     action: &Action,
-) -> Result<Judgement, Unkept>
-    ensures { ReadsOnly K.Keep keep.old keep.new result (λ t judgement.
+) -> Result<Accepted, Refusal>
+    ensures { Judges K.Keep keep.old keep.new result (λ t judgement.
         IsJudged customer.now seat.now t (Change.Act chip.now action.now) judgement) }
 {
-    let Some(found) = find_device(keep, customer, chip)? else {
-        return Ok(Judgement::Refused(Refusal::UnknownDevice));
-    };
+    let found = find_device(keep, customer, chip)?.ok_or(Refusal::UnknownDevice)?;
     let map = map_of(&found)?;
-    let Acted { step, body } = match act(alloc, map, &found.device, action)? {
-        Ok(acted) => acted,
-        Err(refusal) => return Ok(Judgement::Refused(refusal)),
-    };
-    let accepted = accept_step(alloc, keep, customer, seat, &step, body)?;
-    Ok(Judgement::Accepted(accepted))
+    let Acted { step, body } = act(alloc, map, &found.device, action)?;
+    Ok(accept_step(alloc, keep, customer, seat, &step, body)?)
 }

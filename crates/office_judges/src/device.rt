@@ -1,10 +1,9 @@
 // The device that is to be registered.
-ghost use Rattle.std.specs.Prelude.{◌≡◌, List, None, Some, ℕ};
+ghost use Rattle.std.specs.Prelude.{◌≡◌, List, None, ℕ};
 ghost use Rattle.text_core.specs.Prelude.{first_that_holds};
 ghost use Rattle.fuse_image.specs.Prelude.{redacted};
-ghost use Rattle.office_tables.specs.Prelude.{ReadsOnly};
 ghost use Rattle.office_rules.specs.Prelude.{unless_refused, office_sight, device_of_registration, first_step, readback_refusals};
-ghost use Rattle.office_judges.specs.Prelude.{registration_refusals_by_map};
+ghost use Rattle.office_judges.specs.Prelude.{registration_refusals_by_map, IsUnlessRefused, Judges};
 
 use crate::plan::no_pending;
 use fuse_columns::{encode_bits, encode_keys, encode_todo};
@@ -12,7 +11,7 @@ use fuse_plan::{ReadBack, fits, has_coding_scheme, redact, shows_what_is_hidden}
 use fusemap_core::FuseMap;
 use office_commands::{NewDevice, Refusal};
 use office_rules::DeviceStep;
-use office_tables::{Device, DeviceState, Event, Keep, Unkept};
+use office_tables::{Device, DeviceState, Event, Keep};
 use site_core::Customer;
 
 /// A device as it is registered, by its map.
@@ -56,23 +55,23 @@ pub(crate) fn device_to_register<K: Keep>(
     customer: &Customer,
     device: &NewDevice,
     map: &FuseMap,
-) -> Result<Result<Device, Refusal>, Unkept>
-    ensures { ReadsOnly K.Keep keep.old keep.new result (λ t judged.
-        (seat : List ℕ) → judged ≡ unless_refused
-        (first_that_holds (registration_refusals_by_map (office_sight customer.now seat t) device.now map.now))
-        (device_of_registration map.now device.now (redacted map.now device.now.blocks))) }
+) -> Result<Device, Refusal>
+    ensures { Judges K.Keep keep.old keep.new result (λ t judged. (seat : List ℕ) → IsUnlessRefused
+        (registration_refusals_by_map (office_sight customer.now seat t) device.now map.now)
+        (λ row. row ≡ device_of_registration map.now device.now (redacted map.now device.now.blocks))
+        judged) }
 {
-    let Some(order) = keep.order(&customer.name(), &device.order)? else {
-        return Ok(Err(Refusal::UnknownOrder));
-    };
+    let order = keep
+        .order(&customer.name(), &device.order)?
+        .ok_or(Refusal::UnknownOrder)?;
     if keep.device(&customer.name(), &device.chip)?.is_some() {
-        return Ok(Err(Refusal::Exists));
+        return Err(Refusal::Exists);
     }
     let order = order.row;
     if keep.places_taken(&customer.name(), &order.name)? >= order.range.quantity() {
-        return Ok(Err(Refusal::QuantityReached));
+        return Err(Refusal::QuantityReached);
     }
-    Ok(device_of_chip(map, device))
+    device_of_chip(map, device)
 }
 
 /// The first step of a device: all that is known of it is added.

@@ -2,13 +2,13 @@
 ghost use Rattle.std.specs.Prelude.{◌≡◌, IfOk, Some};
 ghost use Rattle.office_tables.specs.Prelude.{ReadsOnly, is_one_of, order_at};
 ghost use Rattle.office_rules.specs.Prelude.{identified_from, first_address, step_of_identity};
-ghost use Rattle.office_judges.specs.Prelude.{IsIdentified, IsNextNumber, numbered, IsJudged};
+ghost use Rattle.office_judges.specs.Prelude.{IsIdentified, IsNextNumber, numbered, IsJudged, Judges};
 
+use crate::Accepted;
 use crate::found_device::{find_device, map_of};
 use crate::records::row_of;
 use crate::serials::find_next;
 use crate::steps::{accept_step, without_addition};
-use crate::{Accepted, Judgement};
 use fusemap_core::FuseMap;
 use id_ranges::{IdevidRecord, KeyDigest, Mac};
 use office_commands::{Change, NewIdentity, Refusal, identity_body};
@@ -89,21 +89,19 @@ fn next_number<K: Keep>(
     device: &Device,
     order: &Order,
     key: &KeyDigest,
-) -> Result<Result<Numbered, Refusal>, Unkept>
+) -> Result<Numbered, Refusal>
     requires { K.is_honest keep.old → K.is_open keep.old }
-    ensures { ReadsOnly K.Keep keep.old keep.new result (λ t next.
+    ensures { Judges K.Keep keep.old keep.new result (λ t next.
         IsNextNumber t device.now order.now key.now next) }
 {
     if !is_identified_from(device.state) {
-        return Ok(Err(Refusal::WrongState));
+        return Err(Refusal::WrongState);
     }
-    let Some((number, serial)) = find_next(keep, order)? else {
-        return Ok(Err(Refusal::Exhausted));
-    };
+    let (number, serial) = find_next(keep, order)?.ok_or(Refusal::Exhausted)?;
     if keep.given_by_key(&order.issuer, key)?.is_some() {
-        return Ok(Err(Refusal::KeyBound));
+        return Err(Refusal::KeyBound);
     }
-    Ok(Ok(with_number(order, number, serial, *key)?))
+    Ok(with_number(order, number, serial, *key)?)
 }
 
 /// The step that gives a device its serial number.
@@ -147,27 +145,21 @@ fn accept_identity<K: Keep>(
 
 /// What the identity of a device comes to: the lowest refusal that holds, or the device with the
 /// least serial number of its order that isn't given in its issuer, its record, an entry of its
-/// ledger and the body that shows the record. It reads only. An `Err` is want of memory or a failing
-/// store.
+/// ledger and the body that shows the record. It reads only. `Refusal::Unkept` is want of memory or
+/// a failing store.
 pub(crate) fn judge_identity<K: Keep>(
     alloc: Global,
     keep: &mut K,
     customer: &Customer,
     seat: &Name,
     identity: &NewIdentity,
-) -> Result<Judgement, Unkept>
-    ensures { ReadsOnly K.Keep keep.old keep.new result (λ t judgement.
+) -> Result<Accepted, Refusal>
+    ensures { Judges K.Keep keep.old keep.new result (λ t judgement.
         IsJudged customer.now seat.now t (Change.Identify identity.now) judgement) }
 {
-    let Some(found) = find_device(keep, customer, &identity.chip)? else {
-        return Ok(Judgement::Refused(Refusal::UnknownDevice));
-    };
+    let found = find_device(keep, customer, &identity.chip)?.ok_or(Refusal::UnknownDevice)?;
     let map = map_of(&found)?;
     let order = order_of(keep, customer, &found.device)?;
-    let next = match next_number(keep, &found.device, &order.row, &identity.key)? {
-        Ok(next) => next,
-        Err(refusal) => return Ok(Judgement::Refused(refusal)),
-    };
-    let accepted = accept_identity(alloc, keep, customer, seat, map, &found.device, &next)?;
-    Ok(Judgement::Accepted(accepted))
+    let next = next_number(keep, &found.device, &order.row, &identity.key)?;
+    Ok(accept_identity(alloc, keep, customer, seat, map, &found.device, &next)?)
 }

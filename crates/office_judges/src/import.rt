@@ -2,12 +2,12 @@
 ghost use Rattle.std.specs.Prelude.{◌≡◌, ℕ, List, IfOk};
 ghost use Rattle.office_tables.specs.Prelude.{ReadsOnly};
 ghost use Rattle.office_rules.specs.Prelude.{import_result, row_of_import, issued_in};
-ghost use Rattle.office_judges.specs.Judging.{IsJudged};
+ghost use Rattle.office_judges.specs.Judging.{IsJudged, Judges};
 ghost use Rattle.office_judges.specs.Import.{additions};
 
+use crate::Accepted;
 use crate::records::row_of;
 use crate::row_verdicts::{RowVerdict, look_up};
-use crate::{Accepted, Judgement};
 use id_ranges::{IdevidRecord, ImportRow};
 use office_commands::{Change, NewImport, Refusal, import_body};
 use office_tables::{Given, Keep, OfCustomer, Unkept, Write};
@@ -84,29 +84,27 @@ fn additions(
 
 /// What an import of serial numbers comes to: the lowest refusal that holds, or the records of all
 /// rows that aren't present and the body that counts both. It reads only, and asks that an honest
-/// keeper is open, as it is after an answer. An `Err` is want of memory or a failing store.
+/// keeper is open, as it is after an answer. `Refusal::Unkept` is want of memory or a failing store.
 pub(crate) fn judge_import<K: Keep>(
     alloc: Global,
     keep: &mut K,
     customer: &Customer,
     import: &NewImport,
-) -> Result<Judgement, Unkept>
+) -> Result<Accepted, Refusal>
     requires { K.is_honest keep.old → K.is_open keep.old }
-    ensures { ReadsOnly K.Keep keep.old keep.new result (λ t judgement. (seat : List ℕ) →
+    ensures { Judges K.Keep keep.old keep.new result (λ t judgement. (seat : List ℕ) →
         IsJudged customer.now seat t (Change.Import import.now) judgement) }
 {
-    let Some(rows) = &import.rows else {
-        return Ok(Judgement::Refused(Refusal::BadSerial));
-    };
+    let rows = import.rows.as_ref().ok_or(Refusal::BadSerial)?;
     if !customer.has_issuer(&import.issuer) {
-        return Ok(Judgement::Refused(Refusal::ForeignIssuer));
+        return Err(Refusal::ForeignIssuer);
     }
     let merged = match merge_rows(alloc, keep, &import.issuer, rows.as_slice())? {
         Ok(merged) => merged,
-        Err(serial) => return Ok(Judgement::Refused(Refusal::ImportConflict(serial))),
+        Err(serial) => return Err(Refusal::ImportConflict(serial)),
     };
     let added = merged.added.as_slice();
     let body = import_body(alloc, added.len() as u64, merged.present)?;
     let writes = additions(alloc, &customer.name(), &import.issuer, added)?;
-    Ok(Judgement::Accepted(Accepted { body, writes }))
+    Ok(Accepted { body, writes })
 }

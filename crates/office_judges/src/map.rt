@@ -4,9 +4,9 @@ ghost use Rattle.sha2.specs.Sha256.{sha256};
 ghost use Rattle.office_tables.specs.Prelude.{rows_of, link_at, map_at, map_with, ReadsOnly};
 ghost use Rattle.office_rules.specs.Prelude.{map_fault, map_limit, map_writes};
 ghost use Rattle.office_commands.specs.Prelude.{map_body};
-ghost use Rattle.office_judges.specs.Prelude.{Counts, has_text, IsJudged};
+ghost use Rattle.office_judges.specs.Prelude.{Counts, has_text, IsJudged, Judges};
 
-use crate::{Accepted, Judgement};
+use crate::Accepted;
 use fusemap_core::{MapFault, read_map};
 use office_commands::{Change, Refusal, map_body};
 use office_tables::{Keep, Link, LinkRow, NewMap, OfCustomer, Sink, Unkept, Write};
@@ -90,21 +90,21 @@ fn judge_new<K: Keep>(
     digest: Digest,
     text: &Text,
     body: String,
-) -> Result<Judgement, Unkept>
+) -> Result<Accepted, Refusal>
     requires digest { digest ≡ sha256 text.now }
     requires sound { map_fault text.now ≡ None }
     requires new { K.is_open keep.old → link_at customer.now.name (sha256 text.now)
         (K.tables keep.old) ≡ None }
     requires body { string_bytes body ≡ map_body (sha256 text.now) }
-    ensures { ReadsOnly K.Keep keep.old keep.new result (λ t judgement. (seat : List ℕ) →
+    ensures { Judges K.Keep keep.old keep.new result (λ t judgement. (seat : List ℕ) →
         IsJudged customer.now seat t (Change.ImportMap text.now) judgement) }
 {
     if count_links(keep, &customer.name())? >= MAP_LIMIT {
-        return Ok(Judgement::Refused(Refusal::Limit));
+        return Err(Refusal::Limit);
     }
     let write = link_write(alloc, keep, customer, digest, text)?;
     let writes = vec![in alloc; write]?;
-    Ok(Judgement::Accepted(Accepted { body, writes }))
+    Ok(Accepted { body, writes })
 }
 
 /// The number of the fault of a text, if it is no fuse map's.
@@ -120,28 +120,28 @@ fn map_fault(alloc: Global, text: &Text) -> Result<Option<u8>, Unkept>
 }
 
 /// What the import of a fuse map comes to: the lowest refusal that holds, or the writes that make
-/// it. It reads only. An `Err` is want of memory or a failing store.
+/// it. It reads only. `Refusal::Unkept` is want of memory or a failing store.
 pub fn judge_map<K: Keep>(
     alloc: Global,
     keep: &mut K,
     customer: &Customer,
     text: &Text,
-) -> Result<Judgement, Unkept>
-    ensures { ReadsOnly K.Keep keep.old keep.new result (λ t judgement. (seat : List ℕ) →
+) -> Result<Accepted, Refusal>
+    ensures { Judges K.Keep keep.old keep.new result (λ t judgement. (seat : List ℕ) →
         IsJudged customer.now seat t (Change.ImportMap text.now) judgement) }
 {
     let digest = Digest::of(text.as_str().as_bytes());
     let link = keep.link(&customer.name(), &digest)?;
     if let Some(fault) = map_fault(alloc, text)? {
-        return Ok(Judgement::Refused(Refusal::BadMap(fault)));
+        return Err(Refusal::BadMap(fault));
     }
     let body = map_body(alloc, &digest)?;
     match link {
         Some(link) if has_text(keep, &link, text)? => {
             let writes = Vec::new(alloc);
-            Ok(Judgement::Accepted(Accepted { body, writes }))
+            Ok(Accepted { body, writes })
         }
-        Some(_) => Ok(Judgement::Refused(Refusal::MapDigestTaken)),
+        Some(_) => Err(Refusal::MapDigestTaken),
         None => judge_new(alloc, keep, customer, digest, text, body),
     }
 }

@@ -1,5 +1,5 @@
 // Plans of devices.
-ghost use Rattle.std.specs.Prelude.{◌≡◌, IfOk};
+ghost use Rattle.std.specs.Prelude.{◌≡◌};
 ghost use Rattle.fuse_image.specs.Prelude.{no_pending};
 ghost use Rattle.office_rules.specs.Prelude.{known_of, state_of_pending, step_of_plan};
 ghost use Rattle.office_judges.specs.Prelude.{IsActedOn};
@@ -13,7 +13,7 @@ use fusemap_core::FuseMap;
 use office_commands::{Action, Refusal, Wishes, plan_body};
 use office_rules::DeviceStep;
 use office_tables::{Device, DeviceState, Event};
-use std::alloc::{AllocError, Global};
+use std::alloc::Global;
 
 /// What is known to be burnt of a device.
 pub(crate) fn known_of(map: &FuseMap, device: &Device) -> Image
@@ -69,14 +69,14 @@ pub(crate) fn plan_device(
     map: &FuseMap,
     device: &Device,
     wishes: &Wishes,
-) -> Result<Result<Acted, Refusal>, AllocError>
-    ensures { IfOk result (λ acted. IsActedOn (Action.Plan wishes.now) map.now device.now acted) }
+) -> Result<Acted, Refusal>
+    ensures { IsActedOn (Action.Plan wishes.now) map.now device.now result }
 {
     let work = match plan(map, &known_of(map, device), wishes.as_slice()) {
         Ok(work) => work,
-        Err(fault) => return Ok(Err(Refusal::BadPlan(fault))),
+        Err(fault) => return Err(Refusal::BadPlan(fault)),
     };
     let body = plan_body(alloc, map, &work, state_of_pending(&work))?;
     let step = step_of_plan(map, device, &work);
-    Ok(Ok(Acted { step, body }))
+    Ok(Acted { step, body })
 }

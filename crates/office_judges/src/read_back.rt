@@ -1,5 +1,5 @@
 // Read-backs of devices.
-ghost use Rattle.std.specs.Prelude.{◌≡◌, IfOk};
+ghost use Rattle.std.specs.Prelude.{◌≡◌};
 ghost use Rattle.fuse_plan.specs.Pending as pending;
 ghost use Rattle.office_rules.specs.Prelude.{next_batch, outcome_for, outcome_of, pending_after, reads_redacted, reason_for, state_after, verdict_of_read_back};
 ghost use Rattle.office_rules.specs.Prelude.{with_rest};
@@ -14,7 +14,7 @@ use fusemap_core::FuseMap;
 use office_commands::{Action, Refusal, outcome_body};
 use office_rules::DeviceStep;
 use office_tables::{Batches, Device, DeviceState, Event, Outcome, Reason};
-use std::alloc::{AllocError, Global};
+use std::alloc::Global;
 
 /// The batch that is burnt next, by which batches may be pending.
 fn next_batch(batches: Batches, work: &Pending) -> Image
@@ -145,15 +145,14 @@ pub(crate) fn read_back(
     map: &FuseMap,
     device: &Device,
     words: &BlockWords,
-) -> Result<Result<Acted, Refusal>, AllocError>
-    ensures { IfOk result (λ acted.
-        IsActedOn (Action.ReadBack words.now) map.now device.now acted) }
+) -> Result<Acted, Refusal>
+    ensures { IsActedOn (Action.ReadBack words.now) map.now device.now result }
 {
     if !fits(map, words) {
-        return Ok(Err(Refusal::BadReadback));
+        return Err(Refusal::BadReadback);
     }
     let (step, verdict) = read_step(map, device, &redact(map, words));
     let (outcome, rest) = (outcome_of(&verdict), rest_of(&verdict));
     let body = outcome_body(alloc, map, outcome, &rest, step.device.state)?;
-    Ok(Ok(Acted { step, body }))
+    Ok(Acted { step, body })
 }

@@ -1,16 +1,15 @@
 // The registration of devices.
 ghost use Rattle.std.specs.Prelude.{◌≡◌, Some};
-ghost use Rattle.office_tables.specs.Prelude.{ReadsOnly};
 ghost use Rattle.office_rules.specs.Prelude.{map_named};
-ghost use Rattle.office_judges.specs.Prelude.{IsJudged};
+ghost use Rattle.office_judges.specs.Prelude.{IsJudged, Judges};
 
+use crate::Accepted;
 use crate::device::{device_to_register, first_step};
 use crate::found_map::find_map;
 use crate::steps::step_writes;
-use crate::{Accepted, Judgement};
 use fusemap_core::FuseMap;
 use office_commands::{Change, NewDevice, Refusal, device_body};
-use office_tables::{Boxed, Keep, OfCustomer, Unkept, Write};
+use office_tables::{Boxed, Keep, OfCustomer, Write};
 use site_core::Customer;
 use std::alloc::Global;
 use text_core::Name;
@@ -23,25 +22,22 @@ fn judge_with_map<K: Keep>(
     seat: &Name,
     device: &NewDevice,
     map: &FuseMap,
-) -> Result<Judgement, Unkept>
+) -> Result<Accepted, Refusal>
     requires { K.is_open keep.old → map_named customer.now.name device.now.map (K.tables keep.old)
         ≡ Some map.now }
-    ensures { ReadsOnly K.Keep keep.old keep.new result (λ t judgement.
+    ensures { Judges K.Keep keep.old keep.new result (λ t judgement.
         IsJudged customer.now seat.now t (Change.RegisterDevice device.now) judgement) }
 {
-    let row = match device_to_register(keep, customer, device, map)? {
-        Ok(row) => row,
-        Err(refusal) => return Ok(Judgement::Refused(refusal)),
-    };
+    let row = device_to_register(keep, customer, device, map)?;
     let body = device_body(alloc, Some(map), &row)?;
     let customer = customer.name();
     let put = Write::AddDevice(Boxed::new(alloc, OfCustomer { customer, row })?);
     let writes = step_writes(alloc, keep, &customer, seat, &first_step(row), put)?;
-    Ok(Judgement::Accepted(Accepted { body, writes }))
+    Ok(Accepted { body, writes })
 }
 
 /// What the registration of a device comes to: the lowest refusal that holds, or the device's row,
-/// an entry of its ledger and the body that shows it. It reads only. An `Err` is want of
+/// an entry of its ledger and the body that shows it. It reads only. `Refusal::Unkept` is want of
 /// memory or a failing store.
 pub fn judge_device<K: Keep>(
     alloc: Global,
@@ -49,12 +45,12 @@ pub fn judge_device<K: Keep>(
     customer: &Customer,
     seat: &Name,
     device: &NewDevice,
-) -> Result<Judgement, Unkept>
-    ensures { ReadsOnly K.Keep keep.old keep.new result (λ t judgement.
+) -> Result<Accepted, Refusal>
+    ensures { Judges K.Keep keep.old keep.new result (λ t judgement.
         IsJudged customer.now seat.now t (Change.RegisterDevice device.now) judgement) }
 {
     match find_map(keep, &customer.name(), &device.map)? {
         Some(map) => judge_with_map(alloc, keep, customer, seat, device, &map),
-        None => Ok(Judgement::Refused(Refusal::UnknownMap)),
+        None => Err(Refusal::UnknownMap),
     }
 }

@@ -2,7 +2,7 @@
 pub mod AskedFor
 mod Identities
 pub mod Members
-mod NameTexts
 mod Reading
+mod Routes
 pub mod Wishes
 mod Types

@@ -1,7 +1,7 @@
 -- The named members, one name after another, and that none of a request's is a float.
 use Rattle.std.proofs.Common.{◌≡◌, ◌∷◌}
 use Rattle.text_core.proofs.Kit.{ℕ, List, [], false, Option, Some, None, refl, fold, IfSome, codes, map, option_and_then, AllByRecursion}
-use Rattle.serde_json.specs.Data.{Data, null, boolean, number, string, array, object, Num, unsigned, negative, float, Members, no_members, put}
+use Rattle.serde_json.specs.Data.{Data, null, boolean, number, string, array, object, Num, unsigned, negative, float, Members, no_members}
 use Rattle.serde_json.specs.Find.{get, as_str, as_number, as_u64}
 use Rattle.serde_json.specs.Written.{has_float, items_have_float, members_have_float}
 use Rattle.members.specs.Prelude.{number_within, text_or_null, whole_member}
@@ -9,8 +9,8 @@ use Rattle.text_core.specs.Prelude.{chip_of_text, digest_of_text, name_of_text, 
 use Rattle.station_requests.proofs.Types.{NewDevice, NewOrder}
 use Rattle.office_commands.specs.Prelude.{items_of}
 use Rattle.office_commands.proofs.Floats.{in_put}
-use Rattle.station_requests.specs.Prelude.{block_digest, device_members, new_device_of, LacksFloat, with_found, named_members, map_members, new_order_of}
-use Rattle.station_requests.specs.Prelude.{order_members}
+use Rattle.station_requests.specs.Prelude.{block_digest, device_members, new_device_of, LacksFloat, with_block_digests, with_found, named_members, map_members}
+use Rattle.station_requests.specs.Prelude.{new_order_of, order_members}
 
 found_no_float : (name : List ℕ) (found : Option Data) (ms : Members)
     → IfSome found (λ v. has_float v ≡ false) → members_have_float ms ≡ false
@@ -82,64 +82,43 @@ whole_found (Some v) least greatest x e = whole_lacks v least greatest x e
 pub whole_member_lacks : (name : List ℕ) (least greatest : ℕ) (d : Data) (x : ℕ) → whole_member name least greatest d ≡ Some x → LacksFloat d name
 whole_member_lacks name least greatest d x e = whole_found (get name d) least greatest x e
 
+-- what a first step gave, of which something is known, and that the second made the value of it
+pub lacks_first : {A B L : Type 0} {o : Option A} (f : A → Option B) {y : B} → ((x : A) → o ≡ Some x → L)
+    → (o >>= f) ≡ Some y → L × ((x : A) × (f x ≡ Some y))
+lacks_first {o = o} f {y = y} lacks e = let found = bound o f y e in (lacks found.0 found.1, (found.0, found.2))
+
 -- the named members of an order's request are no floats
-pub order_lacks_float : (d : Data) (n : ℕ) (o : NewOrder) → whole_member (codes "nr") 1 9007199254740991 d ≡ Some n → new_order_of d ≡ Some o
+pub order_lacks_float : (d : Data) (o : NewOrder) → new_order_of d ≡ Some o → LacksFloat d (codes "nr")
     → has_float (object (named_members order_members d)) ≡ false
 unfolding new_order_of
-order_lacks_float d n o nr order =
-    let name = bound (get (codes "name") d >>= as_str >>= name_of_text) _ o order in
-    let issuer = bound (get (codes "issuer") d >>= as_str >>= name_of_text) _ o name.2 in
-    let prefix = bound (get (codes "prefix") d >>= as_str) _ o issuer.2 in
-    let width = bound (whole_member (codes "width") 1 9 d) _ o prefix.2 in
-    let first = bound (whole_member (codes "first") 0 9007199254740991 d) _ o width.2 in
-    let quantity = bound (whole_member (codes "quantity") 1 9007199254740991 d) _ o first.2 in
-    let macs = bound (whole_member (codes "macs") 0 4 d) _ o quantity.2 in
-    let not_before = bound (text_or_null (get (codes "not_before") d)) _ o macs.2 in
-    all_no_float order_members d no_members (
-      whole_member_lacks (codes "first") 0 9007199254740991 d first.0 first.1,
-      (
-        read_member_lacks name_of_text (codes "issuer") d issuer.0 issuer.1,
-        (
-          whole_member_lacks (codes "macs") 0 4 d macs.0 macs.1,
-          (
-            read_member_lacks name_of_text (codes "name") d name.0 name.1,
-            (
-              text_if_found (get (codes "not_before") d) not_before.0 not_before.1,
-              (
-                whole_member_lacks (codes "nr") 1 9007199254740991 d n nr,
-                (
-                  text_member_lacks (codes "prefix") d prefix.0 prefix.1,
-                  (whole_member_lacks (codes "quantity") 1 9007199254740991 d quantity.0 quantity.1, (whole_member_lacks (codes "width") 1 9 d width.0 width.1, tt)),
-                ),
-              ),
-            ),
-          ),
-        ),
-      ),
-    ) refl
+order_lacks_float d o order nr =
+    let name = lacks_first _ (read_member_lacks name_of_text (codes "name") d) order in
+    let issuer = lacks_first _ (read_member_lacks name_of_text (codes "issuer") d) name.1.1 in
+    let prefix = lacks_first _ (text_member_lacks (codes "prefix") d) issuer.1.1 in
+    let width = lacks_first _ (whole_member_lacks (codes "width") 1 9 d) prefix.1.1 in
+    let first = lacks_first _ (whole_member_lacks (codes "first") 0 9007199254740991 d) width.1.1 in
+    let quantity = lacks_first _ (whole_member_lacks (codes "quantity") 1 9007199254740991 d) first.1.1 in
+    let macs = lacks_first _ (whole_member_lacks (codes "macs") 0 4 d) quantity.1.1 in
+    let before = lacks_first _ (text_if_found (get (codes "not_before") d)) macs.1.1 in
+    all_no_float order_members d no_members
+    (first.0, (issuer.0, (macs.0, (name.0, (before.0, (nr, (prefix.0, (quantity.0, (width.0, tt))))))))) refl
 
 -- the named members of a map's import are no floats
-pub map_lacks_float : (d : Data) (n : ℕ) (text : List ℕ) → whole_member (codes "nr") 1 9007199254740991 d ≡ Some n
-    → (get (codes "text") d >>= as_str) ≡ Some text → has_float (object (named_members map_members d)) ≡ false
-map_lacks_float d n text nr is = all_no_float map_members d no_members (whole_member_lacks (codes "nr") 1 9007199254740991 d n nr, (text_member_lacks (codes "text") d text is, tt)) refl
+pub map_lacks_float : (d : Data) (text : List ℕ) → (get (codes "text") d >>= as_str) ≡ Some text → LacksFloat d (codes "nr")
+    → has_float (object (named_members map_members d)) ≡ false
+map_lacks_float d text is nr = all_no_float map_members d no_members (nr, (text_member_lacks (codes "text") d text is, tt)) refl
 
 pub digests_lack_float : (blocks : List (List ℕ)) → items_have_float (items_of (map block_digest blocks)) ≡ false
 digests_lack_float [] = refl
 digests_lack_float (block ∷ blocks) = digests_lack_float blocks
 
 -- the named members of a registration are no floats, with the digests of its blocks in their place
-pub device_lacks_float : (d : Data) (n : ℕ) (o : NewDevice) → whole_member (codes "nr") 1 9007199254740991 d ≡ Some n → new_device_of d ≡ Some o
-    → has_float (object (put (codes "blocks") (array (items_of (map block_digest o.blocks))) (named_members device_members d))) ≡ false
+pub device_lacks_float : (d : Data) (o : NewDevice) → new_device_of d ≡ Some o → LacksFloat d (codes "nr")
+    → has_float (with_block_digests device_members d o.blocks) ≡ false
 unfolding new_device_of
-device_lacks_float d n o nr device =
-    let chip = bound (get (codes "chip") d >>= as_str >>= chip_of_text) _ o device in
-    let order = bound (get (codes "order") d >>= as_str >>= name_of_text) _ o chip.2 in
-    let digest = bound (get (codes "map") d >>= as_str >>= digest_of_text) _ o order.2 in
-    let others = all_no_float device_members d no_members (
-      read_member_lacks chip_of_text (codes "chip") d chip.0 chip.1,
-      (
-        read_member_lacks digest_of_text (codes "map") d digest.0 digest.1,
-        (whole_member_lacks (codes "nr") 1 9007199254740991 d n nr, (read_member_lacks name_of_text (codes "order") d order.0 order.1, tt)),
-      ),
-    ) refl in
+device_lacks_float d o device nr =
+    let chip = lacks_first _ (read_member_lacks chip_of_text (codes "chip") d) device in
+    let order = lacks_first _ (read_member_lacks name_of_text (codes "order") d) chip.1.1 in
+    let digest = lacks_first _ (read_member_lacks digest_of_text (codes "map") d) order.1.1 in
+    let others = all_no_float device_members d no_members (chip.0, (digest.0, (nr, (order.0, tt)))) refl in
     in_put (codes "blocks") (array (items_of (map block_digest o.blocks))) (named_members device_members d) (digests_lack_float o.blocks) others

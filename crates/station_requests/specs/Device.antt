@@ -8,16 +8,14 @@ use Rattle.serde_json.specs.Find.{as_array, as_str, get}
 use Rattle.sha2.specs.Sha256.{sha256}
 use Rattle.text_core.specs.Prelude.{chip_of_text, digest_of_text, name_of_text, ◌>>=◌, all_of}
 use Rattle.members.specs.Prelude.{json_items}
-use Rattle.station_requests.specs.Number.{number_member}
 use Rattle.fuse_image.specs.Prelude.{blocks_of, bytes_of_block}
-use Rattle.http_frames.specs.Prelude.{parameters_named}
 use Rattle.office_commands.specs.declared.new_device.NewDevice.{NewDevice}
 use Rattle.office_commands.specs.declared.command.Request.{Request}
 use Rattle.office_commands.specs.declared.command.Change.TheVariants.{RegisterDevice}
 use Rattle.office_commands.specs.Prelude.{items_of}
-use Rattle.office_commands.specs.declared.command.Command.TheVariants.{Change}
-use Rattle.station_requests.specs.Digest.{named_members, request_digest}
-use Rattle.station_requests.specs.Order.{only_value}
+use Rattle.station_requests.specs.Change.{request_for}
+use Rattle.station_requests.specs.Digest.{named_members}
+use Rattle.station_requests.specs.Query.{text_parameter}
 
 -- the word of eight hexadecimal digits of either case, the highest first
 abbrev pub word_of_text : List ℕ → Option ℕ
@@ -47,10 +45,6 @@ device_members = codes "chip" ∷ codes "map" ∷ codes "nr" ∷ codes "order" �
 abbrev pub with_block_digests : List (List ℕ) → Data → List (List ℕ) → Data
 with_block_digests names d blocks = object (put (codes "blocks") (array (items_of (map block_digest blocks))) (named_members names d))
 
--- what a repeated registration is known by
-abbrev pub device_digest : Data → List (List ℕ) → List ℕ
-device_digest d blocks = request_digest (codes "/v1/device") (with_block_digests device_members d blocks)
-
 -- the device of a JSON value, if its members are of their forms
 unfoldable pub new_device_of : Data → Option NewDevice
 new_device_of d = do
@@ -60,16 +54,15 @@ new_device_of d = do
   blocks ← blocks_member (codes "blocks") d
   Some (record { chip = chip; order = order; map = digest; blocks = blocks })
 
--- the request that a body asks for: its number, its digest and the device
+-- the request that a body asks for: the device, known by the digests of its blocks too
 unfoldable pub register_device_of : Data → Option Request
 register_device_of d = do
-  number ← number_member d
   device ← new_device_of d
-  Some (record { number = number; digest = device_digest d device.blocks; command = Change (RegisterDevice device) })
+  request_for (codes "/v1/device") (with_block_digests device_members d device.blocks) (RegisterDevice device) d
 
 -- the chip that a query gives
 abbrev pub chip_parameter : List ℕ → Option (List ℕ)
-chip_parameter query = option_and_then chip_of_text (only_value (parameters_named (codes "chip") query))
+chip_parameter query = text_parameter (codes "chip") query >>= chip_of_text
 
 -- where a list of devices begins: at the first one where the text is empty, or behind a chip
 abbrev pub after_of_text : List ℕ → Option (Option (List ℕ))
@@ -77,4 +70,4 @@ after_of_text text = if length text == 0 then Some None else option_map Some (ch
 
 -- where the list begins that a query asks for
 abbrev pub after_parameter : List ℕ → Option (Option (List ℕ))
-after_parameter query = option_and_then after_of_text (only_value (parameters_named (codes "after") query))
+after_parameter query = text_parameter (codes "after") query >>= after_of_text

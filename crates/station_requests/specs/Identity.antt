@@ -6,12 +6,11 @@ use Rattle.sha2.specs.Sha256.{sha256}
 use Rattle.serde_json.specs.Data.{Data, object}
 use Rattle.serde_json.specs.Find.{as_str, get}
 use Rattle.text_core.specs.Prelude.{◌>>=◌, chip_of_text}
-use Rattle.station_requests.specs.Number.{number_member}
 use Rattle.office_commands.specs.declared.new_identity.NewIdentity.{NewIdentity}
 use Rattle.office_commands.specs.declared.command.Request.{Request}
 use Rattle.office_commands.specs.declared.command.Change.TheVariants.{Identify}
-use Rattle.office_commands.specs.declared.command.Command.TheVariants.{Change}
-use Rattle.station_requests.specs.Digest.{named_members, request_digest}
+use Rattle.station_requests.specs.Change.{request_for}
+use Rattle.station_requests.specs.Digest.{named_members}
 
 -- SHA-256 of a key's bytes, by its text: two hexadecimal digits of either case for each byte, of 1 to 1,024 bytes
 abbrev pub key_of_text : List ℕ → Option (List ℕ)
@@ -29,13 +28,8 @@ new_identity_of d = do
 abbrev pub identity_members : List (List ℕ)
 identity_members = codes "chip" ∷ codes "nr" ∷ codes "public_key" ∷ []
 
--- what a repeated request for an identity is known by
-abbrev pub identity_digest : Data → List ℕ
-identity_digest d = request_digest (codes "/v1/identity") (object (named_members identity_members d))
-
--- the request that a body asks for: its number, its digest and the identity
+-- the request that a body asks for: the identity, known by its named members
 unfoldable pub identify_of : Data → Option Request
 identify_of d = do
-  number ← number_member d
   identity ← new_identity_of d
-  Some (record { number = number; digest = identity_digest d; command = Change (Identify identity) })
+  request_for (codes "/v1/identity") (object (named_members identity_members d)) (Identify identity) d

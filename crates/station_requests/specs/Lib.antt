@@ -2,7 +2,8 @@
 pub mod Digest
 pub mod Fault
 pub mod Map
-pub mod Number
+pub mod Change
+pub mod Query
 pub mod Device
 pub mod Order
 pub mod Act

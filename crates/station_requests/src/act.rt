@@ -4,11 +4,11 @@ ghost use Rattle.serde_json.specs.View.{view};
 ghost use Rattle.serde_json.specs.Written.{has_float};
 ghost use Rattle.station_requests.specs.Prelude.{act_of, end_of, LacksFloat, ReadsAs};
 
-use crate::digest::{named_members, request_digest};
+use crate::change::request_for;
+use crate::digest::named_members;
 use crate::fault::MemberFault::{self, BadMember};
-use crate::number::number_member;
 use members::in_json::chip_member;
-use office_commands::{Action, Change, Command, Request};
+use office_commands::{Action, Change, Request};
 use serde_json::Value;
 use std::alloc::Global;
 
@@ -29,13 +29,8 @@ pub fn act_request(
         → LacksFloat (view value.now) (codes "nr") → has_float (view members.now) ≡ false }
     ensures { ReadsAs result (act_of path.now (view members.now) action (view value.now)) }
 {
-    let number = number_member(value).ok_or(BadMember)?;
     let chip = chip_member(value, "chip").ok_or(BadMember)?;
-    Ok(Request {
-        number,
-        digest: request_digest(alloc, path, members)?,
-        command: Command::Change(Change::Act(chip, action)),
-    })
+    request_for(alloc, value, path, members, Change::Act(chip, action))
 }
 
 /// The request that a body asks for on the path of an action that asks for nothing but the chip, if the chip

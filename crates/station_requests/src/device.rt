@@ -6,18 +6,17 @@ ghost use Rattle.text_core.specs.Prelude.{all_of, result_map};
 ghost use Rattle.station_requests.specs.Prelude.{block_digest, block_in, blocks_member, chip_parameter, new_device_of, register_device_of, with_block_digests};
 ghost use Rattle.station_requests.specs.Prelude.{after_parameter, ReadsAs, after_of_text, word_of_data, word_of_text};
 
-use crate::digest::{found_members, request_digest};
+use crate::change::request_for;
+use crate::digest::found_members;
 use crate::fault::MemberFault::{self, BadMember};
-use crate::number::number_member;
+use crate::query::text_parameter;
 use fuse_image::BlockWords;
 use hex::FromHex;
-use http_frames::fields::{Occurrence, only_parameter};
 use members::in_json::{chip_member, digest_member, name_member};
 use members::read_all;
-use office_commands::{Change, Command, NewDevice, Request};
+use office_commands::{Change, NewDevice, Request};
 use serde_json::Value;
 use std::alloc::{AllocError, Global};
-use std::str;
 use text_core::Chip;
 
 /// The path of devices.
@@ -131,27 +130,17 @@ fn new_device(alloc: Global, value: &Value) -> Result<NewDevice, MemberFault>
 pub fn register_device_request(alloc: Global, value: &Value) -> Result<Request, MemberFault>
     ensures { ReadsAs result (register_device_of (view value.now)) }
 {
-    let number = number_member(value).ok_or(BadMember)?;
     let device = new_device(alloc, value)?;
     let members = with_block_digests(alloc, value, &DEVICE_MEMBERS, &device.blocks)?;
-    Ok(Request {
-        number,
-        digest: request_digest(alloc, DEVICE_PATH, &members)?,
-        command: Command::Change(Change::RegisterDevice(device)),
-    })
+    let change = Change::RegisterDevice(device);
+    request_for(alloc, value, DEVICE_PATH, &members, change)
 }
 
 /// The chip that a query gives, if it gives just one.
 pub fn chip_parameter(query: &[u8]) -> Option<Chip>
     ensures { result ≡ chip_parameter query.now }
 {
-    let Occurrence::Once(value) = only_parameter(query, b"chip") else {
-        return None;
-    };
-    match str::from_utf8(value) {
-        Ok(text) => Chip::parse(text),
-        Err(_) => None,
-    }
+    Chip::parse(text_parameter(query, b"chip")?)
 }
 
 /// Where a list of devices begins: behind a chip, or at the first device where the text is empty.
@@ -168,11 +157,5 @@ fn after_of_text(text: &str) -> Option<Option<Chip>>
 pub fn after_parameter(query: &[u8]) -> Option<Option<Chip>>
     ensures { result ≡ after_parameter query.now }
 {
-    let Occurrence::Once(value) = only_parameter(query, b"after") else {
-        return None;
-    };
-    match str::from_utf8(value) {
-        Ok(text) => after_of_text(text),
-        Err(_) => None,
-    }
+    after_of_text(text_parameter(query, b"after")?)
 }

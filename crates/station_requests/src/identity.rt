@@ -2,13 +2,13 @@
 ghost use Rattle.serde_json.specs.View.{view};
 ghost use Rattle.station_requests.specs.Prelude.{identify_of, key_of_text, new_identity_of, ReadsAs};
 
-use crate::digest::{named_members, request_digest};
+use crate::change::request_for;
+use crate::digest::named_members;
 use crate::fault::MemberFault::{self, BadMember};
-use crate::number::number_member;
 use hex::FromHexError;
 use id_ranges::KeyDigest;
 use members::in_json::{chip_member, text_member};
-use office_commands::{Change, Command, NewIdentity, Request};
+use office_commands::{Change, NewIdentity, Request};
 use serde_json::Value;
 use std::alloc::Global;
 
@@ -54,12 +54,8 @@ fn new_identity(alloc: Global, value: &Value) -> Result<NewIdentity, MemberFault
 pub fn identity_request(alloc: Global, value: &Value) -> Result<Request, MemberFault>
     ensures { ReadsAs result (identify_of (view value.now)) }
 {
-    let number = number_member(value).ok_or(BadMember)?;
     let identity = new_identity(alloc, value)?;
     let members = named_members(alloc, value, &IDENTITY_MEMBERS)?;
-    Ok(Request {
-        number,
-        digest: request_digest(alloc, IDENTITY_PATH, &members)?,
-        command: Command::Change(Change::Identify(identity)),
-    })
+    let change = Change::Identify(identity);
+    request_for(alloc, value, IDENTITY_PATH, &members, change)
 }

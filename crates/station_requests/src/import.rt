@@ -2,12 +2,12 @@
 ghost use Rattle.serde_json.specs.View.{view};
 ghost use Rattle.station_requests.specs.Prelude.{import_of, new_import_of, ReadsAs};
 
-use crate::digest::{named_members, request_digest};
+use crate::change::request_for;
+use crate::digest::named_members;
 use crate::fault::MemberFault::{self, BadMember};
-use crate::number::number_member;
 use id_ranges::read_rows;
 use members::in_json::{name_member, text_member};
-use office_commands::{Change, Command, NewImport, Request};
+use office_commands::{Change, NewImport, Request};
 use serde_json::Value;
 use std::alloc::Global;
 
@@ -33,12 +33,7 @@ fn new_import(alloc: Global, value: &Value) -> Result<NewImport, MemberFault>
 pub fn import_request(alloc: Global, value: &Value) -> Result<Request, MemberFault>
     ensures { ReadsAs result (import_of (view value.now)) }
 {
-    let number = number_member(value).ok_or(BadMember)?;
     let import = new_import(alloc, value)?;
     let members = named_members(alloc, value, &IMPORT_MEMBERS)?;
-    Ok(Request {
-        number,
-        digest: request_digest(alloc, IMPORT_PATH, &members)?,
-        command: Command::Change(Change::Import(import)),
-    })
+    request_for(alloc, value, IMPORT_PATH, &members, Change::Import(import))
 }

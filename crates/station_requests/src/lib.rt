@@ -7,16 +7,17 @@
 #![tactic(auto)]
 
 mod act;
+mod change;
 mod device;
 mod digest;
 mod fault;
 mod identity;
 mod import;
 mod map;
-mod number;
 mod order;
 mod parse;
 mod plan;
+mod query;
 mod read_back;
 
 pub use parse::{Parsed, parse_command};

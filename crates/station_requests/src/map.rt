@@ -2,11 +2,11 @@
 ghost use Rattle.serde_json.specs.View.{view};
 ghost use Rattle.station_requests.specs.Prelude.{import_map_of, ReadsAs};
 
-use crate::digest::{named_members, request_digest};
+use crate::change::request_for;
+use crate::digest::named_members;
 use crate::fault::MemberFault::{self, BadMember};
-use crate::number::number_member;
 use members::in_json::text_member;
-use office_commands::{Change, Command, Request};
+use office_commands::{Change, Request};
 use serde_json::Value;
 use std::alloc::Global;
 use text_core::Text;
@@ -22,12 +22,8 @@ const MAP_MEMBERS: [&str; 2] = ["nr", "text"];
 pub fn import_map_request(alloc: Global, value: &Value) -> Result<Request, MemberFault>
     ensures { ReadsAs result (import_map_of (view value.now)) }
 {
-    let number = number_member(value).ok_or(BadMember)?;
     let text = text_member(value, "text").ok_or(BadMember)?;
     let members = named_members(alloc, value, &MAP_MEMBERS)?;
-    Ok(Request {
-        number,
-        digest: request_digest(alloc, MAP_PATH, &members)?,
-        command: Command::Change(Change::ImportMap(Text::copy_of(alloc, text)?)),
-    })
+    let text = Text::copy_of(alloc, text)?;
+    request_for(alloc, value, MAP_PATH, &members, Change::ImportMap(text))
 }

@@ -3,15 +3,14 @@ ghost use Rattle.std.specs.Prelude.{◌≡◌, IfOk, option_map};
 ghost use Rattle.serde_json.specs.View.{view};
 ghost use Rattle.station_requests.specs.Prelude.{make_order_of, new_order_of, name_parameter, ReadsAs};
 
-use crate::digest::{named_members, request_digest};
+use crate::change::request_for;
+use crate::digest::named_members;
 use crate::fault::MemberFault::{self, BadMember};
-use crate::number::number_member;
-use http_frames::fields::{Occurrence, only_parameter};
+use crate::query::text_parameter;
 use members::in_json::{name_member, text_if_member, text_member, whole_member};
-use office_commands::{AskedOrder, Change, Command, NewOrder, Request};
+use office_commands::{AskedOrder, Change, NewOrder, Request};
 use serde_json::Value;
 use std::alloc::{AllocError, Global};
-use std::str;
 use text_core::{LARGEST_WHOLE, Name, Text};
 
 /// The path of orders.
@@ -70,25 +69,14 @@ fn new_order(alloc: Global, value: &Value) -> Result<AskedOrder, MemberFault>
 pub fn make_order_request(alloc: Global, value: &Value) -> Result<Request, MemberFault>
     ensures { ReadsAs result (make_order_of (view value.now)) }
 {
-    let number = number_member(value).ok_or(BadMember)?;
     let order = new_order(alloc, value)?;
     let members = named_members(alloc, value, &ORDER_MEMBERS)?;
-    Ok(Request {
-        number,
-        digest: request_digest(alloc, ORDER_PATH, &members)?,
-        command: Command::Change(Change::MakeOrder(order)),
-    })
+    request_for(alloc, value, ORDER_PATH, &members, Change::MakeOrder(order))
 }
 
 /// The name that the query of `GET /v1/order` gives, if it gives just one.
 pub fn order_name(query: &[u8]) -> Option<Name>
     ensures { result ≡ name_parameter query.now }
 {
-    let Occurrence::Once(value) = only_parameter(query, b"name") else {
-        return None;
-    };
-    match str::from_utf8(value) {
-        Ok(text) => Name::parse(text),
-        Err(_) => None,
-    }
+    Name::parse(text_parameter(query, b"name")?)
 }

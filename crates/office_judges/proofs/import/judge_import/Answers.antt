@@ -1,4 +1,4 @@
-use Rattle.std.proofs.Common.{◌≡◌, ◌∙◌, true, Ok, Err, sym, rules}
+use Rattle.std.proofs.Common.{◌≡◌, ◌∙◌, true, Some, Ok, Err, inl, sym, rules}
 use Rattle.office_rules.specs.Prelude.{import_result, issued_in, has_issuer}
 use Rattle.office_judges.proofs.ImportedRows.{conflict_refused, import_ruled}
 use Rattle.office_judges.proofs.import.judge_import.Goals as goal
@@ -11,11 +11,12 @@ returns-in-Err g c = record {
       let s = c.args.customer.now in
       let t = g.K.Keep.tables c.args.keep.now in
       let n = c.args.import.now in
+      let given : n.rows ≡ Some c.in_ok-rows.rows.now = search (rules, c.in_ok-rows.ensures.ok_part) in
       let own : has_issuer s n.issuer ≡ true =
       sym c.has_issuer.ensures ∙ c.if-not-has_issuer.false in
-      let found : import_result (issued_in n.issuer t) c.in-Some.rows ≡ Err c.in-Err.serial =
+      let found : import_result (issued_in n.issuer t) c.in_ok-rows.rows.now ≡ Err c.in-Err.serial =
       sym (rw c.as_slice.ensures at (c.in_ok-merged.ensures.answer is)) ∙ c.in-Err.is in
-      conflict_refused s seat t n c.in-Some.rows c.in-Some.is own c.in-Err.serial found;
+      inl (conflict_refused s seat t n c.in_ok-rows.rows.now given own c.in-Err.serial found);
 }
 
 pub returns : goal.returns
@@ -26,11 +27,12 @@ returns g c = record {
       let s = c.args.customer.now in
       let t = g.K.Keep.tables c.args.keep.now in
       let n = c.args.import.now in
+      let given : n.rows ≡ Some c.in_ok-rows.rows.now = search (rules, c.in_ok-rows.ensures.ok_part) in
       let own : has_issuer s n.issuer ≡ true =
       sym c.has_issuer.ensures ∙ c.if-not-has_issuer.false in
-      let found : import_result (issued_in n.issuer t) c.in-Some.rows ≡ Ok c.in-Ok.merged =
+      let found : import_result (issued_in n.issuer t) c.in_ok-rows.rows.now ≡ Ok c.in-Ok.merged =
       sym (rw c.as_slice.ensures at (c.in_ok-merged.ensures.answer is)) ∙ c.in-Ok.is in
-      import_ruled s seat t n c.in-Some.rows c.in-Some.is own c.in-Ok.merged
+      import_ruled s seat t n c.in_ok-rows.rows.now given own c.in-Ok.merged
       (record { body = c.in_ok-body.body; writes = c.in_ok-writes.writes }) found
       (search rules) (search rules);
 }

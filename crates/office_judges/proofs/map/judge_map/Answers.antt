@@ -1,8 +1,10 @@
-use Rattle.std.proofs.Common.{◌≡◌, ◌∙◌, true, false, None, Some, sym, rules}
+use Rattle.std.proofs.Common.{◌≡◌, ◌∙◌, true, false, None, Some, inl, subst, sym, rules}
 use Rattle.sha2.specs.Sha256.{sha256}
-use Rattle.office_tables.specs.Prelude.{link_at, map_at}
+use Rattle.office_tables.specs.Prelude.{Tables, link_at, map_at}
+use Rattle.office_tables.proofs.Reading.{reads_more}
+use Rattle.office_commands.specs.declared.command.Change.TheVariants.{ImportMap}
 use Rattle.office_rules.specs.Prelude.{map_fault}
-use Rattle.office_judges.specs.Prelude.{has_text}
+use Rattle.office_judges.specs.Prelude.{has_text, IsJudged}
 use Rattle.office_judges.proofs.Links.{known_ruled, other_refused}
 use Rattle.office_judges.proofs.map.judge_map.Goals as goal
 
@@ -43,5 +45,13 @@ returns-in-Some-2 g c = record {
       at (sym (c.in_ok-link.ensures.answer before) ∙ c.in-Some-link.is) in
       let other : has_text text (map_at link.row.map t) ≡ false =
       sym (rw (c.link.ensures.read_only.same before) at (c.in_ok-has_text.ensures.answer is)) ∙ c.if-branch.false in
-      other_refused s seat t text sound link known other;
+      inl (other_refused s seat t text sound link known other);
+}
+
+pub returns-in-None : goal.returns-in-None
+returns-in-None g c = record {
+  read_only = reads_more c.link.ensures.read_only c.judge_new.ensures.read_only;
+  stays_open = c.judge_new.ensures.stays_open;
+  answer = λ is seat. subst (λ (u : Tables). IsJudged c.args.customer.now seat u (ImportMap c.args.text.now) c.judge_new.result)
+      (c.link.ensures.read_only.same (c.judge_new.ensures.read_only.was_open is)) (c.judge_new.ensures.answer is seat);
 }

@@ -1,4 +1,4 @@
-use Rattle.std.proofs.Common.{◌≡◌, ◌∙◌, None, refl, sym, rules}
+use Rattle.std.proofs.Common.{◌≡◌, ◌∙◌, None, inl, refl, sym, rules}
 use Rattle.office_rules.specs.Prelude.{office_sight, map_in_sight}
 use Rattle.office_rules.proofs.Sights.{map_same}
 use Rattle.office_judges.proofs.registration.judge_device.Goals as goal
@@ -15,5 +15,5 @@ returns-in-None g c = record {
       let unknown : map_in_sight (office_sight s seat t) d.map ≡ None =
       sym (map_same s seat t d.map)
       ∙ rw c.name.ensures at (sym (c.in_ok-map.ensures.answer is) ∙ c.in-None.is) in
-      rw unknown refl;
+      inl (rw unknown refl);
 }
