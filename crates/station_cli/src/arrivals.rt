@@ -17,6 +17,21 @@ pub struct Arrivals<'a, L, S: Drop> {
     given: u32,
 }
 
+/// How many connections a listener gave to be served. `Arrivals` counts them, and nobody else makes one.
+#[derive(Clone, Copy, Debug, PartialEq, Eq, Drop)]
+pub struct ConnectionCount {
+    number: u32,
+}
+
+impl ConnectionCount {
+    /// The number, 0 to 2^32 - 1.
+    pub fn number(self) -> u32
+        ensures { result ≡ self.number }
+    {
+        self.number
+    }
+}
+
 impl<'a, S: Drop, L: OpenListener<Stream = S>> Arrivals<'a, L, S> {
     /// The connections that will come to a listener.
     pub fn of(listener: &'a L) -> Arrivals<'a, L, S>
@@ -29,11 +44,11 @@ impl<'a, S: Drop, L: OpenListener<Stream = S>> Arrivals<'a, L, S> {
         }
     }
 
-    /// How many connections were given to be served.
-    pub fn given(&self) -> u32
-        ensures { result ≡ self.now.given }
+    /// How many connections were given to be served. One that waits and wasn't given is closed.
+    pub fn end(self) -> ConnectionCount
+        ensures { result.number ≡ self.entry.given }
     {
-        self.given
+        ConnectionCount { number: self.given }
     }
 
     /// Whether a connection waits. It is accepted then, and is the next one.

@@ -27,16 +27,16 @@
 //! `replay_over` require), and the port the program's bounds too; what the files held before has a
 //! name in all of these, which `main` alone fills.
 //!
-//! The job `serve` prints its line once the port is listened on, and nothing before; and it has
-//! served as many connections as it was asked for once `serve_connections` ends (`counted`, there
-//! alone: above it `accepted` is a number that the job was given). Whatever the connections
-//! say, the tables that stood lead to those that stand by one run of answers to requests of the
-//! site's callers, with all that `serve_stream` says of one stream, crashes included; a keeper whose
-//! disk is honest at the end was so at the start (`serve_connections`, over any keeper, listener and
+//! The job `serve` prints its line once the port is listened on, and nothing before; and as many
+//! connections were given to be served as it was asked for (`counted`: of a `ConnectionCount`, which
+//! nothing makes but the count of those that a listener gave). Whatever the connections say, the
+//! tables that stood lead to those that stand by one run of answers to requests of the site's
+//! callers, with all that `serve_stream` says of one stream, crashes included; a keeper whose disk
+//! is honest at the end was so at the start (`serve_connections`, over any keeper, listener and
 //! clock); it fails only where waiting for a connection does. So a store that `serve_site` opened,
 //! served over and left comes to a life that begins with the tables of its file and leaves what is
-//! found in the files that come back (`served_files_have_lives`); and a start that opens these is of a
-//! site that grew from this one (`later_starts_are_of_growths`).
+//! found in the files that come back (`served_files_have_lives`); and a start that opens these is of
+//! a site that grew from this one (`later_starts_are_of_growths`).
 //!
 //! A connection's two directions are served apart (`Duplex`), and tell what their streams tell: where
 //! these tell their bytes, what was sent begins with the requests that were answered, and what the
@@ -44,6 +44,10 @@
 //! one function of moments (`is_over`, `is_untaken`), and so is when its turn is over whose next
 //! request was read already (`is_turn_over`); the program's bounds are its numbers (`AreOfProgram`).
 //! What is done where accepting a connection fails is one too (`next_accept`).
+//!
+//! Where a store is wanted that isn't there, its file is made before it is opened, as the page of an
+//! empty database (`make_store_file`). No clause says what the system's calls do; the clauses over a
+//! store's files begin where it is opened, by what the file holds then.
 //!
 //! Not said: that each connection that was given is served and not dropped, and when (tests show
 //! both, over simulated clients), what bytes a socket gets (std's tell none), that the port is of
@@ -57,6 +61,7 @@ mod duplex;
 mod ends;
 mod failure;
 mod file_text;
+mod first_page;
 mod job;
 mod lives;
 mod map_file;
@@ -69,12 +74,14 @@ mod site_file;
 mod stored;
 mod telling;
 
-pub use arrivals::Arrivals;
+pub use arrivals::ConnectionCount;
 pub use duplex::Duplex;
 pub use failure::Failure;
+pub use first_page::{PAGE_BYTES, empty_database};
 pub use job::{Job, StoreName, VERSION, WordsFault, job_from_env, read_job};
 pub use lives::{later_starts_are_of_growths, served_files_have_lives};
 pub use patience::Bounds;
+pub use private::make_store_file;
 pub use reporting::report;
 pub use running::{Finished, run};
 pub use serving::{listen, serve_connections};

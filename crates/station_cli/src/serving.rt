@@ -1,5 +1,5 @@
 //! Connections of a port of this machine, served one after another over the store in a file.
-ghost use Rattle.std.specs.Prelude.{◌≡◌, ◌≢◌, ◌⊎◌, ◌+◌, ◌<◌, ◌^◌, ◌++◌, ◌∷◌, [], Some, IfOk, IfErr, IsErrAnd, OnOk};
+ghost use Rattle.std.specs.Prelude.{◌≡◌, ◌≢◌, ◌⊎◌, ◌++◌, ◌∷◌, [], Some, IfOk, IfErr, IsErrAnd, OnOk};
 ghost use Rattle.std.specs.Io.KnownBytes.{Appends, Keeps};
 ghost use Rattle.std.specs.Net.Addr.{ipv4_octets};
 ghost use Rattle.std.specs.Net.Socket.{v4_ip, v4_port};
@@ -8,7 +8,7 @@ ghost use Rattle.office_store.specs.Prelude.{is_honest_at};
 ghost use Rattle.station_api.specs.Prelude.{ServesOver};
 ghost use Rattle.station_cli.specs.Prelude.{AreOfProgram, IsUnread, IsOfPort, LeavesIfRead, LeadsOn, listening_line, IsOfStore, site_in, text_of_site};
 
-use crate::arrivals::Arrivals;
+use crate::arrivals::{Arrivals, ConnectionCount};
 use crate::duplex::Duplex;
 use crate::ends::{ClientReader, ClientWriter, Line};
 use crate::failure::Failure;
@@ -38,8 +38,8 @@ pub struct Door {
 
 /// Serves as many connections as the door says over the store in a file, for the site that a file
 /// describes, by what reading the file with this name gave. Once the port is listened on, its line is
-/// written. The store is closed at the end. Answers how many connections were accepted, and what is
-/// left of the store's files.
+/// written. The store is closed at the end. Answers how many connections were given to be served, and
+/// what is left of the store's files.
 ///
 /// # Errors
 ///
@@ -54,7 +54,7 @@ pub fn serve_site<'a, S: Start, W: Write>(
     store: StoreFile<'_, S>,
     door: Door,
     output: &mut W,
-) -> Done<'a, u32, FileFrom<S>>
+) -> Done<'a, ConnectionCount, FileFrom<S>>
     ensures unread { IfErr file (λ error. IsErrAnd result.result (IsUnread name.entry error)) }
 
     // A file that describes no site is the failure, whatever the store and the port.
@@ -65,7 +65,7 @@ pub fn serve_site<'a, S: Start, W: Write>(
     ensures failed { IfOk file (λ bytes. IfOk (site_in name.entry bytes.items) (λ _.
         IfErr result.result (λ failure. (failure ≡ Failure.NoMemory) ⊎ IsOfStore failure
         ⊎ IsOfPort failure))) }
-    ensures accepted { IfOk result.result (λ accepted. accepted ≡ door.connections) }
+    ensures counted { IfOk result.result (λ count. count.number ≡ door.connections) }
 
     // The store was refused, or it was as its opening says, and what the connections asked for leads
     // from its tables to those that the files hold that come back.
@@ -108,7 +108,7 @@ pub fn serve_site<'a, S: Start, W: Write>(
 }
 
 /// Listens on the port of the door, tells so, and serves its connections over a store, whose statements
-/// have the limit of steps, at the bounds of the program. Answers how many were accepted.
+/// have the limit of steps, at the bounds of the program. Answers how many were given to be served.
 fn serve_port<S: Alter, W: Write>(
     rt: &HostRuntime,
     alloc: Global,
@@ -117,12 +117,12 @@ fn serve_port<S: Alter, W: Write>(
     door: Door,
     bounds: Bounds,
     output: &mut W,
-) -> Result<u32, Failure<'static>>
+) -> Result<ConnectionCount, Failure<'static>>
     requires limit { keep.old.conn.step_limit ≡ Some 1000000000 }
     requires bounds { AreOfProgram bounds }
     ensures was_honest { is_honest_at S.Store keep.new.conn → is_honest_at S.Store keep.old.conn }
     ensures reaches { LeadsOn ⟦<SqlKeep<S> as Keep>⟧ site.now keep.old keep.new }
-    ensures accepted { IfOk result (λ accepted. accepted ≡ door.connections) }
+    ensures counted { IfOk result (λ count. count.number ≡ door.connections) }
     ensures failed { IfErr result IsOfPort }
     ensures printed { OnOk result (Appends (W.contents output.old) (W.contents output.new)
         (listening_line door.port ++ 10 ∷ [])) }
@@ -135,30 +135,7 @@ fn serve_port<S: Alter, W: Write>(
     if write_listening_line(door.port, output).is_err() {
         return Err(Failure::WriteFailed);
     }
-    serve_listener(rt, alloc, keep, site, &listener, bounds, door.connections)
-}
-
-/// Serves so many of the connections that come to a listener, and answers how many were given.
-fn serve_listener<K: Keep, R: Clock, S, L>(
-    clock: &R,
-    alloc: Global,
-    keep: &mut K,
-    site: &Site,
-    listener: &L,
-    bounds: Bounds,
-    count: u32,
-) -> Result<u32, Failure<'static>>
-where
-    S: Duplex,
-    L: OpenListener<Stream = S>,
-    ensures was_honest { K.is_honest keep.new → K.is_honest keep.old }
-    ensures reaches { LeadsOn K.Keep site.now keep.old keep.new }
-    ensures accepted { IfOk result (λ accepted. accepted ≡ count) }
-    ensures failed { IfErr result (λ failure. failure ≡ Failure.AcceptFailed) }
-{
-    let mut arrivals = Arrivals::of(listener);
-    serve_connections(clock, alloc, keep, site, &mut arrivals, bounds, count)?;
-    Ok(arrivals.given())
+    serve_connections(rt, alloc, keep, site, &listener, bounds, door.connections)
 }
 
 /// Listens on a port of this machine, which no other machine can reach.
@@ -195,7 +172,7 @@ fn write_listening_line<W: Write>(port: u16, output: &mut W) -> io::Result<()>
 /// Serves so many of the connections that come to a listener, one after another, over a keeper. What
 /// becomes of one ends that one alone. A client is waited for no longer than the bounds say, and where
 /// another connection waits a client that has had a reply gives way to it. The listener may be one of
-/// std's or of a test.
+/// std's or of a test. Answers how many connections were given to be served.
 ///
 /// # Errors
 ///
@@ -205,14 +182,13 @@ pub fn serve_connections<K: Keep, R: Clock, S, L>(
     alloc: Global,
     keep: &mut K,
     site: &Site,
-    arrivals: &mut Arrivals<'_, L, S>,
+    listener: &L,
     bounds: Bounds,
     count: u32,
-) -> Result<(), Failure<'static>>
+) -> Result<ConnectionCount, Failure<'static>>
 where
     S: Duplex,
     L: OpenListener<Stream = S>,
-    requires { arrivals.old.given + count < 2 ^ 32 }
     ensures was_honest { K.is_honest keep.new → K.is_honest keep.old }
 
     // Whatever the connections said, the tables change by answers to requests alone, a crash leaves
@@ -220,15 +196,16 @@ where
     ensures reaches { LeadsOn K.Keep site.now keep.old keep.new }
 
     // No connection ends the others: so many were given to be served, unless waiting for one fails.
-    ensures counted { OnOk result (arrivals.new.given ≡ arrivals.old.given + count) }
+    ensures counted { IfOk result (λ given. given.number ≡ count) }
     ensures failed { IfErr result (λ failure. failure ≡ Failure.AcceptFailed) }
 {
     site.fact_rules();
+    let mut arrivals = Arrivals::of(listener);
     for _turn in 0..count {
         let stream = arrivals.next(clock)?;
-        let _ = serve_client(clock, alloc, keep, site, arrivals, bounds, stream);
+        let _ = serve_client(clock, alloc, keep, site, &arrivals, bounds, stream);
     }
-    Ok(())
+    Ok(arrivals.end())
 }
 
 /// What became of a connection: how its stream ended, and its two directions as they were then.

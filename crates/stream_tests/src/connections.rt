@@ -2,7 +2,7 @@
 use crate::serving::{SHOWN, UNKNOWN};
 use office_core::MemKeep;
 use site_core::read_site;
-use station_cli::{Arrivals, Bounds, Duplex, Failure, listen, serve_connections};
+use station_cli::{Bounds, Duplex, Failure, listen, serve_connections};
 use std::alloc::Global;
 use std::io;
 use std::io::Write;
@@ -32,7 +32,7 @@ fn bounds() -> Bounds {
     }
 }
 
-/// Serves so many connections for the site of a text, over memory without rows: how many were accepted, or the
+/// Serves so many connections for the site of a text, over memory without rows: how many were given, or the
 /// failure. It alone names the server, since each call of it costs the prover a minute.
 pub fn served_over_memory<R: Clock, S, L>(
     clock: &R,
@@ -48,9 +48,8 @@ where
 {
     let site = read_site(alloc, site)?;
     let mut keep = MemKeep::new(alloc);
-    let mut arrivals = Arrivals::of(listener);
-    let done = serve_connections(clock, alloc, &mut keep, &site, &mut arrivals, bounds, count);
-    Ok(done.map(|_| arrivals.given()))
+    let done = serve_connections(clock, alloc, &mut keep, &site, listener, bounds, count);
+    Ok(done.map(|given| given.number()))
 }
 
 /// Makes two connections, the first with some bytes and the second with an order that ends its

@@ -10,6 +10,8 @@ mod jobs;
 #[cfg(test)]
 mod kept;
 #[cfg(test)]
+mod made;
+#[cfg(test)]
 mod many;
 #[cfg(test)]
 mod names;

@@ -21,7 +21,7 @@ const NAMES: &[(&str, bool, usize)] = &[
 const ORDER_ROW: &str = "\norders|'acme'|'o1'|";
 
 /// Makes a folder in which there is nothing.
-fn make_empty_folder(rt: &HostRuntime, name: &str) -> Result<(), Fail> {
+pub fn make_empty_folder(rt: &HostRuntime, name: &str) -> Result<(), Fail> {
     if fs::exists(rt, name)? {
         fs::remove_dir_all(rt, name)?;
     }
