@@ -1,4 +1,4 @@
-"""The life of a chip as in docs/WALK.md, and the books after each of its requests.
+"""The life of a chip as in docs/tutorial/first-chip.md, and the books after each of its requests.
 
 One seat imports a map, makes an order with a hardware address for each serial number, registers a chip, plans,
 reads back twice, gives it an identity and ships it. The replies and the books are those of a run that nobody
@@ -21,7 +21,7 @@ ROOT = Path(__file__).resolve().parent.parent
 DATA = ROOT / "crates" / "station" / "data"
 SITE = DATA / "site.toml"
 MAP = DATA / "map.toml"
-PAGE = ROOT / "docs" / "WALK.md"
+PAGE = ROOT / "docs/tutorial/first-chip.md"
 
 # A chip by its factory MAC, and block 0 as the factory leaves it: the MAC with its CRC, a revision, a calibration.
 CHIP = "240ac4000001"
@@ -133,6 +133,21 @@ def replies_in(data):
 def store_at(path):
     """The files of a store."""
     return [Path(path), Path(f"{path}-wal")]
+
+
+def empty_page(size):
+    """The page of an empty database with a log, as C's SQLite makes it."""
+    with tempfile.TemporaryDirectory() as folder:
+        base = sqlite3.connect(f"{folder}/page.db", isolation_level=None)
+        base.execute(f"PRAGMA page_size = {size}")
+        base.execute("PRAGMA journal_mode = WAL")
+        base.close()
+        return Path(folder, "page.db").read_bytes()
+
+
+def without_release(page):
+    """A first page without the number of the release of SQLite that wrote it."""
+    return page[:96] + page[100:]
 
 
 def replay_words(program, db=None, site=SITE):

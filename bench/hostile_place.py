@@ -147,7 +147,7 @@ def run(*words):
 
 
 def certificate(folder):
-    """A certificate of the address that is asked, as OPERATIONS has it made."""
+    """A certificate of the address that is asked, as docs/how-to/install.md has it made."""
     names = "subjectAltName=IP:127.0.0.1"
     words = ["openssl", "req", "-x509", "-newkey", "ec", "-pkeyopt", "ec_paramgen_curve:prime256v1", "-noenc"]
     words += ["-days", "2", "-subj", "/CN=hostile", "-addext", names]

@@ -1,5 +1,7 @@
 """A server on a port of this machine, and the requests of a seat over HTTP, for what is tried and measured over a port."""
 
+import contextlib
+import glob
 import http.client
 import json
 import os
@@ -7,8 +9,12 @@ import signal
 import socket
 import subprocess
 import time
+from pathlib import Path
 
 HOST = "127.0.0.1"
+
+# In how many parts Linux counts a second of a processor.
+TICKS = os.sysconf("SC_CLK_TCK")
 
 
 def station(program, site, db, port):
@@ -53,6 +59,15 @@ class Server:
                 raise SystemExit(f"FAILED: {self.process.args[0]} doesn't listen on port {self.port}")
             time.sleep(0.001)
         return self
+
+    def used(self):
+        """The seconds of a processor that its processes took until now."""
+        ticks = 0
+        for path in glob.glob("/proc/[0-9]*/stat"):
+            with contextlib.suppress(OSError):
+                fields = Path(path).read_text(encoding="utf-8", errors="replace").rpartition(")")[2].split()
+                ticks += int(fields[11]) + int(fields[12]) if int(fields[2]) == self.process.pid else 0
+        return ticks / TICKS
 
     def kill(self):
         try:

@@ -277,7 +277,7 @@ def forms(place, tried):
     tried.same("of these came through", place.recorder.heads[asked:], [])
     for name, scheme in [("small letters", b"bearer "), ("capitals", b"BEARER "), ("two spaces", b"Bearer  ")]:
         got = place.raw(b"GET /v1/order?name=none HTTP/1.1\r\nHost: h\r\nAuthorization: " + scheme + good + b"\r\n\r\n")
-        tried.same(f"{name}, as docs/FORMATS.md has it", got[9:12], b"404")
+        tried.same(f"{name}, as docs/reference/api.md has it", got[9:12], b"404")
     look = place.outer["look"].encode()
     with place.connection() as connection:
         statuses = []

@@ -288,5 +288,5 @@ class Place:
 
 
 def refusal(name, no):
-    """A refusal's body, as docs/FORMATS.md has it."""
+    """A refusal's body, as docs/reference/api.md has it."""
     return json.dumps({"error": name, "no": no}, separators=(",", ":"))
