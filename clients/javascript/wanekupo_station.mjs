@@ -1,5 +1,6 @@
 /**
- * The station's side of the protocol of docs/CLIENT.md: a seat whose requests are each done once, and espefuse's words.
+ * The station's side of the protocol of a seat (docs/reference/api.md): requests that are each done once, and
+ * espefuse's words.
  *
  * A `Station` is one seat of the site file. Its state file has the number of the next request, the request under way
  * and the last one that was accepted, with its reply. It is synced before a request is sent, so that a station that
@@ -113,7 +114,7 @@ export class StationError extends Error {
   }
 }
 
-/** A refusal of docs/FORMATS.md: `no` and `error` are those of the table, `body` has what else it says. */
+/** A refusal of docs/reference/api.md: `no` and `error` are those of the table, `body` has what else it says. */
 export class Refused extends StationError {
   constructor(status, body) {
     super(`${body.no} ${body.error}`);
@@ -128,7 +129,9 @@ export class Refused extends StationError {
  * stations share it, or the store was restored. `path` and `number` were asked, `expected` is the server's. A request
  * that was sent before is still under way, as it may be done; another one wasn't done, and is forgotten.
  *
- * Each request is refused so until `resynchronize`, which a person calls who knows why (docs/CLIENT.md).
+ * Each request is refused so until `resynchronize`, which a person calls who knows why (docs/how-to/write-a-station.md).
+ * Where `expected` is below `number` the store is an older one, restored or damaged: who didn't restore it on purpose
+ * stops its server first, and restores it (docs/how-to/back-up-and-restore.md).
  */
 export class OutOfStep extends Refused {
   constructor(refused, path, number) {
@@ -926,7 +929,7 @@ export class Station {
     });
   }
 
-  // Commands, whose replies are those of docs/FORMATS.md.
+  // Commands, whose replies are those of docs/reference/api.md.
 
   /** `order` has `name`, `issuer`, `prefix`, `width`, `first`, `quantity`, `macs` and perhaps `not_before`. */
   makeOrder(order) {

@@ -1,5 +1,6 @@
 #!/usr/bin/env python3
-"""The station's side of the protocol of docs/CLIENT.md: a seat whose requests are each done once, and espefuse's words.
+"""The station's side of the protocol of a seat (docs/reference/api.md): requests that are each done once, and
+espefuse's words.
 
 These are the names of it; the folder `wanekupo` beside this file has what they do. Run, it is the command line. Python
 3.9 or later, standard library alone.

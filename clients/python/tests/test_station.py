@@ -1,6 +1,7 @@
-"""The client against the program. Expected values are those of docs/FORMATS.md and docs/WALK.md, never the program's.
+"""The client against the program.
 
-The program is `crates/station/out/station`, or what the variable STATION_PROGRAM names; `bench/client` sets it.
+Expected values are those of docs/reference/api.md and docs/tutorial/first-chip.md, never the program's. The program is
+`crates/station/out/station`, or what the variable STATION_PROGRAM names; `bench/client` sets it.
 """
 
 from __future__ import annotations
@@ -57,7 +58,7 @@ README = HERE.parent / "README.md"
 
 class Commands(StationCase):
     def test_the_life_of_a_chip(self):
-        """Each reply is as FORMATS says, over a chip behind the words of espefuse."""
+        """Each reply is as the API says, over a chip behind the words of espefuse."""
         station = self.station()
         order = station.make_order(**ORDER)
         self.assertEqual(order, Order("o1", "acme-ca", "A", 3, 998, 2, 1, "020000000010", "A998"))
@@ -250,7 +251,7 @@ class Commands(StationCase):
         self.assertEqual(ledger[-1].added, NOTHING)
 
     def test_reports(self):
-        """The counts of each order and of each customer, as FORMATS names them."""
+        """The counts of each order and of each customer, as the API names them."""
         station, manager = self.station(), self.station(token="test", file="manager.json")
         self.assertEqual(station.report(), {})
         station.make_order(**ORDER)

@@ -53,6 +53,19 @@ class Words(StationCase):
             file.write_text(text, encoding="utf-8")
             self.assertEqual(self.ran(*words)[::2], (2, f"ValueError: {told}\n"))
 
+    def test_an_older_store(self):
+        """The line at 11 sends nobody to --resynchronize where the store may be one that nobody restored."""
+        (self.folder / "map").write_text(MAP, encoding="utf-8")
+        self.program.copied(self.folder / "backup")
+        self.assertEqual(self.ran("map", str(self.folder / "map"))[0], 0)
+        self.program.restored(self.folder / "backup")
+        status, out, err = self.ran("ship", MAC)
+        self.assertEqual((status, out), (5, ""))
+        stopped, look = err.splitlines()
+        self.assertEqual(stopped, "stopped: /v1/ship with number 2, the server expects 1: 11 wrong_number expected 1")
+        self.assertRegex(look, "^the store is an older one: unless it was restored on purpose, stop its server now")
+        self.assertNotIn("--resynchronize", look)
+
     def test_statuses(self):
         order = ["order", "o1", "acme-ca", "A", "--width", "3", "--first", "998", "--quantity", "2"]
         status, out, _ = self.ran(*order)
@@ -68,7 +81,8 @@ class Words(StationCase):
         status, out, err = self.ran("ship", MAC)
         self.assertEqual((status, out), (5, ""))
         told = "stopped: /v1/ship with number 3, the server expects 4: 12 other_body"
-        self.assertEqual(err.splitlines()[0], told)
+        told += "\nlook why (docs/how-to/write-a-station.md) before number --resynchronize\n"
+        self.assertEqual(err, told)
         self.assertEqual(self.ran("number")[1], '{"expected":4,"own":3}\n')
         self.assertEqual(self.ran("number", "--resynchronize")[1], '{"expected":4,"own":4}\n')
         self.assertEqual(self.ran("ship", MAC)[::2], (1, "refused: 15 unknown_device\n"))

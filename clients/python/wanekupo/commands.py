@@ -354,7 +354,10 @@ def main(words: Optional[Sequence[str]] = None) -> int:
         reply = args.run_stateless(args) if is_stateless else _answered(args)
     except OutOfStep as stop:
         asked = f"{stop.path} with number {stop.number}, the server expects {stop.expected}"
-        look = "look why (docs/CLIENT.md, A station that stops), then: number --resynchronize"
+        look = "look why (docs/how-to/write-a-station.md) before number --resynchronize"
+        if stop.expected < stop.number:
+            look = "the store is an older one: unless it was restored on purpose, stop its server now, keep all "
+            look += "stations off, and restore it from step 1 (docs/how-to/back-up-and-restore.md)"
         _warn(f"stopped: {asked}: {stop}", look)
         return 5
     except Refused as refused:

@@ -15,7 +15,7 @@ class StationError(Exception):
 
 
 class Refused(StationError):
-    """A refusal of docs/FORMATS.md: `no` and `name` are those of the table, `more` is what else the body says."""
+    """A refusal of docs/reference/api.md: `no` and `name` are those of the table, `more` is what else the body says."""
 
     def __init__(self, status: int, body: Mapping[str, Any]):
         self.status, self.no, self.name = status, body["no"], body["error"]
@@ -29,7 +29,9 @@ class OutOfStep(Refused):
     two stations share it, or the store was restored. `path` and `number` were asked, `expected` is the server's. A
     request that was sent before is still under way, as it may be done; another one wasn't done, and is forgotten.
 
-    Each request is refused so until `resynchronize`, which a person calls who knows why (docs/CLIENT.md)."""
+    Each request is refused so until `resynchronize`, which a person calls who knows why
+    (docs/how-to/write-a-station.md). Where `expected` is below `number` the store is an older one, restored or damaged:
+    who didn't restore it on purpose stops its server first, and restores it (docs/how-to/back-up-and-restore.md)."""
 
     def __init__(self, refused: Refused, path: str, number: int):
         super().__init__(refused.status, refused.body)

@@ -1,4 +1,4 @@
-"""The yield of a shift: two reports that were kept, subtracted (docs/OPERATIONS.md, Reports)."""
+"""The yield of a shift: two reports that were kept, subtracted (docs/how-to/yield-and-hand-over.md)."""
 
 from __future__ import annotations
 
