@@ -1,8 +1,8 @@
 //! The fuse map of the whole ESP32.
 
-/// The text of `maps/esp32.toml`; `tools/figures` looks whether it is.
+/// The text of `maps/esp32.toml`; `tools/pages` looks whether it is.
 pub const ESP32: &str =
-    r#"# The eFuses of the ESP32, for POST /v1/map (docs/FORMATS.md, "Fuse maps").
+    r#"# The eFuses of the ESP32, for POST /v1/map (docs/reference/files.md).
 #
 # Source: espefuse 4.7.0, espefuse/efuse_defs/esp32.yaml, VER_NO 369d2d860d34e777c0f7d545a7dfc3c4. Names and positions
 # are that file's (`blk`, `start`, `len`); `write` and `read` are its `wr_dis` and `rd_dis`, the bit of WR_DIS or RD_DIS
@@ -19,7 +19,7 @@ pub const ESP32: &str =
 #       { name = "BLOCK3", block = 3, bit = 0, count = 256, write = 9, read = 2, key = true },
 # - Second names of a field (the source's `alt`), as ENCRYPT_FLASH_KEY for BLOCK1 and DISABLE_JTAG for JTAG_DISABLE.
 #
-# Before a plan has UART_DOWNLOAD_DIS, or the read lock of BLOCK2, read docs/CLIENT.md.
+# Before a plan has UART_DOWNLOAD_DIS, or the read lock of BLOCK2, read docs/how-to/write-a-station.md.
 
 name = "esp32"
 wr = "WR_DIS"

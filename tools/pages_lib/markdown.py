@@ -1,0 +1,89 @@
+"""The pages of the repository, which are the Markdown files that git knows, and what stands on them."""
+
+import functools
+import re
+from collections.abc import Iterator
+
+from pages_lib.rattle import TOP, text_of, tracked
+
+# The page that tools/pages writes whole, and pages that say what was once: no name in them has to be there.
+PROMISES_PAGE = "docs/reference/promises.md"
+OF_THE_PAST = ("CHANGELOG.md", "bench/RESULTS.md")
+
+POINTER = re.compile(r"\bdocs/[\w/-]+\.(?:md|toml|yaml|png|svg)(?:#[\w-]+)?")
+FENCE = re.compile(r"(?ms)^ *```.*?^ *```$")
+
+
+@functools.cache
+def pages() -> list[str]:
+    """The pages, by their paths from the top. Descriptions of planted bugs are none."""
+    found = {name for name in tracked("*.md") if "/must-fail/" not in name}
+    return sorted(found | ({PROMISES_PAGE} if (TOP / PROMISES_PAGE).is_file() else set()))
+
+
+@functools.cache
+def page_text(page: str) -> str:
+    """A page's text."""
+    return (TOP / page).read_text("utf-8")
+
+
+@functools.cache
+def prose_of(page: str) -> str:
+    """A page's text without what is shown as it stands."""
+    return FENCE.sub("", page_text(page))
+
+
+def fences_of(page: str) -> Iterator[tuple[str, str]]:
+    """The fenced blocks of a page: the language, and the text."""
+    yield from re.findall(r"(?ms)^```(\w*)\n(.*?)^```$", page_text(page))
+
+
+def headings_of(page: str) -> list[str]:
+    """The headings of a page."""
+    return re.findall(r"(?m)^#+ (.*)$", prose_of(page))
+
+
+@functools.cache
+def anchors_of(page: str) -> list[str]:
+    """The anchors of a page: those of its headings, and its own."""
+    found = list[str]()
+    for heading in headings_of(page):
+        anchor = re.sub(r"[^\w\- ]", "", heading.lower()).strip().replace(" ", "-")
+        found.append(f"{anchor}-{found.count(anchor)}" if anchor in found else anchor)
+    return found + re.findall(r'<a id="([^"]+)">', prose_of(page))
+
+
+def links_of(page: str) -> list[str]:
+    """What a page links to."""
+    return re.findall(r"\]\(([^)\s]+)\)", prose_of(page))
+
+
+def links_at_fault() -> Iterator[str]:
+    """The links that lead to no file, or to no place of it."""
+    for page in pages():
+        for link in links_of(page):
+            name, _, anchor = link.partition("#")
+            if ":" in name:
+                continue
+            aim = ((TOP / page).parent / name).resolve() if name else TOP / page
+            if not aim.exists() or anchor and not has_anchor(str(aim.relative_to(TOP)), anchor):
+                yield f"{page}: the link {link} leads nowhere"
+
+
+def has_anchor(path: str, anchor: str) -> bool:
+    """Whether a page has an anchor, or a file of code the line that one names."""
+    if path.endswith(".md"):
+        return anchor in anchors_of(path)
+    line = re.fullmatch(r"L(\d+)", anchor)
+    return bool(line) and int(line[1]) <= page_text(path).count("\n")
+
+
+def pointers_at_fault() -> Iterator[str]:
+    """The files of docs that code, scripts and settings name, and that aren't there, or have no such anchor."""
+    for name in tracked():
+        if name.endswith((".db", ".png")) or name.startswith("tools/pages_lib/") or name in pages():
+            continue
+        for found in dict.fromkeys(POINTER.findall(text_of(TOP / name))):
+            path, _, anchor = found.partition("#")
+            if not (TOP / path).is_file() or anchor and not has_anchor(path, anchor):
+                yield f"{name} names {found}, which isn't there"
