@@ -116,13 +116,13 @@ pub fn replay_until_stop<D: Disk + Drop>(
 /// Answers requests of a site's seats over the store in files, until these crash; opens what is left
 /// for the site as it stands then, which may have grown, and answers more requests over it.
 ///
-/// Where the disks return what was written, what was answered before the crash is there after it, and
-/// so may be one step more, of a request that was answered 503 since the last one that wasn't. What was
-/// answered before, that step and what is answered after are one run: from tables that are sound for the
-/// first site, or for one that it grew from, all is promised of it that is promised of a run without a
-/// crash.
-/// So a request that was cut off is there whole or not at all, and where it is sent again it acts once,
-/// and gets the reply of its one execution.
+/// Where the disks return what was written, what was answered before the crash is there after it. One
+/// step more may be there too, of a request that was answered 503 since the last one that wasn't.
+///
+/// What was answered before, that step and what is answered after are one run. From tables that are
+/// sound for the first site, or for one that it grew from, all is promised of it that is promised of a
+/// run without a crash. So a request that was cut off is there whole or not at all. Where it is sent
+/// again it acts once, and gets the reply of its one execution.
 ///
 /// # Errors
 ///

@@ -2,12 +2,17 @@
 //! entries keep them. By the chip's fuse map a set of positions, a table of keys or pending work
 //! becomes a column, and comes back from it as it was. Nothing here takes memory.
 //!
-//! `encode_bits`, `encode_keys` and `encode_todo` give the bytes of the formats by the chip's map,
-//! and `decode_bits`, `decode_keys` and `decode_todo` what any bytes stand for, without a premise
-//! on them. Laws: what was encoded comes back as it was (`come_back`); what is decoded lies in the
-//! map's blocks outside key fields, its digests at key fields (`lie_in_map`); bytes of the right
-//! form come back from what they stand for, so no two of them stand for the same
-//! (`bytes_come_back`).
+//! `encode_bits`, `encode_keys` and `encode_todo` give the bytes of the formats by the chip's map.
+//! `decode_bits`, `decode_keys` and `decode_todo` give what any bytes mean, without a premise on
+//! them.
+//!
+//! Laws:
+//!
+//! - What was encoded is decoded as it was (`come_back`).
+//! - What is decoded lies in the map's blocks outside key fields, and its digests lie at key fields
+//!   (`lie_in_map`).
+//! - Bytes of the right form are what encoding gives for the value that they mean, so no two of
+//!   them mean the same value (`bytes_come_back`).
 #![tactic(auto)]
 
 mod bits;

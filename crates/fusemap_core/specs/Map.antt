@@ -129,8 +129,9 @@ pub record IsKeyField (blocks : List ℕ) (f : Field) : Type 0 where
   pub write : IsSome f.write
   pub read : IsSome f.read
 
--- the numbers are in range, no two fields have one name, each lies in its block, no two overlap, the lock fields can be it, each lock is a bit of its lock
--- field, and each key field can be one
+-- The numbers are in range. No two fields have one name, each lies in its block, and no two
+-- overlap. The lock fields can be lock fields, and each lock is a bit of its lock field. Each key
+-- field can be one
 pub record IsMap (m : Map) : Type 0 where
   pub ranges : IsInRange m
   pub names : AllPairs (λ f g. f.name ≢ g.name) m.fields

@@ -24,13 +24,19 @@ pub const TEXT_LIMIT: usize = 32768;
 /// The greatest whole number of TOML: 2^63 - 1.
 const LARGEST_INTEGER: u64 = 9223372036854775807;
 
-/// Reads the fuse map that a text is, or tells the lowest of its faults. The text is a TOML
-/// document: names `name`, `wr` and `rd`, a name `coding` where there is a coding field, an array of
-/// 1 to 4 tables `block`, each with its `words` (1 to 8), and an array of 1 to 128 tables `field`,
-/// each with its `name`, `block`, `bit` (0 or more) and `count` (1 or more), and, where it has them,
-/// the numbers of its locks, `write` and `read` (0 or more), and `key`, which is true for a key
-/// field. Blocks are numbered from 0 in the text's order. Other members are ignored.
+/// Reads the fuse map that a text is, or gives the lowest of its faults.
 /// `MapFault::OutOfMemory` where memory ran out, whatever the text up to its limit.
+///
+/// The text is a TOML document with these members; others are ignored:
+///
+/// - names `name`, `wr` and `rd`, and a name `coding` where there is a coding field;
+/// - an array of 1 to 4 tables `block`, each with its `words` (1 to 8), numbered from 0 in the
+///   text's order;
+/// - an array of 1 to 128 tables `field`, each with its `name`, `block`, `bit` (0 or more) and
+///   `count` (1 or more).
+///
+/// A field may also have the numbers of its locks, `write` and `read` (0 or more), and `key`, which
+/// is true for a key field.
 pub fn read_map(alloc: Global, text: &str) -> Result<FuseMap, MapFault>
     ensures exact { GivesUnless MapFault.OutOfMemory result (map_read text.now) }
     ensures valid { IfOk result (IsMapText text.now) }

@@ -196,11 +196,11 @@ impl Buffer {
     }
 }
 
-/// Cuts the next request from the stream, or says what stands there (RFC 9112, section 6.3). It takes no memory.
+/// Cuts the next request from the stream, or says what is there instead (RFC 9112, section 6.3). It takes no memory.
 ///
-/// What is said of a request or a refusal holds of the bytes in the buffer alone, and those and the
-/// bytes that are left are the bytes that there were: so it holds of the stream, in whatever pieces
-/// it came.
+/// What the contract says of a request or a refusal holds of the bytes in the buffer alone. These
+/// and the bytes that are left are the bytes that there were. So it holds of the stream, in whatever
+/// pieces it came.
 pub fn read_request<R: Source>(reader: &mut R, buffer: &mut Buffer) -> Framed
     requires { R.calls reader.old + 2 ^ 25 < 2 ^ 64 + buffer.old.calls }
     ensures framed { IsFramed buffer.new result }

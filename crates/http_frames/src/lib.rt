@@ -2,19 +2,19 @@
 //! to 6).
 //!
 //! A head is what `httparse` reads with its default configuration and room for 64 fields, in at
-//! most 8,192 bytes: empty lines in front of the request line belong to it, a line may end in LF
-//! alone, the version is HTTP/1.0 or HTTP/1.1, the target is UTF-8 and the method any token. So a
-//! stream whose last bytes are an empty line behind a request ends inside a request.
+//! most 8,192 bytes. Empty lines in front of the request line belong to it, and a line may end in
+//! LF alone. The version is HTTP/1.0 or HTTP/1.1, the target is UTF-8 and the method any token. So
+//! a stream whose last bytes are an empty line behind a request ends inside a request.
 //!
 //! A stream is read into one [`buffer::Buffer`], which takes its memory when it is made and none
 //! later. [`buffer::read_request`] finds the next request there, as a [`frame::Frame`]; what a
 //! head's fields and its target say is read by [`fields`].
 //!
-//! What `read_request` answers, over any reader, is so of the bytes by `httparse`'s own grammar,
-//! and the bytes held and left are the bytes that were there. What a head says of its body's
-//! length, its connection and its token, and what a target's query gives, are `read_body_size`,
-//! `is_close_asked`, `read_token` and `only_parameter`: the lowest of bad length, too large and
-//! transfer coding.
+//! What `read_request` answers, over any reader, is true of the bytes by `httparse`'s own grammar.
+//! The bytes held and left are the bytes that were there. What a head says of its body's length,
+//! its connection and its token, and what a target's query gives, are `read_body_size`,
+//! `is_close_asked`, `read_token` and `only_parameter`. The fault of a head is the lowest of bad
+//! length, too large and transfer coding.
 //!
 //! Serves a stream of HTTP/1.1 requests: requests in, replies out (RFC 9112).
 //!

@@ -35,6 +35,9 @@ pub enum Served {
 }
 
 /// Answers requests over a state that it is lent.
+///
+/// The state is no part of the service: a stream is lent it, and lends it to each answer, so that no
+/// value holds a `&mut`. The theorem of `serve_stream` is over any relation `steps` of states.
 pub trait Service<S> {
     /// From one state, a request may be answered so, and lead to another state.
     ghost steps: { Self → S → Request → Answer → S → Type 0 };

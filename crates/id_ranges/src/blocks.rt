@@ -7,9 +7,9 @@ use crate::fault::RangeFault;
 use crate::mac::Mac;
 use crate::pool::MacPool;
 
-/// The first address of a block of `count` consecutive addresses that lies within one pool and has
-/// no address of a reserved interval, each of which is its first address and its length: the lowest
-/// such block of the first pool, in the order given, that has one. `NoMacRoom` where no pool has
+/// The first address of a free block: `count` consecutive addresses within one pool, none of which
+/// is in a reserved interval. An interval is its first address and its length. It is the lowest
+/// free block of the first pool, in the order given, that has one. `NoMacRoom` where no pool has
 /// one.
 #[tactic(auto, using(crate::proofs::ReservedStart::pool_steps))]
 pub fn reserve(pools: &[MacPool], reserved: &[(Mac, u64)], count: u64) -> Result<Mac, RangeFault>

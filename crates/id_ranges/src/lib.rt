@@ -5,14 +5,14 @@
 //! each block of each pool meets a reserved interval; it takes no memory.
 //!
 //! `SerialRange::new` gives the range of a prefix, a width and consecutive numbers, or the lower of
-//! its two faults; `text` is the prefix with the padded number, and `meets` is true exactly where
-//! two ranges of one prefix and width share a number. Each number has a serial number of its own,
-//! and ranges of one prefix and two widths have none in common (`serials_are_distinct`).
+//! its two faults. `text` is the prefix with the padded number. `meets` is true exactly where two
+//! ranges of one prefix and width share a number. Each number has a serial number of its own, and
+//! ranges of one prefix and two widths have none in common (`serials_are_distinct`).
 //!
 //! `next_serial_from` gives the least number that isn't below a cursor and whose serial number
-//! isn't given, by look-ups in any state that they are lent; `Exhausted` where there is none,
-//! `Unread` only where a look-up had no answer. Where nothing is free below the cursor that is the
-//! least of all (`cursor_skips_given`, `next_is_least`).
+//! isn't given, by look-ups in any state that they are lent. It answers `Exhausted` where there is
+//! none, and `Unread` only where a look-up had no answer. Where nothing is free below the cursor
+//! that is the least of all (`cursor_skips_given`, `next_is_least`).
 //!
 //! An `IdevidRecord` has a serial number that is one, and no end of validity. `NotBefore::read`
 //! takes exactly the texts of 14 digits and a `Z` whose day the Gregorian calendar has (written out
@@ -22,9 +22,9 @@
 //! The text of an import: serial numbers of an issuer, each with the digest of the key that it is
 //! given with.
 //!
-//! `read_rows` gives the rows of an import's text as `csv` reads it, none where it is no import,
-//! and none of the rows where one has no serial number: exactly the header, 0 to 500 rows of two
-//! fields, digests of 64 hexadecimal digits. Want of memory aside.
+//! `read_rows` gives the rows of an import's text as `csv` reads it: exactly the header, 0 to 500
+//! rows of two fields, and digests of 64 hexadecimal digits. It gives none where the text is no
+//! import, and none of the rows where one has no serial number. Want of memory aside.
 #![tactic(auto)]
 
 mod blocks;

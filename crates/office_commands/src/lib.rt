@@ -1,8 +1,8 @@
 //! The commands that a seat of a customer can give, what refuses them, and the texts of replies.
 //!
-//! The body and the status of each refusal, and the JSON texts of an order, a map, a device, a
-//! plan, a verdict, a ledger and a list of devices, an identity, a state and an import, are exactly
-//! those of the formats. Each refusal's body tells its number (`Refusal::number`,
+//! The body and the status of each refusal are exactly those of the formats. So are the JSON texts
+//! of an order, a map, a device, a plan, a verdict, a ledger and a list of devices, an identity, a
+//! state and an import. Each refusal's body tells its number (`Refusal::number`,
 //! `refusals_tell_their_numbers`). A request's number is 1 to 9007199254740991 by its type
 //! (`RequestNumber`).
 #![tactic(auto)]

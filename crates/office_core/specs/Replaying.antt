@@ -45,8 +45,9 @@ pub record Answered {K : Type 0} (k : Ghosts K) (old new : K) (xs : List Exchang
   pub text : KeepsText k.is_honest k.tells_text old new
   pub stands : Stands k.is_open k.tables new t2
 
--- exchanges lead from the tables that stood to those that stand, where the store is honest after them;
--- and from tables that are sound for owners from which those of the first site grew, all is kept that is promised of a run
+-- Exchanges lead from the tables that stood to those that stand, where the store is honest after
+-- them. From tables that are sound for owners from which those of the first site grew, all is kept
+-- that is promised of a run.
 abbrev pub KeepsPromises : {K : Type 0} → Ghosts K → List SiteValue → K → K → List Exchange → Type 0
 KeepsPromises k sites old new xs =
     k.is_honest new → (t : Tables) → Stands k.is_open k.tables old t

@@ -78,11 +78,17 @@ fn answer_all<K: Keep>(
 /// request's 503.
 ///
 /// Where the store is honest, the replies are those of a run of the office. From tables that are
-/// sound for the site, or for one that it grew from, the tables stay sound; each customer's replies
-/// and rows are those of the customer's own machine, run on the customer's own requests alone;
-/// nothing that was burnt is forgotten, and what is given stays; no identity gives what another gave;
-/// and a request that comes again acts once. A crash after the last reply leaves the tables of the
-/// run, or those after one step more, of a request that was answered 503 since the last other reply.
+/// sound for the site, or for one that it grew from:
+///
+/// - The tables stay sound.
+/// - Each customer's replies and rows are those of the customer's own machine, run on the
+///   customer's own requests alone.
+/// - Nothing that was burnt is forgotten, and what is given stays.
+/// - No identity gives what another gave.
+/// - A request that comes again acts once.
+///
+/// A crash after the last reply leaves the tables of the run, or those after one step more, of a
+/// request that was answered 503 since the last other reply.
 pub fn replay<K: Keep>(
     alloc: Global,
     keep: &mut K,

@@ -11,9 +11,11 @@ use office_tables::Keep;
 /// A store that was stopped goes on as if it hadn't been, though the site may have grown in between.
 /// What a crash left of it are its tables, or those after one step more, of a request that was answered
 /// 503 since the last one that wasn't. Where a store is opened over what was left, all that was answered
-/// before the stop, that step, and what is answered after it are one run. From sound tables all that is
-/// promised of a run is promised of it: what was answered is there; a request that comes again, the one
-/// with that step too, acts once and gets the reply of its one execution; and nothing is given twice.
+/// before the stop, that step, and what is answered after it are one run.
+///
+/// From sound tables all that is promised of a run is promised of this one. What was answered is
+/// there, and nothing is given twice. A request that comes again acts once and gets the reply of
+/// its one execution, and so does the one with that step.
 pub fn stopped_stores_go_on<K: Keep, L: Keep>()
     ensures { (site grown : Ownership) (opened stopped : K) (again later : L)
         (xs ys : List Exchange) (t t2 left t3 : Tables)

@@ -27,7 +27,8 @@ abbrev pub identity_wanted : Wanted → Option NewIdentity
 identity_wanted (asks request) = identity_of_command request.command
 identity_wanted other = None
 
--- the exchange is that of an identity that is no repeat of one before the run
+-- The exchange is that of an identity that is no repeat of one before the run. A seat without an
+-- accepted request counts as 0 there, which no number of a request is.
 abbrev pub is_new_identity : Tables → Exchange → Bool
 is_new_identity t x = is_some (identity_wanted x.0.wanted) && is_no_repeat t x
 
@@ -57,9 +58,10 @@ AreNotImported t gifts = (issuer serial : List ℕ)
     → IfSome (given_at issuer serial t) (λ r. r.row.chip ≡ None
     → AllByRecursion (λ g. is_serial_of issuer serial g ≡ false) gifts)
 
--- each accepted identity that is no repeat gives a record, whose serial number was given to nobody
--- before the run, which stands after it, and whose addresses are no other record's; no two give one
--- serial number of one issuer, or one address; and none gives what an import recorded
+-- Each accepted identity that is no repeat gives a record. Its serial number was given to nobody
+-- before the run, it stands after the run, and its addresses are no other record's. No two records
+-- have one serial number of one issuer, or one address. None has the serial number of one that an
+-- import recorded.
 pub record IssuesOnce (xs : List Exchange) (t t2 : Tables) : Type 0 where
   pub gifts : List (OfCustomer Given)
   pub shown : AreGifts (filter (is_new_identity t) (once xs)) gifts

@@ -54,7 +54,8 @@ AreSessions first (s ∷ ss) last = (site : Ownership)
     × AllByRecursion (IsSeat site) (calls_of s.exchanges) × IfSome s.cut_off (IsSeat site)
     × AreSessions site ss last
 
--- a request of the office was answered, and not with 503: no call before it stays in doubt
+-- A request of the office was answered, and not with 503: no call before it stays in doubt. What is
+-- refused as it came doesn't ask the keeper, and a report only reads, so neither of them counts.
 abbrev pub is_served : Exchange → Bool
 is_served x = is_request x.0.wanted && not (is_unavailable x.1.status)
 

@@ -17,11 +17,15 @@ ghost use Rattle.office_rules.specs.Prelude.{Step, map_named, office_sight, read
 ghost use Rattle.office_laws.specs.Prelude.{exchange_of_step, Grows, IssuesFresh, IsSound, MatchesWhereSeen, SeatStep, seen_with_batch, ShowAlike, solo};
 ghost use Rattle.office_laws.specs.Prelude.{StepsAlike, view};
 
-/// A step of a customer's seat, from sound tables, acts on the customer's view as the customer's own
-/// machine does, which knows of nobody else; it leaves each other customer's view; the tables stay
-/// sound; nothing that was known to be burnt is forgotten, an order stays but for its cursor, and what
-/// is given stays; and an identity gives what was nobody's. As the own machine is a function of the
-/// view, equal views give equal replies.
+/// What a step of a customer's seat does, from sound tables:
+///
+/// - `own`: it acts on the customer's view as the customer's own machine does, which knows of
+///   nobody else. As the own machine is a function of the view, equal views give equal replies.
+/// - `other`: it leaves each other customer's view.
+/// - `sound`: the tables stay sound.
+/// - `grows`: nothing that was known to be burnt is forgotten, an order stays but for its cursor,
+///   and what is given stays.
+/// - `fresh`: an identity gives what was nobody's.
 pub fn steps_are_the_customers_own()
     ensures own { (x : SeatStep) → solo x.section x.seat (view x.section.name x.old) x.request
         ≡ Some (x.reply, view x.section.name x.new) }
@@ -35,10 +39,11 @@ pub fn steps_are_the_customers_own()
         → PoolsDisjoint x.owners → IssuesFresh (exchange_of_step x) x.old x.new }
 {}
 
-/// A read-back of a device of sound tables, whose words fit its fuse map, matches exactly where the
-/// chip shows what it would with the whole batch burnt that is burnt next, and nothing else; and where
-/// one that is no repeat is answered 200, its reply tells a match exactly there. No premise says that
-/// the batch is readable: what is pending on a device of sound tables is.
+/// A read-back of a device of sound tables, whose words fit its fuse map, matches by what the chip
+/// shows. It does exactly where that is what the chip would show with the whole batch burnt that is
+/// burnt next, and nothing else (`verdict`). The reply to a read-back that is no repeat and is
+/// answered 200 tells a match exactly there (`reply`). No premise says that the batch is readable:
+/// what is pending on a device of sound tables is.
 pub fn a_batch_matches_where_it_is_seen()
     ensures verdict { (owners : Ownership) (t : Tables) (customer chip : List ℕ)
         (d : OfCustomer Device) (m : Map) (words : List (List ℕ))
@@ -50,8 +55,8 @@ pub fn a_batch_matches_where_it_is_seen()
 {}
 
 /// Over sound tables a seat is shown the record of each device of its customer's that has one, byte
-/// for byte what the identity was answered: an identity is answered by the record that stands then
-/// (`IssuesFresh`), and a record that stands goes on to (`Grows`).
+/// for byte what the identity was answered. An identity is answered by the record that stands then
+/// (`IssuesFresh`), and a record that stands stays (`Grows`).
 pub fn identities_are_shown()
     ensures { (owners : Ownership) (t : Tables) (s : Section) (seat chip : List ℕ)
         (g : OfCustomer Given) → IsSound owners t
@@ -73,10 +78,10 @@ pub fn always_a_step()
         → IsSound owners t → (reply : Answer) × (t2 : Tables) × Step s seat t r reply t2 }
 {}
 
-/// What the tables keep of a read-back is a function of what it shows and of the request's digest:
-/// registrations that differ in their words alone, of which both or none fit the device's map and
-/// show the same under it, have the same steps, and so have read-backs of a device that is there. A
-/// key counts by its SHA-256 alone.
+/// What the tables keep of a read-back is a function of what it shows and of the request's digest.
+/// Registrations that differ in their words alone have the same steps, where the words of both or
+/// of none fit the device's map, and show the same under it (`registration`). So have read-backs of
+/// a device that is there (`readback`). A key counts by its SHA-256 alone.
 pub fn only_the_redaction_is_kept()
     ensures registration { (s : Section) (seat : List ℕ) (t : Tables) (m : Map) (number : ℕ)
         (digest : List ℕ) (d : NewDevice) (blocks : List (List ℕ))

@@ -5,11 +5,11 @@ ghost use Rattle.office_tables.specs.declared.rows.Device.{Device};
 ghost use Rattle.office_rules.specs.Prelude.{devices_behind, next_page, on_page, page_limit};
 ghost use Rattle.office_laws.specs.Prelude.{by_text, on_pages};
 
-/// A client that asks for a page, and then for each page that is told as the next, gets each of the
-/// customer's devices once, in the order of their chips, and no other, while they stay: what a page
-/// leaves is what stands behind its end, and a page that tells no next one leaves nothing. The
-/// devices are in this order in tables that are in the order of their keys, as those of every keeper
-/// are.
+/// A client asks for a page, and then for each page that a reply names as the next. While the
+/// devices stay, it gets each of the customer's once, in the order of their chips, and no other
+/// (`all`). What a page leaves is what stands behind its end (`next`), and a page that names no
+/// next one leaves nothing (`last`). The devices are in this order in tables that are in the order
+/// of their keys, as those of every keeper are (`ascending`).
 pub fn pages_show_each_device_once()
     ensures ascending { (customer : List ℕ) (t : Tables) → AreAscendingByKey t
         → IsAscending (by_text (λ d. d.chip)) (rows_of customer t.devices) }

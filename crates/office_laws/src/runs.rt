@@ -11,9 +11,13 @@ ghost use Rattle.office_laws.specs.Prelude.{addresses_of, AreNotImported, AreSea
 ghost use Rattle.office_laws.specs.Prelude.{ActsOnce, AreSessions, EndAlike, IsInDoubt, IsLeft, IsStoppedRun, IssuesOnce, Leaves, Promises, refused, SeatRun};
 ghost use Rattle.office_laws.specs.Prelude.{Session, StartAlike};
 
-/// A run from sound tables: the tables stay sound, though the site grew; each customer's replies
-/// and rows are those of the customer's own machine, run on the customer's own calls alone; and
-/// nothing that was burnt is forgotten, an order stays but for its cursor, and what is given stays.
+/// What a run from sound tables does, though the site may grow on the way:
+///
+/// - `sound`: the tables stay sound.
+/// - `isolated`: each customer's replies and rows are those of the customer's own machine, run on
+///   the customer's own calls alone.
+/// - `grows`: nothing that was burnt is forgotten, an order stays but for its cursor, and what is
+///   given stays.
 pub fn runs_are_the_customers_own()
     ensures sound { (r : SeatRun) → IsSound r.last r.new }
     ensures isolated { (r : SeatRun) (customer : List ℕ)
@@ -21,9 +25,10 @@ pub fn runs_are_the_customers_own()
     ensures grows { (r : SeatRun) → Grows r.old r.new }
 {}
 
-/// In two runs, under whatever sites and with whatever other calls between, a customer whose rows
-/// are the same before and whose calls that weren't answered 503 are the same, by the same sections
-/// and seats, gets the same replies and has the same rows after.
+/// Two runs may be under whatever sites, and with whatever other calls between. Before both a
+/// customer has the same rows, and in both the customer's calls that weren't answered 503 are the
+/// same, by the same sections and seats (`StartAlike`). Then the customer gets the same replies to
+/// them in both, and has the same rows after (`EndAlike`).
 pub fn other_calls_make_no_difference()
     ensures { (customer : List ℕ) (r other : SeatRun)
         → StartAlike customer r other → EndAlike customer r other }
@@ -35,10 +40,11 @@ pub fn repeats_act_once()
     ensures { (r : SeatRun) (customer : List ℕ) → ActsOnce customer r.exchanges r.old r.new }
 {}
 
-/// Over a run from sound tables, each accepted identity that is no repeat gives a record, whose
-/// serial number was given to nobody before and whose addresses are no other record's; no two give
-/// the same; and none gives what an import recorded, nor what one has recorded at any moment of the
-/// run. The addresses of a record are the same at each moment, from when it was given on.
+/// Over a run from sound tables, each accepted identity that is no repeat gives a record. Its
+/// serial number was given to nobody before, and its addresses are no other record's. No two of
+/// these identities give the same (`given`). None gives what an import recorded, nor what one has
+/// recorded at any moment of the run (`imported`). The addresses of a record are the same at each
+/// moment, from when it was given on (`addresses`).
 pub fn identities_give_once()
     ensures given { (r : SeatRun) → IssuesOnce r.exchanges r.old r.new }
     ensures imported { (r : SeatRun) (front back : List Exchange) (middle : Tables)
@@ -50,8 +56,8 @@ pub fn identities_give_once()
         → addresses_of r.new g ≡ addresses_of middle g }
 {}
 
-/// Any calls have a run: from sound tables, where the calls are those of seats of a site, which may
-/// grow between them, one in which each is answered, and none with 503, but what was refused with it
+/// Any calls have a run from sound tables, where they are calls of seats of a site, which may grow
+/// between them. In this run each call is answered, and none with 503, but what was refused with it
 /// as it came.
 pub fn runs_exist()
     ensures { (first last : Ownership) (cs : List Call) (t : Tables)
@@ -65,11 +71,11 @@ pub fn runs_keep_the_promises()
     ensures { (r : SeatRun) → Promises r.last r.exchanges r.old r.new }
 {}
 
-/// A run with stops, where at each stop stand the tables of the run so far, or those after one step
-/// more of a request that the stop cut off or that was answered 503 since the stop before, is one
-/// run: that of all exchanges, with each such step at its place, as if it had been answered. So all
-/// that is promised of a run is promised of it. And what a crash may leave after the exchanges of a
-/// session is what a stop may leave there.
+/// A run with stops is one run. At each stop stand the tables of the run so far, or those after one
+/// step more, of a request that the stop cut off or that was answered 503 since the stop before.
+/// The one run is that of all exchanges, with each such step at its place, as if it had been
+/// answered (`run`). So all that is promised of a run is promised of it (`promises`). What a crash
+/// may leave after the exchanges of a session is what a stop may leave there (`crash`).
 pub fn stopped_runs_are_runs()
     ensures run { (ss : List Session) (all : List Exchange) (t t2 : Tables)
         → IsStoppedRun ss all t t2 → IsRun all t t2 }

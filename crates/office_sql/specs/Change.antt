@@ -53,7 +53,8 @@ abbrev pub Remakes : OfficeTable → (Row → Bool) → (Row → Row) → Databa
 Remakes table test columns old new =
     (r : Row) × (id : ℤ) × (filter test (rows_in old.trees table) ≡ r ∷ []) × (rowid r ≡ Int id) × Replaces table id (columns r) old new
 
--- what becomes of the rows by a write: their columns, to the byte
+-- What becomes of the rows by a write: their columns, to the byte. Table `meta` is as it was, also
+-- in whatever a crash leaves (`LeavesMade`).
 abbrev pub WritesRows : Write → Database → Database → Type 0
 WritesRows (PutSeat s) old new =
     SqlAdds seats (seat_columns s) old new ⊎ Remakes seats (λ r. is_seat s.row.name (seat_in_row r)) (λ _. seat_columns s) old new

@@ -46,8 +46,9 @@ IsSpared image left =
 abbrev pub IsSameOrPrepared : TextOfSite → OpenFault → Trees → Trees → Type 0
 IsSameOrPrepared site fault was now = (now ≡ was) ⊎ ((fault ≡ Failed) × IsPreparedFrom site was now)
 
--- what may be left of files whose connection was turned away: the database that they held or, where the
--- store failed, what the one transaction makes of it; and who opens it finds the tables that they held
+-- What may be left of files whose connection was turned away: the database that they held or, where
+-- the store failed, what the one transaction makes of it. Who opens it finds the tables that they
+-- held.
 pub record IsKept (image : Image) (site : TextOfSite) (fault : OpenFault) (left : Image) : Type 0 where
   pub database : FilesHeld image (λ was.
       ∥ ((now : Trees) × HoldsDatabase left now × IsSameOrPrepared site fault was now) ∥₁)
@@ -59,8 +60,8 @@ IsDatabaseThat Says db =
     (schema : Schema) × HasSchema schema db × Says (record { schema = schema; trees = db })
 
 -- Why a connection is turned away, by what the files held. The fault of another site comes with a store
--- of another site alone; that of other tables with other tables alone, or with no store where none is
--- to be made, and always with another schema, or with no store then.
+-- of another site alone. That of other tables comes with other tables alone, or with no store where
+-- none is to be made. It comes always with another schema, and always with no store then.
 pub record IsToldFor (image : Image) (absent : Absent) (site : TextOfSite) (fault : OpenFault) : Type 0 where
   pub other_site : fault ≡ OtherSite → FilesHeld image (IsDatabaseThat (IsOfOtherSite site))
   pub other_tables : fault ≡ OtherTables → FilesHeld image (IsDatabaseThat (λ db.

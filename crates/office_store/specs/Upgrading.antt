@@ -26,8 +26,9 @@ pub record GainsText (old new : Database) : Type 0 where
   pub none : rows_in new.trees site_texts ≡ []
   pub others : KeepsRows (schema_of V2).tables old.trees new.trees
 
--- what a database of an earlier version lacks is there, but the site's text: each row stands, the
--- tables say what they said, and all is as the office has it
+-- What a database of an earlier version lacks is there, but the site's text: each row stands, the
+-- tables say what they said, and all is as the office has it. The clauses on rows are the same for
+-- each schema version.
 pub record IsFilled (version : Version) (old new : Database) : Type 0 where
   pub office : IsOffice new
   pub tables : tables_in new.trees ≡ tables_in old.trees
@@ -52,8 +53,8 @@ pub record TellsV3 (old new : Database) : Type 0 where
 abbrev pub TellsItself : Version → Trees → Type 0
 TellsItself version db = (site : List ℕ) × HasMeta version site db
 
--- each row but that of meta stands, and the tables say what they said; the third version is told of
--- the same site, of which the text is held; and all is as the office has it
+-- Each row but that of meta stands, and the tables say what they said. The third version is told of
+-- the same site, of which the text is held. All is as the office has it.
 pub record IsUpgrade (version : Version) (text : List ℕ) (old : Trees) (new : Database) : Type 0 where
   pub rows : (table : OfficeTable) → place_of table < count_of version → table ≢ meta
       → rows_in new.trees table ≡ rows_in old table

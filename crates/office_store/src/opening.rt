@@ -107,19 +107,22 @@ fn close<D: Disk + Drop>(conn: Connection<FileStore<D>>) -> Files<D>
 /// Opens the store of a site: the database in the file at this path, with the log beside it in
 /// `<path>-wal`. Where there are no such files it makes them. An empty database gets the tables of
 /// the office and the site's text. One of an earlier version must be of this text, and gets what it
-/// lacks; one of this version holds the text of a site of which this one must be a growth, and then
+/// lacks. One of this version holds the text of a site of which this one must be a growth, and then
 /// holds this text. Where there is no store, `absent` says whether one is made.
-/// `start` stands for what the files held before, of which the clauses speak, and says how a crash
-/// is read: a program passes `Unknown`, which supposes that a torn write leaves each byte old or
-/// new, or `Wary`, which supposes less.
+///
+/// `start` stands for what the files held before, of which the clauses speak. It also says how a
+/// crash is read. A program passes `Unknown`, which supposes that a torn write leaves each byte old
+/// or new, or `Wary`, which supposes less.
 ///
 /// # Errors
 ///
-/// `OtherSite` where the database is another site's, `OtherTables` where its tables aren't the
-/// office's, or where there is no store and none is to be made, and `Failed` where a file can't be
-/// opened, read or written, where the path is empty, is `:memory:` or begins with `file:`, and where
-/// there is no memory. The files come back closed, where they were opened, and hold each row that
-/// was committed.
+/// - `OtherSite` where the database is another site's.
+/// - `OtherTables` where its tables aren't the office's, or where there is no store and none is to
+///   be made.
+/// - `Failed` where a file can't be opened, read or written, where the path is empty, is `:memory:`
+///   or begins with `file:`, and where there is no memory.
+///
+/// The files come back closed, where they were opened, and hold each row that was committed.
 pub fn open_or_hand_back<S: Start>(
     rt: &HostRuntime,
     alloc: Global,

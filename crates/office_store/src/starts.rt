@@ -11,8 +11,8 @@ ghost use Rattle.office_store.specs.Prelude.{TakesGrowth};
 
 use sqlite::Alter;
 
-/// A store that was opened tells of the text of its site: where a crash leaves nothing but what it shows,
-/// and that holds the text and is of the site, as `open` and `adopt` say of it, whatever a crash leaves
+/// A store that was opened tells of the text of its site. Of it `open` and `adopt` say that a crash leaves
+/// nothing but what it shows, and that this holds the text and is of the site. So whatever a crash leaves
 /// tells of the text.
 pub fn opened_stores_tell_their_text<S: Alter>()
     ensures { (conn : Held S) (site : TextOfSite)
@@ -22,9 +22,10 @@ pub fn opened_stores_tell_their_text<S: Alter>()
         → tells_text_at S.Store conn site.text }
 {}
 
-/// The site of a start grew from that of the start before it. Where files are left with a database that
-/// tells of the text of the one (`told` of `into_store`), and an opening of these files takes the other
-/// for a growth of what they tell of (`grown` of an opening), the other is a growth of the one.
+/// The site of a start grew from that of the start before it. Files are left with a database that
+/// tells of the text of the one (`told` of `into_store`). Where an opening of these files takes the
+/// other for a growth of what they tell of (`grown` of an opening), the other is a growth of the
+/// one.
 pub fn later_sites_are_growths()
     ensures { (left : Image) (db : Trees) (before after : TextOfSite)
         → IsSiteText before.text before.site

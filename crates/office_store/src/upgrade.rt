@@ -117,9 +117,9 @@ fn change_all<S: Alter>(
     tell_schema(tx)
 }
 
-/// Makes the tables that a store of an earlier version lacks, tells of each order and record of the
-/// first that it has no beginning of validity, holds the text of the site, and tells the third
-/// version, all in one transaction.
+/// Upgrades a store of an earlier version, all in one transaction. It makes the tables that the
+/// store lacks, and tells of each order and record of the first version that it has no beginning of
+/// validity. It holds the text of the site, and tells the third version.
 pub fn upgrade_tables<S: Alter>(
     conn: &mut Connection<S>,
     text: &str,

@@ -8,9 +8,14 @@ use Rattle.office_tables.specs.declared.rows.DeviceState.TheVariants.{Registered
 use Rattle.office_tables.specs.declared.rows.DeviceState.TheVariants.{Scrapped}
 use Rattle.office_tables.specs.declared.rows.Reason.{Reason}
 
--- what there is to know of a state: its place among all, its text in replies and in tables, why a device in it is quarantined, whether it has left
--- its order, so that it takes no place of it, whether it may have a serial number, which batches may still be to be burnt, and in which column of
--- states a report counts it
+-- What there is to know of a state, by these fields:
+-- - `number`: its place among all.
+-- - `text`: its text in replies and in tables. A text is read back by a walk over `plain_states`.
+-- - `reason`: why a device in it is quarantined.
+-- - `is_given_up`: whether a device in it has left its order, so that it takes no place of it.
+-- - `may_have_serial`: whether a device in it may have a serial number.
+-- - `pending`: which batches may still be to be burnt.
+-- - `column`: in which column of states a report counts it.
 pub record StateRow : Type 0 where
   pub number : ℕ
   pub text : List ℕ

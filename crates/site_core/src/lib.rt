@@ -1,9 +1,9 @@
 //! The customers that one server serves: their issuers, pools and seats, as a text gives them.
 //!
-//! `read_site` gives the site of a text, or the lowest of the faults 1 to 6, or want of memory: it
-//! accepts exactly the texts of valid sites (`exact`, `valid`, `refused`), and tells a text over
-//! its limit by its fault, never by want of memory (`too_long`). The fault of a text with all its
-//! members is that of a broken rule, and no rule with a lower number is broken (`lowest`). A
+//! `read_site` gives the site of a text, or the lowest of the faults 1 to 6, or says that memory
+//! ran out. It accepts exactly the texts of valid sites (`exact`, `valid`, `refused`). A text over
+//! its limit gets its fault, and never want of memory (`too_long`). The fault of a text with all
+//! its members is that of a broken rule, and no rule with a lower number is broken (`lowest`). A
 //! `SiteText` is a text with its site and its SHA-256; `read_site_text` answers as `read_site`
 //! does.
 //!
@@ -12,11 +12,12 @@
 //! (`sections_are_the_customers_own`). `Site::who` names the caller whose token has the same
 //! SHA-256, a seat or the manager, and none else, without memory.
 //!
-//! `Site::is_growth` is true exactly where the new site keeps each customer's name, issuers, seats
-//! with their tokens and pools, these in front of any others, and the manager's token (`IsGrowth`),
-//! without memory. Whose a customer, an issuer, a seat and a block of addresses are stays so in a
-//! growth (`owners_grow_with_a_site`). A site is a growth of itself, and a growth of a growth is
-//! one of the first (`growth_is_a_preorder`).
+//! `Site::is_growth` is true exactly where the new site grew from the old one (`IsGrowth`), and
+//! takes no memory. The new site keeps each customer's name, issuers and seats with their tokens,
+//! the customer's pools in front of any others, and the manager's token. Whose a customer, an
+//! issuer, a seat and a block of addresses are stays so in a growth (`owners_grow_with_a_site`). A
+//! site is a growth of itself, and a growth of a growth is one of the first
+//! (`growth_is_a_preorder`).
 #![tactic(auto)]
 
 mod customer;

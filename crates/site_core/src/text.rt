@@ -24,12 +24,20 @@ use toml::Value;
 /// The most bytes of a site's text: 2^20.
 pub const TEXT_LIMIT: usize = 1048576;
 
-/// Reads the site that a text is, or tells the lowest of its faults. The text is a TOML document:
-/// an array of tables `customer`, each with its `name`, an array of names `issuer`, and, where it
-/// has them, arrays of tables `pool` (`first`, twelve lowercase hexadecimal digits, and `count`, 1
-/// to 16777216) and `seat` (`name`, and `token`, the SHA-256 of the bearer token in hexadecimal
-/// digits); and a table `manager` with a `token`, where there is a manager. Other members are
-/// ignored. `SiteFault::OutOfMemory` where memory ran out, whatever the text up to its limit.
+/// Reads the site that a text is, or gives the lowest of its faults.
+/// `SiteFault::OutOfMemory` where memory ran out, whatever the text up to its limit.
+///
+/// The text is a TOML document with these members; others are ignored:
+///
+/// - an array of tables `customer`, each with its `name` and an array of names `issuer`;
+/// - a table `manager` with a `token`, where there is a manager.
+///
+/// Where a customer has them, its table also has these:
+///
+/// - an array of tables `pool`, each with `first`, twelve lowercase hexadecimal digits, and `count`,
+///   1 to 16777216;
+/// - an array of tables `seat`, each with its `name` and `token`, the SHA-256 of the bearer token in
+///   hexadecimal digits.
 pub fn read_site(alloc: Global, text: &str) -> Result<Site, SiteFault>
     ensures exact { GivesUnless SiteFault.OutOfMemory result (site_read text.now) }
     ensures valid { IfOk result (IsSiteText text.now) }

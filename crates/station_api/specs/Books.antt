@@ -14,10 +14,9 @@ use Rattle.office_core.specs.Prelude.{Answered}
 use Rattle.station_api.specs.HttpAnswers.{AnswersHttp, AreSaid}
 use Rattle.station_api.specs.SectionExchanges.{exchanges_with_seats, section_exchanges}
 
--- All is kept that is promised of a run. Each customer's own exchanges among those with the site's
--- seats are the ones that the customer's section alone tells; so the replies in them, and the
--- customer's rows, are those of the customer's own machine, run on the calls of these exchanges
--- alone
+-- All is kept that is promised of a run. The customer's section alone decides which of the
+-- exchanges with the site's seats are a customer's own. So the replies in them, and the customer's
+-- rows, are those of the customer's own machine, run on the calls of these exchanges alone
 pub record StreamKeepsPromises (site : SiteValue) (t : Tables) (exchanges : List (HttpRequest × Answer)) (t2 : Tables) : Type 0 where
   pub promises : Promises (ownership_of site) (exchanges_with_seats site exchanges) t t2
   pub own : (place : ℕ) → place < length site.customers
@@ -26,9 +25,10 @@ pub record StreamKeepsPromises (site : SiteValue) (t : Tables) (exchanges : List
   pub isolated : (place : ℕ) → place < length site.customers
       → IsAsAlone (section_in site.customers place).name (section_exchanges (section_in site.customers place) exchanges) t t2
 
--- these exchanges lead from the tables that stood to those that stand: those with seats are a run, a
--- crash leaves what a stop may leave after them, each is of a seat of the site, whose customers are
--- apart; and from tables that are sound for the site, or for one that it grew from, the books are kept
+-- These exchanges lead from the tables before them to the tables after them. Those with seats are a
+-- run, each of a seat of the site, whose customers are apart, and a crash leaves what a stop may
+-- leave after them. From tables that are sound for the site, or for one that it grew from, the
+-- books are kept
 pub record IsLed {K : Type 0} (k : Ghosts K) (site : SiteValue) (old new : K) (exchanges : List (HttpRequest × Answer)) (t t2 : Tables) : Type 0 where
   pub run : Runs (AnswersHttp site) t exchanges t2
   pub answered : Answered k old new (exchanges_with_seats site exchanges) t t2

@@ -11,10 +11,10 @@ use Rattle.station_api.specs.Books.{Leads}
 use Rattle.station_api.specs.HttpAnswers.{AnswersHttp}
 use Rattle.station_api.specs.SectionExchanges.{exchanges_with_seats}
 
--- A store in one start of the program, from its opening to the end: it was opened for a site on these
--- tables, and a crash could leave nothing else then; and what was asked for, with the replies, leads
--- on from there. A request that the end cut off in its middle is one whose calls of the disk failed
--- from then on: it was answered 503, to nobody, and stands among the exchanges
+-- A store in one start of the program, from its opening to the end. It was opened for a site on
+-- these tables, and a crash could leave nothing else then. What was asked for, with the replies,
+-- leads on from there. A request that the end cut off in its middle is one whose calls of the disk
+-- failed from then on: it was answered 503, to nobody, and is among the exchanges
 pub record ServedStore {K : Type 0} (k : Ghosts K) : Type 0 where
   pub site : SiteValue
   pub begun : Tables
@@ -25,9 +25,9 @@ pub record ServedStore {K : Type 0} (k : Ghosts K) : Type 0 where
   pub fresh : (other : Tables) → k.may_leave opened other → other ≡ begun
   pub leads : Leads k site opened ended exchanges
 
--- What a start comes to, whatever kept the tables: from those that it began with the requests were
--- answered in turn, until these stood; and its end left these, or the tables after one step more, of
--- a request that was answered 503 since the last one that wasn't
+-- One start of the program, whatever kept the tables. From the tables that it began with the
+-- requests were answered in turn, and led to the tables at its end. The end left these, or the
+-- tables after one step more, of a request that was answered 503 since the last one that wasn't
 pub record Life : Type 0 where
   pub site : SiteValue
   pub begun : Tables

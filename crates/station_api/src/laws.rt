@@ -14,15 +14,16 @@ use office_core::Keep;
 /// Requests that are answered in turn, from tables that are sound for the site or for one that it
 /// grew from, keep the books: all that is promised of a run holds of their exchanges with the site's
 /// seats. Each customer's own exchanges are those whose requests carry the token of one of the
-/// customer's seats, but for those answered 503; the replies in them and the customer's rows are
+/// customer's seats, but for those answered 503. The replies in them and the customer's rows are
 /// those of the customer's own machine, run on them alone.
 pub fn requests_keep_the_books()
     ensures { (r : SiteRun) → StreamKeepsPromises r.site r.old r.exchanges r.new }
 {}
 
-/// Under two sites with the same section of a customer, from tables in which the customer's rows are
-/// the same, with the same own calls that weren't answered 503, the customer gets the same replies
-/// and has the same rows after, whatever else was asked for.
+/// What others ask for makes no difference to a customer. Take two sites with the same section of
+/// the customer, tables with the same rows of the customer's, and the same own calls that weren't
+/// answered 503. Under both the customer gets the same replies and has the same rows after, whatever
+/// else was asked for.
 pub fn other_requests_make_no_difference()
     ensures { (section : Section) (r other : SiteRun)
         → HasSection r.site section → HasSection other.site section
@@ -38,11 +39,11 @@ pub fn requests_have_answers()
 {}
 
 /// A store that is served over has a life, however the program ends. Stopped in the middle of a
-/// request, killed or crashed, it leaves what a crash may leave of it then: the tables that stood, or
-/// those after one step more, of a request that was answered 503 since the last one that wasn't. Where
-/// the store is open when the program ends, as it is when it ends properly, the tables that stand are
-/// left, and no step is in doubt. What is left tells of the text of the site that the store told of
-/// when it was opened.
+/// request, killed or crashed, it leaves what a crash may leave of it then. These are the tables at
+/// the end, or those after one step more, of a request that was answered 503 since the last one that
+/// wasn't. Where the store is open when the program ends, as it is when it ends properly, its tables
+/// are left, and no step is in doubt. What is left tells the text of the site that the store told when
+/// it was opened.
 pub fn served_stores_have_lives<K: Keep>()
     ensures stopped { (s : ServedStore K.Keep) (left : Tables)
         → K.is_honest s.ended → K.may_leave s.ended left

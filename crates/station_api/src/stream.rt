@@ -13,18 +13,24 @@ use std::alloc::Global;
 /// Serves a stream until it ends, and answers how it did. It takes memory once for its buffer,
 /// before the first read, and none from a commit until that reply is written.
 ///
-/// The stream is cut into exchanges, of requests and of refused heads, where the reader and the
-/// writer tell their bytes: what was written is the bytes of their replies, all of them where the
-/// stream ended, was closed or was cut. Whatever the store does, a request without a known token gets
-/// 401, and one that is refused as it came gets its refusal or 503.
+/// Where the reader and the writer tell their bytes, the stream is cut into exchanges, of requests
+/// and of refused heads. What was written is the bytes of their replies, all of them where the stream
+/// ended, was closed or was cut. Whatever the store does, a request without a known token gets 401,
+/// and one that is refused as it came gets its refusal or 503.
 ///
 /// Where the store's disk is honest, each request is answered by a step of the office, by a report or
-/// by 503 with the tables as they were; the tables are those after these steps; and a crash leaves
-/// them, or those after one step more, of a request that was answered 503 since a request of the
-/// office was last answered otherwise. From tables that are sound for the site, or for one that it
-/// grew from, the tables stay sound; each customer's replies and rows are those of the customer's own
-/// machine, run on the customer's own requests alone; nothing that was burnt is forgotten, and what
-/// is given stays; no identity gives what another gave; and a request that comes again acts once.
+/// by 503 with the tables as they were. The tables are those after these steps. A crash leaves them,
+/// or those after one step more, of a request that was answered 503 since a request of the office was
+/// last answered otherwise.
+///
+/// From tables that are sound for the site, or for one that it grew from:
+///
+/// - The tables stay sound.
+/// - Each customer's replies and rows are those of the customer's own machine, run on the customer's
+///   own requests alone.
+/// - Nothing that was burnt is forgotten, and what is given stays.
+/// - No identity gives what another gave.
+/// - A request that comes again acts once.
 pub fn serve_stream<K: Keep, R: Source, W: Drain>(
     alloc: Global,
     keep: &mut K,

@@ -2,43 +2,50 @@
 //! over a reader and two writers, or over a port.
 //!
 //! `read_job` answers the job that the words give by `clap`'s meaning, and the line of the version
-//! where they ask for it; `run` ends with 0 where the job is done, of which its output says what that
-//! is (`IsDone`), and writes nothing on the error output; or with 1, and writes there the line of a
-//! failure that its job may have, as far as it can be written (`ends`).
+//! where they ask for it. `run` ends with 0 where the job is done, of which its output says what that
+//! is (`IsDone`), and then writes nothing on the error output. Else it ends with 1, and writes there
+//! the line of a failure that its job may have, as far as it can be written (`ends`).
+//!
 //! The bytes of a site file lead to the site or to the failure that its fault is
 //! (`site_text_of_bytes`), and each failure has its line (`Failure`) and status 1. A file that
-//! describes no site is the failure whatever the store and the stream are (`replay`,
-//! `replay_stored`, `serve_site`). `check-map` prints the name of the map in a file, and how many
-//! blocks and fields it has. `report` has help and the version on the output alone, and nothing
-//! else there.
+//! describes no site is the failure whatever the store and the stream are (`replay`, `replay_stored`,
+//! `serve_site`). `check-map` prints the name of the map in a file, and how many blocks and fields it
+//! has. `report` has help and the version on the output alone, and nothing else there.
 //!
-//! `replay` (a stream over a keeper without rows) comes to what `serve_stream` says of the bytes and
-//! the tables (`served`), and answers how the stream ended. It stays within the stream's calls, and
-//! nothing is read or written before the site is known (`within`). What an end says is told once:
-//! nothing where the stream ended, was closed or was cut, else the failure (`result_of_stream`); so
-//! `run` ends with 0 only where the stream ended so (`EndsStream`).
+//! `replay` serves a stream over a keeper without rows. It does what `serve_stream` says of the bytes
+//! and the tables (`served`), and answers how the stream ended. It stays within the stream's calls,
+//! and nothing is read or written before the site is known (`within`). One function gives what an end
+//! is reported as: nothing where the stream ended, was closed or was cut, else the failure
+//! (`result_of_stream`). So `run` ends with 0 only where the stream ended so (`EndsStream`).
 //!
 //! A job over the store in a file hands back what it left of the files (`Done`), and `books` of
-//! `replay_stored` and of `serve_site` is said of these. Either the store was refused: then the
-//! failure is its fault, and what comes back is as `open_or_hand_back` says. Or a keeper was as its
-//! opening says, requests led on from its tables, and what comes back is what the keeper left
-//! (`IsServedOver`). For `replay_stored` these are the requests of the stream, with its bytes and
-//! how it ended. The store that either serves over has the limit of steps (what `serve_port` and
-//! `replay_over` require), and the port the program's bounds too; what the files held before has a
-//! name in all of these, which `main` alone fills.
+//! `replay_stored` and of `serve_site` is said of these. There are two cases:
 //!
-//! The job `serve` prints its line once the port is listened on, and nothing before; and as many
-//! connections were given to be served as it was asked for (`counted`: of a `ConnectionCount`, which
-//! nothing makes but the count of those that a listener gave). Whatever the connections say, the
-//! tables that stood lead to those that stand by one run of answers to requests of the site's
-//! callers, with all that `serve_stream` says of one stream, crashes included; a keeper whose disk
-//! is honest at the end was so at the start (`serve_connections`, over any keeper, listener and
-//! clock); it fails only where waiting for a connection does. So a store that `serve_site` opened,
-//! served over and left comes to a life that begins with the tables of its file and leaves what is
-//! found in the files that come back (`served_files_have_lives`); and a start that opens these is of
-//! a site that grew from this one (`later_starts_are_of_growths`).
+//! - The store was refused. Then the failure is its fault, and what comes back is as
+//!   `open_or_hand_back` says.
+//! - A keeper was as its opening says, requests led on from its tables, and what comes back is what
+//!   the keeper left (`IsServedOver`). For `replay_stored` these are the requests of the stream, with
+//!   its bytes and how it ended.
 //!
-//! A connection's two directions are served apart (`Duplex`), and tell what their streams tell: where
+//! The store that either serves over has the limit of steps (what `serve_port` and `replay_over`
+//! require), and the port the program's bounds too. What the files held before has a name in all of
+//! these, which `main` alone fills.
+//!
+//! The job `serve` prints its line once the port is listened on, and nothing before. Where it is done,
+//! as many connections were given to be served as it was asked for (`counted`). Its answer is a
+//! `ConnectionCount`, which nothing makes but the count of those that a listener gave.
+//!
+//! Whatever the connections say, one run of answers to requests of the site's callers leads from the
+//! tables before to the tables after (`serve_connections`, over any keeper, listener and clock). All
+//! that `serve_stream` says of one stream's requests holds of this run, crashes included. A keeper
+//! whose disk is honest at the end was so at the start. `serve_connections` fails only where waiting
+//! for a connection does.
+//!
+//! So a store that `serve_site` opened, served over and left has a life (`served_files_have_lives`).
+//! The life begins with the tables of its file, and leaves what is found in the files that come back.
+//! A start that opens these is of a site that grew from this one (`later_starts_are_of_growths`).
+//!
+//! A connection's two directions are served apart (`Duplex`), and tell what their streams tell. Where
 //! these tell their bytes, what was sent begins with the requests that were answered, and what the
 //! client got is their replies (`told` of `serve_client`). When a client is waited for no longer is
 //! one function of moments (`is_over`, `is_untaken`), and so is when its turn is over whose next
@@ -49,10 +56,13 @@
 //! empty database (`make_store_file`). No clause says what the system's calls do; the clauses over a
 //! store's files begin where it is opened, by what the file holds then.
 //!
-//! Not said: that each connection that was given is served and not dropped, and when (tests show
-//! both, over simulated clients), what bytes a socket gets (std's tell none), that the port is of
-//! this machine alone (a test connects to it by another address), and what `run` does with the files
-//! behind these calls: it closes them.
+//! No clause says these:
+//!
+//! - That each connection that was given is served and not dropped, and when. Tests show both, over
+//!   simulated clients.
+//! - What bytes a socket gets: std's tell none.
+//! - That the port is of this machine alone. A test connects to it by another address.
+//! - What `run` does with the files behind these calls: it closes them.
 #![tactic(auto)]
 
 mod accepting;

@@ -14,10 +14,9 @@ use sqlite::{FileFrom, FileStore};
 use sqlite_disk::Start;
 use station_api::served_stores_have_lives;
 
-/// A store in a file that was opened for a site, and over which connections were served, as `serve_site`
-/// says of it (`books`), has a life: one that begins with the tables that the file held, has the
-/// exchanges that were led on by, and leaves any tables that whoever opens the files that came back may
-/// find.
+/// A store in a file that `serve_site` opened for a site, and served connections over (`books`), has a
+/// life. The life begins with the tables that the file held, and has the exchanges that led on from
+/// them. It leaves any tables that whoever opens the files that came back may find.
 pub fn served_files_have_lives<S: Start>()
     ensures { (site : TextOfSite) (absent : Absent) (files : _) (tables : Tables)
         (served : IsServedOver site (image_at S.Start) absent
@@ -29,10 +28,11 @@ pub fn served_files_have_lives<S: Start>()
     served_stores_have_lives::<SqlKeep<FileStore<FileFrom<S>>>>();
 }
 
-/// The site of a start grew from that of the start before it: where the files that came back of the one,
-/// as `serve_site` says of it (`books`), are opened for another site, and that takes what they tell of for
-/// a site that it grew from (`grown` of an opening), the other site is a growth of the one. So the sites of
-/// the program's starts over one store are each a growth of the one before, as `lives_are_one_run` asks.
+/// The site of a start grew from that of the start before it. The files that came back of one start, as
+/// `serve_site` says of it (`books`), are opened for another site. Where the opening takes the site that
+/// they tell for one that the other grew from (`grown` of an opening), the other site is a growth of the
+/// first start's. So the sites of the program's starts over one store are each a growth of the one
+/// before, as `lives_are_one_run` asks.
 pub fn later_starts_are_of_growths<S: Start>()
     ensures { (site next : TextOfSite) (absent : Absent) (files : _)
         → IsServedOver site (image_at S.Start) absent

@@ -133,8 +133,8 @@ fn is_out_of_time(bounds: &Bounds, wait: &Wait, now: Instant) -> bool
 }
 
 /// Whether the turn of a connection is over whose next request was read already, so that its client
-/// is waited for no more: another one waits, and has waited for its turn, or the connection has lasted
-/// too long for it.
+/// is waited for no more. It is over where another connection waits, and has waited for its turn. It
+/// is also over where another waits, and this connection has lasted too long for it.
 pub fn is_turn_over(bounds: &Bounds, wait: &Wait, now: Instant) -> bool
     ensures { IsTrue result ↔ IsTurnOver bounds.now wait.now now }
 {

@@ -18,10 +18,13 @@ const OWNER_ALONE: u32 = 0o600;
 ///
 /// # Errors
 ///
-/// A call of the system fails, as on a full disk or in a folder that can't be written; another process makes the
-/// store at the same time; a log with something in it lies beside the place, as of a store whose file was lost;
-/// `<path>-new` is there and is nothing that a crash left; or memory runs out. No file is at `path` then, unless
-/// another process made it, or the folder alone failed to sync.
+/// - A call of the system fails, as on a full disk or in a folder that can't be written.
+/// - Another process makes the store at the same time.
+/// - A log with something in it lies beside the place, as of a store whose file was lost.
+/// - `<path>-new` is there and is nothing that a crash left.
+/// - Memory runs out.
+///
+/// No file is at `path` then, unless another process made it, or the folder alone failed to sync.
 pub fn make_store_file(rt: &HostRuntime, alloc: Global, path: &str) -> io::Result<()> {
     let names_no_file = path.is_empty() || path == ":memory:" || path.starts_with("file:");
     if names_no_file || is_there(rt, path)? {

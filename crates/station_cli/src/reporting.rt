@@ -8,9 +8,9 @@ use crate::job::WordsFault;
 use std::io;
 use std::io::Write;
 
-/// Prints why there is no job, help or the version on the output and the rest on `err`, and answers
-/// the status that the program ends with: 0 for help or the version that was printed, 2 for words
-/// that are refused, else 1. A text on `err` that can't be written is passed over.
+/// Prints why there is no job: help or the version on the output, and the rest on `err`. A text on
+/// `err` that can't be written is passed over. The answer is the status that the program ends with: 0
+/// for help or the version that was printed, 2 for words that are refused, else 1.
 pub fn report<W: Write, E: Write>(fault: &WordsFault, output: &mut W, err: &mut E) -> u8
     ensures status { HasStatus fault.now result }
     ensures printed { IsReported fault.now result (W.contents output.old) (W.contents output.new)

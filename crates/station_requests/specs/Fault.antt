@@ -5,7 +5,8 @@ use Rattle.office_commands.specs.declared.refusal.Refusal.TheVariants as refusal
 use Rattle.station_requests.specs.declared.fault.MemberFault.{MemberFault}
 use Rattle.station_requests.specs.declared.fault.MemberFault.TheVariants.{BadMember, OutOfMemory}
 
--- a reader gives what is to be read, and `BadMember` where there is nothing to be read; it may run out of memory instead
+-- The value is what the definition reads, and the fault is `BadMember` where it reads nothing.
+-- Memory may run out in place of either
 abbrev pub ReadsAs : {T : Type 0} → Result T MemberFault → Option T → Type 0
 ReadsAs (Ok found) wanted = Some found ≡ wanted
 ReadsAs (Err fault) wanted = (None ≡ wanted) ⊎ (fault ≡ OutOfMemory)

@@ -1,15 +1,20 @@
-//! Tests a database that was found: whether it is one of the office's, of which version, and what
-//! it tells of its site.
+//! Tests a database that was found: whether it is one of the office's, of which version, and what it
+//! says of its site.
 //!
-//! `version_of` tells the version whose schema a database has, column by column, and none where it
+//! `version_of` gives the version whose schema a database has, column by column, and none where it
 //! has that of no version (exact); `is_empty_schema` whether it has none.
 //!
-//! Each other call asks an open connection, and answers of all rows: whether no number is below
-//! zero (`has_whole_numbers`), whether each order and each record has its beginning of validity
-//! told (`has_validity_rows`), whether no two records have one address (`has_apart_addresses`), the
-//! one row of `meta` (`meta_row`), that with the rows of `site_text` (`told_rows`), of which `only_text`
-//! is the text, and whether the store holds a text (`has_site_text`). It changes nothing, and a crash
-//! leaves what it left before (`Tests`).
+//! Each other call asks an open connection, and answers of all rows:
+//!
+//! - whether no number is below zero (`has_whole_numbers`);
+//! - whether each order and each record has a row with its beginning of validity
+//!   (`has_validity_rows`);
+//! - whether no two records have one address (`has_apart_addresses`);
+//! - the one row of `meta` (`meta_row`);
+//! - that row with the rows of `site_text` (`told_rows`), of which `only_text` is the text;
+//! - whether the store holds a text (`has_site_text`).
+//!
+//! Each call changes nothing, and a crash leaves what it left before (`Tests`).
 #![tactic(auto)]
 
 mod addresses;

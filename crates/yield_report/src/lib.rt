@@ -3,10 +3,14 @@
 //!
 //! `order_report` and `site_report` give the text of the definition, with each count exact and none
 //! past 9223372036854775807, or Unkept. They read only, over any keeper, and ask nothing of the
-//! tables. When Unkept comes is in no clause of theirs (it is want of memory, a keeper's fault, two
-//! orders of an issuer with a number in common, and a number past that limit), nor that rows of
-//! devices and records are visited one at a time and kept by nobody, nor that a row finds its order
-//! by halving.
+//! tables.
+//!
+//! No clause of theirs says these:
+//!
+//! - When Unkept comes: for want of memory, a keeper's fault, two orders of an issuer with a number
+//!   in common, or a number past that limit.
+//! - That rows of devices and records are visited one at a time and kept by nobody.
+//! - That a row finds its order by halving.
 #![tactic(auto)]
 
 mod devices;

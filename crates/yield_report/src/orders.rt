@@ -38,8 +38,8 @@ fn order_text(alloc: Global, lines: &[OrderLine]) -> Result<Vec<u8>, AllocError>
 }
 
 /// The yield report of a customer as comma-separated text (RFC 4180): a header, and a line for each
-/// of its orders, in the order of their names, with how many devices of the order stand in each
-/// state and how many of its serial numbers are left. The keeper is read one row at a time; what is
+/// of its orders, in the order of their names. A line says how many devices of the order are in each
+/// state, and how many of its serial numbers are left. The keeper is read one row at a time; what is
 /// held are the lines, about 300 bytes an order, and the text.
 ///
 /// `Err` is want of memory, a keeper's fault, two orders of one issuer that have a serial number in

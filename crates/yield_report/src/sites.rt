@@ -75,9 +75,9 @@ fn append_line<K: Keep>(
 }
 
 /// The manager's yield report of a site as comma-separated text (RFC 4180): a header, and a line
-/// for each of its customers, in the order of their names, with how many orders it has and the sums
-/// of the numbers of its orders. The keeper is read one row at a time; what is held are the lines of
-/// one customer, about 300 bytes an order, and the text.
+/// for each of its customers, in the order of their names. A line says how many orders the customer
+/// has, and the sums of the numbers of its orders. The keeper is read one row at a time; what is held
+/// are the lines of one customer, about 300 bytes an order, and the text.
 ///
 /// `Err` is want of memory, a keeper's fault, two orders of a customer in one issuer that have a
 /// serial number in common, written in one prefix and width, or a number past 9223372036854775807,
