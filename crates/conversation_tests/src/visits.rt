@@ -20,6 +20,12 @@ const VISITS: &[(&str, &str, u64, u64)] = &[
     ("a ledger is walked over", LEDGER, 3, 9),
     ("a page of devices is one walk", PAGE, 5, 9),
     ("what isn't accepted commits nothing", REFUSED, 5, 9),
+    (
+        "an order with addresses walks over orders once",
+        WITH_ADDRESSES,
+        6,
+        10,
+    ),
 ];
 
 /// An order, which is compared with the customer's other orders, and a map, which is counted among
@@ -94,6 +100,13 @@ a1 POST /v1/ship {"nr":10,"chip":"00000000000c"}
 404 {"error":"unknown_device","no":15}
 a1 POST /v1/scrap {"nr":9,"chip":"00000000000b"}
 200 {"chip":"00000000000b","state":"scrapped"}
+"#;
+
+/// An order whose range and addresses are compared with the customer's other orders.
+const WITH_ADDRESSES: &str = r#"
+a1 POST /v1/order {"nr":10,"name":"o2","issuer":"acme-ca","prefix":"B","width":3,"first":1,"quantity":2,"macs":1}
+200 {"first":1,"issuer":"acme-ca","mac":"020000000010","macs":1,"name":"o2","next":"B001",
+  "not_before":null,"prefix":"B","quantity":2,"width":3}
 "#;
 
 /// Holds a conversation in which an allocation may be refused: the first request that is answered

@@ -14,7 +14,6 @@ pub use Rattle.office_judges.specs.declared.judgement.Accepted.{Accepted}
 pub use Rattle.office_judges.specs.declared.ledger.EntryScan.{EntryScan}
 pub use Rattle.office_judges.specs.declared.map.LinkCount.{LinkCount}
 pub use Rattle.office_judges.specs.declared.page.PageScan.{PageScan}
-pub use Rattle.office_judges.specs.declared.room.BlockScan.{BlockScan}
 pub use Rattle.office_judges.specs.declared.row_verdicts.Binding.{Binding}
 pub use Rattle.office_judges.specs.declared.row_verdicts.RowVerdict.{RowVerdict}
 pub use Rattle.office_judges.specs.declared.scan.OrderScan.{OrderScan}
