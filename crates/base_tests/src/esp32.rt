@@ -1,8 +1,7 @@
 //! The fuse map of the whole ESP32.
 
 /// The text of `maps/esp32.toml`; `tools/pages` looks whether it is.
-pub const ESP32: &str =
-    r#"# The eFuses of the ESP32, for POST /v1/map (docs/reference/files.md).
+pub const ESP32: &str = r#"# The eFuses of the ESP32, for POST /v1/map (docs/reference/files.md).
 #
 # Source: espefuse 4.7.0, espefuse/efuse_defs/esp32.yaml, VER_NO 369d2d860d34e777c0f7d545a7dfc3c4. Names and positions
 # are that file's (`blk`, `start`, `len`); `write` and `read` are its `wr_dis` and `rd_dis`, the bit of WR_DIS or RD_DIS
