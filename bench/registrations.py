@@ -1,13 +1,10 @@
-"""Registrations of devices, with their map and what each chip shows, and what it takes to answer requests of each."""
+"""Registrations of devices, with their map and what each chip shows."""
 
 import hashlib
 import json
 
-from program import times_of
-
 ORDERS = 10
 DEVICES = 10000
-PART = 1000
 
 # Four blocks, the lock fields, and a key field in each of two blocks.
 MAP = """name = "bench"
@@ -109,14 +106,3 @@ def stream():
     before = [order_request(number) for number in range(1, ORDERS + 1)]
     before.append(request("/v1/map", {"nr": ORDERS + 1, "text": MAP}))
     return before, [device_request(number, digest) for number in range(1, DEVICES + 1)]
-
-
-def measure(command, seconds, before, devices, kind):
-    """Prints how many devices' requests are answered a second, the peak of memory, the last part's time to the first's."""
-    parts = [[asked for device in devices[at : at + PART] for asked in device] for at in range(0, DEVICES, PART)]
-    times, peak = times_of(command, seconds, before, parts)
-    took, ratio = times[-1] - times[0], (times[-1] - times[-2]) / (times[1] - times[0])
-    print(
-        f"{DEVICES} devices: {DEVICES / took:.0f} {kind} a second, peak {peak} KiB, "
-        f"last {PART} to first {PART}: {ratio:.2f}"
-    )
