@@ -1,0 +1,565 @@
+"""How a chip's stay at a bench ends, and what is said then: each refusal, each fault of espefuse, of a hook, of the
+network and of the disk, over the program and simulated chips.
+
+Expected values are those of docs/reference/api.md and docs/how-to/run-a-bench.md.
+"""
+
+from __future__ import annotations
+
+import hashlib
+import json
+import os
+import re
+import socket
+import subprocess
+import sys
+import time
+import unittest
+from pathlib import Path
+
+from running import (
+    ASK_WHERE,
+    FACTS,
+    GREEN,
+    PAGE,
+    RED,
+    BenchCase,
+    Terminal,
+    is_passed,
+    life_of,
+    macs_of,
+    script,
+    table_rows,
+    tool,
+)
+from simulated_chip import SimulatedChip
+from support import DIGEST, FLASH_KEY, LIFE, MAC, MAP, ORDER, WISHES, Proxy, TlsProxy, steps, whole
+
+from wanekupo.chips import bit, rlock, value, wlock
+from wanekupo.journal import issued, requests_of
+
+
+class Refusing(Proxy):
+    """Answers each registration with a refusal, where it has one."""
+
+    refusal = None
+
+    def pass_on(self, client):
+        if self.refusal is None or client.recv(15, socket.MSG_PEEK) != b"POST /v1/device":
+            return super().pass_on(client)
+        whole(client)
+        told = json.dumps(self.refusal).encode()
+        head = b"HTTP/1.1 409 Conflict\r\nContent-Type: application/json\r\nConnection: close\r\n"
+        return client.sendall(head + b"Content-Length: %d\r\n\r\n%s" % (len(told), told))
+
+
+class Endings(BenchCase):
+    """How a chip's stay may end, and what is said then."""
+
+    def begun(self, name="left", mac=MAC, text="", **recipe):
+        """A bench over an order, with a chip in a socket that is begun."""
+        self.order()
+        bench = self.run_bench(self.recipe(**recipe))
+        self.put(name, mac)
+        bench.said(text or name)
+        return bench
+
+    def test_the_facts_that_hooks_have(self):
+        """CHIP, ORDER, SERIAL, MAC, MACS and KEY_SHA256; what they print is in the log, and no key is."""
+        self.order(quantity=2, macs=2)
+        seen = self.folder / "seen"
+        hook = script(self.folder / "hook", f'{FACTS}exec >> {seen}\n{FACTS}')
+        leak = script(self.folder / "leak", f'{FACTS}cat "$FOLDER/key.pem"\nod -An -v -tx4 flash.key\n')
+        hooks = {"before_ship": {"command": [leak]}, "label": {"command": [hook]}}
+        bench = self.run_bench(self.recipe(hooks=hooks))
+        self.put("left", MAC)
+        bench.said("left")
+        self.assertEqual(bench.ended("left")[0], "PASS")
+        csr = self.folder / "spool" / "A001.csr"
+        public = subprocess.run(["openssl", "req", "-in", csr, "-noout", "-pubkey"], capture_output=True, check=True)
+        words = ["openssl", "pkey", "-pubin", "-outform", "DER"]
+        der = subprocess.run(words, input=public.stdout, capture_output=True, check=True).stdout
+        digest = hashlib.sha256(der).hexdigest()
+        expected = f"{MAC} o1 A001 020000000010 020000000010 020000000011 {digest}\n"
+        self.assertEqual(seen.read_text(), expected)
+        hooks = {it["hook"]: it for it in self.logged() if "hook" in it}
+        self.assertEqual(list(hooks), ["before_identity", "before_ship", "label"])
+        self.assertEqual(hooks["before_ship"]["output"], f"{expected}[a key]\n [a key]\n")
+        self.assertEqual({it["status"] for it in hooks.values()}, {0})
+        self.assertEqual(bench.board()["rest"], 1)
+
+    def test_hooks_that_fail(self):
+        """Each says so; the chip isn't lost, and goes on where it was, with the same serial number."""
+        slow = script(self.folder / "slow", "sleep 100 & sleep 100\n")
+        broken = script(self.folder / "broken", "echo 'no \x1b[31mpaper' >&2; exit 3\n")
+        nothing = script(self.folder / "nothing", "exit 0\n")
+        gone = script(self.folder / "gone", "exit 0\n")
+        forged = script(self.folder / "forged", 'head -c 99 /dev/urandom > "$FOLDER/identity.csr"\n')
+        good = {"before_identity": {"command": [self.csr]}}
+        again = "(no \\x1b[31mpaper): put it in once more, and where that fails too, red box."
+        cases = [
+            ({"before_identity": {"command": [broken]}}, "hook_failed", f"The command before_identity failed {again}"),
+            ({"before_identity": {"command": [nothing]}}, "no_public_key", "left no public key"),
+            ({"before_identity": {"command": [forged]}}, "no_public_key", "left no public key"),
+            ({"before_identity": {"command": [gone]}}, "hook_missing", "doesn't start (No such file or directory)"),
+            (good | {"before_ship": {"command": [slow], "timeout": 0.3}}, "hook_late", "(more than 0.3 seconds)"),
+            (good | {"before_ship": {"command": [broken]}}, "hook_failed", "The command before_ship failed"),
+            (good | {"label": {"command": [broken]}}, "no_label", "The chip is shipped as A001 and has no label (no"),
+            (good | {"label": {"command": [nothing]}}, "passed", "The chip is shipped as A001"),
+        ]
+        self.order()
+        self.put("left", MAC)
+        for hooks, reason, sentence in cases:
+            bench = self.run_bench(self.recipe(hooks=hooks, stop=99))
+            if reason == "hook_missing":
+                os.unlink(gone)
+            bench.said("left")
+            word, found, told = bench.ended("left")
+            self.assertEqual((word, found), ("PASS" if reason == "passed" else "FAIL", reason))
+            self.assertIn(sentence, told)
+            begun = [] if reason == "passed" else [MAC]
+            self.assertEqual([it["chip"] for it in bench.board()["under_way"]], begun)
+            self.assertEqual(bool(bench.board()["stopped"]), reason in ("no_public_key", "hook_missing"))
+            self.assertEqual(bench.end(), 0)
+        self.assertEqual(life_of(self.ledger()), LIFE)
+        self.assertEqual(len(issued(requests_of(self.folder / "a1.journal"))), 1)
+
+    def test_what_read_backs_find(self):
+        """Each outcome that isn't `match`, of a chip that was burnt otherwise than it was told."""
+        (self.folder / "7.key").write_bytes(bytes(32 * [7]))
+        lost = "and the chip is lost"
+        cases = [
+            ("stray", "burn_bit BLOCK0 197 198", 0, f"A bit reads 1 that nobody planned, {lost}: {RED}."),
+            ("short", "dump", 0, f"The chip was burnt three times and doesn't take all bits: {RED}."),
+            ("key", "burn_key --no-protect-key BLOCK1 7.key", 0, f"The key block reads another key, {lost}: {RED}."),
+            ("lost", "make 240ac4000004", 1, f"A burnt bit reads 0, {lost}: {RED}."),
+            ("other_chip", "make 240ac40000ff", 0, "Another chip is in the socket than before: put the first one back, "
+             "and begin again."),
+        ]
+        self.order()
+        for place, (reason, instead, after, sentence) in enumerate(cases):
+            tool = self.other_tool(instead, after)
+            bench = self.run_bench(self.recipe(sockets={"left": [tool, *self.socket_of("left")[3:]]}, stop=9))
+            mac = macs_of(5)[place]
+            self.put("left", mac)
+            bench.said("left")
+            self.assertEqual(bench.ended("left"), ("FAIL", reason, sentence))
+            self.assertEqual(bench.board()["shift"]["failed"][reason], 1)
+            self.take("left", mac)
+            bench.end()
+
+    def test_chips_that_come_again(self):
+        """One of another order, one that was scrapped, one that is shipped."""
+        self.order()
+        with self.station(file="a1.json") as office:
+            office.make_order(**{**ORDER, "name": "o2", "prefix": "B", "macs": 0})
+            office.import_map(MAP)
+            for mac, order in zip(macs_of(2), ("o2", "o1")):
+                office.register(mac, order, DIGEST, self.chip(mac).read())
+            office.scrap(macs_of(2)[1])
+        bench = self.run_bench(self.recipe())
+        shipped = macs_of(3)[2]
+        for mac, reason, sentence in (
+            (MAC, "other_order", "The chip is of the order o2: take it out, and bring it to that order's bench."),
+            (macs_of(2)[1], "scrapped_before", f"The chip was scrapped before: {RED}."),
+            (shipped, "passed", f"The chip is shipped as A001: {GREEN}."),
+            (shipped, "passed_before", f"The chip was shipped as A001 just before: {GREEN}."),
+            (macs_of(4)[3], "passed", f"The chip is shipped as A002: {GREEN}."),
+            (shipped, "shipped_before", f"The chip is shipped already, as A001: {ASK_WHERE}."),
+        ):
+            self.put("left", mac)
+            bench.said("left")
+            bench.until(lambda board: board["sockets"][0]["reason"] == reason, reason)
+            self.assertEqual(bench.ended("left")[2], sentence)
+            self.take("left", mac)
+        self.assertEqual((bench.board()["shift"]["passed"], bench.board()["shift"]["failed"]), (2, {}))
+
+    def test_chips_that_another_hand_planned(self):
+        """None passes without what the recipe wishes, in whichever state the bench finds it."""
+        jtag, other, lock = bit("JTAG_DISABLE", 0), bit("CONSOLE_DEBUG_DISABLE", 0), wlock("BLOCK1")
+        wishes, flash = WISHES, self.keys["BLOCK1"].burnt_as
+        cases = [
+            ([], "settled", "passed", ""),
+            ([jtag], "settled", "passed", ""),
+            (wishes, "settled", "passed", ""),
+            ([jtag, value("MAC_VERSION", "1")], "settled", "not_blank", ""),
+            ([jtag], "awaiting1", "passed", ""),
+            (wishes, "awaiting1", "passed", ""),
+            ([jtag, other], "awaiting1", "other_wishes", "CONSOLE_DEBUG_DISABLE"),
+            ([jtag, lock], "awaiting1", "other_wishes", "BLOCK1, the read lock of BLOCK1"),
+            ([lock], "awaiting2", "other_wishes", "BLOCK1, JTAG_DISABLE, the read lock of BLOCK1"),
+            (wishes, "awaiting2", "passed", ""),
+            ([jtag], "identified", "other_wishes", "BLOCK1, the read lock of BLOCK1, the write lock of BLOCK1"),
+            (wishes, "identified", "passed", ""),
+            (wishes, "shipped", "shipped_before", ""),
+        ]
+        key = {"kind": "key", "field": "BLOCK1", "file": "flash.key", "burnt_as": flash}
+        more = {"kind": "value", "field": "MAC_VERSION", "value": "0"}
+        own = [jtag, key, lock, rlock("BLOCK1"), more]
+        self.order()
+        with self.station(file="a1.json") as hand:
+            hand.import_map(MAP)
+            for mac, (planned, state, _, _) in zip(macs_of(len(cases)), cases):
+                self.planned(hand, mac, planned, state)
+        proxy = self.proxy()
+        bench = self.run_bench(self.recipe(proxy.url, wishes=own, stop=99))
+        for mac, (planned, state, reason, detail) in zip(macs_of(len(cases)), cases):
+            before = SimulatedChip.at(self.folder / f"chip-{mac}").blocks
+            self.put("left", mac)
+            seen = len(proxy.seen)
+            bench.said("left")
+            bench.until(lambda board, mac=mac: board["sockets"][0]["chip"] == mac)
+            word, found, told = bench.ended("left")
+            self.assertEqual((found, word == "PASS"), (reason, reason == "passed"), (planned, state, told))
+            self.assertLessEqual(sum(mac.encode() in request for _, request in proxy.seen[seen:]), 8)
+            blocks = SimulatedChip.at(self.folder / "places" / "left").blocks
+            if reason == "passed":
+                self.assertEqual((blocks[0] >> 198 & 1, blocks[0] & 0x10080), (1, 0x10080), (planned, state))
+                self.assertEqual(blocks[1].to_bytes(32, "little")[::-1], FLASH_KEY)
+                self.assertEqual(self.asked("GET", f"/v1/device?chip={mac}")[1]["state"], "shipped")
+            else:
+                self.assertEqual(blocks, before)
+            if reason == "other_wishes":
+                told_so = f"The chip was planned otherwise than the recipe wishes ({detail}): {RED}."
+                self.assertEqual(told, told_so)
+            self.take("left", mac)
+
+    def test_a_recipe_that_changed(self):
+        """A chip that was shipped by the recipe as it was before, and is still in its socket, or awaits its label."""
+        broken = script(self.folder / "broken", "exit 3\n")
+        self.order()
+        for mac, hooks, reason in zip(macs_of(2), ({}, {"label": {"command": [broken]}}), ("passed", "no_label")):
+            bench = self.run_bench(self.recipe(wishes=[], hooks=hooks))
+            self.put("left", mac)
+            bench.said("left")
+            self.assertEqual(bench.ended("left")[1], reason)
+            bench.end()
+            bench = self.run_bench(self.recipe())
+            bench.said("left")
+            self.assertEqual(bench.ended("left")[:2], ("FAIL", "other_wishes"))
+            bench.end()
+            self.take("left", mac)
+
+    def planned(self, hand, mac, wishes, state):
+        """A chip that somebody else brought to a state, with these wishes."""
+        chip = self.chip(mac, self.folder / f"chip-{mac}")
+        hand.register(mac, "o1", DIGEST, chip.read())
+        plan = hand.plan(mac, wishes)
+        found, works = plan.state, {"awaiting1": plan.batch1, "awaiting2": plan.batch2}
+        while found != state and found in works:
+            chip.burn(works[found])
+            found = hand.read_back(mac, chip.read()).state
+        if state in ("identified", "shipped"):
+            hand.identify(mac, mac.encode())
+        if state == "shipped":
+            hand.ship(mac)
+
+    def other_tool(self, instead, after=0):
+        """The simulated chip, which does something else in place of what it is to burn, after so many times."""
+        words, count = f"{sys.executable} {self.socket_of('left')[2]}", self.folder / "burnt"
+        count.unlink(missing_ok=True)
+        other = f'echo >> {count}\n[ $(wc -l < {count}) -le {after} ] || exec {words} "$1" "$2" {instead}'
+        return script(self.folder / "tool", f'case "$*" in *execute_scripts*) {other};; esac\nexec {words} "$@"\n')
+
+    def test_espefuse_that_fails(self):
+        """No chip, no command, what isn't a chip, and one that is silent behind its burning."""
+        tool(self.folder / "silent", "echo 'A fatal error occurred: Failed to connect to ESP32'; exit 2\n")
+        tool(self.folder / "other", "echo 'espefuse v9'\n")
+        gone = tool(self.folder / "gone", "exit 2\n")
+        late = 'case "$*" in *dump*) [ ! -e burnt ] || { echo "A fatal error occurred: Timed out"; exit 2; };;'
+        tool(self.folder / "breaks", f'{late} *) touch burnt;; esac\nexec {" ".join(self.socket_of("left"))} "$@"\n')
+        again = "put it in once more, and where that fails too, red box."
+        cases = [
+            ("./silent", MAC, "no_chip", "(Failed to connect to ESP32): press it in, and begin again."),
+            ("./other", MAC, "no_dump", "take it out, and look at it."),
+            ("./gone", MAC, "no_tool", "call the engineer."),
+            ("./breaks", "000000000000", "no_mac", again),
+            ("./breaks", MAC, "no_read", f"espefuse can't read the chip (Timed out): {again}"),
+        ]
+        self.order()
+        for command, mac, reason, sentence in cases:
+            bench = self.run_bench(self.recipe(sockets={"left": [command]}))
+            if command == "./gone":
+                os.unlink(gone)
+            self.put("left", mac)
+            bench.said("left")
+            word, found, told = bench.ended("left")
+            begun = [MAC] if reason == "no_read" else []
+            self.assertEqual((word, found, [it["chip"] for it in bench.board()["under_way"]]), ("FAIL", reason, begun))
+            self.assertTrue(told.endswith(sentence), told)
+            bench.end()
+
+    def test_each_refusal(self):
+        """By the numbers in the table of the page, whichever step the server refuses."""
+        text = PAGE.read_text(encoding="utf-8")
+        rows = re.findall(r"^\| `(\w+)` \| refusals? ([0-9, ]+)", text, re.MULTILINE)
+        rows = [row for row in rows if row[0] != "older_store"]
+        wanted = {int(no): name for name, numbers in rows for no in re.findall("[0-9]+", numbers)}
+        asked = [*range(1, 5), *range(6, 30), 32, 35, 36, 39, 40, 41]
+        self.assertEqual(sorted(wanted), asked)
+        stops = {name for name, _, _, todo in table_rows(text) if re.search("engineer|next order|stopped", todo)}
+        self.order()
+        proxy = self.proxy(kind=Refusing)
+        bench = self.run_bench(self.recipe(proxy.url, stop=99))
+        bench.until(lambda board: board["rest"] is not None)
+        self.put("left", MAC)
+        for no, expected in [*((no, 99) for no in asked), (11, 1)]:
+            name = "older_store" if expected == 1 else wanted[no]
+            proxy.refusal = {"error": "none", "no": no, "expected": expected}
+            before = bench.socket("left")["since"]
+            bench.said("left")
+            is_new = lambda it, before=before: it["since"] != before and it["state"] == "FAIL"
+            board = bench.until(lambda board, is_new=is_new: is_new(board["sockets"][0]), (no, name))
+            self.assertEqual((board["sockets"][0]["reason"], bool(board["stopped"])), (name, name in stops), no)
+            bench.said("go")
+        proxy.refusal = None
+        bench.said("left")
+        bench.until(lambda board: is_passed(board, MAC))
+        self.assertEqual(steps(self.ledger()), LIFE)
+
+    def test_what_stops_a_line_at_its_start(self):
+        """A certificate that isn't trusted, what isn't the server, another token, and an order that isn't made."""
+        self.order()
+        tls = TlsProxy(self.program, self.folder)
+        self.addCleanup(tls.close)
+        (self.folder / "other.token").write_text("nobody\n", encoding="ascii")
+        other = {"token": "other.token", "state": "b1.json"}
+        long = self.canned(200, "application/json", bytes(5 << 20))
+        for options, told in (
+            ({"url": tls.url}, "The server's certificate isn't trusted: call the engineer."),
+            ({"url": long}, "What answers isn't the server: call the engineer."),
+            ({"server": other}, "The server doesn't take this bench's token (refusal 6): call the engineer."),
+            ({"top": {"order": "o9"}}, "The server knows no such order, map or chip (refusal 14): call the engineer."),
+        ):
+            bench = self.run_bench(self.recipe(**options))
+            self.assertEqual(bench.until(lambda board: board["stopped"])["stopped"], told)
+            self.assertEqual(bench.end(), 0)
+
+    def test_three_in_a_row(self):
+        """The line stops, and says what the three have in common; a person has it go on."""
+        broken = script(self.folder / "broken", "exit 3\n")
+        self.order()
+        bench = self.run_bench(self.recipe(hooks={"before_ship": {"command": [broken]}}))
+        for place, mac in enumerate(macs_of(3), 1):
+            self.assertEqual(bench.board()["stopped"], "")
+            self.put("left", mac)
+            bench.said("left")
+            bench.until(lambda board: sum(board["shift"]["failed"].values()) == place)
+            self.take("left", mac)
+        common = "all at the step 'before ship', each as 'hook_failed', each in the socket 'left'"
+        told = f"3 chips failed in a row, {common}: look why before you go on."
+        self.assertEqual(bench.until(lambda board: board["stopped"])["stopped"], told)
+        self.put("left", "240ac4000004")
+        bench.said("left")
+        self.assertEqual(bench.board()["notice"], "The line stands: have it go on first.")
+        bench.kill()
+        self.assertEqual(self.asked("GET", "/v1/device?chip=240ac4000004")[0], 404)
+        bench = self.run_bench(self.recipe())
+        self.assertEqual(bench.board()["shift"]["failed"], {"hook_failed": 3})
+        bench.said("left")
+        self.assertEqual(bench.ended("left")[0], "PASS")
+
+    def test_a_crash(self):
+        """What was begun is shown, and goes on in another socket."""
+        self.order()
+        wait = script(self.folder / "wait", f"[ -e {self.folder}/go ] || sleep 100\n")
+        recipe = self.recipe(hooks={"before_ship": {"command": [wait]}})
+        bench = self.run_bench(recipe)
+        self.put("left", MAC)
+        bench.said("left")
+        bench.until(lambda board: board["sockets"][0]["step"] == "before ship")
+        bench.kill()
+        (self.folder / "go").touch()
+        bench = self.run_bench(recipe)
+        found = bench.board()["under_way"]
+        self.assertEqual([(it["chip"], it["socket"], it["step"]) for it in found], [(MAC, "left", "before ship")])
+        self.take("left", MAC)
+        self.put("right", MAC)
+        bench.said("right")
+        self.assertEqual(bench.ended("right"), ("PASS", "passed", f"The chip is shipped as A001: {GREEN}."))
+        self.assertEqual(bench.board()["under_way"], [])
+
+    def test_a_stopped_server(self):
+        """The bench waits, says so, and goes on by itself, with each request done once."""
+        bench = self.begun(hooks={"before_ship": {"command": [script(self.folder / "nap", "sleep 0.5\n")]}})
+        bench.until(lambda board: board["sockets"][0]["step"] == "before ship")
+        self.program.kill()
+        board = bench.until(lambda board: board["away"])
+        self.assertEqual((board["away"]["why"], board["sockets"][0]["state"]), ("no reply comes", "working"))
+        self.program.start()
+        self.assertEqual(bench.ended("left")[0], "PASS")
+        self.assertIsNone(bench.board()["away"])
+        self.assertEqual(steps(self.ledger()), LIFE)
+
+    def test_another_hand(self):
+        """Somebody uses the seat: the line stops, and what is to be done is nothing."""
+        bench = self.begun(hooks={"before_ship": {"command": [script(self.folder / "nap", "sleep 1\n")]}})
+        bench.until(lambda board: board["sockets"][0]["step"] == "before ship")
+        with self.station(file="other.json") as other:
+            other.resynchronize()
+            other.import_map(MAP)
+        told = "Somebody else used this bench's seat (refusal 12): touch nothing, and call the engineer."
+        self.assertEqual(bench.ended("left"), ("FAIL", "out_of_step", told))
+        self.assertEqual(bench.board()["stopped"], f"{told} Step: ship.")
+
+    def test_an_order_that_is_full(self):
+        """A chip that failed has a place until it is scrapped; the next one is sent away, and isn't awaited."""
+        self.order(quantity=2)
+        told_last = "have the red box scrapped, or ask for the next order"
+        lasts = [("passed", GREEN), ("not_blank", RED), ("order_full", told_last)]
+        bench = self.run_bench(self.recipe())
+        for mac, (reason, told) in zip(macs_of(3), lasts):
+            self.put("left", mac)
+            if reason == "not_blank":
+                SimulatedChip.at(self.folder / "places" / "left").burn_key("BLOCK1", bytes(range(1, 33)), False)
+            bench.said("left")
+            bench.until(lambda board, reason=reason: board["sockets"][0]["reason"] == reason, reason)
+            self.assertIn(told, bench.ended("left")[2])
+            self.take("left", mac)
+        self.assertEqual((bench.board()["rest"], bench.board()["under_way"]), (1, []))
+        self.assertIn("ask for the next order", bench.board()["stopped"])
+        bench.end()
+        with self.station(file="a1.json") as hand:
+            hand.scrap(macs_of(2)[1])
+        bench = self.run_bench(self.recipe())
+        self.put("left", macs_of(3)[2])
+        bench.said("left")
+        self.assertEqual(bench.ended("left")[1], "passed")
+
+    def test_a_full_disk(self):
+        """Full from the start, and in the middle of a chip: it stops the line, and nothing is lost. Behind it the chip
+        goes on."""
+        self.order()
+        small = self.folder / "small"
+        small.mkdir(mode=0o700)
+        mounts = f"mount -t tmpfs -o size=400k,mode=700 none {small} && cp -p {self.folder}/a1.json {small}"
+        own = ["unshare", "-m" if os.geteuid() == 0 else "-rm", "sh", "-c"]
+        if subprocess.run([*own, "mount -t tmpfs none /mnt"], capture_output=True).returncode:
+            self.skipTest("nobody may mount here")
+        unshare = [*own, f'{mounts} && exec "$@"', "sh"]
+        server = {"state": "small/a1.json", "journal": "small/a1.journal"}
+        bench = self.run_bench(self.recipe(server=server), before=unshare)
+        inside, reached = Path(f"/proc/{bench.process.pid}/root{small}"), set()
+        kept = inside / "a1.json.bench/bench.json"  # it says that the map is imported: then the bench waits
+        bench.until(lambda _: kept.exists() and json.loads(kept.read_text("utf-8"))["map"], "imported the map")
+        for place, mac in enumerate(macs_of(6)):
+            with open(inside / "fill", "wb", buffering=0) as out:
+                with self.assertRaises(OSError):
+                    while True:
+                        out.write(bytes(4096))
+                out.truncate(out.tell() - 4096 * (place % 4))
+            self.put("left", mac)
+            bench.said("left")
+            bench.until(lambda board, mac=mac: board["sockets"][0]["state"] == "FAIL" or is_passed(board, mac))
+            if bench.socket("left")["state"] == "FAIL":
+                told = "The disk of this bench is full: leave the chips in, and call the engineer."
+                self.assertEqual(bench.ended("left"), ("FAIL", "disk_full", told))
+                reached.add(bench.socket("left")["step"])
+                self.assertTrue(bench.until(lambda board: board["stopped"])["stopped"].startswith(told))
+                (inside / "fill").unlink()
+                bench.said("go")
+                bench.said("left")
+            bench.until(lambda board, mac=mac: is_passed(board, mac), "passed")
+            self.assertEqual(life_of(self.ledger(mac)), LIFE)
+            self.take("left", mac)
+        self.assertGreater(len(reached), 1, reached)
+
+    def test_the_terminal(self):
+        """PASS and FAIL in large letters on green and red, without colours by NO_COLOR, and never what a hook prints as
+        it is."""
+        broken = script(self.folder / "broken", "printf '\\033[2Jgone'; exit 3\n")
+        self.order()
+        for place, (colour, environment) in enumerate((("\x1b[1;97;41m", {}), ("", {"NO_COLOR": "1"}))):
+            recipe = self.recipe(hooks={"before_ship": {"command": [broken]}})
+            first, then = (macs_of(4)[2 * place :])[:2]
+            with Terminal(recipe, environment) as terminal:
+                self.put("left", first)
+                terminal.type("left")
+                shown = terminal.until("red box.")
+                self.assertIn(f"{colour} ####   ##   ###  #   ", shown)
+                self.assertEqual("\x1b[1;97" in shown, bool(colour))
+                self.assertIn("(\\x1b[2Jgone)", shown)
+                self.assertNotIn("\x1b[2Jgone", shown)
+                self.take("left", first)
+            recipe = self.recipe()
+            with Terminal(recipe, environment) as terminal:
+                self.put("left", then)
+                terminal.type("left")
+                shown = terminal.until("green box.")
+                self.assertIn(f"{colour.replace('41m', '42m')} ####   ##   ####  ####", shown)
+                self.take("left", then)
+
+    def test_travellers(self):
+        """One begins a chip only where it names the recipe's order."""
+        self.order()
+        bench = self.run_bench(self.recipe(top={"start": "scan"}))
+        self.put("right", MAC)
+        wrong = "This traveller isn't of the order o1: take the traveller's own bench."
+        for text, notice in (("", "Scan the traveller first."), ("o2", wrong), ("right", wrong), ("o12", wrong)):
+            bench.said(text)
+            self.assertEqual(bench.board()["notice"], notice)
+        self.assertEqual({it["state"] for it in bench.board()["sockets"]}, {"waiting"})
+        bench.typed("o1;right;4711")
+        self.assertEqual(bench.ended("right")[0], "PASS")
+        self.assertEqual(bench.socket("left")["state"], "waiting")
+
+    def test_chips_that_begin_by_themselves(self):
+        """Each begins once it answers, and the next one when another answers."""
+        self.order()
+        bench = self.run_bench(self.recipe(top={"start": "chip"}, sockets={"left": self.socket_of("left")}))
+        bench.until(lambda board: board["sockets"][0]["sentence"].startswith("No chip answers in the socket"))
+        for place, mac in enumerate(macs_of(2), 1):
+            self.put("left", mac)
+            bench.until(lambda board: board["shift"]["passed"] == place)
+            time.sleep(1.5)
+            self.assertEqual((bench.socket("left")["state"], bench.socket("left")["chip"]), ("PASS", mac))
+            self.take("left", mac)
+            bench.until(lambda board: board["sockets"][0]["state"] == "waiting")
+        self.assertEqual([it["result"] for it in self.logged() if "result" in it], ["passed", "passed"])
+        self.put("left", mac)
+        bench.until(lambda board: board["sockets"][0]["reason"] == "passed_before")
+
+    def test_keys_that_a_command_makes(self):
+        """Each chip gets its own, whose file is there before the plan; a chip whose file is gone isn't burnt."""
+        make = script(self.folder / "make-key", 'head -c 32 /dev/urandom > "$KEY_FILE"\n')
+        short = script(self.folder / "short", 'head -c 31 /dev/urandom > "$KEY_FILE"\n')
+        wish = {"kind": "key", "field": "BLOCK1", "command": [make], "burnt_as": "flash_encryption"}
+        self.order()
+        bench = self.run_bench(self.recipe(wishes=[wish]))
+        for mac in macs_of(2):
+            self.put("left", mac)
+            bench.said("left")
+            bench.until(lambda board: board["sockets"][0]["chip"] == mac and board["sockets"][0]["state"] == "PASS")
+            self.take("left", mac)
+        folder = self.folder / "a1.json.bench" / "chips"
+        keys = [(folder / mac / "BLOCK1.key").read_bytes() for mac in macs_of(2)]
+        self.assertNotEqual(*keys)
+        for mac, key in zip(macs_of(2), keys):
+            known = self.asked("GET", f"/v1/device?chip={mac}")[1]["keys"]
+            self.assertEqual(known, {"BLOCK1": hashlib.sha256(key[::-1]).hexdigest()})
+        bench.end()
+        bench = self.run_bench(self.recipe(wishes=[{**wish, "command": [short]}]))
+        self.put("left", "240ac4000003")
+        bench.said("left")
+        self.assertEqual(bench.ended("left")[1], "no_key")
+
+    def test_a_key_that_is_gone(self):
+        """A chip that awaits it is put aside, and no other key is made."""
+        make = script(self.folder / "make-key", 'head -c 32 /dev/urandom > "$KEY_FILE"\n')
+        wish = {"kind": "key", "field": "BLOCK1", "command": [make], "burnt_as": "flash_encryption"}
+        self.order()
+        stuck = self.other_tool("none_such")
+        bench = self.run_bench(self.recipe(wishes=[wish], sockets={"left": [stuck, *self.socket_of("left")[3:]]}))
+        self.put("left", MAC)
+        bench.said("left")
+        self.assertEqual(bench.ended("left")[1], "no_burn")
+        bench.end()
+        (self.folder / "a1.json.bench" / "chips" / MAC / "BLOCK1.key").unlink()
+        bench = self.run_bench(self.recipe(wishes=[wish]))
+        bench.said("left")
+        self.assertEqual(bench.ended("left")[1], "lost_key")
+        self.assertEqual(SimulatedChip.at(self.folder / "places" / "left").blocks[1], 0)
+
+
+if __name__ == "__main__":
+    unittest.main()

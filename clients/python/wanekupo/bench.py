@@ -1,0 +1,354 @@
+"""`wanekupo run RECIPE`: the sockets of a bench, each a thread, over one seat.
+
+A socket takes a chip when somebody presses its key, when a traveller of the recipe's order is scanned, or when a chip
+answers, as the recipe says. The line stops after so many failed chips in a row, and where something else has to be
+mended first; then a person has it go on.
+"""
+
+from __future__ import annotations
+
+import argparse
+import contextlib
+import os
+import re
+import signal
+import threading
+import time
+from dataclasses import replace
+from pathlib import Path
+from typing import Callable, Iterator, Mapping, Optional, TypeVar
+
+from wanekupo.board import PASSED, WORKING, Board, Shift, Socket, ended_socket, in_common
+from wanekupo.config import Settings, changed, station_of
+from wanekupo.endings import STOP, Ended, ended_by
+from wanekupo.errors import BadSettings
+from wanekupo.espefuse import KeyFile
+from wanekupo.keeping import Kept, now_text
+from wanekupo.life import Life
+from wanekupo.page import Page
+from wanekupo.parts import part_of
+from wanekupo.printing import warn
+from wanekupo.recipe import Recipe, recipe_of
+from wanekupo.recipe_checks import faults_of
+from wanekupo.replies import Identity, Order
+from wanekupo.screen import Screen
+from wanekupo.station import Station
+from wanekupo.turns import Leaving, Turns
+
+Made = TypeVar("Made")
+
+# How many seconds a reply is asked for before the board says that the server is away, and between two looks at a socket
+# whose chip begins by itself.
+PATIENCE, LOOK = 3.0, 1.0
+
+# The status of a program that was ended by hand at once.
+INTERRUPTED = 130
+
+# The status of a bench that doesn't start.
+NOT_STARTED = 2
+
+# What parts the words of a traveller's code.
+APART = re.compile(r"[\s,;|/]+")
+
+
+class Bench:
+    """A recipe's sockets over one seat. `spool` is where requests for certificates are kept."""
+
+    def __init__(self, recipe: Recipe, station: Station, kept: Kept, url: str, spool: Optional[Path]):
+        self.recipe, self.kept, self.spool, self._url = recipe, kept, spool, url
+        sockets = [Socket(name, sentence=_found_in(name, kept), since=time.time()) for name in recipe.sockets]
+        self.board = Board(recipe.name, recipe.order, sockets, recipe.start, kept.shift())
+        self.board.under_way(kept.under_way())
+        self.leaving = threading.Event()
+        self._turns = Turns(station, self.board, self.leaving)
+        self._counting = threading.Lock()
+        self._begin = {name: threading.Event() for name in recipe.sockets}
+        self._seen = dict.fromkeys(recipe.sockets, "")
+        self._order: Optional[Order] = None
+        self._threads = [threading.Thread(target=self._serve, args=[name], daemon=True) for name in recipe.sockets]
+        self._opening = threading.Thread(target=self._open, daemon=True)
+
+    # What a life has of its bench.
+
+    def ask(self, call: Callable[[Station], Made]) -> Made:
+        return self._turns.ask(call)
+
+    def order(self) -> Order:
+        """The recipe's order."""
+        if not self._order:
+            self._order = self.ask(lambda station: station.order(self.recipe.order))
+        return self._order
+
+    def import_map(self) -> None:
+        self.ask(lambda station: station.import_map(self.recipe.map))
+        self.kept.imported(self.recipe.digest(), self._url)
+
+    def working(self, socket: str, step: str, chip: str, serial: str) -> None:
+        self.board.working(socket, step, chip, serial)
+        if chip:
+            self._tell_begun()
+
+    def _tell_begun(self, ended: str = "") -> None:
+        """Shows which chips were begun and are worked on in no socket now, but the one whose chip has ended."""
+        sockets = [self.board.socket(name) for name in self.recipe.sockets if name != ended]
+        worked_on = {it.chip for it in sockets if it.state == WORKING}
+        self.board.under_way({chip: it for chip, it in self.kept.under_way().items() if chip not in worked_on})
+
+    def identified(self, record: Identity) -> None:
+        """The order's numbers are given in turn, so that a record says how many are left."""
+        order = self.order()
+        number = record.serial.removeprefix(order.prefix)
+        if number.isdecimal():
+            self.board.left(max(0, order.first + order.quantity - 1 - int(number)))
+
+    # A bench's day.
+
+    def start(self) -> None:
+        """Sends what is under way, has the map imported, and serves the sockets."""
+        self._opening.start()
+
+    def _open(self) -> None:
+        try:
+            self._turns.finish()
+            order = self.order()
+            number = (order.next or "").removeprefix(order.prefix)
+            self.board.left(order.first + order.quantity - int(number) if number.isdecimal() else 0)
+            if not self.kept.has_map(self.recipe.digest(), self._url):
+                self.import_map()
+        except Leaving:
+            return
+        except Exception as error:
+            self._stop_by(ended_by(error, "start"))
+        for thread in self._threads:
+            thread.start()
+
+    def close(self) -> None:
+        """Ends the sockets. A chip that waits for the server stays under way; another one's step is waited for."""
+        self.leaving.set()
+        for event in self._begin.values():
+            event.set()
+        for thread in (self._opening, *self._threads):
+            if thread.is_alive():
+                thread.join()
+
+    def _serve(self, name: str) -> None:
+        """A socket's chips, one after another."""
+        while not self.leaving.is_set():
+            keys: dict[str, KeyFile] = {}
+            life = Life(self, name, part_of(self.recipe.sockets[name], keys, self.recipe.family), keys)
+            if not self._awaited(name, life):
+                continue
+            try:
+                ended = life.run()
+            except Leaving:
+                return
+            self._seen[name] = life.chip
+            self._begin[name].clear()  # a key that is pressed from here on is the next chip's
+            self._record(name, life, ended)
+
+    def _awaited(self, name: str, life: Life) -> bool:
+        """Waits for a chip to begin: for a key or a traveller, or until one answers that wasn't there before."""
+        if self.recipe.start != "chip":
+            self._begin[name].wait()
+            if self.board.is_stopped():
+                self._begin[name].clear()
+            return self._begin[name].is_set() and not self.leaving.is_set()
+        if self.leaving.wait(LOOK) or self.board.is_stopped():
+            return False
+        try:
+            life.find()
+        except Exception as error:
+            ended = ended_by(error, "read")
+            if ended.ending.effect == STOP:
+                self._stop_by(ended)
+            self.board.waiting(name, ended.ending.sentence(**ended.facts))
+            self._seen[name] = ""  # one that was taken out may come again
+            return False
+        return life.chip != self._seen[name]
+
+    def _record(self, name: str, life: Life, ended: Ended) -> None:
+        """Keeps and shows how a chip ended. A disk that takes nothing more stops the line."""
+        last = ended_socket(name, ended, life.step, life.chip, life.serial, self.recipe.order)
+        told = {"socket": name, "chip": life.chip, "serial": life.serial, "step": life.step}
+        try:
+            self.kept.log({**told, "result": last.reason, "sentence": last.sentence})
+            self._count(last, ended)
+        except Exception as error:
+            ended = ended_by(error, life.step)
+            last = ended_socket(name, ended, life.step, life.chip, life.serial, self.recipe.order)
+        if ended.ending.effect == STOP:
+            self.board.stop(f"{last.sentence} Step: {life.step}.")
+        self._tell_begun(name)
+        self.board.ended(last)
+
+    def _count(self, last: Socket, ended: Ended) -> None:
+        """Counts a chip. One that may come again stays among those that were begun."""
+        with self._counting:
+            shift = self.kept.shift().with_ending(ended, last.step, last.name)
+            self.kept.ended(last, shift, ended.ending.is_last())
+            self.board.counted(shift)
+            most = self.recipe.lost_in_a_row
+            if ended.ending.counts() and len(shift.row) >= most:
+                row = shift.row[-most:]
+                self.board.stop(f"{most} chips failed in a row, {in_common(row)}: look why before you go on.")
+
+    def _stop_by(self, ended: Ended) -> None:
+        self.board.stop(ended.ending.sentence(order=self.recipe.order, **ended.facts))
+
+    # What a person does.
+
+    def said(self, text: str) -> None:
+        """What was scanned or typed: a traveller, a socket, a word of the bench, or nothing, which begins all."""
+        text = text.strip()
+        words = [it for it in APART.split(text) if it]
+        if words[:1] == ["stop"]:
+            self.board.stop("You stopped the line: those that are begun go on.")
+        elif words == ["go"]:
+            self.go_on()
+        elif words == ["shift"]:
+            self.new_shift()
+        elif words[:1] == ["forget"] and len(words) == 2:
+            self._forget(words[1])
+        else:
+            self._begin_by(text, words)
+
+    def _begin_by(self, text: str, words: list[str]) -> None:
+        """Begins the sockets that are named, or all that wait, where a traveller or a key may begin them."""
+        named, is_traveller = self._named(text, words), self.recipe.order in words
+        is_key = self.recipe.start == "key" and (bool(named) or not words)
+        if self.board.is_stopped():
+            self.board.notice("The line stands: have it go on first.")
+        elif self.recipe.start == "chip":
+            self.board.notice("A chip begins by itself, once it answers.")
+        elif is_traveller or is_key:
+            self.board.notice("")
+            for name in named or self.recipe.sockets:
+                self._begin[name].set()
+        else:
+            ended = Ended("bad_traveller", order=self.recipe.order)
+            self.board.notice(ended.ending.sentence(**ended.facts) if words else "Scan the traveller first.")
+
+    def _named(self, text: str, words: list[str]) -> list[str]:
+        """The sockets that a text names and nothing else, or those that a traveller of this order names beside it."""
+        names = list(self.recipe.sockets)
+        if text in names:
+            return [text]
+        if text.isdecimal() and 1 <= int(text) <= len(names):
+            return [names[int(text) - 1]]
+        found = [it for it in names if it in words]
+        return found if self.recipe.order in words or len(found) == len(words) else []
+
+    def pressed(self, name: str) -> None:
+        """A socket's own button."""
+        self._begin_by(name, [name])
+
+    def go_on(self) -> None:
+        """A person looked, and has the line go on; the failed ones in a row are counted anew."""
+        with self._counting:
+            shift = replace(self.kept.shift(), row=())
+            with self._on_disk():
+                self.kept.counted(shift)
+                self.board.counted(shift)
+                self.board.go_on()
+
+    def new_shift(self) -> None:
+        with self._counting, self._on_disk():
+            shift = Shift(now_text())
+            self.kept.log({"shift": shift.since})
+            self.kept.counted(shift)
+            self.board.counted(shift)
+
+    def _forget(self, chip: str) -> None:
+        """A chip that was begun won't come again."""
+        with self._on_disk():
+            is_there = self.kept.forget(chip)
+            self._tell_begun()
+            self.board.notice(f"The bench forgot the chip {chip}." if is_there else f"No chip {chip} is under way.")
+
+    def tell(self, text: str) -> None:
+        """What the seat tells, as of a late copy."""
+        self.board.notice(text)
+        with self._on_disk():
+            self.kept.log({"told": text})
+
+    @contextlib.contextmanager
+    def _on_disk(self) -> Iterator[None]:
+        try:
+            yield
+        except OSError as error:
+            ended = ended_by(error, "")
+            self.board.notice(ended.ending.sentence(**ended.facts))
+
+
+def _found_in(name: str, kept: Kept) -> str:
+    """What is said of a socket at a start. Nobody knows what is in it by now, so none is green before it is read."""
+    begun = [chip for chip, it in kept.under_way().items() if it["socket"] == name]
+    if begun:
+        return f"The chip {begun[-1]} was begun here: begin again, and it goes on."
+    last = kept.last().get(name)
+    told = f"The last chip here, {last.chip}, is shipped as {last.serial}" if last and last.state == PASSED else ""
+    return f"{told}: begin again, where it is still in." if told else ""
+
+
+# The command.
+
+
+def add_arguments(parser: argparse.ArgumentParser) -> None:
+    parser.add_argument("recipe", type=Path, metavar="RECIPE", help="the recipe's file")
+    parser.add_argument("--port", type=int, help="the page's port on this machine, in place of the recipe's; 0 is any")
+    parser.add_argument("--no-page", action="store_true", help="show no page, but the terminal alone")
+
+
+def settings_for(recipe: Recipe, settings: Settings, arguments: Mapping[str, object]) -> Settings:
+    """The settings of a bench: those of the recipe win over the configuration's, and the command line's over both."""
+    own = {name: it for name, it in recipe.server.items() if arguments.get(name) is None}
+    found = changed(settings, own, recipe.file.parent, f"[server] of {recipe.file}")
+    if found.state is None:
+        raise BadSettings("no state file is named", 'Have a line state = "a1.json" in [server] of the recipe.')
+    paths = {name: it.absolute() for name, it in vars(found).items() if isinstance(it, Path)}
+    return replace(found, **paths)
+
+
+def main(settings: Settings, arguments: argparse.Namespace) -> int:
+    """Runs a bench until it is ended by Ctrl-C or SIGTERM. What was begun is brought to its next step, and goes on at
+    the next start."""
+    recipe = recipe_of(arguments.recipe)
+    settings = settings_for(recipe, settings, vars(arguments))
+    os.chdir(recipe.file.parent)  # from where the commands of sockets and hooks count
+    faults = faults_of(recipe, settings.spool)
+    if faults:
+        warn(*(f"{recipe.file}: {fault}." for fault in faults), "No chip was begun: mend this, and start again.")
+        return NOT_STARTED
+    port = recipe.page if arguments.port is None else arguments.port
+    has_page = not arguments.no_page and (arguments.port is not None or recipe.page > 0)
+    with contextlib.ExitStack() as stack:
+        kept = stack.enter_context(contextlib.closing(Kept(recipe.folder or Path(f"{settings.state}.bench"))))
+        tell: list[Callable[[str], None]] = []
+        patient = replace(settings, patience=min(settings.patience, PATIENCE))
+        station = stack.enter_context(station_of(patient, tell=lambda text: tell[0](text)))
+        bench = Bench(recipe, station, kept, settings.url, settings.spool)
+        tell.append(bench.tell)
+        page = Page(bench, port) if has_page else None
+        ending = _ended_by_signals()
+        shown = [*([page] if page else []), Screen(bench, page.url if page else "")]
+        for it in shown:
+            it.start()
+            stack.callback(it.close)
+        stack.callback(bench.close)
+        bench.start()
+        ending.wait()
+    return 0
+
+
+def _ended_by_signals() -> threading.Event:
+    """What Ctrl-C and SIGTERM set; the second one ends the program at once, as a power cut would."""
+    ending = threading.Event()
+
+    def end(*_: object) -> None:
+        if ending.is_set():
+            os._exit(INTERRUPTED)
+        ending.set()
+
+    for number in (signal.SIGINT, signal.SIGTERM):
+        signal.signal(number, end)
+    return ending

@@ -1,0 +1,182 @@
+"""What a bench shows: its sockets, the shift's counts, the server, what is under way, and why the line stands.
+
+Threads of the sockets change it, screen and page look at it. It writes and sends nothing.
+"""
+
+from __future__ import annotations
+
+import threading
+import time
+from collections import Counter
+from dataclasses import dataclass, field, replace
+from typing import Any, Mapping, Optional, Sequence
+
+from wanekupo.endings import Ended
+
+WAITING, WORKING, PASSED, FAILED = "waiting", "working", "PASS", "FAIL"
+
+
+@dataclass(frozen=True)
+class Socket:
+    """A socket's state, with the step of a chip that is worked on, and the sentence of one that ended."""
+
+    name: str
+    state: str = WAITING
+    step: str = ""
+    chip: str = ""
+    serial: str = ""
+    sentence: str = ""
+    reason: str = ""
+    since: float = 0.0
+
+
+@dataclass(frozen=True)
+class Failure:
+    """A chip that failed: at which step, why, and in which socket."""
+
+    step: str
+    reason: str
+    socket: str
+
+
+@dataclass(frozen=True)
+class Shift:
+    """The counts of a shift: since when, how many passed, how many failed by their reasons, and the last ones that
+    failed with none between that passed."""
+
+    since: str
+    passed: int = 0
+    failed: Mapping[str, int] = field(default_factory=dict)
+    row: tuple[Failure, ...] = ()
+
+    def with_ending(self, ended: Ended, step: str, socket: str) -> Shift:
+        """The counts with one chip more."""
+        if ended.ending.name == "passed":
+            return replace(self, passed=self.passed + 1, row=())
+        if not ended.ending.counts():
+            return self
+        name = ended.ending.name
+        failed = dict(Counter(self.failed) + Counter([name]))
+        return replace(self, failed=failed, row=(*self.row, Failure(step, name, socket)))
+
+
+def ended_socket(name: str, ended: Ended, step: str, chip: str, serial: str, order: str) -> Socket:
+    """A socket whose chip has ended so."""
+    sentence = ended.ending.sentence(**{"order": order, "step": step, **ended.facts})
+    state = PASSED if ended.ending.is_pass() else FAILED
+    return Socket(name, state, step, chip, serial, sentence, ended.ending.name, time.time())
+
+
+def in_common(row: Sequence[Failure]) -> str:
+    """What chips that failed in a row have in common: their step, their reason, their socket."""
+    steps, reasons, sockets = ({getattr(it, name) for it in row} for name in ("step", "reason", "socket"))
+    told = f"all at the step {steps.pop()!r}" if len(steps) == 1 else "at no step in common"
+    told += f", each as {reasons.pop()!r}" if len(reasons) == 1 else ""
+    return told + (f", each in the socket {sockets.pop()!r}" if len(sockets) == 1 else "")
+
+
+class Board:
+    """`rest` is how many serial numbers of the order are left, None where that isn't known yet."""
+
+    def __init__(self, product: str, order: str, sockets: Sequence[Socket], start: str, shift: Shift):
+        self._changed = threading.Condition()
+        self._product, self._order, self._start = product, order, start
+        self._sockets = {it.name: it for it in sockets}
+        self._shift, self._rest = shift, None  # type: tuple[Shift, Optional[int]]
+        self._away: Optional[tuple[float, str]] = None
+        self._stopped, self._notice, self._version = "", "", 0
+        self._under_way: dict[str, Mapping[str, str]] = {}
+
+    # What threads tell.
+
+    def _set(self, **changes: Any) -> None:
+        with self._changed:
+            for name, found in changes.items():
+                setattr(self, f"_{name}", found)
+            self._version += 1
+            self._changed.notify_all()
+
+    def _set_socket(self, socket: Socket) -> None:
+        with self._changed:
+            self._set(sockets={**self._sockets, socket.name: socket})
+
+    def waiting(self, name: str, told: str = "") -> None:
+        """The socket has room for a chip; `told` is what is to be said beside."""
+        found = self.socket(name)
+        if (found.state, found.sentence) != (WAITING, told):
+            self._set_socket(Socket(name, WAITING, sentence=told, since=time.time()))
+
+    def working(self, name: str, step: str, chip: str, serial: str) -> None:
+        self._set_socket(Socket(name, WORKING, step, chip, serial, since=time.time()))
+
+    def ended(self, last: Socket) -> None:
+        """A chip's stay in a socket is at its end."""
+        self._set_socket(last)
+
+    def counted(self, shift: Shift) -> None:
+        self._set(shift=shift)
+
+    def left(self, rest: int) -> None:
+        self._set(rest=rest)
+
+    def away(self, why: str) -> None:
+        """The server doesn't answer, or something else does."""
+        with self._changed:
+            since = self._away[0] if self._away else time.time()
+            if self._away != (since, why):
+                self._set(away=(since, why))
+
+    def there(self) -> None:
+        if self._away:
+            self._set(away=None)
+
+    def stop(self, why: str) -> None:
+        """The line stands: no chip is begun until a person has it go on. The first reason stays."""
+        with self._changed:
+            if not self._stopped:
+                self._set(stopped=why)
+
+    def go_on(self) -> None:
+        self._set(stopped="", notice="")
+
+    def notice(self, told: str) -> None:
+        """What is said to who scanned or typed."""
+        self._set(notice=told)
+
+    def under_way(self, chips: Mapping[str, Mapping[str, str]]) -> None:
+        """The chips that were begun before this start and haven't ended yet, with their sockets and steps."""
+        self._set(under_way=dict(chips))
+
+    # What is shown.
+
+    def socket(self, name: str) -> Socket:
+        with self._changed:
+            return self._sockets[name]
+
+    def is_stopped(self) -> bool:
+        return bool(self._stopped)
+
+    def changed_since(self, version: int, seconds: float) -> int:
+        """Waits so long for another version than this, and gives it."""
+        with self._changed:
+            self._changed.wait_for(lambda: self._version != version, seconds)
+            return self._version
+
+    def shown(self) -> dict[str, Any]:
+        """All of it, as JSON has it."""
+        with self._changed:
+            away = self._away
+            return {
+                "version": self._version,
+                "now": time.time(),
+                "product": self._product,
+                "order": self._order,
+                "start": self._start,
+                "rest": self._rest,
+                "sockets": [dict(vars(it)) for it in self._sockets.values()],
+                "shift": {"since": self._shift.since, "passed": self._shift.passed, "failed": dict(self._shift.failed)},
+                "away": {"since": away[0], "why": away[1]} if away else None,
+                "stopped": self._stopped,
+                "notice": self._notice,
+                "under_way": [{"chip": chip, **more} for chip, more in self._under_way.items()],
+            }

@@ -1,0 +1,98 @@
+"""The recipe's own commands, as a key pair's, a flash tool's and a label printer's.
+
+A hook is a command with SERIAL, MAC, MACS, CHIP, ORDER, KEY_SHA256 and FOLDER in its environment. It runs in a session
+of its own, so that all that it started ends with it.
+"""
+
+from __future__ import annotations
+
+import contextlib
+import os
+import re
+import select
+import signal
+import subprocess
+import tempfile
+import time
+from dataclasses import dataclass
+from pathlib import Path
+from typing import IO, Callable, Mapping, Optional
+
+from wanekupo.endings import Ended
+from wanekupo.recipe import Command
+from wanekupo.texts import shown
+
+# What of a hook's output is kept in the log, and what of its last line comes on a screen.
+KEPT_OUTPUT, SHOWN_OUTPUT = 1 << 16, 120
+
+# What a log never has, whatever a hook prints: private keys as PEM, and digits of 32 bytes or more, in one piece or by
+# bytes or words, as a dump prints them.
+SECRETS = (
+    re.compile(r"-----BEGIN [A-Z0-9 ]*PRIVATE KEY-----.*?(-----END [A-Z0-9 ]*PRIVATE KEY-----|\Z)", re.DOTALL),
+    re.compile(r"[0-9A-Fa-f]{64,}"),
+    re.compile(r"\b(?:[0-9A-Fa-f]{2}[\s:,]+){31,}[0-9A-Fa-f]{2}"),
+    re.compile(r"\b(?:[0-9A-Fa-f]{8}[\s:,]+){7,}[0-9A-Fa-f]{8}"),
+)
+
+
+@dataclass(frozen=True)
+class Done:
+    """What a hook did: its status, None where its time was out, how long it took, and what it printed."""
+
+    name: str
+    status: Optional[int]
+    seconds: float
+    output: str
+
+
+def without_secrets(text: str, kept: tuple[str, ...] = ()) -> str:
+    """A hook's output without what may be a key; digests in `kept` are no secret, and stay."""
+    for secret in SECRETS:
+        text = secret.sub(lambda it: it[0] if it[0].strip().lower() in kept else "[a key]", text)
+    return text
+
+
+def run_hook(command: Command, facts: Mapping[str, str], here: Path, log: Callable[[Done], None]) -> None:
+    """Runs a command in the recipe's folder with the facts in its environment, and has its output kept. Raises how it
+    failed. What it leaves running is ended."""
+    begun = time.monotonic()
+    with tempfile.TemporaryFile() as output:
+        try:
+            process = subprocess.Popen(
+                command.words,
+                cwd=here,
+                env={**os.environ, **facts},
+                stdin=subprocess.DEVNULL,
+                stdout=output,
+                stderr=subprocess.STDOUT,
+                start_new_session=True,
+            )
+        except OSError as error:
+            raise Ended("hook_missing", hook=command.name, detail=error.strerror) from error
+        status = _waited(process, command.timeout)
+        said = _output(output)
+    kept = without_secrets(said, (facts.get("KEY_SHA256", ""),))
+    log(Done(command.name, status, round(time.monotonic() - begun, 3), kept))
+    if status is None:
+        raise Ended("hook_late", hook=command.name, detail=f"more than {command.timeout:g} seconds")
+    if status:
+        lines = [line.strip() for line in kept.splitlines() if line.strip()]
+        told = lines[-1][:SHOWN_OUTPUT] if lines else f"status {status}"
+        raise Ended("hook_failed", hook=command.name, detail=shown(told))
+
+
+def _waited(process: subprocess.Popen[bytes], timeout: float) -> Optional[int]:
+    """The status of a process, None where its time was out. What it started is ended before its number is free."""
+    with open(os.pidfd_open(process.pid), "rb") as ended:
+        is_in_time = bool(select.select([ended], [], [], timeout)[0])
+    with contextlib.suppress(ProcessLookupError):
+        os.killpg(process.pid, signal.SIGKILL)
+    status = process.wait()
+    return status if is_in_time else None
+
+
+def _output(output: IO[bytes]) -> str:
+    """The end of what was printed."""
+    size = output.seek(0, os.SEEK_END)
+    output.seek(max(0, size - KEPT_OUTPUT))
+    return output.read().decode("utf-8", errors="replace")

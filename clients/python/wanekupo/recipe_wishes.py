@@ -1,0 +1,118 @@
+"""What a recipe's wishes are in its fuse map: which bits are to read 1 and which 0, and which keys are to be there.
+
+The server judges each plan by itself. This is for a chip that can't be planned any more: what it awaits by another's
+plan, and what is burnt of one that has its identity. The map's form is on the page docs/reference/files.md.
+"""
+
+from __future__ import annotations
+
+import tomllib
+from dataclasses import dataclass
+from typing import Any, Iterable, Mapping, Optional
+
+from wanekupo.replies import Work
+
+# A bit of the chip: its block in the map, and its place in that block.
+Place = tuple[int, int]
+
+
+@dataclass(frozen=True)
+class Field:
+    """A field of a map. `write` and `read` are the bits of the lock fields that lock it."""
+
+    name: str
+    block: int
+    bit: int
+    count: int
+    write: Optional[int] = None
+    read: Optional[int] = None
+    key: bool = False
+
+    def place(self, index: int) -> Place:
+        return self.block, self.bit + index
+
+
+class Layout:
+    """The name and the fields of a fuse map, and the two of them that have the locks."""
+
+    def __init__(self, text: str):
+        table = tomllib.loads(text)
+        names = Field.__dataclass_fields__
+        fields = [Field(**{name: it[name] for name in names if name in it}) for it in table["field"]]
+        self.name, self.fields = str(table["name"]), {it.name: it for it in fields}
+        self.blocks = [int(it["words"]) for it in table["block"]]
+        self._write, self._read = self.fields[table["wr"]], self.fields[table["rd"]]
+
+    def write_lock(self, name: str) -> Optional[Place]:
+        lock = self.fields[name].write
+        return None if lock is None else self._write.place(lock)
+
+    def read_lock(self, name: str) -> Optional[Place]:
+        lock = self.fields[name].read
+        return None if lock is None else self._read.place(lock)
+
+    def name_of(self, place: Place) -> str:
+        """What a person calls a bit: its field, or the lock of one."""
+        for name in self.fields:
+            if place == self.write_lock(name):
+                return f"the write lock of {name}"
+            if place == self.read_lock(name):
+                return f"the read lock of {name}"
+        for it in self.fields.values():
+            if it.block == place[0] and it.bit <= place[1] < it.bit + it.count:
+                return it.name
+        return f"bit {place[1]} of block {place[0]}"
+
+
+@dataclass(frozen=True)
+class Wanted:
+    """What is to be there in the end; `keys` are the digests of keys by their fields."""
+
+    layout: Layout
+    ones: frozenset[Place]
+    zeros: frozenset[Place]
+    keys: Mapping[str, str]
+
+    def others(self, burnt: Work, awaited: Iterable[Work]) -> list[str]:
+        """The names of what is burnt, or awaited, and contradicts the wishes; what is awaited has to be wished for."""
+        works = list(awaited)
+        to_burn = frozenset().union(*map(places_of, works))
+        places = (to_burn - self.ones) | (places_of(burnt) & self.zeros)
+        keys = [name for name, digest in burnt.keys.items() if self.keys.get(name, digest) != digest]
+        keys += [name for it in works for name, digest in it.keys.items() if self.keys.get(name) != digest]
+        return self._names(places, keys)
+
+    def missing(self, works: Iterable[Work]) -> list[str]:
+        """The names of what is wished for and is in none of the works."""
+        works = list(works)
+        places = self.ones.difference(*map(places_of, works))
+        return self._names(places, [name for name in self.keys if all(name not in it.keys for it in works)])
+
+    def _names(self, places: Iterable[Place], keys: Iterable[str]) -> list[str]:
+        return sorted({*map(self.layout.name_of, places), *keys})
+
+
+def wanted_of(layout: Layout, wishes: Iterable[Mapping[str, Any]]) -> Wanted:
+    """What wishes come to, in the words in which the server is asked."""
+    ones: set[Place] = set()
+    zeros: set[Place] = set()
+    keys = {}
+    for wish in wishes:
+        field, kind = layout.fields[wish["field"]], wish["kind"]
+        lock = {"wlock": layout.write_lock, "rlock": layout.read_lock}.get(kind)
+        if kind == "key":
+            keys[field.name] = wish["key_sha256"]
+        elif kind == "bit":
+            ones.add(field.place(wish["index"]))
+        elif kind == "value":
+            number = int(wish["value"], 16)
+            for index in range(field.count):
+                (ones if number >> index & 1 else zeros).add(field.place(index))
+        elif lock and (place := lock(field.name)):
+            ones.add(place)
+    return Wanted(layout, frozenset(ones), frozenset(zeros), keys)
+
+
+def places_of(work: Work) -> frozenset[Place]:
+    """The bits of a reply's words."""
+    return frozenset((it.block, 32 * it.word + bit) for it in work.bits for bit in range(32) if it.mask >> bit & 1)
