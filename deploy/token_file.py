@@ -53,6 +53,9 @@ class Seat:
     server: str = "station"
     given: int = 0
 
+    def title(self) -> str:
+        """What it is called in a sentence."""
+        return f"the manager's seat {self.seat}" if self.is_manager() else f"the seat {self.seat} of {self.customer}"
 
     def is_manager(self) -> bool:
         return self.seat.startswith("@")

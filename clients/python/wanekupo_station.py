@@ -3,7 +3,7 @@
 espefuse's words.
 
 These are the names of it; the folder `wanekupo` beside this file has what they do. Run, it is the command line. Python
-3.9 or later, standard library alone.
+3.11, with the package beside it.
 """
 
 from wanekupo.chips import (

@@ -103,12 +103,12 @@ def free_port():
 class Program:
     """`station serve` over a store in a folder. It has one port, also when it is started again."""
 
-    def __init__(self, folder):
-        self.db, self.port, self.process = Path(folder) / "books.db", free_port(), None
+    def __init__(self, folder, site=SITE):
+        self.db, self.port, self.process, self.site = Path(folder) / "books.db", free_port(), None, site
         self.start()
 
     def start(self):
-        words = [PROGRAM, "serve", "--site", str(SITE), "--db", str(self.db), "--port", str(self.port)]
+        words = [PROGRAM, "serve", "--site", str(self.site), "--db", str(self.db), "--port", str(self.port)]
         words += ["--connections", "1000000"]
         self.process = subprocess.Popen(words, stdout=subprocess.PIPE, stdin=subprocess.DEVNULL)
         ready, _, _ = select.select([self.process.stdout], [], [], 60)
@@ -156,14 +156,17 @@ class Proxy:
     | 504          | it is done, and gets a page of the proxy's |
     | late         | it is done, and gets its reply after LATE seconds |
     | kill         | the program is killed some milliseconds after it has the request, and started again |
+    | late copy    | it is held, and gets no reply; a copy of it comes to the program behind the next request |
+    | held         | it is held, and gets no reply; a copy of it comes to the program with `deliver` |
     """
 
     FAULTS = ["lost request", "cut request", "502", "401", "lost reply", "cut reply", "cut head", "504", "late", "kill"]
+    FAULTS += ["late copy"]
     LATE = 0.5
     SOONEST, LATEST = 0.0, 0.04
 
     def __init__(self, program, faults=()):
-        self.program, self.faults, self.seen = program, list(faults), []
+        self.program, self.faults, self.seen, self.held, self.late = program, list(faults), [], [], []
         self.listener = socket.create_server((HOST, 0))
         self.url = f"http://{HOST}:{self.listener.getsockname()[1]}"
         threading.Thread(target=self.serve, daemon=True).start()
@@ -186,7 +189,9 @@ class Proxy:
         self.seen.append((fault, request))
         page = b"HTTP/1.1 %s Bad\r\nContent-Type: text/html\r\nContent-Length: 6\r\nConnection: close\r\n\r\n<html>"
         reply = b""
-        if fault not in ("lost request", "502", "401"):
+        if fault in ("held", "late copy"):
+            (self.held if fault == "held" else self.late).append(request)
+        elif fault not in ("lost request", "502", "401"):
             with socket.create_connection((HOST, self.program.port)) as server:
                 server.sendall(request[: len(request) // 2] if fault == "cut request" else request)
                 server.shutdown(socket.SHUT_WR)
@@ -206,6 +211,15 @@ class Proxy:
         elif fault == "late":
             time.sleep(self.LATE)
         client.sendall(reply)
+        if fault != "late copy":
+            self.deliver(self.late)
+
+    def deliver(self, held=None):
+        """The requests that are held come to the program now. Their replies, which nobody hears, are given."""
+        held = self.held if held is None else held
+        replies = [exchanged(self.program.port, request) for request in held]
+        held.clear()
+        return replies
 
     def kill(self):
         """At a moment that goes on from kill to kill, before the request is done or after it."""
@@ -262,10 +276,7 @@ class TokenProxy(Proxy):
         if fault == "lost request":
             return
         head = head.replace(token.encode(), self.tokens[token].encode())
-        with socket.create_connection((HOST, self.program.port)) as server:
-            server.sendall(head + b"\r\n\r\n" + body)
-            server.shutdown(socket.SHUT_WR)
-            reply = b"".join(iter(lambda: server.recv(65536), b""))
+        reply = exchanged(self.program.port, head + b"\r\n\r\n" + body)
         if fault != "lost reply":
             client.sendall(reply)
 
@@ -303,10 +314,7 @@ class KeptProxy(Proxy):
             self.ended.release()
 
     def answered(self, request):
-        with socket.create_connection((HOST, self.program.port)) as server:
-            server.sendall(request)
-            server.shutdown(socket.SHUT_WR)
-            return b"".join(iter(lambda: server.recv(65536), b""))
+        return exchanged(self.program.port, request)
 
 
 class Canned:
@@ -340,6 +348,14 @@ class Canned:
 
     def close(self):
         self.listener.close()
+
+
+def exchanged(port, request):
+    """What the program answers to a request's bytes."""
+    with socket.create_connection((HOST, port)) as server:
+        server.sendall(request)
+        server.shutdown(socket.SHUT_WR)
+        return b"".join(iter(lambda: server.recv(65536), b""))
 
 
 def whole(client):
@@ -395,10 +411,14 @@ class StationCase(unittest.TestCase):
         folder = tempfile.TemporaryDirectory()
         self.addCleanup(folder.cleanup)
         self.folder = Path(folder.name)
-        self.program = Program(self.folder)
+        self.program = Program(self.folder, self.site())
         self.addCleanup(lambda: self.program.kill())
         (self.folder / "flash.key").write_bytes(FLASH_KEY)
         self.keys = {"BLOCK1": KeyFile(str(self.folder / "flash.key"), "flash_encryption")}
+
+    def site(self):
+        """The site file: acme has the seat a1 with the token abc, bolt the seat b1 with the token hello."""
+        return SITE
 
     def journal(self, file="a1.journal"):
         journal = Journal(self.folder / file)
@@ -425,7 +445,7 @@ class StationCase(unittest.TestCase):
         """An `espefuse.py` in the folder, which is the simulated chip in the file `chip`; where `instead` is given, it
         burns that in place of the bits that it is told. What finds it is given."""
         words = shlex.join([sys.executable, str(SIMULATED), "--path-efuse-file", "chip"])
-        other = f'case "$*" in *burn_bit*) exec {words} {instead};; esac\n' if instead else ""
+        other = f'case "$*" in *burn_bit*|*execute_scripts*) exec {words} {instead};; esac\n' if instead else ""
         (self.folder / "espefuse.py").write_text(f'#!/bin/sh\n{other}exec {words} "$@"\n', encoding="ascii")
         (self.folder / "espefuse.py").chmod(0o700)
         return {**os.environ, "PATH": f"{self.folder}:{os.environ['PATH']}"}

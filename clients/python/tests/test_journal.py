@@ -6,8 +6,10 @@ import errno
 import hashlib
 import json
 import os
+import re
 import shutil
 import subprocess
+import time
 import unittest
 from unittest import mock
 
@@ -267,6 +269,152 @@ class Restore(StationCase):
         issued += f"{self.MACS[0]},acme-ca,A0998,{hashlib.sha256(b'1').hexdigest()},\n"
         issued += f"{self.MACS[4]},acme-ca,B001,{KEY_SHA256},020000000010\n"
         self.assertEqual(self.ran("issued", str(self.folder / "a1.journal")), (0, issued, ""))
+
+
+class Days(StationCase):
+    """A folder with a file a day, by a clock that the test sets, and what reads it."""
+
+    def setUp(self):
+        super().setUp()
+        self.days = self.folder / "journals"
+        self.days.mkdir(mode=0o700)
+        self.now = "2026-11-28T23:59:59Z"
+        moment = lambda: time.strptime(self.now, "%Y-%m-%dT%H:%M:%SZ")
+        patch = mock.patch.object(time, "gmtime", moment)
+        patch.start()
+        self.addCleanup(patch.stop)
+        self.wire = self.proxy()
+
+    def opened(self):
+        journal = Journal(self.days, "a1", "Zo\u00eb")
+        return self.station(self.wire.url, journal=journal, closes_journal=True, patience=0)
+
+    def lived(self):
+        """A map before midnight, an order whose reply comes behind it, and an identity whose reply is lost at the next
+        midnight."""
+        with self.opened() as station:
+            station.import_map(MAP)
+            once = station._server.once
+
+            def slow(*words):
+                self.now = "2026-11-29T00:00:01Z"
+                return once(*words)
+
+            with mock.patch.object(station._server, "once", slow):
+                station.make_order(**{**ORDER, "macs": 0})
+            station.register(MAC, "o1", DIGEST, self.chip().read())
+            station.plan(MAC, [])
+            self.now = "2026-11-29T23:59:59Z"
+            self.wire.faults = ["lost reply"]
+            with self.assertRaises(NoReply):
+                station.identify(MAC, b"1")
+        self.now = "2026-11-30T00:00:01Z"
+        with self.opened() as station:
+            station.finish()
+            station.scrap(MAC)
+
+    def test_a_file_a_day(self):
+        """A reply stands in its request's file, and what is sent again on another day is one request."""
+        self.lived()
+        found = {}
+        for file in sorted(self.days.iterdir()):
+            lines = list(map(json.loads, file.read_bytes().splitlines()))
+            found[file.name] = [line.get("path", "reply").rpartition("/")[2] for line in lines]
+            self.assertEqual({(line["seat"], line["operator"]) for line in lines}, {("a1", "Zo\u00eb")})
+        expected = {
+            "a1-2026-11-28.journal": ["map", "reply", "order", "reply"],
+            "a1-2026-11-29.journal": ["device", "reply", "plan", "reply", "identity"],
+            "a1-2026-11-30.journal": ["identity", "reply", "scrap", "reply"],
+        }
+        self.assertEqual(found, expected)
+        asked = merged([self.days])
+        paths = [f"/v1/{it}" for it in "map order device plan identity scrap".split()]
+        self.assertEqual([it.path for it in asked], paths)
+        self.assertTrue(all(it.is_done() for it in asked))
+        with self.opened(), self.assertRaises(BadJournal):
+            Journal(self.days, "a1")
+
+    def test_a_folder_is_read(self):
+        """As its files are, also where one of them is named, and beside another seat's."""
+        self.lived()
+        files = sorted(self.days.iterdir())
+        (self.days / "notes").write_text("x", encoding="ascii")
+        for names in ([self.days], files, [self.days, files[1]]):
+            status, out, _ = ran("issued", *names)
+            record = f"{MAC},acme-ca,A998,{hashlib.sha256(b'1').hexdigest()},"
+            self.assertEqual((status, out.splitlines()[1:]), (0, [record]))
+            status, out, err = ran("lost", *names)
+            row = ["2026-11-30T00:00:01Z", str(files[2]), MAC, "o1", "scrapped"]
+            self.assertEqual((status, out.split()[5:], err), (0, row, ""))
+        self.program.kill()
+        for file in self.folder.glob("books.db*"):
+            file.unlink()
+        self.program.start()
+        with self.station(file="restore.json") as station:
+            told = restore(station, [self.days])
+            counts = {"orders": 1, "maps": 1, "added": 1, "present": 0, "scrapped": [], "shipped": []}
+            self.assertEqual(told, {**counts, "left": {MAC: ["scrapped", None]}})
+        self.assertEqual(ran("issued", self.folder / ".")[0], 2)
+
+
+class Records(StationCase):
+    """Two records of one serial number: a store that was an older one gave it once more."""
+
+    def written(self, name, *requests):
+        """A journal of requests, each its path, its members, and its reply where it has one."""
+        lines = []
+        for number, (path, members, reply) in enumerate(requests, 1):
+            at = {"at": f"2026-11-27T06:00:0{number}Z"}
+            lines.append({**at, "path": path, "asked": {"nr": number, **members}, "digest": ""})
+            if reply is not None:
+                lines.append({**at, "nr": number, "status": 200, "reply": reply})
+        (self.folder / name).write_text("".join(json.dumps(line) + "\n" for line in lines), encoding="ascii")
+        return self.folder / name
+
+    @staticmethod
+    def identity(chip, key, serial="A998", issuer="acme-ca"):
+        reply = {"chip": chip, "issuer": issuer, "serial": serial, "key_sha256": key, "mac": None}
+        return "/v1/identity", {"chip": chip, "public_key": "00"}, reply
+
+    @staticmethod
+    def imported(key, reply):
+        return "/v1/import", {"issuer": "acme-ca", "csv": f"serial,key_sha256\nA998,{key}\n"}, reply
+
+    def test_two_records_of_one_serial_number(self):
+        """They are told with both journals and lines, by `issued` and by `restore`, which sends nothing then."""
+        one, done = self.identity(MAC, "a" * 64), {"added": 1, "present": 0}
+        (self.folder / "a1.token").write_text("abc", encoding="ascii")
+        seat = ["--url", self.program.url, "--token", self.folder / "a1.token", "--state", self.folder / "restore.json"]
+        for first, second, lines in (
+            ([one], [self.identity("240ac4000002", "b" * 64)], (2, 2)),
+            ([one], [self.identity("240ac4000002", "a" * 64)], (2, 2)),
+            ([one], [self.identity(MAC, "b" * 64)], (2, 2)),
+            ([one], [one, self.imported("b" * 64, done)], (2, 4)),
+            ([self.imported("b" * 64, done)], [one], (2, 2)),
+            ([one, self.identity("240ac4000002", "b" * 64)], [], (2, 4)),
+        ):
+            files = [self.written("one.journal", *first), self.written("two.journal", *second)]
+            names = [files[0], files[1] if second else files[0]]
+            for words in (["issued", *files], [*seat, "restore", *files]):
+                status, out, err = ran(*words)
+                places = re.findall(r"line (\d+) of (\S+)", err)
+                expected = {(str(line), str(name)) for line, name in zip(lines, names)}
+                self.assertEqual((status, out, set(places), "A998" in err), (2, "", expected, True), err)
+        self.assertEqual(self.station(file="other.json").expected_number(), 1)
+
+    def test_what_is_one_record(self):
+        """The same one again, an import of it, another issuer's, and an import that may never have been done."""
+        one, done = self.identity(MAC, "a" * 64), {"added": 0, "present": 1}
+        for more in (
+            one,
+            self.imported("A" * 64, done),
+            self.identity("240ac4000002", "b" * 64, issuer="other-ca"),
+            self.imported("b" * 64, None),
+        ):
+            for requests in ([one, more], [more, one]):
+                status, out, err = ran("issued", self.written("one.journal", *requests))
+                self.assertEqual((status, err), (0, ""), more)
+                self.assertIn(f"{MAC},acme-ca,A998,{'a' * 64},\n", out)
 
 
 if __name__ == "__main__":

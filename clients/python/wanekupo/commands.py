@@ -1,4 +1,7 @@
-"""The command line: one command a request, and those of the journal and of the yield."""
+"""The command line of the version before, `wanekupo_station.py`, for this one: `wanekupo.command_line` has the new one.
+
+It names the classes of errors, wants a state file to look, and says `--state` of two things.
+"""
 
 from __future__ import annotations
 
@@ -10,68 +13,32 @@ import ssl
 import subprocess
 import sys
 from pathlib import Path
-from typing import Any, Callable, Iterable, Optional, Sequence
+from typing import Any, Callable, Optional, Sequence
 
-from wanekupo.chips import Espefuse, KeyFile, bit, blocks_of, chip_of, commands, key, rlock, value, wlock
+from wanekupo.asking import (
+    burn_lines,
+    finish,
+    import_rows,
+    key_file,
+    make_order,
+    number,
+    pair,
+    plan,
+)
+from wanekupo.chips import Espefuse, blocks_of, chip_of
+from wanekupo.command_row import text_of, told
 from wanekupo.errors import NoReply, NoReports, NotTheServer, OutOfStep, Refused, StationError, TooLong
 from wanekupo.journal import Journal, issued, merged
+from wanekupo.looking import DEVICES
 from wanekupo.lost import given_up, lost_csv, lost_formulas, lost_text
 from wanekupo.moments import moment_of, seconds_of
 from wanekupo.pictures import as_svg
-from wanekupo.restore import restore
-from wanekupo.rows import rows_of
+from wanekupo.printing import Formulas, say, warn
+from wanekupo.reports import restored
 from wanekupo.shifts import as_csv, as_text, between, formulas_of
 from wanekupo.station import Station
-from wanekupo.texts import compact_json, csv_lines, csv_rows, formulas_in, shown, shown_lines
+from wanekupo.texts import compact_json, csv_lines, csv_rows
 from wanekupo.watching import watch
-
-
-def _say(text: str) -> None:
-    """Prints lines on standard output. All that the command line prints comes through here, or through `_warn`: no
-    control character of a server reaches a terminal."""
-    print(shown_lines(text), end="")
-
-
-def _warn(*sentences: str) -> None:
-    for sentence in sentences:
-        print(shown(sentence), file=sys.stderr)
-
-
-def _warn_of_formulas(names: Sequence[str], rows: Iterable[Sequence[Any]], told: set[str]) -> None:
-    """Tells which fields of what is printed a spreadsheet would take for formulas, each but once."""
-    for sentence in formulas_in(names, rows):
-        if sentence not in told:
-            _warn(f"warning: {sentence}")
-            told.add(sentence)
-
-
-def _key_file(word: str) -> tuple[str, KeyFile]:
-    field, path = _pair(word)
-    path, _, name = path.partition(":")
-    return field, KeyFile(path, name or field)
-
-
-def _pair(word: str) -> tuple[str, str]:
-    field, found, text = word.partition("=")
-    if not found:
-        raise argparse.ArgumentTypeError(f"{word} has no =")
-    return field, text
-
-
-def _told(parse: Callable[[str], Any]) -> Callable[[str], Any]:
-    """The same for a word of the command line, whose error is told as it stands."""
-
-    def told(word: str) -> Any:
-        try:
-            return parse(word)
-        except ValueError as error:
-            raise argparse.ArgumentTypeError(str(error)) from error
-
-    return told
-
-
-def _text_of(file: str) -> str:
-    return sys.stdin.read() if file == "-" else Path(file).read_text(encoding="utf-8")
 
 
 def _station(args: argparse.Namespace, file: Optional[str], patience: float, **options: Any) -> Station:
@@ -81,80 +48,10 @@ def _station(args: argparse.Namespace, file: Optional[str], patience: float, **o
     return Station(args.url, token, file, patience, **more)
 
 
-def _order(station: Station, args: argparse.Namespace) -> None:
-    range_of = (args.prefix, args.width, args.first, args.quantity)
-    station.make_order(args.name, args.issuer, *range_of, args.macs, args.not_before)
-
-
-def _register(station: Station, args: argparse.Namespace) -> None:
-    blocks = blocks_of(_text_of(args.dump))
-    station.register(chip_of(blocks), args.order, args.map, blocks)
-
-
-def _plan(station: Station, args: argparse.Namespace) -> None:
-    wishes = [bit(field, int(index)) for field, index in args.bit]
-    wishes += [value(field, digits) for field, digits in args.value]
-    wishes += [key(field, file.digest()) for field, file in args.key]
-    station.plan(args.chip, [*wishes, *map(wlock, args.wlock), *map(rlock, args.rlock)])
-
-
-def _burn(station: Station, args: argparse.Namespace) -> str:
-    device = station.device(args.chip)
-    work = device.batch2 if device.state == "awaiting2" else device.batch1
-    return "".join(f"{args.tool} {shlex.join(words)}\n" for words in commands(work, dict(args.key)))
-
-
-def _settle(station: Station, args: argparse.Namespace) -> Any:
-    station.settle(args.chip, Espefuse(shlex.split(args.tool), dict(args.key)))
-    return station.get("/v1/device", chip=args.chip)
-
-
-class Progress:
-    """How far long work is: a line on standard error, where that is a terminal."""
-
-    def __init__(self, what: str):
-        self.what, self.is_shown = what, False
-
-    def __call__(self, done: int, of: int) -> None:
-        if sys.stderr.isatty():
-            print(f"\r{self.what}: {done} of {of}", end="", file=sys.stderr, flush=True)
-            self.is_shown = True
-
-    def __enter__(self) -> Progress:
-        return self
-
-    def __exit__(self, *_: Any) -> None:
-        if self.is_shown:
-            print(file=sys.stderr)
-
-
-def _import(station: Station, args: argparse.Namespace) -> Any:
-    rows = rows_of(_text_of(args.file))
-    with Progress("rows") as told:
-        done, before = station.import_all(args.issuer, rows, told)
-    return {"added": done.added, "before": before, "present": done.present}
-
-
-def _finish(station: Station, _: argparse.Namespace) -> Any:
-    done = station.finish()
-    return {"path": done.path, "reply": done.reply} if done else {}
-
-
-def _number(station: Station, args: argparse.Namespace) -> Any:
-    if args.resynchronize:
-        station.resynchronize()
-    return {"expected": station.expected_number(), "own": station.own_number()}
-
-
-def _restore(station: Station, args: argparse.Namespace) -> Any:
-    with Progress("requests, serial numbers and devices") as told:
-        return restore(station, args.journals, told)
-
-
 def _issued(args: argparse.Namespace) -> str:
     names = ("chip", "issuer", "serial", "key_sha256", "mac")
     rows = [[it[name] or "" for name in names] for it in issued(merged(args.journals))]
-    _warn_of_formulas(names, rows, set())
+    Formulas().warn_of(names, rows)
     return csv_lines([names, *rows])
 
 
@@ -170,7 +67,7 @@ def _watch(args: argparse.Namespace) -> str:
 
 def _yield(args: argparse.Namespace) -> str:
     shift = between(args.file, getattr(args, "from"), args.to)
-    _warn(*(f"warning: {told}" for told in [*shift.warnings, *(formulas_of(shift) if args.csv else [])]))
+    warn(*(f"warning: {told}" for told in [*shift.warnings, *(formulas_of(shift) if args.csv else [])]))
     for file, text in ((args.csv, as_csv), (args.svg, as_svg)):
         if file:
             Path(file).write_text(text(shift), encoding="utf-8")
@@ -179,7 +76,7 @@ def _yield(args: argparse.Namespace) -> str:
 
 def _lost(args: argparse.Namespace) -> str:
     lines, unanswered = given_up(args.journals, getattr(args, "from"), args.to)
-    _warn(*(f"warning: {told}" for told in [*unanswered, *(lost_formulas(lines) if args.csv else [])]))
+    warn(*(f"warning: {told}" for told in [*unanswered, *(lost_formulas(lines) if args.csv else [])]))
     if args.csv:
         Path(args.csv).write_text(lost_csv(lines), encoding="utf-8")
     return lost_text(lines)
@@ -187,12 +84,12 @@ def _lost(args: argparse.Namespace) -> str:
 
 def _devices(station: Station, args: argparse.Namespace) -> str:
     """A line for each device, printed as its page comes."""
-    told: set[str] = set()
+    formulas = Formulas()
     for it in station.devices(args.after):
         if args.of_state in ("", it.state):
             row = (it.chip, it.order, it.state, it.reason or "", it.serial or "")
-            _warn_of_formulas(("chip", "order", "state", "reason", "serial"), [row], told)
-            _say(csv_lines([row]))
+            formulas.warn_of(DEVICES, [row])
+            say(csv_lines([row]))
     return ""
 
 
@@ -200,24 +97,34 @@ def _report(station: Station, path: str) -> str:
     """A report as the server gives it."""
     text = station.get(path)
     names, *rows = csv_rows(text) or [[]]
-    _warn_of_formulas(names, rows, set())
+    Formulas().warn_of(names, rows)
     return text
+
+
+def register(station: Station, args: argparse.Namespace) -> None:
+    blocks = blocks_of(text_of(args.dump))
+    station.register(chip_of(blocks), args.order, args.map, blocks)
+
+
+def settle(station: Station, args: argparse.Namespace) -> Any:
+    station.settle(args.chip, Espefuse(shlex.split(args.tool), dict(args.key)))
+    return station.get("/v1/device", chip=args.chip)
 
 
 # Each command with its words, what it does, and what is said of it. One that answers nothing has its reply printed.
 COMMANDS: list[tuple[str, str, Callable[..., Any], str]] = [
-    ("order", "name issuer prefix", _order, "make an order"),
-    ("map", "file", lambda it, args: it.import_map(_text_of(args.file)) and None, "import a map"),
-    ("register", "order map dump", _register, "register a chip, by the file of a dump, or - for standard input"),
-    ("plan", "chip", _plan, "plan a chip"),
-    ("burn", "chip", _burn, "print espefuse's commands for the batch that a chip awaits"),
+    ("order", "name issuer prefix", make_order, "make an order"),
+    ("map", "file", lambda it, args: it.import_map(text_of(args.file)) and None, "import a map"),
+    ("register", "order map dump", register, "register a chip, by the file of a dump, or - for standard input"),
+    ("plan", "chip", plan, "plan a chip"),
+    ("burn", "chip", burn_lines, "print espefuse's commands for the batch that a chip awaits"),
     (
         "readback",
         "chip dump",
-        lambda it, args: it.read_back(args.chip, blocks_of(_text_of(args.dump))) and None,
+        lambda it, args: it.read_back(args.chip, blocks_of(text_of(args.dump))) and None,
         "send what a chip shows, by the file of a dump, or - for standard input",
     ),
-    ("settle", "chip", _settle, "burn and read back what a chip awaits"),
+    ("settle", "chip", settle, "burn and read back what a chip awaits"),
     (
         "identity",
         "chip public_key",
@@ -226,7 +133,7 @@ COMMANDS: list[tuple[str, str, Callable[..., Any], str]] = [
     ),
     ("ship", "chip", lambda it, args: it.ship(args.chip) and None, "ship a device"),
     ("scrap", "chip", lambda it, args: it.scrap(args.chip) and None, "scrap a device"),
-    ("import", "issuer file", _import, "import serial numbers, any number of rows, in parts of 500; again, it goes on"),
+    ("import", "issuer file", import_rows, "import serial numbers, any number of rows, in parts; again, it goes on"),
     ("show-order", "name", lambda it, args: it.get("/v1/order", name=args.name), "show an order"),
     ("device", "chip", lambda it, args: it.get("/v1/device", chip=args.chip), "show a device"),
     ("ledger", "chip", lambda it, args: it.get("/v1/ledger", chip=args.chip), "show a device's ledger"),
@@ -234,9 +141,9 @@ COMMANDS: list[tuple[str, str, Callable[..., Any], str]] = [
     ("devices", "", _devices, "list the customer's devices: chip, order, state, reason and serial number, a line each"),
     ("report", "", lambda it, _: _report(it, "/v1/report"), "show the customer's report"),
     ("site-report", "", lambda it, _: _report(it, "/v1/site/report"), "show the site's report, by the manager's token"),
-    ("finish", "", _finish, "send what is under way again, and show the last request's reply"),
-    ("number", "", _number, "show the number that the server expects of the seat, and the station's own"),
-    ("restore", "", _restore, "bring what journals say into a restored store"),
+    ("finish", "", finish, "send what is under way again, and show the last request's reply"),
+    ("number", "", number, "show the number that the server expects of the seat, and the station's own"),
+    ("restore", "", restored, "bring what journals say into a restored store"),
 ]
 
 # Commands that have no state file.
@@ -295,13 +202,13 @@ def _add_options(made: dict[str, argparse.ArgumentParser]) -> None:
     made["order"].add_argument("--macs", type=int, default=0, help="addresses for each serial number")
     made["order"].add_argument("--not-before", help="as 20260101000000Z, where the server knows it")
     for kind, form in (("bit", "FIELD=INDEX"), ("value", "FIELD=DIGITS")):
-        made["plan"].add_argument(f"--{kind}", action="append", default=[], type=_pair, metavar=form)
+        made["plan"].add_argument(f"--{kind}", action="append", default=[], type=pair, metavar=form)
     for kind in ("wlock", "rlock"):
         made["plan"].add_argument(f"--{kind}", action="append", default=[], metavar="FIELD")
     for name in ("plan", "burn", "settle"):
         said = "a key's file, and what espefuse burns it as, where that isn't FIELD"
         form = "FIELD=FILE[:NAME]"
-        made[name].add_argument("--key", action="append", default=[], type=_key_file, metavar=form, help=said)
+        made[name].add_argument("--key", action="append", default=[], type=key_file, metavar=form, help=said)
     for name in ("burn", "settle"):
         made[name].add_argument("--tool", default="espefuse.py", help="espefuse's command, with its port")
     said = "those in this state alone"
@@ -318,14 +225,14 @@ def _add_stateless(subparsers: Any, made: dict[str, argparse.ArgumentParser]) ->
         made[name].add_argument("journals", nargs="+", metavar="journal")
     for name in ("watch", "yield"):
         made[name].add_argument("file", help="FILE.csv is FILE-2026-11-27.csv of that day, in UTC")
-    made["watch"].add_argument("--every", default="15m", type=_told(seconds_of), help="as 30s, 15m or 1h")
+    made["watch"].add_argument("--every", default="15m", type=told(seconds_of), help="as 30s, 15m or 1h")
     made["watch"].add_argument("--times", type=int, default=0, help="how many reports, without end where it is 0")
     made["watch"].add_argument("--customer", default="", help="the seat's customer, for the column of that name")
     made["watch"].add_argument("--site", action="store_true", help="the site's report, with the manager's token")
     said = "as 2026-11-27T06:00 by this machine's clock, 2026-11-27T06:00Z or 2026-11-27T06:00+02:00"
     for name in ("yield", "lost"):
         for word in ("--from", "--to"):
-            made[name].add_argument(word, required=name == "yield", metavar="TIME", type=_told(moment_of), help=said)
+            made[name].add_argument(word, required=name == "yield", metavar="TIME", type=told(moment_of), help=said)
         made[name].add_argument("--csv", metavar="FILE", help="write it as comma-separated values too")
     made["yield"].add_argument("--svg", metavar="FILE", help="draw it")
 
@@ -358,14 +265,14 @@ def main(words: Optional[Sequence[str]] = None) -> int:
         if stop.expected < stop.number:
             look = "the store is an older one: unless it was restored on purpose, stop its server now, keep all "
             look += "stations off, and restore it from step 1 (docs/how-to/back-up-and-restore.md)"
-        _warn(f"stopped: {asked}: {stop}", look)
+        warn(f"stopped: {asked}: {stop}", look)
         return 5
     except Refused as refused:
-        _warn(f"refused: {refused}")
+        warn(f"refused: {refused}")
         return 1
     except (StationError, ValueError, OSError, subprocess.CalledProcessError) as error:
-        _warn(f"{type(error).__name__}: {error}")
+        warn(f"{type(error).__name__}: {error}")
         return 3 if isinstance(error, (NoReply, NotTheServer, TooLong)) else 2
     is_text = isinstance(reply, str)
-    _say(reply if is_text else compact_json(reply, sort_keys=True) + "\n")
+    say(reply if is_text else compact_json(reply, sort_keys=True) + "\n")
     return 4 if not is_text and reply.get("state") == "quarantined" else 0

@@ -29,6 +29,8 @@ LONGEST_IDLE = 30.0
 # How many bytes a reply's body has at the most: what stands on a port shall not fill the memory here.
 LONGEST_REPLY = 4 << 20
 
+LOOKED = "Look whether the server runs, at its address, and at the network."
+
 # What is sent as a token, and so can be: visible ASCII.
 TOKEN = re.compile(r"[\x21-\x7e]+")
 
@@ -126,7 +128,7 @@ class Server:
                 data = _bounded(reply)
             kind = reply.headers.get_content_type()
             if reply.chunked:  # which the server's never are
-                raise NotTheServer(f"status {reply.status}, {kind}, without a length: {data[:60]!r}")
+                raise NotTheServer(f"another's reply: status {reply.status}, {kind}, without a length: {data[:60]!r}")
             if reply.headers.get("Content-Length") != str(len(data)):
                 raise http.client.IncompleteRead(data)
         except BaseException:
@@ -149,7 +151,7 @@ class Server:
                 told = body_of(status, kind, data, path, members)
                 if status != UNKEPT:
                     return status, told, again
-                fault: StationError = NoReply(f"{method} {target}: status {status}")
+                fault: StationError = NoReply(f"no reply to {method} {target}: status {status}")
             except NotTheServer as page:
                 fault = page
             except ssl.SSLCertVerificationError:
@@ -158,11 +160,22 @@ class Server:
                 if is_kept and isinstance(error, ConnectionError):
                     again = True  # closed while the request was on its way: another connection, at once
                     continue
-                fault = NoReply(f"{method} {target}: {error!r}")
+                fault = NoReply(f"no reply to {method} {target}: {_reason_of(error)}")
             if time.monotonic() + pause > end:
+                if method == "GET":  # which leaves nothing under way
+                    fault.advice = LOOKED
                 raise fault
             time.sleep(pause)
             pause, again = min(2 * pause, LONGEST_PAUSE), True
+
+
+def _reason_of(error: Exception) -> str:
+    """Why there is no reply, in words."""
+    if isinstance(error, http.client.IncompleteRead):
+        return "it was cut"
+    if isinstance(error, (http.client.BadStatusLine, http.client.RemoteDisconnected)):
+        return "the connection ended without one"
+    return (error.strerror if isinstance(error, OSError) else "") or str(error) or "the connection failed"
 
 
 def _bounded(reply: http.client.HTTPResponse) -> bytes:

@@ -8,7 +8,15 @@ from wanekupo.texts import shown
 
 
 class StationError(Exception):
-    """What a station can't do by itself. Its text may have words of a server, and is safe to print."""
+    """What a station can't do by itself. Its text says what happened; it may have words of a server, and is safe to
+    print. `advice` says in whole sentences what a person does then."""
+
+    advice = ""
+
+    def __init__(self, text: str = "", advice: str = ""):
+        super().__init__(text)
+        if advice:
+            self.advice = advice
 
     def __str__(self) -> str:
         return shown(super().__str__())
@@ -39,37 +47,74 @@ class OutOfStep(Refused):
         self.path, self.number, self.expected = path, number, refused.more.get("expected", number + 1)
 
 
+class BadSettings(StationError):
+    """The configuration, the environment or the command line lacks something, or has what can't be used."""
+
+
 class NoReply(StationError):
     """No reply within the station's patience. A POST is still under way, and `finish` sends it again."""
+
+    advice = (
+        "Look whether the server runs and the network is there. A request that was sent stays under way: wanekupo "
+        "finish sends it again."
+    )
 
 
 class NotTheServer(StationError):
     """A proxy's page, or what else isn't one of the server's replies, until the station's patience ended. A POST is
     still under way."""
 
+    advice = (
+        "Look at the address, and at the proxy between. A request that was sent stays under way: wanekupo finish sends "
+        "it again."
+    )
+
 
 class TooLong(StationError):
     """A reply longer than `connection.LONGEST_REPLY`, of which nothing is kept. A POST is still under way."""
+
+    advice = "Look what answers at the server's address."
 
 
 class UnderWay(StationError):
     """Another request is under way: `finish` it first."""
 
+    advice = "Send it again by wanekupo finish, and then this one."
+
 
 class BadStateFile(StationError):
     """The state file is in use, another seat's, or damaged."""
 
+    advice = "Look which file this seat's is: one seat has one, and one program at a time."
+
 
 class UnsafeFile(StationError):
     """A file, or its folder, that another user could have put there, or could replace."""
+
+    advice = "The files of a station are one user's, in a folder that nobody else writes."
 
 
 class BadJournal(StationError):
     """The journal is in use, or has a line that isn't one."""
 
 
+class TwoRecords(BadJournal):
+    """Journals have two records of one serial number, which differ: two chips may carry it."""
+
+    advice = (
+        "Find both chips, and withdraw one of them. Take its record out of a copy of its journal, and begin again with "
+        "that copy."
+    )
+
+
+class BadKey(StationError):
+    """A file has no public key, or no request for a certificate whose signature holds."""
+
+
 class Differs(StationError):
     """A restored store answers otherwise than the lost one did."""
+
+    advice = "A journal is missing, or two clocks differ: the page on restoring a store says what to do."
 
 
 class NoReports(StationError):

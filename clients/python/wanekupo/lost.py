@@ -2,24 +2,25 @@
 
 from __future__ import annotations
 
-import os
 from datetime import datetime
+from pathlib import Path
 from typing import Any, Iterable, Iterator, Optional, Sequence
 
-from wanekupo.journal import lines_of
+from wanekupo.journal import Name, journals_of, placed_lines_of
 from wanekupo.moments import tested_period, text_of
 from wanekupo.texts import csv_lines, formulas_in, shown
 
+
 def given_up(
-    journals: Iterable[str | os.PathLike[str]], start: Optional[datetime] = None, end: Optional[datetime] = None
+    journals: Iterable[Name], start: Optional[datetime] = None, end: Optional[datetime] = None
 ) -> tuple[list[list[str]], list[str]]:
     """The chips that were lost or scrapped, each once, by the stations' logs: when the reply that said so first was
     written down, the log, the chip, its order where a log has its registration, and why. And what got no reply, of
     chips of which nothing is known since."""
     tested_period(start, end)
     orders, found, unanswered = {}, [], {}
-    for journal in map(str, journals):
-        for asked, answer in _answers(journal):
+    for files in journals_of(journals):
+        for journal, asked, answer in _answers(files):
             path, chip = asked["path"], asked["asked"].get("chip", "")
             reply = answer["reply"] if answer and answer["status"] == 200 else {}
             if path == "/v1/device" and reply:
@@ -39,19 +40,19 @@ def given_up(
     return [line for line in lines if first <= line[0] < last], told
 
 
-def _answers(journal: str) -> Iterator[tuple[dict[str, Any], Optional[dict[str, Any]]]]:
-    """The requests of a journal, each with the line of its reply. One that was sent again has one of them."""
-    asked = None
-    for line in lines_of(journal):
+def _answers(files: Iterable[Path]) -> Iterator[tuple[str, dict[str, Any], Optional[dict[str, Any]]]]:
+    """The requests of a journal, each with its file and the line of its reply. One that was sent again has one."""
+    asked, place = None, ""
+    for file, _, line in placed_lines_of(files):
         if "asked" in line:
             if asked and (asked["path"], asked["asked"]) != (line["path"], line["asked"]):
-                yield asked, None
-            asked = line
+                yield place, asked, None
+            asked, place = line, file
         elif "status" in line and asked and asked["asked"]["nr"] == line["nr"]:
-            yield asked, line
+            yield place, asked, line
             asked = None
     if asked:
-        yield asked, None
+        yield place, asked, None
 
 
 LOST = ["time", "journal", "chip", "order", "reason"]

@@ -149,7 +149,7 @@ def _of_the_server(make: Callable[[Any], Made]) -> Callable[[Any], Made]:
         try:
             return make(data)
         except (KeyError, TypeError, ValueError, AttributeError) as error:
-            raise NotTheServer(f"a reply of another form: {error!r}") from error
+            raise NotTheServer("a reply of another form than the server's") from error
 
     return made
 
@@ -233,7 +233,7 @@ def body_of(status: int, kind: str, data: bytes, path: str, members: Mapping[str
         return body
     if status != 200 and _is_refusal(body):
         return body
-    raise NotTheServer(f"status {status}, {kind}: {data[:60]!r}")
+    raise NotTheServer(f"another's reply: status {status}, {kind}: {data[:60]!r}")
 
 
 def accepted(status: int, body: Any) -> Any:

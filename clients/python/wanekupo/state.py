@@ -1,4 +1,5 @@
-"""A seat's state file: the number of its next request, the request under way, and the last one with its reply."""
+"""A seat's state file: the number of its next request, the request under way, the last one with its reply, and those
+of which a late copy may still be accepted."""
 
 from __future__ import annotations
 
@@ -14,6 +15,9 @@ from wanekupo.files import locked, opened_lock, opened_own, replace_file, tested
 from wanekupo.texts import compact_json
 
 NAMES = ("token", "next", "under_way", "last")
+
+# How many requests are kept of which a late copy may come: the oldest are forgotten.
+MOST_LATE = 16
 
 
 def members_of(asked: Mapping[str, str]) -> dict[str, Any]:
@@ -43,7 +47,7 @@ class State:
         self.token = hashlib.sha256(token.encode()).hexdigest()
         self.file = None if file is None else Path(os.path.realpath(file))  # two names of one file have one lock
         self._lock: Optional[int] = None
-        self._data: dict[str, Any] = {"token": self.token, "next": None, "under_way": None, "last": None}
+        self._data: dict[str, Any] = {"token": self.token, "next": None, "under_way": None, "last": None, "late": []}
         if not self.file:
             return
         tested_folder(self.file.parent)
@@ -72,6 +76,16 @@ class State:
     def last(self) -> Optional[dict[str, Any]]:
         return self._data["last"]
 
+    @property
+    def late(self) -> list[dict[str, str]]:
+        """The requests with the next number that were sent more than once and then refused, as they were sent."""
+        return self._data["late"]
+
+    def late_with(self, asked: Mapping[str, str]) -> list[dict[str, str]]:
+        """The same, with one more."""
+        others = [it for it in self.late if it != asked]
+        return [*others, dict(asked)][-MOST_LATE:]
+
     def is_of_the_token(self) -> bool:
         """Whether the file is of the token that is given now."""
         return self._data["token"] == self.token
@@ -82,7 +96,8 @@ class State:
             locked(lock)
         except OSError as error:
             os.close(lock)
-            raise BadStateFile(f"{self.file} is another process's") from error
+            told = "One program at a time has a state file: end the other one, or wait for it."
+            raise BadStateFile(f"{self.file} is another process's", told) from error
         return lock
 
     def _read(self) -> None:
@@ -91,12 +106,16 @@ class State:
         try:
             with open(opened_own(self.file, os.O_RDONLY), "rb") as source:
                 state = json.loads(source.read())
-            self._data = {name: state[name] for name in NAMES}
+            # A file of an earlier version has no late copies.
+            self._data = {**{name: state[name] for name in NAMES}, "late": list(state.get("late", ()))}
             _kept(self._data["last"])
+            for late in self.late:
+                members_of(late), late["path"]
         except FileNotFoundError:
             return
         except (ValueError, KeyError, TypeError, AttributeError) as error:
-            raise BadStateFile(f"{self.file} is no state file: {error!r}") from error
+            told = "Look at its name. Where it is damaged, move it away: the seat then asks the server for its number."
+            raise BadStateFile(f"{self.file} is no state file", told) from error
 
     def forget_words(self) -> None:
         """A file of an earlier version has what a chip showed, which may be a key, in its last request."""

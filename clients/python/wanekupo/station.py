@@ -12,12 +12,13 @@ import io
 import json
 import os
 import threading
-from typing import Any, Callable, Iterable, Iterator, Mapping, Optional, Sequence, TypeVar
+from typing import Any, Callable, Iterable, Iterator, Mapping, NoReturn, Optional, Sequence, TypeVar
 from urllib.parse import quote
 
 from wanekupo.chips import Blocks, Espefuse, checked, shows
 from wanekupo.connection import Server
 from wanekupo.errors import BadStateFile, NotTheServer, OutOfStep, Refused, UnderWay
+from wanekupo.printing import warn
 from wanekupo.replies import (
     Device,
     Done,
@@ -47,7 +48,7 @@ FAR = 2**53 - 1
 
 # Refusals: a number that isn't the next, and one that was accepted with another request. Up to these, a refusal says
 # nothing of what became of the same request when it was sent before.
-WRONG_NUMBER, OTHER_BODY, UNKNOWN_DEVICE = 11, 12, 15
+WRONG_NUMBER, OTHER_BODY, UNKNOWN_DEVICE, WRONG_STATE = 11, 12, 15, 17
 
 
 def _in_turn(call: Callable[..., Any]) -> Callable[..., Any]:
@@ -61,13 +62,37 @@ def _in_turn(call: Callable[..., Any]) -> Callable[..., Any]:
     return alone
 
 
+def _body_of(number: int, members: Mapping[str, Any]) -> str:
+    """A request's body, as it is sent."""
+    return json.dumps({"nr": number, **members}, separators=(",", ":"), ensure_ascii=False)
+
+
+def _told_of_late_copy(late: Mapping[str, str], number: int) -> str:
+    members = members_of(late)
+    named = next((f" of {name} {members[name]}" for name in ("chip", "name", "issuer") if name in members), "")
+    return (
+        f"A late copy of a request was accepted, which had been refused before: {late['path']}{named}, with number "
+        f"{number}. The journal has it now. Look at what it did; this seat goes on."
+    )
+
+
+def _told_of_new_file(file: object, number: int) -> str:
+    return (
+        f"warning: The state file {file} is new, and this seat has asked before: its number is {number}. A bench that "
+        "works with this seat stops at its next request. If there is one, use a seat of your own from now on; behind a "
+        "lost state file all is well."
+    )
+
+
 class Seat:
     """One process and one request at a time. `file` is its state file, without which it only shows, `patience` how many
     seconds it asks for a reply, `timeout` how many it waits for a whole one, `context` an `ssl.SSLContext` for https,
-    `journal` a `wanekupo_journal.Journal`, the station's own log.
+    `journal` a `wanekupo.journal.Journal`, the station's own log, which `close` closes too with `closes_journal`.
 
     `insecure` lets its token go over http to another machine. With `new_token` a state file of another token is gone on
-    with, where the server shows that it is the same seat's, before the first request that changes anything.
+    with, where the server shows that it is the same seat's, before the first request that changes anything. `tell` gets
+    a sentence where the seat goes on behind a late copy, and with `tells_of_new_file` where its state file is new and
+    the seat isn't; without it that is a line on standard error.
 
     Its connection is kept between requests, and made anew where the other side has closed it."""
 
@@ -82,9 +107,13 @@ class Seat:
         journal: Any = None,
         insecure: bool = False,
         new_token: bool = False,
+        closes_journal: bool = False,
+        tell: Callable[[str], None] = warn,
+        tells_of_new_file: bool = False,
     ):
         self._server = Server(url, token, patience, timeout, context, insecure)
-        self._journal = journal
+        self._journal, self._closes_journal = journal, closes_journal
+        self._tell, self._tells_of_new_file = tell, tells_of_new_file
         self._turn = threading.RLock()
         self._state = State(file, token)
         try:
@@ -106,6 +135,8 @@ class Seat:
         """Closes the connection, and lets another process have the state file."""
         self._server.hang_up()
         self._state.close()
+        if self._journal and self._closes_journal:
+            self._journal.close()
 
     # A new token.
 
@@ -116,12 +147,13 @@ class Seat:
             return
         file, own, asked = self._state.file, self._state.next, self._state.under_way
         expected = self.expected_number()
-        is_done = asked is not None and own is not None and expected == own + 1
+        sent = [it for it in (asked, *self._state.late) if it]
+        is_done = bool(sent) and own is not None and expected == own + 1
         if own is not None and expected != own and not is_done:
             told = f"its number is {own}, and the server expects {expected} of this token's"
             raise BadStateFile(f"{file} is another seat's, or its numbers went on: {told}")
-        last = asked if is_done else self._state.last
-        if last and not self._is_known(last, expected - 1):
+        lasts = sent if is_done else [it for it in (self._state.last,) if it]
+        if lasts and not any(self._is_known(it, expected - 1) for it in lasts):
             raise BadStateFile(f"{file} is another seat's: the last request of this token's was another")
         self._state.keep(token=self._state.token)
 
@@ -156,39 +188,77 @@ class Seat:
         if not under_way:
             self._begin(path, members)
         elif (under_way["path"], members_of(under_way)) != (path, json.loads(json.dumps(members))):
-            raise UnderWay(f"{under_way['path']} {under_way['body'][:80]}")
+            raise UnderWay(f"another request is under way: {under_way['path']} with number {self._state.next}")
         return self._complete(is_repeat=bool(under_way))
 
     def _begin(self, path: str, members: Mapping[str, Any]) -> None:
-        number = self._state.next or self.expected_number()
-        body = json.dumps({"nr": number, **members}, separators=(",", ":"), ensure_ascii=False)
+        number = self._state.next or self._number_of_new_file()
+        body = _body_of(number, members)
         length = len(body.encode())
         if length > LONGEST_BODY:
             raise ValueError(f"a body of {length} bytes: the server reads {LONGEST_BODY}")
         self._state.keep(next=number, under_way={"path": path, "body": body})
 
+    def _number_of_new_file(self) -> int:
+        """The number with which a seat begins that has no state file. Whoever has the seat's other one is out of step
+        from its next request on."""
+        number = self.expected_number()
+        if self._tells_of_new_file and number > 1:
+            self._tell(_told_of_new_file(self._state.file, number))
+        return number
+
     def _complete(self, is_repeat: bool) -> dict[str, Any]:
         """Sends the request under way until its reply is there, and keeps that."""
+        while True:
+            asked, number = self._state.under_way, self._state.next
+            assert asked and number
+            if self._journal:
+                self._journal.asked(asked["path"], asked["body"])
+            status, body, again = self._posted(asked["path"], asked["body"])
+            if status == 200:
+                break
+            refused = Refused(status, body)
+            if refused.no != OTHER_BODY or not self._took_late_copy(refused):
+                self._refuse(refused, is_repeat or again)
+            is_repeat = False
+        if self._journal:
+            self._journal.answered(number, status, body)
+        self._state.keep(next=number + 1, under_way=None, last={**asked, "reply": body}, late=[])
+        return body
+
+    def _refuse(self, refused: Refused, is_repeat: bool) -> NoReturn:
+        """Raises what the request under way was refused as. It is forgotten where it wasn't done; a copy of one that
+        was sent before may still come to the server, and be accepted then."""
         asked, number = self._state.under_way, self._state.next
         assert asked and number
-        if self._journal:
-            self._journal.asked(asked["path"], asked["body"])
-        status, body, again = self._posted(asked["path"], asked["body"])
-        is_repeat = is_repeat or again
-        try:
-            reply = accepted(status, body)
-        except Refused as refused:
-            if self._journal and (refused.no > OTHER_BODY or not is_repeat):
-                self._journal.answered(number, status, refused.body)
-            if refused.no > OTHER_BODY or not is_repeat:
-                self._state.keep(under_way=None)
-            if refused.no in (WRONG_NUMBER, OTHER_BODY):
-                raise OutOfStep(refused, asked["path"], number) from None
-            raise
-        if self._journal:
-            self._journal.answered(number, status, reply)
-        self._state.keep(next=number + 1, under_way=None, last={**asked, "reply": reply})
-        return reply
+        if refused.no > OTHER_BODY or not is_repeat:
+            if self._journal:
+                self._journal.answered(number, refused.status, refused.body)
+            late = self._state.late_with(asked) if is_repeat else self._state.late
+            self._state.keep(under_way=None, late=late)
+        if refused.no in (WRONG_NUMBER, OTHER_BODY):
+            raise OutOfStep(refused, asked["path"], number)
+        raise refused
+
+    def _took_late_copy(self, refused: Refused) -> bool:
+        """Whether the number of the request under way, which was refused as 12, was taken by a late copy of an earlier
+        one. Each that may be it is sent again: the server has the number as its last, so it gives the kept reply to
+        that one, and refuses the others as 12. What was under way wasn't done then, and gets the next number."""
+        asked, number = self._state.under_way, self._state.next
+        assert asked and number
+        for late in self._state.late:
+            status, reply, _ = self._posted(late["path"], late["body"])
+            if status != 200:
+                continue
+            if self._journal:
+                self._journal.answered(number, refused.status, refused.body)
+                self._journal.asked(late["path"], late["body"])
+                self._journal.answered(number, status, reply)
+            again = {**asked, "body": _body_of(number + 1, members_of(asked))}
+            self._state.keep(next=number + 1, under_way=again, last={**late, "reply": reply}, late=[])
+            self._tell(_told_of_late_copy(late, number))
+            return True
+        return False
 
     @_in_turn
     def finish(self) -> Optional[Done]:
@@ -217,15 +287,16 @@ class Seat:
     @_in_turn
     def resynchronize(self) -> None:
         """Forgets the request under way, and goes on with the number that is expected: after a restore of the store, or
-        where a person knows why the seat was out of step. Whether that request was done, its device says. Where the
-        server expects a number that was already accepted, the last request is forgotten too: the store is an older one.
-        A new token is taken as it is."""
+        where a person knows why the seat was out of step. Whether that request was done, its device says. Where its own
+        number is the expected one, a copy of it may still come. Where the server expects a number that was already
+        accepted, the last request is forgotten too: the store is an older one. A new token is taken as it is."""
         number = self.expected_number()
         if self._journal:
             self._journal.resynchronized(number)
-        is_older = number < (self._state.next or 0)
-        last = None if is_older else self._state.last
-        self._state.keep(token=self._state.token, next=number, under_way=None, last=last)
+        own, asked = self._state.next, self._state.under_way
+        last = None if number < (own or 0) else self._state.last
+        late = (self._state.late_with(asked) if asked else self._state.late) if number == own else []
+        self._state.keep(token=self._state.token, next=number, under_way=None, last=last, late=late)
 
 
 class Station(Seat):
@@ -335,7 +406,8 @@ class Station(Seat):
             yield from devices_of(page)
             following = page["next"]
             if following is not None and not (isinstance(following, str) and following > behind):
-                raise NotTheServer(f"a list of devices that goes on behind {following!r}, and had come to {behind!r}")
+                told = f"a list of devices goes on behind {following!r}, and had come to {behind!r}"
+                raise NotTheServer(told, "Look what answers at the server's address.")
             behind = following
 
     def report(self, path: str = "/v1/report") -> dict[str, dict[str, int]]:

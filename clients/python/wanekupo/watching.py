@@ -81,9 +81,21 @@ def told_once(report: str, customer: str, told: set[str]) -> None:
             told.add(sentence)
 
 
-def watch(ask: Callable[[], str], file: str, every: int, times: int, customer: str) -> int:
+def _named(error: Exception) -> str:
+    return f"{type(error).__name__}: {error}"
+
+
+def watch(
+    ask: Callable[[], str],
+    file: str,
+    every: int,
+    times: int,
+    customer: str,
+    tell: Callable[[Exception], str] = _named,
+) -> int:
     """Asks for a report at each multiple of `every` seconds, the first one at once; without end where `times` is 0. One
-    that fails is told, and leaves a gap; where the file is another watch's, that is the end. How many failed."""
+    that fails is told in the words of `tell`, and leaves a gap; where the file is another watch's, that is the end. How
+    many failed."""
     asked = failed = 0
     told: set[str] = set()
     while True:
@@ -96,8 +108,7 @@ def watch(ask: Callable[[], str], file: str, every: int, times: int, customer: s
             raise
         except (StationError, OSError, ValueError) as error:
             failed += 1
-            told_of = shown(f"{text_of(moment)} no report: {type(error).__name__}: {error}")
-            print(told_of, file=sys.stderr, flush=True)
+            print(shown(f"{text_of(moment)} no report: {tell(error)}"), file=sys.stderr, flush=True)
         asked += 1
         if asked == times:
             return failed

@@ -1,0 +1,540 @@
+"""The command `wanekupo`: its settings, what it shows without a state file, and what it says where something is wrong.
+
+The replies that it prints are compared with those that the server gives to plain requests, keys with openssl's.
+"""
+
+from __future__ import annotations
+
+import contextlib
+import hashlib
+import importlib.util
+import io
+import json
+import os
+import re
+import shutil
+import subprocess
+import sys
+import tempfile
+import tomllib
+import unittest
+from pathlib import Path
+from unittest import mock
+
+from simulated_chip import chip_class
+from support import DIGEST, HOST, MAC, MAP, ORDER, ROOT, SIMULATED, SITE, Canned, StationCase, free_port
+
+from wanekupo.command_line import main
+from wanekupo.config import Settings, settings_of
+from wanekupo.errors import BadSettings, OutOfStep, Refused
+from wanekupo.sentences import REFUSALS, sentence_of
+
+CLIENT = ROOT / "clients" / "python"
+OTHER_MAC = "240ac4000002"
+# What no person at a bench reads: names of classes, numbers of errors, and Python's way of writing things.
+NO_SENTENCE = re.compile(r"[A-Za-z]+(Error|Exception|Warning)\b|Errno|Traceback|\bNone\b|Bad[A-Z]|NoReply|UnderWay")
+
+
+def ran(*words, **environment):
+    """The status of the command, its output and what it told on standard error, in this environment alone."""
+    out, err = io.StringIO(), io.StringIO()
+    with contextlib.redirect_stdout(out), contextlib.redirect_stderr(err):
+        with mock.patch.dict(os.environ, environment, clear=True):
+            try:
+                status = main([str(word) for word in words])
+            except SystemExit as stop:
+                status = stop.code
+    return status, out.getvalue(), err.getvalue()
+
+
+HAS_KEYS = shutil.which("openssl") and importlib.util.find_spec("cryptography")
+NEEDS_KEYS = unittest.skipUnless(HAS_KEYS, "there is no openssl, which makes keys, or no python3-cryptography")
+
+# Kinds of keys, as `openssl req -newkey` names them.
+KINDS = ["ec -pkeyopt ec_paramgen_curve:prime256v1", "rsa:2048", "ed25519"]
+
+
+def made_key(folder, name, kind=KINDS[0]):
+    """A key pair and a request for a certificate by openssl: name.key, .pem, .der, .csr and .csr.der."""
+    for words in (
+        f"req -new -newkey {kind} -nodes -keyout {name}.key -out {name}.csr -subj /CN=chip",
+        f"req -in {name}.csr -outform DER -out {name}.csr.der",
+        f"pkey -in {name}.key -pubout -out {name}.pem",
+        f"pkey -in {name}.key -pubout -outform DER -out {name}.der",
+    ):
+        subprocess.run(["openssl", *words.split()], cwd=folder, check=True, stderr=subprocess.DEVNULL)
+
+
+def digest_by_openssl(folder, name):
+    words = ["openssl", "dgst", "-sha256", "-r", f"{name}.der"]
+    done = subprocess.run(words, cwd=folder, capture_output=True, check=True)
+    return done.stdout[:64].decode()
+
+
+class Config(unittest.TestCase):
+    def test_what_wins(self):
+        """The command line over the environment, that over the user's file, that over the machine's."""
+        for given, expected in (
+            ("line environment user machine", "line"),
+            ("environment user machine", "environment"),
+            ("user machine", "user"),
+            ("machine", "machine"),
+            ("", Settings().seat),
+        ):
+            with self.subTest(given), self.folder() as folder:
+                files = [folder / "user", folder / "machine"]
+                for file in files:
+                    if file.name in given:
+                        file.write_text(f'seat = "{file.name}"\n', encoding="utf-8")
+                line = {"seat": "line" if "line" in given else None, "chip": MAC}
+                environment = {"WANEKUPO_SEAT": "environment"} if "environment" in given else {}
+                self.assertEqual(settings_of(line, environment, files).seat, expected)
+
+    @staticmethod
+    @contextlib.contextmanager
+    def folder():
+        with tempfile.TemporaryDirectory() as folder:
+            yield Path(folder)
+
+    def test_each_setting(self):
+        """As the three say it; a path counts from the folder of the file that has it."""
+        with self.folder() as folder:
+            file = folder / "wanekupo.toml"
+            file.write_text(
+                'url = "https://station.example"\ntoken = "a1.token"\nstate = "/var/a1.json"\njournal = "journals"\n'
+                'ca = "~/ca.pem"\ninsecure = true\npatience = 7\nseat = "a1"\noperator = "Zoë"\nspool = "spool"\n',
+                encoding="utf-8",
+            )
+            home = Path(os.path.expanduser("~"))
+            expected = Settings(
+                "https://station.example",
+                folder / "a1.token",
+                Path("/var/a1.json"),
+                folder / "journals",
+                home / "ca.pem",
+                True,
+                7.0,
+                "a1",
+                "Zoë",
+                folder / "spool",
+            )
+            self.assertEqual(settings_of({}, {}, [file]), expected)
+            named = {f"WANEKUPO_{name.upper()}": str(value) for name, value in vars(expected).items()}
+            self.assertEqual(settings_of({}, named, []), expected)
+            # --config stands in the place of both files
+            other = folder / "other"
+            other.write_text('seat = "other"\n', encoding="utf-8")
+            self.assertEqual(settings_of({"config": str(other)}, {}, [file]), Settings(seat="other"))
+
+    def test_what_is_refused(self):
+        """With the name of the file, and what is wrong with it."""
+        for text, told in (
+            ('tokn = "a1"\n', "'tokn'"),
+            ("url = 7\n", "url"),
+            ('patience = "soon"\n', "patience"),
+            ("patience = true\n", "patience"),
+            ("insecure = 2\n", "insecure"),
+            ('seat = "../a1"\n', "seat"),
+            ("token =\n", "line 1"),
+            ('journal = "journals/"\n', "journal"),
+        ):
+            with self.subTest(text), self.folder() as folder:
+                file = folder / "wanekupo.toml"
+                file.write_text(text, encoding="utf-8")
+                with self.assertRaises(BadSettings) as found:
+                    settings_of({}, {}, [file])
+                self.assertIn(str(file), str(found.exception))
+                self.assertIn(told, str(found.exception))
+        with self.folder() as folder:
+            file = folder / "wanekupo.toml"
+            file.write_text('url = "http://127.0.0.1:1"\n', encoding="utf-8")
+            file.chmod(0o666)
+            with self.assertRaises(BadSettings):
+                settings_of({}, {}, [file])
+            with self.assertRaises(BadSettings):
+                settings_of({"config": str(folder / "none")}, {}, [])
+
+
+class CommandCase(StationCase):
+    def setUp(self):
+        super().setUp()
+        config = self.folder / ".config"
+        config.mkdir(mode=0o700)
+        (self.folder / "a1.token").write_text("abc\n", encoding="ascii")
+        text = f'url = "{self.program.url}"\ntoken = "../a1.token"\nstate = "../a1.json"\njournal = "../a1.journal"\n'
+        (config / "wanekupo.toml").write_text(text + 'seat = "a1"\n', encoding="ascii")
+
+    def ran(self, *words, **environment):
+        return ran(*words, HOME=str(self.folder), **environment)
+
+    def made(self, count=2):
+        """An order o1, the map, and devices that are registered."""
+        with self.station(file="maker.json") as station:
+            station.make_order(**{**ORDER, "macs": 0})
+            station.import_map(MAP)
+            for mac in (MAC, OTHER_MAC)[:count]:
+                station.register(mac, "o1", DIGEST, self.chip(mac).read())
+            station.plan(MAC, [])
+
+    def taken_over(self):
+        """The command's state file is this seat's from now on, so that it isn't a new one."""
+        self.assertEqual(self.ran("number", "--resynchronize")[0], 0)
+
+
+class Looking(CommandCase):
+    def test_it_wants_no_state_file(self):
+        """While a station runs with the state file and the journal that the configuration names, and beside it."""
+        self.made()
+        with self.station() as station:
+            station.resynchronize()
+            journal = self.journal()
+            station.identify(MAC, b"1")
+            before = sorted(self.folder.iterdir())
+            for words, target in (
+                (["device", MAC], f"/v1/device?chip={MAC}"),
+                (["ledger", MAC], f"/v1/ledger?chip={MAC}"),
+                (["order", "o1"], "/v1/order?name=o1"),
+                (["identity", MAC], f"/v1/identity?chip={MAC}"),
+            ):
+                status, out, err = self.ran(*words)
+                self.assertEqual((status, json.loads(out), err), (0, self.asked("GET", target)[1], ""), words)
+            self.assertEqual(self.ran("report"), (0, self.asked("GET", "/v1/report")[1], ""))
+            (self.folder / "office.token").write_text("test", encoding="ascii")
+            office = self.asked("GET", "/v1/site/report", token="test")[1]
+            self.assertEqual(self.ran("site-report", "--token", self.folder / "office.token"), (0, office, ""))
+            (self.folder / "office.token").unlink()
+            self.assertEqual(sorted(self.folder.iterdir()), before)
+            journal.close()
+
+    def test_filters(self):
+        self.made()
+        with self.station(file="maker.json") as station:
+            station.make_order(**{**ORDER, "name": "o2", "prefix": "B", "macs": 0})
+            station.register("240ac4000003", "o2", DIGEST, self.chip("240ac4000003").read())
+        listed = self.asked("GET", "/v1/devices?after=")[1]["devices"]
+        self.assertEqual(len(listed), 3)
+        for words, wanted in (
+            ([], lambda it: True),
+            (["--order", "o1"], lambda it: it["order"] == "o1"),
+            (["--state", "registered"], lambda it: it["state"] == "registered"),
+            (["--order", "o1", "--state", "registered"], lambda it: it["chip"] == OTHER_MAC),
+            (["--order", "o1", "--after", MAC], lambda it: it["chip"] == OTHER_MAC),
+            (["--state", "shipped"], lambda it: False),
+        ):
+            expected = [it for it in listed if wanted(it)]
+            status, out, err = self.ran("devices", *words)
+            chips = [line.split(",")[0] for line in out.splitlines()]
+            self.assertEqual((status, chips, err), (0, [it["chip"] for it in expected], ""), words)
+            status, out, err = self.ran("devices", "--json", *words)
+            self.assertEqual((status, list(map(json.loads, out.splitlines())), err), (0, expected, ""), words)
+        head, *lines = self.asked("GET", "/v1/report")[1].splitlines()
+        self.assertEqual(self.ran("report", "--order", "o2"), (0, f"{head}\n{lines[1]}\n", ""))
+        status, out, _ = self.ran("report", "--json")
+        first = dict(zip(head.split(","), ["o1", *map(int, lines[0].split(",")[1:])]))
+        self.assertEqual((status, json.loads(out.splitlines()[0])), (0, first))
+
+    def test_a_reader_that_has_enough(self):
+        """As `wanekupo devices | head -1`: quiet, whether the reader went before the first line or between."""
+        device = {"chip": MAC, "order": "o1", "state": "shipped", "reason": None, "serial": "A998"}
+        page = json.dumps({"devices": 5000 * [device], "next": None}).encode()
+        canned = Canned.page(200, "application/json", page)
+        self.addCleanup(canned.close)
+        words = [sys.executable, "-B", "-m", "wanekupo", "devices", "--url", canned.url]
+        environment = {**os.environ, "HOME": str(self.folder), "PYTHONPATH": str(CLIENT)}
+        for lines in (0, 1):
+            done = subprocess.Popen(words, stdout=subprocess.PIPE, stderr=subprocess.PIPE, env=environment)
+            for _ in range(lines):
+                self.assertEqual(done.stdout.readline(), f"{MAC},o1,shipped,,A998\n".encode())
+            done.stdout.close()
+            told = done.stderr.read()
+            done.stderr.close()
+            self.assertEqual((done.wait(), told), (0, b""))
+
+    def test_the_version(self):
+        project = tomllib.loads((CLIENT / "pyproject.toml").read_text("utf-8"))["project"]
+        self.assertEqual(self.ran("--version"), (0, f"wanekupo {project['version']}\n", ""))
+
+
+class Words(CommandCase):
+    """Each command that changes something, in the order of a chip's life, and what is said where one isn't done."""
+
+    def made_by(self, words, expected):
+        """A command, and members of what it prints."""
+        status, out, err = self.ran(*words)
+        self.assertEqual((status, err), (0, ""), words)
+        found = json.loads(out)
+        self.assertEqual({name: found[name] for name in expected}, expected)
+
+    @NEEDS_KEYS
+    def test_a_life(self):
+        (self.folder / "map").write_text(MAP, encoding="utf-8")
+        (self.folder / "dump").write_text(self.chip(file=self.folder / "chip").chip.dump(), encoding="ascii")
+        tool = f"{sys.executable} {SIMULATED} --path-efuse-file {self.folder / 'chip'}"
+        flash_key = self.folder / "flash.key"
+        key = f"BLOCK1={flash_key}:flash_encryption"
+        order = "make-order o1 acme-ca A --width 3 --first 998 --quantity 2 --macs 1".split()
+        self.made_by(order, {"next": "A998", "mac": "020000000010"})
+        self.made_by(["map", self.folder / "map"], {"map": DIGEST})
+        self.made_by(["register", "o1", DIGEST, self.folder / "dump"], {"state": "registered"})
+        self.made_by(["plan", MAC, "--bit", "JTAG_DISABLE=0", "--key", key], {"state": "awaiting1"})
+        burns = [f"{tool} burn_key --no-protect-key flash_encryption {flash_key}", f"{tool} burn_bit BLOCK0 198"]
+        self.assertEqual(self.ran("burn", MAC, "--tool", tool, "--key", key)[1].splitlines(), burns)
+        self.made_by(["settle", MAC, "--tool", tool, "--key", key], {"state": "settled"})
+        made_key(self.folder, "chip")
+        self.made_by(["identity", MAC, "--pem", self.folder / "chip.pem"], {"serial": "A998", "mac": "020000000010"})
+        self.made_by(["finish"], {"path": "/v1/identity"})
+        self.made_by(["ship", MAC], {"state": "shipped"})
+        self.made_by(["number"], {"expected": 8, "own": 8})
+        status, out, _ = self.ran("issued", self.folder / "a1.journal")
+        self.assertEqual((status, out.split(",")[-3:-1]), (0, ["A998", digest_by_openssl(self.folder, "chip")]))
+
+    @NEEDS_KEYS
+    def test_a_chip_of_another_family(self):
+        """An ESP32-S3 from its dump to its record; under another family's name it isn't registered. And a part."""
+        file, flash_key = self.folder / "chip", self.folder / "flash.key"
+        chip_class("esp32s3")(bytes.fromhex(MAC), file)
+        tool = f"{sys.executable} {SIMULATED} --path-efuse-file {file}"
+        dump = self.folder / "dump"
+        words = [*tool.split(), "--chip", "esp32s3", "dump"]
+        dump.write_text(subprocess.run(words, capture_output=True, check=True, text=True).stdout, encoding="ascii")
+        self.made_by("make-order o1 acme-ca A --width 3 --first 998 --quantity 2".split(), {"next": "A998"})
+        digests = {}
+        for name in ("esp32s3", "none"):
+            text = (ROOT / "maps" / f"{name}.toml").read_bytes()
+            digests[name] = hashlib.sha256(text).hexdigest()
+            self.made_by(["map", ROOT / "maps" / f"{name}.toml"], {"map": digests[name]})
+        status, _, err = self.ran("register", "o1", digests["esp32s3"], dump, "--family", "esp32")
+        self.assertEqual((status, "esp32s3" in err), (2, True), err)
+        family, key = ["--family", "esp32s3"], ["--key", f"BLOCK_KEY0={flash_key}:XTS_AES_128_KEY"]
+        self.made_by(["register", "o1", digests["esp32s3"], dump, *family], {"state": "registered"})
+        self.made_by(["plan", MAC, *key, *family, "--rlock", "BLOCK_KEY0"], {"state": "awaiting1"})
+        self.made_by(["settle", MAC, "--tool", tool, *key, *family], {"state": "settled"})
+        made_key(self.folder, "chip")
+        self.made_by(["identity", MAC, "--der", self.folder / "chip.der"], {"serial": "A998"})
+        self.made_by(["register", "o1", digests["none"], "--part", OTHER_MAC], {"chip": OTHER_MAC})
+        self.made_by(["plan", OTHER_MAC], {"state": "settled"})
+        self.assertEqual(self.ran("register", "o1", digests["none"])[0], 2)
+
+    def test_errors_are_sentences(self):
+        """What happened and what to do, with no name of a class, and with the status of the table."""
+        self.made()
+        self.taken_over()
+        (self.folder / "notes").write_bytes(b"\xff\xfe\0")
+        (self.folder / "text").write_text("no map\n", encoding="ascii")
+        nobody = ["--url", f"http://{HOST}:{free_port()}", "--patience", "0"]
+        page = ["--url", self.canned(502, "text/html", b"<html>\x1b[2J"), "--patience", "0"]
+        for words, status, told in (
+            (["ship", MAC], 1, "the device's state doesn't allow it"),
+            (["device", "240ac4000009"], 1, "no device of this chip"),
+            (["order", "o9"], 1, "no order of this name"),
+            (["map", self.folder / "text"], 1, "no fuse map"),
+            (["--token", self.folder / "text", "report"], 2, "visible ASCII"),
+            (["--token", self.folder / "none", "report"], 2, "there is no token file"),
+            (["--config", self.folder / "none", "report"], 2, "no configuration file"),
+            (["--url", "http://192.0.2.1", "report"], 2, "unencrypted"),
+            (["--url", "ftp://127.0.0.1", "report"], 2, "neither http nor https"),
+            (["map", self.folder / "none"], 2, "no file or command"),
+            (["map", self.folder / "notes"], 2, "is no text"),
+            (["register", "o1", DIGEST, self.folder / "text"], 2, "dump"),
+            (["import", "acme-ca", self.folder / "text"], 2, "serial,key_sha256"),
+            (["identity", MAC, "--pem", self.folder / "text"], 2, "no public key"),
+            (["identity", MAC, "--csr", self.folder / "text"], 2, "spool"),
+            (["issued", self.folder / "text"], 2, "no line of a journal"),
+            (["issued", self.folder / ".config"], 2, "has no journal"),
+            ([*nobody, "report"], 3, "no reply"),
+            ([*nobody, "number"], 3, "no reply"),
+            ([*page, "report"], 3, "another's reply"),
+        ):
+            found, out, err = self.ran(*words)
+            self.assertEqual((found, told.lower() in err.lower()), (status, True), (words, err))
+            self.assertNotRegex(err, NO_SENTENCE)
+            self.assertNotIn("\x1b", err)
+            self.assertRegex(err, r"^$|^[^\n]+[.]\n$", words)
+
+    def test_a_map_by_its_name(self):
+        """Of the folder first, as a recipe finds it, and then of those that come with the program."""
+        for name, folder in (("none.toml", self.folder), ("esp32s3.toml", ROOT / "maps"), ("none.toml", ROOT / "maps")):
+            with self.subTest(name, folder=folder), contextlib.chdir(self.folder):
+                if folder == self.folder:
+                    (folder / name).write_text(MAP, encoding="utf-8")
+                digest = hashlib.sha256((folder / name).read_bytes()).hexdigest()
+                self.made_by(["map", name], {"map": digest})
+                (self.folder / name).unlink(missing_ok=True)
+
+    def test_each_refusal_has_its_sentence(self):
+        """Those of the table in the API, but for 11 and 12, at which the seat stops, and 50, which is sent again."""
+        page = (ROOT / "docs" / "reference" / "api.md").read_text(encoding="utf-8")
+        table = dict(re.findall(r"^\| (\d+) \| (\w+) \| \d+ \|", page, re.MULTILINE))
+        self.assertEqual(set(map(int, table)) - {11, 12, 50}, set(REFUSALS))
+        for number, name in table.items():
+            if int(number) in REFUSALS:
+                told = sentence_of(Refused(400, {"no": int(number), "error": name}))
+                self.assertRegex(told, rf"^The server refused it: .+ \(refusal {number}, {name}\)[.] [A-Zs].+[.]$")
+
+    def test_a_watch_without_a_report(self):
+        """Each line is a sentence, and the status is that of what wasn't done."""
+        words = ["watch", self.folder / "acme.csv", "--times", "1", "--patience", "0", "--url"]
+        status, out, err = self.ran(*words, f"http://{HOST}:{free_port()}")
+        self.assertEqual((status, out), (2, ""))
+        gap, end = err.splitlines()
+        self.assertRegex(gap, r" no report: No reply to GET /v1/report: .+[.]$")
+        self.assertRegex(end, r"^1 of 1 reports failed.+[.]$")
+        self.assertNotRegex(err, NO_SENTENCE)
+
+    def test_no_option_has_two_meanings(self):
+        """An option of one command is refused by the others, and none may be cut short."""
+        for words in ("--state a1.json devices", "devices --stat shipped", f"ship {MAC} --order o1"):
+            status, out, err = self.ran(*words.split())
+            self.assertEqual((status, out), (2, ""), words)
+            self.assertIn("wanekupo: error: ", err)
+
+    def test_an_older_store_and_a_foreign_hand(self):
+        """11 and 12 stop the seat with status 5; at a lower number nobody is sent to --resynchronize."""
+        self.made()
+        self.program.copied(self.folder / "backup")
+        self.assertEqual(self.ran("number", "--resynchronize")[0], 0)
+        self.assertEqual(self.ran("scrap", MAC)[0], 0)
+        self.program.restored(self.folder / "backup")
+        status, out, err = self.ran("scrap", OTHER_MAC)
+        self.assertEqual((status, out, "older" in err, "--resynchronize" in err), (5, "", True, False), err)
+        self.assertEqual(self.ran("number", "--resynchronize")[0], 0)
+        with self.station(file="thief.json") as thief:
+            thief.import_map(MAP)
+        status, out, err = self.ran("scrap", OTHER_MAC)
+        self.assertEqual((status, out, "older" in err, "--resynchronize" in err), (5, "", False, True), err)
+
+
+class SecondSeat(CommandCase):
+    """A bench with its state file, and an office that scraps chips beside it."""
+
+    def site(self):
+        digest = hashlib.sha256(b"second").hexdigest()
+        head = '[[customer.seat]]\nname = "a1"\n'
+        more = f'[[customer.seat]]\nname = "a2"\ntoken = "{digest}"\n'
+        file = self.folder / "two.toml"
+        file.write_text(SITE.read_text(encoding="utf-8").replace(head, more + head), encoding="utf-8")
+        return file
+
+    def setUp(self):
+        super().setUp()
+        (self.folder / "office.token").write_text("second\n", encoding="ascii")
+        self.made()
+        self.own = ["--state-file", self.folder / "office.json", "--journal", self.folder / "office.journal"]
+
+    def test_a_seat_of_its_own(self):
+        """It scraps a chip without a warning, has that in its log, and the bench goes on."""
+        token = ["--token", self.folder / "office.token"]
+        status, out, err = self.ran("scrap", MAC, *self.own, *token)
+        self.assertEqual((status, json.loads(out), err), (0, {"chip": MAC, "state": "scrapped"}, ""))
+        self.assertIn(MAC, (self.folder / "office.journal").read_text(encoding="utf-8"))
+        with self.station(file="maker.json") as bench:
+            bench.plan(OTHER_MAC, [])
+
+    def test_the_benchs_seat(self):
+        """A new state file of a seat that asked before: a warning at the first request, which is done, and the bench is
+        out of step. Each of the five requests that `made` sends has a number, so the next one is 6."""
+        status, out, err = self.ran("scrap", MAC, *self.own)
+        self.assertEqual((status, json.loads(out)), (0, {"chip": MAC, "state": "scrapped"}))
+        self.assertRegex(err, r"^warning: The state file \S+/office.json is new, .+ its number is 6[.] .+[.]\n$")
+        self.assertEqual(self.ran("scrap", OTHER_MAC, *self.own)[::2], (0, ""))
+        with self.station(file="maker.json") as bench, self.assertRaises(OutOfStep):
+            bench.plan(OTHER_MAC, [])
+
+
+@NEEDS_KEYS
+class Keys(CommandCase):
+    def setUp(self):
+        super().setUp()
+        self.made()
+        with self.station(file="maker.json") as station:
+            station.plan(OTHER_MAC, [])
+        self.spool = self.folder / "spool"
+        self.spool.mkdir()
+        self.addCleanup(os.umask, os.umask(0o077))  # as of a station whose files nobody else reads
+
+    def number(self):
+        return json.loads(self.ran("number")[1])["expected"]
+
+    def test_a_key_in_each_form(self):
+        """The record has the SHA-256 of what openssl writes as DER; of each kind of key, and in each form."""
+        forms = [(kind, form) for kind in KINDS for form in ("pem", "der", "csr", "csr.der")]
+        macs = [f"240ac40001{place:02x}" for place in range(len(forms))]
+        with self.station(file="maker.json") as station:
+            station.make_order(**{**ORDER, "name": "o3", "prefix": "C", "quantity": 99, "first": 1, "macs": 0})
+            for mac in macs:
+                station.register(mac, "o3", DIGEST, self.chip(mac).read())
+                station.plan(mac, [])
+        self.taken_over()
+        for mac, (kind, form) in zip(macs, forms):
+            name = f"key{mac}"
+            made_key(self.folder, name, kind)
+            words = ["identity", mac, f"--{form[:3]}", self.folder / f"{name}.{form}", "--spool", self.spool]
+            status, out, err = self.ran(*words)
+            self.assertEqual((status, err), (0, ""), words)
+            record = json.loads(out)
+            self.assertEqual(record["key_sha256"], digest_by_openssl(self.folder, name), words)
+            kept = self.spool / f"{record['serial']}.csr"
+            self.assertEqual(kept.exists(), form.startswith("csr"))
+            if kept.exists():
+                self.assertEqual(kept.read_bytes(), (self.folder / f"{name}.{form}").read_bytes())
+                self.assertEqual(kept.stat().st_mode & 0o777, 0o644)
+
+    def test_again_behind_a_stop(self):
+        """A station that was stopped behind the reply asks again: the same record, and its request is kept once."""
+        made_key(self.folder, "one")
+        made_key(self.folder, "two")
+        with self.station() as station:
+            public_key = (self.folder / "one.der").read_bytes()
+            station.identify(MAC, public_key)
+        number = self.number()
+        for _ in range(2):
+            status, out, _ = self.ran("identity", MAC, "--csr", self.folder / "one.csr", "--spool", self.spool)
+            self.assertEqual((status, json.loads(out)["serial"], self.number()), (0, "A998", number))
+            self.assertEqual([it.name for it in self.spool.iterdir()], ["A998.csr"])
+        self.assertEqual(self.ran("identity", MAC, "--csr", self.folder / "two.csr", "--spool", self.spool)[0], 1)
+        self.assertEqual((self.spool / "A998.csr").read_bytes(), (self.folder / "one.csr").read_bytes())
+
+    def test_what_is_sent_to_nobody(self):
+        """A request with a changed byte, a private key, and what is neither: the number stays, and nothing is kept."""
+        made_key(self.folder, "one")
+        whole, number = (self.folder / "one.csr.der").read_bytes(), self.number()
+        (self.folder / "changed.csr").write_bytes(whole[:-1] + bytes([whole[-1] ^ 1]))
+        (self.folder / "longer.der").write_bytes((self.folder / "one.der").read_bytes() + b"\0")
+        for form, name, told in (
+            ("csr", "changed.csr", "signature"),
+            ("csr", "one.pem", "no request"),
+            ("pem", "one.key", "private"),
+            ("pem", "one.csr", "no public key"),
+            ("der", "longer.der", "no public key"),
+            ("der", "one.pem", "no public key"),
+        ):
+            words = ["identity", MAC, f"--{form}", self.folder / name, "--spool", self.spool]
+            status, out, err = self.ran(*words)
+            self.assertEqual((status, out, told in err, name in err), (2, "", True, True), (words, err))
+        self.assertEqual((self.number(), list(self.spool.iterdir())), (number, []))
+
+
+class Example(unittest.TestCase):
+    """What the package has in its examples, and its man page of a recipe, beside the page on benches."""
+
+    def setUp(self):
+        self.page = (ROOT / "docs" / "how-to" / "run-a-bench.md").read_text(encoding="utf-8")
+
+    def test_its_files(self):
+        """The page shows each of them whole, byte for byte."""
+        for name in ("thermostat.toml", "make-csr", "flash"):
+            lines = (ROOT / "deploy" / "thermostat" / name).read_text(encoding="utf-8").splitlines()
+            shown = "".join(f"       {line}".rstrip() + "\n" for line in lines)
+            self.assertIn(f"\n\n{shown}\n", self.page, name)
+
+    def test_the_man_page(self):
+        """It has each name that the page's tables of a recipe and of hooks have."""
+        tables = self.page.partition("## The recipe")[2].partition("## How a chip's stay ends")[0]
+        names = set(re.findall(r"`([A-Za-z_0-9]+)`", "".join(re.findall(r"^\|.*$", tables, re.MULTILINE))))
+        self.assertLessEqual({"order", "burnt_as", "lost_in_a_row", "before_ship", "KEY_SHA256"}, names)
+        man = (ROOT / "deploy" / "wanekupo-recipe.5").read_text(encoding="utf-8")
+        self.assertEqual([name for name in sorted(names) if not re.search(rf"\b{name}\b", man)], [])
+
+
+if __name__ == "__main__":
+    unittest.main()
