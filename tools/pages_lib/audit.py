@@ -17,7 +17,7 @@ from pages_lib.promises import Promise
 from pages_lib.rattle import CRATES, TOP, text_of
 
 # The promises whose files a page goes through: one whole, and what another adds to it.
-HEADLINE, STREAMS, CRASHES = "all-of-a-run", "streams", "crashing-store"
+HEADLINE, STREAMS, LIVES = "all-of-a-run", "streams", "lives"
 
 # In what order files are read. Those of crates above these come before them, the others after them, crate by crate.
 READING = [
@@ -100,9 +100,10 @@ class Audit:
             for key in keys:
                 yield f"    {len(self.definitions.lines[key]):3}  {key[1]}"
         for body in (*promise.asked, *promise.bodies):
-            yield f"wrong body {body}, in {', '.join(it.parts[-3] for it in rattle.bodies_of(body))}"
+            yield f"wrong body {', '.join(str(it.relative_to(TOP)) for it in rattle.bodies_of(body))}"
         for rule in promise.rules:
-            yield f"wrong rule {rule.name}, against {', '.join(rule.laws)}"
+            paths = ", ".join(str(it.relative_to(TOP)) for it in rattle.rules_of(rule.name))
+            yield f"wrong rule {paths}, against {', '.join(rule.laws)}"
 
     def count(self, name: str) -> int:
         """How many definitions a promise rests on."""
@@ -127,11 +128,12 @@ class Audit:
         declared = sum(len(rattle.declaration_of(*it)) for it in types_of(others))
         libraries = ", ".join(f"`{name}` {count}" for name, count in libraries_of(others).items())
         headline = next(it for it in self.promises if it.name == HEADLINE)
+        raw = sum(text_of(path).count("\n") for path in TOP.glob("crates/*/specs/**/*.antt"))
         return (
             f"[`{HEADLINE}`](#{HEADLINE}) rests on {self.weight(headline)} that code declares ({declared} lines), and "
-            f"names of the toolchain's libraries: {libraries}. All `specs` have "
-            f"{self.definitions.count(self.definitions.lines):,} lines without imports, comments and empty ones. "
-            "Names are matched by text, so a few may be too many."
+            f"names of the toolchain's libraries: {libraries}. All `specs` have {raw:,} lines, "
+            f"{self.definitions.count(self.definitions.lines):,} without imports, comments and empty ones, as all "
+            "lines here are counted. Names are matched by text, so a few may be too many."
         )
 
 

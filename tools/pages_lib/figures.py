@@ -17,7 +17,7 @@ import subprocess
 from collections.abc import Callable, Iterator
 
 from pages_lib import rattle
-from pages_lib.audit import CRASHES, HEADLINE, STREAMS, audit
+from pages_lib.audit import HEADLINE, LIVES, STREAMS, audit
 from pages_lib.markdown import OF_THE_PAST, page_text, pages
 from pages_lib.rattle import CRATES, TOP, code_of, lead_of, planted, sources, tracked
 
@@ -37,10 +37,9 @@ PLACES = [
     ("README.md", "{} planted bugs, which the prover must refuse", "planted"),
     ("README.md", "{} definitions to believe for lists of requests", "believed"),
     ("README.md", "lists of requests, {} for the bytes of streams", "streams"),
-    ("README.md", "the bytes of streams, {} for a store that crashes", "crashes"),
+    ("README.md", "the bytes of streams, {} for lives over a file", "lives"),
     ("README.md", "must refuse; {} of them are in definitions", "rules"),
     ("README.md", "The gate tries {} of them", "tried"),
-    ("README.md", "`tools/strength` and `tools/rules` try all {}.", "planted"),
     ("CONTRIBUTING.md", "The gate tries {} edits", "tried"),
     ("CONTRIBUTING.md", "edits, in {} of", "with_edits"),
     ("CONTRIBUTING.md", "edits, in * of {} crates", "crates"),
@@ -109,7 +108,7 @@ FIGURES: dict[str, Callable[[], int | float]] = {
     "promises": lambda: len(audit().promises),
     "believed": lambda: audit().count(HEADLINE),
     "streams": lambda: audit().count(STREAMS),
-    "crashes": lambda: audit().count(CRASHES),
+    "lives": lambda: audit().count(LIVES),
     "statements": statements,
     "edits_of_sql": lambda: planted("office_sql", ".edit"),
     "edits_of_store": lambda: planted("office_store", ".edit"),

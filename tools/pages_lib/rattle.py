@@ -160,11 +160,15 @@ def bodies_of(name: str) -> list[Path]:
     return sorted(it for end in ("edit", "edit.md") for it in TOP.glob(f"crates/*/must-fail/{name}.{end}"))
 
 
+def rules_of(name: str) -> list[Path]:
+    """The wrong rules of a name, by crate."""
+    return sorted(TOP.glob(f"crates/*/must-fail/{name}.rule.md"))
+
+
 @functools.cache
 def laws_with(name: str) -> frozenset[str]:
     """The crates whose laws must refuse a wrong rule."""
-    rules = TOP.glob(f"crates/*/must-fail/{name}.rule.md")
-    return frozenset(law for rule in rules for law in re.findall(r"^law: (\S+)$", text_of(rule), re.MULTILINE))
+    return frozenset(law for rule in rules_of(name) for law in re.findall(r"^law: (\S+)$", text_of(rule), re.MULTILINE))
 
 
 def rules() -> list[str]:
