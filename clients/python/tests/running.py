@@ -196,12 +196,17 @@ class Terminal:
         return self
 
     def __exit__(self, *_):
+        if self.process.returncode is None:
+            self.end()
+        os.close(self.master)
+
+    def end(self):
+        """Ends it as a service's stop does, and takes what it shows until then."""
         self.process.send_signal(signal.SIGTERM)
         with contextlib.suppress(OSError):  # the other side is closed once it ended
-            while os.read(self.master, 65536):
-                pass
+            while data := os.read(self.master, 65536):
+                self.shown += data.decode()
         self.process.wait(SECONDS)
-        os.close(self.master)
 
     def type(self, text):
         self.shown = ""

@@ -211,7 +211,7 @@ class Recipes(BenchCase):
             ('burnt_as = "flash', 'burned_as = "flash', "wish 2 has 'burned_as', and knows kind, field, file"),
             ('order = "o1"', 'order = "o 1"', "the recipe has the order 'o 1', which is no name"),
             ('order = "o1"', 'orders = "o1"', "the recipe has 'orders', and knows name, order"),
-            ('esp32.toml"', 'esp99.toml"', "there is no map"),
+            ('esp32.toml"', 'esp99.toml"', f"esp99.toml in {self.folder} or /"),
             ('"before_identity"', '"before_ship"', "[hooks] has no before_identity"),
             ('"url"', '"urls"', "has 'urls', which is no setting"),
             ("[stop]", "[stop", "is no TOML"),

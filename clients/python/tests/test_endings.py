@@ -13,7 +13,6 @@ import re
 import socket
 import subprocess
 import sys
-import time
 import unittest
 from pathlib import Path
 
@@ -24,7 +23,6 @@ from running import (
     PAGE,
     RED,
     BenchCase,
-    Terminal,
     is_passed,
     life_of,
     macs_of,
@@ -33,9 +31,8 @@ from running import (
     tool,
 )
 from simulated_chip import SimulatedChip
-from support import DIGEST, FLASH_KEY, LIFE, MAC, MAP, ORDER, WISHES, Proxy, TlsProxy, steps, whole
+from support import DIGEST, LIFE, MAC, MAP, ORDER, Proxy, TlsProxy, steps, whole
 
-from wanekupo.chips import bit, rlock, value, wlock
 from wanekupo.journal import issued, requests_of
 
 
@@ -121,6 +118,8 @@ class Endings(BenchCase):
             self.assertEqual([it["chip"] for it in bench.board()["under_way"]], begun)
             self.assertEqual(bool(bench.board()["stopped"]), reason in ("no_public_key", "hook_missing"))
             self.assertEqual(bench.end(), 0)
+        shift = json.loads((self.folder / "a1.json.bench" / "bench.json").read_text("ascii"))["shift"]
+        self.assertEqual((shift["passed"], shift["failed"]), (1, {"hook_failed": 2, "hook_late": 1}))
         self.assertEqual(life_of(self.ledger()), LIFE)
         self.assertEqual(len(issued(requests_of(self.folder / "a1.journal"))), 1)
 
@@ -129,10 +128,12 @@ class Endings(BenchCase):
         (self.folder / "7.key").write_bytes(bytes(32 * [7]))
         lost = "and the chip is lost"
         cases = [
-            ("stray", "burn_bit BLOCK0 197 198", 0, f"A bit reads 1 that nobody planned, {lost}: {RED}."),
-            ("short", "dump", 0, f"The chip was burnt three times and doesn't take all bits: {RED}."),
-            ("key", "burn_key --no-protect-key BLOCK1 7.key", 0, f"The key block reads another key, {lost}: {RED}."),
-            ("lost", "make 240ac4000004", 1, f"A burnt bit reads 0, {lost}: {RED}."),
+            ("stray", "burn_bit BLOCK0 197 198", 0, f"A bit reads 1 that nobody planned, {lost} (ABS_DONE_1): {RED}."),
+            ("short", "dump", 0, f"The chip was burnt three times and doesn't take all bits (BLOCK1, JTAG_DISABLE): "
+             f"{RED}."),
+            ("key", "burn_key --no-protect-key BLOCK1 7.key", 0, f"The key block reads another key, {lost} (BLOCK1): "
+             f"{RED}."),
+            ("lost", "make 240ac4000004", 1, f"A burnt bit reads 0, {lost} (JTAG_DISABLE): {RED}."),
             ("other_chip", "make 240ac40000ff", 0, "Another chip is in the socket than before: put the first one back, "
              "and begin again."),
         ]
@@ -173,86 +174,6 @@ class Endings(BenchCase):
             self.assertEqual(bench.ended("left")[2], sentence)
             self.take("left", mac)
         self.assertEqual((bench.board()["shift"]["passed"], bench.board()["shift"]["failed"]), (2, {}))
-
-    def test_chips_that_another_hand_planned(self):
-        """None passes without what the recipe wishes, in whichever state the bench finds it."""
-        jtag, other, lock = bit("JTAG_DISABLE", 0), bit("CONSOLE_DEBUG_DISABLE", 0), wlock("BLOCK1")
-        wishes, flash = WISHES, self.keys["BLOCK1"].burnt_as
-        cases = [
-            ([], "settled", "passed", ""),
-            ([jtag], "settled", "passed", ""),
-            (wishes, "settled", "passed", ""),
-            ([jtag, value("MAC_VERSION", "1")], "settled", "not_blank", ""),
-            ([jtag], "awaiting1", "passed", ""),
-            (wishes, "awaiting1", "passed", ""),
-            ([jtag, other], "awaiting1", "other_wishes", "CONSOLE_DEBUG_DISABLE"),
-            ([jtag, lock], "awaiting1", "other_wishes", "BLOCK1, the read lock of BLOCK1"),
-            ([lock], "awaiting2", "other_wishes", "BLOCK1, JTAG_DISABLE, the read lock of BLOCK1"),
-            (wishes, "awaiting2", "passed", ""),
-            ([jtag], "identified", "other_wishes", "BLOCK1, the read lock of BLOCK1, the write lock of BLOCK1"),
-            (wishes, "identified", "passed", ""),
-            (wishes, "shipped", "shipped_before", ""),
-        ]
-        key = {"kind": "key", "field": "BLOCK1", "file": "flash.key", "burnt_as": flash}
-        more = {"kind": "value", "field": "MAC_VERSION", "value": "0"}
-        own = [jtag, key, lock, rlock("BLOCK1"), more]
-        self.order()
-        with self.station(file="a1.json") as hand:
-            hand.import_map(MAP)
-            for mac, (planned, state, _, _) in zip(macs_of(len(cases)), cases):
-                self.planned(hand, mac, planned, state)
-        proxy = self.proxy()
-        bench = self.run_bench(self.recipe(proxy.url, wishes=own, stop=99))
-        for mac, (planned, state, reason, detail) in zip(macs_of(len(cases)), cases):
-            before = SimulatedChip.at(self.folder / f"chip-{mac}").blocks
-            self.put("left", mac)
-            seen = len(proxy.seen)
-            bench.said("left")
-            bench.until(lambda board, mac=mac: board["sockets"][0]["chip"] == mac)
-            word, found, told = bench.ended("left")
-            self.assertEqual((found, word == "PASS"), (reason, reason == "passed"), (planned, state, told))
-            self.assertLessEqual(sum(mac.encode() in request for _, request in proxy.seen[seen:]), 8)
-            blocks = SimulatedChip.at(self.folder / "places" / "left").blocks
-            if reason == "passed":
-                self.assertEqual((blocks[0] >> 198 & 1, blocks[0] & 0x10080), (1, 0x10080), (planned, state))
-                self.assertEqual(blocks[1].to_bytes(32, "little")[::-1], FLASH_KEY)
-                self.assertEqual(self.asked("GET", f"/v1/device?chip={mac}")[1]["state"], "shipped")
-            else:
-                self.assertEqual(blocks, before)
-            if reason == "other_wishes":
-                told_so = f"The chip was planned otherwise than the recipe wishes ({detail}): {RED}."
-                self.assertEqual(told, told_so)
-            self.take("left", mac)
-
-    def test_a_recipe_that_changed(self):
-        """A chip that was shipped by the recipe as it was before, and is still in its socket, or awaits its label."""
-        broken = script(self.folder / "broken", "exit 3\n")
-        self.order()
-        for mac, hooks, reason in zip(macs_of(2), ({}, {"label": {"command": [broken]}}), ("passed", "no_label")):
-            bench = self.run_bench(self.recipe(wishes=[], hooks=hooks))
-            self.put("left", mac)
-            bench.said("left")
-            self.assertEqual(bench.ended("left")[1], reason)
-            bench.end()
-            bench = self.run_bench(self.recipe())
-            bench.said("left")
-            self.assertEqual(bench.ended("left")[:2], ("FAIL", "other_wishes"))
-            bench.end()
-            self.take("left", mac)
-
-    def planned(self, hand, mac, wishes, state):
-        """A chip that somebody else brought to a state, with these wishes."""
-        chip = self.chip(mac, self.folder / f"chip-{mac}")
-        hand.register(mac, "o1", DIGEST, chip.read())
-        plan = hand.plan(mac, wishes)
-        found, works = plan.state, {"awaiting1": plan.batch1, "awaiting2": plan.batch2}
-        while found != state and found in works:
-            chip.burn(works[found])
-            found = hand.read_back(mac, chip.read()).state
-        if state in ("identified", "shipped"):
-            hand.identify(mac, mac.encode())
-        if state == "shipped":
-            hand.ship(mac)
 
     def other_tool(self, instead, after=0):
         """The simulated chip, which does something else in place of what it is to burn, after so many times."""
@@ -329,7 +250,7 @@ class Endings(BenchCase):
             ({"url": tls.url}, "The server's certificate isn't trusted: call the engineer."),
             ({"url": long}, "What answers isn't the server: call the engineer."),
             ({"server": other}, "The server doesn't take this bench's token (refusal 6): call the engineer."),
-            ({"top": {"order": "o9"}}, "The server knows no such order, map or chip (refusal 14): call the engineer."),
+            ({"top": {"order": "o9"}}, "The server knows no order o9 (refusal 14): call the engineer."),
         ):
             bench = self.run_bench(self.recipe(**options))
             self.assertEqual(bench.until(lambda board: board["stopped"])["stopped"], told)
@@ -402,30 +323,6 @@ class Endings(BenchCase):
         self.assertEqual(bench.ended("left"), ("FAIL", "out_of_step", told))
         self.assertEqual(bench.board()["stopped"], f"{told} Step: ship.")
 
-    def test_an_order_that_is_full(self):
-        """A chip that failed has a place until it is scrapped; the next one is sent away, and isn't awaited."""
-        self.order(quantity=2)
-        told_last = "have the red box scrapped, or ask for the next order"
-        lasts = [("passed", GREEN), ("not_blank", RED), ("order_full", told_last)]
-        bench = self.run_bench(self.recipe())
-        for mac, (reason, told) in zip(macs_of(3), lasts):
-            self.put("left", mac)
-            if reason == "not_blank":
-                SimulatedChip.at(self.folder / "places" / "left").burn_key("BLOCK1", bytes(range(1, 33)), False)
-            bench.said("left")
-            bench.until(lambda board, reason=reason: board["sockets"][0]["reason"] == reason, reason)
-            self.assertIn(told, bench.ended("left")[2])
-            self.take("left", mac)
-        self.assertEqual((bench.board()["rest"], bench.board()["under_way"]), (1, []))
-        self.assertIn("ask for the next order", bench.board()["stopped"])
-        bench.end()
-        with self.station(file="a1.json") as hand:
-            hand.scrap(macs_of(2)[1])
-        bench = self.run_bench(self.recipe())
-        self.put("left", macs_of(3)[2])
-        bench.said("left")
-        self.assertEqual(bench.ended("left")[1], "passed")
-
     def test_a_full_disk(self):
         """Full from the start, and in the middle of a chip: it stops the line, and nothing is lost. Behind it the chip
         goes on."""
@@ -463,61 +360,6 @@ class Endings(BenchCase):
             self.assertEqual(life_of(self.ledger(mac)), LIFE)
             self.take("left", mac)
         self.assertGreater(len(reached), 1, reached)
-
-    def test_the_terminal(self):
-        """PASS and FAIL in large letters on green and red, without colours by NO_COLOR, and never what a hook prints as
-        it is."""
-        broken = script(self.folder / "broken", "printf '\\033[2Jgone'; exit 3\n")
-        self.order()
-        for place, (colour, environment) in enumerate((("\x1b[1;97;41m", {}), ("", {"NO_COLOR": "1"}))):
-            recipe = self.recipe(hooks={"before_ship": {"command": [broken]}})
-            first, then = (macs_of(4)[2 * place :])[:2]
-            with Terminal(recipe, environment) as terminal:
-                self.put("left", first)
-                terminal.type("left")
-                shown = terminal.until("red box.")
-                self.assertIn(f"{colour} ####   ##   ###  #   ", shown)
-                self.assertEqual("\x1b[1;97" in shown, bool(colour))
-                self.assertIn("(\\x1b[2Jgone)", shown)
-                self.assertNotIn("\x1b[2Jgone", shown)
-                self.take("left", first)
-            recipe = self.recipe()
-            with Terminal(recipe, environment) as terminal:
-                self.put("left", then)
-                terminal.type("left")
-                shown = terminal.until("green box.")
-                self.assertIn(f"{colour.replace('41m', '42m')} ####   ##   ####  ####", shown)
-                self.take("left", then)
-
-    def test_travellers(self):
-        """One begins a chip only where it names the recipe's order."""
-        self.order()
-        bench = self.run_bench(self.recipe(top={"start": "scan"}))
-        self.put("right", MAC)
-        wrong = "This traveller isn't of the order o1: take the traveller's own bench."
-        for text, notice in (("", "Scan the traveller first."), ("o2", wrong), ("right", wrong), ("o12", wrong)):
-            bench.said(text)
-            self.assertEqual(bench.board()["notice"], notice)
-        self.assertEqual({it["state"] for it in bench.board()["sockets"]}, {"waiting"})
-        bench.typed("o1;right;4711")
-        self.assertEqual(bench.ended("right")[0], "PASS")
-        self.assertEqual(bench.socket("left")["state"], "waiting")
-
-    def test_chips_that_begin_by_themselves(self):
-        """Each begins once it answers, and the next one when another answers."""
-        self.order()
-        bench = self.run_bench(self.recipe(top={"start": "chip"}, sockets={"left": self.socket_of("left")}))
-        bench.until(lambda board: board["sockets"][0]["sentence"].startswith("No chip answers in the socket"))
-        for place, mac in enumerate(macs_of(2), 1):
-            self.put("left", mac)
-            bench.until(lambda board: board["shift"]["passed"] == place)
-            time.sleep(1.5)
-            self.assertEqual((bench.socket("left")["state"], bench.socket("left")["chip"]), ("PASS", mac))
-            self.take("left", mac)
-            bench.until(lambda board: board["sockets"][0]["state"] == "waiting")
-        self.assertEqual([it["result"] for it in self.logged() if "result" in it], ["passed", "passed"])
-        self.put("left", mac)
-        bench.until(lambda board: board["sockets"][0]["reason"] == "passed_before")
 
     def test_keys_that_a_command_makes(self):
         """Each chip gets its own, whose file is there before the plan; a chip whose file is gone isn't burnt."""
@@ -557,7 +399,9 @@ class Endings(BenchCase):
         (self.folder / "a1.json.bench" / "chips" / MAC / "BLOCK1.key").unlink()
         bench = self.run_bench(self.recipe(wishes=[wish]))
         bench.said("left")
-        self.assertEqual(bench.ended("left")[1], "lost_key")
+        file = self.folder / "a1.json.bench" / "chips" / MAC / "BLOCK1.key"
+        told = f"The chip has or awaits a key that isn't on this bench ({file}: No such file or directory): {RED}."
+        self.assertEqual(bench.ended("left")[1:], ("lost_key", told))
         self.assertEqual(SimulatedChip.at(self.folder / "places" / "left").blocks[1], 0)
 
 

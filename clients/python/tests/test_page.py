@@ -94,7 +94,7 @@ class Page(BenchCase):
         self.put("right", MACS[1])
         self.browser.press("Enter")
         card = self.word(0, "FAIL")
-        told = "A bit reads 1 that nobody planned, and the chip is lost: take it out, red box."
+        told = "A bit reads 1 that nobody planned, and the chip is lost (ABS_DONE_1): take it out, red box."
         self.assertEqual((card["word"], card["told"], card["line"]), ("\u2718 FAIL", told, "double"))
         self.assertIn(STRIPES, card["image"])
         self.assertEqual(self.word(1, "PASS")["line"], "solid")

@@ -47,6 +47,9 @@ INTERRUPTED = 130
 # The status of a bench that doesn't start.
 NOT_STARTED = 2
 
+# What may be said beside a socket's name or number, or a traveller.
+WORDS = "The words are: stop, go, shift (the counts begin anew), forget CHIP (it won't come back), help."
+
 # What parts the words of a traveller's code.
 APART = re.compile(r"[\s,;|/]+")
 
@@ -209,6 +212,8 @@ class Bench:
             self.new_shift()
         elif words[:1] == ["forget"] and len(words) == 2:
             self._forget(words[1])
+        elif words in (["help"], ["?"]):
+            self.board.notice(WORDS)
         else:
             self._begin_by(text, words)
 
@@ -224,6 +229,8 @@ class Bench:
             self.board.notice("")
             for name in named or self.recipe.sockets:
                 self._begin[name].set()
+        elif self.recipe.start == "key":
+            self.board.notice(f"{text!r} is no word of this bench. {WORDS}")
         else:
             ended = Ended("bad_traveller", order=self.recipe.order)
             self.board.notice(ended.ending.sentence(**ended.facts) if words else "Scan the traveller first.")

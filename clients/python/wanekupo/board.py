@@ -56,7 +56,7 @@ class Shift:
         if not ended.ending.counts():
             return self
         name = ended.ending.name
-        failed = dict(Counter(self.failed) + Counter([name]))
+        failed = dict(Counter(self.failed) + Counter([name] if ended.ending.is_failure() else []))
         return replace(self, failed=failed, row=(*self.row, Failure(step, name, socket)))
 
 

@@ -42,7 +42,7 @@ class Ending:
     def sentence(self, **facts: Any) -> str:
         """The one sentence that screen and page show, safe to print."""
         filled = {name: shown(str(facts.get(name) or "")) for name in FACTS}
-        return f"{self.told.format(**filled).replace(' ()', '')}: {self.todo.format(**filled)}."
+        return f"{self.told.format(**filled).replace(' ()', '').replace(': )', ')')}: {self.todo.format(**filled)}."
 
     def is_pass(self) -> bool:
         return self.effect == PASS
@@ -52,8 +52,12 @@ class Ending:
         return self.effect in (PASS, RED) or self.name in SENT_AWAY
 
     def counts(self) -> bool:
-        """Whether it counts among the failed chips, of which so many in a row stop the line."""
+        """Whether it counts in the row of failed chips, of which so many stop the line."""
         return self.effect in (RED, AGAIN) and self.name not in UNCOUNTED
+
+    def is_failure(self) -> bool:
+        """Whether the shift counts the chip as failed. One that only lacks its label is counted once it has passed."""
+        return self.counts() and self.name != "no_label"
 
 
 # What a sentence may have filled in.
@@ -70,10 +74,10 @@ TABLE = [
     Ending("passed", PASS, "The chip is shipped as {serial}", GREEN_BOX),
     Ending("passed_before", PASS, "The chip was shipped as {serial} just before", GREEN_BOX),
     # What the server finds in a read-back, and the states of a device that it knows.
-    Ending("lost", RED, "A burnt bit reads 0, and the chip is lost", RED_BOX),
-    Ending("stray", RED, "A bit reads 1 that nobody planned, and the chip is lost", RED_BOX),
-    Ending("key", RED, "The key block reads another key, and the chip is lost", RED_BOX),
-    Ending("short", RED, "The chip was burnt three times and doesn't take all bits", RED_BOX),
+    Ending("lost", RED, "A burnt bit reads 0, and the chip is lost ({detail})", RED_BOX),
+    Ending("stray", RED, "A bit reads 1 that nobody planned, and the chip is lost ({detail})", RED_BOX),
+    Ending("key", RED, "The key block reads another key, and the chip is lost ({detail})", RED_BOX),
+    Ending("short", RED, "The chip was burnt three times and doesn't take all bits ({detail})", RED_BOX),
     Ending("lost_before", RED, "The chip was lost before ({detail})", RED_BOX),
     Ending("scrapped_before", RED, "The chip was scrapped before", RED_BOX),
     Ending("shipped_before", RED, "The chip is shipped already, as {serial}", ASK_WHERE),
@@ -81,7 +85,7 @@ TABLE = [
     Ending("other_map", RED, "The chip was registered with another fuse map", RED_BOX),
     Ending("other_wishes", RED, "The chip was planned otherwise than the recipe wishes ({detail})", RED_BOX),
     # Refusals of the server.
-    Ending("not_blank", RED, "The chip has something burnt that the recipe contradicts (refusal {no})", RED_BOX),
+    Ending("not_blank", RED, "The chip has burnt what the recipe contradicts (refusal {no}: {detail})", RED_BOX),
     Ending("coding", RED, "The chip has another coding scheme (refusal 36)", RED_BOX),
     Ending("bad_words", RED, "The chip shows what the server can't take (refusal 41)", RED_BOX),
     Ending("other_hand", AGAIN, "Somebody else works on this chip (refusal {no})", "put it in once more"),
@@ -89,7 +93,8 @@ TABLE = [
     Ending("no_serial", STOP, "The order has no serial number left (refusal {no})", RED_BOX + ", and " + NEXT_ORDER),
     Ending("bad_token", STOP, "The server doesn't take this bench's token (refusal {no})", ENGINEER),
     Ending("bad_wish", STOP, "The recipe wishes for what the fuse map hasn't (refusal {no})", ENGINEER),
-    Ending("unknown", STOP, "The server knows no such order, map or chip (refusal {no})", ENGINEER),
+    Ending("no_order", STOP, "The server knows no order {order} (refusal {no})", ENGINEER),
+    Ending("unknown", STOP, "The server knows no such map or chip (refusal {no})", ENGINEER),
     Ending("bad_map", STOP, "The server doesn't take the recipe's fuse map (refusal {no})", ENGINEER),
     Ending("same_key", STOP, "The key pair was used for another chip (refusal 35)", ENGINEER),
     Ending("refused", STOP, "The server refuses what this program asks ({detail})", ENGINEER),
@@ -129,7 +134,8 @@ ENDINGS = {it.name: it for it in TABLE}
 REFUSALS = {
     **dict.fromkeys((1, 2, 3, 4, 7, 9, 10), "refused"),
     **dict.fromkeys((6, 8), "bad_token"),
-    **dict.fromkeys((13, 14, 15), "unknown"),
+    **dict.fromkeys((13, 15), "unknown"),
+    14: "no_order",
     **dict.fromkeys((16, 17), "other_hand"),
     18: "order_full",
     32: "no_serial",

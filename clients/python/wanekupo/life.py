@@ -8,20 +8,20 @@ from __future__ import annotations
 
 import os
 from pathlib import Path
-from typing import Any, Callable, Mapping, Optional, Protocol, TypeVar
+from typing import Any, Callable, Mapping, Optional, Protocol, Sequence, TypeVar
 
 from wanekupo.chips import shows
-from wanekupo.endings import Ended, ended_by
+from wanekupo.endings import REFUSALS, Ended, ended_by
 from wanekupo.errors import Refused, StationError
 from wanekupo.espefuse import KeyFile, wishes_of
-from wanekupo.families import Told, family_of
+from wanekupo.families import Blocks, Told, family_of
 from wanekupo.hooks import Done, run_hook
 from wanekupo.keeping import Kept, synced_files
 from wanekupo.keys import keep_csr, public_key_of
 from wanekupo.parts import Part
 from wanekupo.recipe import Command, Recipe, Wish
-from wanekupo.recipe_wishes import Layout, wanted_of
-from wanekupo.replies import Device, Identity, Order, Work
+from wanekupo.recipe_wishes import Layout, Place, places_of, wanted_of
+from wanekupo.replies import Device, Identity, Order, Verdict, Work
 from wanekupo.station import Station
 from wanekupo.turns import Leaving
 
@@ -43,6 +43,11 @@ OUTCOMES = ("lost", "stray", "key", "short")
 
 # What before_identity leaves one of, in the chip's folder: the public key, or a request for a certificate.
 LEFT = ("pem", "der", "csr")
+
+
+def _shown(names: Sequence[str]) -> str:
+    """The first of these, as a sentence names them."""
+    return ", ".join(names[:SHOWN_NAMES]) + (" .." if len(names) > SHOWN_NAMES else "")
 
 
 class Line(Protocol):
@@ -70,6 +75,7 @@ class Life:
         self.line, self.socket, self.part, self.keys = line, socket, part, keys
         self.chip = self.serial = self.step = ""
         self._blocks = Told([], "")
+        self._known: frozenset[Place] = frozenset()
 
     def find(self) -> None:
         """Reads which chip is there."""
@@ -132,6 +138,7 @@ class Life:
         self.step = "look"
         self.line.working(self.socket, "look", self.chip, "")
         device, recipe = self._ask(Station.find_device) or self._register(), self.line.recipe
+        self._known = places_of(device.burnt)
         is_known = was_begun or self.line.kept.has_passed(self.chip)
         self.serial = device.serial or ""
         if device.state == "shipped" and not is_known:
@@ -163,7 +170,14 @@ class Life:
         """Has the recipe's wishes planned, and burns what of them isn't there yet. A chip that is settled is planned
         once more, since nobody knows by what wishes it was settled: what is burnt already gives an empty plan."""
         self._at("plan")
-        plan = self._ask(Station.plan, self._wishes())
+        wishes = self._wishes()
+        try:
+            plan = self._ask(Station.plan, wishes)
+        except Refused as refused:
+            if REFUSALS.get(refused.no) != "not_blank":
+                raise
+            told = wanted_of(Layout(self.line.recipe.map), wishes).refused(self._ask(Station.device).burnt)
+            raise Ended("not_blank", no=refused.no, detail=_shown(told)) from refused
         return self._burn_all(plan.state, plan.batch1, plan.batch2)
 
     def _wishes(self) -> list[dict[str, Any]]:
@@ -183,7 +197,7 @@ class Life:
         if not device.batch1 or device.batch2:
             names += wanted.missing([device.burnt, *awaited])
         if names:
-            raise Ended("other_wishes", detail=", ".join(names[:SHOWN_NAMES]))
+            raise Ended("other_wishes", detail=_shown(names))
 
     def _burn_all(self, state: str, *batches: Work) -> str:
         """Burns the batches that are awaited, one after the other, and gives the state behind them."""
@@ -204,9 +218,24 @@ class Life:
             if shows(blocks, work):
                 break
         verdict = self._ask(Station.read_back, blocks)
+        if verdict.outcome not in (*OUTCOMES, "match"):
+            raise Ended("refused", detail=verdict.outcome)
         if verdict.outcome != "match":
-            raise Ended(verdict.outcome if verdict.outcome in OUTCOMES else "refused", detail=verdict.outcome)
+            raise Ended(verdict.outcome, detail=_shown(self._differing(verdict, blocks, work)))
+        self._known |= places_of(work)
         return verdict.state
+
+    def _differing(self, verdict: Verdict, blocks: Blocks, work: Work) -> list[str]:
+        """The names of what a read-back found otherwise than it should be."""
+        layout = Layout(self.line.recipe.map)
+        if verdict.outcome == "key":
+            return list(work.keys)
+        if verdict.outcome == "short":
+            return layout.names(places_of(verdict.rest), verdict.rest.keys)
+        ones = layout.shown(blocks)
+        if verdict.outcome == "stray":
+            return layout.names(ones - self._known - places_of(work))
+        return layout.names(layout.unhidden(self._known) - ones)
 
     # Keys that are burnt.
 
@@ -227,7 +256,8 @@ class Life:
             try:
                 digest = self.keys[wish.field].digest()
             except (OSError, ValueError) as error:
-                raise Ended("lost_key" if is_known else "no_key", detail=str(error)) from error
+                told = f"{file}: {error.strerror}" if isinstance(error, OSError) else str(error)
+                raise Ended("lost_key" if is_known else "no_key", detail=told) from error
             if is_known and known[wish.field] != digest:
                 raise Ended("lost_key", detail=f"{file} is another one")
 

@@ -39,7 +39,7 @@ WISHES = {
 class BadRecipe(StationError):
     """A recipe lacks something, or has what can't be used."""
 
-    advice = "Mend the recipe: docs/how-to/run-a-bench.md has its form."
+    advice = "Mend the recipe: the page 'Run a bench' of the documentation has its form."
 
 
 @dataclass(frozen=True)
@@ -218,10 +218,10 @@ def _sockets(table: Mapping[str, Any], here: Path) -> dict[str, tuple[str, ...]]
 
 
 def _map(name: str, here: Path) -> str:
-    places = [it / name for it in (here, *MAPS)]
-    found = next((it for it in places if it.is_file()), None)
+    places = [here, *(it for it in MAPS if it.is_dir())]
+    found = next((it / name for it in places if (it / name).is_file()), None)
     if not found:
-        raise ValueError(f"there is no map {name} in {', '.join(str(it.parent) for it in places)}")
+        raise ValueError(f"there is no map {name} in {' or '.join(map(str, places))}")
     return found.read_text(encoding="utf-8")
 
 

@@ -13,8 +13,7 @@ import stat
 from pathlib import Path
 from typing import Iterator, Optional
 
-from wanekupo.errors import StationError
-from wanekupo.espefuse import version_of
+from wanekupo.espefuse import EspefuseFailed, NoEspefuse, version_of
 from wanekupo.families import Family, family_of, names
 from wanekupo.parts import NO_FUSES
 from wanekupo.recipe import Recipe, Wish
@@ -131,8 +130,11 @@ def _tool_faults(recipe: Recipe) -> Iterator[str]:
 
 
 def _version_fault(words: tuple[str, ...]) -> str:
+    """Why a command can't be espefuse. One that says no version of itself is left to the first dump, which has it."""
     try:
         version = version_of(words)
-    except StationError as error:
+    except NoEspefuse:
+        return ""
+    except EspefuseFailed as error:
         return str(error)
     return "" if version.partition(".")[0] in KNOWN else f"its version is {version}, and {' and '.join(KNOWN)} are"

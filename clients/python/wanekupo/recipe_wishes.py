@@ -8,9 +8,9 @@ from __future__ import annotations
 
 import tomllib
 from dataclasses import dataclass
-from typing import Any, Iterable, Mapping, Optional
+from typing import Any, Iterable, Mapping, Optional, Sequence
 
-from wanekupo.replies import Work
+from wanekupo.replies import Word, Work
 
 # A bit of the chip: its block in the map, and its place in that block.
 Place = tuple[int, int]
@@ -51,6 +51,27 @@ class Layout:
         lock = self.fields[name].read
         return None if lock is None else self._read.place(lock)
 
+    def names(self, places: Iterable[Place], keys: Iterable[str] = ()) -> list[str]:
+        """What a person calls these bits and keys, each once."""
+        return sorted({*map(self.name_of, places), *keys})
+
+    def unhidden(self, places: frozenset[Place]) -> frozenset[Place]:
+        """Those of the burnt bits that no burnt read lock hides."""
+        hidden = [it for it in self.fields.values() if self.read_lock(it.name) in places]
+        return places.difference(it.place(index) for it in hidden for index in range(it.count))
+
+    def number_of(self, name: str, ones: frozenset[Place]) -> int:
+        """The number that a field reads, of which these bits are 1."""
+        field = self.fields[name]
+        return sum(1 << index for index in range(field.count) if field.place(index) in ones)
+
+    def shown(self, blocks: Sequence[Sequence[str]]) -> frozenset[Place]:
+        """The bits that a chip shows as 1, outside its keys."""
+        keys = {it.block for it in self.fields.values() if it.key}
+        own = [(block, words) for block, words in enumerate(blocks) if block not in keys]
+        found = [Word(block, place, int(word, 16)) for block, words in own for place, word in enumerate(words)]
+        return places_of(Work(tuple(found), {}))
+
     def name_of(self, place: Place) -> str:
         """What a person calls a bit: its field, or the lock of one."""
         for name in self.fields:
@@ -80,16 +101,27 @@ class Wanted:
         places = (to_burn - self.ones) | (places_of(burnt) & self.zeros)
         keys = [name for name, digest in burnt.keys.items() if self.keys.get(name, digest) != digest]
         keys += [name for it in works for name, digest in it.keys.items() if self.keys.get(name) != digest]
-        return self._names(places, keys)
+        return self.layout.names(places, keys)
+
+    def refused(self, burnt: Work) -> list[str]:
+        """Why no plan of the wishes can be had of what is burnt, in words: a field reads what it can't read in the end,
+        has another key, or lacks something that its lock keeps out."""
+        layout, there, told = self.layout, places_of(burnt), []
+        for name in layout.names(there & self.zeros):
+            numbers = [f"{layout.number_of(name, it):x}" for it in (there, self.ones) if name in layout.fields]
+            told.append("{} reads {}, the recipe wants {}".format(name, *numbers) if numbers else f"{name} is burnt")
+        told += [f"{name} has another key" for name, it in burnt.keys.items() if self.keys.get(name, it) != it]
+        lacking = set(self.missing([burnt]))
+        for name in sorted(lacking & layout.fields.keys()):
+            locks = {"written": layout.write_lock(name), "read": layout.read_lock(name)}
+            told += [f"{name} can't be {word} any more" for word, lock in locks.items() if lock in there]
+        return told
 
     def missing(self, works: Iterable[Work]) -> list[str]:
         """The names of what is wished for and is in none of the works."""
         works = list(works)
         places = self.ones.difference(*map(places_of, works))
-        return self._names(places, [name for name in self.keys if all(name not in it.keys for it in works)])
-
-    def _names(self, places: Iterable[Place], keys: Iterable[str]) -> list[str]:
-        return sorted({*map(self.layout.name_of, places), *keys})
+        return self.layout.names(places, [name for name in self.keys if all(name not in it.keys for it in works)])
 
 
 def wanted_of(layout: Layout, wishes: Iterable[Mapping[str, Any]]) -> Wanted:

@@ -36,6 +36,14 @@ COLOURS, PLAIN = {PASSED: "\x1b[1;97;42m", FAILED: "\x1b[1;97;41m"}, "\x1b[0m"
 # cleared and drawn below.
 FRESH, BELOW, BACK = "\x1b[H\x1b[2J> ", "\x1b7\x1b[2;1H\x1b[J", "\x1b8"
 
+# What a person is asked for, by what begins a chip.
+ASKED = {
+    "key": "Put a chip into a socket, and press Enter, or type its name or number.",
+    "scan": "Put a chip into a socket, and scan its traveller.",
+    "chip": "Put a chip into a socket: it begins by itself.",
+}
+HELP = "Type help for the words, and Ctrl-C to end."
+
 # How often what has no change of its own, as a step's seconds, is drawn again.
 AGAIN = 1.0
 
@@ -81,7 +89,8 @@ def board_lines(board: Mapping[str, Any], width: int, has_colours: bool) -> Iter
     for socket in board["sockets"]:
         yield from socket_lines(socket, width, has_colours)
     yield ""
-    yield shown(board["notice"])
+    yield from textwrap.wrap(f"{ASKED[board['start']]} {HELP}", width)
+    yield from textwrap.wrap(shown(board["notice"]), width)
 
 
 class Screen:
@@ -92,6 +101,7 @@ class Screen:
         self._is_terminal = sys.stdout.isatty()
         self._has_colours = self._is_terminal and not os.environ.get("NO_COLOR")
         self._told: dict[str, Any] = {}
+        self._rows = 0
         self._closed, self._is_fresh = threading.Event(), threading.Event()
         self._is_fresh.set()
         self._threads = [threading.Thread(target=call, daemon=True) for call in (self._draw, self._read)]
@@ -103,7 +113,11 @@ class Screen:
             thread.start()
 
     def close(self) -> None:
+        """Leaves the board as it is, and the cursor below it: the shell goes on there."""
         self._closed.set()
+        self._threads[0].join(2 * AGAIN)
+        below = f"\x1b[{self._rows + 2};1H\x1b[J" if self._is_terminal else ""
+        print(f"{below}The bench has ended. What was begun goes on at its next start.", flush=True)
 
     def _draw(self) -> None:
         version = -1
@@ -121,6 +135,7 @@ class Screen:
         lines = [*head, *board_lines(board, size.columns, self._has_colours)][: size.lines - 2]
         fresh = FRESH if self._is_fresh.is_set() else ""
         self._is_fresh.clear()
+        self._rows = len(lines)
         print(fresh + BELOW + "\r\n".join(lines) + BACK, end="", flush=True)
 
     def _tell(self, board: Mapping[str, Any]) -> None:
@@ -128,9 +143,10 @@ class Screen:
         now = {f"{it['name']}": f"{it['state']} {it['step']} {it['chip']} {it['sentence']}" for it in board["sockets"]}
         now["server"] = f"away, {board['away']['why']}" if board["away"] else "there"
         now["line"] = f"STOPPED: {board['stopped']}" if board["stopped"] else "goes on"
+        now["bench"] = f"{ASKED[board['start']]} {HELP}"
         now["notice"] = board["notice"]
         for name, told in now.items():
-            if self._told.get(name) != told:
+            if told and self._told.get(name) != told:
                 print(shown(f"{name}: {told}"), flush=True)
         self._told = now
 
@@ -139,3 +155,5 @@ class Screen:
         for line in sys.stdin:
             self._is_fresh.set()
             self._bench.said(line)
+        left = "by its page" if self._url else "alone"
+        self._bench.board.notice(f"Nothing more can be typed here. The bench goes on {left}, until Ctrl-C ends it.")
