@@ -5,11 +5,11 @@ ghost use Rattle.std.specs.Prelude.{◌≡◌, ◌+◌, ◌-◌, ◌^◌, min, r
 use fusemap_core::FuseMap;
 use id_ranges::KeyDigest;
 use office_core::{
-    DeviceRow, EntryRow, GivenRow, Keep, LinkRow, MapRow, MemKeep, OrderRow, SeatRow, Sink, Unkept,
-    Write,
+    DeviceRow, EntryRow, GivenRow, Keep, LinkRow, MapRow, MemKeep, OrderClaim, OrderRow, SeatRow,
+    Sink, Unkept, Write,
 };
 use std::alloc::Global;
-use text_core::{Chip, Digest, Name};
+use text_core::{Chip, Digest, Name, Serial};
 
 /// A keeper in memory that counts the visits and the commits that are made of it.
 #[derive(Drop)]
@@ -128,6 +128,15 @@ impl Keep for CountingKeep {
         self.keep.visit_orders(customer, sink)
     }
 
+    fn visit_claims<S: Sink<OrderClaim>>(
+        &mut self,
+        customer: &Name,
+        sink: &mut S,
+    ) -> Result<(), Unkept> {
+        self.count();
+        self.keep.visit_claims(customer, sink)
+    }
+
     fn visit_links<S: Sink<LinkRow>>(
         &mut self,
         customer: &Name,
@@ -163,6 +172,16 @@ impl Keep for CountingKeep {
     ) -> Result<(), Unkept> {
         self.count();
         self.keep.visit_given(issuer, sink)
+    }
+
+    fn visit_serials_behind<S: Sink<Serial>>(
+        &mut self,
+        issuer: &Name,
+        serial: &Serial,
+        sink: &mut S,
+    ) -> Result<(), Unkept> {
+        self.count();
+        self.keep.visit_serials_behind(issuer, serial, sink)
     }
 
     fn visit_ledger<S: Sink<EntryRow>>(

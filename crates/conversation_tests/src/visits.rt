@@ -6,7 +6,7 @@ use std::alloc::Global;
 use std::test::Fail;
 use test_fixtures::conversations::{exchanges, is_unanswered};
 use test_support::conversation::{difference_over, first_difference};
-use text_core::{Chip, Name};
+use text_core::{Chip, Name, Serial};
 
 /// The parts, each under its name, with the visits and the commits.
 const VISITS: &[(&str, &str, u64, u64)] = &[
@@ -25,6 +25,12 @@ const VISITS: &[(&str, &str, u64, u64)] = &[
         WITH_ADDRESSES,
         6,
         10,
+    ),
+    (
+        "an order is shown behind imported numbers after one walk over them",
+        IMPORTED,
+        7,
+        11,
     ),
 ];
 
@@ -109,6 +115,16 @@ a1 POST /v1/order {"nr":10,"name":"o2","issuer":"acme-ca","prefix":"B","width":3
   "not_before":null,"prefix":"B","quantity":2,"width":3}
 "#;
 
+/// The first number of an order is imported, with a serial number that is none of its own. What is
+/// shown as next is the second.
+const IMPORTED: &str = r#"
+a1 POST /v1/import {"nr":11,"issuer":"acme-ca","csv":"serial,key_sha256\nB001,ca978112ca1bbdcafac231b39a23dc4da786eff8147c4e72b9807785afee48bb\nZ1,3e23e8160039594a33894f6564e1b1348bbd7a0088d42c4acb73eeaed59c009d\n"}
+200 {"added":2,"present":0}
+a1 GET /v1/order?name=o2
+200 {"first":1,"issuer":"acme-ca","mac":"020000000010","macs":1,"name":"o2","next":"B002",
+  "not_before":null,"prefix":"B","quantity":2,"width":3}
+"#;
+
 /// Holds a conversation in which an allocation may be refused: the first request that is answered
 /// with 503, or by the stream's end, though something was committed, or that doesn't get its reply
 /// when it is sent again.
@@ -142,20 +158,23 @@ impl<R> Sink<R> for Nothing {
     }
 }
 
-/// Makes a visit of each of the six kinds.
+/// Makes a visit of each of the eight kinds.
 fn visit_each<K: Keep>(keep: &mut K) -> Result<(), Fail> {
     let name = Name::parse("acme").ok_or("no name")?;
     let chip = Chip::parse("00000000000a").ok_or("no chip")?;
+    let serial = Serial::parse("A998").ok_or("no serial number")?;
     keep.visit_orders(&name, &mut Nothing)?;
+    keep.visit_claims(&name, &mut Nothing)?;
     keep.visit_links(&name, &mut Nothing)?;
     keep.visit_devices(&name, &mut Nothing)?;
     keep.visit_devices_behind(&name, &chip, &mut Nothing)?;
     keep.visit_given(&name, &mut Nothing)?;
+    keep.visit_serials_behind(&name, &serial, &mut Nothing)?;
     keep.visit_ledger(&name, &chip, &mut Nothing)?;
     Ok(())
 }
 
-/// How many visits are counted after one of each of the six kinds.
+/// How many visits are counted after one of each of the eight kinds.
 fn visits_of_each_kind(alloc: Global) -> Result<u64, Fail> {
     let mut keep = CountingKeep::new(alloc);
     visit_each(&mut keep)?;
@@ -177,10 +196,11 @@ fn first_other_count(alloc: Global, keep: &mut CountingKeep) -> Result<String, F
     Ok(String::new(alloc))
 }
 
-/// One request after another over one keeper: an order, a map, a ledger and a page of
-/// devices are walked for, and nothing else is. What is accepted commits once, and nothing else commits.
+/// One request after another over one keeper: an order, a map, a ledger, a page of devices and a
+/// number behind imported ones are walked for, and nothing else is. What is accepted commits once, and
+/// nothing else commits.
 #[test]
-fn only_orders_maps_ledgers_and_pages_are_walked_for(rt: HostRuntime) -> Result<(), Fail> {
+fn only_what_is_listed_is_walked_for(rt: HostRuntime) -> Result<(), Fail> {
     let mut keep = CountingKeep::new(rt.alloc());
     let found = first_other_count(rt.alloc(), &mut keep)?;
     assert_eq!(rt; found.as_str(), "");
@@ -189,7 +209,7 @@ fn only_orders_maps_ledgers_and_pages_are_walked_for(rt: HostRuntime) -> Result<
 
 #[test]
 fn each_kind_of_visit_counts(rt: HostRuntime) -> Result<(), Fail> {
-    assert_eq!(rt; visits_of_each_kind(rt.alloc())?, 6);
+    assert_eq!(rt; visits_of_each_kind(rt.alloc())?, 8);
     Ok(())
 }
 

@@ -1,11 +1,14 @@
 // Look-ups of given serial numbers.
-ghost use Rattle.std.specs.Prelude.{◌≡◌, List, ℕ, Bool, IfOk, OnOk, OnErr, refl, ⊤};
+ghost use Rattle.std.specs.Prelude.{◌≡◌, ◌+◌, ◌≤◌, List, ℕ, Bool, IfOk, OnOk, OnErr, refl, ⊤};
 ghost use Rattle.std.specs.BTreeSet.{contains};
 ghost use Rattle.std.specs.Cmp.Lexicographic.{slice_cmp};
 ghost use Rattle.std.specs.Ordering.{nat_cmp};
+ghost use Rattle.id_ranges.specs.NextSerial.{EndsGiven};
+ghost use Rattle.id_ranges.specs.Range.{Has};
 ghost use Rattle.id_ranges.specs.declared.fault.RangeFault.TheVariants as faults;
 
 use crate::fault::RangeFault;
+use crate::serial_range::SerialRange;
 use std::collections::BTreeSet;
 use text_core::Serial;
 use thiserror::Error;
@@ -38,12 +41,16 @@ pub trait Given<S> {
     /// What one that isn't answered may make of it.
     ghost fails: { Self → S → S → Type 0 };
 
-    /// Whether the serial number is given.
-    fn is_given(&self, state: &mut S, serial: &Serial) -> Result<bool, Unread>
+    /// An end of numbers that are given one behind another, from a number of the range on: the
+    /// number itself where its serial number isn't given, and nowhere else.
+    fn end_of_given(&self, state: &mut S, range: &SerialRange, number: u64) -> Result<u64, Unread>
+        requires { Has range.now number }
         ensures ok { OnOk result (looks self.now state.old state.new) }
         ensures err { OnErr result (fails self.now state.old state.new) }
-        ensures answer { is_honest self.now state.new → IfOk result (λ given.
-            given ≡ tells self.now state.old serial.now) };
+        ensures within { IfOk result (λ end. (number ≤ end)
+            × (end ≤ range.now.first + range.now.quantity)) }
+        ensures answer { is_honest self.now state.new → IfOk result (λ end.
+            EndsGiven (tells self.now state.old) range.now number end) };
 
     /// To look nothing up leaves the state as it is.
     ghost none: { (g : Self) (s : S) → looks g s s };
@@ -71,8 +78,18 @@ impl Given<()> for BTreeSet<Serial> {
 
     ghost fails = { λ _ _ _. ⊥ };
 
-    fn is_given(&self, _state: &mut (), serial: &Serial) -> Result<bool, Unread> {
-        Ok(self.contains(serial))
+    fn end_of_given(
+        &self,
+        _state: &mut (),
+        range: &SerialRange,
+        number: u64,
+    ) -> Result<u64, Unread> {
+        let end = range.first() + range.quantity();
+        if self.contains(&range.text(number)) {
+            Ok(end.min(number + 1))
+        } else {
+            Ok(number)
+        }
     }
 
     ghost none = { λ _ _. tt };

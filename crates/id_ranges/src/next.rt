@@ -32,11 +32,13 @@ pub fn next_serial_from<S, G: Given<S>>(
         (ok_or (spec.next_serial_from cursor (G.tells given.now state.old) range.now) RangeFault.Exhausted) }
 {
     let end = range.first() + range.quantity();
-    for number in range.first().max(cursor)..end {
-        let serial = range.text(number);
-        if !given.is_given(state, &serial)? {
-            return Ok((number, serial));
+    let mut number = range.first().max(cursor);
+    while number < end {
+        let past = given.end_of_given(state, range, number)?;
+        if past == number {
+            return Ok((number, range.text(number)));
         }
+        number = past;
     }
     Err(RangeFault::Exhausted)
 }

@@ -67,6 +67,19 @@ pub filter_customer : {A : Type 0} (customer : List ℕ) (rows : List (OfCustome
 filter_customer {A} customer rows =
     ap (λ (test : OfCustomer A → Bool). filter test rows) (fun_ext (λ o. between (text_cmp customer o.customer) ∙ sym (texts_ties customer o.customer)))
 
+-- behind the start, up to the end, is what has the same customer
+pub behind_start : (a : Ordering) → (is_lt (ordering_then a Less) && not (is_lt (ordering_then a Greater))) ≡ is_eq a
+behind_start Less = refl
+behind_start Equal = refl
+behind_start Greater = refl
+
+-- the rows behind the start of a customer's to their end
+pub filter_behind_start : {A : Type 0} (customer : List ℕ) (rows : List (OfCustomer A)) → filter (λ o.
+    is_lt (ordering_then (text_cmp customer o.customer) Less) && not (is_lt (ordering_then (text_cmp customer o.customer) Greater))) rows
+    ≡ filter (is_of customer) rows
+filter_behind_start {A} customer rows =
+    ap (λ (test : OfCustomer A → Bool). filter test rows) (fun_ext (λ o. behind_start (text_cmp customer o.customer) ∙ sym (texts_ties customer o.customer)))
+
 -- behind a device's key, up to the end of its customer's, are the customer's devices whose chips are greater
 pub behind : (a b : Ordering) → (is_lt (ordering_then a b) && not (is_lt (ordering_then a Greater))) ≡ (is_eq a && is_lt b)
 behind Less b = refl

@@ -8,13 +8,14 @@ use Rattle.memory_keeper.specs.Prelude.{text_pair_cmp, has_mac, serial_of, AreIn
 use Rattle.text_core.specs.Prelude.{is_serial, serial_of_text}
 use Rattle.office_tables.specs.declared.rows.OfCustomer.{OfCustomer}
 use Rattle.office_tables.specs.declared.rows.Given.{Given}
-use Rattle.office_tables.specs.Prelude.{given_cmp, has_address, is_address, is_bound, is_serial_of, is_of_issuer, with_row, text_cmp, IsAddressFree}
+use Rattle.office_tables.specs.Prelude.{given_cmp, has_address, is_address, is_bound, is_given_behind, is_serial_of, is_of_issuer, with_row, text_cmp}
+use Rattle.office_tables.specs.Prelude.{IsAddressFree}
 use Rattle.office_tables.proofs.Placing.{all_placed}
 use Rattle.memory_keeper.specs.declared.given.GivenIndex.{GivenIndex}
 use Rattle.memory_keeper.proofs.Alone.{find-placed, find-without, found_also, still_alone, alone_without}
 use Rattle.memory_keeper.proofs.Counted.{same_both_ways}
 use Rattle.memory_keeper.proofs.Entries.{all_without}
-use Rattle.memory_keeper.proofs.Keys.{between, both_equal}
+use Rattle.memory_keeper.proofs.Keys.{behind, between, both_equal}
 use Rattle.memory_keeper.proofs.MapNumbers.{without-placed_new}
 
 -- a record has a key where it is the issuer's record of the serial number
@@ -38,6 +39,15 @@ pub filter_issuer : (issuer : List ℕ) (rows : List (OfCustomer Given)) → fil
     ≡ filter (is_of_issuer issuer) rows
 filter_issuer issuer rows =
     ap (λ (test : OfCustomer Given → Bool). filter test rows) (fun_ext (λ o. between (text_cmp issuer o.row.issuer) ∙ sym (texts_ties issuer o.row.issuer)))
+
+-- the records behind a serial number up to the end of its issuer's
+pub filter_serials_behind : (issuer serial : List ℕ) (rows : List (OfCustomer Given)) → filter (λ o.
+    is_lt (ordering_then (text_cmp issuer o.row.issuer) (text_cmp serial o.row.serial))
+    && not (is_lt (ordering_then (text_cmp issuer o.row.issuer) Greater))) rows
+    ≡ filter (is_given_behind issuer serial) rows
+filter_serials_behind issuer serial rows =
+    ap (λ (test : OfCustomer Given → Bool). filter test rows) (fun_ext (λ o.
+    behind (text_cmp issuer o.row.issuer) (text_cmp serial o.row.serial) ∙ rw (texts_ties issuer o.row.issuer) refl))
 
 -- what the text of a serial number is
 pub text_of : (serial text : List ℕ) → Some serial ≡ serial_of_text text → serial ≡ text

@@ -1,7 +1,8 @@
 // The records of serial numbers, over all customers.
-ghost use Rattle.std.specs.Prelude.{◌≡◌, ◌&&◌, ◌||◌, not, ℕ, List, [], Some, None, true, false, filter, find, if◌then◌else◌, OnOk, OnErr, option_copied};
+ghost use Rattle.std.specs.Prelude.{◌≡◌, ◌&&◌, ◌||◌, not, ℕ, List, [], Some, None, true, false, filter, find, map, if◌then◌else◌, OnOk, OnErr, option_copied};
 ghost use Rattle.text_core.specs.Prelude.{is_serial};
-ghost use Rattle.office_tables.specs.Prelude.{Visits, given_cmp, is_address, is_bound, is_serial_of, is_of_issuer, with_row, IsAddressFree, IsAscending};
+ghost use Rattle.office_tables.specs.Prelude.{Visits, given_cmp, is_address, is_bound, is_serial_of};
+ghost use Rattle.office_tables.specs.Prelude.{is_given_behind, is_of_issuer, with_row, IsAddressFree, IsAscending};
 ghost use Rattle.memory_keeper.specs.Indexing.{has_mac, serial_of};
 ghost use Rattle.memory_keeper.specs.Unplaced.{without};
 
@@ -192,6 +193,23 @@ impl GivenRows {
         let first = given_key(*issuer, Point::Start);
         let last = given_key(*issuer, Point::End);
         self.rows.visit(first, last, sink);
+    }
+
+    /// Hands those of an issuer's serial numbers that come behind one to the sink, in their order,
+    /// while it goes on.
+    pub(crate) fn visit_serials_behind<S: Sink<Serial>>(
+        &self,
+        issuer: &Name,
+        serial: &Serial,
+        sink: &mut S,
+    )
+        ensures { Visits S.takes sink.old
+            (map (λ g. g.row.serial) (filter (is_given_behind issuer.now serial.now) self.now))
+            sink.new }
+    {
+        let first = given_key(*issuer, Point::At(*serial));
+        let last = given_key(*issuer, Point::End);
+        self.rows.visit_parts_behind::<Serial, S>(first, last, sink);
     }
 }
 

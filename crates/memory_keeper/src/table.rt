@@ -1,5 +1,5 @@
 // A table: rows in the order of their keys.
-ghost use Rattle.std.specs.Prelude.{◌≡◌, ◌-◌, ◌<◌, ◌^◌, [], Some, false, length, find, filter, slice_get, OnOk, OnErr, OnSome, IfOk, IfSome, IfNone};
+ghost use Rattle.std.specs.Prelude.{◌≡◌, ◌-◌, ◌<◌, ◌^◌, [], Some, false, length, find, filter, map, slice_get, OnOk, OnErr, OnSome, IfOk, IfSome, IfNone};
 ghost use Rattle.std.specs.Prelude.{option_copied};
 ghost use Rattle.std.specs.List.{AllByRecursion};
 ghost use Rattle.std.specs.Ordering.{is_gt, is_lt};
@@ -24,6 +24,15 @@ pub(crate) trait Row: Drop {
     /// The key of the row.
     fn key(&self) -> Self::Key
         ensures { result ≡ key_of self.now };
+}
+
+/// What a visit hands over of a row.
+pub(crate) trait PartOf<R>: Drop {
+    ghost part: { R → Self };
+
+    /// The part of the row.
+    fn of_row(row: &R) -> Self
+        ensures { result ≡ part row.now };
 }
 
 /// Rows in the order of their keys, no two of them with the same key.
@@ -174,6 +183,28 @@ impl<R: Row> Table<R> {
         let behind = (Bound::Excluded(first), Bound::Included(last));
         for (_, found) in self.rows.range(behind) {
             if !sink.take(found) {
+                return;
+            }
+        }
+    }
+}
+
+impl<R: Row> Table<R> {
+    /// Hands a part of each of the rows behind the first key, up to the last one, to the sink, in
+    /// the order of their keys, while it goes on.
+    pub(crate) fn visit_parts_behind<P: PartOf<R>, S: Sink<P>>(
+        &self,
+        first: R::Key,
+        last: R::Key,
+        sink: &mut S,
+    )
+        requires { is_gt (R.Key.cmp first last) ≡ false }
+        ensures { Visits S.takes sink.old (map P.part (filter
+            (is_behind R.Key.cmp R.key_of first last) self.now)) sink.new }
+    {
+        let parts = (Bound::Excluded(first), Bound::Included(last));
+        for (_, found) in self.rows.range(parts) {
+            if !sink.take(&P::of_row(found)) {
                 return;
             }
         }

@@ -17,6 +17,7 @@ pub use Rattle.office_judges.specs.declared.page.PageScan.{PageScan}
 pub use Rattle.office_judges.specs.declared.row_verdicts.Binding.{Binding}
 pub use Rattle.office_judges.specs.declared.row_verdicts.RowVerdict.{RowVerdict}
 pub use Rattle.office_judges.specs.declared.scan.OrderScan.{OrderScan}
+pub use Rattle.office_judges.specs.declared.serials.GivenRun.{GivenRun}
 pub use Rattle.office_rules.specs.declared.device_step.DeviceStep.{DeviceStep}
 pub use Rattle.office_rules.specs.declared.device_step.FoundDevice.{FoundDevice}
 pub use Rattle.office_tables.specs.declared.rows.Device.{Device}

@@ -13,24 +13,29 @@ use Rattle.sqlite_trees.proofs.ListLemmas.{all_weaker}
 use Rattle.id_ranges.specs.Prelude.{mac_text, mac_of_text}
 use Rattle.id_ranges.proofs.MacTexts.{mac_text_only}
 use Rattle.office_sql.proofs.Types.{OfCustomer, Given, AddGiven}
+use Rattle.office_tables.specs.Prelude.{is_given_behind}
 use Rattle.office_tables.specs.Prelude.{IsFree, IsAddressFree, is_address, has_address, given_cmp, is_serial_of, is_bound, is_of_issuer, with_row}
 use Rattle.office_tables.proofs.Finding.{none_passes}
 use Rattle.office_tables.proofs.TotalOrders.{given_total}
 use Rattle.office_sql.specs.Prelude.{given, given_starts, SqlAdds, SameBut, Wrote, given_in_row, given_columns, is_validity_of_given, given_start_columns, pair}
-use Rattle.office_sql.specs.Prelude.{with_given_not_before, joined_given, is_parameter, passes, given_table, given_start_table, office_schema, rows_in}
+use Rattle.office_sql.specs.Prelude.{with_given_not_before, joined_given, is_above_parameter, is_parameter}
+use Rattle.office_sql.specs.Prelude.{passes, given_table, given_start_table, office_schema, rows_in}
 use Rattle.office_sql.specs.Prelude.{HaveOneValidityRow, IsGivenRow, IsOffice, tables_in, told_in, text_if, text_value, mac_if}
 use Rattle.office_sql.proofs.Finding.{texts_same, keys_alike}
 use Rattle.office_sql.proofs.Inserting.{IsInsert}
-use Rattle.office_sql.proofs.Kept.{found, shows_joined}
+use Rattle.office_sql.proofs.Kept.{found, parts_kept, shows_joined, shows_parts}
 use Rattle.office_sql.proofs.Keyed.{Apart}
 use Rattle.office_sql.proofs.LedgerAsked.{IsReadAs}
 use Rattle.office_sql.proofs.Missing.{text_cast, text_back}
 use Rattle.office_sql.proofs.Offices.{both_changed, both_validity_rows, told_stays}
+use Rattle.office_sql.proofs.Reading.{IsRead}
 use Rattle.office_sql.proofs.RowsWithValidity.{more_with_validity}
+use Rattle.office_sql.proofs.Scan.{Scanned}
 use Rattle.office_sql.proofs.Stepping.{cast_null}
-use Rattle.office_sql.proofs.TableOf.{TableOf, HasValidity, AreRowsAs, in_order, joined_query, key_fits}
-use Rattle.office_sql.proofs.Values.{text_is, blob_is, texts_cmp}
-use Rattle.office_sql.specs.declared.given.TheConstants.{SELECT_GIVEN, SELECT_GIVEN_BY_KEY, SELECT_GIVEN_OF_ISSUER, SELECT_GIVEN_WITH_ADDRESS}
+use Rattle.office_sql.proofs.TableOf.{TableOf, HasValidity, AreRowsAs, by_key, in_order, joined_query, key_fits}
+use Rattle.office_sql.proofs.Values.{text_above, text_is, blob_is, texts_cmp}
+use Rattle.office_sql.specs.declared.given.TheConstants.{SELECT_GIVEN, SELECT_GIVEN_BY_KEY}
+use Rattle.office_sql.specs.declared.given.TheConstants.{SELECT_GIVEN_OF_ISSUER, SELECT_GIVEN_WITH_ADDRESS, SELECT_SERIALS_BEHIND}
 use Rattle.office_sql.specs.declared.given.TheConstants.{INSERT_INTO_GIVEN, INSERT_INTO_GIVEN_START}
 
 abbrev pub as_given : TableOf (OfCustomer Given)
@@ -90,6 +95,31 @@ all_read = record { names = _; is = refl; plain = (refl, refl); unlisted = refl;
 pub address_read : IsReadAs office_schema SELECT_GIVEN_WITH_ADDRESS.now (joined_query as_given records_validity address_test shown)
 unfolding understood everything
 address_read = record { names = _; is = refl; plain = (refl, refl); unlisted = refl; bare = λ schema base. refl }
+
+abbrev pub serial_shown : List Term
+serial_shown = col 1 2 ∷ []
+
+-- the issuer is the first parameter, and the serial number is greater than the second
+abbrev pub behind_tests : List Term
+behind_tests = is_parameter 1 0 ∷ is_above_parameter 2 1 ∷ []
+
+pub serials_read : IsRead office_schema SELECT_SERIALS_BEHIND.now given behind_tests serial_shown (by_key (1 ∷ 2 ∷ []))
+unfolding understood everything
+serials_read = record { names = _; is = refl; plain = (refl, refl); unlisted = refl; bare = λ schema base. refl; there = λ db. refl }
+
+-- what is read of the rows that it shows
+pub serials_shown : (issuer serial : List ℕ) (db : Database) → IsOffice db → (rows : List Row)
+    → Scanned behind_tests serial_shown (by_key (1 ∷ 2 ∷ [])) (Words issuer ∷ Words serial ∷ []) (rows_in db.trees given) rows
+    → map (λ r. bytes (column r 0)) rows ≡ map (λ g. g.row.serial) (filter (is_given_behind issuer serial) (tables_in db.trees).given)
+serials_shown issuer serial db office rows s =
+    let p = is_given_behind issuer serial in
+    let params : Row = Words issuer ∷ Words serial ∷ [] in
+    let passed : (r : Row) → IsGivenRow r → passes behind_tests params r ≡ p (given_in_row r) =
+    λ r e. ap₂ ◌&&◌ (text_is (column r 1) issuer e.0) (and-true _ ∙ text_above (column r 2) serial e.1) in
+    shows_parts as_given p behind_tests params passed serial_shown (λ r. bytes (column r 0)) (λ g. g.row.serial) (λ r. refl) (λ a b. refl)
+    (rows_in db.trees given) rows (office.rows given) s
+    ∙ parts_kept as_given p behind_tests params passed (λ g. g.row.serial) (with_given_not_before (rows_in db.trees given_starts)) (λ g. refl) (λ g. refl)
+    (in_order as_given (rows_in db.trees given))
 
 -- records have one key where their issuers and their serial numbers are equal
 pub given_tied : (x y : OfCustomer Given) → is_eq (given_cmp x y) ≡ is_serial_of x.row.issuer x.row.serial y

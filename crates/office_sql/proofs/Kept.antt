@@ -82,6 +82,24 @@ module _ {A : Type 0} (t : TableOf A) (p : A → Bool) (tests : List Term) (para
   shows_kept shown read reads compares all rows are s =
       shows_listed shown (env params) read (λ a. a) (λ a. refl) (λ r _. reads r) compares all rows are s ∙ ap (filter p) (map-id (in_order t all))
 
+  -- what a query over one table shows of each row is a part of what the row stands for
+  pub shows_parts : {B : Type 0} (shown : List Term) (read : Row → B) (part : A → B) → ((r : Row) → read (eval_all shown (env params r)) ≡ part (t.value r))
+      → ((a b : Row) → answer_cmp t shown (env params a) (env params b) ≡ by_columns t.key a b)
+      → (all rows : List Row) → AreRowsAs t all → Scanned tests shown (by_key t.key) params all rows
+      → map read rows ≡ map part (filter p (in_order t all))
+  shows_parts shown read part reads compares all rows are s =
+      let q = shown_by_key t shown in
+      let sorted = subst (λ cmp. IsSorted cmp s.kept) (λ i a b. compares a b i) (sorted_kept (λ r. output q (env params r)) (output_cmp q) s.kept s.sorted) in
+      ap (map read) s.shows ∙ map-map read (λ r. eval_all shown (env params r)) s.kept ∙ ap (λ f. map f s.kept) (λ i r. reads r i)
+      ∙ sym (map-map part t.value s.kept) ∙ ap (map part) (sym (kept_is all s.kept are s.same sorted))
+
+  -- a part of each value that has no beginning of validity is one of the value with whatever beginning
+  pub parts_kept : {B : Type 0} (part : A → B) (made : A → A) → ((a : A) → p (made a) ≡ p a) → ((a : A) → part (made a) ≡ part a) → (xs : List A)
+      → map part (filter p xs) ≡ map part (filter p (map made xs))
+  parts_kept part made blind same xs =
+      (λ i. map (λ a. sym (same a) i) (filter (λ a. sym (blind a) i) xs)) ∙ sym (map-map part made (filter (λ a. p (made a)) xs))
+      ∙ ap (map part) (sym (filter-map p made xs))
+
   module _ (v : HasValidity t) where
     fit : (side : List Row) → AllByRecursion IsValidityRow side → (r : Row) → t.Typed r
         → filter (passes_join on_validity_key params r) side ≡ filter (v.is_for (t.value r)) side

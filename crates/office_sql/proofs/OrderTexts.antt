@@ -10,27 +10,30 @@ use Rattle.sqlite_trees.proofs.ListLemmas.{all_weaker}
 use Rattle.sqlite_tied.specs.Compute.{everything}
 use Rattle.id_ranges.specs.Prelude.{mac_text, mac_of_text}
 use Rattle.office_sql.proofs.Types.{OfCustomer, Order, Cursor, AddOrder, SetCursor}
-use Rattle.office_tables.specs.Prelude.{is_of, is_order, order_at, order_cmp, with_row, with_cursor_of}
+use Rattle.office_tables.specs.Prelude.{claim_of, is_of, is_order, order_at, order_cmp, with_row, with_cursor_of}
 use Rattle.office_tables.proofs.TotalOrders.{order_total}
 use Rattle.office_tables.proofs.Finding.{none_passes}
 use Rattle.office_sql.specs.Prelude.{orders, order_starts, orders_table, order_start_table, office_schema, rows_in, is_parameter, passes, text_if, mac_if}
 use Rattle.office_sql.specs.Prelude.{mac_value, whole_value, columns_with_cursor, order_in_row, joined_order, order_columns, is_validity_of_order}
 use Rattle.office_sql.specs.Prelude.{order_start_columns, with_order_not_before, HaveOneValidityRow, IsOffice, IsOrderRow, tables_in, told_in, SqlAdds, Wrote}
-use Rattle.office_sql.specs.Prelude.{pair}
+use Rattle.office_sql.specs.Prelude.{claim_in, pair}
 use Rattle.office_sql.proofs.ColumnKinds.{AreOf, are_of, text_stays, number_stays}
 use Rattle.office_sql.proofs.Finding.{only_found, texts_same, keys_tied, keys_alike}
 use Rattle.office_sql.proofs.Inserting.{IsInsert}
-use Rattle.office_sql.proofs.Kept.{shows_joined}
+use Rattle.office_sql.proofs.Kept.{parts_kept, shows_joined, shows_parts}
 use Rattle.office_sql.proofs.Keyed.{Apart}
 use Rattle.office_sql.proofs.LedgerAsked.{IsReadAs}
 use Rattle.office_sql.proofs.Missing.{text_cast, text_back, text_typed}
 use Rattle.office_sql.proofs.Offices.{both_changed, table_changed, told_stays}
+use Rattle.office_sql.proofs.Reading.{IsRead}
 use Rattle.office_sql.proofs.Replacing.{IsUpdate, IsSet, SetsOne, remade, sets}
 use Rattle.office_sql.proofs.RowsWithValidity.{find_made, more_with_validity, validity_as_was, replaced_with_validity}
+use Rattle.office_sql.proofs.Scan.{Scanned}
 use Rattle.office_sql.proofs.Stepping.{cast_null, cast_int}
-use Rattle.office_sql.proofs.TableOf.{TableOf, HasValidity, AreRowsAs, in_order, joined_query, key_fits}
+use Rattle.office_sql.proofs.TableOf.{TableOf, HasValidity, AreRowsAs, by_key, in_order, joined_query, key_fits}
 use Rattle.office_sql.proofs.Values.{text_is, texts_cmp}
-use Rattle.office_sql.specs.declared.orders.TheConstants.{SELECT_ORDER, SELECT_ORDERS, INSERT_INTO_ORDERS, INSERT_INTO_ORDER_START, UPDATE_OF_CURSOR}
+use Rattle.office_sql.specs.declared.orders.TheConstants.{SELECT_CLAIMS, SELECT_ORDER, SELECT_ORDERS}
+use Rattle.office_sql.specs.declared.orders.TheConstants.{INSERT_INTO_ORDERS, INSERT_INTO_ORDER_START, UPDATE_OF_CURSOR}
 
 abbrev pub as_orders : TableOf (OfCustomer Order)
 as_orders = record {
@@ -75,6 +78,26 @@ one_read = record { names = _; is = refl; plain = (refl, refl); unlisted = refl;
 pub own_read : IsReadAs office_schema SELECT_ORDERS.now (joined_query as_orders orders_validity own_test shown)
 unfolding understood everything
 own_read = record { names = _; is = refl; plain = (refl, refl); unlisted = refl; bare = λ schema base. refl }
+
+abbrev pub claim_shown : List Term
+claim_shown = col 1 3 ∷ col 1 4 ∷ col 1 5 ∷ col 1 6 ∷ col 1 7 ∷ col 1 8 ∷ col 1 9 ∷ []
+
+pub claims_read : IsRead office_schema SELECT_CLAIMS.now orders own_test claim_shown (by_key (1 ∷ 2 ∷ []))
+unfolding understood everything
+claims_read = record { names = _; is = refl; plain = (refl, refl); unlisted = refl; bare = λ schema base. refl; there = λ db. refl }
+
+-- what is read of the rows that it shows
+pub claims_shown : (customer : List ℕ) (db : Database) → IsOffice db → (rows : List Row)
+    → Scanned own_test claim_shown (by_key (1 ∷ 2 ∷ [])) (Words customer ∷ []) (rows_in db.trees orders) rows
+    → map claim_in rows ≡ map claim_of (filter (is_of customer) (tables_in db.trees).orders)
+claims_shown customer db office rows s =
+    let params : Row = Words customer ∷ [] in
+    let passed : (r : Row) → IsOrderRow r → passes own_test params r ≡ is_of customer (order_in_row r) =
+    λ r e. and-true _ ∙ text_is (column r 1) customer e.0 in
+    shows_parts as_orders (is_of customer) own_test params passed claim_shown claim_in claim_of (λ r. refl) (λ a b. refl)
+    (rows_in db.trees orders) rows (office.rows orders) s
+    ∙ parts_kept as_orders (is_of customer) own_test params passed claim_of (with_order_not_before (rows_in db.trees order_starts)) (λ o. refl) (λ o. refl)
+    (in_order as_orders (rows_in db.trees orders))
 
 -- orders have one key where their customers and their names are equal
 pub order_tied : (x y : OfCustomer Order) → is_eq (order_cmp x y) ≡ is_order x.customer x.row.name y

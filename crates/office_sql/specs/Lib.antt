@@ -8,6 +8,7 @@ pub mod Rows
 pub mod OrderStates
 pub mod Tables
 pub mod Change
+pub mod Claims
 pub mod Asking
 pub mod Keeping
 pub mod Ledger

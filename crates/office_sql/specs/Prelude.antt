@@ -1,5 +1,6 @@
 -- The words of this crate, passed on from one place. Declares nothing.
 pub use Rattle.office_sql.specs.Asking.{HasOffice, HasOfficeSchema, SqlReads, SqlWrites}
+pub use Rattle.office_sql.specs.Claims.{claim_in}
 pub use Rattle.office_sql.specs.Change.{HasMade, HasWritten, IsInside, IsMade, IsUndone, LeavesMade, Makes, Remakes, Replaces, Rests, SameBut, SqlAdds}
 pub use Rattle.office_sql.specs.Change.{SqlStays, WritesAllRows, WritesRows, Wrote}
 pub use Rattle.office_sql.specs.Joins.{beside, first_that, HasBeside, is_same, over, over_by, pair, passes_join}

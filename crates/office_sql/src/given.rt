@@ -1,13 +1,14 @@
 // The table of given serial numbers.
 ghost use Rattle.std.specs.Prelude.{◌≡◌, ℕ, Some, IfOk, IsTrue, map, filter, option_map, option_and_then, string_bytes};
 ghost use Rattle.sqlite.specs.Held.{state};
-ghost use Rattle.office_tables.specs.Prelude.{Visits, IsAddressFree, IsFree, is_serial_of, is_bound, is_of_issuer, has_address, given_at, given_by_key};
+ghost use Rattle.office_tables.specs.Prelude.{Visits, IsAddressFree, IsFree, is_serial_of, is_bound};
+ghost use Rattle.office_tables.specs.Prelude.{is_given_behind, is_of_issuer, has_address, given_at, given_by_key};
 ghost use Rattle.office_tables.specs.declared.rows.Write.TheVariants.{AddGiven as TheGiven};
 ghost use Rattle.id_ranges.specs.Mac as spec;
 ghost use Rattle.id_ranges.specs.Prelude.{mac_of_text};
 ghost use Rattle.office_sql.specs.Prelude.{Looks, text_if, mac_if, joined_given, given_columns, tables_in, SqlAdds, Wrote, SqlReads, SqlWrites, HasOffice};
 ghost use Rattle.office_sql.specs.Prelude.{HasOfficeSchema};
-ghost use Rattle.sqlite.specs.Order.{column};
+ghost use Rattle.sqlite.specs.Order.{bytes, column};
 ghost use Rattle.office_sql.specs.OfficeTable as table;
 
 use crate::address::address_text;
@@ -20,7 +21,7 @@ use id_ranges::{KeyDigest, Mac, NotBefore};
 use office_tables::{Given, GivenRow, OfCustomer, Sink};
 use sqlite::{Alter, Connection, Error, Row, Transaction, params};
 use std::alloc::Global;
-use text_core::{Chip, Name};
+use text_core::{Chip, Name, Serial};
 
 // Reads the records that pass the tests, each with its beginning of validity, by issuer and serial
 // number.
@@ -43,6 +44,10 @@ const SELECT_GIVEN_BY_KEY: &str = given_where!("given.issuer = ?1 AND key = ?2")
 
 /// Reads the records of an issuer.
 const SELECT_GIVEN_OF_ISSUER: &str = given_where!("given.issuer = ?1");
+
+/// Reads those of an issuer's given serial numbers that come behind one.
+const SELECT_SERIALS_BEHIND: &str =
+    "SELECT serial FROM given WHERE issuer = ?1 AND serial > ?2 ORDER BY issuer, serial";
 
 /// Reads the records with an address, of any issuer.
 const SELECT_GIVEN_WITH_ADDRESS: &str = given_where!("mac = ?1");
@@ -165,6 +170,35 @@ pub fn visit_given<S: Alter, K: Sink<GivenRow>>(
         Visits K.takes sink.old (filter (is_of_issuer issuer.now) t.given) sink.new) }
 {
     visit_rows::<S, GivenRow, K>(conn, SELECT_GIVEN_OF_ISSUER, params![issuer.as_str()], sink)
+}
+
+impl ReadRow for Serial {
+    ghost reads = { λ r. bytes (column r 0) };
+
+    fn read_row(row: &Row) -> Result<Serial, Error> {
+        serial_at(row, 0)
+    }
+}
+
+/// Hands those of an issuer's given serial numbers that come behind one to the sink, in their order,
+/// while it goes on.
+pub fn visit_serials_behind<S: Alter, K: Sink<Serial>>(
+    conn: &mut Connection<S>,
+    issuer: &Name,
+    serial: &Serial,
+    sink: &mut K,
+) -> Result<(), Error>
+    requires { HasOffice (state S.Store conn.old) }
+    ensures { SqlReads S.Store conn.old conn.new result (λ t _.
+        Visits K.takes sink.old (map (λ g. g.row.serial)
+        (filter (is_given_behind issuer.now serial.now) t.given)) sink.new) }
+{
+    visit_rows::<S, Serial, K>(
+        conn,
+        SELECT_SERIALS_BEHIND,
+        params![issuer.as_str(), serial.as_str()],
+        sink,
+    )
 }
 
 fn rows_with_address<S: Alter>(tx: &mut Transaction<'_, S>, text: &str) -> Result<Vec<Row>, Error>

@@ -25,11 +25,11 @@ mod write;
 
 pub use ask::ask_open;
 pub use devices::{OrderState, device_row, order_states, visit_devices, visit_devices_behind};
-pub use given::{given_by_key, given_row, visit_given};
+pub use given::{given_by_key, given_row, visit_given, visit_serials_behind};
 pub use ledger::{last_entry, visit_ledger};
 pub use links::{link_row, visit_links};
 pub use maps::{map_id, map_row};
-pub use orders::{order_row, visit_orders};
+pub use orders::{order_row, visit_claims, visit_orders};
 pub use read::{DAMAGED, digest_at, whole_at};
 pub use seats::seat_row;
 pub use write::commit;

@@ -3,10 +3,10 @@ ghost use Rattle.std.specs.Prelude.{◌≡◌, pos, IfOk, IsTrue, map, filter, o
 ghost use Rattle.id_ranges.specs.Mac as spec;
 ghost use Rattle.sqlite.specs.Held.{state};
 ghost use Rattle.sqlite.specs.Order.{column};
-ghost use Rattle.office_tables.specs.Prelude.{Visits, is_of, is_order, order_at, IsFree};
+ghost use Rattle.office_tables.specs.Prelude.{claim_of, Visits, is_of, is_order, order_at, IsFree};
 ghost use Rattle.office_tables.specs.declared.rows.Write.TheVariants.{AddOrder as TheOrder, SetCursor as TheCursor};
 ghost use Rattle.office_sql.specs.Prelude.{SqlReads, SqlWrites, HasOffice, HasOfficeSchema, SqlAdds, Wrote, tables_in, joined_order, order_columns, mac_if};
-ghost use Rattle.office_sql.specs.Prelude.{number_in_cell, text_if};
+ghost use Rattle.office_sql.specs.Prelude.{claim_in, number_in_cell, text_if};
 ghost use Rattle.office_sql.specs.OfficeTable as table;
 
 use crate::address::address_text;
@@ -15,7 +15,7 @@ use crate::number::whole;
 use crate::read::{DAMAGED, mac_if_at, name_at, not_before_if_at, text_at, whole_at};
 use crate::visit::{ReadRow, first_row, visit_rows};
 use id_ranges::{Mac, NotBefore, SerialRange};
-use office_tables::{Cursor, OfCustomer, Order, OrderRow, Sink};
+use office_tables::{Cursor, OfCustomer, Order, OrderClaim, OrderRow, Sink};
 use sqlite::{Alter, Connection, Error, Row, Transaction, params};
 use std::alloc::Global;
 use text_core::{LARGEST_WHOLE, Name};
@@ -33,6 +33,10 @@ const SELECT_ORDER: &str =
 /// Reads a customer's orders, each with its beginning of validity.
 const SELECT_ORDERS: &str =
     "SELECT orders.customer, name, issuer, prefix, width, first, quantity, macs, mac, cursor, not_before FROM orders JOIN order_start ON order_start.customer = orders.customer AND ord = name WHERE orders.customer = ?1 ORDER BY orders.customer, name";
+
+/// Reads what a customer's orders have taken.
+const SELECT_CLAIMS: &str =
+    "SELECT issuer, prefix, width, first, quantity, macs, mac FROM orders WHERE customer = ?1 ORDER BY customer, name";
 
 /// Adds an order.
 const INSERT_INTO_ORDERS: &str =
@@ -146,6 +150,46 @@ pub fn visit_orders<S: Alter, K: Sink<OrderRow>>(
         Visits K.takes sink.old (filter (is_of customer.now) t.orders) sink.new) }
 {
     visit_rows::<S, OrderRow, K>(conn, SELECT_ORDERS, params![customer.as_str()], sink)
+}
+
+impl ReadRow for OrderClaim {
+    ghost reads = { claim_in };
+
+    fn read_row(row: &Row) -> Result<OrderClaim, Error> {
+        let mac = mac_if_at(row, 6)?;
+        read_claim(row, mac)
+    }
+}
+
+// What the order of a row has taken, by the address that stands in it.
+fn read_claim(row: &Row, mac: Option<Mac>) -> Result<OrderClaim, Error>
+    requires { mac ≡ mac_if (column row.now 6) }
+    ensures { IfOk result (λ claim. claim ≡ claim_in row.now) }
+{
+    Ok(OrderClaim {
+        issuer: name_at(row, 0)?,
+        range: range(
+            text_at(row, 1)?,
+            small_at(row, 2)?,
+            whole_at(row, 3)?,
+            whole_at(row, 4)?,
+        )?,
+        macs: macs_at(row, 5)?,
+        mac,
+    })
+}
+
+/// Hands what a customer's orders have taken to the sink, by name, while it goes on.
+pub fn visit_claims<S: Alter, K: Sink<OrderClaim>>(
+    conn: &mut Connection<S>,
+    customer: &Name,
+    sink: &mut K,
+) -> Result<(), Error>
+    requires { HasOffice (state S.Store conn.old) }
+    ensures { SqlReads S.Store conn.old conn.new result (λ t _.
+        Visits K.takes sink.old (map claim_of (filter (is_of customer.now) t.orders)) sink.new) }
+{
+    visit_rows::<S, OrderClaim, K>(conn, SELECT_CLAIMS, params![customer.as_str()], sink)
 }
 
 // Adds the row of an order, with the text of its address.
