@@ -24,6 +24,9 @@ import { isDeepStrictEqual } from "node:util";
 const LONGEST_BODY = 65_536;
 const FAR = Number.MAX_SAFE_INTEGER;
 
+// The members of a state file that are used here.
+const MEMBERS = ["token", "next", "under_way", "last"];
+
 // The status of a reply that says that nothing was done, for now: the request is sent again, as for no reply. The
 // pauses between, in seconds, double.
 const UNKEPT = 503;
@@ -698,11 +701,10 @@ export class Station {
     const text = readKept(file);
     if (text === null) return { token, next: null, under_way: null, last: null };
     try {
-      const { token: seat, next, under_way, last } = JSON.parse(text);
-      const state = { token: seat, next, under_way, last };
-      if (Object.values(state).includes(undefined)) throw new RangeError("it lacks a member");
-      keptOf(last);
-      return state;
+      const state = JSON.parse(text);
+      if (MEMBERS.some((name) => state[name] === undefined)) throw new RangeError("it lacks a member");
+      keptOf(state.last);
+      return state; // with the members that another version or clients/python has there, which stay as they are
     } catch (error) {
       throw new BadStateFile(`${file} is no state file: ${error.message}`);
     }

@@ -32,8 +32,9 @@ from support import (
     steps,
 )
 
+import test_late
 from wanekupo_journal import issued, request_digest, requests_of
-from wanekupo_station import BadStateFile, NoReply, Station, blocks_of
+from wanekupo_station import BadStateFile, Imported, NoReply, Refused, Station, blocks_of
 
 README = HERE.parent / "README.md"
 
@@ -344,6 +345,48 @@ class JavaScript(JavaScriptCase):
         except OSError:
             self.skipTest("there is no ::1")
         self.assertEqual(self.driven(url, patience=0).ask("report"), "order\n")
+
+
+class BesidePython(JavaScriptCase):
+    """A customer with a second seat, a2."""
+
+    site = test_late.Late.site
+
+    def test_javascript_leaves_what_it_does_not_know(self):
+        """A request of which a late copy may come, as clients/python keeps it, and a member of a later version. So that
+        client goes on behind the copy, though this one used the seat in between."""
+        self.begun(1)
+        wire, told, file = self.proxy(["held"]), [], self.folder / "a1.json"
+        with self.station(wire.url) as station, self.assertRaises(Refused) as found:
+            station.plan(MAC, [])
+        before = {**json.loads(file.read_bytes()), "later": {"a": [1]}}
+        self.assertEqual((found.exception.no, len(before["late"])), (15, 1))
+        file.write_text(json.dumps(before), encoding="ascii")
+        driven = self.driven()
+        self.assertEqual(self.thrown(driven.ask, "scrap", MAC).no, 15)
+        driven.close()
+        self.assertEqual(json.loads(file.read_bytes()), before)
+        with self.station(token="second", file="a2.json") as other:
+            other.register(MAC, "o1", DIGEST, self.chip().read())
+        (reply,) = wire.deliver()
+        self.assertTrue(reply.startswith(b"HTTP/1.1 200 "), reply)
+        with self.station(tell=told.append) as station:
+            self.assertEqual(station.import_serials("acme-ca", rows("Z1")), Imported(1, 0))
+        self.assertEqual((len(told), steps(self.ledger())), (1, ["registered", "planned"]))
+        self.assertEqual(json.loads(file.read_bytes())["later"], {"a": [1]})
+
+    def test_javascript_goes_on_behind_a_refused_request(self):
+        """The request that was refused is of no use behind an accepted one, and clients/python forgets its words."""
+        self.begun(1)
+        wire, file = self.proxy(["held"]), self.folder / "a1.json"
+        with self.station(wire.url) as station, self.assertRaises(Refused):
+            station.read_back(MAC, self.chip().read())
+        driven = self.driven()
+        driven.ask("importMap", MAP)
+        driven.close()
+        self.assertEqual(len(json.loads(file.read_bytes())["late"]), 1)
+        self.station().close()
+        self.assertEqual(json.loads(file.read_bytes())["late"], [])
 
 
 if __name__ == "__main__":

@@ -240,9 +240,8 @@ class Hostile(JavaScriptCase):
         driven.close()
         proxy.tokens = {"last": "abc"}
         driven = self.driven(proxy.url, token="last", newToken=True, patience=0)
-        held = self.life_of(MAC, b"1")
         self.assertEqual(driven.ask("importMap", MAP), DIGEST)
-        self.assertEqual(driven.ask("life", held)["state"], "shipped")
+        self.assertEqual(driven.ask("life", self.life_of(MAC, b"1"))["state"], "shipped")
         self.assertEqual(steps(self.ledger()), LIFE)
 
 
