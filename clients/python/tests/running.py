@@ -22,11 +22,15 @@ import unittest
 from pathlib import Path
 
 from simulated_chip import SimulatedChip
-from support import HOST, ROOT, SIMULATED, StationCase, steps
+from support import HOST, LIFE, ROOT, SIMULATED, StationCase, steps
+
+from wanekupo.journal import issued, requests_of
 
 MAP_FILE = ROOT / "maps" / "esp32.toml"
 PYTHONPATH = str(ROOT / "clients" / "python")
 SECONDS = 60
+# How long a robot may take for a chip, on a machine that has other work.
+A_CHIP = 60
 PAGE = ROOT / "docs" / "how-to" / "run-a-bench.md"
 FACTS = 'echo "$CHIP $ORDER $SERIAL $MAC $MACS $KEY_SHA256"\n'
 GREEN, RED, ASK_WHERE = (f"take it out, {it}" for it in ("green box", "red box", "and ask where it comes from"))
@@ -289,6 +293,22 @@ class BenchCase(StationCase):
     def take(self, name, mac):
         os.replace(self.folder / "places" / name, self.folder / f"chip-{mac}")
 
+    def assert_shipped(self, macs):
+        """Each of these chips went through its life once, and its record is once in the journal and in the log, with a
+        request for its certificate."""
+        for mac in macs:
+            self.assertEqual(life_of(self.ledger(mac)), LIFE, mac)
+        shown = {mac: self.asked("GET", f"/v1/device?chip={mac}")[1]["serial"] for mac in macs}
+        self.assertEqual(len(set(shown.values())), len(macs))
+        asked = [it for it in requests_of(self.folder / "a1.journal") if it.members.get("chip") in shown]
+        self.assertEqual({it["chip"]: it["serial"] for it in issued(asked)}, shown)
+        self.assertEqual(sum(it.path == "/v1/identity" and it.is_done() for it in asked), len(macs))
+        passed = [it for it in self.logged() if it.get("result") == "passed" and it["chip"] in shown]
+        self.assertEqual({it["chip"]: it["serial"] for it in passed}, shown)
+        spooled = {it.stem for it in (self.folder / "spool").glob("[!.]*.csr")}
+        self.assertLessEqual(set(shown.values()), spooled)
+        return shown
+
     def logged(self):
         """The lines of the bench's own log."""
         files = sorted((self.folder / "a1.json.bench").glob("log-*.jsonl"))
@@ -305,10 +325,12 @@ class Robot:
         self.bench = None
 
     def work(self):
-        end = time.monotonic() + SECONDS * (2 + len(self.waiting))
+        count = len(self.waiting)
+        end = time.monotonic() + SECONDS + A_CHIP * count
         while self.waiting or self.placed:
             if time.monotonic() > end:
-                raise AssertionError(f"{len(self.waiting)} chips wait: {self.bench.board()}")
+                left = len(self.waiting) + len(self.placed)
+                raise AssertionError(f"{count - left} of {count} chips in time: {self.bench.board()}")
             with contextlib.suppress(OSError, http.client.HTTPException, json.JSONDecodeError):
                 self.look()
                 time.sleep(0.02)

@@ -27,7 +27,9 @@ import argparse
 import json
 import os
 import re
+import subprocess
 import sys
+import tempfile
 import types
 from pathlib import Path
 
@@ -225,6 +227,24 @@ def chip_class(family):
     return SimulatedChip if family not in NEWER else type("Chip", (NewerChip,), {"family": family})
 
 
+def new_chip(family, mac, file, tool=()):
+    """A new chip with a factory MAC, in a file: a simulated one, or by espefuse's words its virtual one, which is blank
+    and gets its MAC burnt. That of an ESP32 is block 0's, with its CRC."""
+    if not tool:
+        chip_class(family)(bytes.fromhex(mac), str(file))
+        return
+    words = [*tool, "--chip", family, "--virt", "--path-efuse-file", file, "--do-not-confirm"]
+    with tempfile.NamedTemporaryFile() as data:
+        if family == "esp32":
+            bits = int(mac, 16) | mac_crc(bytes.fromhex(mac)) << 48
+            words += ["burn_bit", "BLOCK0", *[str(32 + place) for place in range(56) if bits >> place & 1]]
+        else:
+            data.write(bytes.fromhex(mac)[::-1] + bytes(18))
+            data.flush()
+            words += ["burn_block_data", "BLOCK1", data.name]
+        subprocess.run(words, check=True, capture_output=True)
+
+
 class Commands:
     """The commands that burn: what they want is burnt at once behind the last of them."""
 
@@ -316,7 +336,8 @@ def main():
         parser.add_argument(passed_over, action="store_true", help=argparse.SUPPRESS)
     parser.add_argument("command")
     if "--help" in sys.argv:
-        print("espefuse.py v4.7.0")
+        version = sys.argv[sys.argv.index("--as") + 1] if "--as" in sys.argv else "4.7.0"
+        print(f"espefuse{'.py' if version.startswith('4') else ''} v{version}")
     args, words = parser.parse_known_args()
     try:
         ran(args, words)

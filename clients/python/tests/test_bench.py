@@ -11,29 +11,26 @@ import json
 import os
 import re
 import shlex
-import subprocess
 import sys
+import time
 import unittest
 
 from running import (
     FACTS,
     GREEN,
-    MAP_FILE,
     PAGE,
-    SECONDS,
     BenchCase,
     Robot,
     Running,
-    life_of,
     macs_of,
     script,
     table_rows,
     tool,
 )
-from simulated_chip import NEWER, chip_class, mac_crc
-from support import LIFE, ROOT, SIMULATED, Proxy, steps
+from simulated_chip import NEWER, chip_class, new_chip
+from support import ROOT, SIMULATED, Proxy, steps
 
-from wanekupo.journal import issued, requests_of
+from wanekupo.journal import requests_of
 
 
 class Lives(BenchCase):
@@ -56,17 +53,9 @@ class Lives(BenchCase):
         self.assertGreater(robot.starts, 10)
         self.assertEqual(set(results), set(macs))
         self.assertLessEqual({it[-1] for it in results.values()}, {"passed", "passed_before"})
-        for mac in macs:
-            self.assertEqual(life_of(self.ledger(mac)), LIFE, mac)
-        shown = [self.asked("GET", f"/v1/device?chip={mac}")[1] for mac in macs]
-        serials = sorted(it["serial"] for it in shown)
+        serials = sorted(self.assert_shipped(macs).values())
         self.assertEqual(serials, [f"A{place:03}" for place in range(1, self.CHIPS + 1)])
-        asked = requests_of(self.folder / "a1.journal")
-        self.assertEqual(sorted(it["serial"] for it in issued(asked)), serials)
-        self.assertEqual(sum(it.path == "/v1/identity" and it.is_done() for it in asked), self.CHIPS)
-        self.assertEqual(sum(it.path == "/v1/map" for it in asked), 1)
-        passed = {it["chip"]: it["serial"] for it in self.logged() if it.get("result") == "passed"}
-        self.assertEqual(passed, {it["chip"]: it["serial"] for it in shown})
+        self.assertEqual(sum(it.path == "/v1/map" for it in requests_of(self.folder / "a1.journal")), 1)
         self.assertEqual(shift["passed"], self.CHIPS)
         self.assertEqual(sorted(it.stem for it in (self.folder / "spool").glob("[!.]*.csr")), serials)
 
@@ -97,10 +86,12 @@ KEY = bytes(range(0xA0, 0xC0))
 
 class Families(BenchCase):
     """Chips of each family on four sockets: simulated ones, and espefuse's virtual ones where ESPEFUSE has its words.
-    CHIPS is how many of each."""
+    CHIPS is how many of each of FAMILIES. What dies is tried with the first one and a newer one, or with FAMILIES."""
 
     SOCKETS = ("a", "b", "c", "d")
     COUNT = int(os.environ.get("CHIPS", 8 if TOOL else 4))
+    FAMILIES = os.environ.get("FAMILIES", " ".join(("esp32", *NEWER))).split()
+    DYING = os.environ.get("FAMILIES", "esp32 esp32s3").split()
     family = "esp32"
 
     def socket_of(self, name):
@@ -109,18 +100,7 @@ class Families(BenchCase):
         return super().socket_of(name)
 
     def make(self, mac, file):
-        """A virtual chip is blank, and gets its MAC from espefuse; that of an ESP32 is block 0's."""
-        if not TOOL:
-            chip_class(self.family)(bytes.fromhex(mac), str(file))
-            return
-        words = [*TOOL, "--chip", self.family, "--virt", "--path-efuse-file", file, "--do-not-confirm"]
-        if self.family == "esp32":
-            low = int.from_bytes(bytes.fromhex(mac), "big") | mac_crc(bytes.fromhex(mac)) << 48
-            words += ["burn_bit", "BLOCK0", *[str(32 + place) for place in range(56) if low >> place & 1]]
-        else:
-            (self.folder / "mac").write_bytes(bytes.fromhex(mac)[::-1] + bytes(18))
-            words += ["burn_block_data", "BLOCK1", self.folder / "mac"]
-        subprocess.run(words, check=True, capture_output=True)
+        new_chip(self.family, mac, file, TOOL)
 
     def wishes_for(self, name):
         """A debug bit, a key as flash encryption wants it, and the locks of both."""
@@ -134,21 +114,45 @@ class Families(BenchCase):
         return [{"kind": "bit", "field": jtag, "index": 0}, key, *locks]
 
     def test_each_family(self):
-        """Each chip is shipped, with the digest of its key as it stands in the block."""
+        """Each chip is shipped once, with the digest of its key as it stands in the block; none is put in twice."""
         (self.folder / "flash.key").write_bytes(KEY)
-        self.order(quantity=500, first=100)
-        for place, name in enumerate(("esp32", *NEWER)):
-            self.family = name
-            file = ROOT / "maps" / f"{name}.toml"
-            recipe = self.recipe(top={"map": str(file), "family": name}, wishes=self.wishes_for(name))
-            macs = [f"7cdfa1{place:02x}{number:04x}" for number in range(1, self.COUNT + 1)]
-            robot = Robot(self, macs, lambda starts, recipe=recipe: Running(recipe))
-            self.assertEqual(robot.work(), {mac: ["passed"] for mac in macs}, name)
-            self.assertEqual(robot.bench.end(), 0)
-            for mac in macs:
-                self.assertEqual(steps(self.ledger(mac)), LIFE, (name, mac))
-                known = self.asked("GET", f"/v1/device?chip={mac}")[1]["keys"]
-                self.assertEqual(set(known.values()), {hashlib.sha256(KEY[::-1]).hexdigest()}, (name, mac))
+        self.order(quantity=len(self.FAMILIES) * self.COUNT, width=5)
+        for place, name in enumerate(self.FAMILIES):
+            with self.subTest(name):
+                results, _ = self.shipped(name, self.macs(place))
+                self.assertEqual(results, {mac: ["passed"] for mac in self.macs(place)})
+
+    def test_families_with_kills_and_faults(self):
+        """The bench dies before one outside call after another, while the network fails in each way."""
+        (self.folder / "flash.key").write_bytes(KEY)
+        self.order(quantity=len(self.DYING) * self.COUNT, width=5)
+        proxy = self.proxy([None, *(it for fault in Proxy.FAULTS for it in (fault, *[None] * 9))] * 99)
+        for place, name in enumerate(self.DYING):
+            with self.subTest(name):
+                results, starts = self.shipped(name, self.macs(place), proxy.url, lambda starts: 60 + 31 * starts)
+                self.assertLessEqual({it[-1] for it in results.values()}, {"passed", "passed_before"})
+                self.assertGreater(starts, 2)
+
+    def macs(self, place):
+        """The chips of the family with this place."""
+        return [f"7cdfa1{place:02x}{number:04x}" for number in range(1, self.COUNT + 1)]
+
+    def shipped(self, name, macs, url=None, killed=lambda starts: 0):
+        """Has chips of a family shipped, by as many starts of the bench as it takes, and says how long that took."""
+        self.family, begun = name, time.monotonic()
+        file = ROOT / "maps" / f"{name}.toml"
+        recipe = self.recipe(url, top={"map": str(file), "family": name}, wishes=self.wishes_for(name), stop=99)
+        robot = Robot(self, macs, lambda starts: Running(recipe, killed=killed(starts)))
+        results = robot.work()
+        self.assertEqual(robot.bench.end(), 0)
+        self.assert_shipped(macs)
+        for mac in macs:
+            known = self.asked("GET", f"/v1/device?chip={mac}")[1]["keys"]
+            self.assertEqual(set(known.values()), {hashlib.sha256(KEY[::-1]).hexdigest()}, mac)
+        kind = "espefuse's virtual" if TOOL else "simulated"
+        told = f"{len(macs)} {kind} chips shipped on {len(self.SOCKETS)} sockets by {robot.starts} starts of the bench"
+        print(f"\n  {name}: {told} in {time.monotonic() - begun:.0f} s", file=sys.stderr, flush=True)
+        return results, robot.starts
 
     def test_a_block_that_changed_unasked(self):
         """Of an ESP32-S3, whose other blocks the server isn't told."""
@@ -197,92 +201,6 @@ class Families(BenchCase):
         bench.said("1")
         self.assertEqual(bench.ended("left"), ("PASS", "passed", f"The chip is shipped as A001: {GREEN}."))
         self.assertTrue((self.folder / "spool" / "A001.csr").is_file())
-
-
-class Recipes(BenchCase):
-    """What is said of a recipe that isn't one, before anything is asked for."""
-
-    def test_faults(self):
-        self.order()
-        good = self.recipe().read_text(encoding="utf-8")
-        cases = [
-            ('kind = "bit"', 'kind = "bits"', "the kind of wish 1 is 'bits', and may be bit, value, key, wlock, rlock"),
-            ("index = 0", "index = -1", "index is no whole number from 0 on"),
-            ('burnt_as = "flash', 'burned_as = "flash', "wish 2 has 'burned_as', and knows kind, field, file"),
-            ('order = "o1"', 'order = "o 1"', "the recipe has the order 'o 1', which is no name"),
-            ('order = "o1"', 'orders = "o1"', "the recipe has 'orders', and knows name, order"),
-            ('esp32.toml"', 'esp99.toml"', f"esp99.toml in {self.folder} or /"),
-            ('"before_identity"', '"before_ship"', "[hooks] has no before_identity"),
-            ('"url"', '"urls"', "has 'urls', which is no setting"),
-            ("[stop]", "[stop", "is no TOML"),
-            ('"timeout": 20', '"timeout": 0', "the timeout of before_identity is no number of seconds"),
-        ]
-        for old, new, told in cases:
-            text = good.replace('"timeout" = 20', '"timeout" = 20').replace(old, new, 1)
-            text = text.replace('"timeout" = 20', '"timeout" = 0') if "timeout" in old else text
-            self.assertNotEqual(text, good, old)
-            (self.folder / "bad.toml").write_text(text, encoding="utf-8")
-            bench = Running(self.folder / "bad.toml")
-            self.assertEqual((bench.process.wait(SECONDS), bench.port), (2, 0), old)
-            bench.gone()
-            self.assertIn(told, "".join(bench.lines))
-            self.assertNotIn("Traceback", "".join(bench.lines))
-
-
-    def test_what_is_looked_at_before_the_first_chip(self):
-        """What would be found behind a step that nobody can undo: a sentence for each fault, and nothing is sent."""
-        good = self.recipe().read_text(encoding="utf-8")
-        self.assertIn(f'map = "{MAP_FILE}"', good)
-        script(self.folder / "silent", "exit 2\n")
-        script(self.folder / "older", "echo 'espefuse.py v3.3'\n")
-        for name, size, mode in (("short.key", 31, 0o600), ("open.key", 32, 0o640)):
-            (self.folder / name).write_bytes(bytes(size))
-            (self.folder / name).chmod(mode)
-        own, bit, key = self.socket_of("left"), "JTAG_DISABLE", 'field = "BLOCK1"\nfile = "flash.key"'
-        jtag = f'kind = "bit"\nfield = "{bit}"\nindex = 0'
-        cases = [
-            (bit, "JTAG_DISABEL", "wish 1 has the field JTAG_DISABEL, which the map hasn't; it has JTAG_DISABLE."),
-            ("index = 0", "index = 1", "wish 1 has the index 1, and JTAG_DISABLE goes from 0 to 0."),
-            (f'field = "{bit}"', 'field = "BLOCK1"', "wish 1 is a bit of BLOCK1, which takes a key."),
-            (jtag, f'kind = "value"\nfield = "{bit}"\nvalue = "2"',
-             "wish 1 has the value 2, and JTAG_DISABLE has room for 1 bits."),
-            (jtag, 'kind = "wlock"\nfield = "CODING_SCHEME"\n[[wish]]\nkind = "rlock"\nfield = "JTAG_DISABLE"',
-             "wish 2 is a read lock of JTAG_DISABLE, which has none."),
-            (jtag, f'{jtag}\n[[wish]]\nkind = "value"\nfield = "{bit}"\nvalue = "0"',
-             "its wishes want JTAG_DISABLE both as 0 and as 1."),
-            (key, key.replace("BLOCK1", bit), "wish 2 is a key of JTAG_DISABLE, which is no key block."),
-            ('"flash_encryption"', '"flash_encription"',
-             "wish 2 is burnt_as flash_encription, and a key of BLOCK1 may be BLOCK1, flash_encryption."),
-            ('esp32.toml"', 'esp32s3.toml"', "its map is that of an esp32s3, and its family is esp32."),
-            ('"flash.key"', '"none.key"', f"the key {self.folder}/none.key can't be read (No such file or directory)."),
-            ('"flash.key"', '"short.key"', f"the key {self.folder}/short.key is no file of 32 bytes."),
-            ('"flash.key"', '"open.key"',
-             f"others may read the key {self.folder}/open.key: chmod 600 {self.folder}/open.key."),
-            ("/make-csr", "/none", f"the command before_identity can't be run: {self.folder}/none isn't there, or"),
-            ('"spool" = "spool"', '"spool" = "none"', f"the folder spool, {self.folder}/none, isn't there, or can't"),
-            (f'"left" = {json.dumps(own)}', '"left" = ["none-such"]',
-             "the command of the socket left can't be run: none-such isn't there, or lacks chmod +x."),
-            (f'"left" = {json.dumps(own)}', '"left" = ["./silent"]',
-             "the command of the socket left is no espefuse that is known: espefuse ended with status 2, and didn't"),
-            (f'"left" = {json.dumps(own)}', '"left" = ["./older"]',
-             "the command of the socket left is no espefuse that is known: its version is 3.3, and 4 and 5 are."),
-        ]
-        together = [(bit, "JTAG_DISABEL"), ('"flash.key"', '"none.key"'), ("/make-csr", "/none")]
-        together += [('"spool" = "spool"', '"spool" = "none"')]
-        alone = [([(old, new)], [said]) for old, new, said in cases]
-        for changes, told in [*alone, (together, ["wish", "key", "command", "spool"])]:
-            text = good
-            for old, new in changes:
-                self.assertIn(old, text)
-                text = text.replace(old, new, 1)
-            (self.folder / "bad.toml").write_text(text, encoding="utf-8")
-            bench = Running(self.folder / "bad.toml")
-            self.assertEqual((bench.process.wait(SECONDS), bench.port), (2, 0), changes)
-            bench.gone()
-            lines = "".join(bench.lines).splitlines()
-            self.assertEqual(lines[len(told) :], ["No chip was begun: mend this, and start again."])
-            for line, said in zip(lines, told):
-                self.assertIn(said, line)
 
 
 class Table(unittest.TestCase):

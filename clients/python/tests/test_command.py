@@ -1,4 +1,4 @@
-"""The command `wanekupo`: its settings, what it shows without a state file, and what it says where something is wrong.
+"""The command `wanekupo`: what it shows without a state file, what it changes, what it says where something is wrong.
 
 The replies that it prints are compared with those that the server gives to plain requests, keys with openssl's.
 """
@@ -7,178 +7,23 @@ from __future__ import annotations
 
 import contextlib
 import hashlib
-import importlib.util
-import io
 import json
 import os
 import re
-import shutil
 import subprocess
 import sys
-import tempfile
 import tomllib
 import unittest
-from pathlib import Path
-from unittest import mock
 
+from commanding import CLIENT, NEEDS_KEYS, OTHER_MAC, CommandCase, digest_by_openssl, made_key
 from simulated_chip import chip_class
-from support import DIGEST, HOST, MAC, MAP, ORDER, ROOT, SIMULATED, SITE, Canned, StationCase, free_port
+from support import DIGEST, HOST, MAC, MAP, ORDER, ROOT, SIMULATED, SITE, Canned, free_port
 
-from wanekupo.command_line import main
-from wanekupo.config import Settings, settings_of
-from wanekupo.errors import BadSettings, OutOfStep, Refused
+from wanekupo.errors import OutOfStep, Refused
 from wanekupo.sentences import REFUSALS, sentence_of
 
-CLIENT = ROOT / "clients" / "python"
-OTHER_MAC = "240ac4000002"
 # What no person at a bench reads: names of classes, numbers of errors, and Python's way of writing things.
 NO_SENTENCE = re.compile(r"[A-Za-z]+(Error|Exception|Warning)\b|Errno|Traceback|\bNone\b|Bad[A-Z]|NoReply|UnderWay")
-
-
-def ran(*words, **environment):
-    """The status of the command, its output and what it told on standard error, in this environment alone."""
-    out, err = io.StringIO(), io.StringIO()
-    with contextlib.redirect_stdout(out), contextlib.redirect_stderr(err):
-        with mock.patch.dict(os.environ, environment, clear=True):
-            try:
-                status = main([str(word) for word in words])
-            except SystemExit as stop:
-                status = stop.code
-    return status, out.getvalue(), err.getvalue()
-
-
-HAS_KEYS = shutil.which("openssl") and importlib.util.find_spec("cryptography")
-NEEDS_KEYS = unittest.skipUnless(HAS_KEYS, "there is no openssl, which makes keys, or no python3-cryptography")
-
-# Kinds of keys, as `openssl req -newkey` names them.
-KINDS = ["ec -pkeyopt ec_paramgen_curve:prime256v1", "rsa:2048", "ed25519"]
-
-
-def made_key(folder, name, kind=KINDS[0]):
-    """A key pair and a request for a certificate by openssl: name.key, .pem, .der, .csr and .csr.der."""
-    for words in (
-        f"req -new -newkey {kind} -nodes -keyout {name}.key -out {name}.csr -subj /CN=chip",
-        f"req -in {name}.csr -outform DER -out {name}.csr.der",
-        f"pkey -in {name}.key -pubout -out {name}.pem",
-        f"pkey -in {name}.key -pubout -outform DER -out {name}.der",
-    ):
-        subprocess.run(["openssl", *words.split()], cwd=folder, check=True, stderr=subprocess.DEVNULL)
-
-
-def digest_by_openssl(folder, name):
-    words = ["openssl", "dgst", "-sha256", "-r", f"{name}.der"]
-    done = subprocess.run(words, cwd=folder, capture_output=True, check=True)
-    return done.stdout[:64].decode()
-
-
-class Config(unittest.TestCase):
-    def test_what_wins(self):
-        """The command line over the environment, that over the user's file, that over the machine's."""
-        for given, expected in (
-            ("line environment user machine", "line"),
-            ("environment user machine", "environment"),
-            ("user machine", "user"),
-            ("machine", "machine"),
-            ("", Settings().seat),
-        ):
-            with self.subTest(given), self.folder() as folder:
-                files = [folder / "user", folder / "machine"]
-                for file in files:
-                    if file.name in given:
-                        file.write_text(f'seat = "{file.name}"\n', encoding="utf-8")
-                line = {"seat": "line" if "line" in given else None, "chip": MAC}
-                environment = {"WANEKUPO_SEAT": "environment"} if "environment" in given else {}
-                self.assertEqual(settings_of(line, environment, files).seat, expected)
-
-    @staticmethod
-    @contextlib.contextmanager
-    def folder():
-        with tempfile.TemporaryDirectory() as folder:
-            yield Path(folder)
-
-    def test_each_setting(self):
-        """As the three say it; a path counts from the folder of the file that has it."""
-        with self.folder() as folder:
-            file = folder / "wanekupo.toml"
-            file.write_text(
-                'url = "https://station.example"\ntoken = "a1.token"\nstate = "/var/a1.json"\njournal = "journals"\n'
-                'ca = "~/ca.pem"\ninsecure = true\npatience = 7\nseat = "a1"\noperator = "Zoë"\nspool = "spool"\n',
-                encoding="utf-8",
-            )
-            home = Path(os.path.expanduser("~"))
-            expected = Settings(
-                "https://station.example",
-                folder / "a1.token",
-                Path("/var/a1.json"),
-                folder / "journals",
-                home / "ca.pem",
-                True,
-                7.0,
-                "a1",
-                "Zoë",
-                folder / "spool",
-            )
-            self.assertEqual(settings_of({}, {}, [file]), expected)
-            named = {f"WANEKUPO_{name.upper()}": str(value) for name, value in vars(expected).items()}
-            self.assertEqual(settings_of({}, named, []), expected)
-            # --config stands in the place of both files
-            other = folder / "other"
-            other.write_text('seat = "other"\n', encoding="utf-8")
-            self.assertEqual(settings_of({"config": str(other)}, {}, [file]), Settings(seat="other"))
-
-    def test_what_is_refused(self):
-        """With the name of the file, and what is wrong with it."""
-        for text, told in (
-            ('tokn = "a1"\n', "'tokn'"),
-            ("url = 7\n", "url"),
-            ('patience = "soon"\n', "patience"),
-            ("patience = true\n", "patience"),
-            ("insecure = 2\n", "insecure"),
-            ('seat = "../a1"\n', "seat"),
-            ("token =\n", "line 1"),
-            ('journal = "journals/"\n', "journal"),
-        ):
-            with self.subTest(text), self.folder() as folder:
-                file = folder / "wanekupo.toml"
-                file.write_text(text, encoding="utf-8")
-                with self.assertRaises(BadSettings) as found:
-                    settings_of({}, {}, [file])
-                self.assertIn(str(file), str(found.exception))
-                self.assertIn(told, str(found.exception))
-        with self.folder() as folder:
-            file = folder / "wanekupo.toml"
-            file.write_text('url = "http://127.0.0.1:1"\n', encoding="utf-8")
-            file.chmod(0o666)
-            with self.assertRaises(BadSettings):
-                settings_of({}, {}, [file])
-            with self.assertRaises(BadSettings):
-                settings_of({"config": str(folder / "none")}, {}, [])
-
-
-class CommandCase(StationCase):
-    def setUp(self):
-        super().setUp()
-        config = self.folder / ".config"
-        config.mkdir(mode=0o700)
-        (self.folder / "a1.token").write_text("abc\n", encoding="ascii")
-        text = f'url = "{self.program.url}"\ntoken = "../a1.token"\nstate = "../a1.json"\njournal = "../a1.journal"\n'
-        (config / "wanekupo.toml").write_text(text + 'seat = "a1"\n', encoding="ascii")
-
-    def ran(self, *words, **environment):
-        return ran(*words, HOME=str(self.folder), **environment)
-
-    def made(self, count=2):
-        """An order o1, the map, and devices that are registered."""
-        with self.station(file="maker.json") as station:
-            station.make_order(**{**ORDER, "macs": 0})
-            station.import_map(MAP)
-            for mac in (MAC, OTHER_MAC)[:count]:
-                station.register(mac, "o1", DIGEST, self.chip(mac).read())
-            station.plan(MAC, [])
-
-    def taken_over(self):
-        """The command's state file is this seat's from now on, so that it isn't a new one."""
-        self.assertEqual(self.ran("number", "--resynchronize")[0], 0)
 
 
 class Looking(CommandCase):
@@ -277,8 +122,9 @@ class Words(CommandCase):
         self.made_by(["map", self.folder / "map"], {"map": DIGEST})
         self.made_by(["register", "o1", DIGEST, self.folder / "dump"], {"state": "registered"})
         self.made_by(["plan", MAC, "--bit", "JTAG_DISABLE=0", "--key", key], {"state": "awaiting1"})
-        burns = [f"{tool} burn_key --no-protect-key flash_encryption {flash_key}", f"{tool} burn_bit BLOCK0 198"]
-        self.assertEqual(self.ran("burn", MAC, "--tool", tool, "--key", key)[1].splitlines(), burns)
+        burns = [f"burn_key --no-protect-key flash_encryption {flash_key}", "burn_bit BLOCK0 198"]
+        shown = self.ran("burn", MAC, "--tool", tool, "--key", key)[1].splitlines()
+        self.assertEqual(shown, [f"{tool} --chip esp32 {words}" for words in burns])
         self.made_by(["settle", MAC, "--tool", tool, "--key", key], {"state": "settled"})
         made_key(self.folder, "chip")
         self.made_by(["identity", MAC, "--pem", self.folder / "chip.pem"], {"serial": "A998", "mac": "020000000010"})
@@ -439,101 +285,6 @@ class SecondSeat(CommandCase):
         self.assertEqual(self.ran("scrap", OTHER_MAC, *self.own)[::2], (0, ""))
         with self.station(file="maker.json") as bench, self.assertRaises(OutOfStep):
             bench.plan(OTHER_MAC, [])
-
-
-@NEEDS_KEYS
-class Keys(CommandCase):
-    def setUp(self):
-        super().setUp()
-        self.made()
-        with self.station(file="maker.json") as station:
-            station.plan(OTHER_MAC, [])
-        self.spool = self.folder / "spool"
-        self.spool.mkdir()
-        self.addCleanup(os.umask, os.umask(0o077))  # as of a station whose files nobody else reads
-
-    def number(self):
-        return json.loads(self.ran("number")[1])["expected"]
-
-    def test_a_key_in_each_form(self):
-        """The record has the SHA-256 of what openssl writes as DER; of each kind of key, and in each form."""
-        forms = [(kind, form) for kind in KINDS for form in ("pem", "der", "csr", "csr.der")]
-        macs = [f"240ac40001{place:02x}" for place in range(len(forms))]
-        with self.station(file="maker.json") as station:
-            station.make_order(**{**ORDER, "name": "o3", "prefix": "C", "quantity": 99, "first": 1, "macs": 0})
-            for mac in macs:
-                station.register(mac, "o3", DIGEST, self.chip(mac).read())
-                station.plan(mac, [])
-        self.taken_over()
-        for mac, (kind, form) in zip(macs, forms):
-            name = f"key{mac}"
-            made_key(self.folder, name, kind)
-            words = ["identity", mac, f"--{form[:3]}", self.folder / f"{name}.{form}", "--spool", self.spool]
-            status, out, err = self.ran(*words)
-            self.assertEqual((status, err), (0, ""), words)
-            record = json.loads(out)
-            self.assertEqual(record["key_sha256"], digest_by_openssl(self.folder, name), words)
-            kept = self.spool / f"{record['serial']}.csr"
-            self.assertEqual(kept.exists(), form.startswith("csr"))
-            if kept.exists():
-                self.assertEqual(kept.read_bytes(), (self.folder / f"{name}.{form}").read_bytes())
-                self.assertEqual(kept.stat().st_mode & 0o777, 0o644)
-
-    def test_again_behind_a_stop(self):
-        """A station that was stopped behind the reply asks again: the same record, and its request is kept once."""
-        made_key(self.folder, "one")
-        made_key(self.folder, "two")
-        with self.station() as station:
-            public_key = (self.folder / "one.der").read_bytes()
-            station.identify(MAC, public_key)
-        number = self.number()
-        for _ in range(2):
-            status, out, _ = self.ran("identity", MAC, "--csr", self.folder / "one.csr", "--spool", self.spool)
-            self.assertEqual((status, json.loads(out)["serial"], self.number()), (0, "A998", number))
-            self.assertEqual([it.name for it in self.spool.iterdir()], ["A998.csr"])
-        self.assertEqual(self.ran("identity", MAC, "--csr", self.folder / "two.csr", "--spool", self.spool)[0], 1)
-        self.assertEqual((self.spool / "A998.csr").read_bytes(), (self.folder / "one.csr").read_bytes())
-
-    def test_what_is_sent_to_nobody(self):
-        """A request with a changed byte, a private key, and what is neither: the number stays, and nothing is kept."""
-        made_key(self.folder, "one")
-        whole, number = (self.folder / "one.csr.der").read_bytes(), self.number()
-        (self.folder / "changed.csr").write_bytes(whole[:-1] + bytes([whole[-1] ^ 1]))
-        (self.folder / "longer.der").write_bytes((self.folder / "one.der").read_bytes() + b"\0")
-        for form, name, told in (
-            ("csr", "changed.csr", "signature"),
-            ("csr", "one.pem", "no request"),
-            ("pem", "one.key", "private"),
-            ("pem", "one.csr", "no public key"),
-            ("der", "longer.der", "no public key"),
-            ("der", "one.pem", "no public key"),
-        ):
-            words = ["identity", MAC, f"--{form}", self.folder / name, "--spool", self.spool]
-            status, out, err = self.ran(*words)
-            self.assertEqual((status, out, told in err, name in err), (2, "", True, True), (words, err))
-        self.assertEqual((self.number(), list(self.spool.iterdir())), (number, []))
-
-
-class Example(unittest.TestCase):
-    """What the package has in its examples, and its man page of a recipe, beside the page on benches."""
-
-    def setUp(self):
-        self.page = (ROOT / "docs" / "how-to" / "run-a-bench.md").read_text(encoding="utf-8")
-
-    def test_its_files(self):
-        """The page shows each of them whole, byte for byte."""
-        for name in ("thermostat.toml", "make-csr", "flash"):
-            lines = (ROOT / "deploy" / "thermostat" / name).read_text(encoding="utf-8").splitlines()
-            shown = "".join(f"       {line}".rstrip() + "\n" for line in lines)
-            self.assertIn(f"\n\n{shown}\n", self.page, name)
-
-    def test_the_man_page(self):
-        """It has each name that the page's tables of a recipe and of hooks have."""
-        tables = self.page.partition("## The recipe")[2].partition("## How a chip's stay ends")[0]
-        names = set(re.findall(r"`([A-Za-z_0-9]+)`", "".join(re.findall(r"^\|.*$", tables, re.MULTILINE))))
-        self.assertLessEqual({"order", "burnt_as", "lost_in_a_row", "before_ship", "KEY_SHA256"}, names)
-        man = (ROOT / "deploy" / "wanekupo-recipe.5").read_text(encoding="utf-8")
-        self.assertEqual([name for name in sorted(names) if not re.search(rf"\b{name}\b", man)], [])
 
 
 if __name__ == "__main__":

@@ -19,7 +19,7 @@ import tomllib
 import unittest
 from pathlib import Path
 
-from simulated_chip import NEWER, chip_class
+from simulated_chip import NEWER, chip_class, new_chip
 from support import LIFE, ORDER, PUBLIC_KEY, ROOT, SIMULATED, StationCase, steps
 
 from wanekupo.chips import bit, checked, key, rlock, shows, value, wlock
@@ -194,9 +194,7 @@ class Lives(StationCase):
     def virtual(self, name, mac=MAC):
         """espefuse's own virtual chip, with a factory MAC, and its command."""
         words = [*TOOL, "--virt", "--path-efuse-file", self.folder / mac, "--do-not-confirm"]
-        block = self.folder / "mac"
-        block.write_bytes(bytes.fromhex(mac)[::-1] + bytes(18))
-        subprocess.run([*words, "--chip", name, "burn_block_data", "BLOCK1", block], check=True, capture_output=True)
+        new_chip(name, mac, self.folder / mac, TOOL)
         return self.tool(*words)
 
     def starts(self):

@@ -176,6 +176,32 @@ class Page(BenchCase):
             bench.until(lambda board, word=word: bool(board["stopped"]) == (word == "stop"))
             self.browser.until(f"document.getElementById('{word}').hidden")
 
+    def test_a_chip_is_scrapped(self):
+        """By the keyboard and a scanner: the button, the chip's name, a question, and its answer by a button."""
+        broken = script(self.folder / "broken", "echo 'the flash is write protected'; exit 3\n")
+        bench = self.show(hooks={"before_ship": {"command": [broken]}})
+        self.put("left", MACS[0])
+        self.browser.type("left")
+        self.word(0, "FAIL")
+        for answer, state, notice in (("no", "identified", "isn't scrapped"), ("yes", "scrapped", "is scrapped")):
+            self.browser.value("document.getElementById('scrap').focus()")
+            self.browser.press("Enter")
+            self.browser.until("!document.getElementById('question').hidden")
+            shown = "[...document.querySelectorAll('#question button')].filter((it) => !it.hidden).map((it) => it.id)"
+            self.assertEqual(self.browser.value(shown), ["no"])
+            self.browser.type(MACS[0])
+            self.browser.until("!document.getElementById('yes').hidden")
+            told = self.browser.value("document.getElementById('question-text').textContent")
+            self.assertRegex(told, f"^Scrap the chip {MACS[0]} for good[?] It is identified.*flash is write protected")
+            if answer == "yes":
+                self.picture("scrap")
+            self.browser.value(f"document.getElementById('{answer}').focus()")
+            self.browser.press("Enter")
+            self.browser.until(f"document.getElementById('notice').textContent.includes(\"{notice}\")")
+            self.browser.until("document.getElementById('question').hidden")
+            self.assertEqual(self.asked("GET", f"/v1/device?chip={MACS[0]}")[1]["state"], state)
+        self.assertEqual(bench.board()["notice"], f"The chip {MACS[0]} is scrapped (hook_failed): it is done with.")
+
     def test_others_pages(self):
         """What another page, or another name of this machine, asks for is refused, and each reply has the policy."""
         bench = self.show()

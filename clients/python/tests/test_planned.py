@@ -15,58 +15,65 @@ from support import DIGEST, FLASH_KEY, MAP, WISHES
 from wanekupo.chips import bit, rlock, value, wlock
 
 
+JTAG, OTHER, LOCK = bit("JTAG_DISABLE", 0), bit("CONSOLE_DEBUG_DISABLE", 0), wlock("BLOCK1")
+
+# What another hand planned, the state in which the bench finds the chip, how its stay ends, and what is told of it.
+CASES = [
+    ([], "settled", "passed", ""),
+    ([JTAG], "settled", "passed", ""),
+    (WISHES, "settled", "passed", ""),
+    ([JTAG, value("MAC_VERSION", "1")], "settled", "not_blank", "refusal 22: MAC_VERSION reads 1, the recipe wants 0"),
+    ([JTAG], "awaiting1", "passed", ""),
+    (WISHES, "awaiting1", "passed", ""),
+    ([JTAG, OTHER], "awaiting1", "other_wishes", "CONSOLE_DEBUG_DISABLE"),
+    ([JTAG, LOCK], "awaiting1", "other_wishes", "BLOCK1, the read lock of BLOCK1"),
+    ([LOCK], "awaiting2", "other_wishes", "BLOCK1, JTAG_DISABLE, the read lock of BLOCK1"),
+    (WISHES, "awaiting2", "passed", ""),
+    ([JTAG], "identified", "other_wishes", "BLOCK1, the read lock of BLOCK1, the write lock of BLOCK1"),
+    (WISHES, "identified", "passed", ""),
+    (WISHES, "shipped", "shipped_before", ""),
+]
+
+
 class Planned(BenchCase):
     """Chips that come with more than a blank one has."""
 
     def test_chips_that_another_hand_planned(self):
         """None passes without what the recipe wishes, in whichever state the bench finds it."""
-        jtag, other, lock = bit("JTAG_DISABLE", 0), bit("CONSOLE_DEBUG_DISABLE", 0), wlock("BLOCK1")
-        wishes, flash = WISHES, self.keys["BLOCK1"].burnt_as
-        cases = [
-            ([], "settled", "passed", ""),
-            ([jtag], "settled", "passed", ""),
-            (wishes, "settled", "passed", ""),
-            ([jtag, value("MAC_VERSION", "1")], "settled", "not_blank",
-             "refusal 22: MAC_VERSION reads 1, the recipe wants 0"),
-            ([jtag], "awaiting1", "passed", ""),
-            (wishes, "awaiting1", "passed", ""),
-            ([jtag, other], "awaiting1", "other_wishes", "CONSOLE_DEBUG_DISABLE"),
-            ([jtag, lock], "awaiting1", "other_wishes", "BLOCK1, the read lock of BLOCK1"),
-            ([lock], "awaiting2", "other_wishes", "BLOCK1, JTAG_DISABLE, the read lock of BLOCK1"),
-            (wishes, "awaiting2", "passed", ""),
-            ([jtag], "identified", "other_wishes", "BLOCK1, the read lock of BLOCK1, the write lock of BLOCK1"),
-            (wishes, "identified", "passed", ""),
-            (wishes, "shipped", "shipped_before", ""),
-        ]
-        key = {"kind": "key", "field": "BLOCK1", "file": "flash.key", "burnt_as": flash}
+        key = {"kind": "key", "field": "BLOCK1", "file": "flash.key", "burnt_as": self.keys["BLOCK1"].burnt_as}
         more = {"kind": "value", "field": "MAC_VERSION", "value": "0"}
-        own = [jtag, key, lock, rlock("BLOCK1"), more]
         self.order()
         with self.station(file="a1.json") as hand:
             hand.import_map(MAP)
-            for mac, (planned, state, _, _) in zip(macs_of(len(cases)), cases):
+            for mac, (planned, state, _, _) in zip(macs_of(len(CASES)), CASES):
                 self.planned(hand, mac, planned, state)
         proxy = self.proxy()
-        bench = self.run_bench(self.recipe(proxy.url, wishes=own, stop=99))
-        for mac, (planned, state, reason, detail) in zip(macs_of(len(cases)), cases):
-            before = SimulatedChip.at(self.folder / f"chip-{mac}").blocks
-            self.put("left", mac)
+        recipe = self.recipe(proxy.url, wishes=[JTAG, key, LOCK, rlock("BLOCK1"), more], stop=99)
+        bench = self.run_bench(recipe)
+        for mac, case in zip(macs_of(len(CASES)), CASES):
             seen = len(proxy.seen)
-            bench.said("left")
-            bench.until(lambda board, mac=mac: board["sockets"][0]["chip"] == mac)
-            word, found, told = bench.ended("left")
-            self.assertEqual((found, word == "PASS"), (reason, reason == "passed"), (planned, state, told))
+            with self.subTest(case[:2]):
+                self.stays(bench, mac, *case[2:])
             self.assertLessEqual(sum(mac.encode() in request for _, request in proxy.seen[seen:]), 8)
-            blocks = SimulatedChip.at(self.folder / "places" / "left").blocks
-            if reason == "passed":
-                self.assertEqual((blocks[0] >> 198 & 1, blocks[0] & 0x10080), (1, 0x10080), (planned, state))
-                self.assertEqual(blocks[1].to_bytes(32, "little")[::-1], FLASH_KEY)
-                self.assertEqual(self.asked("GET", f"/v1/device?chip={mac}")[1]["state"], "shipped")
-            else:
-                self.assertEqual(blocks, before)
-            if detail:
-                self.assertTrue(told.endswith(f" ({detail}): {RED}."), told)
-            self.take("left", mac)
+
+    def stays(self, bench, mac, reason, detail):
+        """A chip's stay in the socket, which ends so. One that doesn't pass isn't burnt."""
+        before = SimulatedChip.at(self.folder / f"chip-{mac}").blocks
+        self.put("left", mac)
+        bench.said("left")
+        bench.until(lambda board: board["sockets"][0]["chip"] == mac)
+        word, found, told = bench.ended("left")
+        self.assertEqual((found, word == "PASS"), (reason, reason == "passed"), told)
+        blocks = SimulatedChip.at(self.folder / "places" / "left").blocks
+        if reason == "passed":
+            self.assertEqual((blocks[0] >> 198 & 1, blocks[0] & 0x10080), (1, 0x10080))
+            self.assertEqual(blocks[1].to_bytes(32, "little")[::-1], FLASH_KEY)
+            self.assertEqual(self.asked("GET", f"/v1/device?chip={mac}")[1]["state"], "shipped")
+        else:
+            self.assertEqual(blocks, before)
+        if detail:
+            self.assertTrue(told.endswith(f" ({detail}): {RED}."), told)
+        self.take("left", mac)
 
     def test_a_recipe_that_changed(self):
         """A chip that was shipped by the recipe as it was before, and is still in its socket, or awaits its label."""

@@ -64,7 +64,8 @@ class Begun(BenchCase):
         """What isn't one is no traveller where a key begins a chip, and there is help."""
         self.order()
         bench = self.run_bench(self.recipe())
-        words = "The words are: stop, go, shift (the counts begin anew), forget CHIP (it won't come back), help."
+        words = "The words are: stop, go, shift (the counts begin anew), scrap (gives up a chip of the red box), "
+        words += "forget CHIP (it won't come back), help."
         for text in ("halp", "3", "forget"):
             bench.said(text)
             self.assertEqual(bench.board()["notice"], f"{text!r} is no word of this bench. {words}")

@@ -7,11 +7,11 @@ import shlex
 from pathlib import Path
 from typing import Any, Callable
 
-from wanekupo.chips import bit, chip_of, commands, rlock, value, wlock
+from wanekupo.chips import bit, chip_of, rlock, value, wlock
 from wanekupo.command_row import Command, text_of, words
 from wanekupo.config import Settings, looking_station_of, station_of
 from wanekupo.errors import BadKey, BadSettings, Refused, StationError
-from wanekupo.espefuse import Espefuse, KeyFile, NoFuses, find_tool, wishes_of
+from wanekupo.espefuse import TOOLS, Espefuse, KeyFile, NoEspefuse, NoFuses, find_tool, typed_lines, wishes_of
 from wanekupo.families import Blocks, dump_of, family_of, names
 from wanekupo.keys import digest_of, keep_csr, public_key_of
 from wanekupo.printing import Progress, say, say_json, warn
@@ -126,13 +126,7 @@ def _add_read_back(parser: argparse.ArgumentParser) -> None:
     _add_family(parser)
 
 
-def _add_burn(parser: argparse.ArgumentParser) -> None:
-    words("chip")(parser)
-    _add_keys(parser)
-    parser.add_argument("--tool", default="espefuse.py", metavar="T", help="espefuse's command, with its port")
-
-
-def _add_settle(parser: argparse.ArgumentParser) -> None:
+def _add_burning(parser: argparse.ArgumentParser) -> None:
     words("chip")(parser)
     _add_keys(parser)
     parser.add_argument("--tool", metavar="T", help="espefuse's command, with its port")
@@ -163,22 +157,28 @@ def plan(station: Station, args: argparse.Namespace) -> None:
     station.plan(args.chip, [*wishes, *map(wlock, args.wlock), *map(rlock, args.rlock)])
 
 
-def burn_lines(station: Station, args: argparse.Namespace) -> str:
-    """espefuse's commands for the batch that an ESP32 awaits."""
-    device = station.device(args.chip)
-    work = device.batch2 if device.state == "awaiting2" else device.batch1
-    return "".join(f"{args.tool} {shlex.join(line)}\n" for line in commands(work, dict(args.key)))
+def _tool(args: argparse.Namespace) -> list[str]:
+    """The command of espefuse, the one that is named or the one that is here."""
+    return shlex.split(args.tool) if args.tool else [find_tool()]
 
 
 def _burn(settings: Settings, args: argparse.Namespace) -> int:
+    """Prints the commands, also on a machine without espefuse, as for who has it on another one."""
+    try:
+        tool = _tool(args)
+    except NoEspefuse:
+        tool = [TOOLS[0]]
     with looking_station_of(settings) as station:
-        say(burn_lines(station, args))
+        device = station.device(args.chip)
+    work = device.batch2 if device.state == "awaiting2" else device.batch1
+    if device.state not in ("awaiting1", "awaiting2"):
+        warn(f"The chip awaits no batch: it is {device.state}.")
+    say("".join(f"{line}\n" for line in typed_lines(tool, family_of(args.family), work, dict(args.key))))
     return DONE
 
 
 def _settle(station: Station, args: argparse.Namespace) -> Any:
-    tool = shlex.split(args.tool) if args.tool else [find_tool()]
-    device = station.settle(args.chip, Espefuse(tool, dict(args.key), family_of(args.family)))
+    device = station.settle(args.chip, Espefuse(_tool(args), dict(args.key), family_of(args.family)))
     if device.state in ("awaiting1", "awaiting2"):
         warn("The chip doesn't take what is burnt. Put it in again; if it stays so, scrap it.")
     return station.get("/v1/device", chip=args.chip)
@@ -263,14 +263,14 @@ COMMANDS = [
     ),
     Command("register", "register a chip, by the file of a dump", _add_register, asks(_register)),
     Command("plan", "plan what a chip gets burnt", _add_plan, asks(plan)),
-    Command("burn", "print espefuse's commands for the batch that an ESP32 awaits", _add_burn, _burn),
+    Command("burn", "print espefuse's commands for the batch that a chip awaits", _add_burning, _burn),
     Command(
         "readback",
         "send what a chip shows, by the file of a dump, or - for standard input",
         _add_read_back,
         asks(lambda it, args: it.read_back(args.chip, _shown(args)) and None),
     ),
-    Command("settle", "burn and read back what a chip awaits", _add_settle, asks(_settle)),
+    Command("settle", "burn and read back what a chip awaits", _add_burning, asks(_settle)),
     Command("identity", "show a device's record, or with a public key give it one", _add_identity, _identity),
     Command("ship", "ship a device", words("chip"), asks(lambda it, args: it.ship(args.chip) and None)),
     Command("scrap", "scrap a device", words("chip"), asks(lambda it, args: it.scrap(args.chip) and None)),

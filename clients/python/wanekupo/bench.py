@@ -31,6 +31,7 @@ from wanekupo.printing import warn
 from wanekupo.recipe import Recipe, recipe_of
 from wanekupo.recipe_checks import faults_of
 from wanekupo.replies import Identity, Order
+from wanekupo.scrapping import Scrapping
 from wanekupo.screen import Screen
 from wanekupo.station import Station
 from wanekupo.turns import Leaving, Turns
@@ -48,7 +49,10 @@ INTERRUPTED = 130
 NOT_STARTED = 2
 
 # What may be said beside a socket's name or number, or a traveller.
-WORDS = "The words are: stop, go, shift (the counts begin anew), forget CHIP (it won't come back), help."
+WORDS = (
+    "The words are: stop, go, shift (the counts begin anew), scrap (gives up a chip of the red box), "
+    "forget CHIP (it won't come back), help."
+)
 
 # What parts the words of a traveller's code.
 APART = re.compile(r"[\s,;|/]+")
@@ -64,7 +68,7 @@ class Bench:
         self.board.under_way(kept.under_way())
         self.leaving = threading.Event()
         self._turns = Turns(station, self.board, self.leaving)
-        self._counting = threading.Lock()
+        self._counting, self._scrapping = threading.Lock(), Scrapping(self)
         self._begin = {name: threading.Event() for name in recipe.sockets}
         self._seen = dict.fromkeys(recipe.sockets, "")
         self._order: Optional[Order] = None
@@ -89,9 +93,9 @@ class Bench:
     def working(self, socket: str, step: str, chip: str, serial: str) -> None:
         self.board.working(socket, step, chip, serial)
         if chip:
-            self._tell_begun()
+            self.tell_begun()
 
-    def _tell_begun(self, ended: str = "") -> None:
+    def tell_begun(self, ended: str = "") -> None:
         """Shows which chips were begun and are worked on in no socket now, but the one whose chip has ended."""
         sockets = [self.board.socket(name) for name in self.recipe.sockets if name != ended]
         worked_on = {it.chip for it in sockets if it.state == WORKING}
@@ -181,7 +185,7 @@ class Bench:
             last = ended_socket(name, ended, life.step, life.chip, life.serial, self.recipe.order)
         if ended.ending.effect == STOP:
             self.board.stop(f"{last.sentence} Step: {life.step}.")
-        self._tell_begun(name)
+        self.tell_begun(name)
         self.board.ended(last)
 
     def _count(self, last: Socket, ended: Ended) -> None:
@@ -204,6 +208,8 @@ class Bench:
         """What was scanned or typed: a traveller, a socket, a word of the bench, or nothing, which begins all."""
         text = text.strip()
         words = [it for it in APART.split(text) if it]
+        if self._scrapping.said(words):
+            return
         if words[:1] == ["stop"]:
             self.board.stop("You stopped the line: those that are begun go on.")
         elif words == ["go"]:
@@ -269,7 +275,7 @@ class Bench:
         """A chip that was begun won't come again."""
         with self._on_disk():
             is_there = self.kept.forget(chip)
-            self._tell_begun()
+            self.tell_begun()
             self.board.notice(f"The bench forgot the chip {chip}." if is_there else f"No chip {chip} is under way.")
 
     def tell(self, text: str) -> None:

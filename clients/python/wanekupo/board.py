@@ -85,6 +85,7 @@ class Board:
         self._shift, self._rest = shift, None  # type: tuple[Shift, Optional[int]]
         self._away: Optional[tuple[float, str]] = None
         self._stopped, self._notice, self._version = "", "", 0
+        self._question: Optional[Mapping[str, Any]] = None
         self._under_way: dict[str, Mapping[str, str]] = {}
 
     # What threads tell.
@@ -143,6 +144,13 @@ class Board:
         """What is said to who scanned or typed."""
         self._set(notice=told)
 
+    def ask(self, text: str, answers: Sequence[str]) -> None:
+        """A question that a person answers by one of these words, or by what it asks for. Without a text it is gone."""
+        if text:
+            self._set(question={"text": text, "answers": list(answers)}, notice="")
+        else:
+            self._set(question=None)
+
     def under_way(self, chips: Mapping[str, Mapping[str, str]]) -> None:
         """The chips that were begun before this start and haven't ended yet, with their sockets and steps."""
         self._set(under_way=dict(chips))
@@ -178,5 +186,6 @@ class Board:
                 "away": {"since": away[0], "why": away[1]} if away else None,
                 "stopped": self._stopped,
                 "notice": self._notice,
+                "question": self._question,
                 "under_way": [{"chip": chip, **more} for chip, more in self._under_way.items()],
             }

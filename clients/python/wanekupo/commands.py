@@ -16,7 +16,6 @@ from pathlib import Path
 from typing import Any, Callable, Optional, Sequence
 
 from wanekupo.asking import (
-    burn_lines,
     finish,
     import_rows,
     key_file,
@@ -25,7 +24,7 @@ from wanekupo.asking import (
     pair,
     plan,
 )
-from wanekupo.chips import Espefuse, blocks_of, chip_of
+from wanekupo.chips import Espefuse, blocks_of, chip_of, commands
 from wanekupo.command_row import text_of, told
 from wanekupo.errors import NoReply, NoReports, NotTheServer, OutOfStep, Refused, StationError, TooLong
 from wanekupo.journal import Journal, issued, merged
@@ -104,6 +103,13 @@ def _report(station: Station, path: str) -> str:
 def register(station: Station, args: argparse.Namespace) -> None:
     blocks = blocks_of(text_of(args.dump))
     station.register(chip_of(blocks), args.order, args.map, blocks)
+
+
+def burn_lines(station: Station, args: argparse.Namespace) -> str:
+    """espefuse's commands for the batch that an ESP32 awaits."""
+    device = station.device(args.chip)
+    work = device.batch2 if device.state == "awaiting2" else device.batch1
+    return "".join(f"{args.tool} {shlex.join(line)}\n" for line in commands(work, dict(args.key)))
 
 
 def settle(station: Station, args: argparse.Namespace) -> Any:

@@ -12,6 +12,7 @@ import contextlib
 import hashlib
 import os
 import re
+import shlex
 import shutil
 import subprocess
 from dataclasses import dataclass
@@ -32,6 +33,10 @@ LONGEST = 120
 # What a person does where espefuse can't be run, or fails.
 INSTALL = "Install Debian 13's package esptool"
 LOOK = "Look at the chip, its socket and the cable."
+
+# espefuse's option by which it asks nothing, and a command of a shell that turns the bytes of a file around.
+UNASKED = "--do-not-confirm"
+TURNED = "python3 -c 'import sys; sys.stdout.buffer.write(sys.stdin.buffer.read()[::-1])'"
 
 # What could be a key: sixteen hexadecimal digits or more, in bytes, in words or in one.
 SECRET = re.compile(r"(?:0x)?(?:[0-9a-fA-F]{2}[ ,:]?){7,}[0-9a-fA-F]{2}")
@@ -75,10 +80,14 @@ class KeyFile:
             raise ValueError(f"{self.path} has {len(data)} bytes, and not 32")
         return data
 
+    def is_reversed(self) -> bool:
+        """Whether the bytes stand in the block in reverse order."""
+        return self.burnt_as in reversed_names()
+
     def burnt(self) -> bytes:
         """The bytes as they stand in the block."""
         data = self.data()
-        return data[::-1] if self.burnt_as in reversed_names() else data
+        return data[::-1] if self.is_reversed() else data
 
     def digest(self) -> str:
         """The SHA-256 of the bytes as they stand in the block."""
@@ -140,7 +149,7 @@ def _ran(words: Sequence[str], files: Sequence[int] = ()) -> str:
 def _told(output: str, status: int) -> tuple[str, str]:
     """What failed, by the line in which espefuse says why, without what could be a key; and what to do."""
     if "Type 'BURN'" in output:
-        return "espefuse asks whether it may burn", "Add --do-not-confirm to its command."
+        return "espefuse asks whether it may burn", f"Add {UNASKED} to its command."
     found = re.search(r"^A fatal error occurred:\s*(.*)", output, re.MULTILINE)
     if not found:
         return f"espefuse ended with status {status}, and didn't say why", "Run its command with dump by hand."
@@ -150,10 +159,11 @@ def _told(output: str, status: int) -> tuple[str, str]:
 
 @dataclass(frozen=True)
 class Step:
-    """A command of espefuse, and the key that it is given behind its words."""
+    """A command of espefuse, and the key that it is given behind its words, with the file that has it."""
 
     words: tuple[str, ...]
     key: Optional[bytes] = None
+    file: Optional[KeyFile] = None
 
 
 @contextlib.contextmanager
@@ -202,10 +212,10 @@ def _key_step(shown_by: Dump, field: str, digest: str, file: Optional[KeyFile]) 
         return None
     if family.burns == "burn_key":
         # Never without --no-protect-key: the locks come in the second batch, and burnt now they are `stray`.
-        return Step(("burn_key", "--no-protect-key", file.burnt_as), file.data())
+        return Step(("burn_key", "--no-protect-key", file.burnt_as), file.data(), file)
     # A part of the key: the power failed meanwhile. Where it is forced, espefuse burns the same code word again.
     force = ("--force-write-always",) if any(there) else ()
-    return Step(("burn_block_data", *force, family.blocks[number]), key)
+    return Step(("burn_block_data", *force, family.blocks[number]), key, file)
 
 
 def _block_of(family: Family, field: str, file: KeyFile) -> int:
@@ -219,6 +229,45 @@ def _block_of(family: Family, field: str, file: KeyFile) -> int:
         known = ", ".join([field, *(it.name for it in family.purposes.values() if it.block in (None, number))])
         raise NoKey(f"a key of {field} can't be burnt as {file.burnt_as}", f"There are {known}.")
     return number
+
+
+# What a person types.
+
+
+def typed_lines(tool: Sequence[str], family: Family, work: Work, keys: Mapping[str, KeyFile]) -> list[str]:
+    """The commands by which a person burns a batch in a shell, keys first and block 0 last. None of them has a key, and
+    none shows one: what `burn_block_data` prints goes nowhere. The words are those of the version that is here, and of
+    4 where none is."""
+    try:
+        version = version_of(tool)
+    except (NoEspefuse, EspefuseFailed):
+        version = "4"
+    is_five = _major(version) == 5
+    blank = Dump(family, {number: ("00000000",) * count for number, count in family.words.items()})
+    return [_typed(over_family(tool, family), it, is_five) for it in steps_of(work, blank, keys)]
+
+
+def _typed(tool: Sequence[str], step: Step, is_five: bool) -> str:
+    command, *words = step.words
+    asked = [command.replace("_", "-") if is_five else command, *words]
+    if not step.file:
+        return shlex.join([*tool, *asked])
+    if command == "burn_key":
+        return shlex.join([*tool, *asked, step.file.path])
+    # Nobody sees what it asks, and its input may be the key.
+    quiet = [*tool, *([] if UNASKED in tool else [UNASKED]), *asked]
+    if not step.file.is_reversed():
+        return f"{shlex.join([*quiet, step.file.path])} > /dev/null"
+    return f"{TURNED} < {shlex.quote(step.file.path)} | {shlex.join([*quiet, '/dev/stdin'])} > /dev/null"
+
+
+# What espefuse runs.
+
+
+def over_family(tool: Sequence[str], family: Family) -> list[str]:
+    """espefuse's command over a chip of a family, which the dumps of most families don't tell."""
+    has_family = any(word in ("-c", "--chip") or word.startswith("--chip=") for word in tool)
+    return [*tool, *([] if has_family else ["--chip", family.name])]
 
 
 def script_of(steps: Sequence[Step], paths: Sequence[str], mac: str) -> str:
@@ -242,10 +291,8 @@ class Espefuse:
     what it showed first is what the blocks are compared with that the server isn't told."""
 
     def __init__(self, tool: Sequence[str], keys: Mapping[str, KeyFile], family: Optional[Family] = None):
-        self.tool, self.keys = list(tool), keys
-        self.family = family or family_of("esp32")
-        if family and not any(word in ("-c", "--chip") or word.startswith("--chip=") for word in tool):
-            self.tool += ["--chip", family.name]
+        self.keys, self.family = keys, family or family_of("esp32")
+        self.tool = over_family(tool, family) if family else list(tool)
         self._first: Optional[Dump] = None
         self._last: Optional[Dump] = None
 

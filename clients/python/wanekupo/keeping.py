@@ -142,6 +142,15 @@ class Kept:
 
     # The log.
 
+    def last_word(self, chip: str) -> Optional[tuple[str, str]]:
+        """The name and the sentence of a chip's last ending on this bench, by the newest log that has one."""
+        for file in sorted(self._folder.glob("log-*.jsonl"), reverse=True):
+            with open(opened_own(file, os.O_RDONLY), "rb") as source:
+                found = [it for it in map(_ending_in, source) if it and it["chip"] == chip]
+            if found:
+                return found[-1]["result"], found[-1]["sentence"]
+        return None
+
     def log(self, line: Mapping[str, Any]) -> None:
         """Adds a line to the day's log, or nothing of it, and syncs it."""
         at = now_text()
@@ -152,6 +161,14 @@ class Kept:
                 _add_line(out, data)
             finally:
                 os.close(out)
+
+
+def _ending_in(line: bytes) -> Optional[dict[str, Any]]:
+    """A line of the log that says how a chip ended; one that a crash cut says nothing."""
+    if b'"result":' not in line or not line.endswith(b"\n"):
+        return None
+    found: dict[str, Any] = json.loads(line)
+    return found
 
 
 def _add_line(out: int, data: bytes) -> None:

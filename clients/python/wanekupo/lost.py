@@ -30,11 +30,12 @@ def given_up(
             elif reply:
                 unanswered.pop(chip, None)
             if answer and reply.get("state") in ("quarantined", "scrapped"):
-                found.append((answer["at"], journal, chip, reply.get("outcome", "scrapped")))
-    firsts: dict[str, tuple[str, str, str, str]] = {}
-    for one in sorted(found, key=lambda it: (it[0], it[3] == "scrapped")):
+                why = reply.get("outcome") or asked.get("reason") or "scrapped"
+                found.append((answer["at"], journal, chip, why, path == "/v1/scrap"))
+    firsts: dict[str, tuple[str, str, str, str, bool]] = {}
+    for one in sorted(found, key=lambda it: (it[0], it[4])):
         firsts.setdefault(one[2], one)
-    lines = [[at, journal, chip, orders.get(chip, ""), why] for at, journal, chip, why in firsts.values()]
+    lines = [[at, journal, chip, orders.get(chip, ""), why] for at, journal, chip, why, _ in firsts.values()]
     first, last = text_of(start) if start else "", text_of(end) if end else "~"
     told = [text for chip, (at, text) in unanswered.items() if chip not in firsts and first <= at < last]
     return [line for line in lines if first <= line[0] < last], told

@@ -82,6 +82,14 @@
     } else banner("", "");
   };
 
+  const drawQuestion = () => {
+    const answers = board.question ? board.question.answers : [];
+    at("question").hidden = !board.question;
+    put(at("question-text"), board.question ? board.question.text : "");
+    for (const word of ["yes", "no"]) at(word).hidden = !answers.includes(word);
+    at("scrap").hidden = Boolean(board.question);
+  };
+
   const drawCounts = () => {
     const failed = Object.entries(board.shift.failed).sort(([a], [b]) => (a < b ? -1 : 1));
     const all = failed.reduce((sum, [, count]) => sum + count, 0);
@@ -96,12 +104,14 @@
     put(at("product"), board.product);
     put(at("order"), board.order);
     put(at("rest"), board.rest === null ? "its rest isn't known yet" : `${board.rest} serial numbers left`);
-    put(at("asked"), ASKED[board.start]);
-    at("all").hidden = board.start === "chip";
+    put(at("asked"), board.question ? "Scan or type the answer" : ASKED[board.start]);
+    put(at("all"), board.question ? "Answer" : "Begin");
+    at("all").hidden = board.start === "chip" && !board.question;
     at("sockets").hidden = false;
     put(at("notice"), board.notice);
     board.sockets.forEach(drawSocket);
     drawCounts();
+    drawQuestion();
     drawBanner();
     at("stop").hidden = Boolean(board.stopped);
     at("go").hidden = !board.stopped;
@@ -135,7 +145,7 @@
     at("text").value = "";
     post("/said", { text });
   });
-  for (const word of ["stop", "go", "shift"]) at(word).addEventListener("click", () => { post("/said", { text: word }); });
+  for (const word of ["stop", "go", "shift", "scrap", "yes", "no"]) at(word).addEventListener("click", () => { post("/said", { text: word }); });
   // A scanner types wherever the focus is: its letters, and so its Enter, belong into the field.
   document.addEventListener("keydown", (event) => {
     const isLetter = event.key.length === 1 && event.key !== " " && !event.ctrlKey && !event.altKey && !event.metaKey;

@@ -91,6 +91,8 @@ def board_lines(board: Mapping[str, Any], width: int, has_colours: bool) -> Iter
     yield ""
     yield from textwrap.wrap(f"{ASKED[board['start']]} {HELP}", width)
     yield from textwrap.wrap(shown(board["notice"]), width)
+    if board["question"]:
+        yield from textwrap.wrap(shown(f"QUESTION: {board['question']['text']}"), width)
 
 
 class Screen:
@@ -145,6 +147,7 @@ class Screen:
         now["line"] = f"STOPPED: {board['stopped']}" if board["stopped"] else "goes on"
         now["bench"] = f"{ASKED[board['start']]} {HELP}"
         now["notice"] = board["notice"]
+        now["question"] = board["question"]["text"] if board["question"] else ""
         for name, told in now.items():
             if told and self._told.get(name) != told:
                 print(shown(f"{name}: {told}"), flush=True)

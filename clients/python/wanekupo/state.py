@@ -78,8 +78,9 @@ class State:
 
     @property
     def late(self) -> list[dict[str, str]]:
-        """The requests with the next number that were sent more than once and then refused, as they were sent."""
-        return self._data["late"]
+        """The requests with the next number that were sent more than once and then refused, as they were sent. Behind
+        an accepted one those before are of no use; the client in JavaScript leaves them there."""
+        return [it for it in self._data["late"] if json.loads(it["body"])["nr"] == self.next]
 
     def late_with(self, asked: Mapping[str, str]) -> list[dict[str, str]]:
         """The same, with one more."""
@@ -106,9 +107,11 @@ class State:
         try:
             with open(opened_own(self.file, os.O_RDONLY), "rb") as source:
                 state = json.loads(source.read())
-            # A file of an earlier version has no late copies.
-            self._data = {**{name: state[name] for name in NAMES}, "late": list(state.get("late", ()))}
-            _kept(self._data["last"])
+            for name in NAMES:
+                state[name]
+            # A file of an earlier version has no late copies. What another client has there stays as it is.
+            self._data = {**state, "late": list(state.get("late", ()))}
+            _kept(self.last)
             for late in self.late:
                 members_of(late), late["path"]
         except FileNotFoundError:
@@ -118,15 +121,16 @@ class State:
             raise BadStateFile(f"{self.file} is no state file", told) from error
 
     def forget_words(self) -> None:
-        """A file of an earlier version has what a chip showed, which may be a key, in its last request."""
-        if self.last != _kept(self.last):
+        """A file of an earlier version has what a chip showed, which may be a key, in its last request. One that the
+        client in JavaScript went on with may have it in requests of which no copy can be accepted any more."""
+        if self.last != _kept(self.last) or self.late != self._data["late"]:
             self.keep()
 
     def keep(self, **changes: Any) -> None:
         """Changes the state, in the file first: whole or not at all, whenever the power fails."""
         if not self.file:
             raise BadStateFile("without a state file nothing is sent that changes anything")
-        state = {**self._data, **changes}
+        state = {**self._data, "late": self.late, **changes}
         state["last"] = _kept(state["last"])
         replace_file(self.file, compact_json(state))
         self._data = state

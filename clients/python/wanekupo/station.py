@@ -181,23 +181,25 @@ class Seat:
         return accepted(status, body)
 
     @_in_turn
-    def post(self, path: str, members: Mapping[str, Any]) -> dict[str, Any]:
-        """Has a request done, once, and gives its reply. The same request goes on where it is under way."""
+    def post(self, path: str, members: Mapping[str, Any], reason: str = "") -> dict[str, Any]:
+        """Has a request done, once, and gives its reply. The same request goes on where it is under way. `reason`
+        stands in the journal's line of it, and isn't sent."""
         self._take_token()
         under_way = self._state.under_way
         if not under_way:
-            self._begin(path, members)
+            self._begin(path, members, reason)
         elif (under_way["path"], members_of(under_way)) != (path, json.loads(json.dumps(members))):
             raise UnderWay(f"another request is under way: {under_way['path']} with number {self._state.next}")
         return self._complete(is_repeat=bool(under_way))
 
-    def _begin(self, path: str, members: Mapping[str, Any]) -> None:
+    def _begin(self, path: str, members: Mapping[str, Any], reason: str) -> None:
         number = self._state.next or self._number_of_new_file()
         body = _body_of(number, members)
         length = len(body.encode())
         if length > LONGEST_BODY:
             raise ValueError(f"a body of {length} bytes: the server reads {LONGEST_BODY}")
-        self._state.keep(next=number, under_way={"path": path, "body": body})
+        told = {"reason": reason} if reason else {}
+        self._state.keep(next=number, under_way={"path": path, "body": body, **told})
 
     def _number_of_new_file(self) -> int:
         """The number with which a seat begins that has no state file. Whoever has the seat's other one is out of step
@@ -213,7 +215,7 @@ class Seat:
             asked, number = self._state.under_way, self._state.next
             assert asked and number
             if self._journal:
-                self._journal.asked(asked["path"], asked["body"])
+                self._journal.asked(asked["path"], asked["body"], asked.get("reason", ""))
             status, body, again = self._posted(asked["path"], asked["body"])
             if status == 200:
                 break
@@ -252,7 +254,7 @@ class Seat:
                 continue
             if self._journal:
                 self._journal.answered(number, refused.status, refused.body)
-                self._journal.asked(late["path"], late["body"])
+                self._journal.asked(late["path"], late["body"], late.get("reason", ""))
                 self._journal.answered(number, status, reply)
             again = {**asked, "body": _body_of(number + 1, members_of(asked))}
             self._state.keep(next=number + 1, under_way=again, last={**late, "reply": reply}, late=[])
@@ -340,8 +342,8 @@ class Station(Seat):
     def ship(self, chip: str) -> str:
         return self.post("/v1/ship", {"chip": chip})["state"]
 
-    def scrap(self, chip: str) -> str:
-        return self.post("/v1/scrap", {"chip": chip})["state"]
+    def scrap(self, chip: str, reason: str = "") -> str:
+        return self.post("/v1/scrap", {"chip": chip}, reason)["state"]
 
     def import_serials(self, issuer: str, rows: Iterable[tuple[str, str]]) -> Imported:
         """Serial numbers that were handed out elsewhere, with the SHA-256 of their keys; 500 at the most."""
