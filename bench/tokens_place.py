@@ -111,14 +111,14 @@ class Recorder:
 class Place:
     """A folder, and all that runs in it until it is closed."""
 
-    def __init__(self, folder, program, port):
+    def __init__(self, folder, program, port, site=SITE):
         self.folder, self.program, self.processes = Path(folder), program, []
         ports = range(port, port + PORTS) if port else [free_port() for _ in range(PORTS)]
         self.port, self.recorded, served, self.other_port = ports
         for name in ("etc", "lib", "log"):
             (self.folder / name).mkdir()
         self.site, self.file = self.folder / "etc/site.toml", self.folder / "etc/tokens.conf"
-        self.site.write_bytes(SITE.read_bytes())
+        self.site.write_bytes(Path(site).read_bytes())
         self.outer = {}
         words = ["req", "-x509", "-newkey", "ec", "-pkeyopt", "ec_paramgen_curve:prime256v1", "-noenc", "-days", "2"]
         words += ["-subj", "/CN=localhost", "-addext", "subjectAltName=DNS:localhost"]

@@ -288,7 +288,10 @@ class KeptProxy(Proxy):
     | unread  | the connection is closed when it comes |
     | dropped | it is read, and then the connection is closed |
     | done    | it is done, and then the connection is closed |
+    | slow    | it is done, and its reply comes byte by byte, each behind a pause |
     """
+
+    PAUSE = 0.05
 
     FAULTS = ["closed", "unread", "dropped", "done"]
 
@@ -306,7 +309,9 @@ class KeptProxy(Proxy):
                 reply = b"" if fault in ("unread", "dropped") else self.answered(request)
                 if fault in ("unread", "dropped", "done"):
                     break
-                client.sendall(reply)
+                for part in [reply] if fault != "slow" else [reply[place : place + 1] for place in range(len(reply))]:
+                    time.sleep(self.PAUSE if fault == "slow" else 0)
+                    client.sendall(part)
                 if fault == "closed":
                     break
         finally:

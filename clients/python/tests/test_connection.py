@@ -2,7 +2,7 @@
 
 from __future__ import annotations
 
-import selectors
+import time
 import unittest
 from unittest import mock
 
@@ -87,7 +87,7 @@ class Connections(StationCase):
             proxy.faults = ["closed"]
             station.order("o1")
             self.assertTrue(proxy.ended.acquire(timeout=10))
-            with mock.patch.object(selectors.DefaultSelector, "select", return_value=[]):
+            with mock.patch.object(wanekupo.connection.POLL, "select", return_value=[]):
                 self.assertEqual(call(), told)
         self.assertEqual((proxy.connections, len(proxy.seen)), (3, 6))
 
@@ -119,6 +119,19 @@ class Connections(StationCase):
         with mock.patch.object(wanekupo.connection, "LONGEST_IDLE", 0):
             self.assertEqual(station.order("o1").next, "A998")
         self.assertEqual((station.order("o1").next, proxy.connections), ("A998", 2))
+
+    def test_each_exchange_has_its_own_time(self):
+        """One that begins while an earlier one's time runs has all of its own, and no more."""
+        proxy = self.proxy([None, None, "slow"], KeptProxy)
+        with client.Station(proxy.url, "abc", self.folder / "new.json", patience=0, timeout=1) as station:
+            for pause in (0.6, 0.6):
+                station.report()
+                time.sleep(pause)
+            began = time.monotonic()
+            with self.assertRaises(NoReply):
+                station.report()
+            took = time.monotonic() - began
+        self.assertTrue(0.9 < took < 1.9, took)
 
 
 if __name__ == "__main__":

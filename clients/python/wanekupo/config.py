@@ -169,7 +169,7 @@ def token_of(settings: Settings) -> str:
         raise BadSettings(f"{settings.token} is no token file", "It has the token alone, in visible ASCII.") from None
 
 
-def _context_of(settings: Settings) -> Optional[ssl.SSLContext]:
+def context_of(settings: Settings) -> Optional[ssl.SSLContext]:
     if settings.ca is None:
         return None
     try:
@@ -180,7 +180,7 @@ def _context_of(settings: Settings) -> Optional[ssl.SSLContext]:
 
 def station_of(settings: Settings, **options: Any) -> Station:
     """The seat of these settings, with its journal; to close it closes both. Options are those of `Station`."""
-    token, context = token_of(settings), _context_of(settings)
+    token, context = token_of(settings), context_of(settings)
     journal = Journal(settings.journal, settings.seat, settings.operator) if settings.journal else None
     usual = {"patience": settings.patience, "context": context, "insecure": settings.insecure, "journal": journal}
     try:

@@ -26,6 +26,9 @@ FIRST_PAUSE, LONGEST_PAUSE = 0.1, 10.0
 # request would wait for its reply in vain.
 LONGEST_IDLE = 30.0
 
+# What looks at one socket without opening another.
+POLL = getattr(selectors, "PollSelector", selectors.SelectSelector)
+
 # How many bytes a reply's body has at the most: what stands on a port shall not fill the memory here.
 LONGEST_REPLY = 4 << 20
 
@@ -56,6 +59,48 @@ def address_of(url: str, insecure: bool) -> SplitResult:
     return parts
 
 
+class Watchdog:
+    """Shuts the connection of an exchange that isn't over in some seconds, also where bytes of its reply come again and
+    again. One thread watches one exchange after another, as to start a thread takes longer than an exchange. It ends
+    where it wakes and there is none."""
+
+    def __init__(self, seconds: float):
+        self._seconds, self._end, self._runs, self.is_late = seconds, 0.0, False, False
+        self._watched: Optional[socket.socket] = None
+        self._turn = threading.Condition()
+
+    @contextlib.contextmanager
+    def over(self, opened: socket.socket) -> Iterator[None]:
+        with self._turn:
+            self._watched, self._end, self.is_late = opened, time.monotonic() + self._seconds, False
+            if not self._runs:
+                self._runs = True
+                threading.Thread(target=self._watch, daemon=True).start()
+        try:
+            yield
+        finally:
+            with self._turn:
+                self._watched = None
+
+    def rest(self) -> None:
+        """Ends the thread, where there is no exchange."""
+        with self._turn:
+            self._turn.notify()
+
+    def _watch(self) -> None:
+        with self._turn:
+            while self._watched:
+                left = self._end - time.monotonic()
+                if left > 0:
+                    self._turn.wait(left)
+                    continue
+                self.is_late = True
+                with contextlib.suppress(OSError):  # it is over by itself
+                    socket.socket.shutdown(self._watched, socket.SHUT_RDWR)  # not TLS's, whose state is the reader's
+                self._watched = None
+            self._runs = False
+
+
 class Server:
     """Where a seat's requests go. `patience` is how many seconds a reply is asked for, `timeout` how many a whole one
     is waited for, `context` an `ssl.SSLContext` for https. With `insecure` a token may go over http to any machine."""
@@ -74,9 +119,10 @@ class Server:
         self._used = 0.0
         self._path = parts.path.rstrip("/")
         self._fields = {"Authorization": f"Bearer {token}"}
-        self._patience, self._timeout = patience, timeout
+        self._patience, self._watchdog = patience, Watchdog(timeout)
 
     def hang_up(self) -> None:
+        self._watchdog.rest()
         if self._connection:
             self._connection.close()
             self._connection = None
@@ -86,7 +132,7 @@ class Server:
         or what nobody asked for."""
         if not self._connection or not self._connection.sock:
             return False
-        with selectors.DefaultSelector() as selector:
+        with POLL() as selector:
             selector.register(self._connection.sock, selectors.EVENT_READ)
             if not selector.select(0) and time.monotonic() - self._used < LONGEST_IDLE:
                 return True
@@ -95,27 +141,16 @@ class Server:
 
     @contextlib.contextmanager
     def _in_time(self, connection: http.client.HTTPConnection) -> Iterator[None]:
-        """Ends an exchange that isn't over in time, also where some bytes of the reply come again and again."""
+        """Ends an exchange that isn't over in time."""
         if not connection.sock:
             connection.connect()
-        opened, is_late = connection.sock, threading.Event()
-
-        def end() -> None:
-            is_late.set()
-            with contextlib.suppress(OSError):  # it is over by itself
-                socket.socket.shutdown(opened, socket.SHUT_RDWR)  # without a word to TLS, whose state is the reader's
-
-        timer = threading.Timer(self._timeout, end)
-        timer.daemon = True
-        timer.start()
         try:
-            yield
+            with self._watchdog.over(connection.sock):
+                yield
         except (OSError, http.client.HTTPException):
-            if not is_late.is_set():
+            if not self._watchdog.is_late:
                 raise
-        finally:
-            timer.cancel()
-        if is_late.is_set():
+        if self._watchdog.is_late:
             raise TimeoutError("no reply in time")
 
     def once(self, method: str, target: str, body: Optional[bytes]) -> tuple[int, str, bytes]:

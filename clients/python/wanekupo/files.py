@@ -98,15 +98,22 @@ def locked(opened: int) -> None:
         fcntl.flock(opened, fcntl.LOCK_EX | fcntl.LOCK_NB)
 
 
-def replace_file(file: Path, text: str) -> None:
-    """Replaces a file: whole or not at all, whenever the power fails. What stands in the new one's place goes first, so
-    that it is this call's, with its owner and its mode."""
+def replace_file(file: Path, text: str, mode: int = PRIVATE) -> None:
+    """Replaces a file of ASCII: whole or not at all, whenever the power fails. Its mode is this, whatever the umask."""
+    replace_bytes(file, text.encode("ascii"), mode, is_exact=True)
+
+
+def replace_bytes(file: Path, data: bytes, mode: int, is_exact: bool = False) -> None:
+    """The same of bytes, with a mode from which the umask takes unless it is exact. What stands in the new one's place
+    goes first, so that it is this call's, with its owner and its mode."""
     new = f"{file}.new"
     with contextlib.suppress(FileNotFoundError):
         os.unlink(new)
     flags = os.O_WRONLY | os.O_CREAT | os.O_EXCL | NOFOLLOW
-    with open(os.open(new, flags, PRIVATE), "w", encoding="ascii") as out:
-        out.write(text)
+    with open(os.open(new, flags, mode), "wb") as out:
+        if IS_POSIX and is_exact:
+            os.fchmod(out.fileno(), mode)
+        out.write(data)
         out.flush()
         os.fsync(out.fileno())
     os.replace(new, file)

@@ -34,7 +34,7 @@ def _key_of_pem(pem: bytes) -> bytes:
     if b"PRIVATE KEY" in pem:
         told = "The private half never leaves the bench. Give the public one: openssl pkey -in FILE -pubout makes it."
         raise BadKey("this file has a private key", told)
-    load = _library("hazmat.primitives.serialization").load_pem_public_key
+    load = library("hazmat.primitives.serialization").load_pem_public_key
     try:
         return _info_of(load(pem))
     except Exception as error:
@@ -42,7 +42,7 @@ def _key_of_pem(pem: bytes) -> bytes:
 
 
 def _key_of_der(der: bytes) -> bytes:
-    load = _library("hazmat.primitives.serialization").load_der_public_key
+    load = library("hazmat.primitives.serialization").load_der_public_key
     try:
         found = _info_of(load(der))
     except Exception as error:
@@ -52,11 +52,11 @@ def _key_of_der(der: bytes) -> bytes:
     return found
 
 
-def _library(name: str) -> Any:
+def library(name: str) -> Any:
     try:
         return importlib.import_module(f"cryptography.{name}")
     except ImportError:
-        raise BadKey("keys can't be read on this machine", "Install Debian's python3-cryptography.") from None
+        raise BadKey("no key can be read on this machine", "Install Debian's python3-cryptography.") from None
 
 
 def _no_key(form: str) -> BadKey:
@@ -65,12 +65,12 @@ def _no_key(form: str) -> BadKey:
 
 
 def _info_of(key: Any) -> bytes:
-    forms = _library("hazmat.primitives.serialization")
+    forms = library("hazmat.primitives.serialization")
     return key.public_bytes(forms.Encoding.DER, forms.PublicFormat.SubjectPublicKeyInfo)
 
 
 def _key_of_request(csr: bytes) -> bytes:
-    x509 = _library("x509")
+    x509 = library("x509")
     load = x509.load_pem_x509_csr if b"-----BEGIN" in csr else x509.load_der_x509_csr
     told = "Make it anew on the bench: openssl req -new -key FILE -subj /CN=NAME."
     try:

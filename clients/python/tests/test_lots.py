@@ -1,0 +1,261 @@
+"""The command `manifest`: its list against the replies and the store, what it refuses, and what stands beside it."""
+
+from __future__ import annotations
+
+import base64
+import csv
+import hashlib
+import io
+import json
+import os
+import pty
+import re
+import shutil
+import subprocess
+import sys
+import unittest
+from unittest import mock
+
+from support import DIGEST, MAP, Proxy, StationCase, exchanged, whole
+from commanding import CLIENT, NEEDS_KEYS, made_key, ran
+
+import wanekupo.lots
+
+COLUMNS = "serial issuer chip mac addresses key_sha256 not_before not_after state map order".split()
+BEGINNING = "20260101000000Z"
+LIST = b"/v1/devices?after="
+FIRST = {"name": "o2", "issuer": "acme-ca", "prefix": "A", "width": 3, "first": 998, "quantity": 2, "macs": 2}
+SECOND = FIRST | {"name": "-1", "prefix": "-B", "first": 1, "quantity": 9, "macs": 0}
+
+
+class Forging(Proxy):
+    """Changes replies on their way: each pattern's first find in a reply becomes what is beside it."""
+
+    changes: list[tuple[bytes, bytes]] = []
+    asked: list[bytes] = []
+    meanwhile = None
+
+    def pass_on(self, client):
+        request = whole(client)
+        self.asked = [*self.asked, request.split(b" ")[1]]
+        if self.meanwhile and b"/v1/devices" in request:
+            self.meanwhile()
+        reply = exchanged(self.program.port, request)
+        head, _, body = reply.partition(b"\r\n\r\n")
+        for old, new in self.changes:
+            body = re.sub(old, new, body, count=1)
+        kind = re.search(rb"(?i)content-type: [^\r]*", head)[0]
+        status = head.split(b"\r\n")[0]
+        client.sendall(b"%s\r\n%s\r\nContent-Length: %d\r\n\r\n%s" % (status, kind, len(body), body))
+
+
+def line_of(row):
+    """A row as a part has it: behind its SHA-256."""
+    return hashlib.sha256(row + b"\n").hexdigest().encode() + b" " + row
+
+
+class Manifest(StationCase):
+    """Devices of two orders in each state: what is listed has a serial number."""
+
+    def setUp(self):
+        super().setUp()
+        (self.folder / "look").write_text("abc", encoding="ascii")
+        self.seat = self.station()
+        self.seat.import_map(MAP)
+        self.seat.make_order(**FIRST, not_before=BEGINNING)
+        self.seat.make_order(**SECOND)
+        states = "o2 shipped, -1 identified, -1 scrapped, o2 identified, -1 lost, -1 settled"
+        for place, words in enumerate(states.split(", ")):
+            self.device(place, *words.split())
+
+    def device(self, place, order, state):
+        mac = f"240ac40000{place:02x}"
+        self.seat.register(mac, order, DIGEST, self.chip(mac).read())
+        if state != "lost":
+            self.seat.plan(mac, [])
+        if state in ("identified", "shipped", "scrapped"):
+            self.seat.identify(mac, bytes([place]))
+        {"shipped": self.seat.ship, "scrapped": self.seat.scrap, "lost": self.seat.scrap}.get(state, str)(mac)
+
+    def manifest(self, *words, url=None):
+        return ran("--url", url or self.program.url, "--token", self.folder / "look", "manifest", *words)
+
+    def rows(self):
+        """The rows as the server's replies have them, by order and serial number."""
+        rows = []
+        for listed in self.asked("GET", "/v1/devices?after=")[1]["devices"]:
+            if listed["serial"]:
+                chip = listed["chip"]
+                record, device = (self.asked("GET", f"/v1/{it}?chip={chip}")[1] for it in ("identity", "device"))
+                order = self.asked("GET", f"/v1/order?name={listed['order']}")[1]
+                mac = record["mac"]
+                addresses = [f"{int(mac, 16) + it:012x}" for it in range(order["macs"])] if mac else []
+                more = {"addresses": addresses, "map": device["map"], "state": device["state"], "order": order["name"]}
+                rows.append({**record, **more})
+        return sorted(rows, key=lambda it: (it["order"], it["serial"]))
+
+    def test_the_list(self):
+        """As JSON and as comma-separated values, of all orders and of one."""
+        expected = self.rows()
+        states = {it["serial"]: it["state"] for it in expected}
+        wanted = {"-B001": "identified", "-B002": "scrapped", "A998": "shipped", "A999": "identified"}
+        self.assertEqual((list(states), states), (list(wanted), wanted))
+        status, out, err = self.manifest("--all", "--json")
+        self.assertEqual((status, [json.loads(it) for it in out.splitlines()], err), (0, expected, ""))
+        status, out, err = self.manifest("--all")
+        shown = [[" ".join(it[name]) if name == "addresses" else it[name] or "" for name in COLUMNS] for it in expected]
+        self.assertEqual((status, list(csv.reader(io.StringIO(out)))), (0, [COLUMNS, *shown]))
+        lines = [it for it in err.splitlines() if it.startswith("warning: ")]
+        self.assertEqual([it.partition("'")[0] for it in lines], ["warning: serial ", "warning: order "], err)
+        self.assertIn("so do 1 more of this column", lines[0])
+        status, out, _ = self.manifest("o2")
+        self.assertEqual((status, out), (0, "".join(f"{','.join(it)}\n" for it in [COLUMNS, *shown[2:]])))
+
+    def test_what_is_refused(self):
+        """Words, and a list that isn't the report's; nothing is left but the part."""
+        proxy = self.proxy(kind=Forging)
+        for words, changes, told in (
+            ([], [], "isn't said of which orders"),
+            (["o2", "--all"], [], "rders are named, and --all is given"),
+            (["none"], [], "(refusal 14, unknown_order)"),
+            (["o2", "--minisign", "x"], [], "no key's file x"),
+            (["o2", "--minisign", "x", "--cms", "y", "--cms-key", "z"], [], "wo are said to sign"),
+            (["o2", "--cms", "y"], [], "isn't said who signs"),
+            (["o2", "--aws", "x"], [], "nly a file is signed"),
+            (["--all"], [(rb"o2,2,0,0,0,1,1,", rb"o2,2,0,0,0,2,1,")], "list has 1 devices of o2 that are identified"),
+            (["--all"], [(rb'"serial":"A999"', b'"serial":null')], "is identified, and its serial number is"),
+            (["--all"], [(rb'("o2","reason":null,"serial":)"A998"', rb'\1"A997"')], "isn't that of the list"),
+            (["--all"], [(rb'"issuer":"acme-ca","key', rb'"issuer":"=1+1","key')], "isn't that of the list"),
+            (["--all"], [(rb'"key_sha256":"..', rb'"key_sha256":"zz')], "has another form"),
+            (["--all"], [(rb'"map":"[0-9a-f]*"', rb'"map":"\\u001b[2J"')], "has another form"),
+            (["--all"], [(rb"-1,9", rb"-2,9")], "(refusal 14, unknown_order)"),
+        ):
+            with self.subTest(words=words, changes=changes):
+                proxy.changes = changes
+                status, out, err = self.manifest(*words, url=proxy.url)
+                self.assertEqual((status > 0, out, told in err), (True, "", True), err)
+                self.assertFalse(re.search(r"[\x00-\x09\x0b-\x1f]", err))
+
+    def test_devices_that_get_on_meanwhile(self):
+        """One is in the list, or the list is read anew; where it never rests nothing is given."""
+        proxy = self.proxy(kind=Forging)
+        proxy.meanwhile = lambda: proxy.asked.count(LIST) < 2 and self.device(7, "-1", "identified")
+        status, out, err = self.manifest("--all", "--json", url=proxy.url)
+        self.assertEqual((status, [json.loads(it) for it in out.splitlines()]), (0, self.rows()), err)
+        self.assertEqual(len(out.splitlines()), 5)
+        proxy.meanwhile = lambda: proxy.changes.append((rb"o2,2,0,0,0,.,1,", b"o2,2,0,0,0,%d,1," % len(proxy.changes)))
+        proxy.changes = []
+        status, out, err = self.manifest("--all", url=proxy.url)
+        self.assertEqual((status, out, "devices got on while their list was read" in err.lower()), (2, "", True), err)
+
+    def test_it_goes_on(self):
+        """With the records of the part, but for lines that are none, of another chip, or behind a cut one."""
+        proxy, file = self.proxy(kind=Forging), self.folder / "lot.csv"
+        self.manifest("--all", "--out", file, url=proxy.url)
+        whole_list, part = file.read_bytes(), self.folder / "lot.csv.part"
+        self.assertFalse(part.exists())
+        digest = hashlib.sha256(whole_list).hexdigest()
+        self.assertEqual((self.folder / "lot.csv.sha256").read_text(), f"{digest}  lot.csv\n")
+        rows = [json.dumps(it).encode() for it in ({name: row[name] for name in COLUMNS} for row in self.rows())]
+        token = hashlib.sha256(b"abc").hexdigest()
+        head = json.dumps({"token": token, "url": proxy.url}).encode()
+        other = rows[0].replace(b'"-B001"', b'"-B003"')
+        key = b'"key_sha256": "'
+        digit = rows[1].partition(key)[2][:1]
+        changed = line_of(rows[1]).replace(key + digit, key + (b"1" if digit == b"0" else b"0"))
+        good = [line_of(it) for it in rows]
+        for name, lines, asked in (
+            ("whole", [head, *good], 0),
+            ("half a line", [head, good[0], good[1][:150]], 3),
+            ("an empty one", [head, b"", *good], 4),
+            ("a changed digit", [head, good[0], changed, *good[2:]], 3),
+            ("without digests", [head, *rows], 4),
+            ("another serial number", [head, line_of(other), *good[1:]], 1),
+            ("another state", [head, *(line_of(it.replace(b"identified", b"shipped")) for it in rows)], 0),
+            ("another's", [head.replace(token.encode(), 64 * b"0"), *good], 4),
+            ("no form", [head, line_of(rows[0].replace(b"acme-ca", b"=1")), *good[1:]], 4),
+        ):
+            with self.subTest(name):
+                part.write_bytes(b"\n".join(lines) + (b"" if name == "half a line" else b"\n"))
+                part.chmod(0o600)
+                proxy.asked = []
+                status, _, err = self.manifest("--all", "--out", file, url=proxy.url)
+                self.assertEqual((status, file.read_bytes() == whole_list, part.exists()), (0, True, False), err)
+                self.assertEqual(sum(b"/v1/identity" in it for it in proxy.asked), asked)
+        part.write_bytes(b"\n".join([head, good[2], good[1][:150]]))
+        proxy.changes = [(rb'(240ac4000003","issuer":"acme-ca","key_sha256":)"..', rb'\1"zz')]
+        with mock.patch.object(wanekupo.lots, "AT_A_TIME", 1):
+            self.assertEqual(self.manifest("--all", "--out", file, url=proxy.url)[0], 3)
+        self.assertEqual(self.kept(part), ["A998", "-B001", "-B002"])
+        part.unlink()
+        part.symlink_to(self.folder / "look")
+        status, _, err = self.manifest("--all", "--out", file)
+        self.assertEqual((status, "is a link" in err), (2, True), err)
+
+    def kept(self, part):
+        """The serial numbers of a part's lines."""
+        lines = part.read_text(encoding="ascii").splitlines()[1:]
+        return [json.loads(it.partition(" ")[2])["serial"] for it in lines]
+
+    def test_rows_are_kept_soon(self):
+        """A list that is cut at its 25th record has 20 of them."""
+        proxy, file = self.proxy(kind=Forging), self.folder / "lot.csv"
+        self.seat.make_order(**FIRST | {"name": "o3", "prefix": "C", "first": 1, "quantity": 25, "macs": 0})
+        for place in range(16, 41):
+            self.device(place, "o3", "identified")
+        proxy.changes = [(rb'(240ac4000028","issuer":"acme-ca","key_sha256":)"..', rb'\1"zz')]
+        self.assertEqual(self.manifest("o3", "--out", file, url=proxy.url)[0], 3)
+        self.assertEqual(self.kept(self.folder / "lot.csv.part"), [f"C{it:03}" for it in range(1, 21)])
+
+    def test_what_is_waited_for(self):
+        """A terminal shows it in front of the first count."""
+        shown, terminal = pty.openpty()
+        self.addCleanup(os.close, shown)
+        words = ["--url", self.program.url, "--token", self.folder / "look", "manifest", "o2"]
+        words = [sys.executable, "-m", "wanekupo", *map(str, words)]
+        subprocess.run(words, cwd=CLIENT, stdout=subprocess.DEVNULL, stderr=terminal, timeout=60, check=True)
+        os.close(terminal)
+        lines = [it.strip() for it in os.read(shown, 4096).decode().split("\r")]
+        expected = ["records: waiting for the report and the list of devices", "records: 0 of 2", "records: 2 of 2"]
+        self.assertEqual([it for it in lines if it], expected)
+
+    @NEEDS_KEYS
+    def test_a_signature_that_fails(self):
+        """Nothing stands under the list's name then, and the part is there. All that is written has one mode."""
+        self.addCleanup(os.umask, os.umask(0o077))
+        for name in ("one", "two"):
+            made_key(self.folder, name)
+        words = ["openssl", *"req -x509 -key one.key -subj /CN=lots -out lots.pem".split()]
+        subprocess.run(words, cwd=self.folder, check=True)
+        for key, expected in (("two", [".part"]), ("one", ["", ".p7s", ".sha256"])):
+            more = ("--cms", self.folder / "lots.pem", "--cms-key", self.folder / f"{key}.key")
+            status, _, err = self.manifest("--all", "--out", self.folder / "lot.csv", *more)
+            there = {it.name[len("lot.csv") :]: it.stat().st_mode & 0o777 for it in self.folder.glob("lot.csv*")}
+            self.assertEqual((status, there), (2 if key == "two" else 0, dict.fromkeys(expected, 0o600)), err)
+
+    @NEEDS_KEYS
+    def test_a_spool(self):
+        """What it has of a record is in the list and in the clouds' files, where the key is the record's."""
+        spool = self.folder / "spool"
+        spool.mkdir()
+        made_key(self.folder, "one")
+        mac = "240ac4000009"
+        self.seat.register(mac, "-1", DIGEST, self.chip(mac).read())
+        self.seat.plan(mac, [])
+        serial = self.seat.identify(mac, (self.folder / "one.der").read_bytes()).serial
+        shutil.copy(self.folder / "one.csr", spool / f"{serial}.csr")
+        status, out, err = self.manifest("--all", "--json", "--spool", spool)
+        found = {it["serial"]: it["csr"] for it in map(json.loads, out.splitlines())}
+        der = (self.folder / "one.csr.der").read_bytes()
+        self.assertEqual((status, {it for it in found if found[it]}), (0, {serial}), err)
+        self.assertEqual(base64.b64decode(found[serial]), der)
+        more = ("--out", self.folder / "lot.csv", "--spool", spool, "--aws", self.folder / "aws.jsonl")
+        status, _, err = self.manifest("--all", *more)
+        self.assertEqual((status, "has no -B001.csr" in err), (2, True), err)
+        shutil.copy(self.folder / "one.csr", spool / "A998.csr")
+        status, _, err = self.manifest("--all", *more)
+        self.assertEqual((status, "with another key than the record" in err), (2, True), err)
+
+
+if __name__ == "__main__":
+    unittest.main()

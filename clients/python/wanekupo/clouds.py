@@ -1,0 +1,62 @@
+"""The files by which two clouds take many devices at once, made of a list's rows and of a spool.
+
+Neither cloud was tried. AWS IoT Core takes a line of JSON for each thing, with the parameters of a template
+(`StartThingRegistrationTask`). Azure IoT Hub takes a line of JSON for each device (bulk import of device identities).
+"""
+
+from __future__ import annotations
+
+import hashlib
+from pathlib import Path
+from typing import Any, Callable, Mapping, Sequence
+
+from wanekupo.errors import StationError
+from wanekupo.spools import CERTIFICATE, CSR, certificate_in, der_of, pem_of, request_in
+from wanekupo.texts import compact_json
+
+# Whom a cloud is to trust: a device that was scrapped isn't there.
+IN_USE = ("identified", "shipped")
+
+Row = Mapping[str, Any]
+
+
+def aws_line(spool: Path, row: Row) -> dict[str, Any]:
+    """A thing's parameters: its certificate where the spool has one, else the request for one of AWS's own."""
+    serial = row["serial"]
+    line = {"SerialNumber": serial, "ThingName": serial}
+    certificate = certificate_in(spool, serial)
+    if certificate is not None:
+        return line | {"CertificatePem": pem_of("CERTIFICATE", der_of(certificate))}
+    request = request_in(spool, serial)
+    if request is None:
+        raise _lacks(spool, serial, CSR)
+    return line | {"CSR": request.pem}
+
+
+def azure_line(spool: Path, row: Row) -> dict[str, Any]:
+    """A device that is known by the SHA-256 of its certificate."""
+    certificate = certificate_in(spool, row["serial"])
+    if certificate is None:
+        raise _lacks(spool, row["serial"], CERTIFICATE)
+    thumbprint = hashlib.sha256(der_of(certificate)).hexdigest().upper()
+    known = {"type": "selfSigned", "x509Thumbprint": {"primaryThumbprint": thumbprint}}
+    return {"id": row["serial"], "importMode": "create", "status": "enabled", "authentication": known}
+
+
+def lines_of(line: Callable[[Path, Row], dict[str, Any]], spool: Path, rows: Sequence[Row]) -> str:
+    """The lines of the devices that are in use, all of one form, each serial number once."""
+    made = [line(spool, row) for row in rows if row["state"] in IN_USE]
+    forms = {tuple(sorted(it)) for it in made}
+    if len(forms) > 1:
+        told = "Have all of them certified first, or none."
+        raise StationError("some devices have a certificate in the spool, and others only a request for one", told)
+    names = [row["serial"] for row in rows if row["state"] in IN_USE]
+    twice = next((it for it in names if names.count(it) > 1), None) if len(set(names)) < len(names) else None
+    if twice:
+        raise StationError(f"two issuers have the serial number {twice}", "Make a list of each one's orders.")
+    return "".join(compact_json(it, sort_keys=True) + "\n" for it in made)
+
+
+def _lacks(spool: Path, serial: str, ending: str) -> StationError:
+    told = "Look whether this is the spool of these orders, and certify what is in it: wanekupo certify."
+    return StationError(f"{spool} has no {serial}{ending}", told)

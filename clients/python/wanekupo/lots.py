@@ -1,0 +1,149 @@
+"""The records of orders, as a list of a lot has them: counted against the report, and a row for each.
+
+A row has what the server says of a device in three places: its place in the list of devices, its record, and its fuse
+map. Two connections ask for the last two, since by a token nginx lets two requests go on at a time.
+"""
+
+from __future__ import annotations
+
+import re
+from collections import Counter
+from concurrent.futures import ThreadPoolExecutor
+from dataclasses import dataclass
+from typing import Any, Iterator, Mapping, Optional, Sequence
+
+from wanekupo import gathering
+from wanekupo.errors import NotTheServer, StationError
+from wanekupo.gathering import Reply
+from wanekupo.replies import Listed
+from wanekupo.station import Station
+
+# The columns of a list, in their order.
+COLUMNS = (
+    "serial",
+    "issuer",
+    "chip",
+    "mac",
+    "addresses",
+    "key_sha256",
+    "not_before",
+    "not_after",
+    "state",
+    "map",
+    "order",
+)
+
+# The states in which a device may have a record; one that was scrapped before its identity has none.
+WITH_RECORD = ("identified", "shipped", "scrapped")
+
+# How often the list is read where devices get on meanwhile, and how many rows are asked for at a time: two seconds' by
+# nginx's usual shares, so that a list that is cut loses no more.
+LOOKS, AT_A_TIME = 4, 20
+
+NAME = re.compile(r"[A-Za-z0-9._-]{1,32}")
+SERIAL = re.compile(r"[A-Z0-9-]{1,64}")
+CHIP, DIGEST, TIME = re.compile(r"[0-9a-f]{12}"), re.compile(r"[0-9a-f]{64}"), re.compile(r"[0-9]{14}Z")
+
+Row = dict[str, Any]
+
+
+class Miscounted(StationError):
+    """The list of devices and the report don't agree, though nothing went on meanwhile."""
+
+    advice = "Give no list of this lot away, and show this line to the server's people: the store may be damaged."
+
+
+class Unsteady(StationError):
+    """Devices got on each time while the list was read."""
+
+    advice = "Ask again, best while no station works on these orders."
+
+
+@dataclass(frozen=True)
+class Lot:
+    """Orders by their names, and their devices that have a serial number, in the order of the chips."""
+
+    orders: Mapping[str, Reply]
+    listed: Sequence[Listed]
+
+
+def lot_of(station: Station, names: Sequence[str]) -> Lot:
+    """The devices of these orders, or of all of them where none is named, as they were at one moment."""
+    orders = {name: gathering.order(station, name) for name in names or station.report()}
+    counts = _counts(station, orders)
+    for _ in range(LOOKS):
+        listed = [it for it in gathering.devices(station) if it.order in orders]
+        before, counts = counts, _counts(station, orders)
+        if counts == before:
+            _count(listed, counts)
+            return Lot(orders, [it for it in listed if it.serial is not None])
+    raise Unsteady(f"devices got on while their list was read, {LOOKS} times")
+
+
+def _counts(station: Station, orders: Mapping[str, Reply]) -> dict[str, dict[str, int]]:
+    """How many devices of each order a report counts in each state with a record. None of these sums, nor one behind
+    another, falls and rises again: where all are as before, no device got one or went on."""
+    report = station.report()
+    try:
+        return {name: {state: report[name][state] for state in WITH_RECORD} for name in orders}
+    except KeyError as error:
+        raise NotTheServer(f"the report lacks {error}", "Look what answers at the server's address.") from error
+
+
+def _count(listed: Sequence[Listed], counts: Mapping[str, Mapping[str, int]]) -> None:
+    """Compares the list with the report, and serial numbers with states."""
+    found = Counter((it.order, it.state) for it in listed)
+    for order, expected in counts.items():
+        for state, number in expected.items():
+            if found[order, state] != number:
+                said = f"the list has {found[order, state]} devices of {order} that are {state}"
+                raise Miscounted(f"{said}, and the report {number}")
+    for it in listed:
+        if (it.serial is not None) != (it.state in WITH_RECORD) and it.state != "scrapped":
+            raise Miscounted(f"the chip {it.chip} of {it.order} is {it.state}, and its serial number is {it.serial}")
+
+
+def rows_of(stations: Sequence[Station], lot: Lot, wanted: Sequence[Listed]) -> Iterator[list[Row]]:
+    """The rows of these devices of a lot, some at a time, over the connections of two stations."""
+    first, second = stations
+    with ThreadPoolExecutor(1) as beside:
+        for place in range(0, len(wanted), AT_A_TIME):
+            part = wanted[place : place + AT_A_TIME]
+            shown = beside.submit(lambda: [gathering.device(second, it.chip) for it in part])
+            records = [gathering.record(first, it.chip) for it in part]
+            yield [row_of(lot, *it) for it in zip(part, records, shown.result())]
+
+
+def row_of(lot: Lot, listed: Listed, record: Reply, shown: Reply) -> Row:
+    """A device's row, where what the server says of it in three places agrees."""
+    order = lot.orders[listed.order]
+    agrees = (record["chip"], record["serial"], record["issuer"]) == (listed.chip, listed.serial, order["issuer"])
+    if not agrees or (shown["serial"], shown["order"]) != (listed.serial, listed.order):
+        raise NotTheServer(f"the record of the chip {listed.chip} isn't that of the list", "Ask again.")
+    row = {name: record.get(name) for name in ("serial", "issuer", "chip", "mac", "key_sha256", "not_after")}
+    row["not_before"] = record.get("not_before")
+    row["addresses"] = addresses_of(row["mac"], order["macs"])
+    row |= {"state": listed.state, "map": shown["map"], "order": listed.order}
+    return {name: row[name] for name in COLUMNS} if is_row(row) else _refuse(listed)
+
+
+def addresses_of(mac: Any, macs: Any) -> Optional[list[str]]:
+    """Every address of a serial number, from its first one on; None where these are none."""
+    if mac is None:
+        return []
+    if not isinstance(mac, str) or not CHIP.fullmatch(mac) or type(macs) is not int or not 0 < macs < 256:
+        return None
+    return [f"{int(mac, 16) + place:012x}" for place in range(macs)]
+
+
+def is_row(row: Mapping[str, Any]) -> bool:
+    """Whether each column has its form: a list goes to programs that trust it."""
+    forms = {"serial": SERIAL, "issuer": NAME, "order": NAME, "chip": CHIP, "key_sha256": DIGEST, "map": DIGEST}
+    texts = [(form, row[name]) for name, form in (forms | {"not_after": TIME}).items()]
+    texts += [(TIME, row["not_before"])] if row["not_before"] is not None else []
+    is_listed = row["state"] in WITH_RECORD and row["addresses"] is not None
+    return is_listed and all(isinstance(text, str) and form.fullmatch(text) for form, text in texts)
+
+
+def _refuse(listed: Listed) -> Row:
+    raise NotTheServer(f"the record of the chip {listed.chip} has another form", "Compare the versions of both.")

@@ -1,0 +1,223 @@
+"""The command `manifest`: the list of a lot, a line for each record, with its digest and its signature beside it.
+
+While records are asked for, those that came stand in FILE.part, each a whole line behind its SHA-256. A list that was
+cut goes on with them. FILE is written when all are there and counted: whole and signed, or not at all.
+"""
+
+from __future__ import annotations
+
+import argparse
+import base64
+import contextlib
+import hashlib
+import json
+import os
+from pathlib import Path
+from typing import IO, Any, Callable, Iterator, Optional, Sequence
+
+from wanekupo import clouds
+from wanekupo.command_row import Command
+from wanekupo.config import Settings, looking_station_of, token_of
+from wanekupo.errors import BadKey, BadSettings
+from wanekupo.files import locked, opened_own, replace_bytes
+from wanekupo.lots import COLUMNS, Lot, Row, is_row, lot_of, rows_of
+from wanekupo.printing import Progress, say, say_json, table_lines, warn
+from wanekupo.signing import Signer, add_signer, digest_file, signer_of
+from wanekupo.spools import certificate_in, der_of, key_of_certificate, request_in
+from wanekupo.texts import formulas_in
+
+SAID = "list a lot: a line for each record of orders, with its digest and its signature beside it"
+MORE = """. The lines come in the order of the orders' names, then of the serial numbers, and are counted against the
+report. A list that was cut goes on with what is in FILE.part. Without --out it is printed, once it is whole."""
+
+SPOOLED = ("csr", "certificate")
+
+# What a list's file may have as its mode, from which the user's umask takes.
+WRITTEN = 0o666
+
+
+def add_arguments(parser: argparse.ArgumentParser) -> None:
+    parser.add_argument("orders", nargs="*", metavar="ORDER", help="the orders' names")
+    parser.add_argument("--all", action="store_true", help="each order of the customer, in place of names")
+    parser.add_argument("--out", metavar="FILE", help="the list's file")
+    parser.add_argument("--json", action="store_true", help="a line of JSON each, in place of values and commas")
+    parser.add_argument("--aws", metavar="FILE", help="write AWS IoT's file of a bulk registration, by the spool")
+    parser.add_argument("--azure", metavar="FILE", help="write Azure IoT Hub's file of a bulk import, by the spool")
+    add_signer(parser)
+
+
+def _check(settings: Settings, args: argparse.Namespace) -> Optional[Signer]:
+    """Refuses words that don't go together, before anything is asked for."""
+    if args.orders and args.all:
+        raise BadSettings("orders are named, and --all is given", "Give one of the two.")
+    if not args.orders and not args.all:
+        raise BadSettings("it isn't said of which orders the list is", "Name orders, or give --all.")
+    signer = signer_of(args)
+    if args.out is None and (signer or args.aws or args.azure):
+        raise BadSettings("only a file is signed, or goes with a cloud's", "Give --out FILE.")
+    if (args.aws or args.azure) and settings.spool is None:
+        raise BadSettings("a cloud's file is made of a spool, and none is named", "Give --spool FOLDER.")
+    if settings.spool is not None and not settings.spool.is_dir():
+        raise BadSettings(f"there is no spool folder {settings.spool}", "Look at its name.")
+    return signer
+
+
+def main(settings: Settings, args: argparse.Namespace) -> int:
+    signer = _check(settings, args)
+    file = Path(args.out) if args.out else None
+    with looking_station_of(settings) as station, looking_station_of(settings) as second:
+        with Progress("records") as told:
+            told.waits("the report and the list of devices")
+            lot = lot_of(station, args.orders)
+            with _part_of(file, settings) as part:
+                rows = gathered((station, second), lot, part, told)
+    rows = sorted(rows, key=lambda row: (row["order"], row["serial"]))
+    names = COLUMNS
+    if settings.spool is not None:
+        names, rows = (*COLUMNS, *SPOOLED), [row | _spooled(settings.spool, row) for row in rows]
+    text = text_of(names, rows, args.json)
+    if file is None:
+        say(text)
+        return 0
+    written = _clouds_files(settings.spool, rows, args) | {file: text}
+    for name, its in written.items():
+        write(name, its, signer)
+    with contextlib.suppress(FileNotFoundError):
+        _part_name(file).unlink()
+    counts = {state: sum(row["state"] == state for row in rows) for state in ("identified", "shipped", "scrapped")}
+    say_json({"file": str(file), "orders": len(lot.orders), "records": len(rows), **counts})
+    return 0
+
+
+def text_of(names: Sequence[str], rows: Sequence[Row], as_json: bool) -> str:
+    """The list. Addresses of a serial number stand in one field, with a space between."""
+    if as_json:
+        return table_lines(names, ([row[name] for name in names] for row in rows), True)
+    fields = [["" if row[it] is None else row[it] for it in names] for row in rows]
+    lines = [[" ".join(it) if isinstance(it, list) else it for it in row] for row in fields]
+    _warn_of_formulas(names, lines)
+    return table_lines(names, [names, *lines], False)
+
+
+def _warn_of_formulas(names: Sequence[str], lines: Sequence[Sequence[str]]) -> None:
+    """Tells of each column in which a spreadsheet would take fields for formulas, with the first of them."""
+    for place, name in enumerate(names):
+        found = formulas_in([name], ([line[place]] for line in lines))
+        first, more = next(found, None), sum(1 for _ in found)
+        if first:
+            warn(f"warning: {first}" + (f"; so do {more} more of this column" if more else ""))
+
+
+def write(file: Path, text: str, signer: Optional[Signer]) -> None:
+    """Writes a file whole, and behind it its digest and its signature. One that couldn't be signed goes again."""
+    replace_bytes(file, text.encode("utf-8"), WRITTEN)
+    digest = digest_file(file)
+    try:
+        if signer:
+            signer.sign(file)
+    except BaseException:
+        for made in (file, digest):
+            made.unlink(missing_ok=True)
+        raise
+
+
+def _spooled(spool: Path, row: Row) -> dict[str, Optional[str]]:
+    """What the spool has of a record, in base64 of DER, where the key is the record's."""
+    request, certificate = request_in(spool, row["serial"]), certificate_in(spool, row["serial"])
+    keys = {"csr": request and request.public_key, "certificate": certificate and key_of_certificate(certificate)}
+    for name, key in keys.items():
+        if key is not None and hashlib.sha256(key).hexdigest() != row["key_sha256"]:
+            told = f"{spool} has a {name} of {row['serial']} with another key than the record of the chip {row['chip']}"
+            raise BadKey(told, "Look whose it is, and whether this is the spool of these orders.")
+    found = {"csr": request and request.der, "certificate": certificate and der_of(certificate)}
+    return {name: base64.b64encode(der).decode("ascii") if der else None for name, der in found.items()}
+
+
+def _clouds_files(spool: Optional[Path], rows: Sequence[Row], args: argparse.Namespace) -> dict[Path, str]:
+    made: dict[Path, str] = {}
+    for file, line in ((args.aws, clouds.aws_line), (args.azure, clouds.azure_line)):
+        if file is not None and spool is not None:
+            made[Path(file)] = clouds.lines_of(line, spool, rows)
+    return made
+
+
+# What came before the list was cut.
+
+
+def gathered(stations: Any, lot: Lot, part: Optional[IO[bytes]], told: Callable[[int, int], None]) -> list[Row]:
+    """The rows of a lot. Those of the part are taken where the list has the same chip with the same serial number, and
+    with its state of now; the others are asked for, and added to the part."""
+    listed = {it.chip: it for it in lot.listed}
+    rows = {row["chip"]: row for row in (_rows_in(part) if part else ()) if _is_of(row, listed)}
+    rows = {chip: row | {"state": listed[chip].state} for chip, row in rows.items()}
+    missing = [it for it in lot.listed if it.chip not in rows]
+    told(len(rows), len(listed))
+    for some in rows_of(stations, lot, missing):
+        rows |= {row["chip"]: row for row in some}
+        if part:
+            part.writelines(_line_of(row) for row in some)
+            part.flush()
+        told(len(rows), len(listed))
+    return list(rows.values())
+
+
+def _is_of(row: Row, listed: dict[str, Any]) -> bool:
+    it = listed.get(row["chip"])
+    return it is not None and (row["serial"], row["order"]) == (it.serial, it.order)
+
+
+def _part_name(file: Path) -> Path:
+    return file.with_name(f"{file.name}.part")
+
+
+@contextlib.contextmanager
+def _part_of(file: Optional[Path], settings: Settings) -> Iterator[Optional[IO[bytes]]]:
+    """The part of a list that was cut, or a new one. It is of one server and one token, and one process has it."""
+    if file is None:
+        yield None
+        return
+    name, known = _part_name(file), hashlib.sha256(token_of(settings).encode()).hexdigest()
+    head = json.dumps({"token": known, "url": settings.url}).encode() + b"\n"
+    with open(opened_own(name, os.O_RDWR | os.O_CREAT), "rb+") as part:
+        try:
+            locked(part.fileno())
+        except OSError:
+            raise BadSettings(f"another list has {name}", "Wait until it is done, or take another file.") from None
+        if part.readline() != head:
+            part.seek(0)
+            part.truncate()
+            part.write(head)
+        yield part
+
+
+def _line_of(row: Row) -> bytes:
+    """A row's line in a part, behind its digest. This is against accidents: nobody but this user can write there."""
+    line = table_lines(COLUMNS, [[row[it] for it in COLUMNS]], True).encode("ascii")
+    return hashlib.sha256(line).hexdigest().encode("ascii") + b" " + line
+
+
+def _row_of(line: bytes) -> Optional[Row]:
+    """The row of a part's line; None where the line was cut or changed."""
+    digest, _, its = line.partition(b" ")
+    if hashlib.sha256(its).hexdigest().encode("ascii") != digest:
+        return None
+    with contextlib.suppress(ValueError, TypeError):
+        row = json.loads(its)
+        if isinstance(row, dict) and set(row) == set(COLUMNS) and is_row(row):
+            return row
+    return None
+
+
+def _rows_in(part: IO[bytes]) -> Iterator[Row]:
+    """The rows of a part, up to the first line that was cut or changed. That one is taken out with all behind it, so
+    that the next row begins a line."""
+    while line := part.readline():
+        row = _row_of(line)
+        if row is None:
+            part.seek(-len(line), os.SEEK_CUR)
+            part.truncate()
+            return
+        yield row
+
+
+COMMANDS = [Command("manifest", SAID, add_arguments, main, MORE)]
